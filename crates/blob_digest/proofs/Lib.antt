@@ -1,0 +1,2 @@
+mod HexTexts
+mod Decimals

@@ -1,0 +1,4 @@
+pub mod DigestValue
+pub mod Digest
+pub mod Text
+pub mod Hashing

@@ -1,0 +1,16 @@
+//! Digests of blobs: SHA-256 (FIPS 180-4) and a length, as in the Remote Execution API.
+//! A blob is hashed whole or in pieces, and a digest has exactly one text, `HASH/SIZE`.
+#![tactic(auto)]
+
+mod digest;
+mod error;
+mod hasher;
+mod text;
+
+pub use digest::{Digest, GREATEST_SIZE};
+pub use error::DigestError;
+pub use hasher::Hasher;
+pub use text::read_hash;
+
+#[cfg(test)]
+mod tests;

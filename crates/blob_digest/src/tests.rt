@@ -1,0 +1,120 @@
+use crate::{Digest, DigestError, Hasher, read_hash};
+use refusing::Refusing;
+use std::alloc::{AllocError, Allocator};
+use std::test::Fail;
+
+/// The hashes of FIPS 180-4's examples and of three short blobs, as `sha256sum` prints them.
+const VECTORS: [(&[u8], &str); 5] = [
+    (
+        b"abc",
+        "ba7816bf8f01cfea414140de5dae2223b00361a396177a9cb410ff61f20015ad/3",
+    ),
+    (
+        b"abcdbcdecdefdefgefghfghighijhijkijkljklmklmnlmnomnopnopq",
+        "248d6a61d20638b8e5c026930c3e6039a33ce45964ff2167f6ecedd419db06c1/56",
+    ),
+    (
+        b"",
+        "e3b0c44298fc1c149afbf4c8996fb92427ae41e4649b934ca495991b7852b855/0",
+    ),
+    (
+        b"\n",
+        "01ba4719c80b6fe911b091a7c05124b64eeece964e09c058ef8f9805daca546b/1",
+    ),
+    (
+        b"123456789",
+        "15e2b0d3c33891ebb0f1ef609ec419420c20e320ce94c65fbc8c3312448eb225/9",
+    ),
+];
+
+/// What stands behind the hash of 123456789, and how the text is read.
+const TAILS: [(&str, Result<u64, DigestError>); 16] = [
+    ("/9", Ok(9)),
+    ("/0", Ok(0)),
+    ("/10", Ok(10)),
+    ("/9223372036854775807", Ok(9_223_372_036_854_775_807)),
+    ("/9223372036854775808", Err(DigestError::BadSize)),
+    ("/18446744073709551616", Err(DigestError::BadSize)),
+    ("/09", Err(DigestError::BadSize)),
+    ("/00", Err(DigestError::BadSize)),
+    ("/", Err(DigestError::BadSize)),
+    ("/+9", Err(DigestError::BadSize)),
+    ("/-9", Err(DigestError::BadSize)),
+    ("/9 ", Err(DigestError::BadSize)),
+    ("/9/9", Err(DigestError::BadSize)),
+    ("/\u{e9}", Err(DigestError::BadSize)),
+    ("", Err(DigestError::BadHex)),
+    ("0/9", Err(DigestError::BadHex)),
+];
+
+const HASH: &str = "15e2b0d3c33891ebb0f1ef609ec419420c20e320ce94c65fbc8c3312448eb225";
+
+#[test]
+fn digests_and_texts(rt: HostRuntime) -> Result<(), Fail> {
+    for (blob, text) in VECTORS {
+        let digest = Digest::of(blob);
+        assert_eq!(rt; digest.write_text(rt.alloc())?.as_str(), text);
+        assert_eq!(rt; Digest::read_text(text.as_bytes()), Ok(digest));
+        assert_eq!(rt; digest.hash_text().as_slice(), &text.as_bytes()[..64]);
+        assert_eq!(rt; Digest::new(digest.hash(), digest.size()), digest);
+    }
+    assert_eq!(rt; Digest::empty(), Digest::of(b""));
+    Ok(())
+}
+
+#[test]
+fn pieces_do_not_matter(rt: HostRuntime) {
+    for (blob, _) in VECTORS {
+        for cut in 0..blob.len() {
+            let (front, back) = blob.split_at(cut);
+            let mut hasher = Hasher::new();
+            hasher.update(front);
+            assert_eq!(rt; hasher.taken(), cut as u64);
+            hasher.update(back);
+            assert_eq!(rt; hasher.finish(), Digest::of(blob));
+        }
+    }
+}
+
+#[test]
+fn refused_texts(rt: HostRuntime) -> Result<(), Fail> {
+    for (tail, expected) in TAILS {
+        let text = format!(in rt.alloc(); "{HASH}{tail}")?;
+        let size = Digest::read_text(text.as_bytes()).map(|digest| digest.size());
+        assert_eq!(rt; size, expected, "{text}");
+    }
+    let upper = "15E2B0D3C33891EBB0F1EF609EC419420C20E320CE94C65FBC8C3312448EB225/9";
+    assert_eq!(rt;
+        Digest::read_text(upper.as_bytes()),
+        Err(DigestError::BadHex)
+    );
+    assert_eq!(rt; Digest::read_text(b""), Err(DigestError::BadHex));
+    assert_eq!(rt;
+        read_hash(HASH.as_bytes()),
+        Some(Digest::of(b"123456789").hash())
+    );
+    assert_eq!(rt; read_hash(&HASH.as_bytes()[1..]), None);
+    Ok(())
+}
+
+fn text_in<A: Allocator + Copy>(alloc: A, digest: &Digest) -> Result<bool, AllocError> {
+    let text = digest.write_text(alloc)?;
+    Ok(Digest::read_text(text.as_bytes()) == Ok(*digest))
+}
+
+#[test]
+fn each_request_for_memory_refused(rt: HostRuntime) {
+    let digest = Digest::of(b"123456789");
+    let mut refused = 0u64;
+    for number in 1..1000u64 {
+        let heap = Refusing::new(rt.alloc(), number);
+        let answer = text_in(&heap, &digest);
+        if !heap.has_refused() {
+            assert_eq!(rt; answer, Ok(true));
+            break;
+        }
+        assert_eq!(rt; answer, Err(AllocError), "request {number}");
+        refused = refused.saturating_add(1);
+    }
+    assert!(rt; refused >= 2);
+}
