@@ -3,7 +3,7 @@ use Rattle.std.proofs.Common.{◌≡◌, ℕ, zero, suc, ◌+◌, ◌-◌, ◌*�
 use Rattle.std.specs.Prelude.{ℤ, pos, negsuc, FitsSigned, ◌<ℤ◌}
 use Rattle.std.specs.Int.{w32, w64, cast_signed, cast_unsigned}
 use Rattle.std.proofs.lemmas.Int.{ints, to_z-of_z, of_z-to_z, to_z_pos}
-use Rattle.std.proofs.Math.Facts.{to_z-neg}
+use Rattle.std.proofs.Math.Facts.{to_z-neg, sfits_to_z}
 use Rattle.std.proofs.lemmas.Bool.{le-ltb, lt-ltb, ltb-false, cases_lt}
 use Rattle.wire.specs.Varint.{groups, varint}
 
@@ -89,3 +89,11 @@ pub negative_ten : (z : ℤ) → FitsSigned w64 z → z <ℤ pos 0 → length (v
 unfolding varint
 negative_ten (pos n) f neg = absurd (omega (arith, ints))
 negative_ten (negsuc n) f neg = let few : n < 2 ^ 63 = f.sfits in groups_many 9 (18446744073709551616 - suc n) (omega arith)
+
+-- ---- what is read fits its type
+
+pub int64_fits : (n : ℕ) → n < 2 ^ 64 → FitsSigned w64 (cast_signed w64 n)
+int64_fits n lt = sfits_to_z (record { fits = lt })
+
+pub int32_fits : (n : ℕ) → FitsSigned w32 (cast_signed w32 (n % 2 ^ 32))
+int32_fits n = sfits_to_z (record { fits = omega arith })
