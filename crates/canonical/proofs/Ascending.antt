@@ -1,6 +1,7 @@
 -- The numbers of a shape.
-use Rattle.std.proofs.Common.{◌≡◌, ℕ, ◌<◌, ◌≤◌, Bool, true, false, not, ◌&&◌, ltb, List, [], ◌∷◌, refl, arith}
+use Rattle.std.proofs.Common.{◌≡◌, ℕ, zero, suc, ◌+◌, ◌<◌, ◌≤◌, Bool, true, false, not, ◌&&◌, ltb, List, [], ◌∷◌, length, map, refl, arith}
 use Rattle.std.specs.List.{AllByRecursion}
+use Rattle.std.specs.List.Sorted.{IsStrictlyIncreasing}
 use Rattle.std.proofs.lemmas.Bool.{ltb-true, ltb-false}
 use Rattle.canonical.specs.declared.shape.Entry.{Entry}
 use Rattle.canonical.specs.Shape.{ascends_behind, is_shape}
@@ -54,3 +55,19 @@ numbered_in n (entry ∷ entries) h = let s = steps n entry entries h in let abo
 
 pub numbered : (entries : List Entry) → is_shape entries ≡ true → AllByRecursion IsNumbered entries
 numbered entries h = numbered_in 0 entries h
+
+range_in : (entries : List Entry) → AllByRecursion IsNumbered entries → AllByRecursion (λ e. (1 ≤ e.number) × (e.number ≤ 536870911)) entries
+range_in [] num = tt
+range_in (entry ∷ entries) num = ((num.0.least, num.0.most), range_in entries num.1)
+
+pub in_range : (entries : List Entry) → is_shape entries ≡ true → AllByRecursion (λ e. (1 ≤ e.number) × (e.number ≤ 536870911)) entries
+in_range entries h = range_in entries (numbered entries h)
+
+pub increasing : (n : ℕ) (entries : List Entry) → Ascends n entries → IsStrictlyIncreasing (map (λ e. e.number) entries)
+increasing n [] asc k lt = absurd (omega arith)
+increasing n (e ∷ []) asc k lt = absurd (omega arith)
+increasing n (e ∷ f ∷ entries) asc zero lt = asc.1.0
+increasing n (e ∷ f ∷ entries) asc (suc k) lt =
+    let fewer : k + 1 < length (map (λ (x : Entry). x.number) (f ∷ entries)) = omega arith in
+    let next : suc k + 1 ≡ suc (k + 1) = omega arith in
+    rw next (increasing e.number (f ∷ entries) asc.1 k fewer)

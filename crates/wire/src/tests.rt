@@ -49,7 +49,7 @@ fn varints_of_each_length(rt: HostRuntime) -> Result<(), Fail> {
 fn varints_that_are_refused(rt: HostRuntime) {
     let rows: [(&[u8], WireError); 8] = [
         (b"", WireError::Truncated),
-        (b"\x80", WireError::Truncated),
+        (b"\xff", WireError::Truncated),
         (
             b"\xff\xff\xff\xff\xff\xff\xff\xff\xff",
             WireError::Truncated,
