@@ -1,2 +1,3 @@
-mod HexTexts
-mod Decimals
+pub mod Decimals
+pub mod HexTexts
+pub mod DigestTexts

@@ -78,7 +78,7 @@ impl Digest {
     /// The digest of this text, `HASH/SIZE`: 64 lower-case hex digits, a slash and a decimal
     /// without leading zeros. `BadHex` comes before `BadSize`.
     pub fn read_text(text: &[u8]) -> Result<Digest, DigestError>
-        ensures found { IfOk result (λ digest. text.now ≡ digest_text digest) }
+        ensures found { IfOk result (λ digest. IsDigest digest × (text.now ≡ digest_text digest)) }
         ensures only { (digest : DigestValue) → IsDigest digest → text.now ≡ digest_text digest → result ≡ Ok digest }
         ensures bad_hex { (result ≡ Err DigestError.BadHex) ↔ ¬ BeginsWithHash text.now }
     {

@@ -1,0 +1,34 @@
+//! The program `buildcache`: hands its words and its streams to the crate `cli`.
+#![tactic(auto)]
+
+use cli::run_words;
+use std::alloc::AllocError;
+use std::env;
+use std::process::ExitCode;
+
+/// The words behind the program's name; `None` where one of them is no UTF-8.
+fn words(rt: &HostRuntime) -> Result<Option<Vec<String>>, AllocError> {
+    match env::args(rt) {
+        Ok(all) => Ok(Some(all.skip(1).collect(rt.alloc())?)),
+        Err(_e) => Ok(None),
+    }
+}
+
+fn main(rt: HostRuntime) -> ExitCode {
+    match words(&rt) {
+        Ok(Some(words)) => ExitCode::from(run_words(
+            &rt,
+            words.as_slice(),
+            &mut rt.stdout(),
+            &mut rt.stderr(),
+        )),
+        Ok(None) => {
+            let _ = eprintln!(rt; "error: the words are not UTF-8");
+            ExitCode::from(2)
+        }
+        Err(_e) => {
+            let _ = eprintln!(rt; "error: out of memory");
+            ExitCode::from(3)
+        }
+    }
+}

@@ -1,0 +1,70 @@
+ghost use Rattle.std.specs.Prelude.{◌≡◌, ◌⊎◌};
+
+use blob_digest::DigestError;
+use plan::PlanError;
+use std::alloc::{AllocError, AllocFailed};
+use std::io;
+use thiserror::Error;
+
+/// Why a command ends without its answer. Each is told in one line.
+#[derive(Debug, Drop, Error)]
+pub(crate) enum CliError {
+    #[error("{0}")]
+    Words(String),
+    #[error("--{option}: {fault}, not {text:?}")]
+    Digest {
+        option: &'static str,
+        text: String,
+        fault: DigestError,
+    },
+    #[error("{path}: {fault}")]
+    Text {
+        path: String,
+        fault: PlanError,
+    },
+    #[error("{path}: {fault}")]
+    File {
+        path: String,
+        fault: io::Error,
+    },
+    #[error("{path}: not a file")]
+    NotAFile {
+        path: String,
+    },
+    #[error("{path}: a file of more than 16777216 bytes")]
+    TooLarge {
+        path: String,
+    },
+    #[error("standard output: {0}")]
+    Output(io::Error),
+    #[error("out of memory")]
+    Memory,
+}
+
+impl CliError {
+    /// 2 where the command's words or the texts that they name are at fault, and else 3.
+    pub(crate) fn status(&self) -> u8
+        ensures { (result ≡ 2) ⊎ (result ≡ 3) }
+    {
+        match self {
+            CliError::Words(_) | CliError::Digest { .. } | CliError::Text { .. } => 2,
+            CliError::File { .. }
+            | CliError::NotAFile { .. }
+            | CliError::TooLarge { .. }
+            | CliError::Output(_)
+            | CliError::Memory => 3,
+        }
+    }
+}
+
+impl From<AllocError> for CliError {
+    fn from(_e: AllocError) -> CliError {
+        CliError::Memory
+    }
+}
+
+impl<T: Drop> From<AllocFailed<T>> for CliError {
+    fn from(_e: AllocFailed<T>) -> CliError {
+        CliError::Memory
+    }
+}

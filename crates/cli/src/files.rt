@@ -1,0 +1,35 @@
+use crate::error::CliError;
+use std::io::ErrorKind;
+use std::rt::Files;
+use std::{fs, io};
+
+/// The most bytes that a file has.
+const GREATEST_FILE: u64 = 16_777_216;
+
+/// The bytes of the file there. Links are followed.
+pub(crate) fn read_file<R: Files + AllocGlobal>(rt: &R, path: &str) -> Result<Vec<u8>, CliError> {
+    let metadata = match fs::metadata(rt, path) {
+        Ok(metadata) => metadata,
+        Err(fault) => return Err(file_error(rt, path, fault)?),
+    };
+    if !metadata.is_file() {
+        let path = String::from_str(rt.alloc(), path)?;
+        return Err(CliError::NotAFile { path });
+    }
+    if metadata.len() > GREATEST_FILE {
+        let path = String::from_str(rt.alloc(), path)?;
+        return Err(CliError::TooLarge { path });
+    }
+    match fs::read(rt, path) {
+        Ok(bytes) => Ok(bytes),
+        Err(fault) => Err(file_error(rt, path, fault)?),
+    }
+}
+
+fn file_error<R: AllocGlobal>(rt: &R, path: &str, fault: io::Error) -> Result<CliError, CliError> {
+    if fault.kind() == ErrorKind::OutOfMemory {
+        return Ok(CliError::Memory);
+    }
+    let path = String::from_str(rt.alloc(), path)?;
+    Ok(CliError::File { path, fault })
+}

@@ -1,0 +1,15 @@
+//! The program `buildcache` as a function of its words: what it prints, and its status.
+//! Nothing here ends the process or prints behind its caller's back.
+#![tactic(auto)]
+
+mod error;
+mod files;
+mod report;
+mod running;
+mod verify_command;
+mod words;
+
+pub use running::run_words;
+
+#[cfg(test)]
+mod tests;

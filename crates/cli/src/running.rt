@@ -1,0 +1,86 @@
+ghost use Rattle.std.specs.Prelude.{◌≡◌, ◌<◌};
+
+use crate::error::CliError;
+use crate::verify_command::run_verify;
+use crate::words::parse;
+use clap::error::{Error, ErrorKind};
+use std::alloc::{AllocError, Global};
+use std::io::Write;
+use std::rt::Files;
+
+/// What a command came to.
+enum Ended {
+    Done,
+    No,
+}
+
+/// Runs the program on these words. Its answers go to `out`, and for statuses 2 and 3 one line
+/// beginning `error: ` goes to `err`. The status: 0 done or yes, 1 no, 2 where the words or the
+/// texts that they name are at fault, 3 where a file, the output or memory is.
+pub fn run_words<R, O: Write, E: Write>(rt: &R, words: &[String], out: &mut O, err: &mut E) -> u8
+where
+    R: AllocGlobal + Files,
+    ensures status { result < 4 }
+    // With an answer, standard error stays as it was.
+    ensures quiet { result < 2 → E.contents err.new ≡ E.contents err.old }
+{
+    match run(rt, words, out) {
+        Ok(Ended::Done) => 0,
+        Ok(Ended::No) => 1,
+        Err(error) => {
+            let _ = writeln!(err, "error: {error}");
+            let _ = err.flush();
+            error.status()
+        }
+    }
+}
+
+fn run<R, O: Write>(rt: &R, words: &[String], out: &mut O) -> Result<Ended, CliError>
+where
+    R: AllocGlobal + Files,
+{
+    let matches = match parse(rt.alloc(), words) {
+        Ok(matches) => matches,
+        Err(error) => return shown(rt, error, out),
+    };
+    match matches.subcommand() {
+        Some(("verify", inner)) => {
+            if run_verify(rt, inner, out)? {
+                Ok(Ended::Done)
+            } else {
+                Ok(Ended::No)
+            }
+        }
+        _ => {
+            let text = String::from_str(rt.alloc(), "no such command")?;
+            Err(CliError::Words(text))
+        }
+    }
+}
+
+/// What clap answers in place of matches: help and version are printed, and a mistake is told.
+fn shown<R: AllocGlobal, O: Write>(rt: &R, error: Error, out: &mut O) -> Result<Ended, CliError> {
+    if error.kind() == ErrorKind::OutOfMemory {
+        return Err(CliError::Memory);
+    }
+    if !error.use_stderr() {
+        write!(out, "{error}").map_err(CliError::Output)?;
+        out.flush().map_err(CliError::Output)?;
+        return Ok(Ended::Done);
+    }
+    let text = error.to_string(rt.alloc())?;
+    Err(CliError::Words(mistake_line(rt.alloc(), text.as_str())?))
+}
+
+/// The mistake in one line: clap's text up to its first empty line, behind which it has hints.
+fn mistake_line(alloc: Global, text: &str) -> Result<String, AllocError> {
+    let mut told = String::new(alloc);
+    let text = text.strip_prefix("error: ").unwrap_or(text);
+    for line in text.lines().take_while(|line| !line.is_empty()) {
+        if !told.is_empty() {
+            told.push(' ')?;
+        }
+        told.push_str(line.trim())?;
+    }
+    Ok(told)
+}

@@ -1,0 +1,68 @@
+use crate::error::CliError;
+use crate::files::read_file;
+use crate::report::{is_yes, report};
+use blob_digest::Digest;
+use clap::ArgMatches;
+use plan::{Plan, PlanError, Record};
+use std::alloc::Global;
+use std::io::Write;
+use std::rt::Files;
+use verifier::verify;
+
+/// The text of an option that clap has found to be there.
+fn text_of<'a>(matches: &ArgMatches<'a>, option: &'static str) -> &'a str {
+    matches.get_str(option).unwrap_or("")
+}
+
+fn digest_of(
+    alloc: Global,
+    matches: &ArgMatches<'_>,
+    option: &'static str,
+) -> Result<Digest, CliError> {
+    let text = text_of(matches, option);
+    match Digest::read_text(text.as_bytes()) {
+        Ok(digest) => Ok(digest),
+        Err(fault) => Err(CliError::Digest {
+            option,
+            text: String::from_str(alloc, text)?,
+            fault,
+        }),
+    }
+}
+
+fn text_error(alloc: Global, path: &str, fault: PlanError) -> Result<CliError, CliError> {
+    let path = String::from_str(alloc, path)?;
+    Ok(CliError::Text { path, fault })
+}
+
+fn read_plan<R: Files + AllocGlobal>(rt: &R, path: &str) -> Result<Plan, CliError> {
+    match Plan::read(&read_file(rt, path)?) {
+        Ok(plan) => Ok(plan),
+        Err(fault) => Err(text_error(rt.alloc(), path, fault)?),
+    }
+}
+
+fn read_record<R: Files + AllocGlobal>(rt: &R, path: &str) -> Result<Record, CliError> {
+    match Record::read(&read_file(rt, path)?) {
+        Ok(record) => Ok(record),
+        Err(fault) => Err(text_error(rt.alloc(), path, fault)?),
+    }
+}
+
+/// Prints the verdict's line, and answers whether it is yes. The digests are read first, then the
+/// plan's file and its text, then the record's.
+pub(crate) fn run_verify<R: Files + AllocGlobal, O: Write>(
+    rt: &R,
+    matches: &ArgMatches<'_>,
+    out: &mut O,
+) -> Result<bool, CliError> {
+    let sources = digest_of(rt.alloc(), matches, "sources")?;
+    let claim = digest_of(rt.alloc(), matches, "claim")?;
+    let plan = read_plan(rt, text_of(matches, "plan"))?;
+    let record = read_record(rt, text_of(matches, "record"))?;
+    let verdict = verify(&sources, &plan, &record, &claim);
+    let line = report(rt.alloc(), &verdict)?;
+    out.write_all(line.as_bytes()).map_err(CliError::Output)?;
+    out.flush().map_err(CliError::Output)?;
+    Ok(is_yes(&verdict))
+}

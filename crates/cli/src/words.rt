@@ -1,0 +1,61 @@
+use clap::{Arg, ArgAction, ArgMatches, Command, Error};
+use std::alloc::{AllocError, Global};
+
+const VERSION: &str = "0.1.0";
+
+/// An option that a command cannot do without.
+fn required<'a>(
+    alloc: Global,
+    name: &'static str,
+    value: &'static str,
+    help: &'static str,
+) -> Result<Arg<'a>, AllocError> {
+    Ok(
+        Arg::new(alloc, name)
+            .long(name)
+            .value_name(value)
+            .help(help)
+            .required(true)
+            .action(ArgAction::Set),
+    )
+}
+
+fn verify_command<'a>(alloc: Global) -> Result<Command<'a>, AllocError> {
+    Command::new(alloc, "verify")
+        .about("Say whether every build of a plan ends in exactly the claimed root")
+        .arg(required(
+            alloc,
+            "store",
+            "FOLDER",
+            "A folder with blobs in cas/HASH and results in ac/HASH",
+        )?)?
+        .arg(required(
+            alloc,
+            "sources",
+            "DIGEST",
+            "The digest of the source tree, as HASH/SIZE",
+        )?)?
+        .arg(required(alloc, "plan", "FILE", "The plan")?)?
+        .arg(required(alloc, "record", "FILE", "The record of the recorded build")?)?
+        .arg(required(
+            alloc,
+            "claim",
+            "DIGEST",
+            "The digest of the root that is claimed, as HASH/SIZE",
+        )?)
+}
+
+fn program<'a>(alloc: Global) -> Result<Command<'a>, AllocError> {
+    Command::new(alloc, "buildcache")
+        .version(VERSION)
+        .about("A remote build cache, and a verifier of builds whose yes is a theorem")
+        .no_binary_name(true)
+        .subcommand_required(true)
+        .disable_help_subcommand(true)
+        .subcommand(verify_command(alloc)?)
+}
+
+/// The program's words, read.
+pub(crate) fn parse<'a>(alloc: Global, words: &'a [String]) -> Result<ArgMatches<'a>, Error> {
+    program(alloc)?.try_get_matches_from(words)
+}

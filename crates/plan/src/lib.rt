@@ -1,0 +1,15 @@
+//! Plans of a build and their records, as texts: each is read from exactly one text.
+//! So far a plan has no steps, and its root has no lines.
+#![tactic(auto)]
+
+mod error;
+mod line;
+mod plan;
+mod record;
+
+pub use error::{Fault, PlanError};
+pub use plan::Plan;
+pub use record::Record;
+
+#[cfg(test)]
+mod tests;
