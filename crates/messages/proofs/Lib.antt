@@ -1,0 +1,13 @@
+pub mod Choices
+pub mod Names
+pub mod Targets
+pub mod Orders
+pub mod Spellings
+pub mod Each
+pub mod Hashes
+pub mod Codec
+pub mod DigestCodec
+pub mod FileNodeCodec
+pub mod DirectoryNodeCodec
+pub mod SymlinkNodeCodec
+pub mod DirectoryCodec

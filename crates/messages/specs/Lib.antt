@@ -1,0 +1,12 @@
+pub mod Told
+pub mod Gives
+pub mod Name
+pub mod Target
+pub mod Order
+pub mod Shapes
+pub mod DigestMessage
+pub mod FileNode
+pub mod DirectoryNode
+pub mod SymlinkNode
+pub mod DirectoryRules
+pub mod Directory

@@ -1,0 +1,49 @@
+-- The order of names in a list, by their bytes, and names that two lists share.
+use Rattle.std.specs.Prelude.{◌≡◌, ◌≢◌, ℕ, Bool, true, false, ◌||◌, List, [], ◌∷◌, Option, Some, None, Result, Ok, Err}
+use Rattle.std.specs.List.{AllByRecursion}
+use Rattle.std.specs.Ordering.{nat_cmp}
+use Rattle.std.specs.Cmp.Lexicographic.{slice_cmp}
+use Rattle.std.specs.declared.cmp.Ordering.{Ordering}
+use Rattle.std.specs.declared.cmp.Ordering.TheVariants.{Less, Equal, Greater}
+use Rattle.wire.specs.Steps.{◌>>=◌}
+use Rattle.messages.specs.declared.error.MessageError.{MessageError}
+use Rattle.messages.specs.declared.error.MessageError.TheVariants.{Unsorted, SameName}
+
+-- bytes by bytes, a beginning before what goes on behind it
+abbrev pub bytes_cmp : List ℕ → List ℕ → Ordering
+bytes_cmp = slice_cmp nat_cmp
+
+-- each name comes before all that stand behind it
+abbrev pub IsAscending : List (List ℕ) → Type 0
+IsAscending [] = Unit {0}
+IsAscending (name ∷ names) = AllByRecursion (λ other. bytes_cmp name other ≡ Less) names × IsAscending names
+
+-- no name stands in both lists
+abbrev pub AreApart : List (List ℕ) → List (List ℕ) → Type 0
+AreApart names others = AllByRecursion (λ name. AllByRecursion (λ other. name ≢ other) others) names
+
+-- ---- the first refusal
+
+abbrev pub pair_ordered : Ordering → Result (Unit {0}) MessageError
+pair_ordered Less = Ok tt
+pair_ordered Equal = Err SameName
+pair_ordered Greater = Err Unsorted
+
+-- the first pair of neighbours that doesn't ascend, behind a name
+abbrev pub ordered_behind : Option (List ℕ) → List (List ℕ) → Result (Unit {0}) MessageError
+ordered_behind before [] = Ok tt
+ordered_behind None (name ∷ names) = ordered_behind (Some name) names
+ordered_behind (Some before) (name ∷ names) = pair_ordered (bytes_cmp before name) >>= λ _. ordered_behind (Some name) names
+
+abbrev pub is_equal : Ordering → Bool
+is_equal Less = false
+is_equal Equal = true
+is_equal Greater = false
+
+abbrev pub has_name : List (List ℕ) → List ℕ → Bool
+has_name [] name = false
+has_name (first ∷ names) name = is_equal (bytes_cmp first name) || has_name names name
+
+abbrev pub share_name : List (List ℕ) → List (List ℕ) → Bool
+share_name [] others = false
+share_name (name ∷ names) others = has_name others name || share_name names others

@@ -1,0 +1,23 @@
+//! Names, paths, digests, directories and trees as messages of the Remote Execution API: each is
+//! read from its one canonical encoding and written as it, and a value that keeps its rules has
+//! exactly one. Reading names the first rule that is broken.
+#![tactic(auto)]
+
+mod digest;
+mod directory;
+mod error;
+mod message;
+mod name;
+mod node;
+mod order;
+mod shapes;
+mod target;
+
+pub use digest::{decode_digest, encode_digest};
+pub use directory::Directory;
+pub use error::MessageError;
+pub use message::{Message, decode, read_each, read_fields, write_each};
+pub use name::{Name, is_name};
+pub use node::{DirectoryNode, FileNode, SymlinkNode};
+pub use order::Named;
+pub use target::{Target, is_target};

@@ -1,0 +1,94 @@
+ghost use Rattle.std.specs.Prelude.{◌≡◌, ◌≤◌, ◌++◌, List, ℕ, Result, IfOk, OnOk, map};
+ghost use Rattle.wire.specs.Spelling.{spelling};
+ghost use Rattle.canonical.specs.Fields.{element_fields};
+ghost use Rattle.wire.specs.Record.{records_of};
+ghost use Rattle.canonical.specs.View.{slices};
+ghost use Rattle.messages.specs.declared.error.MessageError.{MessageError};
+ghost use Rattle.messages.specs.Gives.{GivesUnlessMemory};
+ghost use Rattle.canonical.specs.Codec.{IsCodec};
+ghost use Rattle.canonical.specs.Told.{each};
+ghost use Rattle.messages.specs.Told.{shape_checked};
+
+use crate::error::MessageError;
+use canonical::{Shape, check, write_element};
+use std::alloc::{AllocError, Allocator};
+use wire::Field;
+
+/// What is read from bytes and written as bytes.
+pub trait Message<A: Allocator>: Drop {
+    /// What the bytes say, or the first refusal.
+    ghost reads: { List ℕ → Result Self MessageError };
+
+    /// The bytes that are written.
+    ghost spells: { Self → List ℕ };
+
+    /// The rules of values.
+    ghost keeps: { Self → Type 0 };
+
+    fn read(alloc: A, bytes: &[u8]) -> Result<Self, MessageError>
+        ensures { GivesUnlessMemory (λ m. m) result (reads bytes.now) };
+
+    fn write(&self, alloc: A) -> Result<Vec<u8, A>, AllocError>
+        ensures { IfOk result (λ v. v.items ≡ spells self.now) };
+
+    /// What is read is what is spelled, and nothing else. It does nothing.
+    fn is_exact()
+        ensures { IsCodec reads spells keeps };
+}
+
+/// The fields of a message of the shape.
+pub fn read_fields<'a, A: Allocator>(
+    alloc: A,
+    shape: &Shape<'_>,
+    bytes: &'a [u8],
+) -> Result<Vec<Field<'a>, A>, MessageError>
+    ensures { GivesUnlessMemory (λ v. records_of v.items) result (shape_checked shape.now bytes.now) }
+{
+    Ok(check(alloc, shape, bytes)?)
+}
+
+/// The messages of the elements, in order.
+pub fn read_each<A: Allocator + Copy, M: Message<A>>(
+    alloc: A,
+    elements: &[&[u8]],
+) -> Result<Vec<M, A>, MessageError>
+    ensures { GivesUnlessMemory (λ v. v.items) result (each M.reads (slices elements.now)) }
+{
+    let mut messages = Vec::new(alloc);
+    for bytes in elements {
+        messages.push(M::read(alloc, bytes)?)?;
+    }
+    Ok(messages)
+}
+
+/// Writes the messages as the elements of a field, in order.
+pub fn write_each<A: Allocator + Copy, M: Message<A>>(
+    alloc: A,
+    out: &mut Vec<u8, A>,
+    number: u32,
+    messages: &[M],
+) -> Result<(), AllocError>
+    requires at_least { 1 ≤ number }
+    requires at_most { number ≤ 536870911 }
+    ensures { OnOk result (out.new.items ≡ out.old.items ++ spelling (element_fields number (map M.spells messages.now))) }
+{
+    for message in messages {
+        write_element(out, number, &message.write(alloc)?)?;
+    }
+    Ok(())
+}
+
+/// The message whose canonical text the bytes are.
+pub fn decode<A: Allocator + Copy, M: Message<A>>(alloc: A, bytes: &[u8]) -> Result<M, MessageError>
+    // The bytes are the canonical text of what is answered.
+    ensures found { IfOk result (λ m. M.keeps m × (bytes.now ≡ M.spells m)) }
+    // What the bytes are the canonical text of is answered, unless memory runs out.
+    ensures only { (m : M) → M.keeps m → bytes.now ≡ M.spells m → GivesUnlessMemory (λ x. x) result (Ok m) }
+    // Which refusal comes first.
+    ensures exact { GivesUnlessMemory (λ m. m) result (M.reads bytes.now) }
+{
+    M::is_exact();
+    M::read(alloc, bytes)
+}
+
+ghost use Rattle.std.specs.Prelude.{Ok};

@@ -1,0 +1,58 @@
+ghost use Rattle.std.specs.Prelude.{◌≡◌, ℕ, List, map, None, OnOk};
+ghost use Rattle.std.specs.List.{AllByRecursion};
+ghost use Rattle.wire.specs.Steps.{Gives};
+ghost use Rattle.messages.specs.Order.{IsAscending, ordered_behind, share_name};
+
+use crate::error::MessageError;
+use std::cmp::Ordering;
+
+/// What has a name in a directory.
+pub trait Named {
+    /// Its name.
+    ghost name_in: { Self → List ℕ };
+
+    /// The rules of its values.
+    ghost keeps: { Self → Type 0 };
+
+    fn name(&self) -> &[u8]
+        ensures text { result.now ≡ name_in self.now }
+        ensures kept { keeps self.now };
+}
+
+/// Whether the names strictly ascend; else the first pair of neighbours that doesn't decides.
+pub fn check_order<N: Named>(nodes: &[N]) -> Result<(), MessageError>
+    ensures exact { Gives (λ x. x) result (ordered_behind None (map N.name_in nodes.now)) }
+    ensures kept { OnOk result (AllByRecursion N.keeps nodes.now) }
+{
+    let mut before: Option<&[u8]> = None;
+    for node in nodes {
+        let name = node.name();
+        if let Some(before) = before {
+            match before.cmp(name) {
+                Ordering::Less => {}
+                Ordering::Equal => return Err(MessageError::SameName),
+                Ordering::Greater => return Err(MessageError::Unsorted),
+            }
+        }
+        before = Some(name);
+    }
+    Ok(())
+}
+
+/// Whether two ascending lists share a name: one walk over both.
+pub fn share_a_name<N: Named, M: Named>(nodes: &[N], others: &[M]) -> bool
+    requires nodes { IsAscending (map N.name_in nodes.now) }
+    requires others { IsAscending (map M.name_in others.now) }
+    ensures { result ≡ share_name (map N.name_in nodes.now) (map M.name_in others.now) }
+{
+    let mut i = 0;
+    let mut j = 0;
+    while i < nodes.len() && j < others.len() {
+        match nodes[i].name().cmp(others[j].name()) {
+            Ordering::Less => i += 1,
+            Ordering::Greater => j += 1,
+            Ordering::Equal => return true,
+        }
+    }
+    false
+}
