@@ -1,0 +1,3 @@
+pub mod Source
+pub mod Fetched
+pub mod Memory

@@ -1,0 +1,14 @@
+//! Where blobs and action results come from. A source is what it tells, and it may lie: every blob
+//! that is fetched is hashed, and the empty blob is never asked for.
+#![tactic(auto)]
+
+mod fetching;
+mod memory;
+mod source;
+
+pub use fetching::{Fetched, fetch_blob};
+pub use memory::MemorySource;
+pub use source::{BlobSource, FetchError};
+
+#[cfg(test)]
+mod tests;
