@@ -1,6 +1,7 @@
 pub mod Choices
 pub mod Names
 pub mod Targets
+pub mod Paths
 pub mod Orders
 pub mod Spellings
 pub mod Each

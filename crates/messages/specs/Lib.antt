@@ -3,6 +3,7 @@ pub mod Gives
 pub mod Name
 pub mod Target
 pub mod Order
+pub mod Path
 pub mod Shapes
 pub mod DigestMessage
 pub mod FileNode

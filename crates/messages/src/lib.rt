@@ -10,6 +10,7 @@ mod message;
 mod name;
 mod node;
 mod order;
+mod path;
 mod shapes;
 mod target;
 
@@ -20,4 +21,5 @@ pub use message::{Message, decode, read_each, read_fields, write_each};
 pub use name::{Name, is_name};
 pub use node::{DirectoryNode, FileNode, SymlinkNode};
 pub use order::Named;
+pub use path::{Path, is_path};
 pub use target::{Target, is_target};

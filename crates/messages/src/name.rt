@@ -93,7 +93,7 @@ fn is_dots(text: &[u8]) -> bool
 }
 
 /// Whether the bytes are those of a name, but for UTF-8.
-fn is_segment(bytes: &[u8]) -> bool
+pub fn is_segment(bytes: &[u8]) -> bool
     ensures { result ≡ is_segment bytes.now }
 {
     !bytes.is_empty()

@@ -1,0 +1,20 @@
+use Rattle.std.proofs.Common.{Ok, subst, sym, ap, ◌∙◌}
+use Rattle.messages.specs.Path.{IsPath, is_path, parts_of}
+use Rattle.messages.proofs.Paths.{path_taken, IsPath-from, no_text, no_path}
+use Rattle.messages.proofs.path.read_path.Goals as goal
+use Rattle.messages.proofs.path.read_path.Goals.{in_default-via-in-Ok+else-is_path, in_default-via-in_default}
+
+pub returns-in_ok-from_str-in-Ok : goal.returns-in_ok-from_str-in-Ok
+returns-in_ok-from_str-in-Ok g c =
+    let e = c.in-Ok.ensures.cases in
+    let test = ap is_path (sym e.0) ∙ sym c.is_path.ensures.test ∙ c.if-is_path.true in
+    path_taken c.args.text.now e.1 test ∙ ap (λ t. Ok (parts_of t)) (sym e.0 ∙ sym c.in_ok-from_str-in-Ok.ensures.ok)
+
+pub returns-in_default : goal.returns-in_default
+returns-in_default g c =
+    elim c.in_default.branch [
+      | in_default-via-in-Ok+else-is_path w ↦
+        let e = w.in-Ok.ensures.cases in
+        no_path c.args.text.now e.1 (ap is_path (sym e.0) ∙ sym w.is_path.ensures.test ∙ w.if-is_path.false)
+      | in_default-via-in_default w ↦ no_text c.args.text.now w.in_default.ensures.cases.0
+    ]

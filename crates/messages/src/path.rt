@@ -1,0 +1,154 @@
+ghost use Rattle.std.specs.Prelude.{◌≡◌, ◌↔◌, ℕ, List, [], ◌∷◌, ◌++◌, IsTrue, IfOk, Ok, Err, nat_lt, length, if◌then◌else◌};
+ghost use Rattle.std.specs.List.{list_all};
+ghost use Rattle.messages.specs.declared.error.MessageError.TheVariants as errors;
+ghost use Rattle.messages.specs.Gives.{GivesUnlessMemory};
+ghost use Rattle.messages.specs.Name.{is_segment};
+ghost use Rattle.messages.specs.Path.{IsPath, LiesUnder, Overlap, is_path, parts_of, path_of, path_text, text_cmp};
+
+use crate::error::MessageError;
+use crate::name::{Name, is_segment};
+use std::alloc::{AllocError, Allocator};
+use std::cmp::Ordering;
+use std::marker::Model;
+
+/// A path: 1 to 64 names, joined by `/`. Contracts see its names. It has no `Ord`: as text
+/// `a-b` comes before `a/x`, by names after it (`compare_text`).
+#[derive(Drop)]
+#[derive_where(Debug)]
+#[derive_where(Clone; A)]
+pub struct Path<A: Allocator> {
+    text: String<A>,
+}
+
+impl<A: Allocator> Model for Path<A> {
+    ghost use Rattle.std.specs.Prelude.{List, ℕ};
+    ghost use Rattle.std.specs.String.{string_bytes};
+    ghost use Rattle.messages.specs.Path.{IsPath, parts_of};
+
+    ghost Value = { List (List ℕ) };
+
+    ghost view = { λ a. parts_of (string_bytes a.text) };
+
+    ghost invariant = { λ a. IsPath (parts_of (string_bytes a.text)) };
+}
+
+fn part_count(text: &str) -> usize
+    ensures { result ≡ length (parts_of text.now) }
+{
+    text.split('/').count()
+}
+
+fn are_segments(text: &str) -> bool
+    ensures { result ≡ list_all is_segment (parts_of text.now) }
+{
+    text.split('/').all(|part| is_segment(part.as_bytes()))
+}
+
+/// Whether the text is that of a path. It takes no memory.
+pub fn is_path(text: &str) -> bool
+    ensures test { result ≡ is_path text.now }
+    ensures rule { IsTrue result ↔ IsPath (parts_of text.now) }
+{
+    part_count(text) < 65 && are_segments(text)
+}
+
+fn read_path<A: Allocator>(alloc: A, text: &[u8]) -> Result<Path<A>, MessageError>
+    ensures { GivesUnlessMemory (λ p. p) result (path_of text.now) }
+{
+    match str::from_utf8(text) {
+        Ok(text) if is_path(text) => Ok(Path {
+            text: String::from_str(alloc, text)?,
+        }),
+        _ => Err(MessageError::BadPath),
+    }
+}
+
+impl<A: Allocator> Path<A> {
+    /// The path of this text. Refusal 35 where it is none.
+    pub fn new(alloc: A, text: &[u8]) -> Result<Path<A>, MessageError>
+        ensures found { IfOk result (λ path. IsPath path × (text.now ≡ path_text path)) }
+        ensures only { (path : List (List ℕ)) → IsPath path → text.now ≡ path_text path → GivesUnlessMemory (λ p. p) result (Ok path) }
+        ensures exact { GivesUnlessMemory (λ p. p) result (path_of text.now) }
+    {
+        read_path(alloc, text)
+    }
+
+    /// The same path, over another allocator.
+    pub fn copy_of<B: Allocator>(alloc: A, path: &Path<B>) -> Result<Path<A>, AllocError>
+        ensures { IfOk result (λ p. p ≡ path.now) }
+    {
+        Ok(Path {
+            text: String::from_str(alloc, path.text.as_str())?,
+        })
+    }
+
+    /// The path of one name.
+    pub fn of_name<B: Allocator>(alloc: A, name: &Name<B>) -> Result<Path<A>, AllocError>
+        ensures { IfOk result (λ p. p ≡ name.now ∷ []) }
+    {
+        Ok(Path {
+            text: String::from_str(alloc, name.as_str())?,
+        })
+    }
+
+    /// The text.
+    pub fn as_str(&self) -> &str
+        ensures value { result.now ≡ path_text self.now }
+        ensures parts { parts_of result.now ≡ self.now }
+        ensures lawful { IsPath self.now }
+    {
+        self.text.as_str()
+    }
+
+    /// The bytes of the text.
+    pub fn as_bytes(&self) -> &[u8]
+        ensures value { result.now ≡ path_text self.now }
+        ensures parts { parts_of result.now ≡ self.now }
+        ensures lawful { IsPath self.now }
+    {
+        self.text.as_bytes()
+    }
+
+    /// Whether this path lies under the other: the other's names are a proper beginning of its own.
+    pub fn lies_under<B: Allocator>(&self, above: &Path<B>) -> bool
+        ensures { IsTrue result ↔ LiesUnder self.now above.now }
+    {
+        match self.as_bytes().strip_prefix(above.as_bytes()) {
+            Some(rest) => begins_with_slash(rest),
+            None => false,
+        }
+    }
+
+    /// Whether the two paths are equal, or one lies under the other.
+    pub fn overlaps<B: Allocator>(&self, other: &Path<B>) -> bool
+        ensures { IsTrue result ↔ Overlap self.now other.now }
+    {
+        self.is_same(other) || self.lies_under(other) || other.lies_under(self)
+    }
+
+    /// Whether the two paths are equal.
+    pub fn is_same<B: Allocator>(&self, other: &Path<B>) -> bool
+        ensures { IsTrue result ↔ (self.now ≡ other.now) }
+    {
+        self.as_bytes() == other.as_bytes()
+    }
+
+    /// The order of the two texts by their bytes, in which messages list paths. It is not that of
+    /// the names.
+    pub fn compare_text<B: Allocator>(&self, other: &Path<B>) -> Ordering
+        ensures { result ≡ text_cmp self.now other.now }
+    {
+        self.as_bytes().cmp(other.as_bytes())
+    }
+}
+
+fn begins_with_slash(bytes: &[u8]) -> bool
+    ensures { result ≡ begins_with_slash bytes.now }
+{
+    match bytes {
+        [b'/', ..] => true,
+        _ => false,
+    }
+}
+
+ghost use Rattle.messages.specs.Path.{begins_with_slash};
