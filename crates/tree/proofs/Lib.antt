@@ -1,2 +1,9 @@
 mod Asking
 mod Digests
+mod TreeLemmas
+mod SameTree
+mod SameMap
+mod OrderLemmas
+mod GraftLaws
+mod GraftOrder
+mod GraftMap

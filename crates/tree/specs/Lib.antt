@@ -1,3 +1,5 @@
 pub mod Source
 pub mod Fetched
 pub mod Memory
+pub mod Tree
+pub mod Graft

@@ -3,10 +3,12 @@
 #![tactic(auto)]
 
 mod fetching;
+mod laws;
 mod memory;
 mod source;
 
 pub use fetching::{Fetched, fetch_blob};
+pub use laws::trees_are_maps;
 pub use memory::MemorySource;
 pub use source::{BlobSource, FetchError};
 
