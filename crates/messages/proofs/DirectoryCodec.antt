@@ -94,7 +94,7 @@ lists_given : (e : DirectoryValue) → AreNames (file_names e.files) (directory_
 unfolding directory_of
 lists_given e h = let o = ordered_of_names (file_names e.files) (directory_names e.directories) (symlink_names e.symlinks) h in rw o refl
 
-no_texts : (xs : List (List ℕ)) → AllByRecursion (λ x. (not false || is_utf8 x) ≡ true) xs
+pub no_texts : (xs : List (List ℕ)) → AllByRecursion (λ x. (not false || is_utf8 x) ≡ true) xs
 no_texts [] = tt
 no_texts (x ∷ xs) = (refl, no_texts xs)
 

@@ -12,3 +12,5 @@ pub mod FileNodeCodec
 pub mod DirectoryNodeCodec
 pub mod SymlinkNodeCodec
 pub mod DirectoryCodec
+pub mod DigestSets
+pub mod Trees

@@ -1,12 +1,12 @@
 -- Paths, by their text and by their names.
-use Rattle.std.proofs.Common.{◌≡◌, ◌≢◌, ◌⊎◌, inl, inr, ℕ, zero, suc, ◌+◌, ◌<◌, ◌≤◌, Bool, true, false, cond, ltb, eqb, not, ◌&&◌, List, [], ◌∷◌, ◌++◌, length, map, take, drop, get_or, Result, Ok, Err, refl, sym, ap, subst, ◌∙◌, append_assoc, add-one, arith, lit<, lit≤}
+use Rattle.std.proofs.Common.{◌≡◌, ◌≢◌, ℕ, suc, ◌+◌, ◌<◌, ◌≤◌, Bool, true, false, cond, ltb, eqb, ◌&&◌, List, [], ◌∷◌, ◌++◌, length, take, drop, get_or, Result, Ok, Err, refl, sym, ap, subst, ◌∙◌, append_assoc, add-one, arith, lit<, lit≤}
 use Rattle.std.specs.Prelude.{◌↔◌, IsTrue, IfOk, nat_eq}
 use Rattle.std.specs.Cmp.Lexicographic.{pointwise, bytes_decides}
-use Rattle.std.proofs.lemmas.Bool.{eqb-true, eq-eqb}
+use Rattle.std.proofs.lemmas.Bool.{eqb-true}
 use Rattle.std.proofs.lemmas.Bool.Decides.{nat_tests}
-use Rattle.std.specs.List.{All, AllByRecursion, list_all, slice_split, onto_first, join_with_byte}
+use Rattle.std.specs.List.{All, AllByRecursion, list_all, onto_first}
 use Rattle.std.proofs.lemmas.List.Splits.{join_with_byte-slice_split}
-use Rattle.std.specs.Str.{IsUtf8, is_utf8, IsCharBoundary}
+use Rattle.std.specs.Str.{IsUtf8, is_utf8}
 use Rattle.std.proofs.lemmas.Str.{is_utf8-from_IsUtf8, IsUtf8-from_is_utf8, IsUtf8-append, IsUtf8-nil, IsUtf8-from_ascii, IsUtf8-take, IsUtf8-drop, IsCharBoundary-at_seam, IsCharBoundary-after_ascii}
 use Rattle.std.proofs.Math.Seq.{take-append_seam, drop-append_seam, get_or-append_seam}
 use Rattle.std.proofs.lemmas.List.{length-append, take-append-drop}
@@ -15,9 +15,9 @@ use Rattle.std.proofs.lemmas.Str.Ascii.{IsAscii-from_all}
 use Rattle.messages.specs.Gives.{GivesUnlessMemory}
 use Rattle.messages.specs.declared.error.MessageError.{MessageError}
 use Rattle.messages.specs.declared.error.MessageError.TheVariants.{BadPath}
-use Rattle.messages.specs.Name.{IsName, IsSegment, is_segment}
-use Rattle.messages.specs.Path.{IsPath, LiesUnder, Overlap, is_path, parts_of, path_of, path_text, begins_with_slash}
-use Rattle.messages.proofs.Choices.{chosen_ok, and_first, and_second, and_both, differ}
+use Rattle.messages.specs.Name.{IsName, is_segment}
+use Rattle.messages.specs.Path.{IsPath, LiesUnder, is_path, parts_of, path_of, path_text, begins_with_slash}
+use Rattle.messages.proofs.Choices.{chosen_ok, and_first, and_second, and_both}
 use Rattle.messages.proofs.Names.{IsSegment-from, is_segment-from, utf8_test}
 
 -- ---- cutting and joining

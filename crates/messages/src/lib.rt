@@ -13,13 +13,15 @@ mod order;
 mod path;
 mod shapes;
 mod target;
+mod tree;
 
 pub use digest::{decode_digest, encode_digest};
 pub use directory::Directory;
 pub use error::MessageError;
-pub use message::{Message, decode, read_each, read_fields, write_each};
+pub use message::{Message, decode, read_each, read_fields, read_optional, write_each};
 pub use name::{Name, is_name};
 pub use node::{DirectoryNode, FileNode, SymlinkNode};
 pub use order::Named;
 pub use path::{Path, is_path};
 pub use target::{Target, is_target};
+pub use tree::Tree;

@@ -1,4 +1,4 @@
-ghost use Rattle.std.specs.Prelude.{◌≡◌, ◌≤◌, ◌++◌, List, ℕ, Result, IfOk, OnOk, map};
+ghost use Rattle.std.specs.Prelude.{◌≡◌, ◌≤◌, ◌++◌, List, ℕ, Result, IfOk, OnOk, option_map, map};
 ghost use Rattle.wire.specs.Spelling.{spelling};
 ghost use Rattle.canonical.specs.Fields.{element_fields};
 ghost use Rattle.wire.specs.Record.{records_of};
@@ -6,7 +6,7 @@ ghost use Rattle.canonical.specs.View.{slices};
 ghost use Rattle.messages.specs.declared.error.MessageError.{MessageError};
 ghost use Rattle.messages.specs.Gives.{GivesUnlessMemory};
 ghost use Rattle.canonical.specs.Codec.{IsCodec};
-ghost use Rattle.canonical.specs.Told.{each};
+ghost use Rattle.canonical.specs.Told.{each, in_option};
 ghost use Rattle.messages.specs.Told.{shape_checked};
 
 use crate::error::MessageError;
@@ -59,6 +59,19 @@ pub fn read_each<A: Allocator + Copy, M: Message<A>>(
         messages.push(M::read(alloc, bytes)?)?;
     }
     Ok(messages)
+}
+
+/// The message of a single field, if the field is there.
+pub fn read_optional<A: Allocator + Copy, M: Message<A>>(
+    alloc: A,
+    bytes: Option<&[u8]>,
+) -> Result<Option<M>, MessageError>
+    ensures { GivesUnlessMemory (λ m. m) result (in_option M.reads (option_map (λ x. x.now) bytes.entry)) }
+{
+    match bytes {
+        Some(bytes) => Ok(Some(M::read(alloc, bytes)?)),
+        None => Ok(None),
+    }
 }
 
 /// Writes the messages as the elements of a field, in order.

@@ -4,6 +4,7 @@ ghost use Rattle.messages.specs.FileNode.{file_node_shape};
 ghost use Rattle.messages.specs.DirectoryNode.{directory_node_shape};
 ghost use Rattle.messages.specs.SymlinkNode.{symlink_node_shape};
 ghost use Rattle.messages.specs.Directory.{directory_shape};
+ghost use Rattle.messages.specs.Tree.{tree_shape};
 
 use canonical::{Entry, Kind, Shape};
 
@@ -101,6 +102,24 @@ pub fn directory_shape() -> Shape<'static>
         },
         Entry {
             number: 3,
+            kind: Kind::Message,
+            repeated: true,
+        },
+    ])
+}
+
+/// `Tree`: root, children.
+pub fn tree_shape() -> Shape<'static>
+    ensures { result ≡ tree_shape }
+{
+    Shape::new(&[
+        Entry {
+            number: 1,
+            kind: Kind::Message,
+            repeated: false,
+        },
+        Entry {
+            number: 2,
             kind: Kind::Message,
             repeated: true,
         },

@@ -1,6 +1,6 @@
-use Rattle.std.proofs.Common.{Ok, subst, sym, ap, ◌∙◌}
-use Rattle.messages.specs.Path.{IsPath, is_path, parts_of}
-use Rattle.messages.proofs.Paths.{path_taken, IsPath-from, no_text, no_path}
+use Rattle.std.proofs.Common.{Ok, sym, ap, ◌∙◌}
+use Rattle.messages.specs.Path.{is_path, parts_of}
+use Rattle.messages.proofs.Paths.{path_taken, no_text, no_path}
 use Rattle.messages.proofs.path.read_path.Goals as goal
 use Rattle.messages.proofs.path.read_path.Goals.{in_default-via-in-Ok+else-is_path, in_default-via-in_default}
 
@@ -14,7 +14,7 @@ pub returns-in_default : goal.returns-in_default
 returns-in_default g c =
     elim c.in_default.branch [
       | in_default-via-in-Ok+else-is_path w ↦
-        let e = w.in-Ok.ensures.cases in
-        no_path c.args.text.now e.1 (ap is_path (sym e.0) ∙ sym w.is_path.ensures.test ∙ w.if-is_path.false)
+          let e = w.in-Ok.ensures.cases in
+          no_path c.args.text.now e.1 (ap is_path (sym e.0) ∙ sym w.is_path.ensures.test ∙ w.if-is_path.false)
       | in_default-via-in_default w ↦ no_text c.args.text.now w.in_default.ensures.cases.0
     ]

@@ -1,4 +1,3 @@
-use Rattle.std.proofs.Common.{◌≡◌}
 use Rattle.messages.proofs.Paths.{under_answer, not_under}
 use Rattle.messages.proofs.path.Path.lies_under.Goals as goal
 

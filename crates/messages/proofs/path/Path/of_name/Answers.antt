@@ -1,4 +1,4 @@
-use Rattle.std.proofs.Common.{◌≡◌, [], ◌∷◌, sym, ap, subst, ◌∙◌}
+use Rattle.std.proofs.Common.{sym, ap, subst, ◌∙◌}
 use Rattle.messages.specs.Path.{IsPath, parts_of}
 use Rattle.messages.proofs.Paths.{parts-one, one_name}
 use Rattle.messages.proofs.path.Path.of_name.Goals as goal

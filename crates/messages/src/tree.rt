@@ -1,0 +1,257 @@
+ghost use Rattle.std.specs.Prelude.{◌≡◌, ℕ, Bool, ◌∷◌, ◌++◌, map, IfOk, OnOk, Ok};
+ghost use Rattle.std.specs.List.{AllByRecursion};
+ghost use Rattle.std.specs.BTreeSet.{contains};
+ghost use Rattle.blob_digest.specs.DigestValue.{DigestValue};
+ghost use Rattle.messages.specs.Gives.{GivesUnlessMemory};
+ghost use Rattle.messages.specs.DirectoryRules.{IsDirectory};
+ghost use Rattle.messages.specs.Directory.{directory_bytes};
+ghost use Rattle.messages.specs.Tree.{TreeValue, IsTree, node_digests, named_by, digests_of, child_digests, is_among, all_among, children_checked, tree_of, tree_bytes, decoded_tree};
+ghost use Rattle.messages.specs.DigestOrder.{digest_cmp};
+
+use crate::directory::Directory;
+use crate::error::MessageError;
+use crate::message::{Message, decode, read_each, read_fields, read_optional, write_each};
+use crate::node::DirectoryNode;
+use crate::shapes::tree_shape;
+use blob_digest::Digest;
+use canonical::{read_elements, read_message, write_message};
+use std::alloc::{AllocError, Allocator};
+use std::collections::BTreeSet;
+use std::marker::Model;
+
+/// A directory with all directories below it. Each child is named, by the digest of its
+/// encoding, in the root or in a child, and each directory that they name is a child. Children
+/// stand in any order, and equal ones may come again.
+#[derive(Drop)]
+#[derive_where(Debug)]
+pub struct Tree<A: Allocator> {
+    root: Directory<A>,
+    children: Vec<Directory<A>, A>,
+}
+
+impl<A: Allocator> Model for Tree<A> {
+    ghost use Rattle.messages.specs.Tree.{TreeValue, IsTree};
+
+    ghost Value = { TreeValue };
+
+    ghost view = { λ a. record { root = a.root; children = a.children.items } };
+
+    ghost invariant = { λ a. IsTree (record { root = a.root; children = a.children.items }) };
+}
+
+/// Appends the digests of the nodes.
+fn push_digests<A: Allocator>(
+    out: &mut Vec<Digest, A>,
+    nodes: &[DirectoryNode<A>],
+) -> Result<(), AllocError>
+    ensures { OnOk result (out.new.items ≡ out.old.items ++ node_digests nodes.now) }
+{
+    for node in nodes {
+        out.push(node.digest)?;
+    }
+    Ok(())
+}
+
+/// Appends the digests that the directories name.
+fn push_named<A: Allocator>(
+    out: &mut Vec<Digest, A>,
+    directories: &[Directory<A>],
+) -> Result<(), AllocError>
+    ensures named { OnOk result (out.new.items ≡ out.old.items ++ named_by directories.now) }
+    ensures kept { OnOk result (AllByRecursion IsDirectory directories.now) }
+{
+    for directory in directories {
+        push_digests(out, directory.directories())?;
+    }
+    Ok(())
+}
+
+/// The digests that the root and the children name.
+fn named_digests<A: Allocator>(
+    alloc: A,
+    root: &Directory<A>,
+    children: &[Directory<A>],
+) -> Result<Vec<Digest, A>, AllocError>
+    ensures named { IfOk result (λ v. v.items ≡ named_by (root.now ∷ children.now)) }
+    ensures root { OnOk result (IsDirectory root.now) }
+    ensures children { OnOk result (AllByRecursion IsDirectory children.now) }
+{
+    let mut named = Vec::new(alloc);
+    push_digests(&mut named, root.directories())?;
+    push_named(&mut named, children)?;
+    Ok(named)
+}
+
+/// The digests of the directories' encodings.
+fn hash_directories<A: Allocator + Copy>(
+    alloc: A,
+    directories: &[Directory<A>],
+) -> Result<Vec<Digest, A>, AllocError>
+    ensures { IfOk result (λ v. v.items ≡ digests_of (map directory_bytes directories.now)) }
+{
+    let mut digests = Vec::new(alloc);
+    for directory in directories {
+        digests.push(Digest::of(&directory.encode(alloc)?))?;
+    }
+    Ok(digests)
+}
+
+/// The digests, as a set.
+fn digest_set<A: Allocator + Copy>(
+    alloc: A,
+    digests: &[Digest],
+) -> Result<BTreeSet<Digest, A>, AllocError>
+    ensures { IfOk result (λ set. (d : DigestValue) → contains digest_cmp set d ≡ is_among digests.now d) }
+{
+    let mut set = BTreeSet::new(alloc);
+    for digest in digests {
+        set.insert(*digest)?;
+    }
+    Ok(set)
+}
+
+/// Whether each digest of the first list is one of the second.
+fn all_among<A: Allocator + Copy>(
+    alloc: A,
+    digests: &[Digest],
+    others: &[Digest],
+) -> Result<bool, AllocError>
+    ensures { IfOk result (λ b. b ≡ all_among digests.now others.now) }
+{
+    let others = digest_set(alloc, others)?;
+    for digest in digests {
+        if !others.contains(digest) {
+            return Ok(false);
+        }
+    }
+    Ok(true)
+}
+
+/// Whether the children are those that are named: all that is named is held, and all that is held
+/// is named.
+#[tactic(auto, unfolding(crate::specs::Tree::children_checked))]
+fn check_children<A: Allocator + Copy>(
+    alloc: A,
+    named: &[Digest],
+    held: &[Digest],
+) -> Result<(), MessageError>
+    ensures { GivesUnlessMemory (λ x. x) result (children_checked named.now held.now) }
+{
+    if all_among(alloc, named, held)? && all_among(alloc, held, named)? {
+        Ok(())
+    } else {
+        Err(MessageError::BadTree)
+    }
+}
+
+/// Whether the children are those that are named. Each is hashed once.
+fn check_tree<A: Allocator + Copy>(
+    alloc: A,
+    root: &Directory<A>,
+    children: &[Directory<A>],
+) -> Result<(), MessageError>
+    ensures exact { GivesUnlessMemory (λ x. x) result (children_checked (named_by (root.now ∷ children.now)) (digests_of (map directory_bytes children.now))) }
+    ensures root { OnOk result (IsDirectory root.now) }
+    ensures children { OnOk result (AllByRecursion IsDirectory children.now) }
+{
+    let held = hash_directories(alloc, children)?;
+    let named = named_digests(alloc, root, children)?;
+    check_children(alloc, &named, &held)
+}
+
+impl<A: Allocator + Copy> Tree<A> {
+    /// The tree of this root and these children. Refusal 38 where the children are not those that
+    /// are named. Each child is hashed once.
+    #[tactic(auto, unfolding(crate::specs::Tree::tree_of))]
+    pub fn new(
+        alloc: A,
+        root: Directory<A>,
+        children: Vec<Directory<A>, A>,
+    ) -> Result<Tree<A>, MessageError>
+        ensures { GivesUnlessMemory (λ t. t) result (tree_of (record { root = root; children = children.items })) }
+    {
+        check_tree(alloc, &root, &children)?;
+        Ok(Tree { root, children })
+    }
+}
+
+impl<A: Allocator> Tree<A> {
+    /// The directory at the top.
+    pub fn root(&self) -> &Directory<A>
+        ensures value { result.now ≡ self.now.root }
+        ensures lawful { IsTree self.now }
+    {
+        &self.root
+    }
+
+    /// The directories below it, in the order in which they stand.
+    pub fn children(&self) -> &[Directory<A>]
+        ensures value { result.now ≡ self.now.children }
+        ensures lawful { IsTree self.now }
+    {
+        &self.children
+    }
+}
+
+/// The root, which has to be there.
+fn required_root<A: Allocator>(root: Option<Directory<A>>) -> Result<Directory<A>, MessageError>
+    ensures { Gives (λ d. d) result (required_root root) }
+{
+    match root {
+        Some(root) => Ok(root),
+        None => Err(MessageError::MissingField(1)),
+    }
+}
+
+#[tactic(auto, using(crate::proofs::Spellings::spelled_parts), unfolding(crate::specs::Tree::decoded_tree, crate::specs::Tree::tree_bytes))]
+impl<A: Allocator + Copy> Message<A> for Tree<A> {
+    ghost use Rattle.messages.specs.Tree.{IsTree, tree_bytes, decoded_tree};
+
+    ghost reads = { decoded_tree };
+
+    ghost spells = { tree_bytes };
+
+    ghost keeps = { IsTree };
+
+    fn is_exact() {}
+
+    fn read(alloc: A, bytes: &[u8]) -> Result<Tree<A>, MessageError> {
+        let fields = read_fields(alloc, &tree_shape(), bytes)?;
+        let root = read_optional(alloc, read_message(&fields, 1))?;
+        let children = read_each(alloc, &read_elements(alloc, &fields, 2)?)?;
+        Tree::new(alloc, required_root(root)?, children)
+    }
+
+    fn write(&self, alloc: A) -> Result<Vec<u8, A>, AllocError> {
+        let mut out = Vec::new(alloc);
+        write_message(&mut out, 1, Some(&self.root.write(alloc)?))?;
+        write_each(alloc, &mut out, 2, &self.children)?;
+        Ok(out)
+    }
+}
+
+impl<A: Allocator + Copy> Tree<A> {
+    /// The tree whose canonical encoding the bytes are. The first refusal is that of the first of:
+    /// the fields (31, 36), the directories in the order of the bytes, the missing root (37), and
+    /// the rule of children (38).
+    pub fn decode(alloc: A, bytes: &[u8]) -> Result<Tree<A>, MessageError>
+        ensures found { IfOk result (λ t. IsTree t × (bytes.now ≡ tree_bytes t)) }
+        ensures only { (t : TreeValue) → IsTree t → bytes.now ≡ tree_bytes t → GivesUnlessMemory (λ x. x) result (Ok t) }
+        // Which refusal comes first.
+        ensures exact { GivesUnlessMemory (λ t. t) result (decoded_tree bytes.now) }
+    {
+        decode(alloc, bytes)
+    }
+
+    /// The canonical encoding.
+    pub fn encode(&self, alloc: A) -> Result<Vec<u8, A>, AllocError>
+        ensures bytes { IfOk result (λ bytes. bytes.items ≡ tree_bytes self.now) }
+        ensures lawful { IsTree self.now }
+    {
+        let _ = &self.root;
+        self.write(alloc)
+    }
+}
+
+ghost use Rattle.wire.specs.Steps.{Gives};
+ghost use Rattle.messages.specs.Tree.{required_root};
