@@ -2,7 +2,7 @@
 use Rattle.std.proofs.Common.{◌≡◌, ◌≢◌, ℕ, suc, ◌+◌, ◌<◌, ◌≤◌, Bool, true, false, cond, ltb, eqb, ◌&&◌, List, [], ◌∷◌, ◌++◌, length, take, drop, get_or, Result, Ok, Err, refl, sym, ap, subst, ◌∙◌, append_assoc, add-one, arith, lit<, lit≤}
 use Rattle.std.specs.Prelude.{◌↔◌, IsTrue, IfOk, nat_eq}
 use Rattle.std.specs.Cmp.Lexicographic.{pointwise, bytes_decides}
-use Rattle.std.proofs.lemmas.Bool.{eqb-true}
+use Rattle.std.proofs.lemmas.Bool.{eqb-true, eq-eqb}
 use Rattle.std.proofs.lemmas.Bool.Decides.{nat_tests}
 use Rattle.std.specs.List.{All, AllByRecursion, list_all, onto_first}
 use Rattle.std.proofs.lemmas.List.Splits.{join_with_byte-slice_split}
@@ -16,8 +16,8 @@ use Rattle.messages.specs.Gives.{GivesUnlessMemory}
 use Rattle.messages.specs.declared.error.MessageError.{MessageError}
 use Rattle.messages.specs.declared.error.MessageError.TheVariants.{BadPath}
 use Rattle.messages.specs.Name.{IsName, is_segment}
-use Rattle.messages.specs.Path.{IsPath, LiesUnder, is_path, parts_of, path_of, path_text, begins_with_slash}
-use Rattle.messages.proofs.Choices.{chosen_ok, and_first, and_second, and_both}
+use Rattle.messages.specs.Path.{IsPath, LiesUnder, is_path, parts_of, path_of, path_text, path_below, begins_with_slash}
+use Rattle.messages.proofs.Choices.{chosen_ok, and_first, and_second, and_both, differ}
 use Rattle.messages.proofs.Names.{IsSegment-from, is_segment-from, utf8_test}
 
 -- ---- cutting and joining
@@ -231,3 +231,25 @@ not_under text above other u =
     let w = under_text text above u in
     let front : take (length above) text ≡ above = ap (take (length above)) w.1 ∙ take-append_seam above (47 ∷ w.0) in
     cc (sym (same_bytes (take (length above) text) above front) ∙ other)
+
+-- ---- one more name
+
+more_names : (path : List (List ℕ)) (name : List ℕ) → AllByRecursion IsName path → IsName name → AllByRecursion IsName (path ++ name ∷ [])
+more_names [] name h is = (is, tt)
+more_names (first ∷ path) name h is = (h.0, more_names path name h.1 is)
+
+pub one_more : (path : List (List ℕ)) (name : List ℕ) → IsPath path → IsName name → length path ≢ 64 → IsPath (path ++ name ∷ [])
+one_more path name h is room =
+    let len = length-append path (name ∷ []) in
+    let few = h.few in
+    record { some = omega arith; few = omega arith; each = more_names path name h.each is }
+
+-- the text of a path with one more name
+pub parts_below : (path : List (List ℕ)) (text name : List ℕ) → parts_of text ≡ path → IsName name → parts_of (text ++ 47 ∷ name) ≡ path ++ name ∷ []
+parts_below path text name e is = parts-seam text name ∙ rw (e, parts-one name is.segment.no_slash) refl
+
+pub below_given : (path : List (List ℕ)) (name : List ℕ) → length path ≢ 64 → path_below path name ≡ Ok (path ++ name ∷ [])
+below_given path name room = let t = differ (length path) 64 (eqb (length path) 64) refl room in rw t refl
+
+pub below_full : (path : List (List ℕ)) (name : List ℕ) → length path ≡ 64 → path_below path name ≡ Err BadPath
+below_full path name full = let t = eq-eqb (length path) 64 full in rw t refl

@@ -13,3 +13,4 @@ pub mod DirectoryRules
 pub mod Directory
 pub mod DigestOrder
 pub mod Tree
+pub mod Node

@@ -46,3 +46,7 @@ path_of text = if is_utf8 text && is_path text then Ok (parts_of text) else Err 
 abbrev pub begins_with_slash : List ℕ → Bool
 begins_with_slash [] = false
 begins_with_slash (b ∷ bytes) = b == 47
+
+-- one more name below a path, unless the path has 64
+abbrev pub path_below : List (List ℕ) → List ℕ → Result (List (List ℕ)) MessageError
+path_below path name = if length path == 64 then Err BadPath else Ok (path ++ name ∷ [])

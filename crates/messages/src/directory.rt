@@ -6,13 +6,15 @@ ghost use Rattle.messages.specs.DirectoryNode.{IsDirectoryNode};
 ghost use Rattle.messages.specs.SymlinkNode.{IsSymlinkNode};
 ghost use Rattle.messages.specs.Gives.{GivesUnlessMemory};
 ghost use Rattle.messages.specs.DirectoryRules.{DirectoryValue, IsDirectory, AreNames, file_names, directory_names, symlink_names, names_ordered, directory_of};
+ghost use Rattle.messages.specs.Node.{child};
 ghost use Rattle.messages.specs.Directory.{directory_bytes, decoded_directory};
 
 use crate::error::MessageError;
 use crate::message::{Message, decode, read_each, read_fields, write_each};
-use crate::node::{DirectoryNode, FileNode, SymlinkNode};
-use crate::order::{check_order, share_a_name};
+use crate::node::{DirectoryNode, FileNode, Node, SymlinkNode};
+use crate::order::{check_order, find_named, share_a_name};
 use crate::shapes::directory_shape;
+use crate::target::Target;
 use canonical::read_elements;
 use std::alloc::{AllocError, Allocator};
 use std::marker::Model;
@@ -146,6 +148,27 @@ impl<A: Allocator + Copy> Directory<A> {
         ensures exact { GivesUnlessMemory (λ d. d) result (decoded_directory bytes.now) }
     {
         decode(alloc, bytes)
+    }
+
+    /// The child of this name.
+    pub fn child(&self, alloc: A, name: &[u8]) -> Result<Option<Node<A>>, AllocError>
+        ensures { IfOk result (λ node. node ≡ child name.now self.now) }
+    {
+        if let Some(file) = find_named(&self.files, name) {
+            return Ok(Some(Node::File {
+                digest: file.digest,
+                executable: file.executable,
+            }));
+        }
+        if let Some(directory) = find_named(&self.directories, name) {
+            return Ok(Some(Node::Dir(directory.digest)));
+        }
+        match find_named(&self.symlinks, name) {
+            Some(symlink) => Ok(Some(Node::Link {
+                target: Target::copy_of(alloc, &symlink.target)?,
+            })),
+            None => Ok(None),
+        }
     }
 
     /// The canonical encoding.

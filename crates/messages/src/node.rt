@@ -65,6 +65,18 @@ impl<A: Allocator> Model for SymlinkNode<A> {
     ghost view = { λ a. record { name = a.name; target = a.target } };
 }
 
+/// A child of a directory, without its name.
+#[derive(Drop)]
+#[derive_where(Debug)]
+pub enum Node<A: Allocator> {
+    /// A file, by the digest of its content.
+    File { digest: Digest, executable: bool },
+    /// A symbolic link.
+    Link { target: Target<A> },
+    /// A directory, by the digest of its encoding.
+    Dir(Digest),
+}
+
 /// The digest of field 2, which has to be there.
 #[tactic(auto, unfolding(crate::specs::FileNode::required_digest))]
 fn required_digest<A: Allocator + Copy>(

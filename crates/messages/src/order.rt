@@ -1,4 +1,6 @@
-ghost use Rattle.std.specs.Prelude.{◌≡◌, ℕ, List, map, None, OnOk};
+ghost use Rattle.std.specs.Prelude.{◌≡◌, ℕ, List, map, find, None, OnOk};
+ghost use Rattle.std.specs.Option.{option_copied};
+ghost use Rattle.messages.specs.Node.{is_same};
 ghost use Rattle.std.specs.List.{AllByRecursion};
 ghost use Rattle.wire.specs.Steps.{Gives};
 ghost use Rattle.messages.specs.Order.{IsAscending, ordered_behind, share_name};
@@ -55,4 +57,16 @@ pub fn share_a_name<N: Named, M: Named>(nodes: &[N], others: &[M]) -> bool
         }
     }
     false
+}
+
+/// The first element of this name.
+pub fn find_named<'a, N: Named>(nodes: &'a [N], name: &[u8]) -> Option<&'a N>
+    ensures { option_copied result ≡ find (λ n. is_same (N.name_in n) name.now) nodes.now }
+{
+    for node in nodes {
+        if node.name() == name {
+            return Some(node);
+        }
+    }
+    None
 }

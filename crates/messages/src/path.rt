@@ -3,13 +3,15 @@ ghost use Rattle.std.specs.List.{list_all};
 ghost use Rattle.messages.specs.declared.error.MessageError.TheVariants as errors;
 ghost use Rattle.messages.specs.Gives.{GivesUnlessMemory};
 ghost use Rattle.messages.specs.Name.{is_segment};
-ghost use Rattle.messages.specs.Path.{IsPath, LiesUnder, Overlap, is_path, parts_of, path_of, path_text, text_cmp};
+ghost use Rattle.std.specs.Str.Iter.{split_text, split_has_more, split_pattern};
+ghost use Rattle.messages.specs.Path.{path_below, IsPath, LiesUnder, Overlap, is_path, parts_of, path_of, path_text, text_cmp};
 
 use crate::error::MessageError;
 use crate::name::{Name, is_segment};
 use std::alloc::{AllocError, Allocator};
 use std::cmp::Ordering;
 use std::marker::Model;
+use std::str::Split;
 
 /// A path: 1 to 64 names, joined by `/`. Contracts see its names. It has no `Ord`: as text
 /// `a-b` comes before `a/x`, by names after it (`compare_text`).
@@ -89,6 +91,33 @@ impl<A: Allocator> Path<A> {
         Ok(Path {
             text: String::from_str(alloc, name.as_str())?,
         })
+    }
+
+    /// The path of one more name below this one. Refusal 35 where this one has 64 names.
+    pub fn below<B: Allocator, C: Allocator>(
+        alloc: A,
+        parent: &Path<B>,
+        name: &Name<C>,
+    ) -> Result<Path<A>, MessageError>
+        ensures { GivesUnlessMemory (λ p. p) result (path_below parent.now name.now) }
+    {
+        if part_count(parent.as_str()) == 64 {
+            return Err(MessageError::BadPath);
+        }
+        let mut text = String::from_str(alloc, parent.as_str())?;
+        text.push('/')?;
+        text.push_str(name.as_str())?;
+        Ok(Path { text })
+    }
+
+    /// The names, one after another.
+    pub fn names(&self) -> Split<'_, char>
+        ensures text { split_text result ≡ path_text self.now }
+        ensures has_more { IsTrue (split_has_more result) }
+        ensures pattern { split_pattern result ≡ 47 }
+        ensures parts { parts_of (split_text result) ≡ self.now }
+    {
+        self.as_str().split('/')
     }
 
     /// The text.

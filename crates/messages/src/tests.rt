@@ -1,0 +1,436 @@
+use crate::*;
+use blob_digest::{Digest, DigestError};
+use canonical::CanonError;
+use refusing::Refusing;
+use std::alloc::{AllocError, Allocator, Global};
+use std::cmp::Ordering;
+use std::test::Fail;
+use wire::WireError;
+
+/// The hash of the bytes `123456789`, and that of no bytes, as `sha256sum` prints them.
+const NINE: &[u8] = b"15e2b0d3c33891ebb0f1ef609ec419420c20e320ce94c65fbc8c3312448eb225";
+
+const EMPTY: &[u8] = b"e3b0c44298fc1c149afbf4c8996fb92427ae41e4649b934ca495991b7852b855";
+
+const UPPER: &[u8] = b"15E2b0d3c33891ebb0f1ef609ec419420c20e320ce94c65fbc8c3312448eb225";
+
+/// What is read, and whether it is written again.
+#[derive(Clone, Copy, Debug, PartialEq, Eq)]
+enum Kind {
+    Digest,
+    Directory,
+    Tree,
+}
+
+type Row = (Kind, &'static [&'static [u8]], Result<usize, MessageError>);
+
+/// The pieces of a message, and its length or the refusal, as protoc encodes them.
+const ROWS: [Row; 33] = [
+    (Kind::Directory, &[], Ok(0)),
+    (
+        Kind::Directory,
+        &[b"\x0a\x49\x0a\x01a\x12\x44\x0a\x40", NINE, b"\x10\x09"],
+        Ok(75),
+    ),
+    (
+        Kind::Directory,
+        &[
+            b"\x0a\x4b\x0a\x01a\x12\x44\x0a\x40",
+            NINE,
+            b"\x10\x09\x20\x01",
+        ],
+        Ok(77),
+    ),
+    (Kind::Directory, &[b"\x1a\x06\x0a\x01l\x12\x01t"], Ok(8)),
+    (
+        Kind::Directory,
+        &[b"\x12\x47\x0a\x01d\x12\x42\x0a\x40", EMPTY],
+        Ok(73),
+    ),
+    (
+        Kind::Directory,
+        &[b"\x1a\x06\x0a\x01k\x12\x01t\x1a\x06\x0a\x01l\x12\x01t"],
+        Ok(16),
+    ),
+    (
+        Kind::Directory,
+        &[b"\x1a\x07\x0a\x02\xc3\xa9\x12\x01t"],
+        Ok(9),
+    ),
+    (
+        Kind::Directory,
+        &[
+            b"\x0a\x49\x0a\x01b\x12\x44\x0a\x40",
+            NINE,
+            b"\x10\x09\x0a\x49\x0a\x01a\x12\x44\x0a\x40",
+            NINE,
+            b"\x10\x09",
+        ],
+        Err(MessageError::Unsorted),
+    ),
+    (
+        Kind::Directory,
+        &[
+            b"\x0a\x49\x0a\x01a\x12\x44\x0a\x40",
+            NINE,
+            b"\x10\x09\x0a\x49\x0a\x01a\x12\x44\x0a\x40",
+            NINE,
+            b"\x10\x09",
+        ],
+        Err(MessageError::SameName),
+    ),
+    (
+        Kind::Directory,
+        &[
+            b"\x0a\x49\x0a\x01a\x12\x44\x0a\x40",
+            NINE,
+            b"\x10\x09\x1a\x06\x0a\x01a\x12\x01t",
+        ],
+        Err(MessageError::SameName),
+    ),
+    (
+        Kind::Directory,
+        &[b"\x0a\x4a\x0a\x02..\x12\x44\x0a\x40", NINE, b"\x10\x09"],
+        Err(MessageError::BadName),
+    ),
+    (
+        Kind::Directory,
+        &[b"\x2a\x00"],
+        Err(MessageError::Unsupported(5)),
+    ),
+    (
+        Kind::Directory,
+        &[b"\x0a\x03\x0a\x01/"],
+        Err(MessageError::MissingField(2)),
+    ),
+    (
+        Kind::Directory,
+        &[b"\x1a\x06\x0a\x01\xff\x12\x01t"],
+        Err(MessageError::Wire(CanonError::BadUtf8)),
+    ),
+    (
+        Kind::Directory,
+        &[b"\x1a\x03\x0a\x01l"],
+        Err(MessageError::BadPath),
+    ),
+    (
+        Kind::Directory,
+        &[b"\x1a\x03\x12\x01t"],
+        Err(MessageError::BadName),
+    ),
+    (
+        Kind::Directory,
+        &[b"\x1a\x06\x0a\x01l\x12\x01t\x0a\x00"],
+        Err(MessageError::Wire(CanonError::OutOfOrder)),
+    ),
+    (Kind::Digest, &[b"\x0a\x40", NINE, b"\x10\x09"], Ok(68)),
+    (Kind::Digest, &[b"\x0a\x40", EMPTY], Ok(66)),
+    (
+        Kind::Digest,
+        &[b"\x0a\x40", NINE, b"\x10\x89\x00"],
+        Err(MessageError::Wire(CanonError::Wire(WireError::NotMinimal))),
+    ),
+    (
+        Kind::Digest,
+        &[b"\x0a\x40", NINE, b"\x10\x00"],
+        Err(MessageError::Wire(CanonError::DefaultWritten)),
+    ),
+    (
+        Kind::Digest,
+        &[b"\x0a\x40", UPPER, b"\x10\x09"],
+        Err(MessageError::BadDigest(DigestError::BadHex)),
+    ),
+    (
+        Kind::Digest,
+        &[],
+        Err(MessageError::BadDigest(DigestError::BadHex)),
+    ),
+    (
+        Kind::Digest,
+        &[
+            b"\x0a\x40",
+            NINE,
+            b"\x10\xff\xff\xff\xff\xff\xff\xff\xff\xff\x01",
+        ],
+        Err(MessageError::BadDigest(DigestError::BadSize)),
+    ),
+    (Kind::Tree, &[b"\x0a\x00"], Ok(2)),
+    (
+        Kind::Tree,
+        &[
+            b"\x0a\x4b\x0a\x49\x0a\x01a\x12\x44\x0a\x40",
+            NINE,
+            b"\x10\x09",
+        ],
+        Ok(77),
+    ),
+    (
+        Kind::Tree,
+        &[b"\x0a\x49\x12\x47\x0a\x01d\x12\x42\x0a\x40", EMPTY],
+        Err(MessageError::BadTree),
+    ),
+    (
+        Kind::Tree,
+        &[
+            b"\x0a\x49\x12\x47\x0a\x01d\x12\x42\x0a\x40",
+            EMPTY,
+            b"\x12\x00",
+        ],
+        Ok(77),
+    ),
+    (
+        Kind::Tree,
+        &[
+            b"\x0a\x49\x12\x47\x0a\x01d\x12\x42\x0a\x40",
+            EMPTY,
+            b"\x12\x00\x12\x00",
+        ],
+        Ok(79),
+    ),
+    (
+        Kind::Tree,
+        &[b"\x0a\x00\x12\x00"],
+        Err(MessageError::BadTree),
+    ),
+    (Kind::Tree, &[], Err(MessageError::MissingField(1))),
+    (
+        Kind::Tree,
+        &[b"\x12\x02\x2a\x00"],
+        Err(MessageError::Unsupported(5)),
+    ),
+    (
+        Kind::Tree,
+        &[b"\x12\x00"],
+        Err(MessageError::MissingField(1)),
+    ),
+];
+
+fn joined<A: Allocator>(alloc: A, pieces: &[&[u8]]) -> Result<Vec<u8, A>, AllocError> {
+    let mut out = Vec::new(alloc);
+    for piece in pieces {
+        out.extend_from_slice(piece)?;
+    }
+    Ok(out)
+}
+
+/// The length of what is read and written again, if that is the same.
+fn again<A: Allocator + Copy>(alloc: A, kind: Kind, bytes: &[u8]) -> Result<usize, MessageError> {
+    let text = match kind {
+        Kind::Digest => encode_digest(alloc, &decode_digest(alloc, bytes)?)?,
+        Kind::Directory => Directory::decode(alloc, bytes)?.encode(alloc)?,
+        Kind::Tree => Tree::decode(alloc, bytes)?.encode(alloc)?,
+    };
+    if text.as_slice() == bytes {
+        Ok(text.len())
+    } else {
+        Ok(0)
+    }
+}
+
+#[test]
+fn messages_read_and_written(rt: HostRuntime) -> Result<(), Fail> {
+    for (kind, pieces, expected) in ROWS {
+        let bytes = joined(rt.alloc(), pieces)?;
+        assert_eq!(rt; again(rt.alloc(), kind, &bytes), expected);
+    }
+    Ok(())
+}
+
+#[test]
+fn each_request_refused(rt: HostRuntime) -> Result<(), Fail> {
+    let mut refused = 0u64;
+    for (kind, pieces, expected) in ROWS {
+        let bytes = joined(rt.alloc(), pieces)?;
+        for number in 1..1000u64 {
+            let heap = Refusing::new(rt.alloc(), number);
+            let answer = again(&heap, kind, &bytes);
+            if !heap.has_refused() {
+                assert_eq!(rt; answer, expected);
+                break;
+            }
+            assert_eq!(rt; answer, Err(MessageError::Memory), "request {number}");
+            refused = refused.saturating_add(1);
+        }
+    }
+    assert!(rt; refused > 150, "{refused}");
+    Ok(())
+}
+
+/// A text, and whether it is a name, a target and a path.
+const TEXTS: [(&str, bool, bool, bool); 12] = [
+    ("a", true, true, true),
+    ("a-b", true, true, true),
+    ("\u{e9}", true, true, true),
+    ("", false, false, false),
+    (".", false, true, false),
+    ("..", false, true, false),
+    ("...", true, true, true),
+    ("a/b", false, true, true),
+    ("/a", false, true, false),
+    ("a/", false, true, false),
+    ("a/../b", false, true, false),
+    ("a\0", false, false, false),
+];
+
+#[test]
+fn texts(rt: HostRuntime) -> Result<(), Fail> {
+    for (text, name, target, path) in TEXTS {
+        assert_eq!(rt; is_name(text), name, "{text}");
+        assert_eq!(rt; is_target(text), target, "{text}");
+        assert_eq!(rt; is_path(text), path, "{text}");
+        let bytes = text.as_bytes();
+        assert_eq!(rt; Name::new(rt.alloc(), bytes).is_ok(), name);
+        assert_eq!(rt; Target::new(rt.alloc(), bytes).is_ok(), target);
+        assert_eq!(rt; Path::new(rt.alloc(), bytes).is_ok(), path);
+    }
+    assert!(rt; matches!(Name::new(rt.alloc(), b"\xff"), Err(MessageError::BadName)));
+    assert!(rt; matches!(Target::new(rt.alloc(), b"\xff"), Err(MessageError::BadPath)));
+    assert!(rt; matches!(Path::new(rt.alloc(), b"a/\xff"), Err(MessageError::BadPath)));
+    Ok(())
+}
+
+/// Two paths: whether the first lies under the second, whether they overlap, and their order as text.
+const PAIRS: [(&str, &str, bool, bool, Ordering); 6] = [
+    ("a/x", "a", true, true, Ordering::Greater),
+    ("a", "a/x", false, true, Ordering::Less),
+    ("a/x", "a/x", false, true, Ordering::Equal),
+    ("a-b", "a", false, false, Ordering::Greater),
+    ("a-b", "a/x", false, false, Ordering::Less),
+    ("a/b/c", "a/b", true, true, Ordering::Greater),
+];
+
+#[test]
+fn paths(rt: HostRuntime) -> Result<(), Fail> {
+    let heap = Refusing::new(rt.alloc(), 0);
+    for (first, second, under, overlap, order) in PAIRS {
+        heap.refuse(0);
+        let path = Path::new(&heap, first.as_bytes())?;
+        let other = Path::new(&heap, second.as_bytes())?;
+        heap.refuse(1);
+        assert_eq!(rt; path.lies_under(&other), under);
+        assert_eq!(rt; path.overlaps(&other), overlap);
+        assert_eq!(rt; path.is_same(&other), first == second);
+        assert!(rt; path.compare_text(&other) == order);
+        assert_eq!(rt; path.as_str(), first);
+        assert!(rt; path.names().all(is_name));
+        assert!(rt; !heap.has_refused());
+    }
+    Ok(())
+}
+
+/// The path of so many names `a`.
+fn deep<A: Allocator + Copy>(alloc: A, names: usize) -> Result<Path<A>, MessageError> {
+    let name = Name::new(alloc, b"a")?;
+    let mut path = Path::of_name(alloc, &name)?;
+    for _ in 1..names {
+        path = Path::below(alloc, &path, &name)?;
+    }
+    Path::copy_of(alloc, &path).map_err(MessageError::from)
+}
+
+#[test]
+fn deep_paths(rt: HostRuntime) -> Result<(), Fail> {
+    let path = deep(rt.alloc(), 64)?;
+    assert_eq!(rt; path.as_bytes().len(), 127);
+    assert_eq!(rt; path.names().count(), 64);
+    assert!(rt; matches!(deep(rt.alloc(), 65), Err(MessageError::BadPath)));
+    let mut refused = 0u64;
+    for number in 1..1000u64 {
+        let heap = Refusing::new(rt.alloc(), number);
+        let answer = deep(&heap, 3).map(|path| path.as_bytes().len());
+        if !heap.has_refused() {
+            assert_eq!(rt; answer, Ok(5));
+            break;
+        }
+        assert_eq!(rt; answer, Err(MessageError::Memory), "request {number}");
+        refused = refused.saturating_add(1);
+    }
+    assert!(rt; refused > 4, "{refused}");
+    Ok(())
+}
+
+/// A directory of a file `f`, a directory `d` and a symbolic link `l`, by its parts.
+fn three<A: Allocator + Copy>(alloc: A) -> Result<Directory<A>, MessageError> {
+    let mut files = Vec::new(alloc);
+    files.push(FileNode {
+        name: Name::new(alloc, b"f")?,
+        digest: Digest::of(b"123456789"),
+        executable: true,
+    })?;
+    let mut directories = Vec::new(alloc);
+    directories.push(DirectoryNode {
+        name: Name::new(alloc, b"d")?,
+        digest: Digest::empty(),
+    })?;
+    let mut symlinks = Vec::new(alloc);
+    symlinks.push(SymlinkNode {
+        name: Name::new(alloc, b"l")?,
+        target: Target::new(alloc, b"f")?,
+    })?;
+    Directory::new(files, directories, symlinks)
+}
+
+/// The digests and targets of the children `f`, `d`, `l` and `x`.
+fn children<A: Allocator + Copy>(alloc: A, directory: &Directory<A>) -> Result<bool, MessageError> {
+    let file = directory.child(alloc, b"f")?;
+    let folder = directory.child(alloc, b"d")?;
+    let link = directory.child(alloc, b"l")?;
+    let link = match &link {
+        Some(Node::Link { target }) => target.as_bytes() == b"f".as_slice(),
+        _ => false,
+    };
+    Ok(
+        matches!(
+            file,
+            Some(Node::File {
+                executable: true,
+                ..
+            })
+        ) && matches!(folder, Some(Node::Dir(digest)) if digest == Digest::empty())
+            && link
+            && directory.child(alloc, b"x")?.is_none(),
+    )
+}
+
+#[test]
+fn children_by_name(rt: HostRuntime) -> Result<(), Fail> {
+    for number in 0..100u64 {
+        let heap = Refusing::new(rt.alloc(), number);
+        let answer = three(&heap).and_then(|directory| children(&heap, &directory));
+        if number == 0 || !heap.has_refused() {
+            assert_eq!(rt; answer, Ok(true));
+        } else {
+            assert_eq!(rt; answer, Err(MessageError::Memory), "request {number}");
+        }
+    }
+    Ok(())
+}
+
+/// A tree of an empty child, by its parts.
+fn small_tree<A: Allocator + Copy>(alloc: A) -> Result<Tree<A>, MessageError> {
+    let empty = Directory::new(Vec::new(alloc), Vec::new(alloc), Vec::new(alloc))?;
+    let mut children = Vec::new(alloc);
+    children.push(empty)?;
+    Tree::new(alloc, three(alloc)?, children)
+}
+
+#[test]
+fn parts(rt: HostRuntime) -> Result<(), Fail> {
+    let tree = small_tree(rt.alloc())?;
+    let root = tree.root();
+    assert_eq!(rt; tree.children().len(), 1);
+    assert_eq!(rt; root.files().len(), 1);
+    assert_eq!(rt; root.directories()[0].digest, Digest::empty());
+    assert_eq!(rt; root.symlinks()[0].target.as_str(), "f");
+    assert!(rt; Tree::new(rt.alloc(), three(rt.alloc())?, Vec::new(rt.alloc())).is_err());
+    let heap = Refusing::new(rt.alloc(), 0);
+    let name = Name::new(&heap, b"l")?;
+    let node: SymlinkNode<&Refusing<Global>> = decode(&heap, b"\x0a\x01l\x12\x01t")?;
+    assert!(rt; node.name == name);
+    assert!(rt; node.name.cmp(&name) == Ordering::Equal);
+    let again = node.clone()?;
+    assert_eq!(rt; again.name.as_str(), "l");
+    assert!(rt; Name::copy_of(rt.alloc(), &name)?.as_bytes() == b"l".as_slice());
+    assert!(rt; again.target == node.target);
+    Ok(())
+}
