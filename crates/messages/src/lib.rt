@@ -18,10 +18,11 @@ mod tree;
 pub use digest::{decode_digest, encode_digest};
 pub use directory::Directory;
 pub use error::MessageError;
-pub use message::{Message, decode, read_each, read_fields, read_optional, write_each};
+pub use message::{
+    Message, decode, encodes_one_value, read_each, read_fields, read_optional, write_each,
+};
 pub use name::{Name, is_name};
 pub use node::{DirectoryNode, FileNode, Node, SymlinkNode};
-pub use order::Named;
 pub use path::{Path, is_path};
 pub use target::{Target, is_target};
 pub use tree::Tree;

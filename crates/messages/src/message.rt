@@ -1,6 +1,7 @@
 ghost use Rattle.std.specs.Prelude.{◌≡◌, ◌≤◌, ◌++◌, List, ℕ, Result, IfOk, OnOk, option_map, map};
 ghost use Rattle.wire.specs.Spelling.{spelling};
 ghost use Rattle.canonical.specs.Fields.{element_fields};
+ghost use Rattle.wire.specs.Bytes.{AreBytes};
 ghost use Rattle.wire.specs.Record.{records_of};
 ghost use Rattle.canonical.specs.View.{slices};
 ghost use Rattle.messages.specs.declared.error.MessageError.{MessageError};
@@ -105,3 +106,11 @@ pub fn decode<A: Allocator + Copy, M: Message<A>>(alloc: A, bytes: &[u8]) -> Res
 }
 
 ghost use Rattle.std.specs.Prelude.{Ok};
+
+/// No bytes are the canonical encoding of two values. (That no value has two is said by the
+/// encoding's being a function.) It does nothing.
+pub fn encodes_one_value<A: Allocator, M: Message<A>>()
+    ensures { (bytes : List ℕ) (a b : M) → AreBytes bytes → M.keeps a → M.keeps b → bytes ≡ M.spells a → bytes ≡ M.spells b → a ≡ b }
+{
+    M::is_exact();
+}

@@ -1,3 +1,5 @@
+mod texts;
+
 use crate::*;
 use blob_digest::{Digest, DigestError};
 use canonical::CanonError;
@@ -256,99 +258,6 @@ fn each_request_refused(rt: HostRuntime) -> Result<(), Fail> {
     Ok(())
 }
 
-/// A text, and whether it is a name, a target and a path.
-const TEXTS: [(&str, bool, bool, bool); 12] = [
-    ("a", true, true, true),
-    ("a-b", true, true, true),
-    ("\u{e9}", true, true, true),
-    ("", false, false, false),
-    (".", false, true, false),
-    ("..", false, true, false),
-    ("...", true, true, true),
-    ("a/b", false, true, true),
-    ("/a", false, true, false),
-    ("a/", false, true, false),
-    ("a/../b", false, true, false),
-    ("a\0", false, false, false),
-];
-
-#[test]
-fn texts(rt: HostRuntime) -> Result<(), Fail> {
-    for (text, name, target, path) in TEXTS {
-        assert_eq!(rt; is_name(text), name, "{text}");
-        assert_eq!(rt; is_target(text), target, "{text}");
-        assert_eq!(rt; is_path(text), path, "{text}");
-        let bytes = text.as_bytes();
-        assert_eq!(rt; Name::new(rt.alloc(), bytes).is_ok(), name);
-        assert_eq!(rt; Target::new(rt.alloc(), bytes).is_ok(), target);
-        assert_eq!(rt; Path::new(rt.alloc(), bytes).is_ok(), path);
-    }
-    assert!(rt; matches!(Name::new(rt.alloc(), b"\xff"), Err(MessageError::BadName)));
-    assert!(rt; matches!(Target::new(rt.alloc(), b"\xff"), Err(MessageError::BadPath)));
-    assert!(rt; matches!(Path::new(rt.alloc(), b"a/\xff"), Err(MessageError::BadPath)));
-    Ok(())
-}
-
-/// Two paths: whether the first lies under the second, whether they overlap, and their order as text.
-const PAIRS: [(&str, &str, bool, bool, Ordering); 6] = [
-    ("a/x", "a", true, true, Ordering::Greater),
-    ("a", "a/x", false, true, Ordering::Less),
-    ("a/x", "a/x", false, true, Ordering::Equal),
-    ("a-b", "a", false, false, Ordering::Greater),
-    ("a-b", "a/x", false, false, Ordering::Less),
-    ("a/b/c", "a/b", true, true, Ordering::Greater),
-];
-
-#[test]
-fn paths(rt: HostRuntime) -> Result<(), Fail> {
-    let heap = Refusing::new(rt.alloc(), 0);
-    for (first, second, under, overlap, order) in PAIRS {
-        heap.refuse(0);
-        let path = Path::new(&heap, first.as_bytes())?;
-        let other = Path::new(&heap, second.as_bytes())?;
-        heap.refuse(1);
-        assert_eq!(rt; path.lies_under(&other), under);
-        assert_eq!(rt; path.overlaps(&other), overlap);
-        assert_eq!(rt; path.is_same(&other), first == second);
-        assert!(rt; path.compare_text(&other) == order);
-        assert_eq!(rt; path.as_str(), first);
-        assert!(rt; path.names().all(is_name));
-        assert!(rt; !heap.has_refused());
-    }
-    Ok(())
-}
-
-/// The path of so many names `a`.
-fn deep<A: Allocator + Copy>(alloc: A, names: usize) -> Result<Path<A>, MessageError> {
-    let name = Name::new(alloc, b"a")?;
-    let mut path = Path::of_name(alloc, &name)?;
-    for _ in 1..names {
-        path = Path::below(alloc, &path, &name)?;
-    }
-    Path::copy_of(alloc, &path).map_err(MessageError::from)
-}
-
-#[test]
-fn deep_paths(rt: HostRuntime) -> Result<(), Fail> {
-    let path = deep(rt.alloc(), 64)?;
-    assert_eq!(rt; path.as_bytes().len(), 127);
-    assert_eq!(rt; path.names().count(), 64);
-    assert!(rt; matches!(deep(rt.alloc(), 65), Err(MessageError::BadPath)));
-    let mut refused = 0u64;
-    for number in 1..1000u64 {
-        let heap = Refusing::new(rt.alloc(), number);
-        let answer = deep(&heap, 3).map(|path| path.as_bytes().len());
-        if !heap.has_refused() {
-            assert_eq!(rt; answer, Ok(5));
-            break;
-        }
-        assert_eq!(rt; answer, Err(MessageError::Memory), "request {number}");
-        refused = refused.saturating_add(1);
-    }
-    assert!(rt; refused > 4, "{refused}");
-    Ok(())
-}
-
 /// A directory of a file `f`, a directory `d` and a symbolic link `l`, by its parts.
 fn three<A: Allocator + Copy>(alloc: A) -> Result<Directory<A>, MessageError> {
     let mut files = Vec::new(alloc);
@@ -370,25 +279,46 @@ fn three<A: Allocator + Copy>(alloc: A) -> Result<Directory<A>, MessageError> {
     Directory::new(files, directories, symlinks)
 }
 
-/// The digests and targets of the children `f`, `d`, `l` and `x`.
-fn children<A: Allocator + Copy>(alloc: A, directory: &Directory<A>) -> Result<bool, MessageError> {
-    let file = directory.child(alloc, b"f")?;
-    let folder = directory.child(alloc, b"d")?;
-    let link = directory.child(alloc, b"l")?;
-    let link = match &link {
-        Some(Node::Link { target }) => target.as_bytes() == b"f".as_slice(),
+/// Whether it is this file, which may be executed.
+fn is_file<A: Allocator>(node: &Node<A>, content: Digest) -> bool {
+    match node {
+        Node::File { digest, executable } => *executable && *digest == content,
         _ => false,
+    }
+}
+
+fn is_link<A: Allocator>(node: &Node<A>, text: &str) -> bool {
+    match node {
+        Node::Link { target } => target.as_str() == text,
+        _ => false,
+    }
+}
+
+fn is_directory<A: Allocator>(node: &Node<A>, encoding: Digest) -> bool {
+    match node {
+        Node::Dir(digest) => *digest == encoding,
+        _ => false,
+    }
+}
+
+/// Whether the children `f`, `d`, `l` and `x` are found as they are.
+fn children<A: Allocator + Copy>(alloc: A) -> Result<bool, MessageError> {
+    let directory = three(alloc)?;
+    let Some(file) = directory.child(alloc, b"f")? else {
+        return Ok(false);
     };
+    let Some(folder) = directory.child(alloc, b"d")? else {
+        return Ok(false);
+    };
+    let Some(link) = directory.child(alloc, b"l")? else {
+        return Ok(false);
+    };
+    let none = directory.child(alloc, b"x")?;
     Ok(
-        matches!(
-            file,
-            Some(Node::File {
-                executable: true,
-                ..
-            })
-        ) && matches!(folder, Some(Node::Dir(digest)) if digest == Digest::empty())
-            && link
-            && directory.child(alloc, b"x")?.is_none(),
+        is_file(&file, Digest::of(b"123456789"))
+            && is_directory(&folder, Digest::empty())
+            && is_link(&link, "f")
+            && none.is_none(),
     )
 }
 
@@ -396,7 +326,7 @@ fn children<A: Allocator + Copy>(alloc: A, directory: &Directory<A>) -> Result<b
 fn children_by_name(rt: HostRuntime) -> Result<(), Fail> {
     for number in 0..100u64 {
         let heap = Refusing::new(rt.alloc(), number);
-        let answer = three(&heap).and_then(|directory| children(&heap, &directory));
+        let answer = children(&heap);
         if number == 0 || !heap.has_refused() {
             assert_eq!(rt; answer, Ok(true));
         } else {
@@ -417,12 +347,17 @@ fn small_tree<A: Allocator + Copy>(alloc: A) -> Result<Tree<A>, MessageError> {
 #[test]
 fn parts(rt: HostRuntime) -> Result<(), Fail> {
     let tree = small_tree(rt.alloc())?;
-    let root = tree.root();
     assert_eq!(rt; tree.children().len(), 1);
+    let root = tree.root();
     assert_eq!(rt; root.files().len(), 1);
-    assert_eq!(rt; root.directories()[0].digest, Digest::empty());
-    assert_eq!(rt; root.symlinks()[0].target.as_str(), "f");
-    assert!(rt; Tree::new(rt.alloc(), three(rt.alloc())?, Vec::new(rt.alloc())).is_err());
+    for node in root.directories() {
+        assert_eq!(rt; node.digest, Digest::empty());
+    }
+    for node in root.symlinks() {
+        assert_eq!(rt; node.target.as_str(), "f");
+    }
+    let childless = Tree::new(rt.alloc(), three(rt.alloc())?, Vec::new(rt.alloc()));
+    assert!(rt; matches!(childless, Err(MessageError::BadTree)));
     let heap = Refusing::new(rt.alloc(), 0);
     let name = Name::new(&heap, b"l")?;
     let node: SymlinkNode<&Refusing<Global>> = decode(&heap, b"\x0a\x01l\x12\x01t")?;
