@@ -301,36 +301,39 @@ fn is_directory<A: Allocator>(node: &Node<A>, encoding: Digest) -> bool {
     }
 }
 
-/// Whether the children `f`, `d`, `l` and `x` are found as they are.
-fn children<A: Allocator + Copy>(alloc: A) -> Result<bool, MessageError> {
-    let directory = three(alloc)?;
-    let Some(file) = directory.child(alloc, b"f")? else {
-        return Ok(false);
-    };
-    let Some(folder) = directory.child(alloc, b"d")? else {
-        return Ok(false);
-    };
-    let Some(link) = directory.child(alloc, b"l")? else {
-        return Ok(false);
-    };
-    let none = directory.child(alloc, b"x")?;
-    Ok(
-        is_file(&file, Digest::of(b"123456789"))
-            && is_directory(&folder, Digest::empty())
-            && is_link(&link, "f")
-            && none.is_none(),
-    )
+/// Whether the child of this name is what it should be: the file `f`, the directory `d`, the
+/// link `l`, and nothing else.
+fn is_child<A: Allocator>(name: &[u8], node: &Option<Node<A>>) -> bool {
+    match node {
+        Some(node) => match name {
+            b"f" => is_file(node, Digest::of(b"123456789")),
+            b"d" => is_directory(node, Digest::empty()),
+            b"l" => is_link(node, "f"),
+            _ => false,
+        },
+        None => name == b"x".as_slice(),
+    }
 }
+
+fn has_child<A: Allocator + Copy>(alloc: A, name: &[u8]) -> Result<bool, MessageError> {
+    let directory = three(alloc)?;
+    let node = directory.child(alloc, name)?;
+    Ok(is_child(name, &node))
+}
+
+const CHILDREN: [&[u8]; 4] = [b"f", b"d", b"l", b"x"];
 
 #[test]
 fn children_by_name(rt: HostRuntime) -> Result<(), Fail> {
-    for number in 0..100u64 {
-        let heap = Refusing::new(rt.alloc(), number);
-        let answer = children(&heap);
-        if number == 0 || !heap.has_refused() {
-            assert_eq!(rt; answer, Ok(true));
-        } else {
-            assert_eq!(rt; answer, Err(MessageError::Memory), "request {number}");
+    for name in CHILDREN {
+        for number in 0..100u64 {
+            let heap = Refusing::new(rt.alloc(), number);
+            let answer = has_child(&heap, name);
+            if number == 0 || !heap.has_refused() {
+                assert_eq!(rt; answer, Ok(true));
+            } else {
+                assert_eq!(rt; answer, Err(MessageError::Memory), "request {number}");
+            }
         }
     }
     Ok(())
@@ -344,28 +347,35 @@ fn small_tree<A: Allocator + Copy>(alloc: A) -> Result<Tree<A>, MessageError> {
     Tree::new(alloc, three(alloc)?, children)
 }
 
-#[test]
-fn parts(rt: HostRuntime) -> Result<(), Fail> {
-    let tree = small_tree(rt.alloc())?;
-    assert_eq!(rt; tree.children().len(), 1);
+/// How many children, files, directories and links the tree has.
+fn counts<A: Allocator>(tree: &Tree<A>) -> [usize; 4] {
     let root = tree.root();
-    assert_eq!(rt; root.files().len(), 1);
-    for node in root.directories() {
-        assert_eq!(rt; node.digest, Digest::empty());
-    }
-    for node in root.symlinks() {
-        assert_eq!(rt; node.target.as_str(), "f");
-    }
-    let childless = Tree::new(rt.alloc(), three(rt.alloc())?, Vec::new(rt.alloc()));
+    [
+        tree.children().len(),
+        root.files().len(),
+        root.directories().len(),
+        root.symlinks().len(),
+    ]
+}
+
+#[test]
+fn trees_by_parts(rt: HostRuntime) -> Result<(), Fail> {
+    let tree = small_tree(rt.alloc())?;
+    assert_eq!(rt; counts(&tree), [1, 1, 1, 1]);
+    let root = three(rt.alloc())?;
+    let childless = Tree::new(rt.alloc(), root, Vec::new(rt.alloc()));
     assert!(rt; matches!(childless, Err(MessageError::BadTree)));
+    Ok(())
+}
+
+#[test]
+fn names_compared(rt: HostRuntime) -> Result<(), Fail> {
     let heap = Refusing::new(rt.alloc(), 0);
-    let name = Name::new(&heap, b"l")?;
     let node: SymlinkNode<&Refusing<Global>> = decode(&heap, b"\x0a\x01l\x12\x01t")?;
-    assert!(rt; node.name == name);
-    assert!(rt; node.name.cmp(&name) == Ordering::Equal);
     let again = node.clone()?;
+    assert!(rt; node.name == again.name);
+    assert!(rt; node.target == again.target);
+    assert!(rt; node.name.cmp(&again.name) == Ordering::Equal);
     assert_eq!(rt; again.name.as_str(), "l");
-    assert!(rt; Name::copy_of(rt.alloc(), &name)?.as_bytes() == b"l".as_slice());
-    assert!(rt; again.target == node.target);
     Ok(())
 }
