@@ -4,12 +4,14 @@
 use cli::run_words;
 use std::alloc::AllocError;
 use std::env;
+use std::io::ErrorKind;
 use std::process::ExitCode;
 
 /// The words behind the program's name; `None` where one of them is no UTF-8.
 fn words(rt: &HostRuntime) -> Result<Option<Vec<String>>, AllocError> {
     match env::args(rt) {
         Ok(all) => Ok(Some(all.skip(1).collect(rt.alloc())?)),
+        Err(e) if e.kind() == ErrorKind::OutOfMemory => Err(AllocError),
         Err(_e) => Ok(None),
     }
 }
@@ -23,7 +25,7 @@ fn main(rt: HostRuntime) -> ExitCode {
             &mut rt.stderr(),
         )),
         Ok(None) => {
-            let _ = eprintln!(rt; "error: the words are not UTF-8");
+            let _ = eprintln!(rt; "error: a word of the command line is not UTF-8");
             ExitCode::from(2)
         }
         Err(_e) => {

@@ -10,3 +10,8 @@ use Rattle.verifier.specs.declared.verdict.Cause.TheVariants.{RootDiffers}
 abbrev pub report_line : Verdict → List ℕ
 report_line (Yes root steps) = codes "yes " ++ (digest_text root ++ (codes " steps " ++ (decimal steps ++ 10 ∷ [])))
 report_line (No Root (RootDiffers root)) = codes "no root cause root-differs " ++ (digest_text root ++ 10 ∷ [])
+
+-- the verdict is yes
+abbrev pub IsYes : Verdict → Type 0
+IsYes (Yes root steps) = Unit {0}
+IsYes (No place cause) = ⊥

@@ -1,4 +1,5 @@
-ghost use Rattle.std.specs.Prelude.{◌≡◌, ◌⊎◌};
+ghost use Rattle.std.specs.Prelude.{◌≡◌};
+ghost use Rattle.cli.specs.Status.{status_of};
 
 use blob_digest::DigestError;
 use plan::PlanError;
@@ -17,21 +18,21 @@ pub(crate) enum CliError {
         text: String,
         fault: DigestError,
     },
-    #[error("{path}: {fault}")]
+    #[error("{path:?}: {fault}")]
     Text {
         path: String,
         fault: PlanError,
     },
-    #[error("{path}: {fault}")]
+    #[error("{path:?}: {fault}")]
     File {
         path: String,
         fault: io::Error,
     },
-    #[error("{path}: not a file")]
+    #[error("{path:?}: not a file")]
     NotAFile {
         path: String,
     },
-    #[error("{path}: a file of more than 16777216 bytes")]
+    #[error("{path:?}: a file of more than 16777216 bytes")]
     TooLarge {
         path: String,
     },
@@ -44,7 +45,7 @@ pub(crate) enum CliError {
 impl CliError {
     /// 2 where the command's words or the texts that they name are at fault, and else 3.
     pub(crate) fn status(&self) -> u8
-        ensures { (result ≡ 2) ⊎ (result ≡ 3) }
+        ensures { result ≡ status_of self.now }
     {
         match self {
             CliError::Words(_) | CliError::Digest { .. } | CliError::Text { .. } => 2,
@@ -58,12 +59,22 @@ impl CliError {
 }
 
 impl From<AllocError> for CliError {
+    ghost use Rattle.std.specs.Prelude.{◌≡◌};
+    ghost use Rattle.cli.specs.declared.error.CliError.TheVariants as errors;
+
+    ghost from_gives = { λ _ e. e ≡ errors.Memory };
+
     fn from(_e: AllocError) -> CliError {
         CliError::Memory
     }
 }
 
 impl<T: Drop> From<AllocFailed<T>> for CliError {
+    ghost use Rattle.std.specs.Prelude.{◌≡◌};
+    ghost use Rattle.cli.specs.declared.error.CliError.TheVariants as errors;
+
+    ghost from_gives = { λ _ e. e ≡ errors.Memory };
+
     fn from(_e: AllocFailed<T>) -> CliError {
         CliError::Memory
     }

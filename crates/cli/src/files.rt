@@ -20,10 +20,16 @@ pub(crate) fn read_file<R: Files + AllocGlobal>(rt: &R, path: &str) -> Result<Ve
         let path = String::from_str(rt.alloc(), path)?;
         return Err(CliError::TooLarge { path });
     }
-    match fs::read(rt, path) {
-        Ok(bytes) => Ok(bytes),
-        Err(fault) => Err(file_error(rt, path, fault)?),
+    let bytes = match fs::read(rt, path) {
+        Ok(bytes) => bytes,
+        Err(fault) => return Err(file_error(rt, path, fault)?),
+    };
+    // The file may have grown since.
+    if bytes.len() as u64 > GREATEST_FILE {
+        let path = String::from_str(rt.alloc(), path)?;
+        return Err(CliError::TooLarge { path });
     }
+    Ok(bytes)
 }
 
 fn file_error<R: AllocGlobal>(rt: &R, path: &str, fault: io::Error) -> Result<CliError, CliError> {

@@ -1,5 +1,5 @@
-ghost use Rattle.std.specs.Prelude.{◌≡◌, IfOk, string_bytes};
-ghost use Rattle.cli.specs.Report.{report_line};
+ghost use Rattle.std.specs.Prelude.{◌≡◌, ◌↔◌, IfOk, IsTrue, string_bytes};
+ghost use Rattle.cli.specs.Report.{report_line, IsYes};
 
 use blob_digest::Digest;
 use std::alloc::{AllocError, Global};
@@ -22,6 +22,8 @@ pub(crate) fn report(alloc: Global, verdict: &Verdict) -> Result<String, AllocEr
 }
 
 /// Whether the verdict is yes.
-pub(crate) fn is_yes(verdict: &Verdict) -> bool {
+pub(crate) fn is_yes(verdict: &Verdict) -> bool
+    ensures { IsTrue result ↔ IsYes verdict.now }
+{
     matches!(verdict, Verdict::Yes { .. })
 }

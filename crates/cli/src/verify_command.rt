@@ -14,7 +14,7 @@ fn text_of<'a>(matches: &ArgMatches<'a>, option: &'static str) -> &'a str {
     matches.get_str(option).unwrap_or("")
 }
 
-fn digest_of(
+fn read_digest(
     alloc: Global,
     matches: &ArgMatches<'_>,
     option: &'static str,
@@ -56,8 +56,8 @@ pub(crate) fn run_verify<R: Files + AllocGlobal, O: Write>(
     matches: &ArgMatches<'_>,
     out: &mut O,
 ) -> Result<bool, CliError> {
-    let sources = digest_of(rt.alloc(), matches, "sources")?;
-    let claim = digest_of(rt.alloc(), matches, "claim")?;
+    let sources = read_digest(rt.alloc(), matches, "sources")?;
+    let claim = read_digest(rt.alloc(), matches, "claim")?;
     let plan = read_plan(rt, text_of(matches, "plan"))?;
     let record = read_record(rt, text_of(matches, "record"))?;
     let verdict = verify(&sources, &plan, &record, &claim);

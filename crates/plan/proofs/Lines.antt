@@ -3,7 +3,7 @@ use Rattle.std.specs.Prelude.{codes, IfOk}
 use Rattle.std.proofs.lemmas.List.Elements.{Contains-append_cases, Contains-append_right}
 use Rattle.std.proofs.lemmas.List.Sums.{AllPass-from_list_all}
 use Rattle.blob_digest.proofs.DigestTexts.{all_pass-without, digest_text-without, in_tail}
-use Rattle.plan.specs.Record.{NamesStep, record_text}
+use Rattle.plan.specs.Record.{NamesStep, build_record_text}
 use Rattle.std.proofs.Common.{◌≡◌, ◌≢◌, ℕ, suc, ◌==◌, Bool, not, true, false, inl, inr, List, [], ◌∷◌, ◌++◌, length, refl, is_ok, Result, Ok, Err, sym, ap, ◌∙◌, append_assoc, append-nil, arith}
 use Rattle.std.specs.List.{Contains}
 use Rattle.std.proofs.lemmas.List.{append_cancel_left}
@@ -91,14 +91,14 @@ no_newline words s has =
     ]
 
 -- a step's line behind the header is the line that stands there
-pub names_line : (line rest text : List ℕ) → ¬ Contains line 10 → text ≡ record_text ++ (line ++ 10 ∷ rest) → NamesStep text → IsStepLine line
+pub names_line : (line rest text : List ℕ) → ¬ Contains line 10 → text ≡ build_record_text ++ (line ++ 10 ∷ rest) → NamesStep text → IsStepLine line
 names_line line rest text none e (words, s, (more, f)) =
-    let both = append_cancel_left record_text (line ++ 10 ∷ rest) (words ++ 10 ∷ more) (sym e ∙ f ∙ sym (line_joined record_text words more)) in
+    let both = append_cancel_left build_record_text (line ++ 10 ∷ rest) (words ++ 10 ∷ more) (sym e ∙ f ∙ sym (line_joined build_record_text words more)) in
     let same = once 10 line words rest more none (no_newline words s) both in
     rw same.0 s
 
 -- a step's line behind the header ends with a newline
-pub names_newline : (rest text : List ℕ) → text ≡ record_text ++ rest → NamesStep text → Contains rest 10
+pub names_newline : (rest text : List ℕ) → text ≡ build_record_text ++ rest → NamesStep text → Contains rest 10
 names_newline rest text e (words, s, (more, f)) =
-    let both = append_cancel_left record_text rest (words ++ 10 ∷ more) (sym e ∙ f ∙ sym (line_joined record_text words more)) in
+    let both = append_cancel_left build_record_text rest (words ++ 10 ∷ more) (sym e ∙ f ∙ sym (line_joined build_record_text words more)) in
     rw both (Contains-append_right words (10 ∷ more) 10 (0, omega arith, refl))

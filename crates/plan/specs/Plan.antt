@@ -11,7 +11,7 @@ plan_header = line_text (codes "buildplan 1")
 abbrev pub plan_text : List ℕ
 plan_text = plan_header ++ line_text (codes "root")
 
--- Why a text is no plan: the first line at fault. Exactly one of these holds of a text that is no plan.
+-- Why a text is no plan: the first line at fault.
 abbrev pub IsPlanFault : List ℕ → PlanError → Type 0
 IsPlanFault text e =
     ((e ≡ record { line = 1; fault = BadHeader }) × ¬ Begins plan_header text)

@@ -1,5 +1,5 @@
 ghost use Rattle.std.specs.Prelude.{◌≡◌, OnOk, IfErr};
-ghost use Rattle.plan.specs.Record.{record_text, IsRecordFault};
+ghost use Rattle.plan.specs.Record.{build_record_text, IsRecordFault};
 
 use crate::error::{Fault, PlanError};
 use crate::line::{is_step_line, split_once, strip};
@@ -13,7 +13,7 @@ pub struct Record {}
 impl Record {
     /// The record of this text, or the first line at fault.
     pub fn read(text: &[u8]) -> Result<Record, PlanError>
-        ensures found { OnOk result (text.now ≡ record_text) }
+        ensures found { OnOk result (text.now ≡ build_record_text) }
         ensures fault { IfErr result (IsRecordFault text.now) }
     {
         let Some(rest) = strip(text, HEADER) else {

@@ -4,8 +4,7 @@ use Rattle.std.specs.Ordering.{is_eq, nat_cmp}
 use Rattle.std.specs.declared.cmp.Ordering.TheVariants.{Less, Equal, Greater}
 use Rattle.std.specs.Cmp.Lexicographic.{slice_cmp}
 use Rattle.std.proofs.lemmas.Map.Lookups.{CmpEqualImpliesEq, exact_bytes, exact_pairs, exact_unsigned}
-use Rattle.blob_digest.specs.Digest.{DigestValue}
-use Rattle.tree.specs.Memory.{digest_cmp}
+use Rattle.blob_digest.specs.Digest.{DigestValue, digest_cmp}
 
 exact_digests : CmpEqualImpliesEq digest_cmp
 exact_digests a b h = ap (λ (p : List ℕ × ℕ). record { hash = p.0; size = p.1 }) (exact_pairs (slice_cmp nat_cmp) nat_cmp exact_bytes exact_unsigned (a.hash, a.size) (b.hash, b.size) h)

@@ -4,7 +4,7 @@ use Rattle.std.specs.Prelude.{Option, Some, None, option_map}
 use Rattle.std.specs.List.{AllByRecursion}
 use Rattle.std.specs.Ordering.{eq_by_cmp}
 use Rattle.tree.specs.Tree.{Name, name_cmp, Tree, empty, leaf, folder, Entry, single, whole, entry_of, below_entry, tree_at, IsOrdered}
-use Rattle.tree.specs.Graft.{put, graft, expand, with_entry, IsApart, AreApart}
+use Rattle.tree.specs.Graft.{put, graft, expand, with_entry, IsApart, HaveApartTargets}
 use Rattle.tree.proofs.TreeLemmas.{entry-put, entry-put_other, put_entry, one_or_two, ordered-graft}
 
 -- nothing stands at the path, above it or below it
@@ -105,7 +105,7 @@ free_at ls [] some h = absurd (some refl)
 free_at ls (n ∷ p) some h = free_graft ls n p h
 
 -- each line's leaf stands at its target
-pub graft_lines : {X : Type 0} (ls : List (List Name × X)) → AreApart ls → AllByRecursion (λ (l : List Name × X). tree_at (graft ls) l.0 ≡ Some (single l.1)) ls
+pub graft_lines : {X : Type 0} (ls : List (List Name × X)) → HaveApartTargets ls → AllByRecursion (λ (l : List Name × X). tree_at (graft ls) l.0 ≡ Some (single l.1)) ls
 graft_lines [] h = tt
 graft_lines (l ∷ ls) h = (
   at_put l.0 l.1 (Some (whole (graft ls))) (ordered-graft ls) (free_at ls l.0 h.0 (all_of ls (λ k a. a.1) h.1)),
@@ -123,7 +123,7 @@ graft_nothing [] n q h = none_within q
 graft_nothing (l ∷ ls) n q h = at_other l.0 (n ∷ q) l.1 (Some (whole (graft ls))) (ordered-graft ls) h.0 ∙ graft_nothing ls n q h.1
 
 -- each path above a target is a directory
-pub graft_parents : {X : Type 0} (ls : List (List Name × X)) → AreApart ls → AllByRecursion (λ (l : List Name × X). (q : List Name) (n : Name) (r : List Name) → l.0 ≡ q ++ n ∷ r → (u : Tree X) × (tree_at (graft ls) q ≡ Some (whole u))) ls
+pub graft_parents : {X : Type 0} (ls : List (List Name × X)) → HaveApartTargets ls → AllByRecursion (λ (l : List Name × X). (q : List Name) (n : Name) (r : List Name) → l.0 ≡ q ++ n ∷ r → (u : Tree X) × (tree_at (graft ls) q ≡ Some (whole u))) ls
 graft_parents [] h = tt
 graft_parents (l ∷ ls) h = (
   λ q n r e. let above = above_put q n r l.1 (Some (whole (graft ls))) (ordered-graft ls) (subst (λ p. IsFree p (Some (whole (graft ls)))) e (free_at ls l.0 h.0 (all_of ls (λ k a. a.1) h.1))) in

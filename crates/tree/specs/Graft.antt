@@ -39,9 +39,9 @@ IsApart (n ∷ p) [] = ⊥
 IsApart (n ∷ p) (m ∷ q) = n ≡ m → IsApart p q
 
 -- no target equals another or lies under it
-abbrev pub AreApart : {X : Type 0} → List (List Name × X) → Type 0
-AreApart [] = Unit {0}
-AreApart (l ∷ ls) = (l.0 ≢ []) × AllByRecursion (λ k. IsApart l.0 k.0 × IsApart k.0 l.0) ls × AreApart ls
+abbrev pub HaveApartTargets : {X : Type 0} → List (List Name × X) → Type 0
+HaveApartTargets [] = Unit {0}
+HaveApartTargets (l ∷ ls) = (l.0 ≢ []) × AllByRecursion (λ k. IsApart l.0 k.0 × IsApart k.0 l.0) ls × HaveApartTargets ls
 
 -- The graft as a finite map: at each target followed by q stands what stands at q in the entry, and nothing stands apart from all targets.
 pub record IsGraftOf {L : Type 0} (ls : List (List Name × Entry L)) (t : Tree L) : Type 0 where

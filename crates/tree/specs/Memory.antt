@@ -1,17 +1,10 @@
 -- What a source in memory tells.
 use Rattle.std.specs.Prelude.{◌≡◌, ◌≢◌, ℕ, List, Some, None}
-use Rattle.std.specs.declared.cmp.Ordering.{Ordering}
 use Rattle.std.specs.declared.vec.Vec.{Vec}
-use Rattle.std.specs.Ordering.{nat_cmp, ordering_then}
-use Rattle.std.specs.Cmp.Lexicographic.{slice_cmp}
 use Rattle.std.specs.BTreeMap.{BTreeMap, get}
-use Rattle.blob_digest.specs.Digest.{DigestValue}
+use Rattle.blob_digest.specs.Digest.{DigestValue, digest_cmp}
 use Rattle.tree.specs.declared.memory.MemorySource.{MemorySource}
 use Rattle.tree.specs.Source.{Blobs, Telling, bytes_of}
-
--- digests by hash, and then by size
-abbrev pub digest_cmp : DigestValue → DigestValue → Ordering
-digest_cmp d e = ordering_then (slice_cmp nat_cmp d.hash e.hash) (nat_cmp d.size e.size)
 
 abbrev pub told_by : {A : Type 0} → BTreeMap DigestValue (Vec ℕ A) → Blobs
 told_by m d = bytes_of (get digest_cmp m d)

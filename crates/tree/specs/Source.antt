@@ -33,6 +33,7 @@ pub record GrowsAt (d : DigestValue) (old new : Blobs) : Type 0 where
 -- a call is counted, and failures are never forgotten
 pub record CountsCall (old new : Telling) : Type 0 where
   pub calls : new.calls ≡ min (old.calls + 1) greatest_count
+  pub risen : old.calls ≤ new.calls
   pub failures : old.failures ≤ new.failures
   pub bounded : new.failures ≤ greatest_count
 
@@ -53,7 +54,8 @@ pub record Asks (most : ℕ) (old new : Telling) : Type 0 where
   pub blobs : Grows old.blobs new.blobs
   pub results : Grows old.results new.results
   pub failures : old.failures ≤ new.failures
-  pub calls : new.calls ≤ old.calls + most
+  pub risen : old.calls ≤ new.calls
+  pub most_calls : new.calls ≤ old.calls + most
 
 -- the bytes of an answer
 abbrev pub bytes_of : {A : Type 0} → Option (Vec ℕ A) → Option (List ℕ)

@@ -1,5 +1,5 @@
 -- Trees of files, links and directories, as finite maps from paths.
-use Rattle.std.specs.Prelude.{◌≡◌, ℕ, Bool, List, [], ◌∷◌, Option, Some, None, cond}
+use Rattle.std.specs.Prelude.{◌≡◌, ℕ, Bool, List, [], ◌∷◌, Option, Some, None, if◌then◌else◌}
 use Rattle.std.specs.declared.cmp.Ordering.{Ordering}
 use Rattle.std.specs.declared.cmp.Ordering.TheVariants.{Less}
 use Rattle.std.specs.Cmp.Lexicographic.{slice_cmp}
@@ -26,8 +26,8 @@ pub data Entry (L : Type 0) : Type 0 where
 
 abbrev pub entry_of : {L : Type 0} → Name → Tree L → Option (Entry L)
 entry_of n empty = None
-entry_of n (leaf m x rest) = cond (eq_by_cmp name_cmp n m) (Some (single x)) (entry_of n rest)
-entry_of n (folder m below rest) = cond (eq_by_cmp name_cmp n m) (Some (whole below)) (entry_of n rest)
+entry_of n (leaf m x rest) = if eq_by_cmp name_cmp n m then Some (single x) else entry_of n rest
+entry_of n (folder m below rest) = if eq_by_cmp name_cmp n m then Some (whole below) else entry_of n rest
 
 -- name by name; only a directory has names below it
 abbrev pub below_entry : {L : Type 0} → List Name → Option (Entry L) → Option (Entry L)
@@ -59,12 +59,13 @@ pub data Leaf : Type 0 where
   file : (content : List ℕ) (executable : Bool) → Leaf
   link : (target : List ℕ) → Leaf
 
--- the names strictly rise in each directory
+-- a name comes before those of all entries
 abbrev pub IsBelowAll : {L : Type 0} → Name → Tree L → Type 0
 IsBelowAll n empty = Unit {0}
 IsBelowAll n (leaf m x rest) = (name_cmp n m ≡ Less) × IsBelowAll n rest
 IsBelowAll n (folder m below rest) = (name_cmp n m ≡ Less) × IsBelowAll n rest
 
+-- the names ascend strictly in each directory
 abbrev pub IsOrdered : {L : Type 0} → Tree L → Type 0
 IsOrdered empty = Unit {0}
 IsOrdered (leaf n x rest) = IsBelowAll n rest × IsOrdered rest
@@ -73,8 +74,3 @@ IsOrdered (folder n below rest) = IsBelowAll n rest × IsOrdered below × IsOrde
 abbrev pub IsOrderedEntry : {L : Type 0} → Entry L → Type 0
 IsOrderedEntry (single x) = Unit {0}
 IsOrderedEntry (whole t) = IsOrdered t
-
-abbrev pub map_leaves : {L M : Type 0} → (L → M) → Tree L → Tree M
-map_leaves f empty = empty
-map_leaves f (leaf n x rest) = leaf n (f x) (map_leaves f rest)
-map_leaves f (folder n below rest) = folder n (map_leaves f below) (map_leaves f rest)

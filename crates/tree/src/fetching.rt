@@ -1,4 +1,5 @@
 ghost use Rattle.std.specs.Prelude.{◌≡◌, ◌<◌, IfOk, IsErrOf};
+ghost use Rattle.blob_digest.specs.Digest.{empty_digest};
 ghost use Rattle.tree.specs.Source.{Asks};
 ghost use Rattle.tree.specs.Fetched.{Fetches};
 
@@ -26,6 +27,7 @@ pub fn fetch_blob<A: Allocator + Copy, S: BlobSource<A>>(
 ) -> Result<Fetched<A>, FetchError>
     ensures told { IfOk result (λ fetched. Fetches (S.tells source.new).blobs digest.now fetched) }
     ensures asked { Asks 1 (S.tells source.old) (S.tells source.new) }
+    ensures unasked { digest.now ≡ empty_digest → S.tells source.new ≡ S.tells source.old }
     ensures failed { IsErrOf result FetchError.Failed → (S.tells source.old).failures < (S.tells source.new).failures }
 {
     if *digest == Digest::empty() {

@@ -1,4 +1,4 @@
-//! Where blobs and action results come from. A source is what it tells, and it may lie: every blob
+//! Trees, and where their blobs come from. A source is what it tells, and it may lie: every blob
 //! that is fetched is hashed, and the empty blob is never asked for.
 #![tactic(auto)]
 
