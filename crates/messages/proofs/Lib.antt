@@ -2,6 +2,7 @@ pub mod Choices
 pub mod Names
 pub mod Targets
 pub mod Paths
+pub mod Parts
 pub mod Orders
 pub mod Spellings
 pub mod Each

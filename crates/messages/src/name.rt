@@ -123,6 +123,16 @@ impl<A: Allocator> Name<A> {
         }
     }
 
+    /// The name of a text that is one.
+    pub(crate) fn of_part(alloc: A, text: &str) -> Result<Name<A>, AllocError>
+        requires { IsName text.now }
+        ensures { IfOk result (λ n. n ≡ text.now) }
+    {
+        Ok(Name {
+            text: String::from_str(alloc, text)?,
+        })
+    }
+
     /// The same name, over another allocator.
     pub fn copy_of<B: Allocator>(alloc: A, name: &Name<B>) -> Result<Name<A>, AllocError>
         ensures { IfOk result (λ n. n ≡ name.now) }

@@ -120,6 +120,19 @@ impl<A: Allocator> Path<A> {
         self.as_str().split('/')
     }
 
+    /// The names, each as a value of its own.
+    pub fn to_names<B: Allocator + Copy>(&self, alloc: B) -> Result<Vec<Name<B>, B>, AllocError>
+        ensures value { IfOk result (λ names. names.items ≡ self.now) }
+        ensures lawful { IsPath self.now }
+    {
+        let mut names = Vec::new(alloc);
+        let text = self.as_str();
+        for name in text.split('/') {
+            names.push(Name::of_part(alloc, name)?)?;
+        }
+        Ok(names)
+    }
+
     /// The text.
     pub fn as_str(&self) -> &str
         ensures value { result.now ≡ path_text self.now }
