@@ -1,5 +1,5 @@
 -- Calls of a source, one after another.
-use Rattle.std.proofs.Common.{ap, ◌∙◌, arith}
+use Rattle.std.proofs.Common.{ℕ, ◌+◌, ◌<◌, ◌≤◌, ap, ◌∙◌, arith}
 use Rattle.blob_digest.specs.Digest.{DigestValue}
 use Rattle.tree.specs.Source.{Telling, AsksBlob, AsksResult, Asks}
 
@@ -23,3 +23,28 @@ asks_result {old} {new} h = record {
   risen = h.counts.risen;
   most_calls = omega (arith, h.counts.calls);
 }
+
+pub asks_then : {a b : ℕ} {old mid new : Telling} → Asks a old mid → Asks b mid new → Asks (a + b) old new
+asks_then {a} {b} {old} {mid} {new} h k = record {
+  blobs = λ e x q. k.blobs e x (h.blobs e x q);
+  results = λ e x q. k.results e x (h.results e x q);
+  failures = omega (arith, h.failures, k.failures);
+  risen = omega (arith, h.risen, k.risen);
+  most_calls = omega (arith, h.most_calls, k.most_calls);
+}
+
+pub asks_within : {a b : ℕ} {old new : Telling} → a ≤ b → Asks a old new → Asks b old new
+asks_within {a} {b} {old} {new} le h = record {
+  blobs = h.blobs;
+  results = h.results;
+  failures = h.failures;
+  risen = h.risen;
+  most_calls = omega (arith, h.most_calls, le);
+}
+
+pub asks_nothing : (t : Telling) → Asks 0 t t
+asks_nothing t = record { blobs = λ e b h. h; results = λ e b h. h; failures = omega arith; risen = omega arith; most_calls = omega arith }
+
+-- one call more, of so many
+pub asks_more : {i n : ℕ} {old mid new : Telling} → i < n → Asks i old mid → Asks 1 mid new → Asks n old new
+asks_more {i} {n} lt h k = asks_within {a = i + 1} {b = n} (omega (arith, lt)) (asks_then h k)

@@ -7,3 +7,9 @@ mod OrderLemmas
 mod GraftLaws
 mod GraftOrder
 mod GraftMap
+pub mod WireRecords
+pub mod DirectoryBytes
+pub mod TreeDigests
+pub mod Children
+pub mod LookupLemmas
+pub mod Descent

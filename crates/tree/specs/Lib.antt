@@ -3,3 +3,7 @@ pub mod Fetched
 pub mod Memory
 pub mod Tree
 pub mod Graft
+pub mod Form
+pub mod Told
+pub mod Lookup
+pub mod TreeError

@@ -2,8 +2,8 @@
 use Rattle.std.specs.Prelude.{◌≡◌, ℕ, Bool, List, [], ◌∷◌, Option, Some, None, if◌then◌else◌}
 use Rattle.std.specs.declared.cmp.Ordering.{Ordering}
 use Rattle.std.specs.declared.cmp.Ordering.TheVariants.{Less}
-use Rattle.std.specs.Cmp.Lexicographic.{slice_cmp}
-use Rattle.std.specs.Ordering.{eq_by_cmp, nat_cmp}
+use Rattle.std.specs.Ordering.{eq_by_cmp}
+use Rattle.messages.specs.Order.{bytes_cmp}
 
 -- a name, as its bytes
 abbrev pub Name : Type 0
@@ -11,7 +11,7 @@ Name = List ℕ
 
 -- the order of names, by their bytes
 abbrev pub name_cmp : Name → Name → Ordering
-name_cmp = slice_cmp nat_cmp
+name_cmp = bytes_cmp
 
 -- A directory, entry by entry in the order of names. An entry is a leaf or a directory below it; `rest` are the entries after it.
 pub data Tree (L : Type 0) : Type 0 where

@@ -1,10 +1,14 @@
-ghost use Rattle.std.specs.Prelude.{◌≡◌, ◌<◌, IfOk, IsErrOf};
+ghost use Rattle.std.specs.Prelude.{◌≡◌, ◌<◌, IfOk, IfErr, IsErrOf};
 ghost use Rattle.blob_digest.specs.Digest.{empty_digest};
 ghost use Rattle.tree.specs.Source.{Asks};
 ghost use Rattle.tree.specs.Fetched.{Fetches};
+ghost use Rattle.tree.specs.Told.{IsTold, IsFault};
+ghost use Rattle.tree.specs.TreeError.{Explains};
 
+use crate::error::TreeError;
 use crate::source::{BlobSource, FetchError};
 use blob_digest::Digest;
+use messages::{Message, MessageError, decode};
 use std::alloc::Allocator;
 
 /// What a source has under a digest, hashed.
@@ -42,5 +46,28 @@ pub fn fetch_blob<A: Allocator + Copy, S: BlobSource<A>>(
                 Ok(Fetched::Wrong)
             }
         }
+    }
+}
+
+/// Fetches the message with a digest. Refusals 42, 43 and 44.
+pub fn fetch_message<A: Allocator + Copy, S: BlobSource<A>, M: Message<A>>(
+    alloc: A,
+    source: &mut S,
+    digest: &Digest,
+) -> Result<M, TreeError<A>>
+    ensures told { IfOk result (λ m. IsTold M.keeps M.spells (S.tells source.new).blobs digest.now m) }
+    ensures faulty { IfErr result (λ e. Explains (IsFault M.keeps M.spells (S.tells source.new).blobs digest.now) e) }
+    ensures asked { Asks 1 (S.tells source.old) (S.tells source.new) }
+    ensures unasked { digest.now ≡ empty_digest → S.tells source.new ≡ S.tells source.old }
+    ensures failed { IsErrOf result TreeError.Fetch → (S.tells source.old).failures < (S.tells source.new).failures }
+{
+    match fetch_blob(alloc, source, digest)? {
+        Fetched::Missing => Err(TreeError::BlobMissing(*digest)),
+        Fetched::Wrong => Err(TreeError::BlobWrong(*digest)),
+        Fetched::Right(bytes) => match decode(alloc, &bytes) {
+            Ok(message) => Ok(message),
+            Err(MessageError::Memory) => Err(TreeError::Memory),
+            Err(_) => Err(TreeError::BlobMalformed(*digest)),
+        },
     }
 }

@@ -1,0 +1,101 @@
+-- A look-up name by name, while the source tells more and more.
+use Rattle.std.proofs.Common.{◌≡◌, ℕ, zero, suc, ◌+◌, ◌<◌, ◌≤◌, List, [], ◌∷◌, length, drop, get_or, refl, subst, sym, ◌∙◌, ap, arith, inl, inr, add-one, drop-cons}
+use Rattle.std.specs.Prelude.{◌≢◌, ◌⊎◌, Option, Some, None, option_map}
+use Rattle.blob_digest.specs.Digest.{DigestValue, empty_digest}
+use Rattle.messages.specs.declared.node.Node.{Node}
+use Rattle.messages.specs.declared.node.Node.TheVariants.{File, Link, Dir}
+use Rattle.messages.specs.DirectoryRules.{DirectoryValue}
+use Rattle.messages.specs.Node.{child}
+use Rattle.tree.specs.declared.error.TreeError.{TreeError}
+use Rattle.tree.specs.declared.error.TreeError.TheVariants.{Absent, BlobMissing, BlobWrong, BlobMalformed, TooDeep, Fetch, Memory}
+use Rattle.tree.specs.Tree.{Name}
+use Rattle.tree.specs.Form.{NodeValue, node_value}
+use Rattle.tree.specs.Source.{Blobs, Grows, IsUnder, IsBlobUnder}
+use Rattle.tree.specs.Told.{IsTold, Fault, missing, wrong, malformed, TellsDirectory, FailsDirectory}
+use Rattle.tree.specs.Lookup.{Looked, fault, nothing, found, LooksFrom, Looks}
+use Rattle.tree.specs.TreeError.{Explains, ExplainsLookup}
+use Rattle.tree.proofs.Children.{child_value}
+
+-- what was told stays told
+pub under_still : {B C : Blobs} {d : DigestValue} {bytes : List ℕ} → Grows B C → IsUnder B d (Some bytes) → IsUnder C d (Some bytes)
+under_still {B} {C} {d} {bytes} g (inl h) = inl h
+under_still {B} {C} {d} {bytes} g (inr h) = inr (h.0, sym (g d bytes (sym h.1)))
+
+pub told_still : {M : Type 0} {keeps : M → Type 0} {spells : M → List ℕ} {B C : Blobs} {d : DigestValue} {m : M} → Grows B C → IsTold keeps spells B d m → IsTold keeps spells C d m
+told_still g h = record { lawful = h.lawful; blob = record { held = under_still g h.blob.held; right = h.blob.right } }
+
+-- a look-up of rest from a node, in what a source tells
+abbrev pub LooksOn : Blobs → List Name → Option NodeValue → Looked → Type 0
+LooksOn B p o r = LooksFrom (TellsDirectory B) (FailsDirectory B) p o r
+
+-- whatever is told later, a look-up of the rest from here ends the look-up of the whole path
+pub record GoesOn (B : Blobs) (d : DigestValue) (p : List Name) (o : Option NodeValue) (rest : List Name) : Type 0 where
+  pub ends : (later : Blobs) → Grows B later → (r : Looked) → LooksOn later rest o r → Looks later d p r
+
+pub goes_first : (B : Blobs) (d : DigestValue) (p : List Name) → GoesOn B d p (Some (Dir d)) p
+goes_first B d p = record { ends = λ later g r h. h }
+
+pub goes_next : (B C : Blobs) (d e : DigestValue) (p : List Name) (n : Name) (rest : List Name) (m : DirectoryValue) → GoesOn B d p (Some (Dir e)) (n ∷ rest) → Grows B C → TellsDirectory C e m → GoesOn C d p (child n m) rest
+goes_next B C d e p n rest m goes grows told = record { ends = λ later g r h. goes.ends later (λ f b q. g f b (grows f b q)) r (inl (m, told_still g told, h)) }
+
+pub goes_at : (B C : Blobs) (d e : DigestValue) (p : List Name) (i : ℕ) (x : Name) (m : DirectoryValue) (o : Option NodeValue) → i < length p → GoesOn B d p (Some (Dir e)) (drop i p) → Grows B C → TellsDirectory C e m → o ≡ child (get_or p i x) m → GoesOn C d p o (drop (i + 1) p)
+goes_at B C d e p i x m o lt goes grows told is =
+    let split : drop i p ≡ get_or p i x ∷ drop (i + 1) p = rw (add-one, drop-cons p i x lt) in
+    rw is (goes_next B C d e p (get_or p i x) (drop (i + 1) p) m (subst (GoesOn B d p (Some (Dir e))) split goes) grows told)
+
+pub goes_nowhere : (B : Blobs) (d : DigestValue) (p rest : List Name) → GoesOn B d p None rest → Looks B d p nothing
+goes_nowhere B d p rest goes = goes.ends B (λ e b h. h) nothing refl
+
+-- a file or a link has nothing below it
+pub goes_leaf : (B : Blobs) (d : DigestValue) (p : List Name) (i : ℕ) (x : NodeValue) → i < length p → ((e : DigestValue) → x ≡ Dir e → ⊥) → GoesOn B d p (Some x) (drop i p) → Looks B d p nothing
+goes_leaf B d p i x lt dir goes = goes.ends B (λ e b h. h) nothing (leaf (drop i p) x dir some)
+  where
+    some : drop i p ≡ [] → ⊥
+    some e = let split : drop i p ≡ get_or p i [] ∷ drop (suc i) p = drop-cons p i [] lt in cc
+
+    leaf : (rest : List Name) (y : NodeValue) → ((e : DigestValue) → y ≡ Dir e → ⊥) → (rest ≡ [] → ⊥) → LooksOn B rest (Some y) nothing
+    leaf [] y dir s = absurd (s refl)
+    leaf (n ∷ rest) (File e b) dir s = refl
+    leaf (n ∷ rest) (Link t) dir s = refl
+    leaf (n ∷ rest) (Dir e) dir s = absurd (dir e refl)
+
+drop_past : (i : ℕ) (p : List Name) → length p ≤ i → drop i p ≡ []
+drop_past zero [] h = refl
+drop_past zero (n ∷ p) h = absurd (omega arith)
+drop_past (suc i) [] h = refl
+drop_past (suc i) (n ∷ p) h = drop_past i p (omega arith)
+
+pub goes_end : (B : Blobs) (d : DigestValue) (p : List Name) (i : ℕ) (x : NodeValue) → length p ≤ i → GoesOn B d p (Some x) (drop i p) → Looks B d p (found x)
+goes_end B d p i x le goes = goes.ends B (λ e b h. h) (found x) (last (drop i p) (drop_past i p le))
+  where
+    last : (rest : List Name) → rest ≡ [] → LooksOn B rest (Some x) (found x)
+    last [] e = refl
+    last (n ∷ rest) e = cc
+
+pub goes_wrong : {A : Type 0} (B C : Blobs) (d e : DigestValue) (p : List Name) (i : ℕ) (why : TreeError A) → i < length p → GoesOn B d p (Some (Dir e)) (drop i p) → Grows B C → Explains (FailsDirectory C e) why → ExplainsLookup C d p why
+goes_wrong {A} B C d e p i why lt goes grows h = by why h
+  where
+    split : drop i p ≡ get_or p i [] ∷ drop (suc i) p
+    split = drop-cons p i [] lt
+
+    stands : (f : Fault) → FailsDirectory C e f → Looks C d p (fault f)
+    stands f h = goes.ends C grows (fault f) (rw split (inr (f, h, refl)))
+
+    by : (why : TreeError A) → Explains (FailsDirectory C e) why → ExplainsLookup C d p why
+    by (Absent path) h = elim h [ ]
+    by (BlobMissing f) h = stands (missing f) h
+    by (BlobWrong f) h = stands (wrong f) h
+    by (BlobMalformed f) h = stands (malformed f) h
+    by (TooDeep path) h = elim h [ ]
+    by Fetch h = tt
+    by Memory h = tt
+
+-- a node that is a directory
+pub goes_dir : {A : Type 0} (B : Blobs) (d e : DigestValue) (p rest : List Name) (x : Node A) → x ≡ Dir e → GoesOn B d p (Some (node_value x)) rest → GoesOn B d p (Some (Dir e)) rest
+goes_dir B d e p rest x is goes = subst (λ y. GoesOn B d p (Some (node_value y)) rest) is goes
+
+-- the child that was found, or none
+pub goes_child : {A : Type 0} (B C : Blobs) (d e : DigestValue) (p : List Name) (i : ℕ) (x : Name) (m : DirectoryValue) (o : Option (Node A)) → i < length p → GoesOn B d p (Some (Dir e)) (drop i p) → Grows B C → TellsDirectory C e m
+    → x ≡ get_or p i x → o ≡ child x m → GoesOn C d p (option_map node_value o) (drop (i + 1) p)
+goes_child {A} B C d e p i x m o lt goes grows told is child_is =
+    goes_at B C d e p i x m (option_map node_value o) lt goes grows told (ap (option_map node_value) child_is ∙ child_value A x m ∙ ap (λ n. child n m) is)

@@ -1,0 +1,14 @@
+use Rattle.std.proofs.Common.{drop}
+use Rattle.std.specs.Prelude.{Some}
+use Rattle.tree.specs.Form.{node_value}
+use Rattle.tree.specs.Source.{Asks}
+use Rattle.tree.proofs.Descent.{GoesOn}
+use Rattle.tree.proofs.looking_up.descend.Given as goal
+
+abbrev pub invariant-loop-name : goal.invariant-loop-name
+invariant-loop-name g l =
+    let tells = g.S.BlobSource.tells in
+    record {
+      asked : Asks l.name-index (tells l.fn.source) (tells l.source);
+      goes : GoesOn (tells l.source).blobs l.root l.names (Some (node_value l.node)) (drop l.name-index l.names);
+    }

@@ -1,0 +1,45 @@
+-- What an error of a call on trees says.
+use Rattle.std.specs.Prelude.{◌≡◌, ℕ, List}
+use Rattle.blob_digest.specs.Digest.{DigestValue}
+use Rattle.tree.specs.declared.source.FetchError.{FetchError}
+use Rattle.tree.specs.declared.source.FetchError.TheVariants as fetching
+use Rattle.tree.specs.declared.error.TreeError.{TreeError}
+use Rattle.tree.specs.declared.error.TreeError.TheVariants.{Absent, BlobMissing, BlobWrong, BlobMalformed, TooDeep, Fetch, Memory}
+use Rattle.tree.specs.Tree.{Name}
+use Rattle.tree.specs.Source.{Blobs}
+use Rattle.tree.specs.Told.{Fault, missing, wrong, malformed}
+use Rattle.tree.specs.Lookup.{Looks, fault, nothing}
+
+abbrev pub of_fetch : {A : Type 0} → FetchError → TreeError A
+of_fetch fetching.Failed = Fetch
+of_fetch fetching.Memory = Memory
+
+-- Why no message was answered: a fault, unless the source failed or memory ran out.
+abbrev pub Explains : {A : Type 0} → (Fault → Type 0) → TreeError A → Type 0
+Explains Fails (Absent path) = ⊥
+Explains Fails (BlobMissing e) = Fails (missing e)
+Explains Fails (BlobWrong e) = Fails (wrong e)
+Explains Fails (BlobMalformed e) = Fails (malformed e)
+Explains Fails (TooDeep path) = ⊥
+Explains Fails Fetch = Unit {0}
+Explains Fails Memory = Unit {0}
+
+-- Why a look-up answered no node: nothing stands at the path, or a fault stands on the way, unless
+-- the source failed or memory ran out.
+abbrev pub ExplainsLookup : {A : Type 0} → Blobs → DigestValue → List Name → TreeError A → Type 0
+ExplainsLookup B d p (Absent path) = (path ≡ p) × Looks B d p nothing
+ExplainsLookup B d p (BlobMissing e) = Looks B d p (fault (missing e))
+ExplainsLookup B d p (BlobWrong e) = Looks B d p (fault (wrong e))
+ExplainsLookup B d p (BlobMalformed e) = Looks B d p (fault (malformed e))
+ExplainsLookup B d p (TooDeep path) = ⊥
+ExplainsLookup B d p Fetch = Unit {0}
+ExplainsLookup B d p Memory = Unit {0}
+
+abbrev pub IsAbsent : {A : Type 0} → TreeError A → Type 0
+IsAbsent (Absent path) = Unit {0}
+IsAbsent (BlobMissing e) = ⊥
+IsAbsent (BlobWrong e) = ⊥
+IsAbsent (BlobMalformed e) = ⊥
+IsAbsent (TooDeep path) = ⊥
+IsAbsent Fetch = ⊥
+IsAbsent Memory = ⊥

@@ -1,0 +1,55 @@
+ghost use Rattle.std.specs.Prelude.{◌≡◌};
+ghost use Rattle.tree.specs.declared.error.TreeError.TheVariants as errors;
+ghost use Rattle.tree.specs.TreeError.{of_fetch};
+
+use crate::source::FetchError;
+use blob_digest::Digest;
+use messages::Path;
+use std::alloc::{AllocError, AllocFailed, Allocator};
+
+/// Why a tree can't be read.
+#[derive(Drop)]
+#[derive_where(Debug)]
+pub enum TreeError<A: Allocator> {
+    /// Refusal 41: nothing stands at the path.
+    Absent(Path<A>),
+    /// Refusal 42: the source has no blob with the digest.
+    BlobMissing(Digest),
+    /// Refusal 43: what the source has under the digest has another hash or length.
+    BlobWrong(Digest),
+    /// Refusal 44: the blob with the digest is no message of the kind that was asked for.
+    BlobMalformed(Digest),
+    /// Refusal 46: at the path, of 64 names, stands a directory that isn't empty.
+    TooDeep(Path<A>),
+    /// The source failed.
+    Fetch,
+    /// No memory was left.
+    Memory,
+}
+
+impl<A: Allocator> From<FetchError> for TreeError<A> {
+    ghost from_gives = { λ error e. e ≡ of_fetch error };
+
+    fn from(error: FetchError) -> TreeError<A> {
+        match error {
+            FetchError::Failed => TreeError::Fetch,
+            FetchError::Memory => TreeError::Memory,
+        }
+    }
+}
+
+impl<A: Allocator> From<AllocError> for TreeError<A> {
+    ghost from_gives = { λ _ e. e ≡ errors.Memory };
+
+    fn from(_e: AllocError) -> TreeError<A> {
+        TreeError::Memory
+    }
+}
+
+impl<A: Allocator, T: Drop> From<AllocFailed<T>> for TreeError<A> {
+    ghost from_gives = { λ _ e. e ≡ errors.Memory };
+
+    fn from(_e: AllocFailed<T>) -> TreeError<A> {
+        TreeError::Memory
+    }
+}

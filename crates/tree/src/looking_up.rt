@@ -1,0 +1,81 @@
+ghost use Rattle.std.specs.Prelude.{◌≡◌, ◌<◌, IfOk, IfErr, IsErrOf, OnOk, length, option_map};
+ghost use Rattle.tree.specs.Source.{Asks};
+ghost use Rattle.tree.specs.Form.{node_value};
+ghost use Rattle.tree.specs.Lookup.{Looks, TellsOfTrees, found, nothing, names_in, looked};
+ghost use Rattle.tree.specs.TreeError.{ExplainsLookup, IsAbsent};
+
+use crate::error::TreeError;
+use crate::fetching::fetch_message;
+use crate::source::BlobSource;
+use blob_digest::Digest;
+use messages::{Directory, Name, Node, Path};
+use std::alloc::Allocator;
+
+/// The node at a path below the directory with a digest, Directory by Directory. No path is that
+/// directory itself, and nothing is fetched. A link isn't followed, and a file's bytes are never
+/// read. Refusals 41 to 44.
+#[tactic(auto, using(crate::proofs::LookupLemmas::looks_tell))]
+pub fn lookup<A: Allocator + Copy, S: BlobSource<A>>(
+    alloc: A,
+    root: &Digest,
+    path: Option<&Path<A>>,
+    source: &mut S,
+) -> Result<Node<A>, TreeError<A>>
+    // The node that is there, or why there is none.
+    ensures found { IfOk result (λ x. Looks (S.tells source.new).blobs root.now (names_in (option_map (λ p. p.now) path.entry)) (found (node_value x))) }
+    ensures refused { IfErr result (λ e. ExplainsLookup (S.tells source.new).blobs root.now (names_in (option_map (λ p. p.now) path.entry)) e) }
+    // What that says of every tree with this root.
+    ensures of_trees { IfOk result (λ x. TellsOfTrees (S.tells source.new).blobs root.now (names_in (option_map (λ p. p.now) path.entry)) (found (node_value x))) }
+    ensures absent { IfErr result (λ e. IsAbsent e → TellsOfTrees (S.tells source.new).blobs root.now (names_in (option_map (λ p. p.now) path.entry)) nothing) }
+    ensures asked { Asks (length (names_in (option_map (λ p. p.now) path.entry))) (S.tells source.old) (S.tells source.new) }
+    ensures failed { IsErrOf result TreeError.Fetch → (S.tells source.old).failures < (S.tells source.new).failures }
+{
+    match path {
+        None => Ok(Node::Dir(*root)),
+        Some(path) => look_up(alloc, root, path, source),
+    }
+}
+
+fn look_up<A: Allocator + Copy, S: BlobSource<A>>(
+    alloc: A,
+    root: &Digest,
+    path: &Path<A>,
+    source: &mut S,
+) -> Result<Node<A>, TreeError<A>>
+    ensures found { IfOk result (λ x. Looks (S.tells source.new).blobs root.now path.now (found (node_value x))) }
+    ensures refused { IfErr result (λ e. ExplainsLookup (S.tells source.new).blobs root.now path.now e) }
+    ensures asked { Asks (length path.now) (S.tells source.old) (S.tells source.new) }
+    ensures failed { IsErrOf result TreeError.Fetch → (S.tells source.old).failures < (S.tells source.new).failures }
+{
+    let names = path.to_names(alloc)?;
+    match descend(alloc, root, &names, source)? {
+        Some(node) => Ok(node),
+        None => Err(TreeError::Absent(Path::copy_of(alloc, path)?)),
+    }
+}
+
+/// The node at the end of the names, if there is one.
+fn descend<A: Allocator + Copy, S: BlobSource<A>>(
+    alloc: A,
+    root: &Digest,
+    names: &[Name<A>],
+    source: &mut S,
+) -> Result<Option<Node<A>>, TreeError<A>>
+    ensures found { IfOk result (λ o. Looks (S.tells source.new).blobs root.now names.now (looked o)) }
+    ensures refused { IfErr result (λ e. ExplainsLookup (S.tells source.new).blobs root.now names.now e) }
+    ensures asked { Asks (length names.now) (S.tells source.old) (S.tells source.new) }
+    ensures failed { IsErrOf result TreeError.Fetch → (S.tells source.old).failures < (S.tells source.new).failures }
+{
+    let mut node = Node::Dir(*root);
+    for name in names {
+        let Node::Dir(digest) = node else {
+            return Ok(None);
+        };
+        let directory: Directory<A> = fetch_message(alloc, source, &digest)?;
+        match directory.child(alloc, name.as_bytes())? {
+            Some(next) => node = next,
+            None => return Ok(None),
+        }
+    }
+    Ok(Some(node))
+}
