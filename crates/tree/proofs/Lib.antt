@@ -13,3 +13,6 @@ pub mod TreeDigests
 pub mod Children
 pub mod LookupLemmas
 pub mod Descent
+pub mod LookupOnce
+pub mod GraftRoots
+pub mod SameRoot

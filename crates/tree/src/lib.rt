@@ -11,7 +11,7 @@ mod source;
 
 pub use error::TreeError;
 pub use fetching::{Fetched, fetch_blob, fetch_message};
-pub use laws::trees_are_maps;
+pub use laws::{look_ups_are_single_valued, roots_name_trees, trees_are_maps};
 pub use looking_up::lookup;
 pub use memory::MemorySource;
 pub use messages::Node;
