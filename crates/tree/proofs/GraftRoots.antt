@@ -19,14 +19,14 @@ map_leaves-put f [] x t = refl
 map_leaves-put f (n ∷ p) x empty = map_leaves-sole f (n ∷ p) x empty
 map_leaves-put f (n ∷ p) x (leaf m y rest) =
     elim (name_cmp n m) as (λ o. map_leaves f (by_order o (sole (n ∷ p) x (leaf m y rest)) (leaf m y rest) (leaf m y (put (n ∷ p) x rest)))
-        ≡ by_order o (sole (n ∷ p) (f x) (leaf m (f y) (map_leaves f rest))) (leaf m (f y) (map_leaves f rest)) (leaf m (f y) (put (n ∷ p) (f x) (map_leaves f rest)))) [
+    ≡ by_order o (sole (n ∷ p) (f x) (leaf m (f y) (map_leaves f rest))) (leaf m (f y) (map_leaves f rest)) (leaf m (f y) (put (n ∷ p) (f x) (map_leaves f rest)))) [
       | Less ↦ map_leaves-sole f (n ∷ p) x (leaf m y rest)
       | Equal ↦ refl
       | Greater ↦ ap (leaf m (f y)) (map_leaves-put f (n ∷ p) x rest)
     ]
 map_leaves-put f (n ∷ p) x (folder m below rest) =
     elim (name_cmp n m) as (λ o. map_leaves f (by_order o (sole (n ∷ p) x (folder m below rest)) (folder m (put p x below) rest) (folder m below (put (n ∷ p) x rest)))
-        ≡ by_order o (sole (n ∷ p) (f x) (folder m (map_leaves f below) (map_leaves f rest))) (folder m (put p (f x) (map_leaves f below)) (map_leaves f rest)) (folder m (map_leaves f below) (put (n ∷ p) (f x) (map_leaves f rest)))) [
+    ≡ by_order o (sole (n ∷ p) (f x) (folder m (map_leaves f below) (map_leaves f rest))) (folder m (put p (f x) (map_leaves f below)) (map_leaves f rest)) (folder m (map_leaves f below) (put (n ∷ p) (f x) (map_leaves f rest)))) [
       | Less ↦ map_leaves-sole f (n ∷ p) x (folder m below rest)
       | Equal ↦ ap (λ b. folder m b (map_leaves f rest)) (map_leaves-put f p x below)
       | Greater ↦ ap (folder m (map_leaves f below)) (map_leaves-put f (n ∷ p) x rest)
@@ -46,4 +46,3 @@ directory_of-expand (folder n below rest) = λ i. with_child n (Dir (digest_of (
 -- the graft of entries has the root of the graft of their nodes
 pub root-graft : (es : List (List Name × Entry Leaf)) → root (form (expand (graft es))) ≡ root (graft (map (λ e. (e.0, entry_node e.1)) es))
 root-graft es = ap (λ m. digest_of (directory_bytes m)) (directory_of-expand (graft es)) ∙ ap root (map_leaves-graft entry_node es)
-

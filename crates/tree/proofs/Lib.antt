@@ -16,3 +16,7 @@ pub mod Descent
 pub mod LookupOnce
 pub mod GraftRoots
 pub mod SameRoot
+pub mod Sorted
+pub mod VisitSteps
+pub mod Distinct
+pub mod SortedInsert

@@ -70,4 +70,3 @@ module _ (S : List ℕ → Type 0) (apart : NoClash S) where
   -- trees with one root are one
   pub same_root : (t u : Tree Leaf) → IsOrdered t → IsOrdered u → ((b : List ℕ) → IsBlobOf t b → S b) → ((b : List ℕ) → IsBlobOf u b → S b) → root (form t) ≡ root (form u) → t ≡ u
   same_root t u h g bt bu is = same_by t u h g bt bu is (same_entry t h (λ b q. bt b (inr q)))
-

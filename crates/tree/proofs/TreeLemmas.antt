@@ -20,7 +20,7 @@ name_same n m e = slice_cmp-IsAntisymmetric nat_cmp-IsAntisymmetric n m e
 name_greater : (n m : Name) → name_cmp n m ≡ Greater → name_cmp m n ≡ Less
 name_greater n m e = nat_list_cmp_total.antisymm m n ∙ ap ordering_reverse e
 
-name_trans : (n m k : Name) → name_cmp n m ≡ Less → name_cmp m k ≡ Less → name_cmp n k ≡ Less
+pub name_trans : (n m k : Name) → name_cmp n m ≡ Less → name_cmp m k ≡ Less → name_cmp n k ≡ Less
 name_trans n m k p q = nat_list_cmp_total.trans n m k p q
 
 pub apart_cmp : (k n : Name) → (k ≡ n → ⊥) → eq_by_cmp name_cmp k n ≡ false
@@ -112,7 +112,7 @@ below-sole : {X : Type 0} (k n : Name) (p : List Name) (x : X) (rest : Tree X) �
 below-sole k n [] x rest e h = (e, h)
 below-sole k n (m ∷ p) x rest e h = (e, h)
 
-below-put : {X : Type 0} (k n : Name) (p : List Name) (x : X) (t : Tree X) → name_cmp k n ≡ Less → IsBelowAll k t → IsBelowAll k (put (n ∷ p) x t)
+pub below-put : {X : Type 0} (k n : Name) (p : List Name) (x : X) (t : Tree X) → name_cmp k n ≡ Less → IsBelowAll k t → IsBelowAll k (put (n ∷ p) x t)
 below-put k n p x empty e h = below-sole k n p x empty e tt
 below-put k n p x (leaf m y rest) e h =
     elim (name_cmp n m) as (λ o. IsBelowAll k (by_order o (sole (n ∷ p) x (leaf m y rest)) (leaf m y rest) (leaf m y (put (n ∷ p) x rest)))) [

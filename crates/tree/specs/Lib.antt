@@ -7,3 +7,6 @@ pub mod Form
 pub mod Told
 pub mod Lookup
 pub mod TreeError
+pub mod Folded
+pub mod Lines
+pub mod Visiting

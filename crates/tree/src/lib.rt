@@ -4,6 +4,8 @@
 
 mod error;
 mod fetching;
+mod folding;
+mod grafting;
 mod laws;
 mod looking_up;
 mod memory;
@@ -11,6 +13,8 @@ mod source;
 
 pub use error::TreeError;
 pub use fetching::{Fetched, fetch_blob, fetch_message};
+pub use folding::Folded;
+pub use grafting::graft;
 pub use laws::{look_ups_are_single_valued, roots_name_trees, trees_are_maps};
 pub use looking_up::lookup;
 pub use memory::MemorySource;

@@ -1,0 +1,20 @@
+use Rattle.std.proofs.Common.{◌≡◌, ◌+◌, ◌∷◌, drop, refl, ap, subst}
+use Rattle.tree.specs.Form.{node_value}
+use Rattle.tree.specs.Lines.{lines_of}
+use Rattle.tree.proofs.SortedInsert.{Sorts, sorts_more, ascends, line_left}
+use Rattle.tree.proofs.grafting.sort_lines.Goals as goal
+
+pub loop-line-preserved : goal.loop-line-preserved
+loop-line-preserved g c =
+    let inserted = c.in_ok-insert.ensures {u = tt} in
+    let line = c.line-item.result in
+    let left = line_left c.args.lines.now c.loop-line.line-index line c.loop-line-test.true c.line-item.is in
+    record {
+      sorts = sorts_more (lines_of (drop (c.loop-line.line-index + 1) c.args.lines.now)) (lines_of c.args.lines.now) c.loop-line.sorted.entries c.insert.new.self.entries c.in_ok-to_names.field-0 c.in_ok-copy_node.field-0 (line.0, node_value line.1)
+          (c.in_ok-to_names.ensures {u = tt}).value (ap node_value (c.in_ok-copy_node.ensures {u = tt})) inserted.entries
+          (subst (λ r. Sorts r (lines_of c.args.lines.now) c.loop-line.sorted.entries) left c.loop-line.invariant.sorts);
+      ordered = c.insert.ensures.ordered;
+    }
+
+pub returns-clause-ascend : goal.returns-clause-ascend
+returns-clause-ascend g c = ascends c.loop-line.sorted.entries c.loop-line.invariant.ordered

@@ -1,0 +1,31 @@
+-- The Directories of a tree, each once, as they are stored.
+use Rattle.std.specs.Prelude.{◌≡◌, ℕ, bytes_eq, List, [], ◌∷◌, ◌++◌, map, if◌then◌else◌}
+use Rattle.std.specs.List.{list_any}
+use Rattle.std.specs.declared.vec.Vec.{Vec}
+use Rattle.blob_digest.specs.Digest.{DigestValue}
+use Rattle.tree.specs.declared.folding.Folded.{Folded}
+use Rattle.tree.specs.Tree.{Tree, empty, leaf, folder}
+use Rattle.tree.specs.Form.{NodeValue, top, root}
+
+-- The encodings in the order of a visit: a directory before what is below it, names in order, each
+-- with all that is below it before the next.
+abbrev pub tops_below : Tree NodeValue → List (List ℕ)
+tops_below empty = []
+tops_below (leaf n x rest) = tops_below rest
+tops_below (folder n below rest) = (top below ∷ tops_below below) ++ tops_below rest
+
+abbrev pub visited : Tree NodeValue → List (List ℕ)
+visited t = top t ∷ tops_below t
+
+-- each once, where it first stands, but for those that were seen before
+abbrev pub unseen : List (List ℕ) → List (List ℕ) → List (List ℕ)
+unseen seen [] = []
+unseen seen (b ∷ bs) = if list_any (bytes_eq b) seen then unseen seen bs else b ∷ unseen (seen ++ b ∷ []) bs
+
+abbrev pub first_visits : Tree NodeValue → List (List ℕ)
+first_visits t = unseen [] (visited t)
+
+-- the digest of a tree's root, and its Directories, each distinct one once, in the order of their first visits
+pub record IsFoldOf {A : Type 0} (t : Tree NodeValue) (f : Folded A) : Type 0 where
+  pub root : f.root ≡ root t
+  pub directories : map (λ (v : Vec ℕ A). v.items) f.directories.items ≡ first_visits t

@@ -1,0 +1,8 @@
+-- The lines of a graft by digests: at each target, the node that stands there.
+use Rattle.std.specs.Prelude.{ℕ, List, map}
+use Rattle.messages.specs.declared.node.Node.{Node}
+use Rattle.tree.specs.Tree.{Name}
+use Rattle.tree.specs.Form.{NodeValue, node_value}
+
+abbrev pub lines_of : {A : Type 0} → List (List Name × Node A) → List (List Name × NodeValue)
+lines_of lines = map (λ l. (l.0, node_value l.1)) lines

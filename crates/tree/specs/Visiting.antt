@@ -1,0 +1,67 @@
+-- What the private functions that make a graft's Directories speak of: lines in the order of their
+-- targets' names, and the children of a directory that is being made.
+use Rattle.std.specs.Prelude.{◌≡◌, ℕ, ◌+◌, List, [], ◌∷◌, ◌++◌, map, length, nat_eq, if◌then◌else◌}
+use Rattle.std.specs.List.{AllByRecursion}
+use Rattle.std.specs.Cmp.Lexicographic.{slice_cmp, pointwise}
+use Rattle.std.specs.declared.cmp.Ordering.{Ordering}
+use Rattle.std.specs.declared.cmp.Ordering.TheVariants.{Less}
+use Rattle.std.specs.declared.vec.Vec.{Vec}
+use Rattle.messages.specs.declared.node.Node.{Node}
+use Rattle.messages.specs.DirectoryRules.{DirectoryValue}
+use Rattle.tree.specs.declared.grafting.Line.{Line}
+use Rattle.tree.specs.declared.grafting.Children.{Children}
+use Rattle.tree.specs.declared.grafting.Visited.{Visited}
+use Rattle.tree.specs.Tree.{Name, name_cmp, Tree}
+use Rattle.tree.specs.Form.{NodeValue, node_value, root}
+use Rattle.tree.specs.Folded.{visited}
+
+-- ---- lines
+
+-- the order of paths, name by name
+abbrev pub path_cmp : List Name → List Name → Ordering
+path_cmp = slice_cmp name_cmp
+
+-- each target comes before those of all later lines
+abbrev pub Ascend : {X : Type 0} → List (List Name × X) → Type 0
+Ascend [] = Unit {0}
+Ascend (l ∷ ls) = AllByRecursion (λ k. path_cmp l.0 k.0 ≡ Less) ls × Ascend ls
+
+abbrev pub first_under : {X : Type 0} → Name → List Name → X → List (List Name × X) → List (List Name × X)
+first_under n [] x rest = []
+first_under n (m ∷ p) x rest = if pointwise nat_eq m n then (p, x) ∷ rest else []
+
+-- the first lines, as far as their first name is n, without that name
+abbrev pub led : {X : Type 0} → Name → List (List Name × X) → List (List Name × X)
+led n [] = []
+led n (l ∷ ls) = first_under n l.0 l.1 (led n ls)
+
+-- how many names the targets have
+abbrev pub total : {X : Type 0} → List (List Name × X) → ℕ
+total [] = 0
+total (l ∷ ls) = length l.0 + total ls
+
+abbrev pub line_values : {A : Type 0} → List (Line A) → List (List Name × NodeValue)
+line_values lines = map (λ l. (l.names.now, node_value l.node.now)) lines
+
+abbrev pub entry_lines : {A : Type 0} → List (Vec Name A × Node A) → List (List Name × NodeValue)
+entry_lines entries = map (λ e. (e.0.items, node_value e.1)) entries
+
+-- ---- directories
+
+abbrev pub items_of : {A : Type 0} → List (Vec ℕ A) → List (List ℕ)
+items_of encodings = map (λ v. v.items) encodings
+
+-- the children of one directory, and behind them those of another
+abbrev pub joined : DirectoryValue → DirectoryValue → DirectoryValue
+joined a b = record { files = a.files ++ b.files; directories = a.directories ++ b.directories; symlinks = a.symlinks ++ b.symlinks }
+
+abbrev pub directory_in : {A : Type 0} → Children A → DirectoryValue
+directory_in c = record { files = c.files.items; directories = c.directories.items; symlinks = c.symlinks.items }
+
+abbrev pub tops_in : {A : Type 0} → Children A → List (List ℕ)
+tops_in c = items_of c.below.items
+
+-- a tree's Directories in the order of a visit, and its digest
+pub record IsVisitOf {A : Type 0} (t : Tree NodeValue) (v : Visited A) : Type 0 where
+  pub root : v.root ≡ root t
+  pub encodings : items_of v.encodings.items ≡ visited t
