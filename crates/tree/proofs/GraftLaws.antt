@@ -4,7 +4,8 @@ use Rattle.std.specs.Prelude.{Option, Some, None, option_map}
 use Rattle.std.specs.List.{AllByRecursion}
 use Rattle.std.specs.Ordering.{eq_by_cmp}
 use Rattle.tree.specs.Tree.{Name, name_cmp, Tree, empty, leaf, folder, Entry, single, whole, entry_of, below_entry, tree_at, IsOrdered}
-use Rattle.tree.specs.Graft.{put, graft, expand, with_entry, IsApart, HaveApartTargets}
+use Rattle.tree.specs.Graft.{put, graft, expand, with_entry}
+use Rattle.tree.specs.Visiting.{Apart, HaveApart}
 use Rattle.tree.proofs.TreeLemmas.{entry-put, entry-put_other, put_entry, one_or_two, ordered-graft}
 
 -- nothing stands at the path, above it or below it
@@ -37,7 +38,7 @@ at_put [] x (Some (whole t)) h f = elim f [ ]
 at_put (n ∷ p) x (Some (whole t)) h f = ap (below_entry p) (entry-put n p x t h) ∙ at_put p x (entry_of n t) (in_order n t h) f
 
 -- what stands at a path apart from it stays
-at_other : {X : Type 0} (p q : List Name) (x : X) (o : Option (Entry X)) → IsInOrder o → IsApart p q → below_entry q (Some (put_entry p x o)) ≡ below_entry q o
+at_other : {X : Type 0} (p q : List Name) (x : X) (o : Option (Entry X)) → IsInOrder o → Apart p q → below_entry q (Some (put_entry p x o)) ≡ below_entry q o
 at_other [] q x o h a = elim a [ ]
 at_other (n ∷ p) [] x o h a = elim a [ ]
 at_other (n ∷ p) (m ∷ q) x (Some (single y)) h a = refl
@@ -50,7 +51,7 @@ at_other (n ∷ p) (m ∷ q) x (Some (whole t)) h a = elim (one_or_two n m) [
   | inr e ↦ ap (below_entry q) (entry-put_other m n p x t (λ s. e (sym s)))
 ]
 
-free_other : {X : Type 0} (p q : List Name) (x : X) (o : Option (Entry X)) → IsInOrder o → IsApart p q → IsFree q o → IsFree q (Some (put_entry p x o))
+free_other : {X : Type 0} (p q : List Name) (x : X) (o : Option (Entry X)) → IsInOrder o → Apart p q → IsFree q o → IsFree q (Some (put_entry p x o))
 free_other [] q x o h a f = elim a [ ]
 free_other (n ∷ p) [] x o h a f = elim a [ ]
 free_other (n ∷ p) (m ∷ q) x (Some (single y)) h a f = f
@@ -96,34 +97,34 @@ all_of [] f h = tt
 all_of (x ∷ xs) f h = (f x h.0, all_of xs f h.1)
 
 -- what is free at a path where nothing was put
-pub free_graft : {X : Type 0} (ls : List (List Name × X)) (n : Name) (q : List Name) → AllByRecursion (λ (l : List Name × X). IsApart l.0 (n ∷ q)) ls → IsFree (n ∷ q) (Some (whole (graft ls)))
+pub free_graft : {X : Type 0} (ls : List (List Name × X)) (n : Name) (q : List Name) → AllByRecursion (λ (l : List Name × X). Apart l.0 (n ∷ q)) ls → IsFree (n ∷ q) (Some (whole (graft ls)))
 free_graft [] n q h = tt
 free_graft (l ∷ ls) n q h = free_other l.0 (n ∷ q) l.1 (Some (whole (graft ls))) (ordered-graft ls) h.0 (free_graft ls n q h.1)
 
-free_at : {X : Type 0} (ls : List (List Name × X)) (p : List Name) → p ≢ [] → AllByRecursion (λ (l : List Name × X). IsApart l.0 p) ls → IsFree p (Some (whole (graft ls)))
+free_at : {X : Type 0} (ls : List (List Name × X)) (p : List Name) → p ≢ [] → AllByRecursion (λ (l : List Name × X). Apart l.0 p) ls → IsFree p (Some (whole (graft ls)))
 free_at ls [] some h = absurd (some refl)
 free_at ls (n ∷ p) some h = free_graft ls n p h
 
 -- each line's leaf stands at its target
-pub graft_lines : {X : Type 0} (ls : List (List Name × X)) → HaveApartTargets ls → AllByRecursion (λ (l : List Name × X). tree_at (graft ls) l.0 ≡ Some (single l.1)) ls
+pub graft_lines : {X : Type 0} (ls : List (List Name × X)) → HaveApart ls → AllByRecursion (λ (l : List Name × X). tree_at (graft ls) l.0 ≡ Some (single l.1)) ls
 graft_lines [] h = tt
 graft_lines (l ∷ ls) h = (
   at_put l.0 l.1 (Some (whole (graft ls))) (ordered-graft ls) (free_at ls l.0 h.0 (all_of ls (λ k a. a.1) h.1)),
   both ls l.0 (graft ls) (ordered-graft ls) l.1 h.1 (graft_lines ls h.2),
 )
   where
-    both : {X : Type 0} (ks : List (List Name × X)) (p : List Name) (t : Tree X) → IsOrdered t → (x : X) → AllByRecursion (λ k. IsApart p k.0 × IsApart k.0 p) ks → AllByRecursion (λ (k : List Name × X). tree_at t k.0 ≡ Some (single k.1)) ks
+    both : {X : Type 0} (ks : List (List Name × X)) (p : List Name) (t : Tree X) → IsOrdered t → (x : X) → AllByRecursion (λ k. Apart p k.0 × Apart k.0 p) ks → AllByRecursion (λ (k : List Name × X). tree_at t k.0 ≡ Some (single k.1)) ks
         → AllByRecursion (λ (k : List Name × X). tree_at (put p x t) k.0 ≡ Some (single k.1)) ks
     both [] p t o x a h = tt
     both (k ∷ ks) p t o x a h = (at_other p k.0 x (Some (whole t)) o a.0.0 ∙ h.0, both ks p t o x a.1 h.1)
 
 -- nothing stands apart from all targets
-pub graft_nothing : {X : Type 0} (ls : List (List Name × X)) (n : Name) (q : List Name) → AllByRecursion (λ (l : List Name × X). IsApart l.0 (n ∷ q)) ls → tree_at (graft ls) (n ∷ q) ≡ None
+pub graft_nothing : {X : Type 0} (ls : List (List Name × X)) (n : Name) (q : List Name) → AllByRecursion (λ (l : List Name × X). Apart l.0 (n ∷ q)) ls → tree_at (graft ls) (n ∷ q) ≡ None
 graft_nothing [] n q h = none_within q
 graft_nothing (l ∷ ls) n q h = at_other l.0 (n ∷ q) l.1 (Some (whole (graft ls))) (ordered-graft ls) h.0 ∙ graft_nothing ls n q h.1
 
 -- each path above a target is a directory
-pub graft_parents : {X : Type 0} (ls : List (List Name × X)) → HaveApartTargets ls → AllByRecursion (λ (l : List Name × X). (q : List Name) (n : Name) (r : List Name) → l.0 ≡ q ++ n ∷ r → (u : Tree X) × (tree_at (graft ls) q ≡ Some (whole u))) ls
+pub graft_parents : {X : Type 0} (ls : List (List Name × X)) → HaveApart ls → AllByRecursion (λ (l : List Name × X). (q : List Name) (n : Name) (r : List Name) → l.0 ≡ q ++ n ∷ r → (u : Tree X) × (tree_at (graft ls) q ≡ Some (whole u))) ls
 graft_parents [] h = tt
 graft_parents (l ∷ ls) h = (
   λ q n r e. let above = above_put q n r l.1 (Some (whole (graft ls))) (ordered-graft ls) (subst (λ p. IsFree p (Some (whole (graft ls)))) e (free_at ls l.0 h.0 (all_of ls (λ k a. a.1) h.1))) in

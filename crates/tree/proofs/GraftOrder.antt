@@ -4,7 +4,8 @@ use Rattle.std.specs.Prelude.{◌⊎◌, Option, Some, None}
 use Rattle.std.specs.List.{AllByRecursion}
 use Rattle.std.specs.FinMap.Entries.{by_order}
 use Rattle.tree.specs.Tree.{Name, Tree, empty, leaf, folder, Entry, single, whole, entry_of, IsBelowAll, IsOrdered}
-use Rattle.tree.specs.Graft.{sole, put, graft, IsApart}
+use Rattle.tree.specs.Graft.{sole, put, graft}
+use Rattle.tree.specs.Visiting.{Apart}
 use Rattle.tree.proofs.TreeLemmas.{name_itself, one_or_two, entry-put, entry-put_other, put_entry, ordered-put}
 use Rattle.tree.proofs.GraftLaws.{IsInOrder, in_order}
 use Rattle.tree.proofs.SameTree.{same_tree}
@@ -37,7 +38,7 @@ graft-under n l [] ls some h = put_first n l.0 l.1 (graft ls) h ∙ at l.0 some.
 graft-under n l (k ∷ group) ls some h = ap (put (n ∷ l.0) l.1) (graft-under n k group ls some.1 h) ∙ put_within n l.0 l.1 (graft (k ∷ group)) (graft ls)
 
 -- leaves put at paths apart, in either order
-pub put-put : {X : Type 0} (p q : List Name) (x y : X) (t : Tree X) → IsOrdered t → IsApart p q → put p x (put q y t) ≡ put q y (put p x t)
+pub put-put : {X : Type 0} (p q : List Name) (x y : X) (t : Tree X) → IsOrdered t → Apart p q → put p x (put q y t) ≡ put q y (put p x t)
 put-put [] q x y t h a = elim a [ ]
 put-put (n ∷ p) [] x y t h a = elim a [ ]
 put-put {X} (n ∷ p) (m ∷ q) x y t h a =
@@ -47,17 +48,17 @@ put-put {X} (n ∷ p) (m ∷ q) x y t h a =
     here : (k : Name) (r : List Name) (z : X) (u : Tree X) → IsOrdered u → (j : Name) → k ≡ j → entry_of k (put (j ∷ r) z u) ≡ Some (put_entry r z (entry_of k u))
     here k r z u g j e = subst (λ i. entry_of k (put (i ∷ r) z u) ≡ Some (put_entry r z (entry_of k u))) e (entry-put k r z u g)
 
-    both : (o : Option (Entry X)) → IsInOrder o → IsApart p q → ((u : Tree X) → IsOrdered u → IsApart p q → put p x (put q y u) ≡ put q y (put p x u)) → put_entry p x (Some (put_entry q y o)) ≡ put_entry q y (Some (put_entry p x o))
+    both : (o : Option (Entry X)) → IsInOrder o → Apart p q → ((u : Tree X) → IsOrdered u → Apart p q → put p x (put q y u) ≡ put q y (put p x u)) → put_entry p x (Some (put_entry q y o)) ≡ put_entry q y (Some (put_entry p x o))
     both (Some (single z)) g b ih = refl
     both (Some (whole u)) g b ih = ap whole (ih u g b)
     both None g b ih = none p q b (ih empty tt)
       where
-        none : (p q : List Name) → IsApart p q → (IsApart p q → put p x (put q y empty) ≡ put q y (put p x empty)) → put_entry p x (Some (put_entry q y None)) ≡ put_entry q y (Some (put_entry p x None))
+        none : (p q : List Name) → Apart p q → (Apart p q → put p x (put q y empty) ≡ put q y (put p x empty)) → put_entry p x (Some (put_entry q y None)) ≡ put_entry q y (Some (put_entry p x None))
         none [] q b ih = elim b [ ]
         none (i ∷ p) [] b ih = elim b [ ]
         none (i ∷ p) (j ∷ q) b ih = ap whole (ih b)
 
-    alike : (k : Name) → (n ≡ m) ⊎ (n ≡ m → ⊥) → (k ≡ n) ⊎ (k ≡ n → ⊥) → (k ≡ m) ⊎ (k ≡ m → ⊥) → ((u : Tree X) → IsOrdered u → IsApart p q → put p x (put q y u) ≡ put q y (put p x u))
+    alike : (k : Name) → (n ≡ m) ⊎ (n ≡ m → ⊥) → (k ≡ n) ⊎ (k ≡ n → ⊥) → (k ≡ m) ⊎ (k ≡ m → ⊥) → ((u : Tree X) → IsOrdered u → Apart p q → put p x (put q y u) ≡ put q y (put p x u))
         → entry_of k (put (n ∷ p) x (put (m ∷ q) y t)) ≡ entry_of k (put (m ∷ q) y (put (n ∷ p) x t))
     alike k nm (inl kn) (inl km) ih =
         here k p x (put (m ∷ q) y t) (ordered-put (m ∷ q) y t h) n kn ∙ ap (λ o. Some (put_entry p x o)) (here k q y t h m km)

@@ -20,3 +20,4 @@ pub mod Sorted
 pub mod VisitSteps
 pub mod Distinct
 pub mod SortedInsert
+pub mod Apart

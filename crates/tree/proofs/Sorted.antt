@@ -7,7 +7,8 @@ use Rattle.std.specs.Ordering.{ordering_then}
 use Rattle.std.specs.declared.cmp.Ordering.{Ordering}
 use Rattle.std.specs.declared.cmp.Ordering.TheVariants.{Less, Equal, Greater}
 use Rattle.tree.specs.Tree.{Name, name_cmp, Tree, empty, leaf, folder, IsBelowAll}
-use Rattle.tree.specs.Graft.{put, graft, IsApart, HaveApartTargets}
+use Rattle.tree.specs.Graft.{put, graft}
+use Rattle.tree.specs.Visiting.{Apart, HaveApart}
 use Rattle.tree.specs.Visiting.{path_cmp, Ascend, first_under, led, total}
 use Rattle.tree.proofs.TreeLemmas.{name_itself, name_same, name_trans, below-put}
 use Rattle.tree.proofs.GraftOrder.{under, graft-leaf, graft-under}
@@ -32,10 +33,10 @@ not_before n p (m ∷ q) h = by (name_cmp n m) refl h
     by Equal e h = inr (name_same n m e)
     by Greater e h = cc
 
-after_leaf : (n : Name) (k : List Name) → path_cmp (n ∷ []) k ≡ Less → IsApart (n ∷ []) k → IsAfter n k
+after_leaf : (n : Name) (k : List Name) → path_cmp (n ∷ []) k ≡ Less → Apart (n ∷ []) k → IsAfter n k
 after_leaf n k h a = by k (not_before n [] k h) a
   where
-    by : (k : List Name) → NotBefore n k → IsApart (n ∷ []) k → IsAfter n k
+    by : (k : List Name) → NotBefore n k → Apart (n ∷ []) k → IsAfter n k
     by [] b a = b
     by (m ∷ q) (inl b) a = b
     by (m ∷ q) (inr e) a = absurd (a e)
@@ -64,9 +65,9 @@ module _ {X : Type 0} where
       put_on (m ∷ q) a ih = below-put n m q l.1 (graft ls) a ih
 
   -- a leaf of the directory, and then lines of later names
-  pub step_leaf : (n : Name) (x : X) (ls : List (List Name × X)) → Ascend ((n ∷ [], x) ∷ ls) → HaveApartTargets ((n ∷ [], x) ∷ ls) → graft ((n ∷ [], x) ∷ ls) ≡ leaf n x (graft ls)
+  pub step_leaf : (n : Name) (x : X) (ls : List (List Name × X)) → Ascend ((n ∷ [], x) ∷ ls) → HaveApart ((n ∷ [], x) ∷ ls) → graft ((n ∷ [], x) ∷ ls) ≡ leaf n x (graft ls)
   step_leaf n x ls up apart = graft-leaf n x ls (below_graft n ls
-      (all_map (λ k. (path_cmp (n ∷ []) k.0 ≡ Less) × (IsApart (n ∷ []) k.0 × IsApart k.0 (n ∷ []))) (λ k. IsAfter n k.0) ls (λ k h. after_leaf n k.0 h.0 h.1.0) (all_both (λ k. path_cmp (n ∷ []) k.0 ≡ Less) (λ k. IsApart (n ∷ []) k.0 × IsApart k.0 (n ∷ [])) ls up.0 apart.1)))
+      (all_map (λ k. (path_cmp (n ∷ []) k.0 ≡ Less) × (Apart (n ∷ []) k.0 × Apart k.0 (n ∷ []))) (λ k. IsAfter n k.0) ls (λ k h. after_leaf n k.0 h.0 h.1.0) (all_both (λ k. path_cmp (n ∷ []) k.0 ≡ Less) (λ k. Apart (n ∷ []) k.0 × Apart k.0 (n ∷ [])) ls up.0 apart.1)))
 
   -- ---- the lines of one first name
 
@@ -101,19 +102,19 @@ module _ {X : Type 0} where
           by true e = (led_all n (λ k. path_cmp (m ∷ q) k.0 ≡ Less) (λ k. path_cmp q k.0 ≡ Less) (λ r y g. below m ((bytes_decides m n).0 e) r g) ls k, ih)
           by false e = tt
 
-  led_apart : (n : Name) (ls : List (List Name × X)) → HaveApartTargets ls → AllByRecursion (λ l. l.0 ≢ n ∷ []) ls → HaveApartTargets (led n ls)
+  led_apart : (n : Name) (ls : List (List Name × X)) → HaveApart ls → AllByRecursion (λ l. l.0 ≢ n ∷ []) ls → HaveApart (led n ls)
   led_apart n [] h s = tt
   led_apart n (l ∷ ls) h s = at l.0 l.1 s.0 h.1 (led_apart n ls h.2 s.1)
     where
-      at : (p : List Name) (x : X) → p ≢ n ∷ [] → AllByRecursion (λ k. IsApart p k.0 × IsApart k.0 p) ls → HaveApartTargets (led n ls) → HaveApartTargets (first_under n p x (led n ls))
+      at : (p : List Name) (x : X) → p ≢ n ∷ [] → AllByRecursion (λ k. Apart p k.0 × Apart k.0 p) ls → HaveApart (led n ls) → HaveApart (first_under n p x (led n ls))
       at [] x other k ih = tt
       at (m ∷ q) x other k ih = by (pointwise nat_eq m n) refl
         where
-          by : (b : Bool) → pointwise nat_eq m n ≡ b → HaveApartTargets (cond b ((q, x) ∷ led n ls) [])
+          by : (b : Bool) → pointwise nat_eq m n ≡ b → HaveApart (cond b ((q, x) ∷ led n ls) [])
           by true e =
               let same = (bytes_decides m n).0 e in (
                 (λ none. other (λ i. same i ∷ none i)),
-                led_all n (λ k. IsApart (m ∷ q) k.0 × IsApart k.0 (m ∷ q)) (λ k. IsApart q k.0 × IsApart k.0 q) (λ r y g. (g.0 same, g.1 (sym same))) ls k,
+                led_all n (λ k. Apart (m ∷ q) k.0 × Apart k.0 (m ∷ q)) (λ k. Apart q k.0 × Apart k.0 q) (λ r y g. (g.0 same, g.1 (sym same))) ls k,
                 ih,
               )
           by false e = tt
@@ -149,13 +150,13 @@ module _ {X : Type 0} where
   ascends_drop (suc k) [] h = tt
   ascends_drop (suc k) (l ∷ ls) h = ascends_drop k ls h.1
 
-  apart_drop : (k : ℕ) (ls : List (List Name × X)) → HaveApartTargets ls → HaveApartTargets (drop k ls)
+  apart_drop : (k : ℕ) (ls : List (List Name × X)) → HaveApart ls → HaveApart (drop k ls)
   apart_drop zero ls h = h
   apart_drop (suc k) [] h = tt
   apart_drop (suc k) (l ∷ ls) h = apart_drop k ls h.2
 
-  none_alone : (n m : Name) (p : List Name) (ls : List (List Name × X)) → AllByRecursion (λ k. IsApart (n ∷ m ∷ p) k.0 × IsApart k.0 (n ∷ m ∷ p)) ls → AllByRecursion (λ l. l.0 ≢ n ∷ []) ls
-  none_alone n m p ls h = all_map (λ k. IsApart (n ∷ m ∷ p) k.0 × IsApart k.0 (n ∷ m ∷ p)) (λ l. l.0 ≢ n ∷ []) ls (λ k a e. (let both : IsApart (n ∷ m ∷ p) (n ∷ []) = subst (IsApart (n ∷ m ∷ p)) e a.0 in both refl)) h
+  none_alone : (n m : Name) (p : List Name) (ls : List (List Name × X)) → AllByRecursion (λ k. Apart (n ∷ m ∷ p) k.0 × Apart k.0 (n ∷ m ∷ p)) ls → AllByRecursion (λ l. l.0 ≢ n ∷ []) ls
+  none_alone n m p ls h = all_map (λ k. Apart (n ∷ m ∷ p) k.0 × Apart k.0 (n ∷ m ∷ p)) (λ l. l.0 ≢ n ∷ []) ls (λ k a e. (let both : Apart (n ∷ m ∷ p) (n ∷ []) = subst (Apart (n ∷ m ∷ p)) e a.0 in both refl)) h
 
   -- ---- a directory below, and then lines of later names
 
@@ -163,16 +164,16 @@ module _ {X : Type 0} where
   pub record StepsUnder (n m : Name) (p : List Name) (x : X) (ls : List (List Name × X)) : Type 0 where
     pub grafts : graft ((n ∷ m ∷ p, x) ∷ ls) ≡ folder n (graft (led n ((n ∷ m ∷ p, x) ∷ ls))) (graft (drop (length (led n ((n ∷ m ∷ p, x) ∷ ls))) ((n ∷ m ∷ p, x) ∷ ls)))
     pub ascend : Ascend (led n ((n ∷ m ∷ p, x) ∷ ls))
-    pub apart : HaveApartTargets (led n ((n ∷ m ∷ p, x) ∷ ls))
+    pub apart : HaveApart (led n ((n ∷ m ∷ p, x) ∷ ls))
     pub later_ascend : Ascend (drop (length (led n ((n ∷ m ∷ p, x) ∷ ls))) ((n ∷ m ∷ p, x) ∷ ls))
-    pub later_apart : HaveApartTargets (drop (length (led n ((n ∷ m ∷ p, x) ∷ ls))) ((n ∷ m ∷ p, x) ∷ ls))
+    pub later_apart : HaveApart (drop (length (led n ((n ∷ m ∷ p, x) ∷ ls))) ((n ∷ m ∷ p, x) ∷ ls))
     pub some : 0 < length (led n ((n ∷ m ∷ p, x) ∷ ls))
 
-  apart_some : (ls : List (List Name × X)) → HaveApartTargets ls → AllByRecursion (λ k. k.0 ≢ []) ls
+  apart_some : (ls : List (List Name × X)) → HaveApart ls → AllByRecursion (λ k. k.0 ≢ []) ls
   apart_some [] h = tt
   apart_some (l ∷ ls) h = (h.0, apart_some ls h.2)
 
-  pub step_under : (n m : Name) (p : List Name) (x : X) (ls : List (List Name × X)) → Ascend ((n ∷ m ∷ p, x) ∷ ls) → HaveApartTargets ((n ∷ m ∷ p, x) ∷ ls) → StepsUnder n m p x ls
+  pub step_under : (n m : Name) (p : List Name) (x : X) (ls : List (List Name × X)) → Ascend ((n ∷ m ∷ p, x) ∷ ls) → HaveApart ((n ∷ m ∷ p, x) ∷ ls) → StepsUnder n m p x ls
   step_under n m p x ls up apart =
       let whole_list = (n ∷ m ∷ p, x) ∷ ls in
       let step = led_step n (m ∷ p) x (led n ls) in
@@ -180,7 +181,7 @@ module _ {X : Type 0} where
       let parts = led_parts n whole_list (inr refl, below_all) up in
       let tails = led_apart n whole_list apart ((λ e. (let short : ◌≡◌ {A = List Name} (m ∷ p) [] = cc in cc)), none_alone n m p ls apart.1) in
       let group : graft (under n (led n whole_list) ++ drop (length (led n whole_list)) whole_list) ≡ folder n (graft (led n whole_list)) (graft (drop (length (led n whole_list)) whole_list)) =
-      subst (λ g. HaveApartTargets g → graft (under n g ++ drop (length (led n whole_list)) whole_list) ≡ folder n (graft g) (graft (drop (length (led n whole_list)) whole_list))) (sym step)
+      subst (λ g. HaveApart g → graft (under n g ++ drop (length (led n whole_list)) whole_list) ≡ folder n (graft g) (graft (drop (length (led n whole_list)) whole_list))) (sym step)
       (λ t. graft-under n (m ∷ p, x) (led n ls) (drop (length (led n whole_list)) whole_list) (apart_some ((m ∷ p, x) ∷ led n ls) t) (below_graft n (drop (length (led n whole_list)) whole_list) parts.1)) tails in
       record {
         grafts = ap graft parts.0 ∙ group;

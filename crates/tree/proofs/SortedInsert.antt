@@ -13,7 +13,8 @@ use Rattle.std.specs.BTreeMap.{insert_entry}
 use Rattle.messages.specs.declared.node.Node.{Node}
 use Rattle.tree.specs.Tree.{Name, name_cmp}
 use Rattle.tree.specs.Form.{NodeValue, node_value}
-use Rattle.tree.specs.Graft.{put, graft, IsApart, HaveApartTargets}
+use Rattle.tree.specs.Graft.{put, graft}
+use Rattle.tree.specs.Visiting.{Apart, HaveApart}
 use Rattle.tree.specs.Lines.{lines_of}
 use Rattle.tree.specs.Visiting.{path_cmp, Ascend, entry_lines}
 use Rattle.tree.proofs.TreeLemmas.{ordered-graft}
@@ -23,13 +24,13 @@ use Rattle.tree.proofs.Sorted.{all_map}
 path_same : (p q : List Name) → path_cmp p q ≡ Equal → p ≡ q
 path_same p q e = slice_cmp-IsAntisymmetric (slice_cmp-IsAntisymmetric nat_cmp-IsAntisymmetric) p q e
 
-not_itself : (p : List Name) → IsApart p p → ⊥
+not_itself : (p : List Name) → Apart p p → ⊥
 not_itself [] a = a
 not_itself (n ∷ p) a = not_itself p (a refl)
 
 -- neither lies under the other
 abbrev pub Both : List Name → List Name → Type 0
-Both p q = IsApart p q × IsApart q p
+Both p q = Apart p q × Apart q p
 
 module _ {A : Type 0} where
   abbrev pub vec_cmp : Vec Name A → Vec Name A → Ordering
@@ -43,7 +44,7 @@ module _ {A : Type 0} where
       by : (o : Ordering) → vec_cmp k e.0 ≡ o → graft (entry_lines (insert_entry vec_cmp es k v)) ≡ put k.items (node_value v) (graft (entry_lines es))
           → graft (entry_lines (match_ordering o ((k, v) ∷ e ∷ es) ((e.0, v) ∷ es) (e ∷ insert_entry vec_cmp es k v))) ≡ put k.items (node_value v) (graft (entry_lines (e ∷ es)))
       by Less c ih = refl
-      by Equal c ih = absurd (not_itself k.items (subst (IsApart k.items) (sym (path_same k.items e.0.items c)) h.0.0))
+      by Equal c ih = absurd (not_itself k.items (subst (Apart k.items) (sym (path_same k.items e.0.items c)) h.0.0))
       by Greater c ih = ap (put e.0.items (node_value e.1)) ih ∙ put-put e.0.items k.items (node_value e.1) (node_value v) (graft (entry_lines es)) (ordered-graft (entry_lines es)) h.0.1
 
   -- what holds of the targets
@@ -56,12 +57,12 @@ module _ {A : Type 0} where
       by Equal ih = h
       by Greater ih = (h.0, ih)
 
-  apart_inserted : (es : List (Vec Name A × Node A)) (k : Vec Name A) (v : Node A) → k.items ≢ [] → AllByRecursion (λ l. Both k.items l.0) (entry_lines es) → HaveApartTargets (entry_lines es) → HaveApartTargets (entry_lines (insert_entry vec_cmp es k v))
+  apart_inserted : (es : List (Vec Name A × Node A)) (k : Vec Name A) (v : Node A) → k.items ≢ [] → AllByRecursion (λ l. Both k.items l.0) (entry_lines es) → HaveApart (entry_lines es) → HaveApart (entry_lines (insert_entry vec_cmp es k v))
   apart_inserted [] k v some a h = (some, tt, tt)
   apart_inserted (e ∷ es) k v some a h = by (vec_cmp k e.0) (apart_inserted es k v some a.1 h.2) (all_inserted (Both e.0.items) es k v (a.0.1, a.0.0) h.1)
     where
-      by : (o : Ordering) → HaveApartTargets (entry_lines (insert_entry vec_cmp es k v)) → AllByRecursion (λ l. Both e.0.items l.0) (entry_lines (insert_entry vec_cmp es k v))
-          → HaveApartTargets (entry_lines (match_ordering o ((k, v) ∷ e ∷ es) ((e.0, v) ∷ es) (e ∷ insert_entry vec_cmp es k v)))
+      by : (o : Ordering) → HaveApart (entry_lines (insert_entry vec_cmp es k v)) → AllByRecursion (λ l. Both e.0.items l.0) (entry_lines (insert_entry vec_cmp es k v))
+          → HaveApart (entry_lines (match_ordering o ((k, v) ∷ e ∷ es) ((e.0, v) ∷ es) (e ∷ insert_entry vec_cmp es k v)))
       by Less ih all = (some, a, h)
       by Equal ih all = h
       by Greater ih all = (h.0, all, ih)
@@ -79,14 +80,14 @@ module _ {A : Type 0} where
   graft_front (l ∷ ls) es k v h = ap (put l.0 l.1) (graft_front ls es k v h.1) ∙ put-put l.0 k.items l.1 (node_value v) (graft (ls ++ entry_lines es)) (ordered-graft (ls ++ entry_lines es)) h.0.1
 
   pub apart_front : (ls : List (List Name × NodeValue)) (es : List (Vec Name A × Node A)) (k : Vec Name A) (v : Node A) → k.items ≢ [] → AllByRecursion (λ l. Both k.items l.0) (ls ++ entry_lines es)
-      → HaveApartTargets (ls ++ entry_lines es) → HaveApartTargets (ls ++ entry_lines (insert_entry vec_cmp es k v))
+      → HaveApart (ls ++ entry_lines es) → HaveApart (ls ++ entry_lines (insert_entry vec_cmp es k v))
   apart_front [] es k v some a h = apart_inserted es k v some a h
   apart_front (l ∷ ls) es k v some a h = (h.0, all_front (Both l.0) ls es k v (a.0.1, a.0.0) h.1, apart_front ls es k v some a.1 h.2)
 
   -- lines that are left, and entries that were inserted, make the graft of all lines
   pub record Sorts (rest all : List (List Name × NodeValue)) (es : List (Vec Name A × Node A)) : Type 0 where
     pub grafts : graft (rest ++ entry_lines es) ≡ graft all
-    pub apart : HaveApartTargets (rest ++ entry_lines es)
+    pub apart : HaveApart (rest ++ entry_lines es)
 
   pub sorts_more : (rest all : List (List Name × NodeValue)) (es fs : List (Vec Name A × Node A)) (k : Vec Name A) (v : Node A) (l : List Name × NodeValue)
       → k.items ≡ l.0 → node_value v ≡ l.1 → fs ≡ insert_entry vec_cmp es k v → Sorts (l ∷ rest) all es → Sorts rest all fs
@@ -108,8 +109,8 @@ module _ {A : Type 0} where
       later [] h = tt
       later (f ∷ fs) h = (h.0, later fs h.1)
 
-  pub nothing_sorted : (all : List (List Name × NodeValue)) (es : List (Vec Name A × Node A)) → es ≡ [] → HaveApartTargets all → Sorts all all es
-  nothing_sorted all es none h = subst (Sorts all all) (sym none) (record { grafts = ap graft (none_after all); apart = subst HaveApartTargets (sym (none_after all)) h })
+  pub nothing_sorted : (all : List (List Name × NodeValue)) (es : List (Vec Name A × Node A)) → es ≡ [] → HaveApart all → Sorts all all es
+  nothing_sorted all es none h = subst (Sorts all all) (sym none) (record { grafts = ap graft (none_after all); apart = subst HaveApart (sym (none_after all)) h })
     where
       none_after : (xs : List (List Name × NodeValue)) → xs ++ [] ≡ xs
       none_after [] = refl

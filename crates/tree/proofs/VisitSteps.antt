@@ -15,7 +15,8 @@ use Rattle.messages.specs.Directory.{directory_bytes}
 use Rattle.tree.specs.Tree.{Name, Tree, leaf, folder}
 use Rattle.tree.specs.Form.{NodeValue, no_children, with_child, directory_of, top, root}
 use Rattle.tree.specs.Folded.{tops_below, visited}
-use Rattle.tree.specs.Graft.{graft, HaveApartTargets}
+use Rattle.tree.specs.Graft.{graft}
+use Rattle.tree.specs.Visiting.{HaveApart}
 use Rattle.tree.specs.declared.grafting.Line.{Line}
 use Rattle.tree.specs.declared.grafting.Visited.{Visited}
 use Rattle.tree.specs.Visiting.{Ascend, led, total, items_of, line_values, joined, IsVisitOf}
@@ -52,9 +53,9 @@ pub record Makes (made : DirectoryValue) (encodings : List (List ℕ)) (rest all
   pub directory : joined made (directory_of (graft rest)) ≡ directory_of (graft all)
   pub tops : encodings ++ tops_below (graft rest) ≡ tops_below (graft all)
   pub ascend : Ascend rest
-  pub apart : HaveApartTargets rest
+  pub apart : HaveApart rest
 
-pub makes_first : (all : List (List Name × NodeValue)) → Ascend all → HaveApartTargets all → Makes no_children [] all all
+pub makes_first : (all : List (List Name × NodeValue)) → Ascend all → HaveApart all → Makes no_children [] all all
 makes_first all up apart = record { directory = refl; tops = refl; ascend = up; apart = apart }
 
 pub makes_leaf : (made : DirectoryValue) (tops : List (List ℕ)) (n : Name) (x : NodeValue) (rest all : List (List Name × NodeValue)) → Makes made tops ((n ∷ [], x) ∷ rest) all → Makes (joined made (with_child n x no_children)) tops rest all
@@ -110,7 +111,7 @@ no_names (n ∷ p) lt = absurd (omega arith)
 pub record Folds (n : Name) (p : List Name) (x : NodeValue) (k : ℕ) (all under : List (List Name × NodeValue)) : Type 0 where
   pub is_led : under ≡ led n (drop k all)
   pub ascend : Ascend under
-  pub apart : HaveApartTargets under
+  pub apart : HaveApart under
   pub fewer : total under < total all
   pub some : 0 < length under
   pub within : length under ≤ length (drop k all)
@@ -124,7 +125,7 @@ pub folds_at : (made : DirectoryValue) (tops : List (List ℕ)) (n : Name) (p : 
     → 1 ≤ length p → drop k all ≡ (n ∷ p, x) ∷ later → Makes made tops (drop k all) all → under ≡ led n (drop k all) → Folds n p x k all under
 folds_at made tops n p x k later all under le here h is = some_names p le (λ m q e.
     let seen : drop k all ≡ (n ∷ m ∷ q, x) ∷ later = here ∙ ap (λ r. (n ∷ r, x) ∷ later) e in
-    let step = step_under n m q x later (subst Ascend seen h.ascend) (subst HaveApartTargets seen h.apart) in
+    let step = step_under n m q x later (subst Ascend seen h.ascend) (subst HaveApart seen h.apart) in
     let led_is : under ≡ led n ((n ∷ m ∷ q, x) ∷ later) = is ∙ ap (led n) seen in
     let less = total_under n (m ∷ q) x later in
     let all_less = total_drop k all in
@@ -133,7 +134,7 @@ folds_at made tops n p x k later all under le here h is = some_names p le (λ m 
     record {
       is_led = is;
       ascend = subst Ascend (sym led_is) step.ascend;
-      apart = subst HaveApartTargets (sym led_is) step.apart;
+      apart = subst HaveApart (sym led_is) step.apart;
       fewer = omega (arith, less, all_less, seen_total, under_total);
       some = subst (λ u. 0 < length u) (sym led_is) step.some;
       within = subst (λ u. length u ≤ length (drop k all)) (sym is) (length_led n (drop k all));
@@ -161,8 +162,8 @@ pub rest_of : {A : Type 0} (k : ℕ) (xs : List A) → take (length xs - k) (dro
 rest_of k xs = take_all (length xs - k) (drop k xs) (let len = length-drop k xs in omega (arith, len))
 
 -- no line is without names
-pub no_line : {A B : Type 0} (f : A → List Name × B) (k : ℕ) (xs : List A) (d : A) (names : List Name) → k < length xs → d ≡ get_or xs k d → (f d).0 ≡ names → length names ≡ 0 → HaveApartTargets (drop k (map f xs)) → ⊥
-no_line f k xs d [] lt is seen none apart = (subst HaveApartTargets (drop_line f k xs d lt ∙ ap (λ a. f a ∷ drop (k + 1) (map f xs)) (sym is)) apart).0 seen
+pub no_line : {A B : Type 0} (f : A → List Name × B) (k : ℕ) (xs : List A) (d : A) (names : List Name) → k < length xs → d ≡ get_or xs k d → (f d).0 ≡ names → length names ≡ 0 → HaveApart (drop k (map f xs)) → ⊥
+no_line f k xs d [] lt is seen none apart = (subst HaveApart (drop_line f k xs d lt ∙ ap (λ a. f a ∷ drop (k + 1) (map f xs)) (sym is)) apart).0 seen
 no_line f k xs d (n ∷ p) lt is seen none apart = absurd (omega arith)
 
 -- the Directory that is made is the tree's

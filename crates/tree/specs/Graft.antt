@@ -2,6 +2,7 @@
 use Rattle.std.specs.Prelude.{◌≡◌, ◌≢◌, List, [], ◌∷◌, ◌++◌, Some, None}
 use Rattle.std.specs.FinMap.Entries.{by_order}
 use Rattle.std.specs.List.{AllByRecursion}
+use Rattle.messages.specs.Path.{Overlap}
 use Rattle.tree.specs.Tree.{Name, name_cmp, Tree, empty, leaf, folder, Entry, single, whole, tree_at, below_entry, IsOrdered, IsOrderedEntry}
 
 -- a leaf at a path, in directories of its own, before the entries of rest
@@ -34,14 +35,12 @@ expand (folder n below rest) = folder n (expand below) (expand rest)
 
 -- neither path equals the other or lies under it
 abbrev pub IsApart : List Name → List Name → Type 0
-IsApart [] q = ⊥
-IsApart (n ∷ p) [] = ⊥
-IsApart (n ∷ p) (m ∷ q) = n ≡ m → IsApart p q
+IsApart p q = Overlap p q → ⊥
 
 -- no target equals another or lies under it
 abbrev pub HaveApartTargets : {X : Type 0} → List (List Name × X) → Type 0
 HaveApartTargets [] = Unit {0}
-HaveApartTargets (l ∷ ls) = (l.0 ≢ []) × AllByRecursion (λ k. IsApart l.0 k.0 × IsApart k.0 l.0) ls × HaveApartTargets ls
+HaveApartTargets (l ∷ ls) = (l.0 ≢ []) × AllByRecursion (λ k. IsApart l.0 k.0) ls × HaveApartTargets ls
 
 -- The graft as a finite map: at each target followed by q stands what stands at q in the entry, and nothing stands apart from all targets.
 pub record IsGraftOf {L : Type 0} (ls : List (List Name × Entry L)) (t : Tree L) : Type 0 where

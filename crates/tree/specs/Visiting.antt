@@ -1,6 +1,6 @@
 -- What the private functions that make a graft's Directories speak of: lines in the order of their
 -- targets' names, and the children of a directory that is being made.
-use Rattle.std.specs.Prelude.{◌≡◌, ℕ, ◌+◌, List, [], ◌∷◌, ◌++◌, map, length, nat_eq, if◌then◌else◌}
+use Rattle.std.specs.Prelude.{◌≡◌, ◌≢◌, ℕ, ◌+◌, List, [], ◌∷◌, ◌++◌, map, length, nat_eq, if◌then◌else◌}
 use Rattle.std.specs.List.{AllByRecursion}
 use Rattle.std.specs.Cmp.Lexicographic.{slice_cmp, pointwise}
 use Rattle.std.specs.declared.cmp.Ordering.{Ordering}
@@ -25,6 +25,17 @@ path_cmp = slice_cmp name_cmp
 abbrev pub Ascend : {X : Type 0} → List (List Name × X) → Type 0
 Ascend [] = Unit {0}
 Ascend (l ∷ ls) = AllByRecursion (λ k. path_cmp l.0 k.0 ≡ Less) ls × Ascend ls
+
+-- paths apart, name by name: neither equals the other or lies under it
+abbrev pub Apart : List Name → List Name → Type 0
+Apart [] q = ⊥
+Apart (n ∷ p) [] = ⊥
+Apart (n ∷ p) (m ∷ q) = n ≡ m → Apart p q
+
+-- no target equals another or lies under it
+abbrev pub HaveApart : {X : Type 0} → List (List Name × X) → Type 0
+HaveApart [] = Unit {0}
+HaveApart (l ∷ ls) = (l.0 ≢ []) × AllByRecursion (λ k. Apart l.0 k.0 × Apart k.0 l.0) ls × HaveApart ls
 
 abbrev pub first_under : {X : Type 0} → Name → List Name → X → List (List Name × X) → List (List Name × X)
 first_under n [] x rest = []

@@ -6,7 +6,7 @@ ghost use Rattle.tree.specs.Form.{node_value, no_children, with_child};
 ghost use Rattle.tree.specs.Graft.{graft, HaveApartTargets};
 ghost use Rattle.tree.specs.Lines.{lines_of};
 ghost use Rattle.tree.specs.Folded.{IsFoldOf};
-ghost use Rattle.tree.specs.Visiting.{Ascend, led, line_values, entry_lines, items_of, joined, directory_in, tops_in, IsVisitOf};
+ghost use Rattle.tree.specs.Visiting.{Ascend, HaveApart, led, line_values, entry_lines, items_of, joined, directory_in, tops_in, IsVisitOf};
 
 use crate::folding::{Folded, each_once};
 use blob_digest::Digest;
@@ -133,7 +133,7 @@ fn lines_under<'a, A: Allocator + Copy>(
 /// The Directories of a graft whose lines stand in the order of their targets' names.
 fn visit<A: Allocator + Copy>(alloc: A, lines: &[Line<'_, A>]) -> Result<Visited<A>, AllocError>
     requires ascend { Ascend (line_values lines.now) }
-    requires apart { HaveApartTargets (line_values lines.now) }
+    requires apart { HaveApart (line_values lines.now) }
     ensures { IfOk result (λ v. IsVisitOf (graft (line_values lines.now)) v) }
 {
     let mut children = Children::new(alloc);
@@ -180,7 +180,7 @@ fn sort_lines<A: Allocator + Copy>(
     requires { HaveApartTargets (lines_of lines.now) }
     ensures grafts { IfOk result (λ m. graft (entry_lines m.entries) ≡ graft (lines_of lines.now)) }
     ensures ascend { IfOk result (λ m. Ascend (entry_lines m.entries)) }
-    ensures apart { IfOk result (λ m. HaveApartTargets (entry_lines m.entries)) }
+    ensures apart { IfOk result (λ m. HaveApart (entry_lines m.entries)) }
 {
     let mut sorted = BTreeMap::new(alloc);
     for line in lines {

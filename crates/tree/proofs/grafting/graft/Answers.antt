@@ -3,8 +3,8 @@ use Rattle.std.proofs.lemmas.Map.Iter.{iter_end}
 use Rattle.std.specs.Map.Iter.{deref_pair}
 use Rattle.tree.specs.Form.{root}
 use Rattle.tree.specs.Folded.{IsFoldOf, unseen, visited}
-use Rattle.tree.specs.Graft.{graft, HaveApartTargets}
-use Rattle.tree.specs.Visiting.{Ascend, line_values, entry_lines}
+use Rattle.tree.specs.Graft.{graft}
+use Rattle.tree.specs.Visiting.{Ascend, HaveApart, line_values, entry_lines}
 use Rattle.tree.proofs.grafting.graft.Goals as goal
 
 pub visit-requires-clause-ascend : goal.visit-requires-clause-ascend
@@ -17,7 +17,7 @@ pub visit-requires-clause-apart : goal.visit-requires-clause-apart
 visit-requires-clause-apart g c =
     let all : map deref_pair c.loop-names.yielded ≡ c.in_ok-sorted.sorted.entries = (iter_end deref_pair c.in_ok-sorted.sorted.entries c.loop-names.yielded _ _ _ _ (c.into_iter-names-iterator.ensures.into_iter_gives ∙ c.iter-names-items.ensures.rest) c.loop-names.yielded_by c.in-None.is c.next.ensures.steps).0 in
     let lines = ap line_values c.deref-2.ensures.value ∙ c.loop-names.invariant ∙ ap entry_lines all in
-    subst HaveApartTargets (sym lines) (c.in_ok-sorted.ensures {u = tt}).apart
+    subst HaveApart (sym lines) (c.in_ok-sorted.ensures {u = tt}).apart
 
 pub returns : goal.returns
 returns g c =

@@ -1,8 +1,15 @@
 use Rattle.std.proofs.Common.{◌≡◌, ◌+◌, ◌∷◌, drop, refl, ap, subst}
 use Rattle.tree.specs.Form.{node_value}
 use Rattle.tree.specs.Lines.{lines_of}
-use Rattle.tree.proofs.SortedInsert.{Sorts, sorts_more, ascends, line_left}
+use Rattle.tree.proofs.SortedInsert.{Sorts, sorts_more, nothing_sorted, ascends, line_left}
+use Rattle.tree.proofs.Apart.{have_apart}
 use Rattle.tree.proofs.grafting.sort_lines.Goals as goal
+
+pub loop-line-init : goal.loop-line-init
+loop-line-init g c = record {
+  sorts = nothing_sorted (lines_of c.args.lines.now) c.new-sorted.result.entries c.new-sorted.ensures.empty (have_apart (lines_of c.args.lines.now) c.requires);
+  ordered = c.new-sorted.ensures.ordered;
+}
 
 pub loop-line-preserved : goal.loop-line-preserved
 loop-line-preserved g c =

@@ -2,6 +2,7 @@ use Rattle.tree.proofs.SameMap.{same_map}
 use Rattle.tree.proofs.TreeLemmas.{ordered-graft}
 use Rattle.tree.proofs.GraftOrder.{put-put}
 use Rattle.tree.specs.Graft.{graft}
+use Rattle.tree.proofs.Apart.{apart_from}
 use Rattle.tree.proofs.GraftMap.{graft-IsGraftOf}
 use Rattle.tree.proofs.laws.trees_are_maps.Goals as goal
 
@@ -12,4 +13,4 @@ pub returns-clause-grafts : goal.returns-clause-grafts
 returns-clause-grafts c = graft-IsGraftOf
 
 pub returns-clause-swaps : goal.returns-clause-swaps
-returns-clause-swaps c = λ l k lines apart. put-put l.0 k.0 l.1 k.1 (graft lines) (ordered-graft lines) apart
+returns-clause-swaps c = λ l k lines apart. put-put l.0 k.0 l.1 k.1 (graft lines) (ordered-graft lines) (apart_from l.0 k.0 apart)
