@@ -1,3 +1,8 @@
+ghost use Rattle.std.specs.Prelude.{IsTrue};
+ghost use Rattle.std.specs.List.{AllByRecursion};
+ghost use Rattle.tree.specs.Graft.{IsApart, HaveApartTargets};
+ghost use Rattle.tree.specs.Lines.{lines_of};
+
 use super::{Broken, EMPTY, NINE, joined};
 use crate::{Node, graft};
 use blob_digest::Digest;
@@ -52,6 +57,28 @@ const LINES: [&[(&[u8], Put)]; 6] = [
     &[(b"p/q/f", Put::Nine)],
 ];
 
+/// Whether the path is apart from all targets.
+fn is_apart<A: Allocator>(path: &Path<A>, lines: &[(Path<A>, Node<A>)]) -> bool
+    ensures { IsTrue result → AllByRecursion (λ k. IsApart path.now k.0) (lines_of lines.now) }
+{
+    match lines.split_first() {
+        None => true,
+        Some((line, later)) => !path.overlaps(&line.0) && is_apart(path, later),
+    }
+}
+
+/// Whether no target overlaps another.
+fn are_apart<A: Allocator>(lines: &[(Path<A>, Node<A>)]) -> bool
+    ensures { IsTrue result → HaveApartTargets (lines_of lines.now) }
+{
+    match lines.split_first() {
+        None => true,
+        Some((line, later)) => {
+            !line.0.as_bytes().is_empty() && is_apart(&line.0, later) && are_apart(later)
+        }
+    }
+}
+
 /// Whether the graft of the lines has these Directories, in this order, and the first's digest.
 fn grafts<A: Allocator + Copy>(
     alloc: A,
@@ -61,6 +88,9 @@ fn grafts<A: Allocator + Copy>(
     let mut values = Vec::new(alloc);
     for (target, put) in lines {
         values.push((Path::new(alloc, target)?, node(alloc, *put)?))?;
+    }
+    if !are_apart(&values) {
+        return Err(Broken::Refused);
     }
     let folded = graft(alloc, &values)?;
     let mut same = folded.directories.len() == expected.len();
