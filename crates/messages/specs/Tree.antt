@@ -1,5 +1,6 @@
 -- The message Tree of remote_execution.proto: a directory with all directories below it. Its `root` has to be there.
 -- Its `children` are those whose digests a DirectoryNode in it names, in any order, and equal ones may come again.
+-- Fields: 1 `root` (Directory); 2 `children` (repeated Directory).
 use Rattle.std.specs.Prelude.{ℕ, Bool, ◌==◌, ◌&&◌, bytes_eq, List, [], ◌∷◌, ◌++◌, map, Option, Some, None, Result, Ok, Err, if◌then◌else◌}
 use Rattle.std.specs.List.{AllByRecursion, Contains, list_any, list_all}
 use Rattle.wire.specs.Record.{Record}

@@ -1,4 +1,4 @@
-ghost use Rattle.std.specs.Prelude.{◌≡◌, ◌↔◌, IsOk, IfOk, OnOk, Ok};
+ghost use Rattle.std.specs.Prelude.{◌≡◌, ◌↔◌, IsOk, IfOk, OnOk, Ok, Option};
 ghost use Rattle.std.specs.List.{AllByRecursion};
 ghost use Rattle.wire.specs.Steps.{Gives};
 ghost use Rattle.messages.specs.FileNode.{IsFileNode};
@@ -6,7 +6,8 @@ ghost use Rattle.messages.specs.DirectoryNode.{IsDirectoryNode};
 ghost use Rattle.messages.specs.SymlinkNode.{IsSymlinkNode};
 ghost use Rattle.messages.specs.Gives.{GivesUnlessMemory};
 ghost use Rattle.messages.specs.DirectoryRules.{DirectoryValue, IsDirectory, AreNames, file_names, directory_names, symlink_names, names_ordered, directory_of};
-ghost use Rattle.messages.specs.Node.{child};
+ghost use Rattle.messages.specs.declared.node.Node.{Node};
+ghost use Rattle.messages.specs.Node.{IsChild, child};
 ghost use Rattle.messages.specs.Directory.{directory_bytes, decoded_directory};
 
 use crate::error::MessageError;
@@ -150,9 +151,19 @@ impl<A: Allocator + Copy> Directory<A> {
         decode(alloc, bytes)
     }
 
-    /// The child of this name.
+    /// The child of this name. Each list is searched by halves.
     pub fn child(&self, alloc: A, name: &[u8]) -> Result<Option<Node<A>>, AllocError>
-        ensures { IfOk result (λ node. node ≡ child name.now self.now) }
+        // What is answered stands under the name, and nothing else does.
+        ensures found { IfOk result (λ node. IsChild name.now self.now node) }
+        ensures only { (node : Option (Node A)) → IsChild name.now self.now node → IfOk result (λ answer. answer ≡ node) }
+        ensures exact { IfOk result (λ node. node ≡ child name.now self.now) }
+    {
+        self.find_child(alloc, name)
+    }
+
+    fn find_child(&self, alloc: A, name: &[u8]) -> Result<Option<Node<A>>, AllocError>
+        ensures exact { IfOk result (λ node. node ≡ child name.now self.now) }
+        ensures lawful { IsDirectory self.now }
     {
         if let Some(file) = find_named(&self.files, name) {
             return Ok(Some(Node::File {
