@@ -88,7 +88,7 @@ impl<A: Allocator> Directory<A> {
         ensures value { result.now ≡ self.now.files }
         ensures lawful { IsDirectory self.now }
     {
-        &self.files
+        self.files.as_slice()
     }
 
     /// The directories, by name.
@@ -96,7 +96,7 @@ impl<A: Allocator> Directory<A> {
         ensures value { result.now ≡ self.now.directories }
         ensures lawful { IsDirectory self.now }
     {
-        &self.directories
+        self.directories.as_slice()
     }
 
     /// The symbolic links, by name.
@@ -104,7 +104,7 @@ impl<A: Allocator> Directory<A> {
         ensures value { result.now ≡ self.now.symlinks }
         ensures lawful { IsDirectory self.now }
     {
-        &self.symlinks
+        self.symlinks.as_slice()
     }
 }
 
@@ -187,7 +187,7 @@ impl<A: Allocator + Copy> Directory<A> {
         ensures bytes { IfOk result (λ bytes. bytes.items ≡ directory_bytes self.now) }
         ensures lawful { IsDirectory self.now }
     {
-        let _ = &self.files;
+        let _ = self.files();
         self.write(alloc)
     }
 }

@@ -112,5 +112,5 @@ ghost use Rattle.std.specs.Prelude.{Ok};
 pub fn encodes_one_value<A: Allocator, M: Message<A>>()
     ensures { (bytes : List ℕ) (a b : M) → AreBytes bytes → M.keeps a → M.keeps b → bytes ≡ M.spells a → bytes ≡ M.spells b → a ≡ b }
 {
-    M::is_exact();
+    <M as Message<A>>::is_exact();
 }

@@ -145,6 +145,6 @@ impl<A: Allocator> Name<A> {
         ensures value { result.now ≡ self.now }
         ensures lawful { IsName self.now }
     {
-        self.text.as_bytes()
+        self.as_str().as_bytes()
     }
 }

@@ -97,6 +97,6 @@ impl<A: Allocator> Target<A> {
         ensures value { result.now ≡ self.now }
         ensures lawful { IsTarget self.now }
     {
-        self.text.as_bytes()
+        self.as_str().as_bytes()
     }
 }

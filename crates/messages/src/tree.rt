@@ -236,7 +236,7 @@ impl<A: Allocator> Tree<A> {
         ensures value { result.now ≡ self.now.children }
         ensures lawful { IsTree self.now }
     {
-        &self.children
+        self.children.as_slice()
     }
 }
 
@@ -274,7 +274,8 @@ impl<A: Allocator + Copy> Message<A> for Tree<A> {
 
     fn write(&self, alloc: A) -> Result<Vec<u8, A>, AllocError> {
         let mut out = Vec::new(alloc);
-        write_message(&mut out, 1, Some(&self.root.write(alloc)?))?;
+        let root = self.root.write(alloc)?;
+        write_message(&mut out, 1, Some(&root))?;
         write_each(alloc, &mut out, 2, &self.children)?;
         Ok(out)
     }
@@ -298,7 +299,7 @@ impl<A: Allocator + Copy> Tree<A> {
         ensures bytes { IfOk result (λ bytes. bytes.items ≡ tree_bytes self.now) }
         ensures lawful { IsTree self.now }
     {
-        let _ = &self.root;
+        let _ = self.root();
         self.write(alloc)
     }
 }
