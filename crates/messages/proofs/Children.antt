@@ -1,7 +1,8 @@
 -- The child of a name is what stands under it, and nothing else does.
-use Rattle.std.proofs.Common.{◌≡◌, ◌≢◌, ℕ, List, [], ◌∷◌, map, Option, Some, None, option_map, Result, Ok, Err, refl, sym, subst, ◌∙◌}
+use Rattle.std.proofs.Common.{◌≡◌, ◌≢◌, ℕ, suc, ◌<◌, List, [], ◌∷◌, length, map, Option, Some, None, option_map, Result, Ok, Err, refl, sym, subst, ◌∙◌, arith}
 use Rattle.std.specs.Prelude.{IfOk, find}
 use Rattle.std.specs.List.{AllByRecursion, Contains}
+use Rattle.std.proofs.lemmas.List.{map-id}
 use Rattle.messages.specs.declared.node.Node.{Node}
 use Rattle.messages.specs.declared.node.Node.TheVariants.{File, Link, Dir}
 use Rattle.messages.specs.FileNode.{FileNodeValue}
@@ -11,6 +12,16 @@ use Rattle.messages.specs.Order.{AreApart}
 use Rattle.messages.specs.DirectoryRules.{DirectoryValue, IsDirectory, AreNames, file_names, directory_names, symlink_names}
 use Rattle.messages.specs.Node.{IsChild, or_else, of_file, of_directory, of_symlink, child}
 use Rattle.messages.proofs.Searches.{named, of_contained, found_there, there_found, none_there, none_found}
+
+-- a name that differs from each of a list, and one that the list doesn't hold
+not_contained : (name : List ℕ) (names : List (List ℕ)) → AllByRecursion (λ other. name ≢ other) names → ¬ Contains names name
+not_contained name names all = λ there. of_contained (λ n. n) (λ other. name ≢ other) names name (subst (AllByRecursion (λ other. name ≢ other)) (sym (map-id names)) all) there refl
+
+absent : (name : List ℕ) (names : List (List ℕ)) → ¬ Contains names name → AllByRecursion (λ other. name ≢ other) names
+absent name [] none = tt
+absent name (other ∷ names) none =
+    let some : 0 < length (other ∷ names) = omega arith in
+    (λ same. none (0, some, sym same), absent name names (λ there. let lt : suc there.0 < length (other ∷ names) = let less = there.1 in omega arith in none (suc there.0, lt, there.2)))
 
 -- of two lists that share no name, the first hasn't a name of the second
 apart_from : {X : Type 0} (key : X → List ℕ) (others : List (List ℕ)) (xs : List X) (x : X) → AreApart others (map key xs) → Contains xs x → AllByRecursion (λ other. key x ≢ other) others
@@ -30,7 +41,7 @@ module _ (A : Type 0) (name : List ℕ) (d : DirectoryValue) where
       let there = found_there (λ x. x.name) name d.symlinks l h in
       subst (λ x. Contains d.symlinks (record { name = x; target = l.target })) there.1 there.0
   found None None None e g h =
-      ((none_there (λ x. x.name) name d.files e, tt), (none_there (λ x. x.name) name d.directories g, tt), (none_there (λ x. x.name) name d.symlinks h, tt))
+      (not_contained name (file_names d.files) (none_there (λ x. x.name) name d.files e), not_contained name (directory_names d.directories) (none_there (λ x. x.name) name d.directories g), not_contained name (symlink_names d.symlinks) (none_there (λ x. x.name) name d.symlinks h))
 
   pub child_stands : IsChild {A = A} name d (child name d)
   child_stands = found (find (named (λ n. n.name) name) d.files) (find (named (λ n. n.name) name) d.directories) (find (named (λ n. n.name) name) d.symlinks) refl refl refl
@@ -49,9 +60,9 @@ module _ (A : Type 0) (name : List ℕ) (d : DirectoryValue) where
       let found = there_found (λ x. x.name) name d.symlinks node names.symlinks_ascend there refl in
       rw (no_file, no_directory, found) refl
   child_found names None none =
-      let no_file = none_found (λ x. x.name) name d.files none.0.0 in
-      let no_directory = none_found (λ x. x.name) name d.directories none.1.0 in
-      let no_link = none_found (λ x. x.name) name d.symlinks none.2.0 in
+      let no_file = none_found (λ x. x.name) name d.files (absent name (file_names d.files) none.0) in
+      let no_directory = none_found (λ x. x.name) name d.directories (absent name (directory_names d.directories) none.1) in
+      let no_link = none_found (λ x. x.name) name d.symlinks (absent name (symlink_names d.symlinks) none.2) in
       rw (no_file, no_directory, no_link) refl
 
   -- what is answered, if memory is there

@@ -24,6 +24,10 @@ pub record TreeValue : Type 0 where
   pub root : DirectoryValue
   pub children : List DirectoryValue
 
+-- the tree of a root and children
+abbrev pub tree_with : DirectoryValue → List DirectoryValue → TreeValue
+tree_with root children = record { root = root; children = children }
+
 -- the digests that the DirectoryNodes of the directories name
 abbrev pub node_digests : List DirectoryNodeValue → List DigestValue
 node_digests nodes = map (λ n. n.digest) nodes

@@ -7,7 +7,7 @@ ghost use Rattle.blob_digest.specs.DigestValue.{DigestValue};
 ghost use Rattle.messages.specs.Gives.{GivesUnlessMemory};
 ghost use Rattle.messages.specs.DirectoryRules.{IsDirectory};
 ghost use Rattle.messages.specs.Directory.{directory_bytes, decoded_directory};
-ghost use Rattle.messages.specs.Tree.{TreeValue, IsTree, node_digests, named_by, digests_of, child_digests, is_among, all_among, children_checked, tree_of, tree_bytes, decoded_tree};
+ghost use Rattle.messages.specs.Tree.{TreeValue, IsTree, tree_with, node_digests, named_by, digests_of, child_digests, is_among, all_among, children_checked, tree_of, tree_bytes, decoded_tree};
 ghost use Rattle.blob_digest.specs.Digest.{digest_cmp, digest_of};
 
 use crate::directory::Directory;
@@ -195,7 +195,7 @@ fn checked_tree<A: Allocator + Copy>(
     digests: &[Digest],
 ) -> Result<Tree<A>, MessageError>
     requires { digests.now ≡ digests_of (map directory_bytes children.items) }
-    ensures exact { GivesUnlessMemory (λ t. t) result (tree_of (record { root = root; children = children.items })) }
+    ensures exact { GivesUnlessMemory (λ t. t) result (tree_of (tree_with root children.items)) }
     ensures lawful { IfOk result IsTree }
 {
     let named = named_digests(alloc, &root, &children)?;
@@ -213,9 +213,9 @@ impl<A: Allocator + Copy> Tree<A> {
     ) -> Result<Tree<A>, MessageError>
         // The tree is that of the parts, and keeps the rule of children; where they keep it, no
         // refusal comes.
-        ensures found { IfOk result (λ tree. IsTree tree × (tree ≡ record { root = root; children = children.items })) }
-        ensures only { IsTree (record { root = root; children = children.items }) → GivesUnlessMemory (λ t. t) result (Ok (record { root = root; children = children.items })) }
-        ensures exact { GivesUnlessMemory (λ t. t) result (tree_of (record { root = root; children = children.items })) }
+        ensures found { IfOk result (λ tree. IsTree tree × (tree ≡ tree_with root children.items)) }
+        ensures only { IsTree (tree_with root children.items) → GivesUnlessMemory (λ t. t) result (Ok (tree_with root children.items)) }
+        ensures exact { GivesUnlessMemory (λ t. t) result (tree_of (tree_with root children.items)) }
     {
         let digests = hash_directories(alloc, &children)?;
         checked_tree(alloc, root, children, &digests)
