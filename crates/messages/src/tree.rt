@@ -122,8 +122,10 @@ fn read_each_hashed<A: Allocator + Copy>(
     alloc: A,
     elements: &[&[u8]],
 ) -> Result<Hashed<A>, MessageError>
-    ensures directories { GivesUnlessMemory (λ x. x.directories.items) result (each decoded_directory (slices elements.now)) }
-    ensures digests { IfOk result (λ x. x.digests.items ≡ digests_of (map directory_bytes x.directories.items)) }
+    ensures directories { GivesUnlessMemory (λ x. x.directories.items) result
+        (each decoded_directory (slices elements.now)) }
+    ensures digests { IfOk result (λ x. x.digests.items
+        ≡ digests_of (map directory_bytes x.directories.items)) }
 {
     let mut directories = Vec::new(alloc);
     let mut digests = Vec::new(alloc);
@@ -143,7 +145,8 @@ fn digest_set<A: Allocator + Copy>(
     alloc: A,
     digests: &[Digest],
 ) -> Result<BTreeSet<Digest, A>, AllocError>
-    ensures { IfOk result (λ set. (d : DigestValue) → contains digest_cmp set d ≡ is_among digests.now d) }
+    ensures { IfOk result (λ set. (d : DigestValue) → contains digest_cmp set d
+        ≡ is_among digests.now d) }
 {
     let mut set = BTreeSet::new(alloc);
     for digest in digests {
@@ -214,8 +217,10 @@ impl<A: Allocator + Copy> Tree<A> {
         // The tree is that of the parts, and keeps the rule of children; where they keep it, no
         // refusal comes.
         ensures found { IfOk result (λ tree. IsTree tree × (tree ≡ tree_with root children.items)) }
-        ensures only { IsTree (tree_with root children.items) → GivesUnlessMemory (λ t. t) result (Ok (tree_with root children.items)) }
-        ensures exact { GivesUnlessMemory (λ t. t) result (tree_of (tree_with root children.items)) }
+        ensures only { IsTree (tree_with root children.items)
+            → GivesUnlessMemory (λ t. t) result (Ok (tree_with root children.items)) }
+        ensures exact { GivesUnlessMemory (λ t. t) result
+            (tree_of (tree_with root children.items)) }
     {
         let digests = hash_directories(alloc, &children)?;
         checked_tree(alloc, root, children, &digests)
@@ -287,7 +292,8 @@ impl<A: Allocator + Copy> Tree<A> {
     /// the rule of children (38).
     pub fn decode(alloc: A, bytes: &[u8]) -> Result<Tree<A>, MessageError>
         ensures found { IfOk result (λ t. IsTree t × (bytes.now ≡ tree_bytes t)) }
-        ensures only { (t : TreeValue) → IsTree t → bytes.now ≡ tree_bytes t → GivesUnlessMemory (λ x. x) result (Ok t) }
+        ensures only { (t : TreeValue) → IsTree t → bytes.now ≡ tree_bytes t
+            → GivesUnlessMemory (λ x. x) result (Ok t) }
         // Which refusal comes first.
         ensures exact { GivesUnlessMemory (λ t. t) result (decoded_tree bytes.now) }
     {
