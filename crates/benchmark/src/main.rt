@@ -1,44 +1,20 @@
 //! Measures the product by hand: `benchmark digest 64` hashes 64 MiB by `Digest::of` and by `sha2`
-//! alone, five times in turn, and prints the least time of each.
+//! alone, `benchmark directory 200000` hashes and decodes a directory of so many files. Each is
+//! done five times in turn, and the least time is printed.
 #![tactic(auto)]
 
-use anyhow::{Context, Result, ensure};
-use blob_digest::Digest;
-use sha2::{Digest as _, Sha256};
+mod digest;
+mod directory;
+
+use anyhow::{Context, Result};
+use digest::measure_digest;
+use directory::measure_directory;
 use std::env;
-use std::time::{Duration, Instant};
 
-const ROUNDS: u32 = 5;
+/// How often each call is timed.
+pub const ROUNDS: u32 = 5;
 
-/// How long one call took, and the first byte of what it gave, so that it isn't left out.
-fn time_digest(rt: &HostRuntime, blob: &[u8]) -> Result<(Duration, u8)> {
-    let start = Instant::now(rt)?;
-    let hash = Digest::of(blob).hash();
-    Ok((start.elapsed(rt)?, hash[0]))
-}
-
-fn time_sha2(rt: &HostRuntime, blob: &[u8]) -> Result<(Duration, u8)> {
-    let start = Instant::now(rt)?;
-    let hash: [u8; 32] = Sha256::digest(blob);
-    Ok((start.elapsed(rt)?, hash[0]))
-}
-
-fn measure_digest(rt: &HostRuntime, mebibytes: usize) -> Result<()> {
-    let len = mebibytes.saturating_mul(1 << 20);
-    let blob: Vec<u8> = vec![in rt.alloc(); 0x61; len]?;
-    let mut ours = Duration::MAX;
-    let mut theirs = Duration::MAX;
-    for _ in 0..ROUNDS {
-        let (time, first) = time_digest(rt, &blob)?;
-        ours = ours.min(time);
-        let (time, same) = time_sha2(rt, &blob)?;
-        theirs = theirs.min(time);
-        ensure!(first == same, "two hashes of one blob");
-    }
-    let ours = ours.as_micros();
-    let theirs = theirs.as_micros();
-    println!(rt; "{mebibytes} MiB: Digest::of {ours} us, sha2 {theirs} us").context("printing")
-}
+const USAGE: &str = "usage: benchmark digest MIB\n       benchmark directory FILES";
 
 fn main(rt: HostRuntime) -> Result<()> {
     let alloc = rt.alloc();
@@ -48,6 +24,10 @@ fn main(rt: HostRuntime) -> Result<()> {
             let mebibytes = size.as_str().parse::<usize>().context("the size in MiB")?;
             measure_digest(&rt, mebibytes)
         }
-        _ => println!(rt; "usage: benchmark digest MIB").context("printing"),
+        [what, size] if what.as_str() == "directory" => {
+            let files = size.as_str().parse::<u32>().context("the count of files")?;
+            measure_directory(&rt, files)
+        }
+        _ => println!(rt; "{USAGE}").context("printing"),
     }
 }

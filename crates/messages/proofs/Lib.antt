@@ -14,4 +14,6 @@ pub mod DirectoryNodeCodec
 pub mod SymlinkNodeCodec
 pub mod DirectoryCodec
 pub mod DigestSets
+pub mod Searches
+pub mod Children
 pub mod Trees

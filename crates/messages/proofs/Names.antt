@@ -1,12 +1,14 @@
 -- Names, by their test and by their rules.
-use Rattle.std.proofs.Common.{◌≡◌, ◌≢◌, ℕ, ◌<◌, ◌≤◌, Bool, true, false, ltb, eqb, not, ◌&&◌, List, [], ◌∷◌, length, ◌+◌, Ok, Err, refl, sym, ap, subst, ◌∙◌, arith}
-use Rattle.std.specs.Prelude.{◌↔◌, IsTrue}
+use Rattle.std.proofs.Common.{◌≡◌, ◌≢◌, ℕ, ◌<◌, ◌≤◌, Bool, true, false, ltb, eqb, not, ◌&&◌, List, [], ◌∷◌, length, ◌+◌, Result, Ok, Err, refl, sym, ap, subst, ◌∙◌, arith}
+use Rattle.std.specs.Prelude.{◌↔◌, IsTrue, IfOk}
 use Rattle.std.proofs.lemmas.Bool.{eqb-true}
 use Rattle.std.proofs.lemmas.Bool.Decides.{nat_tests}
 use Rattle.std.specs.List.{list_any}
 use Rattle.std.specs.Str.{IsUtf8, is_utf8}
 use Rattle.std.proofs.lemmas.Str.{is_utf8-from_IsUtf8, IsUtf8-from_is_utf8}
+use Rattle.messages.specs.declared.error.MessageError.{MessageError}
 use Rattle.messages.specs.declared.error.MessageError.TheVariants.{BadName}
+use Rattle.messages.specs.Gives.{GivesUnlessMemory}
 use Rattle.messages.specs.Name.{IsName, IsSegment, is_dots, is_segment, name_of}
 use Rattle.messages.proofs.Choices.{chosen_ok, and_first, and_second, and_both, not_true, false_not, none_is, none_found}
 
@@ -102,3 +104,7 @@ no_text text isnt = let u = utf8_test text isnt in rw u refl
 
 pub no_name : (text : List ℕ) → IsUtf8 text → is_segment text ≡ false → name_of text ≡ Err BadName
 no_name text utf8 isnt = let u = is_utf8-from_IsUtf8 text utf8 in rw (u, isnt) refl
+
+pub name_read_found : (text : List ℕ) (r : Result (List ℕ) MessageError) → GivesUnlessMemory (λ x. x) r (name_of text) → IfOk r (λ x. IsName x × (text ≡ x))
+name_read_found text (Ok x) given = let f = name_found text x given in (f.1, f.0)
+name_read_found text (Err e) given = tt

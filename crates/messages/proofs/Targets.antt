@@ -1,11 +1,13 @@
 -- Targets, by their test and by their rules.
-use Rattle.std.proofs.Common.{◌≡◌, ℕ, ◌<◌, ◌≤◌, Bool, true, false, ltb, eqb, not, ◌&&◌, List, length, ◌+◌, Ok, Err, refl, sym, subst, ◌∙◌, arith}
-use Rattle.std.specs.Prelude.{◌↔◌, IsTrue}
+use Rattle.std.proofs.Common.{◌≡◌, ℕ, ◌<◌, ◌≤◌, Bool, true, false, ltb, eqb, not, ◌&&◌, List, length, ◌+◌, Result, Ok, Err, refl, sym, subst, ◌∙◌, arith}
+use Rattle.std.specs.Prelude.{◌↔◌, IsTrue, IfOk}
 use Rattle.std.proofs.lemmas.Bool.Decides.{nat_tests}
 use Rattle.std.specs.List.{list_any}
 use Rattle.std.specs.Str.{IsUtf8, is_utf8}
 use Rattle.std.proofs.lemmas.Str.{is_utf8-from_IsUtf8}
+use Rattle.messages.specs.declared.error.MessageError.{MessageError}
 use Rattle.messages.specs.declared.error.MessageError.TheVariants.{BadPath}
+use Rattle.messages.specs.Gives.{GivesUnlessMemory}
 use Rattle.messages.specs.Target.{IsTarget, IsLink, is_link, target_of}
 use Rattle.messages.proofs.Choices.{chosen_ok, and_first, and_second, and_both, not_true, false_not, none_is, none_found}
 use Rattle.messages.proofs.Names.{utf8_test}
@@ -67,3 +69,7 @@ no_text text isnt = let u = utf8_test text isnt in rw u refl
 
 pub no_target : (text : List ℕ) → IsUtf8 text → is_link text ≡ false → target_of text ≡ Err BadPath
 no_target text utf8 isnt = let u = is_utf8-from_IsUtf8 text utf8 in rw (u, isnt) refl
+
+pub target_read_found : (text : List ℕ) (r : Result (List ℕ) MessageError) → GivesUnlessMemory (λ x. x) r (target_of text) → IfOk r (λ x. IsTarget x × (text ≡ x))
+target_read_found text (Ok x) given = let f = target_found text x given in (f.1, f.0)
+target_read_found text (Err e) given = tt

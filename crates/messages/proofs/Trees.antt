@@ -1,8 +1,8 @@
 -- The message Tree is read from its one encoding.
-use Rattle.std.proofs.Common.{◌≡◌, true, ◌&&◌, List, [], ◌∷◌, ◌++◌, map, Option, Some, None, Ok, refl, ap, subst, ◌∙◌}
-use Rattle.std.specs.Prelude.{IfSome, option_map}
+use Rattle.std.proofs.Common.{◌≡◌, true, ◌&&◌, List, [], ◌∷◌, ◌++◌, map, Option, Some, None, Result, Ok, Err, refl, sym, ap, subst, ◌∙◌}
+use Rattle.std.specs.Prelude.{◌↔◌, IfSome, IfOk, option_map}
 use Rattle.std.specs.List.{list_all}
-use Rattle.std.proofs.lemmas.List.{append-nil}
+use Rattle.std.proofs.lemmas.List.{append-nil, map-append}
 use Rattle.wire.specs.Record.{Record}
 use Rattle.wire.specs.Spelling.{spelling}
 use Rattle.wire.proofs.Steps.{bind_ok, ok_is}
@@ -15,36 +15,42 @@ use Rattle.canonical.proofs.Columns.{Part, joined}
 use Rattle.canonical.proofs.FieldKinds.{message_column, elements_column, message_again, elements_again, message_is, elements_are}
 use Rattle.canonical.proofs.Codec.{IsMessage, codec, codec_as, each_found, each_only, option_found}
 use Rattle.canonical.proofs.Sound.{message_sound, option_sound, elements_sound}
+use Rattle.blob_digest.specs.Digest.{digest_of}
 use Rattle.blob_digest.specs.DigestValue.{DigestValue}
 use Rattle.messages.specs.declared.error.MessageError.{MessageError}
 use Rattle.messages.specs.declared.error.MessageError.TheVariants.{BadTree}
+use Rattle.messages.specs.Gives.{GivesUnlessMemory}
 use Rattle.messages.specs.Told.{told}
 use Rattle.messages.specs.Shapes.{single, repeated}
 use Rattle.messages.specs.DirectoryRules.{DirectoryValue, IsDirectory}
 use Rattle.messages.specs.Directory.{directory_bytes, decoded_directory}
-use Rattle.messages.specs.Tree.{TreeValue, IsTree, AreAmong, named_in, child_digests, is_among, all_among, children_checked, tree_of, required_root, tree_shape, tree_bytes, tree_in, decoded_tree}
+use Rattle.messages.specs.Tree.{TreeValue, IsTree, AreAmong, digests_of, named_in, child_digests, is_among, all_among, children_checked, tree_of, required_root, tree_shape, tree_bytes, tree_in, decoded_tree}
 use Rattle.messages.proofs.Choices.{chosen_ok, and_first, and_second, and_both}
+use Rattle.messages.proofs.DigestSets.{among_found, among_given}
 use Rattle.messages.proofs.DirectoryCodec.{directory_codec, no_texts}
 
 -- ---- the rule of children
 
-among : (digests others : List DigestValue) → all_among digests others ≡ true → AreAmong digests others
-among [] others h = tt
-among (d ∷ digests) others h = (and_first (is_among others d) (list_all (is_among others) digests) h, among digests others (and_second (is_among others d) (list_all (is_among others) digests) h))
+-- each digest is among the others by the test exactly where it stands there
+pub all_among-is : (digests others : List DigestValue) → all_among digests others ≡ true ↔ AreAmong digests others
+all_among-is digests others = (among digests others, among_test digests others) where
+  among : (digests others : List DigestValue) → all_among digests others ≡ true → AreAmong digests others
+  among [] others h = tt
+  among (d ∷ digests) others h = (among_found others d (and_first (is_among others d) (list_all (is_among others) digests) h), among digests others (and_second (is_among others d) (list_all (is_among others) digests) h))
 
-among_test : (digests others : List DigestValue) → AreAmong digests others → all_among digests others ≡ true
-among_test [] others h = refl
-among_test (d ∷ digests) others h = and_both (is_among others d) (list_all (is_among others) digests) h.0 (among_test digests others h.1)
+  among_test : (digests others : List DigestValue) → AreAmong digests others → all_among digests others ≡ true
+  among_test [] others h = refl
+  among_test (d ∷ digests) others h = and_both (is_among others d) (list_all (is_among others) digests) (among_given others d h.0) (among_test digests others h.1)
 
 pub children_there : (named held : List DigestValue) → children_checked named held ≡ Ok tt → AreAmong named held × AreAmong held named
 unfolding children_checked
 children_there named held e =
     let c = chosen_ok {A = Unit {0}} (all_among named held && all_among held named) tt BadTree tt e in
-    (among named held (and_first (all_among named held) (all_among held named) c.0), among held named (and_second (all_among named held) (all_among held named) c.0))
+    ((all_among-is named held).0 (and_first (all_among named held) (all_among held named) c.0), (all_among-is held named).0 (and_second (all_among named held) (all_among held named) c.0))
 
 there_children : (named held : List DigestValue) → AreAmong named held → AreAmong held named → children_checked named held ≡ Ok tt
 unfolding children_checked
-there_children named held a b = let x = among_test named held a in let y = among_test held named b in rw (x, y) refl
+there_children named held a b = let x = (all_among-is named held).1 a in let y = (all_among-is held named).1 b in rw (x, y) refl
 
 tree_found : (t x : TreeValue) → tree_of t ≡ Ok x → AreAmong (named_in t) (child_digests t) × AreAmong (child_digests t) (named_in t) × (t ≡ x)
 unfolding tree_of
@@ -53,9 +59,22 @@ tree_found t x e =
     let c = children_there (named_in t) (child_digests t) a.1 in
     (c.0, c.1, ok_is {E = MessageError} t x a.2)
 
-tree_given : (t : TreeValue) → IsTree t → tree_of t ≡ Ok t
+pub tree_given : (t : TreeValue) → IsTree t → tree_of t ≡ Ok t
 unfolding tree_of
 tree_given t h = let c = there_children (named_in t) (child_digests t) h.held h.named in rw c refl
+
+-- what keeps the rules is answered, unless memory runs out
+pub tree_answered : (t : TreeValue) (r : Result TreeValue MessageError) → GivesUnlessMemory (λ x. x) r (tree_of t) → IsTree t → GivesUnlessMemory (λ x. x) r (Ok t)
+tree_answered t r given h = subst (λ (f : Result TreeValue MessageError). GivesUnlessMemory (λ x. x) r f) (tree_given t h) given
+
+-- what is answered is the tree of the parts
+pub tree_there : (t : TreeValue) (r : Result TreeValue MessageError) → GivesUnlessMemory (λ x. x) r (tree_of t) → IfOk r IsTree → IfOk r (λ x. IsTree x × (x ≡ t))
+tree_there t (Ok x) given h = (h, sym (tree_found t x given).2)
+tree_there t (Err e) given h = tt
+
+-- one more directory, and the digest of its encoding
+pub hashed_more : (directories : List DirectoryValue) (directory : DirectoryValue) (digests : List DigestValue) (digest : DigestValue) → digests ≡ digests_of (map directory_bytes directories) → digest ≡ digest_of (directory_bytes directory) → digests ++ digest ∷ [] ≡ digests_of (map directory_bytes (directories ++ directory ∷ []))
+hashed_more directories directory digests digest e f = rw (e, f) (sym (ap (map digest_of) (map-append directory_bytes directories (directory ∷ [])) ∙ map-append digest_of (map directory_bytes directories) (map directory_bytes (directory ∷ []))))
 
 root_found : (found : Option DirectoryValue) (root : DirectoryValue) → required_root found ≡ Ok root → found ≡ Some root
 root_found None root e = absurd cc

@@ -1,4 +1,5 @@
--- The message Digest of remote_execution.proto: `hash` is the hash in lower-case hex, `size_bytes` the length of the blob.
+-- The message Digest of remote_execution.proto: what names a blob.
+-- Fields: 1 `hash` (string), the hash in lower-case hex; 2 `size_bytes` (int64), the length of the blob.
 use Rattle.std.specs.Prelude.{ℕ, ℤ, pos, negsuc, List, [], ◌∷◌, ◌++◌, Result, Ok, Err, if◌then◌else◌}
 use Rattle.std.specs.List.{list_all}
 use Rattle.hex.specs.Hex.{encode_lower, decode_sized}

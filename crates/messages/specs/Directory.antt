@@ -1,4 +1,5 @@
--- The message Directory of remote_execution.proto.
+-- The message Directory of remote_execution.proto: what stands in a directory.
+-- Fields: 1 `files` (repeated FileNode); 2 `directories` (repeated DirectoryNode); 3 `symlinks` (repeated SymlinkNode).
 use Rattle.std.specs.Prelude.{ℕ, List, [], ◌∷◌, ◌++◌, map, Result}
 use Rattle.wire.specs.Record.{Record}
 use Rattle.wire.specs.Spelling.{spelling}

@@ -1,4 +1,5 @@
 -- The message DirectoryNode of remote_execution.proto: a directory in a directory. Its `name` and its `digest` have to be there.
+-- Fields: 1 `name` (string); 2 `digest` (Digest), that of the encoding of its Directory.
 use Rattle.std.specs.Prelude.{ℕ, List, [], ◌∷◌, ◌++◌, Some, Result, Ok}
 use Rattle.wire.specs.Record.{Record}
 use Rattle.wire.specs.Spelling.{spelling}

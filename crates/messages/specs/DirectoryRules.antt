@@ -15,6 +15,10 @@ pub record DirectoryValue : Type 0 where
   pub directories : List DirectoryNodeValue
   pub symlinks : List SymlinkNodeValue
 
+-- the directory of three lists
+abbrev pub directory_with : List FileNodeValue → List DirectoryNodeValue → List SymlinkNodeValue → DirectoryValue
+directory_with files directories symlinks = record { files = files; directories = directories; symlinks = symlinks }
+
 abbrev pub file_names : List FileNodeValue → List (List ℕ)
 file_names nodes = map (λ n. n.name) nodes
 

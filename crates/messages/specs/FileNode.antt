@@ -1,4 +1,5 @@
 -- The message FileNode of remote_execution.proto: a file in a directory. Its `name` and its `digest` have to be there.
+-- Fields: 1 `name` (string); 2 `digest` (Digest), that of the content; 4 `is_executable` (bool).
 use Rattle.std.specs.Prelude.{ℕ, Bool, List, [], ◌∷◌, ◌++◌, Option, Some, None, Result, Ok, Err}
 use Rattle.wire.specs.Record.{Record}
 use Rattle.wire.specs.Spelling.{spelling}

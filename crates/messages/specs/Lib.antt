@@ -11,6 +11,5 @@ pub mod DirectoryNode
 pub mod SymlinkNode
 pub mod DirectoryRules
 pub mod Directory
-pub mod DigestOrder
 pub mod Tree
 pub mod Node

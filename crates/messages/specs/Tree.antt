@@ -1,7 +1,8 @@
 -- The message Tree of remote_execution.proto: a directory with all directories below it. Its `root` has to be there.
 -- Its `children` are those whose digests a DirectoryNode in it names, in any order, and equal ones may come again.
-use Rattle.std.specs.Prelude.{◌≡◌, ℕ, Bool, true, ◌==◌, ◌&&◌, bytes_eq, List, [], ◌∷◌, ◌++◌, map, Option, Some, None, Result, Ok, Err, if◌then◌else◌}
-use Rattle.std.specs.List.{AllByRecursion, list_any, list_all}
+-- Fields: 1 `root` (Directory); 2 `children` (repeated Directory).
+use Rattle.std.specs.Prelude.{ℕ, Bool, ◌==◌, ◌&&◌, bytes_eq, List, [], ◌∷◌, ◌++◌, map, Option, Some, None, Result, Ok, Err, if◌then◌else◌}
+use Rattle.std.specs.List.{AllByRecursion, Contains, list_any, list_all}
 use Rattle.wire.specs.Record.{Record}
 use Rattle.wire.specs.Spelling.{spelling}
 use Rattle.wire.specs.Steps.{◌>>=◌}
@@ -23,6 +24,10 @@ pub record TreeValue : Type 0 where
   pub root : DirectoryValue
   pub children : List DirectoryValue
 
+-- the tree of a root and children
+abbrev pub tree_with : DirectoryValue → List DirectoryValue → TreeValue
+tree_with root children = record { root = root; children = children }
+
 -- the digests that the DirectoryNodes of the directories name
 abbrev pub node_digests : List DirectoryNodeValue → List DigestValue
 node_digests nodes = map (λ n. n.digest) nodes
@@ -41,18 +46,11 @@ digests_of blobs = map digest_of blobs
 abbrev pub child_digests : TreeValue → List DigestValue
 child_digests t = digests_of (map directory_bytes t.children)
 
-abbrev pub same_digest : DigestValue → DigestValue → Bool
-same_digest d e = bytes_eq d.hash e.hash && (d.size == e.size)
-
--- whether the digest is one of the list
-abbrev pub is_among : List DigestValue → DigestValue → Bool
-is_among digests d = list_any (λ e. same_digest e d) digests
-
 -- each digest of the first list is one of the second
 abbrev pub AreAmong : List DigestValue → List DigestValue → Type 0
-AreAmong digests others = AllByRecursion (λ d. is_among others d ≡ true) digests
+AreAmong digests others = AllByRecursion (Contains others) digests
 
--- every digest that is named is a child's, and every child's is named
+-- each digest that a DirectoryNode of it names is a child's, and each child's digest is named so
 pub record IsTree (t : TreeValue) : Type 0 where
   pub root : IsDirectory t.root
   pub children : AllByRecursion IsDirectory t.children
@@ -68,6 +66,13 @@ tree_bytes t = spelling (message_field 1 (Some (directory_bytes t.root)) ++ elem
 
 -- ---- what bytes say, or the first refusal: the shape, the directories in the order of the bytes, whether the root
 -- is there, the rule of children
+
+abbrev pub same_digest : DigestValue → DigestValue → Bool
+same_digest d e = bytes_eq d.hash e.hash && (d.size == e.size)
+
+-- whether the digest is one of the list
+abbrev pub is_among : List DigestValue → DigestValue → Bool
+is_among digests d = list_any (λ e. same_digest e d) digests
 
 abbrev pub all_among : List DigestValue → List DigestValue → Bool
 all_among digests others = list_all (is_among others) digests

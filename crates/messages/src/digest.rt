@@ -55,7 +55,8 @@ impl<A: Allocator + Copy> Message<A> for Digest {
 /// The digest whose canonical encoding the bytes are. Refusals: 31, 36, then 39.
 pub fn decode_digest<A: Allocator + Copy>(alloc: A, bytes: &[u8]) -> Result<Digest, MessageError>
     ensures found { IfOk result (λ digest. IsDigest digest × (bytes.now ≡ digest_bytes digest)) }
-    ensures only { (digest : DigestValue) → IsDigest digest → bytes.now ≡ digest_bytes digest → GivesUnlessMemory (λ d. d) result (Ok digest) }
+    ensures only { (digest : DigestValue) → IsDigest digest → bytes.now ≡ digest_bytes digest
+        → GivesUnlessMemory (λ d. d) result (Ok digest) }
     // Which refusal comes first.
     ensures exact { GivesUnlessMemory (λ d. d) result (decoded_digest bytes.now) }
 {

@@ -1,12 +1,13 @@
-ghost use Rattle.std.specs.Prelude.{◌≡◌, ◌↔◌, IsOk, IfOk, OnOk, Ok};
+ghost use Rattle.std.specs.Prelude.{◌≡◌, ◌↔◌, IsOk, IfOk, OnOk, Ok, Option};
 ghost use Rattle.std.specs.List.{AllByRecursion};
 ghost use Rattle.wire.specs.Steps.{Gives};
 ghost use Rattle.messages.specs.FileNode.{IsFileNode};
 ghost use Rattle.messages.specs.DirectoryNode.{IsDirectoryNode};
 ghost use Rattle.messages.specs.SymlinkNode.{IsSymlinkNode};
 ghost use Rattle.messages.specs.Gives.{GivesUnlessMemory};
-ghost use Rattle.messages.specs.DirectoryRules.{DirectoryValue, IsDirectory, AreNames, file_names, directory_names, symlink_names, names_ordered, directory_of};
-ghost use Rattle.messages.specs.Node.{child};
+ghost use Rattle.messages.specs.DirectoryRules.{DirectoryValue, IsDirectory, AreNames, file_names, directory_names, symlink_names, names_ordered, directory_with, directory_of};
+ghost use Rattle.messages.specs.declared.node.Node.{Node};
+ghost use Rattle.messages.specs.Node.{IsChild, child};
 ghost use Rattle.messages.specs.Directory.{directory_bytes, decoded_directory};
 
 use crate::error::MessageError;
@@ -45,7 +46,9 @@ fn check_names<A: Allocator>(
     directories: &[DirectoryNode<A>],
     symlinks: &[SymlinkNode<A>],
 ) -> Result<(), MessageError>
-    ensures exact { Gives (λ x. x) result (names_ordered (file_names files.now) (directory_names directories.now) (symlink_names symlinks.now)) }
+    ensures exact { Gives (λ x. x) result
+        (names_ordered (file_names files.now) (directory_names directories.now)
+        (symlink_names symlinks.now)) }
     ensures files { OnOk result (AllByRecursion IsFileNode files.now) }
     ensures directories { OnOk result (AllByRecursion IsDirectoryNode directories.now) }
     ensures symlinks { OnOk result (AllByRecursion IsSymlinkNode symlinks.now) }
@@ -71,8 +74,11 @@ impl<A: Allocator> Directory<A> {
         directories: Vec<DirectoryNode<A>, A>,
         symlinks: Vec<SymlinkNode<A>, A>,
     ) -> Result<Directory<A>, MessageError>
-        ensures some { IsOk result ↔ AreNames (file_names files.items) (directory_names directories.items) (symlink_names symlinks.items) }
-        ensures exact { Gives (λ d. d) result (directory_of (record { files = files.items; directories = directories.items; symlinks = symlinks.items })) }
+        ensures some { IsOk result
+            ↔ AreNames (file_names files.items) (directory_names directories.items)
+            (symlink_names symlinks.items) }
+        ensures exact { Gives (λ d. d) result
+            (directory_of (directory_with files.items directories.items symlinks.items)) }
     {
         check_names(&files, &directories, &symlinks)?;
         Ok(Directory {
@@ -87,7 +93,7 @@ impl<A: Allocator> Directory<A> {
         ensures value { result.now ≡ self.now.files }
         ensures lawful { IsDirectory self.now }
     {
-        &self.files
+        self.files.as_slice()
     }
 
     /// The directories, by name.
@@ -95,7 +101,7 @@ impl<A: Allocator> Directory<A> {
         ensures value { result.now ≡ self.now.directories }
         ensures lawful { IsDirectory self.now }
     {
-        &self.directories
+        self.directories.as_slice()
     }
 
     /// The symbolic links, by name.
@@ -103,7 +109,7 @@ impl<A: Allocator> Directory<A> {
         ensures value { result.now ≡ self.now.symlinks }
         ensures lawful { IsDirectory self.now }
     {
-        &self.symlinks
+        self.symlinks.as_slice()
     }
 }
 
@@ -143,16 +149,28 @@ impl<A: Allocator + Copy> Directory<A> {
     /// 35), the order of each list (33, 34), and children of two kinds with one name (34).
     pub fn decode(alloc: A, bytes: &[u8]) -> Result<Directory<A>, MessageError>
         ensures found { IfOk result (λ d. IsDirectory d × (bytes.now ≡ directory_bytes d)) }
-        ensures only { (d : DirectoryValue) → IsDirectory d → bytes.now ≡ directory_bytes d → GivesUnlessMemory (λ x. x) result (Ok d) }
+        ensures only { (d : DirectoryValue) → IsDirectory d → bytes.now ≡ directory_bytes d
+            → GivesUnlessMemory (λ x. x) result (Ok d) }
         // Which refusal comes first.
         ensures exact { GivesUnlessMemory (λ d. d) result (decoded_directory bytes.now) }
     {
         decode(alloc, bytes)
     }
 
-    /// The child of this name.
+    /// The child of this name. Each list is searched by halves.
     pub fn child(&self, alloc: A, name: &[u8]) -> Result<Option<Node<A>>, AllocError>
-        ensures { IfOk result (λ node. node ≡ child name.now self.now) }
+        // What is answered stands under the name, and nothing else does.
+        ensures found { IfOk result (λ node. IsChild name.now self.now node) }
+        ensures only { (node : Option (Node A)) → IsChild name.now self.now node
+            → IfOk result (λ answer. answer ≡ node) }
+        ensures exact { IfOk result (λ node. node ≡ child name.now self.now) }
+    {
+        self.find_child(alloc, name)
+    }
+
+    fn find_child(&self, alloc: A, name: &[u8]) -> Result<Option<Node<A>>, AllocError>
+        ensures exact { IfOk result (λ node. node ≡ child name.now self.now) }
+        ensures lawful { IsDirectory self.now }
     {
         if let Some(file) = find_named(&self.files, name) {
             return Ok(Some(Node::File {
@@ -176,7 +194,7 @@ impl<A: Allocator + Copy> Directory<A> {
         ensures bytes { IfOk result (λ bytes. bytes.items ≡ directory_bytes self.now) }
         ensures lawful { IsDirectory self.now }
     {
-        let _ = &self.files;
+        let _ = self.files();
         self.write(alloc)
     }
 }

@@ -43,7 +43,8 @@ pub fn read_fields<'a, A: Allocator>(
     shape: &Shape<'_>,
     bytes: &'a [u8],
 ) -> Result<Vec<Field<'a>, A>, MessageError>
-    ensures { GivesUnlessMemory (λ v. records_of v.items) result (shape_checked shape.now bytes.now) }
+    ensures { GivesUnlessMemory (λ v. records_of v.items) result
+        (shape_checked shape.now bytes.now) }
 {
     Ok(check(alloc, shape, bytes)?)
 }
@@ -67,7 +68,8 @@ pub fn read_optional<A: Allocator + Copy, M: Message<A>>(
     alloc: A,
     bytes: Option<&[u8]>,
 ) -> Result<Option<M>, MessageError>
-    ensures { GivesUnlessMemory (λ m. m) result (in_option M.reads (option_map (λ x. x.now) bytes.entry)) }
+    ensures { GivesUnlessMemory (λ m. m) result
+        (in_option M.reads (option_map (λ x. x.now) bytes.entry)) }
 {
     match bytes {
         Some(bytes) => Ok(Some(M::read(alloc, bytes)?)),
@@ -84,7 +86,8 @@ pub fn write_each<A: Allocator + Copy, M: Message<A>>(
 ) -> Result<(), AllocError>
     requires at_least { 1 ≤ number }
     requires at_most { number ≤ 536870911 }
-    ensures { OnOk result (out.new.items ≡ out.old.items ++ spelling (element_fields number (map M.spells messages.now))) }
+    ensures { OnOk result (out.new.items ≡ out.old.items
+        ++ spelling (element_fields number (map M.spells messages.now))) }
 {
     for message in messages {
         write_element(out, number, &message.write(alloc)?)?;
@@ -97,7 +100,8 @@ pub fn decode<A: Allocator + Copy, M: Message<A>>(alloc: A, bytes: &[u8]) -> Res
     // The bytes are the canonical text of what is answered.
     ensures found { IfOk result (λ m. M.keeps m × (bytes.now ≡ M.spells m)) }
     // What the bytes are the canonical text of is answered, unless memory runs out.
-    ensures only { (m : M) → M.keeps m → bytes.now ≡ M.spells m → GivesUnlessMemory (λ x. x) result (Ok m) }
+    ensures only { (m : M) → M.keeps m → bytes.now ≡ M.spells m
+        → GivesUnlessMemory (λ x. x) result (Ok m) }
     // Which refusal comes first.
     ensures exact { GivesUnlessMemory (λ m. m) result (M.reads bytes.now) }
 {
@@ -110,7 +114,8 @@ ghost use Rattle.std.specs.Prelude.{Ok};
 /// No bytes are the canonical encoding of two values. (That no value has two is said by the
 /// encoding's being a function.) It does nothing.
 pub fn encodes_one_value<A: Allocator, M: Message<A>>()
-    ensures { (bytes : List ℕ) (a b : M) → AreBytes bytes → M.keeps a → M.keeps b → bytes ≡ M.spells a → bytes ≡ M.spells b → a ≡ b }
+    ensures { (bytes : List ℕ) (a b : M) → AreBytes bytes → M.keeps a → M.keeps b
+        → bytes ≡ M.spells a → bytes ≡ M.spells b → a ≡ b }
 {
-    M::is_exact();
+    <M as Message<A>>::is_exact();
 }

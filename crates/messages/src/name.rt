@@ -1,4 +1,4 @@
-ghost use Rattle.std.specs.Prelude.{◌≡◌, ◌↔◌, IsTrue, IfOk};
+ghost use Rattle.std.specs.Prelude.{◌≡◌, ◌↔◌, IsTrue, IfOk, Ok};
 ghost use Rattle.messages.specs.Gives.{GivesUnlessMemory};
 ghost use Rattle.messages.specs.Name.{is_dots, is_segment, IsSegment, IsName, name_of};
 
@@ -110,17 +110,25 @@ pub fn is_name(text: &str) -> bool
     is_segment(text.as_bytes())
 }
 
+fn read_name<A: Allocator>(alloc: A, text: &[u8]) -> Result<Name<A>, MessageError>
+    ensures { GivesUnlessMemory (λ n. n) result (name_of text.now) }
+{
+    match str::from_utf8(text) {
+        Ok(text) if is_segment(text.as_bytes()) => Ok(Name {
+            text: String::from_str(alloc, text)?,
+        }),
+        _ => Err(MessageError::BadName),
+    }
+}
+
 impl<A: Allocator> Name<A> {
     /// The name of these bytes. Refusal 32 where they are none.
     pub fn new(alloc: A, text: &[u8]) -> Result<Name<A>, MessageError>
-        ensures { GivesUnlessMemory (λ n. n) result (name_of text.now) }
+        ensures found { IfOk result (λ name. IsName name × (text.now ≡ name)) }
+        ensures only { IsName text.now → GivesUnlessMemory (λ n. n) result (Ok text.now) }
+        ensures exact { GivesUnlessMemory (λ n. n) result (name_of text.now) }
     {
-        match str::from_utf8(text) {
-            Ok(text) if is_segment(text.as_bytes()) => Ok(Name {
-                text: String::from_str(alloc, text)?,
-            }),
-            _ => Err(MessageError::BadName),
-        }
+        read_name(alloc, text)
     }
 
     /// The name of a text that is one.
@@ -155,6 +163,6 @@ impl<A: Allocator> Name<A> {
         ensures value { result.now ≡ self.now }
         ensures lawful { IsName self.now }
     {
-        self.text.as_bytes()
+        self.as_str().as_bytes()
     }
 }

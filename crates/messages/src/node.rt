@@ -83,7 +83,8 @@ fn required_digest<A: Allocator + Copy>(
     alloc: A,
     bytes: Option<&[u8]>,
 ) -> Result<Digest, MessageError>
-    ensures { GivesUnlessMemory (λ d. d) result (required_digest (option_map (λ x. x.now) bytes.entry)) }
+    ensures { GivesUnlessMemory (λ d. d) result
+        (required_digest (option_map (λ x. x.now) bytes.entry)) }
 {
     match bytes {
         Some(bytes) => Digest::read(alloc, bytes),

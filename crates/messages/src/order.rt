@@ -59,13 +59,20 @@ pub fn share_a_name<N: Named, M: Named>(nodes: &[N], others: &[M]) -> bool
     false
 }
 
-/// The first element of this name.
+/// The element of this name, of a list in the order of names: at each step half of what is left is
+/// put aside.
 pub fn find_named<'a, N: Named>(nodes: &'a [N], name: &[u8]) -> Option<&'a N>
+    requires { IsAscending (map N.name_in nodes.now) }
     ensures { option_copied result ≡ find (λ n. is_same (N.name_in n) name.now) nodes.now }
 {
-    for node in nodes {
-        if node.name() == name {
-            return Some(node);
+    let mut rest = nodes;
+    while !rest.is_empty() {
+        let (before, after) = rest.split_at(rest.len() / 2);
+        let middle = &after[0];
+        match middle.name().cmp(name) {
+            Ordering::Less => rest = &after[1..],
+            Ordering::Greater => rest = before,
+            Ordering::Equal => return Some(middle),
         }
     }
     None

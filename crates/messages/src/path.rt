@@ -69,7 +69,8 @@ impl<A: Allocator> Path<A> {
     /// The path of this text. Refusal 35 where it is none.
     pub fn new(alloc: A, text: &[u8]) -> Result<Path<A>, MessageError>
         ensures found { IfOk result (λ path. IsPath path × (text.now ≡ path_text path)) }
-        ensures only { (path : List (List ℕ)) → IsPath path → text.now ≡ path_text path → GivesUnlessMemory (λ p. p) result (Ok path) }
+        ensures only { (path : List (List ℕ)) → IsPath path → text.now ≡ path_text path
+            → GivesUnlessMemory (λ p. p) result (Ok path) }
         ensures exact { GivesUnlessMemory (λ p. p) result (path_of text.now) }
     {
         read_path(alloc, text)

@@ -1,4 +1,4 @@
-ghost use Rattle.std.specs.Prelude.{◌≡◌, ◌↔◌, IsTrue, IfOk};
+ghost use Rattle.std.specs.Prelude.{◌≡◌, ◌↔◌, IsTrue, IfOk, Ok};
 ghost use Rattle.messages.specs.Gives.{GivesUnlessMemory};
 ghost use Rattle.messages.specs.Target.{is_link, IsTarget, target_of};
 
@@ -62,17 +62,25 @@ pub fn is_target(text: &str) -> bool
     is_link(text.as_bytes())
 }
 
+fn read_target<A: Allocator>(alloc: A, text: &[u8]) -> Result<Target<A>, MessageError>
+    ensures { GivesUnlessMemory (λ n. n) result (target_of text.now) }
+{
+    match str::from_utf8(text) {
+        Ok(text) if is_link(text.as_bytes()) => Ok(Target {
+            text: String::from_str(alloc, text)?,
+        }),
+        _ => Err(MessageError::BadPath),
+    }
+}
+
 impl<A: Allocator> Target<A> {
     /// The target of these bytes. Refusal 35 where they are none.
     pub fn new(alloc: A, text: &[u8]) -> Result<Target<A>, MessageError>
-        ensures { GivesUnlessMemory (λ n. n) result (target_of text.now) }
+        ensures found { IfOk result (λ target. IsTarget target × (text.now ≡ target)) }
+        ensures only { IsTarget text.now → GivesUnlessMemory (λ n. n) result (Ok text.now) }
+        ensures exact { GivesUnlessMemory (λ n. n) result (target_of text.now) }
     {
-        match str::from_utf8(text) {
-            Ok(text) if is_link(text.as_bytes()) => Ok(Target {
-                text: String::from_str(alloc, text)?,
-            }),
-            _ => Err(MessageError::BadPath),
-        }
+        read_target(alloc, text)
     }
 
     /// The same target, over another allocator.
@@ -97,6 +105,6 @@ impl<A: Allocator> Target<A> {
         ensures value { result.now ≡ self.now }
         ensures lawful { IsTarget self.now }
     {
-        self.text.as_bytes()
+        self.as_str().as_bytes()
     }
 }

@@ -1,16 +1,18 @@
-ghost use Rattle.std.specs.Prelude.{◌≡◌, ℕ, Bool, ◌∷◌, ◌++◌, map, IfOk, OnOk, Ok};
+ghost use Rattle.std.specs.Prelude.{◌≡◌, ◌∷◌, ◌++◌, map, IfOk, OnOk, Ok};
 ghost use Rattle.std.specs.List.{AllByRecursion};
 ghost use Rattle.std.specs.BTreeSet.{contains};
+ghost use Rattle.canonical.specs.Told.{each};
+ghost use Rattle.canonical.specs.View.{slices};
 ghost use Rattle.blob_digest.specs.DigestValue.{DigestValue};
 ghost use Rattle.messages.specs.Gives.{GivesUnlessMemory};
 ghost use Rattle.messages.specs.DirectoryRules.{IsDirectory};
-ghost use Rattle.messages.specs.Directory.{directory_bytes};
-ghost use Rattle.messages.specs.Tree.{TreeValue, IsTree, node_digests, named_by, digests_of, child_digests, is_among, all_among, children_checked, tree_of, tree_bytes, decoded_tree};
-ghost use Rattle.messages.specs.DigestOrder.{digest_cmp};
+ghost use Rattle.messages.specs.Directory.{directory_bytes, decoded_directory};
+ghost use Rattle.messages.specs.Tree.{TreeValue, IsTree, tree_with, node_digests, named_by, digests_of, child_digests, is_among, all_among, children_checked, tree_of, tree_bytes, decoded_tree};
+ghost use Rattle.blob_digest.specs.Digest.{digest_cmp, digest_of};
 
 use crate::directory::Directory;
 use crate::error::MessageError;
-use crate::message::{Message, decode, read_each, read_fields, read_optional, write_each};
+use crate::message::{Message, decode, read_fields, read_optional, write_each};
 use crate::node::DirectoryNode;
 use crate::shapes::tree_shape;
 use blob_digest::Digest;
@@ -96,12 +98,55 @@ fn hash_directories<A: Allocator + Copy>(
     Ok(digests)
 }
 
+/// Directories, and the digest of the encoding of each.
+#[derive(Drop)]
+struct Hashed<A: Allocator> {
+    directories: Vec<Directory<A>, A>,
+    digests: Vec<Digest, A>,
+}
+
+/// The directory whose encoding the bytes are, and the digest of the bytes.
+fn read_hashed<A: Allocator + Copy>(
+    alloc: A,
+    bytes: &[u8],
+) -> Result<(Directory<A>, Digest), MessageError>
+    ensures directory { GivesUnlessMemory (λ x. x.0) result (decoded_directory bytes.now) }
+    ensures digest { IfOk result (λ x. x.1 ≡ digest_of (directory_bytes x.0)) }
+{
+    let directory = Directory::decode(alloc, bytes)?;
+    Ok((directory, Digest::of(bytes)))
+}
+
+/// The directories whose encodings the elements are, and the digests of the elements.
+fn read_each_hashed<A: Allocator + Copy>(
+    alloc: A,
+    elements: &[&[u8]],
+) -> Result<Hashed<A>, MessageError>
+    ensures directories { GivesUnlessMemory (λ x. x.directories.items) result
+        (each decoded_directory (slices elements.now)) }
+    ensures digests { IfOk result (λ x. x.digests.items
+        ≡ digests_of (map directory_bytes x.directories.items)) }
+{
+    let mut directories = Vec::new(alloc);
+    let mut digests = Vec::new(alloc);
+    for bytes in elements {
+        let (directory, digest) = read_hashed(alloc, bytes)?;
+        directories.push(directory)?;
+        digests.push(digest)?;
+    }
+    Ok(Hashed {
+        directories,
+        digests,
+    })
+}
+
 /// The digests, as a set.
 fn digest_set<A: Allocator + Copy>(
     alloc: A,
     digests: &[Digest],
 ) -> Result<BTreeSet<Digest, A>, AllocError>
-    ensures { IfOk result (λ set. (d : DigestValue) → contains digest_cmp set d ≡ is_among digests.now d) }
+    ensures { IfOk result (λ set. (d : DigestValue) → contains digest_cmp set d
+        ≡ is_among digests.now d) }
 {
     let mut set = BTreeSet::new(alloc);
     for digest in digests {
@@ -144,34 +189,41 @@ fn check_children<A: Allocator + Copy>(
     }
 }
 
-/// Whether the children are those that are named. Each is hashed once.
-fn check_tree<A: Allocator + Copy>(
+/// The tree of this root and these children, whose digests are passed too.
+#[tactic(auto, unfolding(crate::specs::Tree::tree_of))]
+fn checked_tree<A: Allocator + Copy>(
     alloc: A,
-    root: &Directory<A>,
-    children: &[Directory<A>],
-) -> Result<(), MessageError>
-    ensures exact { GivesUnlessMemory (λ x. x) result (children_checked (named_by (root.now ∷ children.now)) (digests_of (map directory_bytes children.now))) }
-    ensures root { OnOk result (IsDirectory root.now) }
-    ensures children { OnOk result (AllByRecursion IsDirectory children.now) }
+    root: Directory<A>,
+    children: Vec<Directory<A>, A>,
+    digests: &[Digest],
+) -> Result<Tree<A>, MessageError>
+    requires { digests.now ≡ digests_of (map directory_bytes children.items) }
+    ensures exact { GivesUnlessMemory (λ t. t) result (tree_of (tree_with root children.items)) }
+    ensures lawful { IfOk result IsTree }
 {
-    let held = hash_directories(alloc, children)?;
-    let named = named_digests(alloc, root, children)?;
-    check_children(alloc, &named, &held)
+    let named = named_digests(alloc, &root, &children)?;
+    check_children(alloc, &named, digests)?;
+    Ok(Tree { root, children })
 }
 
 impl<A: Allocator + Copy> Tree<A> {
     /// The tree of this root and these children. Refusal 38 where the children are not those that
     /// are named. Each child is hashed once.
-    #[tactic(auto, unfolding(crate::specs::Tree::tree_of))]
     pub fn new(
         alloc: A,
         root: Directory<A>,
         children: Vec<Directory<A>, A>,
     ) -> Result<Tree<A>, MessageError>
-        ensures { GivesUnlessMemory (λ t. t) result (tree_of (record { root = root; children = children.items })) }
+        // The tree is that of the parts, and keeps the rule of children; where they keep it, no
+        // refusal comes.
+        ensures found { IfOk result (λ tree. IsTree tree × (tree ≡ tree_with root children.items)) }
+        ensures only { IsTree (tree_with root children.items)
+            → GivesUnlessMemory (λ t. t) result (Ok (tree_with root children.items)) }
+        ensures exact { GivesUnlessMemory (λ t. t) result
+            (tree_of (tree_with root children.items)) }
     {
-        check_tree(alloc, &root, &children)?;
-        Ok(Tree { root, children })
+        let digests = hash_directories(alloc, &children)?;
+        checked_tree(alloc, root, children, &digests)
     }
 }
 
@@ -189,7 +241,7 @@ impl<A: Allocator> Tree<A> {
         ensures value { result.now ≡ self.now.children }
         ensures lawful { IsTree self.now }
     {
-        &self.children
+        self.children.as_slice()
     }
 }
 
@@ -218,13 +270,17 @@ impl<A: Allocator + Copy> Message<A> for Tree<A> {
     fn read(alloc: A, bytes: &[u8]) -> Result<Tree<A>, MessageError> {
         let fields = read_fields(alloc, &tree_shape(), bytes)?;
         let root = read_optional(alloc, read_message(&fields, 1))?;
-        let children = read_each(alloc, &read_elements(alloc, &fields, 2)?)?;
-        Tree::new(alloc, required_root(root)?, children)
+        let Hashed {
+            directories,
+            digests,
+        } = read_each_hashed(alloc, &read_elements(alloc, &fields, 2)?)?;
+        checked_tree(alloc, required_root(root)?, directories, &digests)
     }
 
     fn write(&self, alloc: A) -> Result<Vec<u8, A>, AllocError> {
         let mut out = Vec::new(alloc);
-        write_message(&mut out, 1, Some(&self.root.write(alloc)?))?;
+        let root = self.root.write(alloc)?;
+        write_message(&mut out, 1, Some(&root))?;
         write_each(alloc, &mut out, 2, &self.children)?;
         Ok(out)
     }
@@ -236,7 +292,8 @@ impl<A: Allocator + Copy> Tree<A> {
     /// the rule of children (38).
     pub fn decode(alloc: A, bytes: &[u8]) -> Result<Tree<A>, MessageError>
         ensures found { IfOk result (λ t. IsTree t × (bytes.now ≡ tree_bytes t)) }
-        ensures only { (t : TreeValue) → IsTree t → bytes.now ≡ tree_bytes t → GivesUnlessMemory (λ x. x) result (Ok t) }
+        ensures only { (t : TreeValue) → IsTree t → bytes.now ≡ tree_bytes t
+            → GivesUnlessMemory (λ x. x) result (Ok t) }
         // Which refusal comes first.
         ensures exact { GivesUnlessMemory (λ t. t) result (decoded_tree bytes.now) }
     {
@@ -248,7 +305,7 @@ impl<A: Allocator + Copy> Tree<A> {
         ensures bytes { IfOk result (λ bytes. bytes.items ≡ tree_bytes self.now) }
         ensures lawful { IsTree self.now }
     {
-        let _ = &self.root;
+        let _ = self.root();
         self.write(alloc)
     }
 }

@@ -1,7 +1,7 @@
 use Rattle.std.proofs.Common.{◌≡◌, ◌+◌, ◌∷◌, ◌||◌, drop, sym, ap, ◌∙◌}
 use Rattle.std.proofs.lemmas.List.{drop_more}
 use Rattle.std.specs.BTreeSet.{contains}
-use Rattle.messages.specs.DigestOrder.{digest_cmp}
+use Rattle.blob_digest.specs.Digest.{digest_cmp}
 use Rattle.messages.specs.Tree.{is_among}
 use Rattle.messages.proofs.DigestSets.{set_step}
 use Rattle.messages.proofs.tree.digest_set.Goals as goal

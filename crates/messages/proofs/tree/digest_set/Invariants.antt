@@ -1,7 +1,7 @@
 use Rattle.std.proofs.Common.{◌≡◌, ◌||◌, drop}
 use Rattle.std.specs.BTreeSet.{contains}
 use Rattle.blob_digest.specs.DigestValue.{DigestValue}
-use Rattle.messages.specs.DigestOrder.{digest_cmp}
+use Rattle.blob_digest.specs.Digest.{digest_cmp}
 use Rattle.messages.specs.Tree.{is_among}
 use Rattle.messages.proofs.tree.digest_set.Given as goal
 

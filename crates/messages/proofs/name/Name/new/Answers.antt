@@ -1,26 +1,10 @@
-use Rattle.std.proofs.Common.{Ok, subst, sym, ap, ◌∙◌}
-use Rattle.messages.specs.Name.{IsName, is_segment}
-use Rattle.messages.proofs.Names.{name_lawful, name_given, no_text, no_name}
+use Rattle.std.proofs.Common.{subst}
+use Rattle.messages.specs.Gives.{GivesUnlessMemory}
+use Rattle.messages.proofs.Names.{name_given, name_read_found}
 use Rattle.messages.proofs.name.Name.new.Goals as goal
-use Rattle.messages.proofs.name.Name.new.Goals.{in_default-via-in-Ok+else-is_segment, in_default-via-in_default}
 
-pub returns-in_ok-from_str-in-Ok : goal.returns-in_ok-from_str-in-Ok
-returns-in_ok-from_str-in-Ok g c =
-    let e = c.in-Ok.ensures.cases in
-    let test = ap is_segment (sym e.0 ∙ sym c.as_bytes.ensures.value) ∙ sym c.is_segment.ensures ∙ c.if-is_segment.true in
-    name_given c.args.text.now (name_lawful c.args.text.now e.1 test) ∙ ap Ok (sym e.0 ∙ sym c.in_ok-from_str-in-Ok.ensures.ok)
+pub returns-clause-found : goal.returns-clause-found
+returns-clause-found g c = name_read_found c.args.text.now c.read_name.result c.read_name.ensures
 
-pub returns-in_default : goal.returns-in_default
-returns-in_default g c =
-    elim c.in_default.branch [
-      | in_default-via-in-Ok+else-is_segment w ↦
-          let e = w.in-Ok.ensures.cases in
-          no_name c.args.text.now e.1 (ap is_segment (sym e.0 ∙ sym w.as_bytes.ensures.value) ∙ sym w.is_segment.ensures ∙ w.if-is_segment.false)
-      | in_default-via-in_default w ↦ no_text c.args.text.now w.in_default.ensures.cases.0
-    ]
-
-pub invariant_of-result : goal.invariant_of-result
-invariant_of-result g c =
-    let e = c.in-Ok.ensures.cases in
-    let test = ap is_segment (sym e.0 ∙ sym c.as_bytes.ensures.value) ∙ sym c.is_segment.ensures ∙ c.if-is_segment.true in
-    subst IsName (sym e.0 ∙ sym c.in_ok-from_str-in-Ok.ensures.ok) (name_lawful c.args.text.now e.1 test)
+pub returns-clause-only : goal.returns-clause-only
+returns-clause-only g c = λ is. subst (λ f. GivesUnlessMemory (λ x. x) c.read_name.result f) (name_given c.args.text.now is) c.read_name.ensures
