@@ -3,7 +3,7 @@ ghost use Rattle.std.specs.List.{AllByRecursion};
 ghost use Rattle.tree.specs.Graft.{IsApart, HaveApartTargets};
 ghost use Rattle.tree.specs.Lines.{lines_of};
 
-use super::{Broken, EMPTY, NINE, joined};
+use super::{Broken, EMPTY, NINE};
 use crate::{Node, graft};
 use blob_digest::Digest;
 use messages::{Path, Target};
@@ -79,86 +79,107 @@ fn are_apart<A: Allocator>(lines: &[(Path<A>, Node<A>)]) -> bool
     }
 }
 
-/// Whether the graft of the lines has these Directories, in this order, and the first's digest.
-fn grafts<A: Allocator + Copy>(
+/// Three pieces, one after another.
+fn pieces<A: Allocator + Copy>(
     alloc: A,
-    lines: &[(&[u8], Put)],
-    expected: &[&[u8]],
-) -> Result<bool, Broken> {
-    let mut values = Vec::new(alloc);
-    for (target, put) in lines {
-        values.push((Path::new(alloc, target)?, node(alloc, *put)?))?;
-    }
-    if !are_apart(&values) {
-        return Err(Broken::Refused);
-    }
-    let folded = graft(alloc, &values)?;
-    let mut same = folded.directories.len() == expected.len();
-    for (directory, bytes) in folded.directories.iter().zip(expected) {
-        same = same && directory.as_slice() == *bytes;
-    }
-    Ok(same && expected.first().map(|top| Digest::of(top)) == Some(folded.root))
+    first: &[u8],
+    second: &[u8],
+    third: &[u8],
+) -> Result<Vec<u8, A>, Broken> {
+    let mut bytes = Vec::from_slice(alloc, first)?;
+    bytes.extend_from_slice(second)?;
+    bytes.extend_from_slice(third)?;
+    Ok(bytes)
 }
 
-fn row<A: Allocator + Copy>(alloc: A, number: usize) -> Result<bool, Broken> {
-    let nine = joined(alloc, &[b"\x12\x44\x0a\x40", NINE, b"\x10\x09"])?;
-    let file = joined(alloc, &[b"\x0a\x49\x0a\x01f", &nine])?;
-    let hash = Digest::of(&file).hash_text();
-    let below = joined(alloc, &[b"\x12\x44\x0a\x40", &hash, b"\x10\x4b"])?;
-    let p = joined(
+/// A Directory of one file, `f`, and the digest of it as a message in a node.
+fn alike<A: Allocator + Copy>(alloc: A) -> Result<(Vec<u8, A>, Vec<u8, A>), Broken> {
+    let file = pieces(
         alloc,
-        &[
-            b"\x12\x49\x0a\x01a",
-            &below,
-            b"\x12\x49\x0a\x01q",
-            &below,
-            b"\x1a\x08\x0a\x03a-b\x12\x01t",
-        ],
+        b"\x0a\x49\x0a\x01f\x12\x44\x0a\x40",
+        NINE,
+        b"\x10\x09",
     )?;
-    let q = joined(alloc, &[b"\x12\x49\x0a\x01q", &below])?;
-    let lines = LINES[number];
+    let hash = Digest::of(&file).hash_text();
+    let digest = pieces(alloc, b"\x12\x44\x0a\x40", &hash, b"\x10\x4b")?;
+    Ok((file, digest))
+}
+
+/// The Directories of a row's graft, as protoc encodes them, in the order of a visit.
+fn expected<A: Allocator + Copy>(alloc: A, number: usize) -> Result<Vec<Vec<u8, A>, A>, Broken> {
+    let mut directories = Vec::new(alloc);
+    let (file, digest) = alike(alloc)?;
     match number {
-        0 => grafts(alloc, lines, &[b""]),
-        1 => {
-            let top = joined(alloc, &[b"\x0a\x49\x0a\x01b", &nine])?;
-            grafts(alloc, lines, &[&top])
-        }
-        2 => {
-            let top = joined(alloc, &[b"\x12\x47\x0a\x01d\x12\x42\x0a\x40", EMPTY])?;
-            grafts(alloc, lines, &[&top])
-        }
-        3 => {
-            let top = joined(
-                alloc,
-                &[
-                    b"\x0a\x4b\x0a\x01a",
-                    &nine,
-                    b"\x20\x01\x0a\x49\x0a\x01z",
-                    &nine,
-                    b"\x12\x47\x0a\x01x\x12\x42\x0a\x40",
-                    EMPTY,
-                    b"\x1a\x06\x0a\x01l\x12\x01t",
-                ],
-            )?;
-            grafts(alloc, lines, &[&top])
-        }
+        0 => directories.push(Vec::new(alloc))?,
+        1 => directories.push(pieces(
+            alloc,
+            b"\x0a\x49\x0a\x01b\x12\x44\x0a\x40",
+            NINE,
+            b"\x10\x09",
+        )?)?,
+        2 => directories.push(pieces(alloc, b"\x12\x47\x0a\x01d\x12\x42\x0a\x40", EMPTY, b"")?)?,
+        3 => directories.push(mixed(alloc)?)?,
         4 => {
-            let hash = Digest::of(&p).hash_text();
-            let top = joined(
+            let mut middle = pieces(alloc, b"\x12\x49\x0a\x01a", &digest, b"\x12\x49\x0a\x01q")?;
+            middle.extend_from_slice(&digest)?;
+            middle.extend_from_slice(b"\x1a\x08\x0a\x03a-b\x12\x01t")?;
+            let hash = Digest::of(&middle).hash_text();
+            directories.push(pieces(
                 alloc,
-                &[b"\x12\x4a\x0a\x01p\x12\x45\x0a\x40", &hash, b"\x10\xa0\x01"],
-            )?;
-            grafts(alloc, lines, &[&top, &p, &file])
+                b"\x12\x4a\x0a\x01p\x12\x45\x0a\x40",
+                &hash,
+                b"\x10\xa0\x01",
+            )?)?;
+            directories.push(middle)?;
+            directories.push(file)?;
         }
         _ => {
-            let hash = Digest::of(&q).hash_text();
-            let top = joined(
+            let middle = pieces(alloc, b"\x12\x49\x0a\x01q", &digest, b"")?;
+            let hash = Digest::of(&middle).hash_text();
+            directories.push(pieces(
                 alloc,
-                &[b"\x12\x49\x0a\x01p\x12\x44\x0a\x40", &hash, b"\x10\x4b"],
-            )?;
-            grafts(alloc, lines, &[&top, &q, &file])
+                b"\x12\x49\x0a\x01p\x12\x44\x0a\x40",
+                &hash,
+                b"\x10\x4b",
+            )?)?;
+            directories.push(middle)?;
+            directories.push(file)?;
         }
     }
+    Ok(directories)
+}
+
+/// Files, a directory and a link, each list by name.
+fn mixed<A: Allocator + Copy>(alloc: A) -> Result<Vec<u8, A>, Broken> {
+    let mut top = pieces(
+        alloc,
+        b"\x0a\x4b\x0a\x01a\x12\x44\x0a\x40",
+        NINE,
+        b"\x10\x09\x20\x01\x0a\x49\x0a\x01z\x12\x44\x0a\x40",
+    )?;
+    top.extend_from_slice(NINE)?;
+    top.extend_from_slice(b"\x10\x09\x12\x47\x0a\x01x\x12\x42\x0a\x40")?;
+    top.extend_from_slice(EMPTY)?;
+    top.extend_from_slice(b"\x1a\x06\x0a\x01l\x12\x01t")?;
+    Ok(top)
+}
+
+/// Whether the graft of a row's lines has those Directories, and the digest of the first.
+fn row<A: Allocator + Copy>(alloc: A, number: usize) -> Result<bool, Broken> {
+    let expected = expected(alloc, number)?;
+    let mut lines = Vec::new(alloc);
+    for (target, put) in LINES[number % 6] {
+        lines.push((Path::new(alloc, target)?, node(alloc, *put)?))?;
+    }
+    if !are_apart(&lines) {
+        return Err(Broken::Refused);
+    }
+    let folded = graft(alloc, &lines)?;
+    let top = match expected.first() {
+        Some(top) => Digest::of(top),
+        None => return Ok(false),
+    };
+    Ok(folded.directories == expected && folded.root == top)
 }
 
 #[test]

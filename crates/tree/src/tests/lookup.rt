@@ -17,11 +17,17 @@ enum Told {
     Malformed(Digest),
 }
 
+fn shown<A: Allocator>(node: Node<A>) -> Told {
+    match node {
+        Node::File { digest, executable } => Told::File(digest, executable),
+        Node::Link { target } => Told::Link(target.as_str().len()),
+        Node::Dir(digest) => Told::Dir(digest),
+    }
+}
+
 fn answered<A: Allocator>(answer: Result<Node<A>, TreeError<A>>) -> Result<Told, Broken> {
     match answer {
-        Ok(Node::File { digest, executable }) => Ok(Told::File(digest, executable)),
-        Ok(Node::Link { target }) => Ok(Told::Link(target.as_str().len())),
-        Ok(Node::Dir(digest)) => Ok(Told::Dir(digest)),
+        Ok(node) => Ok(shown(node)),
         Err(error) => refused(error),
     }
 }
@@ -83,65 +89,81 @@ fn fill<A: Allocator + Copy>(alloc: A, source: &mut MemorySource<A>) -> Result<N
 }
 
 /// Each row's answer, and how often the source was called by then.
-fn rows<A: Allocator + Copy>(alloc: A) -> Result<(Named, [(Told, u64); 9]), Broken> {
+fn rows<A: Allocator + Copy>(alloc: A) -> Result<[(Told, u64); 9], Broken> {
     let mut source = MemorySource::new(alloc);
     let named = fill(alloc, &mut source)?;
-    let s = &mut source;
-    let here = answered(lookup(alloc, &named.top, None, s))?;
-    let root = (here, s.calls());
-    let found = (looked(alloc, s, &named.top, b"d/a")?, s.calls());
-    let directory = (looked(alloc, s, &named.top, b"d")?, s.calls());
-    let link = (looked(alloc, s, &named.top, b"l")?, s.calls());
-    let through_link = (looked(alloc, s, &named.top, b"l/a")?, s.calls());
-    let through_file = (looked(alloc, s, &named.top, b"f/a")?, s.calls());
-    let absent = (looked(alloc, s, &named.top, b"d/b/c")?, s.calls());
-    let of_none = (looked(alloc, s, &Digest::empty(), b"a")?, s.calls());
-    let missing = (looked(alloc, s, &named.file, b"a")?, s.calls());
-    let rows = [
-        root,
-        found,
-        directory,
-        link,
-        through_link,
-        through_file,
-        absent,
-        of_none,
-        missing,
-    ];
-    Ok((named, rows))
+    let top = named.top;
+    let file = named.file;
+    let empty = Digest::empty();
+    let no_paths: Vec<Path<A>, A> = Vec::new(alloc);
+    let here = answered(lookup(alloc, &top, no_paths.first(), &mut source))?;
+    let at_root = source.calls();
+    let found = looked(alloc, &mut source, &top, b"d/a")?;
+    let at_found = source.calls();
+    let directory = looked(alloc, &mut source, &top, b"d")?;
+    let at_directory = source.calls();
+    let link = looked(alloc, &mut source, &top, b"l")?;
+    let at_link = source.calls();
+    let through_link = looked(alloc, &mut source, &top, b"l/a")?;
+    let at_through_link = source.calls();
+    let through_file = looked(alloc, &mut source, &top, b"f/a")?;
+    let at_through_file = source.calls();
+    let absent = looked(alloc, &mut source, &top, b"d/b/c")?;
+    let at_absent = source.calls();
+    let of_none = looked(alloc, &mut source, &empty, b"a")?;
+    let at_none = source.calls();
+    let missing = looked(alloc, &mut source, &file, b"a")?;
+    let at_missing = source.calls();
+    Ok([
+        (here, at_root),
+        (found, at_found),
+        (directory, at_directory),
+        (link, at_link),
+        (through_link, at_through_link),
+        (through_file, at_through_file),
+        (absent, at_absent),
+        (of_none, at_none),
+        (missing, at_missing),
+    ])
+}
+
+fn expected(named: Named) -> [(Told, u64); 9] {
+    let top = named.top;
+    let below = named.below;
+    let file = named.file;
+    [
+        (Told::Dir(top), 0),
+        (Told::File(file, false), 2),
+        (Told::Dir(below), 3),
+        (Told::Link(1), 4),
+        // A link isn't followed, and a file isn't read, whatever bytes it has.
+        (Told::Absent, 5),
+        (Told::Absent, 6),
+        (Told::Absent, 8),
+        // The empty directory is there, and isn't asked for.
+        (Told::Absent, 8),
+        (Told::Missing(file), 9),
+    ]
 }
 
 #[test]
-fn paths_are_looked_up(rt: HostRuntime) {
+fn paths_are_looked_up(rt: HostRuntime) -> Result<(), Broken> {
+    let mut source = MemorySource::new(rt.alloc());
+    let named = fill(rt.alloc(), &mut source)?;
+    let expected = expected(named);
     let mut refused = 0u64;
     for number in 1..5000u64 {
         let heap = Refusing::new(rt.alloc(), number);
         let answer = rows(&heap);
         if !heap.has_refused() {
-            let Ok((named, rows)) = answer else {
-                assert!(rt; false, "refused");
-                return;
-            };
-            let expected = [
-                (Told::Dir(named.top), 0),
-                (Told::File(named.file, false), 2),
-                (Told::Dir(named.below), 3),
-                (Told::Link(1), 4),
-                // A link isn't followed, and a file isn't read, whatever bytes it has.
-                (Told::Absent, 5),
-                (Told::Absent, 6),
-                (Told::Absent, 8),
-                // The empty directory is there, and isn't asked for.
-                (Told::Absent, 8),
-                (Told::Missing(named.file), 9),
-            ];
-            assert_eq!(rt; rows, expected);
+            assert_eq!(rt; answer, Ok(expected));
             break;
         }
         assert_eq!(rt; answer, Err(Broken::Memory), "request {number}");
         refused = refused.saturating_add(1);
     }
     assert!(rt; refused >= 50);
+    Ok(())
 }
 
 /// One byte of a held blob changed, and a blob that is no Directory.

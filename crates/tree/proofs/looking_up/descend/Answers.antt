@@ -25,7 +25,7 @@ returns-in-None-clause-found g c =
     let goes = goes_dir _ c.args.root.now c.in-Dir.digest c.args.names.now _ c.loop-name.node c.in-Dir.is c.loop-name.invariant.goes in
     goes_nowhere _ c.args.root.now c.args.names.now _
     (goes_child _ _ c.args.root.now _ c.args.names.now c.loop-name.name-index c.name-item.result _ None c.loop-name-test.true goes c.fetch_message.ensures.asked.blobs c.in_ok-directory.ensures.told c.name-item.is
-    (sym c.in-None.is ∙ c.in_ok-next.ensures {u = tt} ∙ ap (λ n. child n c.in_ok-directory.directory) c.as_bytes.ensures.value))
+    (sym c.in-None.is ∙ (c.in_ok-next.ensures {u = tt}).exact ∙ ap (λ n. child n c.in_ok-directory.directory) c.as_bytes.ensures.value))
 
 pub returns-in-None-clause-asked : goal.returns-in-None-clause-asked
 returns-in-None-clause-asked g c = asks_more c.loop-name-test.true c.loop-name.invariant.asked c.fetch_message.ensures.asked
@@ -36,5 +36,5 @@ loop-name-preserved g c =
     record {
       asked = asks_then c.loop-name.invariant.asked c.fetch_message.ensures.asked;
       goes = goes_child _ _ c.args.root.now _ c.args.names.now c.loop-name.name-index c.name-item.result _ (Some c.in-Some.next) c.loop-name-test.true goes c.fetch_message.ensures.asked.blobs c.in_ok-directory.ensures.told c.name-item.is
-          (sym c.in-Some.is ∙ c.in_ok-next.ensures {u = tt} ∙ ap (λ n. child n c.in_ok-directory.directory) c.as_bytes.ensures.value);
+          (sym c.in-Some.is ∙ (c.in_ok-next.ensures {u = tt}).exact ∙ ap (λ n. child n c.in_ok-directory.directory) c.as_bytes.ensures.value);
     }
