@@ -1,0 +1,4 @@
+pub mod Strings
+pub mod Sorted
+pub mod SettingCodec
+pub mod PlatformCodec
