@@ -1,5 +1,5 @@
 -- The messages EnvironmentVariable and Property are read from their one encoding.
-use Rattle.std.proofs.Common.{◌≡◌, ℕ, List, [], ◌∷◌, ◌++◌, Ok, refl, ap, subst, ◌∙◌}
+use Rattle.std.proofs.Common.{◌≡◌, List, [], ◌∷◌, ◌++◌, refl, ap, subst, ◌∙◌}
 use Rattle.std.proofs.lemmas.List.{append-nil}
 use Rattle.wire.specs.Record.{Record}
 use Rattle.wire.specs.Spelling.{spelling}
@@ -7,7 +7,7 @@ use Rattle.wire.proofs.Steps.{bind_ok, ok_is}
 use Rattle.canonical.specs.declared.shape.Kind.TheVariants as kinds
 use Rattle.canonical.specs.Codec.{IsCodec}
 use Rattle.canonical.specs.Columns.{column}
-use Rattle.canonical.specs.Fields.{bytes_field, bytes_at}
+use Rattle.canonical.specs.Fields.{bytes_field}
 use Rattle.canonical.proofs.Columns.{Part, joined}
 use Rattle.canonical.proofs.Codec.{IsMessage, codec, codec_as}
 use Rattle.canonical.proofs.FieldKinds.{bytes_column, bytes_is}

@@ -1,5 +1,5 @@
 -- Strings and paths that stand in a message.
-use Rattle.std.proofs.Common.{◌≡◌, ℕ, true, List, [], ◌∷◌, ◌++◌, map, Option, Some, None, Result, Ok, Err, refl, sym, ap, subst, ◌∙◌}
+use Rattle.std.proofs.Common.{◌≡◌, ℕ, true, List, [], ◌∷◌, map, Option, Some, None, Result, Ok, Err, refl, sym, ap, subst, ◌∙◌}
 use Rattle.std.specs.Str.{IsUtf8, is_utf8}
 use Rattle.std.specs.Prelude.{String}
 use Rattle.std.specs.String.{string_bytes}
@@ -15,7 +15,7 @@ use Rattle.canonical.specs.Columns.{column}
 use Rattle.canonical.specs.Told.{or_told}
 use Rattle.canonical.proofs.FieldKinds.{string_found, string_again}
 use Rattle.messages.specs.declared.error.MessageError.{MessageError}
-use Rattle.messages.specs.declared.error.MessageError.TheVariants.{Wire, MissingField}
+use Rattle.messages.specs.declared.error.MessageError.TheVariants.{Wire}
 use Rattle.messages.specs.Told.{told}
 use Rattle.messages.specs.Path.{IsPath, path_of, path_text}
 use Rattle.messages.proofs.Choices.{chosen_ok}
@@ -60,13 +60,16 @@ path_codec = record {
   only = λ bytes path sized is e. ap path_of e ∙ path_given path is;
 }
 
-pub map-same : (xs : List (List ℕ)) → map (λ x. x) xs ≡ xs
+pub map-same : {X : Type 0} (xs : List X) → map (λ x. x) xs ≡ xs
 map-same [] = refl
-map-same (x ∷ xs) = ap (λ (l : List (List ℕ)). x ∷ l) (map-same xs)
+map-same {X} (x ∷ xs) = ap (λ (l : List X). x ∷ l) (map-same xs)
+
+pub path_utf8 : (path : List (List ℕ)) → IsPath path → is_utf8 (path_text path) ≡ true
+path_utf8 path h = is_utf8-from_IsUtf8 (path_text path) (text_utf8 path h.each)
 
 pub paths_utf8 : (paths : List (List (List ℕ))) → AllByRecursion IsPath paths → AllByRecursion IsString (map path_text paths)
 paths_utf8 [] h = tt
-paths_utf8 (path ∷ paths) h = (is_utf8-from_IsUtf8 (path_text path) (text_utf8 path h.0.each), paths_utf8 paths h.1)
+paths_utf8 (path ∷ paths) h = (path_utf8 path h.0, paths_utf8 paths h.1)
 
 -- ---- a single field that is a string
 

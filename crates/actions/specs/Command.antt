@@ -1,7 +1,7 @@
 -- The message Command of remote_execution.proto: the `arguments` that are run, the first of which names the program; the
 -- `environment_variables`, sorted by name; the `working_directory`, a path in the input root or none for the root itself;
 -- and the `output_paths`, sorted by their texts.
-use Rattle.std.specs.Prelude.{◌≡◌, ◌≢◌, ℕ, ◌<◌, Bool, true, false, ◌==◌, ◌&&◌, ◌||◌, not, List, [], ◌∷◌, ◌++◌, length, map, Option, Some, None, Result, Ok, Err, if◌then◌else◌, IfSome}
+use Rattle.std.specs.Prelude.{◌≡◌, ◌≢◌, ℕ, ◌<◌, Bool, true, ◌==◌, ◌&&◌, not, List, [], ◌∷◌, ◌++◌, length, map, Option, Some, None, Result, Ok, Err, if◌then◌else◌, IfSome}
 use Rattle.std.specs.List.{AllByRecursion, list_any, list_all}
 use Rattle.std.specs.Str.{is_utf8}
 use Rattle.wire.specs.Record.{Record}
@@ -13,8 +13,8 @@ use Rattle.canonical.specs.Fields.{bytes_field, element_fields, bytes_at, elemen
 use Rattle.canonical.specs.Told.{each}
 use Rattle.messages.specs.declared.error.MessageError.{MessageError}
 use Rattle.messages.specs.declared.error.MessageError.TheVariants.{MissingField, BadText, SameName}
-use Rattle.messages.specs.Order.{IsAscending, ordered_behind}
-use Rattle.messages.specs.Path.{IsPath, path_of, path_text, text_cmp}
+use Rattle.messages.specs.Order.{bytes_cmp, IsAscending, ordered_behind}
+use Rattle.messages.specs.Path.{IsPath, path_of, path_text}
 use Rattle.messages.specs.Shapes.{single, repeated}
 use Rattle.messages.specs.Told.{shape_checked}
 use Rattle.actions.specs.Fields.{string_of}
@@ -55,7 +55,7 @@ pub record IsCommand (c : CommandValue) : Type 0 where
   pub names_ascend : IsAscending (variable_names c.environment)
   pub working_directory : IfSome c.working_directory IsPath
   pub output_paths : AllByRecursion IsPath c.output_paths
-  pub outputs_ascend : IsAscendingBy text_cmp c.output_paths
+  pub outputs_ascend : IsAscendingBy bytes_cmp (texts_of c.output_paths)
   pub outputs_apart : ArePathsApart c.output_paths
 
 abbrev pub command_shape : List Entry
@@ -83,8 +83,11 @@ abbrev pub are_arguments : List (List ℕ) → Bool
 are_arguments [] = true
 are_arguments (program ∷ arguments) = not (length program == 0) && list_all is_argument (program ∷ arguments)
 
+abbrev pub is_variable_name : List ℕ → Bool
+is_variable_name name = not (length name == 0) && not (has_byte 61 name) && not (has_byte 0 name)
+
 abbrev pub is_variable : SettingValue → Bool
-is_variable v = not (length v.name == 0) && not (has_byte 61 v.name) && not (has_byte 0 v.name) && not (has_byte 0 v.value)
+is_variable v = is_variable_name v.name && not (has_byte 0 v.value)
 
 abbrev pub check_unless : Bool → MessageError → Result (Unit {0}) MessageError
 check_unless lawful e = if lawful then Ok tt else Err e
@@ -104,7 +107,7 @@ texts_checked arguments environment =
 unfoldable pub lists_checked : List SettingValue → List (List (List ℕ)) → Result (Unit {0}) MessageError
 lists_checked environment output_paths =
     ordered_behind None (variable_names environment) >>= λ _.
-    ascends_behind text_cmp None output_paths >>= λ _.
+    ascends_behind bytes_cmp None (texts_of output_paths) >>= λ _.
     check_unless (not (some_under (texts_of output_paths) (texts_of output_paths))) SameName
 
 -- the command of these fields, or the first refusal

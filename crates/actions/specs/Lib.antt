@@ -9,4 +9,5 @@ pub mod Action
 pub mod OutputFile
 pub mod OutputDirectory
 pub mod OutputSymlink
+pub mod Stream
 pub mod ActionResult

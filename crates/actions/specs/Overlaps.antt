@@ -1,8 +1,6 @@
 -- Paths that stand side by side: none equals another or lies under it.
-use Rattle.std.specs.Prelude.{ℕ, Bool, true, false, ◌==◌, ◌&&◌, ◌||◌, List, [], ◌∷◌, map, Result, Ok, Err, if◌then◌else◌}
+use Rattle.std.specs.Prelude.{ℕ, Bool, false, ◌==◌, ◌&&◌, ◌||◌, List, [], ◌∷◌, map}
 use Rattle.std.specs.List.{AllByRecursion, list_any}
-use Rattle.messages.specs.declared.error.MessageError.{MessageError}
-use Rattle.messages.specs.declared.error.MessageError.TheVariants.{SameName}
 use Rattle.messages.specs.Order.{share_name}
 use Rattle.messages.specs.Path.{Overlap, begins_with_slash, path_text}
 

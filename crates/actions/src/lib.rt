@@ -13,11 +13,13 @@ mod output;
 mod platform;
 mod setting;
 mod shapes;
+mod stream;
 
-// pub use action::Action;
-// pub use action_result::ActionResult;
-// pub use command::Command;
-// pub use frame::Frame;
-// pub use output::{OutputDirectory, OutputFile, OutputSymlink};
+pub use action::Action;
+pub use action_result::ActionResult;
+pub use command::Command;
+pub use frame::Frame;
+pub use output::{OutputDirectory, OutputFile, OutputSymlink};
 pub use platform::Platform;
 pub use setting::{EnvironmentVariable, Property, Setting};
+pub use stream::Stream;

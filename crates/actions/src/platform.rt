@@ -1,6 +1,8 @@
-ghost use Rattle.std.specs.Prelude.{◌≡◌, ◌↔◌, None, IfOk, IsOk, OnOk, Ok, option_map};
+ghost use Rattle.std.specs.Prelude.{◌≡◌, ◌↔◌, ◌++◌, None, IfOk, IsOk, OnOk, Ok, option_map};
 ghost use Rattle.std.specs.List.{AllByRecursion};
+ghost use Rattle.wire.specs.Spelling.{spelling};
 ghost use Rattle.wire.specs.Steps.{Gives};
+ghost use Rattle.canonical.specs.Fields.{message_field};
 ghost use Rattle.messages.specs.Gives.{GivesUnlessMemory};
 ghost use Rattle.actions.specs.Ascending.{IsAscendingBy, ascends_behind};
 ghost use Rattle.actions.specs.Setting.{IsSetting};
@@ -110,6 +112,22 @@ pub(crate) fn read_platform<A: Allocator + Copy>(
         Some([]) => Err(MessageError::Wire(CanonError::DefaultWritten)),
         Some(bytes) => Platform::read(alloc, bytes),
     }
+}
+
+/// Writes the field that holds a platform, unless the platform has no properties.
+pub(crate) fn write_platform<A: Allocator + Copy>(
+    alloc: A,
+    out: &mut Vec<u8, A>,
+    platform: &Platform<A>,
+) -> Result<(), AllocError>
+    ensures { OnOk result
+        (out.new.items
+        ≡ out.old.items ++ spelling (message_field 10 (platform_entry platform.now))) }
+{
+    if platform.properties().is_empty() {
+        return Ok(());
+    }
+    write_message(out, 10, Some(&platform.write(alloc)?))
 }
 
 impl<A: Allocator + Copy> Platform<A> {
