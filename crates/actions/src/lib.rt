@@ -23,3 +23,6 @@ pub use output::{OutputDirectory, OutputFile, OutputSymlink};
 pub use platform::Platform;
 pub use setting::{EnvironmentVariable, Property, Setting};
 pub use stream::Stream;
+
+#[cfg(test)]
+mod tests;
