@@ -54,7 +54,7 @@ action_message = record {
       let c7 : column 7 rs ≡ bool_field 7 (bool_at 7 rs) = bool_column (single 7 kinds.Bool) rs shape.kept.1.1.0 refl refl in
       let c9 : column 9 rs ≡ bytes_field 9 (bytes_at 9 rs) = bytes_column (single 9 kinds.Bytes) rs shape.kept.1.1.1.0 refl refl refl in
       let c10 : column 10 rs ≡ message_field 10 (platform_entry p.0) = m10 ∙ ap (message_field 10) platform.1 in
-      let parts : rs ≡ joined (action_parts made) = shape.parts ∙ rw (c1, c2, c7, c9, c10) refl in
+      let parts : rs ≡ joined (action_parts made) = shape.parts ∙ rw (c1, c2, c7, c9, c10) (refl {a = joined (action_parts made)}) in
       let keeps : IsAction made = record { frame = record { command = command.0; platform = platform.0 }; input = input.0 } in
       subst (λ (x : ActionValue). IsAction x × (rs ≡ joined (action_parts x))) (ok_is {E = MessageError} made f r.2) (keeps, parts);
   shape = λ a k. (

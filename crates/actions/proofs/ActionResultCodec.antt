@@ -75,7 +75,7 @@ action_result_message = record {
       let c7 : column 7 rs ≡ bytes_field 7 p.0.raw = bytes_column (single 7 kinds.Bytes) rs shape.kept.1.1.1.1.1.0 refl refl refl ∙ ap (bytes_field 7) f7.2 in
       let c8 : column 8 rs ≡ message_field 8 (option_map digest_bytes p.0.digest) = f7.1 in
       let c12 : column 12 rs ≡ element_fields 12 (map output_symlink_bytes l.0) = e12 ∙ ap (element_fields 12) f12.1 in
-      let parts : rs ≡ joined (action_result_parts made) = shape.parts ∙ rw (c2, c3, c4, c5, c6, c7, c8, c12) refl in
+      let parts : rs ≡ joined (action_result_parts made) = shape.parts ∙ rw (c2, c3, c4, c5, c6, c7, c8, c12) (refl {a = joined (action_result_parts made)}) in
       let keeps : IsActionResult made = record {
         files = f2.0;
         directories = f3.0;

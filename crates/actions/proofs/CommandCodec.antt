@@ -62,7 +62,7 @@ command_message = record {
       let c2 : column 2 rs ≡ element_fields 2 (map setting_bytes v.0) = e2 ∙ ap (element_fields 2) f2.1 in
       let c6 : column 6 rs ≡ bytes_field 6 (directory_text d.0) = bytes_column (single 6 kinds.String) rs shape.kept.1.1.0 refl refl refl ∙ ap (bytes_field 6) f6.1 in
       let c7 : column 7 rs ≡ element_fields 7 (texts_of p.0) = e7 ∙ ap (element_fields 7) f7.1 in
-      let parts : rs ≡ joined (command_parts made) = shape.parts ∙ rw (c1, c2, c6, c7) refl in
+      let parts : rs ≡ joined (command_parts made) = shape.parts ∙ rw (c1, c2, c6, c7) (refl {a = joined (command_parts made)}) in
       let keeps : IsCommand made = command_made made f1.0 f2.0 f6.0 f7.0 t.1 l.1 in
       subst (λ (y : CommandValue). IsCommand y × (rs ≡ joined (command_parts y))) (ok_is {E = MessageError} made x l.2) (keeps, parts);
   shape = λ c k. (

@@ -12,16 +12,17 @@ use Rattle.messages.specs.Path.{IsPath, parts_of, path_of, path_text}
 use Rattle.messages.proofs.Choices.{and_first, and_second, and_both, not_true, false_not, none_is, none_found}
 use Rattle.messages.proofs.Orders.{ascending, ordered_behind-from}
 use Rattle.messages.proofs.Paths.{path_found, path_given, parts_of_path}
+use Rattle.actions.specs.Fields.{refused_unless}
 use Rattle.actions.specs.Ascending.{IsAscendingBy, ascends_behind}
 use Rattle.actions.specs.Overlaps.{some_under, texts_of}
 use Rattle.actions.specs.Setting.{SettingValue, IsSetting}
-use Rattle.actions.specs.Command.{CommandValue, IsText, NamesProgram, IsVariable, variable_names, IsCommand, directory_text, has_byte, is_argument, are_arguments, is_variable_name, is_variable, check_unless, some_argument, texts_checked, lists_checked, command_of, directory_of}
+use Rattle.actions.specs.Command.{CommandValue, IsText, NamesProgram, IsVariable, variable_names, IsCommand, directory_text, has_byte, is_argument, are_arguments, is_variable_name, is_variable, some_argument, texts_checked, lists_checked, command_of, directory_of}
 use Rattle.actions.proofs.Strings.{IsString}
 use Rattle.actions.proofs.Sorted as sorted
 use Rattle.actions.proofs.Searches.{bytes_trans}
 use Rattle.actions.proofs.Apart.{none_under, under_none, apart_within, within_apart, weaker}
 
-pub unless_ok : (b : Bool) (e : MessageError) → check_unless b e ≡ Ok tt → b ≡ true
+pub unless_ok : (b : Bool) (e : MessageError) → refused_unless b e ≡ Ok tt → b ≡ true
 unless_ok true e h = refl
 unless_ok false e h = absurd cc
 
@@ -103,7 +104,7 @@ pub texts_found : (arguments : List (List ℕ)) (environment : List SettingValue
 unfolding texts_checked
 texts_found arguments environment utf8 is e =
     let a = bind_ok (some_argument arguments) _ tt e in
-    let b = bind_ok (check_unless (are_arguments arguments) (BadText 1)) (λ _. check_unless (list_all is_variable environment) (BadText 2)) tt a.2 in
+    let b = bind_ok (refused_unless (are_arguments arguments) (BadText 1)) (λ _. refused_unless (list_all is_variable environment) (BadText 2)) tt a.2 in
     let l = arguments_lawful arguments utf8 a.1 (unless_ok (are_arguments arguments) (BadText 1) b.1) in
     record { program = l.0; arguments = l.1; environment = variables_lawful environment is (unless_ok (list_all is_variable environment) (BadText 2) b.2) }
 
@@ -123,7 +124,7 @@ pub lists_found : (environment : List SettingValue) (output_paths : List (List (
 unfolding lists_checked
 lists_found environment output_paths e =
     let a = bind_ok (ordered_behind None (variable_names environment)) _ tt e in
-    let b = bind_ok (ascends_behind bytes_cmp None (texts_of output_paths)) (λ _. check_unless (not (some_under (texts_of output_paths) (texts_of output_paths))) SameName) tt a.2 in
+    let b = bind_ok (ascends_behind bytes_cmp None (texts_of output_paths)) (λ _. refused_unless (not (some_under (texts_of output_paths) (texts_of output_paths))) SameName) tt a.2 in
     record {
       names = ascending (variable_names environment) a.1;
       outputs = sorted.ascending bytes_cmp bytes_trans (texts_of output_paths) b.1;

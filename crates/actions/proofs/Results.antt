@@ -17,7 +17,7 @@ use Rattle.messages.specs.Order.{bytes_cmp}
 use Rattle.messages.proofs.Choices.{or_false, or_neither, not_true}
 use Rattle.actions.specs.Ascending.{ascends_behind}
 use Rattle.actions.specs.Overlaps.{some_under, some_cross, texts_of}
-use Rattle.actions.specs.Command.{check_unless}
+use Rattle.actions.specs.Fields.{refused_unless}
 use Rattle.actions.specs.OutputFile.{OutputFileValue, IsOutputFile, decoded_output_file}
 use Rattle.actions.specs.OutputDirectory.{OutputDirectoryValue, IsOutputDirectory, decoded_output_directory}
 use Rattle.actions.specs.OutputSymlink.{OutputSymlinkValue, IsOutputSymlink, decoded_output_symlink}
@@ -47,7 +47,7 @@ paths_found f d l fs ds ls e =
     let v = texts_of l in
     let a = bind_ok (ascends_behind bytes_cmp None t) _ tt e in
     let b = bind_ok (ascends_behind bytes_cmp None u) _ tt a.2 in
-    let c = bind_ok (ascends_behind bytes_cmp None v) (λ _. check_unless (not (some_overlap t u v)) SameName) tt b.2 in
+    let c = bind_ok (ascends_behind bytes_cmp None v) (λ _. refused_unless (not (some_overlap t u v)) SameName) tt b.2 in
     let none : some_overlap t u v ≡ false = not_true (some_overlap t u v) (unless_ok (not (some_overlap t u v)) SameName c.2) in
     let o5 = or_false (some_under t t || some_under u u || some_under v v || some_cross t u || some_cross t v) (some_cross u v) none in
     let o4 = or_false (some_under t t || some_under u u || some_under v v || some_cross t u) (some_cross t v) o5.0 in

@@ -29,11 +29,22 @@ pub record IsAction (a : ActionValue) : Type 0 where
   pub input : IsDigest a.input
 
 abbrev pub action_shape : List Entry
-action_shape = single 1 kinds.Message ∷ single 2 kinds.Message ∷ single 7 kinds.Bool ∷ single 9 kinds.Bytes ∷ single 10 kinds.Message ∷ []
+action_shape =
+    single 1 kinds.Message ∷
+    single 2 kinds.Message ∷
+    single 7 kinds.Bool ∷
+    single 9 kinds.Bytes ∷
+    single 10 kinds.Message ∷
+    []
 
 -- the one encoding of an action
 unfoldable pub action_bytes : ActionValue → List ℕ
-action_bytes a = spelling (message_field 1 (Some (digest_bytes a.frame.command)) ++ message_field 2 (Some (digest_bytes a.input)) ++ bool_field 7 a.frame.do_not_cache ++ bytes_field 9 a.frame.salt ++ message_field 10 (platform_entry a.frame.platform))
+action_bytes a = spelling (
+    message_field 1 (Some (digest_bytes a.frame.command)) ++
+    message_field 2 (Some (digest_bytes a.input)) ++
+    bool_field 7 a.frame.do_not_cache ++
+    bytes_field 9 a.frame.salt ++
+    message_field 10 (platform_entry a.frame.platform))
 
 -- ---- what bytes say, or the first refusal: the shape, the digests and the platform, whether the digests are there
 
@@ -44,7 +55,12 @@ action_in rs =
     platform_at (message_at 10 rs) >>= λ platform.
     required 1 found_command >>= λ command.
     required 2 found_input >>= λ input.
-    Ok (with_input (record { command = command; do_not_cache = bool_at 7 rs; salt = bytes_at 9 rs; platform = platform }) input)
+    Ok (with_input (record {
+      command = command;
+      do_not_cache = bool_at 7 rs;
+      salt = bytes_at 9 rs;
+      platform = platform;
+    }) input)
 
 unfoldable pub decoded_action : List ℕ → Result ActionValue MessageError
 decoded_action bytes = shape_checked action_shape bytes >>= action_in

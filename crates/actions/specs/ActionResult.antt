@@ -18,7 +18,7 @@ use Rattle.messages.specs.Told.{shape_checked}
 use Rattle.messages.specs.DigestMessage.{digest_bytes}
 use Rattle.actions.specs.Ascending.{IsAscendingBy, ascends_behind}
 use Rattle.actions.specs.Overlaps.{ArePathsApart, some_under, some_cross, texts_of}
-use Rattle.actions.specs.Command.{check_unless}
+use Rattle.actions.specs.Fields.{refused_unless}
 use Rattle.actions.specs.Stream.{StreamValue, IsStream, stream_at}
 use Rattle.actions.specs.OutputFile.{OutputFileValue, IsOutputFile, output_file_bytes, decoded_output_file}
 use Rattle.actions.specs.OutputDirectory.{OutputDirectoryValue, IsOutputDirectory, output_directory_bytes, decoded_output_directory}
@@ -59,7 +59,16 @@ pub record IsActionResult (r : ActionResultValue) : Type 0 where
   pub paths : AreOutputPaths (file_paths r.files) (directory_paths r.directories) (symlink_paths r.symlinks)
 
 abbrev pub action_result_shape : List Entry
-action_result_shape = repeated 2 kinds.Message ∷ repeated 3 kinds.Message ∷ single 4 kinds.Int32 ∷ single 5 kinds.Bytes ∷ single 6 kinds.Message ∷ single 7 kinds.Bytes ∷ single 8 kinds.Message ∷ repeated 12 kinds.Message ∷ []
+action_result_shape =
+    repeated 2 kinds.Message ∷
+    repeated 3 kinds.Message ∷
+    single 4 kinds.Int32 ∷
+    single 5 kinds.Bytes ∷
+    single 6 kinds.Message ∷
+    single 7 kinds.Bytes ∷
+    single 8 kinds.Message ∷
+    repeated 12 kinds.Message ∷
+    []
 
 -- the records that a result is spelled by
 abbrev pub result_records : ActionResultValue → List Record
@@ -85,16 +94,19 @@ some_overlap files directories symlinks =
     some_under files files || some_under directories directories || some_under symlinks symlinks ||
     some_cross files directories || some_cross files symlinks || some_cross directories symlinks
 
-unfoldable pub paths_checked : List (List (List ℕ)) → List (List (List ℕ)) → List (List (List ℕ)) → Result (Unit {0}) MessageError
+unfoldable pub paths_checked : List (List (List ℕ)) → List (List (List ℕ)) → List (List (List ℕ))
+    → Result (Unit {0}) MessageError
 paths_checked files directories symlinks =
     ascends_behind bytes_cmp None (texts_of files) >>= λ _.
     ascends_behind bytes_cmp None (texts_of directories) >>= λ _.
     ascends_behind bytes_cmp None (texts_of symlinks) >>= λ _.
-    check_unless (not (some_overlap (texts_of files) (texts_of directories) (texts_of symlinks))) SameName
+    refused_unless (not (some_overlap (texts_of files) (texts_of directories) (texts_of symlinks))) SameName
 
 -- the result of these fields, or the first refusal
 unfoldable pub action_result_of : ActionResultValue → Result ActionResultValue MessageError
-action_result_of r = paths_checked (file_paths r.files) (directory_paths r.directories) (symlink_paths r.symlinks) >>= λ _. Ok r
+action_result_of r =
+    paths_checked (file_paths r.files) (directory_paths r.directories) (symlink_paths r.symlinks) >>= λ _.
+    Ok r
 
 abbrev pub action_result_in : List Record → Result ActionResultValue MessageError
 action_result_in rs =

@@ -1,7 +1,7 @@
 -- The message Command of remote_execution.proto: the `arguments` that are run, the first of which names the program; the
 -- `environment_variables`, sorted by name; the `working_directory`, a path in the input root or none for the root itself;
 -- and the `output_paths`, sorted by their texts.
-use Rattle.std.specs.Prelude.{◌≡◌, ◌≢◌, ℕ, ◌<◌, Bool, true, ◌==◌, ◌&&◌, not, List, [], ◌∷◌, ◌++◌, length, map, Option, Some, None, Result, Ok, Err, if◌then◌else◌, IfSome}
+use Rattle.std.specs.Prelude.{◌≡◌, ◌≢◌, ℕ, ◌<◌, Bool, true, ◌==◌, ◌&&◌, not, List, [], ◌∷◌, ◌++◌, length, map, Option, Some, None, Result, Ok, Err, IfSome}
 use Rattle.std.specs.List.{AllByRecursion, list_any, list_all}
 use Rattle.std.specs.Str.{is_utf8}
 use Rattle.wire.specs.Record.{Record}
@@ -17,7 +17,7 @@ use Rattle.messages.specs.Order.{bytes_cmp, IsAscending, ordered_behind}
 use Rattle.messages.specs.Path.{IsPath, path_of, path_text}
 use Rattle.messages.specs.Shapes.{single, repeated}
 use Rattle.messages.specs.Told.{shape_checked}
-use Rattle.actions.specs.Fields.{string_of}
+use Rattle.actions.specs.Fields.{string_of, refused_unless}
 use Rattle.actions.specs.Ascending.{IsAscendingBy, ascends_behind}
 use Rattle.actions.specs.Overlaps.{ArePathsApart, some_under, texts_of}
 use Rattle.actions.specs.Setting.{SettingValue, setting_bytes, decoded_setting}
@@ -59,7 +59,12 @@ pub record IsCommand (c : CommandValue) : Type 0 where
   pub outputs_apart : ArePathsApart c.output_paths
 
 abbrev pub command_shape : List Entry
-command_shape = repeated 1 kinds.String ∷ repeated 2 kinds.Message ∷ single 6 kinds.String ∷ repeated 7 kinds.String ∷ []
+command_shape =
+    repeated 1 kinds.String ∷
+    repeated 2 kinds.Message ∷
+    single 6 kinds.String ∷
+    repeated 7 kinds.String ∷
+    []
 
 -- no path is written as no text
 abbrev pub directory_text : Option (List (List ℕ)) → List ℕ
@@ -68,7 +73,11 @@ directory_text (Some path) = path_text path
 
 -- the one encoding of a command
 unfoldable pub command_bytes : CommandValue → List ℕ
-command_bytes c = spelling (element_fields 1 c.arguments ++ element_fields 2 (map setting_bytes c.environment) ++ bytes_field 6 (directory_text c.working_directory) ++ element_fields 7 (texts_of c.output_paths))
+command_bytes c = spelling (
+    element_fields 1 c.arguments ++
+    element_fields 2 (map setting_bytes c.environment) ++
+    bytes_field 6 (directory_text c.working_directory) ++
+    element_fields 7 (texts_of c.output_paths))
 
 -- ---- what bytes say, or the first refusal: the shape, the variables in the order of the bytes, the missing argument,
 -- texts and paths by field and place, the order of each list, overlaps
@@ -89,9 +98,6 @@ is_variable_name name = not (length name == 0) && not (has_byte 61 name) && not 
 abbrev pub is_variable : SettingValue → Bool
 is_variable v = is_variable_name v.name && not (has_byte 0 v.value)
 
-abbrev pub check_unless : Bool → MessageError → Result (Unit {0}) MessageError
-check_unless lawful e = if lawful then Ok tt else Err e
-
 abbrev pub some_argument : List (List ℕ) → Result (Unit {0}) MessageError
 some_argument [] = Err (MissingField 1)
 some_argument (program ∷ arguments) = Ok tt
@@ -100,15 +106,15 @@ some_argument (program ∷ arguments) = Ok tt
 unfoldable pub texts_checked : List (List ℕ) → List SettingValue → Result (Unit {0}) MessageError
 texts_checked arguments environment =
     some_argument arguments >>= λ _.
-    check_unless (are_arguments arguments) (BadText 1) >>= λ _.
-    check_unless (list_all is_variable environment) (BadText 2)
+    refused_unless (are_arguments arguments) (BadText 1) >>= λ _.
+    refused_unless (list_all is_variable environment) (BadText 2)
 
 -- the order of fields 2 and 7, and then overlaps
 unfoldable pub lists_checked : List SettingValue → List (List (List ℕ)) → Result (Unit {0}) MessageError
 lists_checked environment output_paths =
     ordered_behind None (variable_names environment) >>= λ _.
     ascends_behind bytes_cmp None (texts_of output_paths) >>= λ _.
-    check_unless (not (some_under (texts_of output_paths) (texts_of output_paths))) SameName
+    refused_unless (not (some_under (texts_of output_paths) (texts_of output_paths))) SameName
 
 -- the command of these fields, or the first refusal
 unfoldable pub command_of : CommandValue → Result CommandValue MessageError
@@ -130,7 +136,12 @@ command_in rs =
     directory_of (bytes_at 6 rs) >>= λ working_directory.
     each path_of (elements_at 7 rs) >>= λ output_paths.
     lists_checked environment output_paths >>= λ _.
-    Ok (record { arguments = arguments; environment = environment; working_directory = working_directory; output_paths = output_paths })
+    Ok (record {
+      arguments = arguments;
+      environment = environment;
+      working_directory = working_directory;
+      output_paths = output_paths;
+    })
 
 unfoldable pub decoded_command : List ℕ → Result CommandValue MessageError
 decoded_command bytes = shape_checked command_shape bytes >>= command_in

@@ -1,5 +1,5 @@
--- Fields of a message: strings, and fields that have to be there.
-use Rattle.std.specs.Prelude.{ℕ, List, Option, Some, None, Result, Ok, Err, if◌then◌else◌}
+-- Fields of a message: strings, fields that have to be there, and refusals by a test.
+use Rattle.std.specs.Prelude.{ℕ, Bool, List, Option, Some, None, Result, Ok, Err, if◌then◌else◌}
 use Rattle.std.specs.Str.{is_utf8}
 use Rattle.wire.specs.Record.{Record}
 use Rattle.canonical.specs.declared.error.CanonError.TheVariants.{BadUtf8}
@@ -21,3 +21,6 @@ string_of text = if is_utf8 text then Ok text else Err (Wire BadUtf8)
 abbrev pub required : {X : Type 0} → ℕ → Option X → Result X MessageError
 required number None = Err (MissingField number)
 required number (Some x) = Ok x
+
+abbrev pub refused_unless : Bool → MessageError → Result (Unit {0}) MessageError
+refused_unless lawful e = if lawful then Ok tt else Err e

@@ -33,7 +33,11 @@ frame_shape = single 1 kinds.Message ∷ single 7 kinds.Bool ∷ single 9 kinds.
 
 -- the one encoding of a frame
 unfoldable pub frame_bytes : FrameValue → List ℕ
-frame_bytes f = spelling (message_field 1 (Some (digest_bytes f.command)) ++ bool_field 7 f.do_not_cache ++ bytes_field 9 f.salt ++ message_field 10 (platform_entry f.platform))
+frame_bytes f = spelling (
+    message_field 1 (Some (digest_bytes f.command)) ++
+    bool_field 7 f.do_not_cache ++
+    bytes_field 9 f.salt ++
+    message_field 10 (platform_entry f.platform))
 
 -- ---- what bytes say, or the first refusal: the shape, the digest and the platform, whether the digest is there
 

@@ -30,7 +30,10 @@ output_file_shape = single 1 kinds.String ∷ single 2 kinds.Message ∷ single 
 
 -- the one encoding of an output file
 unfoldable pub output_file_bytes : OutputFileValue → List ℕ
-output_file_bytes f = spelling (bytes_field 1 (path_text f.path) ++ message_field 2 (Some (digest_bytes f.digest)) ++ bool_field 4 f.executable)
+output_file_bytes f = spelling (
+    bytes_field 1 (path_text f.path) ++
+    message_field 2 (Some (digest_bytes f.digest)) ++
+    bool_field 4 f.executable)
 
 -- ---- what bytes say, or the first refusal: the shape, the digest, whether it is there, the path
 

@@ -53,7 +53,9 @@ unfoldable pub platform_of : PlatformValue → Result PlatformValue MessageError
 platform_of p = ascends_behind setting_cmp None p.properties >>= λ _. Ok p
 
 abbrev pub platform_in : List Record → Result PlatformValue MessageError
-platform_in rs = each decoded_setting (elements_at 1 rs) >>= λ properties. platform_of (record { properties = properties })
+platform_in rs =
+    each decoded_setting (elements_at 1 rs) >>= λ properties.
+    platform_of (record { properties = properties })
 
 unfoldable pub decoded_platform : List ℕ → Result PlatformValue MessageError
 decoded_platform bytes = shape_checked platform_shape bytes >>= platform_in

@@ -19,4 +19,6 @@ pub record IsStream (s : StreamValue) : Type 0 where
 
 -- the stream whose bytes are the field of this number, and whose digest is the next
 unfoldable pub stream_at : ℕ → List Record → Result StreamValue MessageError
-stream_at number rs = in_option decoded_digest (message_at (number + 1) rs) >>= λ digest. Ok (record { raw = bytes_at number rs; digest = digest })
+stream_at number rs =
+    in_option decoded_digest (message_at (number + 1) rs) >>= λ digest.
+    Ok (record { raw = bytes_at number rs; digest = digest })

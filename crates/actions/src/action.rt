@@ -170,7 +170,10 @@ impl<A: Allocator + Copy> Action<A> {
     /// 39, 33), and the missing digests by number (37).
     pub fn decode(alloc: A, bytes: &[u8]) -> Result<Action<A>, MessageError>
         ensures found { IfOk result (λ a. IsAction a × (bytes.now ≡ action_bytes a)) }
-        ensures only { (a : ActionValue) → IsAction a → bytes.now ≡ action_bytes a → GivesUnlessMemory (λ x. x) result (Ok a) }
+        ensures only { (a : ActionValue)
+            → IsAction a
+            → bytes.now ≡ action_bytes a
+            → GivesUnlessMemory (λ x. x) result (Ok a) }
         // Which refusal comes first.
         ensures exact { GivesUnlessMemory (λ a. a) result (decoded_action bytes.now) }
     {

@@ -40,9 +40,23 @@ impl<A: Allocator> Model for ActionResult<A> {
 
     ghost Value = { ActionResultValue };
 
-    ghost view = { λ a. record { files = a.files.items; directories = a.directories.items; symlinks = a.symlinks.items; exit_code = a.exit_code; stdout = a.stdout; stderr = a.stderr } };
+    ghost view = { λ a. record {
+      files = a.files.items;
+      directories = a.directories.items;
+      symlinks = a.symlinks.items;
+      exit_code = a.exit_code;
+      stdout = a.stdout;
+      stderr = a.stderr;
+    } };
 
-    ghost invariant = { λ a. IsActionResult (record { files = a.files.items; directories = a.directories.items; symlinks = a.symlinks.items; exit_code = a.exit_code; stdout = a.stdout; stderr = a.stderr }) };
+    ghost invariant = { λ a. IsActionResult (record {
+      files = a.files.items;
+      directories = a.directories.items;
+      symlinks = a.symlinks.items;
+      exit_code = a.exit_code;
+      stdout = a.stdout;
+      stderr = a.stderr;
+    }) };
 }
 
 /// Whether two of the paths of three ascending lists overlap.
@@ -75,7 +89,11 @@ fn check_outputs<A: Allocator>(
     directories: &[OutputDirectory<A>],
     symlinks: &[OutputSymlink<A>],
 ) -> Result<(), MessageError>
-    ensures exact { Gives (λ x. x) result (paths_checked (file_paths files.now) (directory_paths directories.now) (symlink_paths symlinks.now)) }
+    ensures exact { Gives (λ x. x) result
+        (paths_checked
+        (file_paths files.now)
+        (directory_paths directories.now)
+        (symlink_paths symlinks.now)) }
     ensures files { OnOk result (AllByRecursion IsOutputFile files.now) }
     ensures directories { OnOk result (AllByRecursion IsOutputDirectory directories.now) }
     ensures symlinks { OnOk result (AllByRecursion IsOutputSymlink symlinks.now) }
@@ -262,7 +280,10 @@ impl<A: Allocator + Copy> ActionResult<A> {
     /// 35), the order of each list (33), and outputs that overlap (34).
     pub fn decode(alloc: A, bytes: &[u8]) -> Result<ActionResult<A>, MessageError>
         ensures found { IfOk result (λ r. IsActionResult r × (bytes.now ≡ action_result_bytes r)) }
-        ensures only { (r : ActionResultValue) → IsActionResult r → bytes.now ≡ action_result_bytes r → GivesUnlessMemory (λ x. x) result (Ok r) }
+        ensures only { (r : ActionResultValue)
+            → IsActionResult r
+            → bytes.now ≡ action_result_bytes r
+            → GivesUnlessMemory (λ x. x) result (Ok r) }
         // Which refusal comes first.
         ensures exact { GivesUnlessMemory (λ r. r) result (decoded_action_result bytes.now) }
     {

@@ -1,6 +1,7 @@
 ghost use Rattle.std.specs.Prelude.{◌≡◌, ◌↔◌, Bool, None, IfOk, IfSome, IsOk, OnOk, Ok, map};
 ghost use Rattle.std.specs.Bool.{OnTrue};
 ghost use Rattle.std.specs.List.{AllByRecursion, list_all};
+ghost use Rattle.std.specs.Option.{option_copied};
 ghost use Rattle.std.specs.String.{string_bytes};
 ghost use Rattle.wire.specs.Steps.{Gives};
 ghost use Rattle.messages.specs.Gives.{GivesUnlessMemory};
@@ -38,9 +39,19 @@ impl<A: Allocator> Model for Command<A> {
 
     ghost Value = { CommandValue };
 
-    ghost view = { λ a. record { arguments = map string_bytes a.arguments.items; environment = a.environment.items; working_directory = a.working_directory; output_paths = a.output_paths.items } };
+    ghost view = { λ a. record {
+      arguments = map string_bytes a.arguments.items;
+      environment = a.environment.items;
+      working_directory = a.working_directory;
+      output_paths = a.output_paths.items;
+    } };
 
-    ghost invariant = { λ a. IsCommand (record { arguments = map string_bytes a.arguments.items; environment = a.environment.items; working_directory = a.working_directory; output_paths = a.output_paths.items }) };
+    ghost invariant = { λ a. IsCommand (record {
+      arguments = map string_bytes a.arguments.items;
+      environment = a.environment.items;
+      working_directory = a.working_directory;
+      output_paths = a.output_paths.items;
+    }) };
 }
 
 /// Whether no argument has a NUL.
@@ -89,7 +100,8 @@ fn check_texts<A: Allocator>(
     arguments: &[String<A>],
     environment: &[Setting<A>],
 ) -> Result<(), MessageError>
-    ensures exact { Gives (λ x. x) result (texts_checked (map string_bytes arguments.now) environment.now) }
+    ensures exact { Gives (λ x. x) result
+        (texts_checked (map string_bytes arguments.now) environment.now) }
     ensures kept { OnOk result (AllByRecursion IsSetting environment.now) }
 {
     let [program, ..] = arguments else {
@@ -171,7 +183,8 @@ impl<A: Allocator> Command<A> {
         working_directory: Option<Path<A>>,
         output_paths: Vec<Path<A>, A>,
     ) -> Command<A>
-        requires texts { texts_checked (map string_bytes arguments.items) environment.items ≡ Ok tt }
+        requires texts { texts_checked (map string_bytes arguments.items) environment.items
+            ≡ Ok tt }
         requires lists { lists_checked environment.items output_paths.items ≡ Ok tt }
         requires settings { AllByRecursion IsSetting environment.items }
         requires paths { AllByRecursion IsPath output_paths.items }
@@ -260,11 +273,11 @@ impl<A: Allocator> Command<A> {
     }
 
     /// The directory that the program starts in, below the input root; none for the root itself.
-    pub fn working_directory(&self) -> &Option<Path<A>>
-        ensures value { result.now ≡ self.now.working_directory }
+    pub fn working_directory(&self) -> Option<&Path<A>>
+        ensures value { option_copied result ≡ self.now.working_directory }
         ensures lawful { IsCommand self.now }
     {
-        &self.working_directory
+        self.working_directory.as_ref()
     }
 
     /// The paths of what the program makes, below the working directory, by their texts.
@@ -316,7 +329,10 @@ impl<A: Allocator + Copy> Command<A> {
     /// 34), and an output path under another (34).
     pub fn decode(alloc: A, bytes: &[u8]) -> Result<Command<A>, MessageError>
         ensures found { IfOk result (λ c. IsCommand c × (bytes.now ≡ command_bytes c)) }
-        ensures only { (c : CommandValue) → IsCommand c → bytes.now ≡ command_bytes c → GivesUnlessMemory (λ x. x) result (Ok c) }
+        ensures only { (c : CommandValue)
+            → IsCommand c
+            → bytes.now ≡ command_bytes c
+            → GivesUnlessMemory (λ x. x) result (Ok c) }
         // Which refusal comes first.
         ensures exact { GivesUnlessMemory (λ c. c) result (decoded_command bytes.now) }
     {

@@ -38,7 +38,8 @@ pub fn read_strings<A: Allocator + Copy>(
     alloc: A,
     elements: &[&[u8]],
 ) -> Result<Vec<String<A>, A>, MessageError>
-    ensures { GivesUnlessMemory (λ v. map string_bytes v.items) result (each string_of (slices elements.now)) }
+    ensures { GivesUnlessMemory (λ v. map string_bytes v.items) result
+        (each string_of (slices elements.now)) }
 {
     let mut strings = Vec::new(alloc);
     for bytes in elements {
@@ -69,7 +70,9 @@ pub fn write_strings<A: Allocator>(
 ) -> Result<(), AllocError>
     requires at_least { 1 ≤ number }
     requires at_most { number ≤ 536870911 }
-    ensures { OnOk result (out.new.items ≡ out.old.items ++ spelling (element_fields number (map string_bytes strings.now))) }
+    ensures { OnOk result
+        (out.new.items
+        ≡ out.old.items ++ spelling (element_fields number (map string_bytes strings.now))) }
 {
     for string in strings {
         write_element(out, number, string.as_bytes())?;
@@ -85,7 +88,9 @@ pub fn write_paths<A: Allocator>(
 ) -> Result<(), AllocError>
     requires at_least { 1 ≤ number }
     requires at_most { number ≤ 536870911 }
-    ensures { OnOk result (out.new.items ≡ out.old.items ++ spelling (element_fields number (texts_of paths.now))) }
+    ensures { OnOk result
+        (out.new.items
+        ≡ out.old.items ++ spelling (element_fields number (texts_of paths.now))) }
 {
     for path in paths {
         write_element(out, number, path.as_bytes())?;

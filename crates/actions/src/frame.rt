@@ -31,9 +31,19 @@ impl<A: Allocator> Model for Frame<A> {
 
     ghost Value = { FrameValue };
 
-    ghost view = { λ a. record { command = a.command_digest; do_not_cache = a.do_not_cache; salt = a.salt.items; platform = a.platform } };
+    ghost view = { λ a. record {
+      command = a.command_digest;
+      do_not_cache = a.do_not_cache;
+      salt = a.salt.items;
+      platform = a.platform;
+    } };
 
-    ghost invariant = { λ a. IsFrame (record { command = a.command_digest; do_not_cache = a.do_not_cache; salt = a.salt.items; platform = a.platform }) };
+    ghost invariant = { λ a. IsFrame (record {
+      command = a.command_digest;
+      do_not_cache = a.do_not_cache;
+      salt = a.salt.items;
+      platform = a.platform;
+    }) };
 }
 
 impl<A: Allocator> Frame<A> {
@@ -154,7 +164,10 @@ impl<A: Allocator + Copy> Frame<A> {
     /// digest (37).
     pub fn decode(alloc: A, bytes: &[u8]) -> Result<Frame<A>, MessageError>
         ensures found { IfOk result (λ f. IsFrame f × (bytes.now ≡ frame_bytes f)) }
-        ensures only { (f : FrameValue) → IsFrame f → bytes.now ≡ frame_bytes f → GivesUnlessMemory (λ x. x) result (Ok f) }
+        ensures only { (f : FrameValue)
+            → IsFrame f
+            → bytes.now ≡ frame_bytes f
+            → GivesUnlessMemory (λ x. x) result (Ok f) }
         // Which refusal comes first.
         ensures exact { GivesUnlessMemory (λ f. f) result (decoded_frame bytes.now) }
     {

@@ -41,7 +41,8 @@ impl<A: Allocator> Listed for Path<A> {
 
 /// Whether the paths strictly ascend by their texts.
 pub fn check_paths<L: Listed>(items: &[L]) -> Result<(), MessageError>
-    ensures exact { Gives (λ x. x) result (ascends_behind bytes_cmp None (texts_of (map L.path_in items.now))) }
+    ensures exact { Gives (λ x. x) result
+        (ascends_behind bytes_cmp None (texts_of (map L.path_in items.now))) }
     ensures kept { OnOk result (AllByRecursion L.keeps items.now) }
 {
     let mut before: Option<&[u8]> = None;
@@ -92,7 +93,8 @@ fn lies_under_some<L: Listed>(text: &[u8], items: &[L]) -> bool
 /// Whether a path lies under one of the others, which ascend.
 pub fn some_under<L: Listed, M: Listed>(items: &[L], others: &[M]) -> bool
     requires { IsAscendingBy bytes_cmp (texts_of (map M.path_in others.now)) }
-    ensures { result ≡ some_under (texts_of (map L.path_in items.now)) (texts_of (map M.path_in others.now)) }
+    ensures { result
+        ≡ some_under (texts_of (map L.path_in items.now)) (texts_of (map M.path_in others.now)) }
 {
     for item in items {
         if lies_under_some(item.path_text(), others) {
@@ -105,7 +107,8 @@ pub fn some_under<L: Listed, M: Listed>(items: &[L], others: &[M]) -> bool
 /// Whether a path is one of the others, which ascend.
 fn some_shared<L: Listed, M: Listed>(items: &[L], others: &[M]) -> bool
     requires { IsAscendingBy bytes_cmp (texts_of (map M.path_in others.now)) }
-    ensures { result ≡ share_name (texts_of (map L.path_in items.now)) (texts_of (map M.path_in others.now)) }
+    ensures { result
+        ≡ share_name (texts_of (map L.path_in items.now)) (texts_of (map M.path_in others.now)) }
 {
     for item in items {
         if has_text(others, item.path_text()) {
@@ -119,7 +122,8 @@ fn some_shared<L: Listed, M: Listed>(items: &[L], others: &[M]) -> bool
 pub fn some_cross<L: Listed, M: Listed>(items: &[L], others: &[M]) -> bool
     requires items { IsAscendingBy bytes_cmp (texts_of (map L.path_in items.now)) }
     requires others { IsAscendingBy bytes_cmp (texts_of (map M.path_in others.now)) }
-    ensures { result ≡ some_cross (texts_of (map L.path_in items.now)) (texts_of (map M.path_in others.now)) }
+    ensures { result
+        ≡ some_cross (texts_of (map L.path_in items.now)) (texts_of (map M.path_in others.now)) }
 {
     some_shared(items, others) || some_under(items, others) || some_under(others, items)
 }

@@ -58,7 +58,8 @@ impl<A: Allocator> Platform<A> {
     #[tactic(auto, unfolding(crate::specs::Platform::platform_of))]
     pub fn new(properties: Vec<Property<A>, A>) -> Result<Platform<A>, MessageError>
         ensures some { IsOk result ↔ IsAscendingBy setting_cmp properties.items }
-        ensures exact { Gives (λ p. p) result (platform_of (record { properties = properties.items })) }
+        ensures exact { Gives (λ p. p) result
+            (platform_of (record { properties = properties.items })) }
     {
         check_properties(&properties)?;
         Ok(Platform { properties })
@@ -105,7 +106,8 @@ pub(crate) fn read_platform<A: Allocator + Copy>(
     alloc: A,
     bytes: Option<&[u8]>,
 ) -> Result<Platform<A>, MessageError>
-    ensures { GivesUnlessMemory (λ p. p) result (platform_at (option_map (λ x. x.now) bytes.entry)) }
+    ensures { GivesUnlessMemory (λ p. p) result
+        (platform_at (option_map (λ x. x.now) bytes.entry)) }
 {
     match bytes {
         None => Platform::new(Vec::new(alloc)),
@@ -132,10 +134,14 @@ pub(crate) fn write_platform<A: Allocator + Copy>(
 
 impl<A: Allocator + Copy> Platform<A> {
     /// The platform whose canonical encoding the bytes are. The first refusal is that of the first
-    /// of: the fields (31, 36), the properties in the order of the bytes (31, 36), their order (33).
+    /// of: the fields (31, 36), the properties in the order of the bytes (31, 36), and their order
+    /// (33).
     pub fn decode(alloc: A, bytes: &[u8]) -> Result<Platform<A>, MessageError>
         ensures found { IfOk result (λ p. IsPlatform p × (bytes.now ≡ platform_bytes p)) }
-        ensures only { (p : PlatformValue) → IsPlatform p → bytes.now ≡ platform_bytes p → GivesUnlessMemory (λ x. x) result (Ok p) }
+        ensures only { (p : PlatformValue)
+            → IsPlatform p
+            → bytes.now ≡ platform_bytes p
+            → GivesUnlessMemory (λ x. x) result (Ok p) }
         // Which refusal comes first.
         ensures exact { GivesUnlessMemory (λ p. p) result (decoded_platform bytes.now) }
     {

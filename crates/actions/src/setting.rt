@@ -32,7 +32,10 @@ impl<A: Allocator> Model for Setting<A> {
 
     ghost view = { λ a. record { name = string_bytes a.name; value = string_bytes a.value } };
 
-    ghost invariant = { λ a. IsSetting (record { name = string_bytes a.name; value = string_bytes a.value }) };
+    ghost invariant = { λ a. IsSetting (record {
+      name = string_bytes a.name;
+      value = string_bytes a.value;
+    }) };
 }
 
 impl<A: Allocator> Setting<A> {
