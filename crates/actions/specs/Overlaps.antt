@@ -1,0 +1,33 @@
+-- Paths that stand side by side: none equals another or lies under it.
+use Rattle.std.specs.Prelude.{ℕ, Bool, false, ◌==◌, ◌&&◌, ◌||◌, List, [], ◌∷◌, map}
+use Rattle.std.specs.List.{AllByRecursion, list_any}
+use Rattle.messages.specs.Order.{share_name}
+use Rattle.messages.specs.Path.{Overlap, begins_with_slash, path_text}
+
+-- no two paths of the list overlap
+abbrev pub ArePathsApart : List (List (List ℕ)) → Type 0
+ArePathsApart [] = Unit {0}
+ArePathsApart (path ∷ paths) = AllByRecursion (λ other. Overlap path other → ⊥) paths × ArePathsApart paths
+
+-- ---- the test, by the texts of the paths
+
+-- the text goes on with a slash behind the other
+abbrev pub is_under : List ℕ → List ℕ → Bool
+is_under text [] = begins_with_slash text
+is_under [] (b ∷ above) = false
+is_under (a ∷ text) (b ∷ above) = (a == b) && is_under text above
+
+-- whether the path lies under one of the others
+abbrev pub lies_under_some : List (List ℕ) → List ℕ → Bool
+lies_under_some others text = list_any (is_under text) others
+
+-- whether a path of the first list lies under one of the second
+abbrev pub some_under : List (List ℕ) → List (List ℕ) → Bool
+some_under texts others = list_any (lies_under_some others) texts
+
+-- whether a path of one list overlaps one of the other
+abbrev pub some_cross : List (List ℕ) → List (List ℕ) → Bool
+some_cross texts others = share_name texts others || some_under texts others || some_under others texts
+
+abbrev pub texts_of : List (List (List ℕ)) → List (List ℕ)
+texts_of paths = map path_text paths

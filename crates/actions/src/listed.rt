@@ -1,0 +1,129 @@
+ghost use Rattle.std.specs.Prelude.{◌≡◌, ℕ, List, map, None, OnOk};
+ghost use Rattle.std.specs.List.{AllByRecursion};
+ghost use Rattle.wire.specs.Steps.{Gives};
+ghost use Rattle.messages.specs.Order.{bytes_cmp, has_name, share_name};
+ghost use Rattle.actions.specs.Ascending.{IsAscendingBy, ascends_behind};
+ghost use Rattle.actions.specs.Overlaps.{lies_under_some, some_under, some_cross, texts_of};
+
+use messages::{MessageError, Path};
+use std::alloc::Allocator;
+use std::cmp::Ordering;
+
+/// What stands in a list by its path.
+pub trait Listed {
+    ghost use Rattle.std.specs.Prelude.{◌≡◌, ℕ, List};
+    ghost use Rattle.messages.specs.Path.{IsPath, path_text};
+
+    /// Its path.
+    ghost path_in: { Self → List (List ℕ) };
+
+    /// The rules of its values.
+    ghost keeps: { Self → Type 0 };
+
+    /// The bytes of the path's text.
+    fn path_text(&self) -> &[u8]
+        ensures text { result.now ≡ path_text (path_in self.now) }
+        ensures path { IsPath (path_in self.now) }
+        ensures kept { keeps self.now };
+}
+
+impl<A: Allocator> Listed for Path<A> {
+    ghost use Rattle.messages.specs.Path.{IsPath};
+
+    ghost path_in = { λ path. path };
+
+    ghost keeps = { IsPath };
+
+    fn path_text(&self) -> &[u8] {
+        self.as_bytes()
+    }
+}
+
+/// Whether the paths strictly ascend by their texts.
+pub fn check_paths<L: Listed>(items: &[L]) -> Result<(), MessageError>
+    ensures exact { Gives (λ x. x) result
+        (ascends_behind bytes_cmp None (texts_of (map L.path_in items.now))) }
+    ensures kept { OnOk result (AllByRecursion L.keeps items.now) }
+{
+    let mut before: Option<&[u8]> = None;
+    for item in items {
+        let text = item.path_text();
+        if let Some(before) = before {
+            match before.cmp(text) {
+                Ordering::Less => {}
+                Ordering::Equal | Ordering::Greater => return Err(MessageError::Unsorted),
+            }
+        }
+        before = Some(text);
+    }
+    Ok(())
+}
+
+/// Whether a path of ascending ones has this text, by binary search.
+fn has_text<L: Listed>(items: &[L], text: &[u8]) -> bool
+    requires { IsAscendingBy bytes_cmp (texts_of (map L.path_in items.now)) }
+    ensures { result ≡ has_name (texts_of (map L.path_in items.now)) text.now }
+{
+    let mut low = 0;
+    let mut high = items.len();
+    while low < high {
+        let middle = low + (high - low) / 2;
+        match items[middle].path_text().cmp(text) {
+            Ordering::Less => low = middle + 1,
+            Ordering::Greater => high = middle,
+            Ordering::Equal => return true,
+        }
+    }
+    false
+}
+
+/// Whether the path of this text lies under one of ascending ones.
+fn lies_under_some<L: Listed>(text: &[u8], items: &[L]) -> bool
+    requires { IsAscendingBy bytes_cmp (texts_of (map L.path_in items.now)) }
+    ensures { result ≡ lies_under_some (texts_of (map L.path_in items.now)) text.now }
+{
+    for (index, byte) in text.iter().enumerate() {
+        if *byte == b'/' && has_text(items, &text[..index]) {
+            return true;
+        }
+    }
+    false
+}
+
+/// Whether a path lies under one of the others, which ascend.
+pub fn some_under<L: Listed, M: Listed>(items: &[L], others: &[M]) -> bool
+    requires { IsAscendingBy bytes_cmp (texts_of (map M.path_in others.now)) }
+    ensures { result
+        ≡ some_under (texts_of (map L.path_in items.now)) (texts_of (map M.path_in others.now)) }
+{
+    for item in items {
+        if lies_under_some(item.path_text(), others) {
+            return true;
+        }
+    }
+    false
+}
+
+/// Whether a path is one of the others, which ascend.
+fn some_shared<L: Listed, M: Listed>(items: &[L], others: &[M]) -> bool
+    requires { IsAscendingBy bytes_cmp (texts_of (map M.path_in others.now)) }
+    ensures { result
+        ≡ share_name (texts_of (map L.path_in items.now)) (texts_of (map M.path_in others.now)) }
+{
+    for item in items {
+        if has_text(others, item.path_text()) {
+            return true;
+        }
+    }
+    false
+}
+
+/// Whether a path of one ascending list overlaps one of another.
+pub fn some_cross<L: Listed, M: Listed>(items: &[L], others: &[M]) -> bool
+    requires items { IsAscendingBy bytes_cmp (texts_of (map L.path_in items.now)) }
+    requires others { IsAscendingBy bytes_cmp (texts_of (map M.path_in others.now)) }
+    ensures { result
+        ≡ some_cross (texts_of (map L.path_in items.now)) (texts_of (map M.path_in others.now)) }
+{
+    some_shared(items, others) || some_under(items, others) || some_under(others, items)
+}

@@ -1,0 +1,283 @@
+mod rows;
+
+use crate::*;
+use blob_digest::Digest;
+use messages::{MessageError, Path, Target};
+use refusing::Refusing;
+use rows::*;
+use std::alloc::{AllocError, Allocator};
+use std::test::Fail;
+
+/// The hashes of the bytes `123456789`, of one newline and of no bytes, as `sha256sum` prints them.
+pub const NINE: &[u8] = b"15e2b0d3c33891ebb0f1ef609ec419420c20e320ce94c65fbc8c3312448eb225";
+
+pub const LINE: &[u8] = b"01ba4719c80b6fe911b091a7c05124b64eeece964e09c058ef8f9805daca546b";
+
+pub const EMPTY: &[u8] = b"e3b0c44298fc1c149afbf4c8996fb92427ae41e4649b934ca495991b7852b855";
+
+/// What is read, and whether it is written again.
+#[derive(Clone, Copy, Debug, PartialEq, Eq)]
+pub enum Kind {
+    Platform,
+    Command,
+    Frame,
+    Action,
+    Result,
+}
+
+pub type Row = (Kind, &'static [&'static [u8]], Result<usize, MessageError>);
+
+fn joined<A: Allocator>(alloc: A, pieces: &[&[u8]]) -> Result<Vec<u8, A>, AllocError> {
+    let mut out = Vec::new(alloc);
+    for piece in pieces {
+        out.extend_from_slice(piece)?;
+    }
+    Ok(out)
+}
+
+/// The length of what is read and written again, if that is the same.
+fn again<A: Allocator + Copy>(alloc: A, kind: Kind, bytes: &[u8]) -> Result<usize, MessageError> {
+    let text = match kind {
+        Kind::Platform => Platform::decode(alloc, bytes)?.encode(alloc)?,
+        Kind::Command => Command::decode(alloc, bytes)?.encode(alloc)?,
+        Kind::Frame => Frame::decode(alloc, bytes)?.encode(alloc)?,
+        Kind::Action => Action::decode(alloc, bytes)?.encode(alloc)?,
+        Kind::Result => ActionResult::decode(alloc, bytes)?.encode(alloc)?,
+    };
+    if text.as_slice() == bytes {
+        Ok(text.len())
+    } else {
+        Err(MessageError::BadTree)
+    }
+}
+
+/// How many requests a row makes, if it is answered as it says where none is refused, and want of
+/// memory is told where one is.
+fn requests_of<A: Allocator + Copy>(alloc: A, row: Row) -> Result<u64, MessageError> {
+    let (kind, pieces, expected) = row;
+    let bytes = joined(alloc, pieces)?;
+    for number in 1..1000u64 {
+        let heap = Refusing::new(alloc, number);
+        let answer = again(&heap, kind, &bytes);
+        if !heap.has_refused() && answer == expected {
+            return Ok(number);
+        }
+        if answer != Err(MessageError::Memory) {
+            return Err(MessageError::BadTree);
+        }
+    }
+    Err(MessageError::BadTree)
+}
+
+#[test]
+fn platform_1(rt: HostRuntime) -> Result<(), Fail> {
+    for row in PLATFORM_1 {
+        assert!(rt; requests_of(rt.alloc(), row).is_ok(), "{row:?}");
+    }
+    Ok(())
+}
+
+#[test]
+fn command_1(rt: HostRuntime) -> Result<(), Fail> {
+    for row in COMMAND_1 {
+        assert!(rt; requests_of(rt.alloc(), row).is_ok(), "{row:?}");
+    }
+    Ok(())
+}
+
+#[test]
+fn command_2(rt: HostRuntime) -> Result<(), Fail> {
+    for row in COMMAND_2 {
+        assert!(rt; requests_of(rt.alloc(), row).is_ok(), "{row:?}");
+    }
+    Ok(())
+}
+
+#[test]
+fn frame_1(rt: HostRuntime) -> Result<(), Fail> {
+    for row in FRAME_1 {
+        assert!(rt; requests_of(rt.alloc(), row).is_ok(), "{row:?}");
+    }
+    Ok(())
+}
+
+#[test]
+fn action_1(rt: HostRuntime) -> Result<(), Fail> {
+    for row in ACTION_1 {
+        assert!(rt; requests_of(rt.alloc(), row).is_ok(), "{row:?}");
+    }
+    Ok(())
+}
+
+#[test]
+fn result_1(rt: HostRuntime) -> Result<(), Fail> {
+    for row in RESULT_1 {
+        assert!(rt; requests_of(rt.alloc(), row).is_ok(), "{row:?}");
+    }
+    Ok(())
+}
+
+#[test]
+fn result_2(rt: HostRuntime) -> Result<(), Fail> {
+    for row in RESULT_2 {
+        assert!(rt; requests_of(rt.alloc(), row).is_ok(), "{row:?}");
+    }
+    Ok(())
+}
+
+#[test]
+fn result_3(rt: HostRuntime) -> Result<(), Fail> {
+    for row in RESULT_3 {
+        assert!(rt; requests_of(rt.alloc(), row).is_ok(), "{row:?}");
+    }
+    Ok(())
+}
+
+fn string<A: Allocator>(alloc: A, text: &str) -> Result<String<A>, AllocError> {
+    String::from_str(alloc, text)
+}
+
+/// The encoding of a command that runs `/bin/true` with `A` empty in the folder `w`, for `out`.
+fn command_by_parts<A: Allocator + Copy>(alloc: A) -> Result<Vec<u8, A>, MessageError> {
+    let mut arguments = Vec::new(alloc);
+    arguments.push(string(alloc, "/bin/true")?)?;
+    let mut environment = Vec::new(alloc);
+    environment.push(EnvironmentVariable::new(string(alloc, "A")?, String::new(alloc)))?;
+    let mut output_paths = Vec::new(alloc);
+    output_paths.push(Path::new(alloc, b"out")?)?;
+    let directory = Some(Path::new(alloc, b"w")?);
+    let command = Command::new(arguments, environment, directory, output_paths)?;
+    Ok(command.encode(alloc)?)
+}
+
+/// The encoding of a result that has one output of each kind.
+fn result_by_parts<A: Allocator + Copy>(alloc: A) -> Result<Vec<u8, A>, MessageError> {
+    let mut files = Vec::new(alloc);
+    files.push(OutputFile {
+        path: Path::new(alloc, b"f")?,
+        digest: Digest::of(b"123456789"),
+        executable: true,
+    })?;
+    let mut directories = Vec::new(alloc);
+    directories.push(OutputDirectory {
+        path: Path::new(alloc, b"d")?,
+        tree_digest: Digest::of(b"\n"),
+    })?;
+    let mut symlinks = Vec::new(alloc);
+    symlinks.push(OutputSymlink {
+        path: Path::new(alloc, b"l")?,
+        target: Target::new(alloc, b"t")?,
+    })?;
+    let stdout = Stream::new(Vec::from_slice(alloc, b"o")?, None);
+    let stderr = Stream::new(Vec::new(alloc), Some(Digest::empty()));
+    let result = ActionResult::new(files, directories, symlinks, -1, stdout, stderr)?;
+    Ok(result.encode(alloc)?)
+}
+
+/// The encoding of an action that does all that it can.
+fn action_by_parts<A: Allocator + Copy>(alloc: A) -> Result<Vec<u8, A>, MessageError> {
+    let mut properties = Vec::new(alloc);
+    properties.push(Property::new(string(alloc, "a")?, string(alloc, "1")?))?;
+    let platform = Platform::new(properties)?;
+    let salt = Vec::from_slice(alloc, b"s")?;
+    let action = Action::new(Digest::of(b"\n"), Digest::empty(), true, salt, platform);
+    Ok(action.encode(alloc)?)
+}
+
+fn by_parts<A: Allocator + Copy>(alloc: A, kind: Kind) -> Result<Vec<u8, A>, MessageError> {
+    match kind {
+        Kind::Command => command_by_parts(alloc),
+        Kind::Result => result_by_parts(alloc),
+        _ => action_by_parts(alloc),
+    }
+}
+
+/// The length of what the parts make, if it is these bytes.
+fn makes<A: Allocator + Copy>(alloc: A, kind: Kind, bytes: &[u8]) -> Result<usize, MessageError> {
+    let made = by_parts(alloc, kind)?;
+    if made.as_slice() == bytes {
+        Ok(made.len())
+    } else {
+        Err(MessageError::BadTree)
+    }
+}
+
+const MADE: [(Kind, &[&[u8]]); 3] = [
+    (
+        Kind::Command,
+        &[b"\x0a\x09/bin/true\x12\x03\x0a\x01A\x32\x01w\x3a\x03out"],
+    ),
+    (
+        Kind::Result,
+        &[
+            b"\x12\x4b\x0a\x01f\x12\x44\x0a\x40",
+            NINE,
+            b"\x10\x09\x20\x01\x1a\x49\x0a\x01d\x1a\x44\x0a\x40",
+            LINE,
+            b"\x10\x01\x20\xff\xff\xff\xff\xff\xff\xff\xff\xff\x01\x2a\x01o\x42\x42\x0a\x40",
+            EMPTY,
+            b"\x62\x06\x0a\x01l\x12\x01t",
+        ],
+    ),
+    (
+        Kind::Action,
+        &[
+            b"\x0a\x44\x0a\x40",
+            LINE,
+            b"\x10\x01\x12\x42\x0a\x40",
+            EMPTY,
+            b"\x38\x01\x4a\x01s\x52\x08\x0a\x06\x0a\x01a\x12\x011",
+        ],
+    ),
+];
+
+#[test]
+fn messages_by_parts(rt: HostRuntime) -> Result<(), Fail> {
+    let mut refused = 0u64;
+    for (kind, pieces) in MADE {
+        let bytes = joined(rt.alloc(), pieces)?;
+        for number in 1..1000u64 {
+            let heap = Refusing::new(rt.alloc(), number);
+            let answer = makes(&heap, kind, &bytes);
+            if !heap.has_refused() {
+                assert_eq!(rt; answer, Ok(bytes.len()));
+                break;
+            }
+            assert_eq!(rt; answer, Err(MessageError::Memory), "request {number}");
+            refused = refused.saturating_add(1);
+        }
+    }
+    assert!(rt; refused > 30, "{refused}");
+    Ok(())
+}
+
+/// The encoding of an action's frame.
+fn frame_in<A: Allocator + Copy>(alloc: A, bytes: &[u8]) -> Result<Vec<u8, A>, MessageError> {
+    let action = Action::decode(alloc, bytes)?;
+    Ok(action.frame().encode(alloc)?)
+}
+
+/// The encoding of an action with the frame of these bytes and no input.
+fn action_of<A: Allocator + Copy>(alloc: A, bytes: &[u8]) -> Result<Vec<u8, A>, MessageError> {
+    let frame = Frame::decode(alloc, bytes)?;
+    let action = frame.with_input(Digest::empty());
+    Ok(
+        action
+            .into_frame()
+            .with_input(Digest::empty())
+            .encode(alloc)?,
+    )
+}
+
+#[test]
+fn frames_and_actions(rt: HostRuntime) -> Result<(), Fail> {
+    let without = joined(rt.alloc(), &[b"\x0a\x44\x0a\x40", LINE, b"\x10\x01"])?;
+    let whole = joined(rt.alloc(), &[&without, b"\x12\x42\x0a\x40", EMPTY])?;
+    let frame = frame_in(rt.alloc(), &whole)?;
+    assert_eq!(rt; frame.len(), 70);
+    assert!(rt; frame.as_slice() == without.as_slice());
+    let action = action_of(rt.alloc(), &frame)?;
+    assert_eq!(rt; action.len(), 138);
+    assert!(rt; action.as_slice() == whole.as_slice());
+    Ok(())
+}

@@ -1,0 +1,569 @@
+use super::{EMPTY, Kind, LINE, NINE, Row};
+use blob_digest::DigestError;
+use canonical::CanonError;
+use messages::MessageError;
+
+// The pieces of messages as protobuf encodes them, and their length or the refusal.
+// tools/action_vectors.py prints this file.
+
+pub const PLATFORM_1: [Row; 9] = [
+    (Kind::Platform, &[], Ok(0)),
+    (
+        Kind::Platform,
+        &[b"\x0a\x03\x0a\x01a\x0a\x06\x0a\x01a\x12\x011\x0a\x03\x0a\x01b"],
+        Ok(18),
+    ),
+    (
+        Kind::Platform,
+        &[
+            b"\x0a\x03\x12\x01x\x0a\x05\x0a\x03\xef\xbd\x9e\x0a\x09\x0a\x04\xf0\x9f\x98\x80\x12\x01\x00",
+        ],
+        Ok(23),
+    ),
+    (
+        Kind::Platform,
+        &[b"\x0a\x03\x0a\x01b\x0a\x03\x0a\x01a"],
+        Err(MessageError::Unsorted),
+    ),
+    (
+        Kind::Platform,
+        &[b"\x0a\x06\x0a\x01a\x12\x011\x0a\x03\x0a\x01a"],
+        Err(MessageError::Unsorted),
+    ),
+    (
+        Kind::Platform,
+        &[b"\x0a\x06\x0a\x01a\x12\x011\x0a\x06\x0a\x01a\x12\x011"],
+        Err(MessageError::Unsorted),
+    ),
+    (
+        Kind::Platform,
+        &[b"\x12\x00"],
+        Err(MessageError::Unsupported(2)),
+    ),
+    (
+        Kind::Platform,
+        &[b"\x0a\x02\x0a\x00"],
+        Err(MessageError::Wire(CanonError::DefaultWritten)),
+    ),
+    (
+        Kind::Platform,
+        &[b"\x0a\x03\x0a\x01\xff"],
+        Err(MessageError::Wire(CanonError::BadUtf8)),
+    ),
+];
+
+pub const COMMAND_1: [Row; 14] = [
+    (Kind::Command, &[b"\x0a\x09/bin/true:\x03out"], Ok(16)),
+    (
+        Kind::Command,
+        &[b"\x0a\x09/bin/true\x12\x03\x0a\x01A"],
+        Ok(16),
+    ),
+    (
+        Kind::Command,
+        &[
+            b"\x0a\x07/bin/sh\x0a\x02-c\x0a\x00\x12\x08\x0a\x01A\x12\x031=2\x12\x03\x0a\x01B\x12\x07\x0a\x01b\x12\x02\xc3\xa92\x03a/b:\x03a-b:\x03a/x:\x03\xef\xbd\x9e:\x04\xf0\x9f\x98\x80",
+        ],
+        Ok(65),
+    ),
+    (Kind::Command, &[], Err(MessageError::MissingField(1))),
+    (
+        Kind::Command,
+        &[b"\x12\x03\x0a\x01=2\x01/"],
+        Err(MessageError::MissingField(1)),
+    ),
+    (
+        Kind::Command,
+        &[b"\x0a\x09/bin/true:\x01o:\x03o/p"],
+        Err(MessageError::SameName),
+    ),
+    (
+        Kind::Command,
+        &[b"\x0a\x09/bin/true:\x03o/p:\x01o"],
+        Err(MessageError::Unsorted),
+    ),
+    (
+        Kind::Command,
+        &[b"\x0a\x09/bin/true:\x01o:\x01o"],
+        Err(MessageError::Unsorted),
+    ),
+    (
+        Kind::Command,
+        &[b"\x0a\x09/bin/true:\x01a:\x03a!x:\x03a/b"],
+        Err(MessageError::SameName),
+    ),
+    (
+        Kind::Command,
+        &[b"\x0a\x09/bin/true:\x03a-b:\x03a/b:\x02a0"],
+        Ok(25),
+    ),
+    (
+        Kind::Command,
+        &[b"\x0a\x09/bin/true:\x04\xf0\x9f\x98\x80:\x03\xef\xbd\x9e"],
+        Err(MessageError::Unsorted),
+    ),
+    (Kind::Command, &[b"\x0a\x00"], Err(MessageError::BadText(1))),
+    (
+        Kind::Command,
+        &[b"\x0a\x01a\x0a\x01\x00"],
+        Err(MessageError::BadText(1)),
+    ),
+    (
+        Kind::Command,
+        &[b"\x0a\x09/bin/true\x12\x03\x12\x01x"],
+        Err(MessageError::BadText(2)),
+    ),
+];
+
+pub const COMMAND_2: [Row; 14] = [
+    (
+        Kind::Command,
+        &[b"\x0a\x09/bin/true\x12\x05\x0a\x03a=b2\x01/"],
+        Err(MessageError::BadText(2)),
+    ),
+    (
+        Kind::Command,
+        &[b"\x0a\x09/bin/true\x12\x04\x0a\x02a\x00"],
+        Err(MessageError::BadText(2)),
+    ),
+    (
+        Kind::Command,
+        &[b"\x0a\x09/bin/true\x12\x06\x0a\x01a\x12\x01\x00"],
+        Err(MessageError::BadText(2)),
+    ),
+    (
+        Kind::Command,
+        &[b"\x0a\x09/bin/true\x12\x03\x0a\x01B\x12\x03\x0a\x01A"],
+        Err(MessageError::Unsorted),
+    ),
+    (
+        Kind::Command,
+        &[b"\x0a\x09/bin/true\x12\x06\x0a\x01A\x12\x011\x12\x06\x0a\x01A\x12\x012:\x01b:\x01a"],
+        Err(MessageError::SameName),
+    ),
+    (
+        Kind::Command,
+        &[b"\x0a\x09/bin/true\x12\x03\x0a\x01B\x12\x03\x0a\x01A2\x02a/"],
+        Err(MessageError::BadPath),
+    ),
+    (
+        Kind::Command,
+        &[b"\x0a\x09/bin/true:\x01b:\x01a:\x00"],
+        Err(MessageError::BadPath),
+    ),
+    (
+        Kind::Command,
+        &[b"\x0a\x09/bin/true2\x01."],
+        Err(MessageError::BadPath),
+    ),
+    (
+        Kind::Command,
+        &[b"\x0a\x09/bin/true\x1a\x03out"],
+        Err(MessageError::Unsupported(3)),
+    ),
+    (
+        Kind::Command,
+        &[b"\x0a\x09/bin/true*\x05\x0a\x03\x0a\x01a"],
+        Err(MessageError::Unsupported(5)),
+    ),
+    (
+        Kind::Command,
+        &[b"\x12\x02\x1a\x00"],
+        Err(MessageError::Unsupported(3)),
+    ),
+    (
+        Kind::Command,
+        &[b"\x12\x03\x0a\x01A\x0a\x01a"],
+        Err(MessageError::Wire(CanonError::OutOfOrder)),
+    ),
+    (
+        Kind::Command,
+        &[b"\x0a\x01a2\x00"],
+        Err(MessageError::Wire(CanonError::DefaultWritten)),
+    ),
+    (
+        Kind::Command,
+        &[b"\x0a\x01a2\x01b2\x01b"],
+        Err(MessageError::Wire(CanonError::Repeated)),
+    ),
+];
+
+pub const FRAME_1: [Row; 11] = [
+    (Kind::Frame, &[b"\x0aD\x0a@", LINE, b"\x10\x01"], Ok(70)),
+    (
+        Kind::Frame,
+        &[b"\x0aD\x0a@", LINE, b"\x10\x018\x01"],
+        Ok(72),
+    ),
+    (
+        Kind::Frame,
+        &[
+            b"\x0aD\x0a@",
+            LINE,
+            b"\x10\x018\x01J\x02\x00\xffR\x08\x0a\x06\x0a\x01a\x12\x011",
+        ],
+        Ok(86),
+    ),
+    (
+        Kind::Frame,
+        &[b"\x0aD\x0a@", LINE, b"\x10\x01R\x00"],
+        Err(MessageError::Wire(CanonError::DefaultWritten)),
+    ),
+    (
+        Kind::Frame,
+        &[b"\x0aD\x0a@", LINE, b"\x10\x01\x12B\x0a@", EMPTY],
+        Err(MessageError::Unsupported(2)),
+    ),
+    (Kind::Frame, &[], Err(MessageError::MissingField(1))),
+    (
+        Kind::Frame,
+        &[b"R\x0a\x0a\x03\x0a\x01b\x0a\x03\x0a\x01a"],
+        Err(MessageError::Unsorted),
+    ),
+    (
+        Kind::Frame,
+        &[b"\x0aD\x0a@15E2B0D3C33891EBB0F1EF609EC419420C20E320CE94C65FBC8C3312448EB225\x10\x09"],
+        Err(MessageError::BadDigest(DigestError::BadHex)),
+    ),
+    (
+        Kind::Frame,
+        &[b"8\x00"],
+        Err(MessageError::Wire(CanonError::DefaultWritten)),
+    ),
+    (
+        Kind::Frame,
+        &[b"8\x02"],
+        Err(MessageError::Wire(CanonError::OutOfRange)),
+    ),
+    (
+        Kind::Frame,
+        &[b"J\x00"],
+        Err(MessageError::Wire(CanonError::DefaultWritten)),
+    ),
+];
+
+pub const ACTION_1: [Row; 9] = [
+    (
+        Kind::Action,
+        &[b"\x0aD\x0a@", LINE, b"\x10\x01\x12B\x0a@", EMPTY],
+        Ok(138),
+    ),
+    (
+        Kind::Action,
+        &[b"\x0aD\x0a@", LINE, b"\x10\x01\x12B\x0a@", EMPTY, b"8\x01"],
+        Ok(140),
+    ),
+    (
+        Kind::Action,
+        &[
+            b"\x0aD\x0a@",
+            LINE,
+            b"\x10\x01\x12D\x0a@",
+            NINE,
+            b"\x10\x098\x01J\x04saltR\x08\x0a\x06\x0a\x01a\x12\x011",
+        ],
+        Ok(158),
+    ),
+    (
+        Kind::Action,
+        &[b"\x0aD\x0a@", LINE, b"\x10\x01"],
+        Err(MessageError::MissingField(2)),
+    ),
+    (
+        Kind::Action,
+        &[b"\x12B\x0a@", EMPTY],
+        Err(MessageError::MissingField(1)),
+    ),
+    (Kind::Action, &[], Err(MessageError::MissingField(1))),
+    (
+        Kind::Action,
+        &[b"\x0aD\x0a@", LINE, b"\x10\x01\x12B\x0a@", EMPTY, b"2\x00"],
+        Err(MessageError::Unsupported(6)),
+    ),
+    (
+        Kind::Action,
+        &[b"R\x00"],
+        Err(MessageError::Wire(CanonError::DefaultWritten)),
+    ),
+    (
+        Kind::Action,
+        &[
+            b"\x0aD\x0a@15E2B0D3C33891EBB0F1EF609EC419420C20E320CE94C65FBC8C3312448EB225\x10\x09\x12D\x0a@15E2B0D3C33891EBB0F1EF609EC419420C20E320CE94C65FBC8C3312448EB225\x10\x09",
+        ],
+        Err(MessageError::BadDigest(DigestError::BadHex)),
+    ),
+];
+
+pub const RESULT_1: [Row; 14] = [
+    (Kind::Result, &[], Ok(0)),
+    (
+        Kind::Result,
+        &[b" \xff\xff\xff\xff\xff\xff\xff\xff\xff\x01"],
+        Ok(11),
+    ),
+    (Kind::Result, &[b" \xff\xff\xff\xff\x07"], Ok(6)),
+    (
+        Kind::Result,
+        &[b" \x80\x80\x80\x80\xf8\xff\xff\xff\xff\x01"],
+        Ok(11),
+    ),
+    (
+        Kind::Result,
+        &[b"\x1aK\x0a\x03out\x1aD\x0a@", NINE, b"\x10\x09"],
+        Ok(77),
+    ),
+    (
+        Kind::Result,
+        &[b"\x12I\x0a\x01f\x12D\x0a@", NINE, b"\x10\x09"],
+        Ok(75),
+    ),
+    (
+        Kind::Result,
+        &[
+            b"\x12K\x0a\x03a-b\x12D\x0a@",
+            NINE,
+            b"\x10\x09\x12M\x0a\x03a/b\x12D\x0a@",
+            LINE,
+            b"\x10\x01 \x01\x1aI\x0a\x01d\x1aD\x0a@",
+            LINE,
+            b"\x10\x01 \x03*\x04out\x0a2D\x0a@",
+            NINE,
+            b"\x10\x09:\x01\xffBB\x0a@",
+            EMPTY,
+            b"b\x0b\x0a\x03a/l\x12\x04../x",
+        ],
+        Ok(393),
+    ),
+    (
+        Kind::Result,
+        &[
+            b"\x12I\x0a\x01b\x12D\x0a@",
+            NINE,
+            b"\x10\x09\x12I\x0a\x01a\x12D\x0a@",
+            NINE,
+            b"\x10\x09",
+        ],
+        Err(MessageError::Unsorted),
+    ),
+    (
+        Kind::Result,
+        &[
+            b"\x12I\x0a\x01a\x12D\x0a@",
+            NINE,
+            b"\x10\x09\x12I\x0a\x01a\x12D\x0a@",
+            NINE,
+            b"\x10\x09",
+        ],
+        Err(MessageError::Unsorted),
+    ),
+    (
+        Kind::Result,
+        &[
+            b"\x1aI\x0a\x01b\x1aD\x0a@",
+            NINE,
+            b"\x10\x09\x1aI\x0a\x01a\x1aD\x0a@",
+            NINE,
+            b"\x10\x09",
+        ],
+        Err(MessageError::Unsorted),
+    ),
+    (
+        Kind::Result,
+        &[b"b\x06\x0a\x01b\x12\x01tb\x06\x0a\x01a\x12\x01t"],
+        Err(MessageError::Unsorted),
+    ),
+    (
+        Kind::Result,
+        &[
+            b"\x12I\x0a\x01a\x12D\x0a@",
+            NINE,
+            b"\x10\x09\x12K\x0a\x03a/b\x12D\x0a@",
+            NINE,
+            b"\x10\x09",
+        ],
+        Err(MessageError::SameName),
+    ),
+    (
+        Kind::Result,
+        &[
+            b"\x1aI\x0a\x01a\x1aD\x0a@",
+            NINE,
+            b"\x10\x09\x1aK\x0a\x03a!x\x1aD\x0a@",
+            NINE,
+            b"\x10\x09\x1aK\x0a\x03a/b\x1aD\x0a@",
+            NINE,
+            b"\x10\x09",
+        ],
+        Err(MessageError::SameName),
+    ),
+    (
+        Kind::Result,
+        &[b"b\x06\x0a\x01a\x12\x01tb\x0a\x0a\x05a/b/c\x12\x01t"],
+        Err(MessageError::SameName),
+    ),
+];
+
+pub const RESULT_2: [Row; 14] = [
+    (
+        Kind::Result,
+        &[
+            b"\x12I\x0a\x01o\x12D\x0a@",
+            NINE,
+            b"\x10\x09\x1aI\x0a\x01o\x1aD\x0a@",
+            NINE,
+            b"\x10\x09",
+        ],
+        Err(MessageError::SameName),
+    ),
+    (
+        Kind::Result,
+        &[
+            b"\x12I\x0a\x01o\x12D\x0a@",
+            NINE,
+            b"\x10\x09b\x06\x0a\x01o\x12\x01t",
+        ],
+        Err(MessageError::SameName),
+    ),
+    (
+        Kind::Result,
+        &[
+            b"\x1aI\x0a\x01o\x1aD\x0a@",
+            NINE,
+            b"\x10\x09b\x06\x0a\x01o\x12\x01t",
+        ],
+        Err(MessageError::SameName),
+    ),
+    (
+        Kind::Result,
+        &[
+            b"\x12K\x0a\x03o/p\x12D\x0a@",
+            NINE,
+            b"\x10\x09\x1aI\x0a\x01o\x1aD\x0a@",
+            NINE,
+            b"\x10\x09",
+        ],
+        Err(MessageError::SameName),
+    ),
+    (
+        Kind::Result,
+        &[
+            b"\x12I\x0a\x01o\x12D\x0a@",
+            NINE,
+            b"\x10\x09b\x08\x0a\x03o/p\x12\x01t",
+        ],
+        Err(MessageError::SameName),
+    ),
+    (
+        Kind::Result,
+        &[
+            b"\x1aI\x0a\x01o\x1aD\x0a@",
+            NINE,
+            b"\x10\x09b\x06\x0a\x01a\x12\x01tb\x0a\x0a\x05o/p/q\x12\x01t",
+        ],
+        Err(MessageError::SameName),
+    ),
+    (
+        Kind::Result,
+        &[
+            b"\x1aK\x0a\x03o/p\x1aD\x0a@",
+            NINE,
+            b"\x10\x09b\x06\x0a\x01a\x12\x01tb\x06\x0a\x01o\x12\x01tb\x06\x0a\x01p\x12\x01t",
+        ],
+        Err(MessageError::SameName),
+    ),
+    (
+        Kind::Result,
+        &[
+            b"\x12I\x0a\x01o\x12D\x0a@",
+            NINE,
+            b"\x10\x09\x12K\x0a\x03o/p\x12D\x0a@",
+            NINE,
+            b"\x10\x09b\x06\x0a\x01b\x12\x01tb\x06\x0a\x01a\x12\x01t",
+        ],
+        Err(MessageError::Unsorted),
+    ),
+    (
+        Kind::Result,
+        &[
+            b"\x12I\x0a\x01a\x12D\x0a@",
+            NINE,
+            b"\x10\x09\x1aK\x0a\x03a-b\x1aD\x0a@",
+            NINE,
+            b"\x10\x09b\x07\x0a\x02a!\x12\x01t",
+        ],
+        Ok(161),
+    ),
+    (
+        Kind::Result,
+        &[b"\x12\x04\x0a\x02.."],
+        Err(MessageError::MissingField(2)),
+    ),
+    (
+        Kind::Result,
+        &[b"\x12F\x12D\x0a@", NINE, b"\x10\x09"],
+        Err(MessageError::BadPath),
+    ),
+    (
+        Kind::Result,
+        &[b"\x1a\x03\x0a\x01d"],
+        Err(MessageError::MissingField(3)),
+    ),
+    (
+        Kind::Result,
+        &[b"b\x03\x0a\x01l"],
+        Err(MessageError::BadPath),
+    ),
+    (
+        Kind::Result,
+        &[b"b\x03\x12\x01t"],
+        Err(MessageError::BadPath),
+    ),
+];
+
+pub const RESULT_3: [Row; 9] = [
+    (
+        Kind::Result,
+        &[b"\x12L\x0a\x01f\x12D\x0a@", NINE, b"\x10\x09*\x011"],
+        Err(MessageError::Unsupported(5)),
+    ),
+    (
+        Kind::Result,
+        &[b"\x1aK\x0a\x01d\x1aD\x0a@", NINE, b"\x10\x09 \x01"],
+        Err(MessageError::Unsupported(4)),
+    ),
+    (
+        Kind::Result,
+        &[b"BD\x0a@15E2B0D3C33891EBB0F1EF609EC419420C20E320CE94C65FBC8C3312448EB225\x10\x09"],
+        Err(MessageError::BadDigest(DigestError::BadHex)),
+    ),
+    (
+        Kind::Result,
+        &[b"JD\x0a@", NINE, b"\x10\x09"],
+        Err(MessageError::Unsupported(9)),
+    ),
+    (
+        Kind::Result,
+        &[b"R\x00"],
+        Err(MessageError::Unsupported(10)),
+    ),
+    (
+        Kind::Result,
+        &[b" \x00"],
+        Err(MessageError::Wire(CanonError::DefaultWritten)),
+    ),
+    (
+        Kind::Result,
+        &[b" \x80\x80\x80\x80\x08"],
+        Err(MessageError::Wire(CanonError::OutOfRange)),
+    ),
+    (
+        Kind::Result,
+        &[b" \xff\xff\xff\xff\x0f"],
+        Err(MessageError::Wire(CanonError::OutOfRange)),
+    ),
+    (
+        Kind::Result,
+        &[b"*\x00"],
+        Err(MessageError::Wire(CanonError::DefaultWritten)),
+    ),
+];

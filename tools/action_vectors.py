@@ -1,0 +1,300 @@
+#!/usr/bin/python3
+"""Prints the table of crates/actions/src/tests/rows.rt: messages as Python's protobuf encodes them.
+
+By hand, with Debian's protobuf-compiler and python3-protobuf (tried with 3.21.12):
+
+    protoc --python_out=/tmp action_messages.proto
+    PYTHONPATH=/tmp ./action_vectors.py > ../crates/actions/src/tests/rows.rt
+    cd ../crates/actions && rt fmt
+
+The bytes are protobuf's. Which of them are refused, and how, is read from docs/FORMATS.md; a row
+that is accepted is told by its length.
+"""
+
+from action_messages_pb2 import (
+    Action,
+    ActionResult,
+    Command,
+    Digest,
+    OutputDirectory,
+    OutputFile,
+    OutputSymlink,
+    Platform,
+)
+
+NINE = "15e2b0d3c33891ebb0f1ef609ec419420c20e320ce94c65fbc8c3312448eb225"
+LINE = "01ba4719c80b6fe911b091a7c05124b64eeece964e09c058ef8f9805daca546b"
+EMPTY = "e3b0c44298fc1c149afbf4c8996fb92427ae41e4649b934ca495991b7852b855"
+HASHES = {NINE: "NINE", LINE: "LINE", EMPTY: "EMPTY"}
+
+nine = Digest(hash=NINE, size_bytes=9)
+line = Digest(hash=LINE, size_bytes=1)
+empty = Digest(hash=EMPTY)
+upper = Digest(hash=NINE.upper(), size_bytes=9)
+
+UNSORTED = "MessageError::Unsorted"
+SAME = "MessageError::SameName"
+BAD_PATH = "MessageError::BadPath"
+DEFAULT = "MessageError::Wire(CanonError::DefaultWritten)"
+RANGE = "MessageError::Wire(CanonError::OutOfRange)"
+ORDER = "MessageError::Wire(CanonError::OutOfOrder)"
+REPEATED = "MessageError::Wire(CanonError::Repeated)"
+UTF8 = "MessageError::Wire(CanonError::BadUtf8)"
+BAD_HEX = "MessageError::BadDigest(DigestError::BadHex)"
+
+
+def unsupported(number):
+    return f"MessageError::Unsupported({number})"
+
+
+def missing(number):
+    return f"MessageError::MissingField({number})"
+
+
+def bad_text(number):
+    return f"MessageError::BadText({number})"
+
+
+def platform(*pairs):
+    return Platform(properties=[Platform.Property(name=n, value=v) for n, v in pairs])
+
+
+def command(arguments=("/bin/true",), environment=(), directory="", outputs=(), **others):
+    return Command(
+        arguments=arguments,
+        environment_variables=[
+            Command.EnvironmentVariable(name=n, value=v) for n, v in environment
+        ],
+        working_directory=directory,
+        output_paths=outputs,
+        **others,
+    )
+
+
+def files(*paths):
+    return [OutputFile(path=path, digest=nine) for path in paths]
+
+
+def directories(*paths):
+    return [OutputDirectory(path=path, tree_digest=nine) for path in paths]
+
+
+def symlinks(*paths):
+    return [OutputSymlink(path=path, target="t") for path in paths]
+
+
+def result(f=(), d=(), l=(), **others):
+    return ActionResult(
+        output_files=files(*f),
+        output_directories=directories(*d),
+        output_symlinks=symlinks(*l),
+        **others,
+    )
+
+
+frame = Action(command_digest=line)
+action = Action(command_digest=line, input_root_digest=empty)
+
+# A kind, a message or bytes, and the refusal, if any.
+ROWS = [
+    ("Platform", platform(), None),
+    ("Platform", platform(("a", ""), ("a", "1"), ("b", "")), None),
+    ("Platform", platform(("", "x"), ("\uff5e", ""), ("\U0001f600", "\0")), None),
+    ("Platform", platform(("b", ""), ("a", "")), UNSORTED),
+    ("Platform", platform(("a", "1"), ("a", "")), UNSORTED),
+    ("Platform", platform(("a", "1"), ("a", "1")), UNSORTED),
+    ("Platform", b"\x12\x00", unsupported(2)),
+    ("Platform", b"\x0a\x02\x0a\x00", DEFAULT),
+    ("Platform", b"\x0a\x03\x0a\x01\xff", UTF8),
+    ("Command", command(outputs=["out"]), None),
+    ("Command", command(environment=[("A", "")]), None),
+    (
+        "Command",
+        command(
+            ["/bin/sh", "-c", ""],
+            [("A", "1=2"), ("B", ""), ("b", "\u00e9")],
+            "a/b",
+            ["a-b", "a/x", "\uff5e", "\U0001f600"],
+        ),
+        None,
+    ),
+    ("Command", b"", missing(1)),
+    ("Command", command([], [("=", "")], "/"), missing(1)),
+    ("Command", command(outputs=["o", "o/p"]), SAME),
+    ("Command", command(outputs=["o/p", "o"]), UNSORTED),
+    ("Command", command(outputs=["o", "o"]), UNSORTED),
+    ("Command", command(outputs=["a", "a!x", "a/b"]), SAME),
+    ("Command", command(outputs=["a-b", "a/b", "a0"]), None),
+    ("Command", command(outputs=["\U0001f600", "\uff5e"]), UNSORTED),
+    ("Command", command([""]), bad_text(1)),
+    ("Command", command(["a", "\0"]), bad_text(1)),
+    ("Command", command(environment=[("", "x")]), bad_text(2)),
+    ("Command", command(environment=[("a=b", "")], directory="/"), bad_text(2)),
+    ("Command", command(environment=[("a\0", "")]), bad_text(2)),
+    ("Command", command(environment=[("a", "\0")]), bad_text(2)),
+    ("Command", command(environment=[("B", ""), ("A", "")]), UNSORTED),
+    ("Command", command(environment=[("A", "1"), ("A", "2")], outputs=["b", "a"]), SAME),
+    ("Command", command(environment=[("B", ""), ("A", "")], directory="a/"), BAD_PATH),
+    ("Command", command(outputs=["b", "a", ""]), BAD_PATH),
+    ("Command", command(directory="."), BAD_PATH),
+    ("Command", command(output_files=["out"]), unsupported(3)),
+    ("Command", command(platform=platform(("a", ""))), unsupported(5)),
+    ("Command", b"\x12\x02\x1a\x00", unsupported(3)),
+    ("Command", b"\x12\x03\x0a\x01A\x0a\x01a", ORDER),
+    ("Command", b"\x0a\x01a\x32\x00", DEFAULT),
+    ("Command", b"\x0a\x01a\x32\x01b\x32\x01b", REPEATED),
+    ("Frame", frame, None),
+    ("Frame", Action(command_digest=line, do_not_cache=True), None),
+    (
+        "Frame",
+        Action(
+            command_digest=line,
+            do_not_cache=True,
+            salt=b"\0\xff",
+            platform=platform(("a", "1")),
+        ),
+        None,
+    ),
+    ("Frame", Action(command_digest=line, platform=Platform()), DEFAULT),
+    ("Frame", action, unsupported(2)),
+    ("Frame", b"", missing(1)),
+    ("Frame", Action(platform=platform(("b", ""), ("a", ""))), UNSORTED),
+    ("Frame", Action(command_digest=upper), BAD_HEX),
+    ("Frame", b"\x38\x00", DEFAULT),
+    ("Frame", b"\x38\x02", RANGE),
+    ("Frame", b"\x4a\x00", DEFAULT),
+    ("Action", action, None),
+    ("Action", Action(command_digest=line, input_root_digest=empty, do_not_cache=True), None),
+    (
+        "Action",
+        Action(
+            command_digest=line,
+            input_root_digest=nine,
+            do_not_cache=True,
+            salt=b"salt",
+            platform=platform(("a", "1")),
+        ),
+        None,
+    ),
+    ("Action", frame, missing(2)),
+    ("Action", Action(input_root_digest=empty), missing(1)),
+    ("Action", b"", missing(1)),
+    ("Action", action.SerializeToString() + b"\x32\x00", unsupported(6)),
+    ("Action", Action(platform=Platform()), DEFAULT),
+    ("Action", Action(command_digest=upper, input_root_digest=upper), BAD_HEX),
+    ("Result", b"", None),
+    ("Result", ActionResult(exit_code=-1), None),
+    ("Result", ActionResult(exit_code=2147483647), None),
+    ("Result", ActionResult(exit_code=-2147483648), None),
+    ("Result", result(d=["out"]), None),
+    ("Result", result(f=["f"]), None),
+    (
+        "Result",
+        ActionResult(
+            output_files=[
+                OutputFile(path="a-b", digest=nine),
+                OutputFile(path="a/b", digest=line, is_executable=True),
+            ],
+            output_directories=[OutputDirectory(path="d", tree_digest=line)],
+            exit_code=3,
+            stdout_raw=b"out\n",
+            stdout_digest=nine,
+            stderr_raw=b"\xff",
+            stderr_digest=empty,
+            output_symlinks=[OutputSymlink(path="a/l", target="../x")],
+        ),
+        None,
+    ),
+    ("Result", result(f=["b", "a"]), UNSORTED),
+    ("Result", result(f=["a", "a"]), UNSORTED),
+    ("Result", result(d=["b", "a"]), UNSORTED),
+    ("Result", result(l=["b", "a"]), UNSORTED),
+    ("Result", result(f=["a", "a/b"]), SAME),
+    ("Result", result(d=["a", "a!x", "a/b"]), SAME),
+    ("Result", result(l=["a", "a/b/c"]), SAME),
+    ("Result", result(f=["o"], d=["o"]), SAME),
+    ("Result", result(f=["o"], l=["o"]), SAME),
+    ("Result", result(d=["o"], l=["o"]), SAME),
+    ("Result", result(f=["o/p"], d=["o"]), SAME),
+    ("Result", result(f=["o"], l=["o/p"]), SAME),
+    ("Result", result(d=["o"], l=["a", "o/p/q"]), SAME),
+    ("Result", result(d=["o/p"], l=["a", "o", "p"]), SAME),
+    ("Result", result(f=["o", "o/p"], l=["b", "a"]), UNSORTED),
+    ("Result", result(f=["a"], d=["a-b"], l=["a!"]), None),
+    ("Result", ActionResult(output_files=[OutputFile(path="..")]), missing(2)),
+    ("Result", ActionResult(output_files=[OutputFile(digest=nine)]), BAD_PATH),
+    ("Result", ActionResult(output_directories=[OutputDirectory(path="d")]), missing(3)),
+    ("Result", ActionResult(output_symlinks=[OutputSymlink(path="l")]), BAD_PATH),
+    ("Result", ActionResult(output_symlinks=[OutputSymlink(target="t")]), BAD_PATH),
+    (
+        "Result",
+        ActionResult(output_files=[OutputFile(path="f", digest=nine, contents=b"1")]),
+        unsupported(5),
+    ),
+    (
+        "Result",
+        ActionResult(
+            output_directories=[
+                OutputDirectory(path="d", tree_digest=nine, is_topologically_sorted=True)
+            ]
+        ),
+        unsupported(4),
+    ),
+    ("Result", ActionResult(stderr_digest=upper), BAD_HEX),
+    ("Result", ActionResult(execution_metadata=nine), unsupported(9)),
+    ("Result", b"\x52\x00", unsupported(10)),
+    ("Result", b"\x20\x00", DEFAULT),
+    ("Result", b"\x20\x80\x80\x80\x80\x08", RANGE),
+    ("Result", b"\x20\xff\xff\xff\xff\x0f", RANGE),
+    ("Result", b"\x2a\x00", DEFAULT),
+]
+
+
+def literal(piece):
+    text = "".join(chr(b) if 32 <= b < 127 and b not in b'"\\' else f"\\x{b:02x}" for b in piece)
+    return f'b"{text}"'
+
+
+def pieces(data):
+    """The bytes, cut at the hashes."""
+    found = []
+    while data:
+        at, name = min(
+            ((data.find(h.encode()), n) for h, n in HASHES.items() if h.encode() in data),
+            default=(len(data), None),
+        )
+        if at:
+            found.append(literal(data[:at]))
+        if name:
+            found.append(name)
+            at += 64
+        data = data[at:]
+    return ", ".join(found)
+
+
+# At most so many rows in a table: the checker's work grows faster than their number.
+MOST = 14
+
+KINDS = ["Platform", "Command", "Frame", "Action", "Result"]
+
+
+def row(kind, message, refusal):
+    data = message if isinstance(message, bytes) else message.SerializeToString(deterministic=True)
+    answer = f"Err({refusal})" if refusal else f"Ok({len(data)})"
+    return f"    (Kind::{kind}, &[{pieces(data)}], {answer}),"
+
+
+print("use super::{EMPTY, Kind, LINE, NINE, Row};")
+print("use blob_digest::DigestError;")
+print("use canonical::CanonError;")
+print("use messages::MessageError;")
+print()
+print("// The pieces of messages as protobuf encodes them, and their length or the refusal.")
+print("// tools/action_vectors.py prints this file.")
+for kind in KINDS:
+    rows = [row(*r) for r in ROWS if r[0] == kind]
+    for number, start in enumerate(range(0, len(rows), MOST), 1):
+        table = rows[start : start + MOST]
+        print(f"\npub const {kind.upper()}_{number}: [Row; {len(table)}] = [")
+        print("\n".join(table))
+        print("];")
