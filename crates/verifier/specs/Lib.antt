@@ -1,1 +1,5 @@
+pub mod Build
+pub mod Recorded
+pub mod Headline
+pub mod Accepted
 pub mod Verdict

@@ -1,16 +1,48 @@
--- The verdict on a plan whose root has no lines.
-use Rattle.std.specs.Prelude.{◌≡◌, ◌≢◌}
-use Rattle.blob_digest.specs.Digest.{DigestValue, empty_digest}
+-- The verdict on a plan without steps: yes, or the first fault. The lines of the root are looked up in their order, and
+-- then their graft is held against the claim.
+use Rattle.std.specs.Prelude.{◌≡◌, ◌≢◌, ◌⊎◌, ℕ, List, [], ◌∷◌}
+use Rattle.blob_digest.specs.Digest.{DigestValue}
+use Rattle.plan.specs.Values.{OriginValue, source, output, LineValue}
+use Rattle.tree.specs.Tree.{Name}
+use Rattle.tree.specs.Form.{NodeValue, root}
+use Rattle.tree.specs.Graft.{graft}
+use Rattle.tree.specs.Source.{Blobs}
+use Rattle.tree.specs.Told.{missing, wrong, malformed}
+use Rattle.tree.specs.Lookup.{fault, nothing, found}
 use Rattle.verifier.specs.declared.verdict.Verdict.{Verdict}
 use Rattle.verifier.specs.declared.verdict.Verdict.TheVariants.{Yes, No}
 use Rattle.verifier.specs.declared.verdict.Place.TheVariants.{Root}
-use Rattle.verifier.specs.declared.verdict.Cause.TheVariants.{RootDiffers}
+use Rattle.verifier.specs.declared.verdict.Cause.{Cause}
+use Rattle.verifier.specs.declared.verdict.Cause.TheVariants.{BlobMissing, BlobWrong, BlobMalformed, OriginMissing, RootDiffers}
+use Rattle.verifier.specs.Accepted.{LooksAt, Resolves, IsAccepted}
 
--- A directory with no children has no bytes: no field of it is set (REAPI, message Directory; proto3, encoding).
-abbrev pub root_of_nothing : DigestValue
-root_of_nothing = empty_digest
+-- the path of an origin
+abbrev pub path_of : OriginValue → List Name
+path_of (source p) = p
+path_of (output step p) = p
 
--- Yes where the claim is the root, and else no with the root that every build has.
-abbrev pub IsVerdict : DigestValue → Verdict → Type 0
-IsVerdict claim (Yes root steps) = (root ≡ root_of_nothing) × (claim ≡ root) × (steps ≡ 0)
-IsVerdict claim (No Root (RootDiffers root)) = (root ≡ root_of_nothing) × (claim ≢ root)
+-- why a line has no origin: a fault of the source on the way, or nothing is there
+abbrev pub LineFault : {A : Type 0} → Blobs → DigestValue → LineValue → Cause A → Type 0
+LineFault blobs sources l (BlobMissing d) = LooksAt blobs sources l.origin (fault (missing d))
+LineFault blobs sources l (BlobWrong d) = LooksAt blobs sources l.origin (fault (wrong d))
+LineFault blobs sources l (BlobMalformed d) = LooksAt blobs sources l.origin (fault (malformed d))
+LineFault blobs sources l (OriginMissing p) = (p ≡ path_of l.origin) × LooksAt blobs sources l.origin nothing
+LineFault blobs sources l (RootDiffers d) = ⊥
+
+-- the fault of the first line that has no origin
+abbrev pub FirstFault : {A : Type 0} → Blobs → DigestValue → List LineValue → Cause A → Type 0
+FirstFault blobs sources [] c = ⊥
+FirstFault blobs sources (l ∷ ls) c = LineFault blobs sources l c ⊎ ((x : NodeValue) × LooksAt blobs sources l.origin (found x) × FirstFault blobs sources ls c)
+
+-- each line has its origin, but their graft isn't the claim
+abbrev pub Differs : {A : Type 0} → Blobs → DigestValue → List LineValue → DigestValue → Cause A → Type 0
+Differs blobs sources lines claim c =
+    (xs : List (List Name × NodeValue)) × Resolves blobs sources lines xs × (root (graft xs) ≢ claim) × (c ≡ RootDiffers (root (graft xs)))
+
+abbrev pub IsVerdict : {A : Type 0} → Blobs → DigestValue → List LineValue → DigestValue → Verdict A → Type 0
+IsVerdict blobs sources lines claim (Yes r steps) = (r ≡ claim) × (steps ≡ 0) × IsAccepted blobs sources lines claim
+IsVerdict blobs sources lines claim (No Root c) = FirstFault blobs sources lines c ⊎ Differs blobs sources lines claim c
+
+abbrev pub IsYes : {A : Type 0} → Verdict A → Type 0
+IsYes (Yes r steps) = Unit {0}
+IsYes (No place c) = ⊥
