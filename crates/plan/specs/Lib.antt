@@ -1,3 +1,4 @@
+pub mod Escape
 pub mod Line
 pub mod Plan
 pub mod Record

@@ -3,11 +3,13 @@
 #![tactic(auto)]
 
 mod error;
+mod escaped;
 mod line;
 mod plan;
 mod record;
 
 pub use error::{Fault, PlanError};
+pub use escaped::{read_path, write_path};
 pub use plan::Plan;
 pub use record::Record;
 
