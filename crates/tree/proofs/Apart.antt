@@ -1,8 +1,7 @@
 -- Paths that don't overlap, name by name.
-use Rattle.std.proofs.Common.{◌≡◌, ◌≢◌, List, [], ◌∷◌, ◌++◌, refl, sym, inl, inr}
-use Rattle.std.specs.Prelude.{◌⊎◌}
+use Rattle.std.proofs.Common.{◌≡◌, List, [], ◌∷◌, refl, sym, inl, inr}
 use Rattle.std.specs.List.{AllByRecursion}
-use Rattle.messages.specs.Path.{LiesUnder, Overlap}
+use Rattle.messages.specs.Path.{Overlap}
 use Rattle.tree.specs.Tree.{Name}
 use Rattle.tree.specs.Graft.{IsApart, HaveApartTargets}
 use Rattle.tree.specs.Visiting.{Apart, HaveApart}

@@ -1,5 +1,5 @@
 -- The children of a Directory, by their names.
-use Rattle.std.proofs.Common.{◌≡◌, ℕ, List, [], ◌∷◌, refl, ap, sym, ◌∙◌, Bool, true, false, cond, inl, inr}
+use Rattle.std.proofs.Common.{◌≡◌, ℕ, List, refl, ap, sym, ◌∙◌, Bool, true, false, cond, inl, inr}
 use Rattle.std.specs.Prelude.{◌⊎◌, Option, Some, None, option_map, find, nat_eq}
 use Rattle.std.specs.Cmp.Lexicographic.{pointwise, bytes_decides}
 use Rattle.std.specs.declared.cmp.Ordering.{Ordering}
@@ -11,7 +11,7 @@ use Rattle.messages.specs.DirectoryNode.{DirectoryNodeValue}
 use Rattle.messages.specs.SymlinkNode.{SymlinkNodeValue}
 use Rattle.messages.specs.DirectoryRules.{DirectoryValue}
 use Rattle.messages.specs.Node.{is_same, or_else, of_file, of_directory, of_symlink, child}
-use Rattle.tree.specs.Tree.{Name, name_cmp, Tree, empty, leaf, folder, Entry, single, whole, entry_of, Leaf, IsBelowAll, IsOrdered}
+use Rattle.tree.specs.Tree.{Name, name_cmp, Tree, empty, leaf, folder, single, whole, entry_of, Leaf, IsBelowAll, IsOrdered}
 use Rattle.tree.specs.Form.{NodeValue, node_value, with_child, map_leaves, leaf_node, form, directory_of, root, entry_node}
 use Rattle.tree.proofs.TreeLemmas.{name_same, name_itself, one_or_two, apart_cmp}
 

@@ -1,7 +1,7 @@
 -- A look-up name by name, while the source tells more and more.
 use Rattle.std.proofs.Common.{◌≡◌, ℕ, zero, suc, ◌+◌, ◌<◌, ◌≤◌, List, [], ◌∷◌, length, drop, get_or, refl, subst, sym, ◌∙◌, ap, arith, inl, inr, add-one, drop-cons}
-use Rattle.std.specs.Prelude.{◌≢◌, ◌⊎◌, Option, Some, None, option_map}
-use Rattle.blob_digest.specs.Digest.{DigestValue, empty_digest}
+use Rattle.std.specs.Prelude.{Option, Some, None, option_map}
+use Rattle.blob_digest.specs.Digest.{DigestValue}
 use Rattle.messages.specs.declared.node.Node.{Node}
 use Rattle.messages.specs.declared.node.Node.TheVariants.{File, Link, Dir}
 use Rattle.messages.specs.DirectoryRules.{DirectoryValue}
@@ -10,7 +10,7 @@ use Rattle.tree.specs.declared.error.TreeError.{TreeError}
 use Rattle.tree.specs.declared.error.TreeError.TheVariants.{Absent, BlobMissing, BlobWrong, BlobMalformed, TooDeep, Fetch, Memory}
 use Rattle.tree.specs.Tree.{Name}
 use Rattle.tree.specs.Form.{NodeValue, node_value}
-use Rattle.tree.specs.Source.{Blobs, Grows, IsUnder, IsBlobUnder}
+use Rattle.tree.specs.Source.{Blobs, Grows, IsUnder}
 use Rattle.tree.specs.Told.{IsTold, Fault, missing, wrong, malformed, TellsDirectory, FailsDirectory}
 use Rattle.tree.specs.Lookup.{Looked, fault, nothing, found, LooksFrom, Looks}
 use Rattle.tree.specs.TreeError.{Explains, ExplainsLookup}

@@ -1,12 +1,12 @@
 -- One encoding is that of one directory, whatever its names.
-use Rattle.std.proofs.Common.{◌≡◌, ◌≢◌, ℕ, ◌<◌, zero, suc, List, [], ◌∷◌, ◌++◌, refl, ap, sym, ◌∙◌, arith, append_assoc, Bool, true, false, map}
+use Rattle.std.proofs.Common.{◌≡◌, ◌≢◌, ℕ, zero, suc, List, [], ◌∷◌, ◌++◌, refl, ap, sym, ◌∙◌, arith, append_assoc, Bool, true, false, map}
 use Rattle.std.specs.Prelude.{pos, Ok, Result, Some}
 use Rattle.std.specs.Int.{w64, cast_unsigned}
 use Rattle.std.specs.List.{AllByRecursion}
 use Rattle.hex.specs.declared.error.FromHexError.{FromHexError}
 use Rattle.hex.specs.Hex.{encode_lower, decode_of, IsBytes}
 use Rattle.hex.proofs.HexLemmas.{decode_of-encode_lower}
-use Rattle.wire.specs.Record.{Value, Varint, Bytes, Record, record_with}
+use Rattle.wire.specs.Record.{Varint, Bytes, Record, record_with}
 use Rattle.wire.specs.Spelling.{spelling}
 use Rattle.canonical.specs.Fields.{bytes_field, number_field, int_field, bool_field, message_field, element_fields}
 use Rattle.blob_digest.specs.DigestValue.{DigestValue, IsDigest}

@@ -2,12 +2,12 @@
 use Rattle.std.proofs.Common.{◌≡◌, ℕ, List, [], ◌∷◌, refl, ap, sym, ◌∙◌, subst, true, false, cond, inl, inr}
 use Rattle.std.specs.Prelude.{◌⊎◌, Option, Some, None, option_map}
 use Rattle.std.specs.Ordering.{eq_by_cmp}
-use Rattle.blob_digest.specs.Digest.{DigestValue, digest_of, empty_digest, NoClash}
+use Rattle.blob_digest.specs.Digest.{DigestValue, NoClash}
 use Rattle.messages.specs.declared.node.Node.TheVariants.{Dir}
 use Rattle.messages.specs.DirectoryRules.{DirectoryValue}
 use Rattle.messages.specs.Directory.{directory_bytes}
 use Rattle.messages.specs.Node.{child}
-use Rattle.tree.specs.Tree.{Name, name_cmp, Tree, empty, leaf, folder, Entry, single, whole, entry_of, below_entry, Leaf, file, link, IsOrdered}
+use Rattle.tree.specs.Tree.{Name, name_cmp, Tree, empty, leaf, folder, Entry, single, whole, entry_of, below_entry, Leaf, file, link}
 use Rattle.tree.specs.Form.{NodeValue, form, directory_of, top, root, entry_node, IsContent, IsBlobBelow, IsBlobOf}
 use Rattle.tree.specs.Source.{Blobs, IsUnder}
 use Rattle.tree.specs.Told.{TellsDirectory, FailsDirectory}

@@ -1,6 +1,6 @@
 -- What a source tells determines what look-ups come to.
-use Rattle.std.proofs.Common.{◌≡◌, ℕ, List, [], ◌∷◌, refl, ap, sym, ◌∙◌, subst, inl, inr}
-use Rattle.std.specs.Prelude.{◌≢◌, ◌⊎◌, Option, Some, None}
+use Rattle.std.proofs.Common.{◌≡◌, ℕ, List, [], ◌∷◌, ap, sym, ◌∙◌, subst, inl, inr}
+use Rattle.std.specs.Prelude.{Option, Some, None}
 use Rattle.blob_digest.specs.Digest.{DigestValue, digest_of}
 use Rattle.messages.specs.declared.node.Node.TheVariants.{File, Link, Dir}
 use Rattle.messages.specs.DirectoryRules.{DirectoryValue, IsDirectory}
@@ -10,7 +10,7 @@ use Rattle.tree.specs.Tree.{Name}
 use Rattle.tree.specs.Form.{NodeValue}
 use Rattle.tree.specs.Source.{Blobs, IsUnder}
 use Rattle.tree.specs.Told.{IsTold, Fault, missing, wrong, malformed, IsFault, TellsDirectory, FailsDirectory}
-use Rattle.tree.specs.Lookup.{Looked, fault, nothing, found, LooksFrom, Looks}
+use Rattle.tree.specs.Lookup.{Looked, fault, LooksFrom, Looks}
 use Rattle.tree.proofs.DirectoryBytes.{directory_bytes_injective}
 use Rattle.tree.proofs.TreeDigests.{lawful_digests}
 

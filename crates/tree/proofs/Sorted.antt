@@ -6,7 +6,7 @@ use Rattle.std.specs.Cmp.Lexicographic.{pointwise, bytes_decides}
 use Rattle.std.specs.Ordering.{ordering_then}
 use Rattle.std.specs.declared.cmp.Ordering.{Ordering}
 use Rattle.std.specs.declared.cmp.Ordering.TheVariants.{Less, Equal, Greater}
-use Rattle.tree.specs.Tree.{Name, name_cmp, Tree, empty, leaf, folder, IsBelowAll}
+use Rattle.tree.specs.Tree.{Name, name_cmp, leaf, folder, IsBelowAll}
 use Rattle.tree.specs.Graft.{put, graft}
 use Rattle.tree.specs.Visiting.{Apart, HaveApart}
 use Rattle.tree.specs.Visiting.{path_cmp, Ascend, first_under, led, total}

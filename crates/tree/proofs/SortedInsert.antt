@@ -1,17 +1,16 @@
 -- Lines that are inserted at their places one after another make the same graft.
-use Rattle.std.proofs.Common.{◌≡◌, ◌≢◌, ℕ, ◌+◌, ◌<◌, List, [], ◌∷◌, ◌++◌, refl, ap, sym, ◌∙◌, subst, map, drop, length, get_or, drop-cons, arith, suc}
+use Rattle.std.proofs.Common.{◌≡◌, ◌≢◌, ℕ, ◌+◌, ◌<◌, List, [], ◌∷◌, ◌++◌, refl, ap, sym, ◌∙◌, subst, drop, length, get_or, drop-cons, arith, suc}
 use Rattle.std.specs.List.{AllByRecursion}
 use Rattle.std.specs.List.Sorted.{IsStrictlySortedBy}
 use Rattle.std.specs.declared.vec.Vec.{Vec}
 use Rattle.std.specs.declared.cmp.Ordering.{Ordering}
 use Rattle.std.specs.declared.cmp.Ordering.TheVariants.{Less, Equal, Greater}
 use Rattle.std.specs.Ordering.{match_ordering}
-use Rattle.std.specs.Cmp.Lexicographic.{slice_cmp}
 use Rattle.std.specs.FinMap.{slice_cmp-IsAntisymmetric, nat_cmp-IsAntisymmetric}
 use Rattle.std.specs.Map.{keys_of}
 use Rattle.std.specs.BTreeMap.{insert_entry}
 use Rattle.messages.specs.declared.node.Node.{Node}
-use Rattle.tree.specs.Tree.{Name, name_cmp}
+use Rattle.tree.specs.Tree.{Name}
 use Rattle.tree.specs.Form.{NodeValue, node_value}
 use Rattle.tree.specs.Graft.{put, graft}
 use Rattle.tree.specs.Visiting.{Apart, HaveApart}
@@ -19,7 +18,6 @@ use Rattle.tree.specs.Lines.{lines_of}
 use Rattle.tree.specs.Visiting.{path_cmp, Ascend, entry_lines}
 use Rattle.tree.proofs.TreeLemmas.{ordered-graft}
 use Rattle.tree.proofs.GraftOrder.{put-put}
-use Rattle.tree.proofs.Sorted.{all_map}
 
 path_same : (p q : List Name) → path_cmp p q ≡ Equal → p ≡ q
 path_same p q e = slice_cmp-IsAntisymmetric (slice_cmp-IsAntisymmetric nat_cmp-IsAntisymmetric) p q e

@@ -2,7 +2,7 @@
 use Rattle.std.proofs.Common.{◌≡◌, ℕ, zero, suc, ◌<◌, ◌≤◌, List, [], ◌∷◌, ◌++◌, length, refl, ap, arith}
 use Rattle.std.specs.Prelude.{min, slice_index}
 use Rattle.std.specs.List.{AllByRecursion}
-use Rattle.blob_digest.specs.Digest.{DigestValue, digest_of}
+use Rattle.blob_digest.specs.Digest.{digest_of}
 use Rattle.blob_digest.specs.DigestValue.{IsDigest, greatest_size}
 use Rattle.messages.specs.FileNode.{FileNodeValue, IsFileNode}
 use Rattle.messages.specs.DirectoryNode.{DirectoryNodeValue, IsDirectoryNode}

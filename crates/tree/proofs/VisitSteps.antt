@@ -1,5 +1,5 @@
 -- One child more of a directory that is being made.
-use Rattle.std.proofs.Common.{◌≡◌, ◌≢◌, ℕ, zero, suc, ◌+◌, ◌-◌, ◌<◌, ◌≤◌, List, [], ◌∷◌, ◌++◌, refl, ap, sym, ◌∙◌, subst, arith, append_assoc, length, take, drop, map, get_or, drop-cons}
+use Rattle.std.proofs.Common.{◌≡◌, ℕ, zero, suc, ◌+◌, ◌-◌, ◌<◌, ◌≤◌, List, [], ◌∷◌, ◌++◌, refl, ap, sym, ◌∙◌, subst, arith, append_assoc, length, take, drop, map, get_or, drop-cons}
 use Rattle.std.proofs.lemmas.List.{drop-map, drop-drop, take_all, length-drop}
 use Rattle.std.specs.Prelude.{Result, Ok, Err, IfOk}
 use Rattle.blob_digest.specs.Digest.{DigestValue, digest_of}
@@ -12,15 +12,15 @@ use Rattle.messages.proofs.Spellings.{spelled_parts}
 use Rattle.canonical.specs.Fields.{element_fields}
 use Rattle.wire.specs.Spelling.{spelling}
 use Rattle.messages.specs.Directory.{directory_bytes}
-use Rattle.tree.specs.Tree.{Name, Tree, leaf, folder}
-use Rattle.tree.specs.Form.{NodeValue, no_children, with_child, directory_of, top, root}
+use Rattle.tree.specs.Tree.{Name, Tree}
+use Rattle.tree.specs.Form.{NodeValue, no_children, with_child, directory_of, root}
 use Rattle.tree.specs.Folded.{tops_below, visited}
 use Rattle.tree.specs.Graft.{graft}
 use Rattle.tree.specs.Visiting.{HaveApart}
 use Rattle.tree.specs.declared.grafting.Line.{Line}
 use Rattle.tree.specs.declared.grafting.Visited.{Visited}
 use Rattle.tree.specs.Visiting.{Ascend, led, total, items_of, line_values, joined, IsVisitOf}
-use Rattle.tree.proofs.Sorted.{StepsUnder, step_leaf, step_under, total_under, total_drop, length_led}
+use Rattle.tree.proofs.Sorted.{step_leaf, step_under, total_under, total_drop, length_led}
 
 -- ---- children behind children
 

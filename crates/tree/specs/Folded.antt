@@ -2,7 +2,6 @@
 use Rattle.std.specs.Prelude.{◌≡◌, ℕ, bytes_eq, List, [], ◌∷◌, ◌++◌, map, if◌then◌else◌}
 use Rattle.std.specs.List.{list_any}
 use Rattle.std.specs.declared.vec.Vec.{Vec}
-use Rattle.blob_digest.specs.Digest.{DigestValue}
 use Rattle.tree.specs.declared.folding.Folded.{Folded}
 use Rattle.tree.specs.Tree.{Tree, empty, leaf, folder}
 use Rattle.tree.specs.Form.{NodeValue, top, root}

@@ -1,5 +1,5 @@
 -- Trees by digests: the form of a tree, its Directories as messages, and the digest of its root.
-use Rattle.std.specs.Prelude.{◌≡◌, ◌⊎◌, ℕ, Bool, List, [], ◌∷◌}
+use Rattle.std.specs.Prelude.{◌≡◌, ◌⊎◌, ℕ, List, [], ◌∷◌}
 use Rattle.blob_digest.specs.Digest.{DigestValue, digest_of}
 use Rattle.messages.specs.declared.node.Node.{Node}
 use Rattle.messages.specs.declared.node.Node.TheVariants.{File, Link, Dir}

@@ -1,5 +1,5 @@
 -- The lines of a graft by digests: at each target, the node that stands there.
-use Rattle.std.specs.Prelude.{ℕ, List, map}
+use Rattle.std.specs.Prelude.{List, map}
 use Rattle.messages.specs.declared.node.Node.{Node}
 use Rattle.tree.specs.Tree.{Name}
 use Rattle.tree.specs.Form.{NodeValue, node_value}

@@ -1,5 +1,5 @@
 -- What an error of a call on trees says.
-use Rattle.std.specs.Prelude.{◌≡◌, ℕ, List}
+use Rattle.std.specs.Prelude.{◌≡◌, List}
 use Rattle.blob_digest.specs.Digest.{DigestValue}
 use Rattle.tree.specs.declared.source.FetchError.{FetchError}
 use Rattle.tree.specs.declared.source.FetchError.TheVariants as fetching

@@ -1,8 +1,8 @@
 -- The children so far, and those of the lines that are left, are those of all lines.
-use Rattle.std.proofs.Common.{rules, ◌≡◌, ℕ, ◌+◌, ◌<◌, ◌≤◌, [], ◌∷◌, length, drop, sym, ap, subst, refl, ◌∙◌, arith, map}
+use Rattle.std.proofs.Common.{◌≡◌, ◌+◌, [], ◌∷◌, length, drop, sym, ap, subst, refl, ◌∙◌, arith}
 use Rattle.std.proofs.lemmas.List.{drop-map, length-drop}
 use Rattle.tree.specs.Form.{node_value}
-use Rattle.tree.specs.Visiting.{Ascend, led, line_values, directory_in, tops_in, items_of}
+use Rattle.tree.specs.Visiting.{led, line_values, directory_in, tops_in}
 use Rattle.tree.proofs.VisitSteps.{Makes, makes_first, makes_leaf, makes_at, makes_same, makes_end, folds_at, line_at, no_names, no_line, rest_of, drop_all, visit_of, values_length}
 use Rattle.tree.proofs.grafting.+visit.Goals as goal
 

@@ -1,4 +1,4 @@
-use Rattle.std.proofs.Common.{ℕ, ◌≤◌, ◌-◌, length, drop}
+use Rattle.std.proofs.Common.{◌≤◌, ◌-◌, length, drop}
 use Rattle.tree.specs.Visiting.{total, line_values, directory_in, tops_in}
 use Rattle.tree.proofs.VisitSteps.{Makes}
 use Rattle.tree.proofs.grafting.+visit.Given as goal

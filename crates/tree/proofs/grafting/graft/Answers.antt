@@ -1,8 +1,8 @@
-use Rattle.std.proofs.Common.{rules, ◌≡◌, [], ap, sym, subst, ◌∙◌, map}
+use Rattle.std.proofs.Common.{◌≡◌, [], ap, sym, subst, ◌∙◌, map}
 use Rattle.std.proofs.lemmas.Map.Iter.{iter_end}
 use Rattle.std.specs.Map.Iter.{deref_pair}
 use Rattle.tree.specs.Form.{root}
-use Rattle.tree.specs.Folded.{IsFoldOf, unseen, visited}
+use Rattle.tree.specs.Folded.{unseen, visited}
 use Rattle.tree.specs.Graft.{graft}
 use Rattle.tree.specs.Visiting.{Ascend, HaveApart, line_values, entry_lines}
 use Rattle.tree.proofs.grafting.graft.Goals as goal

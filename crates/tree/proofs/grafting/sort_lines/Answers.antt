@@ -1,4 +1,4 @@
-use Rattle.std.proofs.Common.{◌≡◌, ◌+◌, ◌∷◌, drop, refl, ap, subst}
+use Rattle.std.proofs.Common.{◌+◌, drop, ap, subst}
 use Rattle.tree.specs.Form.{node_value}
 use Rattle.tree.specs.Lines.{lines_of}
 use Rattle.tree.proofs.SortedInsert.{Sorts, sorts_more, nothing_sorted, ascends, line_left}

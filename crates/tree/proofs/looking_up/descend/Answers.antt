@@ -1,11 +1,10 @@
 -- The loop goes on at the child that was found; a fault on the way ends the look-up.
-use Rattle.std.proofs.Common.{ap, sym, subst, ◌∙◌, drop, rules}
-use Rattle.std.specs.Prelude.{Some, None, option_map}
+use Rattle.std.proofs.Common.{ap, sym, ◌∙◌}
+use Rattle.std.specs.Prelude.{Some, None}
 use Rattle.std.proofs.lemmas.Result.{err_from_is_err_and}
 use Rattle.messages.specs.Node.{child}
-use Rattle.tree.specs.Form.{node_value}
 use Rattle.tree.proofs.Asking.{asks_more, asks_then}
-use Rattle.tree.proofs.Descent.{GoesOn, goes_dir, goes_child, goes_nowhere, goes_wrong}
+use Rattle.tree.proofs.Descent.{goes_dir, goes_child, goes_nowhere, goes_wrong}
 use Rattle.tree.proofs.looking_up.descend.Goals as goal
 
 pub returns-in_err-directory-clause-refused : goal.returns-in_err-directory-clause-refused

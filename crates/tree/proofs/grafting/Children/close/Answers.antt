@@ -1,6 +1,5 @@
-use Rattle.std.proofs.Common.{rules, ◌≡◌, [], ◌∷◌, ◌++◌, ap, ◌∙◌, sym}
+use Rattle.std.proofs.Common.{rules, ◌≡◌, [], ◌∷◌, ◌++◌, ap, ◌∙◌}
 use Rattle.blob_digest.specs.Digest.{digest_of}
-use Rattle.messages.specs.Directory.{directory_bytes}
 use Rattle.tree.specs.Visiting.{directory_in, tops_in, items_of}
 use Rattle.tree.proofs.VisitSteps.{written_directory}
 use Rattle.tree.proofs.grafting.Children.close.Goals as goal
