@@ -1,5 +1,5 @@
 -- A yes on a plan without steps holds of every run.
-use Rattle.std.proofs.Common.{◌≡◌, ℕ, List, [], ◌∷◌, refl, ap, sym, ◌∙◌, subst, map, inl, inr}
+use Rattle.std.proofs.Common.{◌≡◌, ℕ, zero, suc, List, [], ◌∷◌, refl, ap, sym, ◌∙◌, subst, map, inl, inr}
 use Rattle.std.specs.Prelude.{◌⊎◌, Option, Some, None, IsSomeAnd, option_map, option_and_then, slice_get}
 use Rattle.blob_digest.specs.Digest.{DigestValue, NoClash}
 use Rattle.plan.specs.Values.{OriginValue, source, output, LineValue, StepValue, PlanValue}
@@ -10,7 +10,7 @@ use Rattle.tree.specs.Source.{Blobs}
 use Rattle.tree.specs.Lookup.{Looked, nothing, found, IsValue}
 use Rattle.tree.proofs.LookupLemmas.{looks_tell}
 use Rattle.tree.proofs.GraftRoots.{root-graft}
-use Rattle.verifier.specs.Build.{Meaning, ActionMeaning, Outcome, Event, start, finish, lose, State, opening, happens, started, origins, origin_at, graft_of, action_of, IsRun}
+use Rattle.verifier.specs.Build.{Meaning, ActionMeaning, Outcome, Event, start, finish, lose, State, opening, happens, started, origins, origin_at, graft_of, step_action, action_of, IsRun}
 use Rattle.verifier.specs.Headline.{IsConcerned, EveryRunEndsIn}
 use Rattle.verifier.specs.Accepted.{LooksAt, Resolves, IsAccepted}
 
@@ -43,8 +43,15 @@ resolved blobs t s ordered apart (l ∷ ls) xs h = at l.origin refl h.1 (resolve
         none e = cc
 
 -- without steps no event is permitted
+none_there : {A : Type 0} (i : ℕ) → slice_get {X = A} [] i ≡ None
+none_there zero = refl
+none_there (suc i) = refl
+
+no_action : (plan : PlanValue) (meaning : Meaning) (t : Tree Leaf) (s : State) (i : ℕ) → plan.steps ≡ [] → action_of plan meaning t s i ≡ None
+no_action plan meaning t s i none = ap (λ steps. option_and_then (step_action meaning t s i) (slice_get steps i)) none ∙ ap (option_and_then (step_action meaning t s i)) (none_there i)
+
 no_event : (plan : PlanValue) (meaning : Meaning) (t : Tree Leaf) (e : Event) (mid : State) → plan.steps ≡ [] → happens plan meaning t opening e ≡ Some mid → ⊥
-no_event plan meaning t (start i w) mid none is = never (ap (λ steps. started opening i w None (option_and_then (λ step. _) (slice_get {A = StepValue} steps i))) (sym none) ∙ is)
+no_event plan meaning t (start i w) mid none is = never (ap (started opening i w None) (sym (no_action plan meaning t opening i none)) ∙ is)
   where
     never : started opening i w None None ≡ Some mid → ⊥
     never e = cc
@@ -60,12 +67,12 @@ pub accepted_holds : (blobs results : Blobs) (sources : DigestValue) (plan : Pla
     → IsAccepted blobs sources plan.root_lines claim → EveryRunEndsIn blobs results sources plan recorded claim
 accepted_holds blobs results sources plan recorded claim none h = record { of_run = λ t meaning X chosen es end ordered is fits table agrees apart run all.
     let at_once = ends_at_once X plan meaning t es end none run in
-    let own : NoClash (λ b. IsValue blobs b ⊎ IsBlobOf t b) = λ x y p q. apart x y (own_blob t x p) (own_blob t y q) in
+    let own : NoClash (λ b. IsValue blobs b ⊎ IsBlobOf t b) = λ x y p q. apart x y (own_blob t plan meaning chosen es x p) (own_blob t plan meaning chosen es y q) in
     let lines = resolved blobs t opening ordered own plan.root_lines h.nodes (subst (λ d. Resolves blobs d plan.root_lines h.nodes) (sym is) h.resolved) in
     let ends : graft_of t end plan.root_lines ≡ Some (expand (graft lines.0)) = ap (λ s. graft_of t s plan.root_lines) at_once ∙ ap (option_map (λ es. expand (graft es))) lines.1 in
     let roots : root (form (expand (graft lines.0))) ≡ claim = root-graft lines.0 ∙ ap (λ xs. root (graft xs)) lines.2 ∙ h.same in
     subst (λ o. IsSomeAnd o (λ g. root (form g) ≡ claim)) (sym ends) roots }
   where
-    own_blob : (t : Tree Leaf) {plan : PlanValue} {meaning : Meaning} {chosen : List (ActionMeaning × Outcome)} {es : List Event} (b : List ℕ) → IsValue blobs b ⊎ IsBlobOf t b → IsConcerned blobs plan meaning t chosen es b
-    own_blob t b (inl v) = inl (inl v)
-    own_blob t b (inr v) = inr (inl (inl v))
+    own_blob : (t : Tree Leaf) (plan : PlanValue) (meaning : Meaning) (chosen : List (ActionMeaning × Outcome)) (es : List Event) (b : List ℕ) → IsValue blobs b ⊎ IsBlobOf t b → IsConcerned blobs plan meaning t chosen es b
+    own_blob t plan meaning chosen es b (inl v) = inl (inl v)
+    own_blob t plan meaning chosen es b (inr v) = inr (inl (inl v))

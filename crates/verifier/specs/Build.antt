@@ -109,12 +109,15 @@ origins t s (l ∷ ls) = option_and_then (λ e. option_map (λ es. (l.target, e)
 abbrev pub graft_of : Tree Leaf → State → List LineValue → Option (Tree Leaf)
 graft_of t s ls = option_map (λ es. expand (graft es)) (origins t s ls)
 
--- the action of a step: its frame, its command and the graft of its lines
-abbrev pub action_of : PlanValue → Meaning → Tree Leaf → State → ℕ → Option ActionMeaning
-action_of plan meaning t s i =
-    option_and_then (λ step. option_and_then (λ frame. option_and_then (λ command.
+-- the action of a step with this number: its frame, its command and the graft of its lines
+abbrev pub step_action : Meaning → Tree Leaf → State → ℕ → StepValue → Option ActionMeaning
+step_action meaning t s i step =
+    option_and_then (λ frame. option_and_then (λ command.
         option_map (λ input. record { frame = frame; command = command; input = input }) (graft_of t s step.lines))
-        (slice_get meaning.commands i)) (slice_get meaning.frames i)) (slice_get plan.steps i)
+        (slice_get meaning.commands i)) (slice_get meaning.frames i)
+
+abbrev pub action_of : PlanValue → Meaning → Tree Leaf → State → ℕ → Option ActionMeaning
+action_of plan meaning t s i = option_and_then (step_action meaning t s i) (slice_get plan.steps i)
 
 abbrev pub started : State → ℕ → ℕ → Option (ℕ × ActionMeaning) → Option ActionMeaning → Option State
 started s i w (Some busy) a = None
