@@ -1,3 +1,4 @@
 mod Escapes
 mod Lines
+mod Spelled
 mod TextBytes

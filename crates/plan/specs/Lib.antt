@@ -1,4 +1,6 @@
 pub mod Escape
+pub mod Values
 pub mod Line
+pub mod Lines
 pub mod Plan
 pub mod Record

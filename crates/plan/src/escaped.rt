@@ -30,7 +30,8 @@ pub fn write_path<A: Allocator, B: Allocator>(
     alloc: A,
     path: &Path<B>,
 ) -> Result<String<A>, AllocError>
-    ensures { IfOk result (λ text. string_bytes text ≡ escaped_path path.now) }
+    ensures value { IfOk result (λ text. string_bytes text ≡ escaped_path path.now) }
+    ensures lawful { IsPath path.now }
 {
     escape(alloc, path.as_bytes())
 }

@@ -7,9 +7,11 @@ mod escaped;
 mod line;
 mod plan;
 mod record;
+mod words;
 
 pub use error::{Fault, PlanError};
 pub use escaped::{read_path, write_path};
+pub use line::{Line, Origin};
 pub use plan::Plan;
 pub use record::Record;
 

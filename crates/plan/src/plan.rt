@@ -2,7 +2,7 @@ ghost use Rattle.std.specs.Prelude.{◌≡◌, IsOk, OnOk, IfOk, IfErr};
 ghost use Rattle.plan.specs.Plan.{plan_text, IsPlanFault};
 
 use crate::error::{Fault, PlanError};
-use crate::line::strip;
+use crate::words::strip;
 use std::alloc::{AllocError, Allocator};
 
 const HEADER: &[u8] = b"buildplan 1\n";

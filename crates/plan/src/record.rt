@@ -2,7 +2,7 @@ ghost use Rattle.std.specs.Prelude.{◌≡◌, OnOk, IfErr};
 ghost use Rattle.plan.specs.Record.{build_record_text, IsRecordFault};
 
 use crate::error::{Fault, PlanError};
-use crate::line::{is_step_line, split_once, strip};
+use crate::words::{is_step_line, split_once, strip};
 
 const HEADER: &[u8] = b"buildrecord 1\n";
 

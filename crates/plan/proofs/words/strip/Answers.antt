@@ -3,7 +3,7 @@ use Rattle.std.specs.Prelude.{MatchOption}
 use Rattle.std.proofs.lemmas.Bool.Decides.{Decides-eqb}
 use Rattle.std.proofs.lemmas.Slice.Eq.{strip_prefix_is}
 use Rattle.plan.specs.Line.{Begins}
-use Rattle.plan.proofs.line.strip.Goals as goal
+use Rattle.plan.proofs.words.strip.Goals as goal
 
 told : (text front : List ℕ) (r : Option (Bor (List ℕ))) → MatchOption r ((rest : List ℕ) → text ≢ front ++ rest) (λ x. text ≡ front ++ x.now)
     → MatchOption r (¬ Begins front text) (λ x. text ≡ front ++ x.now)

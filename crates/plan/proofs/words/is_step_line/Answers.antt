@@ -6,7 +6,7 @@ use Rattle.std.proofs.lemmas.List.{append_cancel_left}
 use Rattle.blob_digest.specs.Text.{digest_text}
 use Rattle.plan.specs.Line.{IsStepName}
 use Rattle.plan.proofs.Lines.{has_space, step_line, step_parts}
-use Rattle.plan.proofs.line.is_step_line.Goals as goal
+use Rattle.plan.proofs.words.is_step_line.Goals as goal
 
 pub returns-in_default-split_once : goal.returns-in_default-split_once
 returns-in_default-split_once c = (
