@@ -1,4 +1,4 @@
-mod Asking
+pub mod Asking
 mod Digests
 mod TreeLemmas
 mod SameTree

@@ -1,1 +1,4 @@
 pub mod Holds
+pub mod Lines
+pub mod Targets
+pub mod SameDigests

@@ -1,6 +1,6 @@
 -- When a plan without steps is accepted: each line of the root has its origin in what a source tells, and their graft has
 -- the claim as its digest.
-use Rattle.std.specs.Prelude.{◌≡◌, ℕ, List, [], ◌∷◌}
+use Rattle.std.specs.Prelude.{◌≡◌, ℕ, List, [], ◌∷◌, map}
 use Rattle.blob_digest.specs.Digest.{DigestValue}
 use Rattle.plan.specs.Values.{OriginValue, source, output, LineValue}
 use Rattle.tree.specs.Tree.{Name}
@@ -19,6 +19,10 @@ abbrev pub Resolves : Blobs → DigestValue → List LineValue → List (List Na
 Resolves blobs sources [] xs = xs ≡ []
 Resolves blobs sources (l ∷ ls) xs =
     (x : NodeValue) × LooksAt blobs sources l.origin (found x) × (rest : List (List Name × NodeValue)) × Resolves blobs sources ls rest × (xs ≡ (l.target, x) ∷ rest)
+
+-- the targets of lines, each with its origin
+abbrev pub targets : List LineValue → List (List Name × OriginValue)
+targets lines = map (λ l. (l.target, l.origin)) lines
 
 pub record IsAccepted (blobs : Blobs) (sources : DigestValue) (lines : List LineValue) (claim : DigestValue) : Type 0 where
   pub nodes : List (List Name × NodeValue)

@@ -3,3 +3,4 @@ pub mod Recorded
 pub mod Headline
 pub mod Accepted
 pub mod Verdict
+pub mod Origins

@@ -1,6 +1,6 @@
 -- The verdict on a plan without steps: yes, or the first fault. The lines of the root are looked up in their order, and
 -- then their graft is held against the claim.
-use Rattle.std.specs.Prelude.{◌≡◌, ◌≢◌, ◌⊎◌, ℕ, List, [], ◌∷◌}
+use Rattle.std.specs.Prelude.{◌≡◌, ◌≢◌, ◌⊎◌, ℕ, ◌+◌, List, [], ◌∷◌, length}
 use Rattle.blob_digest.specs.Digest.{DigestValue}
 use Rattle.plan.specs.Values.{OriginValue, source, output, LineValue}
 use Rattle.tree.specs.Tree.{Name}
@@ -20,6 +20,11 @@ use Rattle.verifier.specs.Accepted.{LooksAt, Resolves, IsAccepted}
 abbrev pub path_of : OriginValue → List Name
 path_of (source p) = p
 path_of (output step p) = p
+
+-- how many names the origins of lines have: a look-up asks the source once a name at most
+abbrev pub origin_names : List LineValue → ℕ
+origin_names [] = 0
+origin_names (l ∷ ls) = length (path_of l.origin) + origin_names ls
 
 -- why a line has no origin: a fault of the source on the way, or nothing is there
 abbrev pub LineFault : {A : Type 0} → Blobs → DigestValue → LineValue → Cause A → Type 0

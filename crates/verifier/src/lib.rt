@@ -1,8 +1,11 @@
 //! The build verifier: whether every build of a plan ends in exactly the claimed root.
 #![tactic(auto)]
 
+mod error;
 mod laws;
 mod verdict;
+mod verifying;
 
+pub use error::VerifyError;
 pub use laws::accepted_plans_end_in_the_claim;
 pub use verdict::{Cause, Place, Verdict};

@@ -1,0 +1,32 @@
+ghost use Rattle.std.specs.Prelude.{◌≡◌};
+ghost use Rattle.verifier.specs.declared.error.VerifyError.TheVariants as errors;
+
+use std::alloc::{AllocError, AllocFailed};
+use thiserror::Error;
+
+/// Why there is no verdict.
+#[derive(Clone, Copy, Debug, PartialEq, Eq, Error)]
+pub enum VerifyError {
+    /// The source failed, and counted that.
+    #[error("the blob source failed")]
+    Fetch,
+    /// No memory was left.
+    #[error("out of memory")]
+    Memory,
+}
+
+impl From<AllocError> for VerifyError {
+    ghost from_gives = { λ _ e. e ≡ errors.Memory };
+
+    fn from(_e: AllocError) -> VerifyError {
+        VerifyError::Memory
+    }
+}
+
+impl<T: Drop> From<AllocFailed<T>> for VerifyError {
+    ghost from_gives = { λ _ e. e ≡ errors.Memory };
+
+    fn from(_e: AllocFailed<T>) -> VerifyError {
+        VerifyError::Memory
+    }
+}
