@@ -1,15 +1,19 @@
 #!/usr/bin/python3
-"""Prints the table of crates/actions/src/tests/rows.rt: messages as Python's protobuf encodes them.
+"""Prints the tables of crates/actions/src/tests: messages of these kinds as Python's protobuf encodes them.
 
 By hand, with Debian's protobuf-compiler and python3-protobuf (tried with 3.21.12):
 
     protoc --python_out=/tmp action_messages.proto
-    PYTHONPATH=/tmp ./action_vectors.py > ../crates/actions/src/tests/rows.rt
+    PYTHONPATH=/tmp ./action_vectors.py Platform Command Frame > ../crates/actions/src/tests/steps.rt
+    PYTHONPATH=/tmp ./action_vectors.py Action Result > ../crates/actions/src/tests/results.rt
     cd ../crates/actions && rt fmt
 
 The bytes are protobuf's. Which of them are refused, and how, is read from docs/FORMATS.md; a row
 that is accepted is told by its length.
 """
+
+import hashlib
+import sys
 
 from action_messages_pb2 import (
     Action,
@@ -30,6 +34,9 @@ HASHES = {NINE: "NINE", LINE: "LINE", EMPTY: "EMPTY"}
 nine = Digest(hash=NINE, size_bytes=9)
 line = Digest(hash=LINE, size_bytes=1)
 empty = Digest(hash=EMPTY)
+# The Tree of a root that has the file `a` of nine bytes.
+TREE = b"\x0a\x4b\x0a\x49\x0a\x01a\x12\x44\x0a\x40" + NINE.encode() + b"\x10\x09"
+tree = Digest(hash=hashlib.sha256(TREE).hexdigest(), size_bytes=len(TREE))
 upper = Digest(hash=NINE.upper(), size_bytes=9)
 
 UNSORTED = "MessageError::Unsorted"
@@ -186,7 +193,11 @@ ROWS = [
     ("Result", ActionResult(exit_code=-1), None),
     ("Result", ActionResult(exit_code=2147483647), None),
     ("Result", ActionResult(exit_code=-2147483648), None),
-    ("Result", result(d=["out"]), None),
+    (
+        "Result",
+        ActionResult(output_directories=[OutputDirectory(path="out", tree_digest=tree)]),
+        None,
+    ),
     ("Result", result(f=["f"]), None),
     (
         "Result",
@@ -275,8 +286,6 @@ def pieces(data):
 # At most so many rows in a table: the checker's work grows faster than their number.
 MOST = 14
 
-KINDS = ["Platform", "Command", "Frame", "Action", "Result"]
-
 
 def row(kind, message, refusal):
     data = message if isinstance(message, bytes) else message.SerializeToString(deterministic=True)
@@ -284,15 +293,19 @@ def row(kind, message, refusal):
     return f"    (Kind::{kind}, &[{pieces(data)}], {answer}),"
 
 
-print("use super::{EMPTY, Kind, LINE, NINE, Row};")
-print("use blob_digest::DigestError;")
+kinds = sys.argv[1:]
+tables = [(kind, [row(*r) for r in ROWS if r[0] == kind]) for kind in kinds]
+text = "\n".join(line for _, rows in tables for line in rows)
+names = [name for name in HASHES.values() if f" {name}" in text or f"[{name}" in text]
+print(f"use super::{{{', '.join(sorted([*names, 'Kind', 'Row']))}}};")
+if "DigestError" in text:
+    print("use blob_digest::DigestError;")
 print("use canonical::CanonError;")
 print("use messages::MessageError;")
 print()
 print("// The pieces of messages as protobuf encodes them, and their length or the refusal.")
 print("// tools/action_vectors.py prints this file.")
-for kind in KINDS:
-    rows = [row(*r) for r in ROWS if r[0] == kind]
+for kind, rows in tables:
     for number, start in enumerate(range(0, len(rows), MOST), 1):
         table = rows[start : start + MOST]
         print(f"\npub const {kind.upper()}_{number}: [Row; {len(table)}] = [")

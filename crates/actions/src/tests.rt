@@ -1,12 +1,14 @@
-mod rows;
+mod results;
+mod steps;
 
 use crate::*;
 use blob_digest::Digest;
 use messages::{MessageError, Path, Target};
 use refusing::Refusing;
-use rows::*;
+use results::*;
 use std::alloc::{AllocError, Allocator};
 use std::test::Fail;
+use steps::*;
 
 /// The hashes of the bytes `123456789`, of one newline and of no bytes, as `sha256sum` prints them.
 pub const NINE: &[u8] = b"15e2b0d3c33891ebb0f1ef609ec419420c20e320ce94c65fbc8c3312448eb225";
