@@ -1,2 +1,3 @@
 pub mod Report
+pub mod Store
 pub mod Status

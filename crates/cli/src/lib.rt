@@ -6,6 +6,7 @@ mod error;
 mod files;
 mod report;
 mod running;
+mod store;
 mod verify_command;
 mod words;
 

@@ -8,7 +8,7 @@ use Rattle.tree.specs.Form.{NodeValue, root}
 use Rattle.tree.specs.Graft.{graft}
 use Rattle.tree.specs.Source.{Blobs}
 use Rattle.tree.specs.Told.{missing, wrong, malformed}
-use Rattle.tree.specs.Lookup.{fault, nothing, found}
+use Rattle.tree.specs.Lookup.{Looked, fault, nothing, found}
 use Rattle.verifier.specs.declared.verdict.Verdict.{Verdict}
 use Rattle.verifier.specs.declared.verdict.Verdict.TheVariants.{Yes, No}
 use Rattle.verifier.specs.declared.verdict.Place.TheVariants.{Root}
@@ -26,13 +26,17 @@ abbrev pub origin_names : List LineValue → ℕ
 origin_names [] = 0
 origin_names (l ∷ ls) = length (path_of l.origin) + origin_names ls
 
--- why a line has no origin: a fault of the source on the way, or nothing is there
+-- the cause that a look-up of an origin gives where it finds no node: the fault on the way, or that nothing is there
+abbrev pub Gives : {A : Type 0} → OriginValue → Looked → Cause A → Type 0
+Gives o (fault (missing d)) c = c ≡ BlobMissing d
+Gives o (fault (wrong d)) c = c ≡ BlobWrong d
+Gives o (fault (malformed d)) c = c ≡ BlobMalformed d
+Gives o nothing c = c ≡ OriginMissing (path_of o)
+Gives o (found x) c = ⊥
+
+-- why a line has no origin
 abbrev pub LineFault : {A : Type 0} → Blobs → DigestValue → LineValue → Cause A → Type 0
-LineFault blobs sources l (BlobMissing d) = LooksAt blobs sources l.origin (fault (missing d))
-LineFault blobs sources l (BlobWrong d) = LooksAt blobs sources l.origin (fault (wrong d))
-LineFault blobs sources l (BlobMalformed d) = LooksAt blobs sources l.origin (fault (malformed d))
-LineFault blobs sources l (OriginMissing p) = (p ≡ path_of l.origin) × LooksAt blobs sources l.origin nothing
-LineFault blobs sources l (RootDiffers d) = ⊥
+LineFault blobs sources l c = (r : Looked) × LooksAt blobs sources l.origin r × Gives l.origin r c
 
 -- the fault of the first line that has no origin
 abbrev pub FirstFault : {A : Type 0} → Blobs → DigestValue → List LineValue → Cause A → Type 0

@@ -7,5 +7,5 @@ mod verdict;
 mod verifying;
 
 pub use error::VerifyError;
-pub use laws::accepted_plans_end_in_the_claim;
+pub use laws::{accepted_plans_end_in_the_claim, verdicts_are_single_valued};
 pub use verdict::{Cause, Place, Verdict};
