@@ -5,5 +5,5 @@ use Rattle.tree.specs.Source.{Telling}
 use Rattle.tree.specs.Memory.{telling_of}
 
 -- What was read is kept in tables, and stays told; each fault of the file system is a failure.
-abbrev pub telling_of_folder : {R : Type 0} → FolderSource R → Telling
+abbrev pub telling_of_folder : {R P Q : Type 0} → FolderSource R P Q → Telling
 telling_of_folder s = record (telling_of s.told) { failures = s.failures }

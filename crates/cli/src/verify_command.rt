@@ -1,13 +1,14 @@
 use crate::error::CliError;
 use crate::files::read_file;
 use crate::report::{is_yes, report};
+use crate::store::FolderSource;
 use blob_digest::Digest;
 use clap::ArgMatches;
 use plan::{Plan, PlanError, Record};
 use std::alloc::Global;
 use std::io::Write;
 use std::rt::Files;
-use verifier::verify;
+use verifier::{Verdict, VerifyError, verify};
 
 /// The text of an option that clap has found to be there.
 fn text_of<'a>(matches: &ArgMatches<'a>, option: &'static str) -> &'a str {
@@ -49,6 +50,24 @@ fn read_record<R: Files + AllocGlobal>(rt: &R, path: &str) -> Result<Record, Cli
     }
 }
 
+/// The verdict over the store folder.
+fn judge<R: Files + AllocGlobal>(
+    rt: &R,
+    matches: &ArgMatches<'_>,
+    sources: &Digest,
+    plan: &Plan,
+    record: &Record,
+    claim: &Digest,
+) -> Result<Verdict<Global>, CliError> {
+    let folder = String::from_str(rt.alloc(), text_of(matches, "store"))?;
+    let mut source = FolderSource::new(rt, folder);
+    match verify(rt.alloc(), sources, plan, record, claim, &mut source) {
+        Ok(verdict) => Ok(verdict),
+        Err(VerifyError::Memory) => Err(CliError::Memory),
+        Err(VerifyError::Fetch) => Err(source.into_fault().unwrap_or(CliError::Memory)),
+    }
+}
+
 /// Prints the verdict's line, and answers whether it is yes. The digests are read first, then the
 /// plan's file and its text, then the record's.
 pub(crate) fn run_verify<R: Files + AllocGlobal, O: Write>(
@@ -60,7 +79,7 @@ pub(crate) fn run_verify<R: Files + AllocGlobal, O: Write>(
     let claim = read_digest(rt.alloc(), matches, "claim")?;
     let plan = read_plan(rt, text_of(matches, "plan"))?;
     let record = read_record(rt, text_of(matches, "record"))?;
-    let verdict = verify(&sources, &plan, &record, &claim);
+    let verdict = judge(rt, matches, &sources, &plan, &record, &claim)?;
     let line = report(rt.alloc(), &verdict)?;
     out.write_all(line.as_bytes()).map_err(CliError::Output)?;
     out.flush().map_err(CliError::Output)?;

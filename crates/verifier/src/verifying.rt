@@ -9,7 +9,7 @@ use crate::error::VerifyError;
 use crate::verdict::{Cause, Place, Verdict};
 use blob_digest::Digest;
 use messages::Path;
-use plan::{Line, Origin};
+use plan::{Line, Origin, Plan, Record};
 use std::alloc::Allocator;
 use tree::{BlobSource, Node, TreeError, graft, lookup};
 
@@ -107,4 +107,19 @@ fn judge_root<A: Allocator + Copy, S: BlobSource<A>>(
             }
         }
     }
+}
+
+/// Temporary.
+pub fn verify<A: Allocator + Copy, S: BlobSource<A>>(
+    alloc: A,
+    sources: &Digest,
+    _plan: &Plan,
+    _record: &Record,
+    claim: &Digest,
+    source: &mut S,
+) -> Result<Verdict<A>, VerifyError>
+    ensures failed { IsErrOf result VerifyError.Fetch → (S.tells source.old).failures < (S.tells source.new).failures }
+{
+    let lines = Vec::new(alloc);
+    judge_root(alloc, sources, &lines, claim, source)
 }
