@@ -283,3 +283,61 @@ fn frames_and_actions(rt: HostRuntime) -> Result<(), Fail> {
     assert!(rt; action.as_slice() == whole.as_slice());
     Ok(())
 }
+
+/// Whether the getters of the command made of parts show the parts.
+fn command_shows<A: Allocator + Copy>(alloc: A) -> Result<bool, MessageError> {
+    let command = Command::decode(alloc, &command_by_parts(alloc)?)?;
+    let texts = command
+        .arguments()
+        .iter()
+        .all(|text| text.as_str() == "/bin/true");
+    let environment = command
+        .environment()
+        .iter()
+        .all(|v| v.name() == "A" && v.value() == "");
+    let outputs = command
+        .output_paths()
+        .iter()
+        .all(|path| path.as_str() == "out");
+    let directory = match command.working_directory() {
+        Some(path) => path.as_str() == "w",
+        None => false,
+    };
+    Ok(texts && environment && directory && outputs && command.arguments().len() == 1)
+}
+
+/// Whether the getters of the action made of parts, and those of its frame, show the parts.
+fn action_shows<A: Allocator + Copy>(alloc: A) -> Result<bool, MessageError> {
+    let action = Action::decode(alloc, &action_by_parts(alloc)?)?;
+    let frame = action.frame();
+    let digests = action.command_digest() == Digest::of(b"\n")
+        && frame.command_digest() == Digest::of(b"\n")
+        && action.input_root_digest() == Digest::empty();
+    let salts = action.salt() == b"s".as_slice() && frame.salt() == b"s".as_slice();
+    let platforms = action.platform().properties().len() == 1
+        && frame.platform().properties().len() == 1;
+    Ok(digests && salts && platforms && action.do_not_cache() && frame.do_not_cache())
+}
+
+/// Whether the getters of the result made of parts show the parts.
+fn result_shows<A: Allocator + Copy>(alloc: A) -> Result<bool, MessageError> {
+    let result = ActionResult::decode(alloc, &result_by_parts(alloc)?)?;
+    let lists = [
+        result.files().len(),
+        result.directories().len(),
+        result.symlinks().len(),
+    ];
+    let stdout = result.stdout();
+    let streams = stdout.raw() == b"o".as_slice()
+        && stdout.digest().is_none()
+        && result.stderr().digest() == Some(Digest::empty());
+    Ok(lists == [1, 1, 1] && streams && result.exit_code() == -1)
+}
+
+#[test]
+fn parts_shown(rt: HostRuntime) -> Result<(), Fail> {
+    assert_eq!(rt; command_shows(rt.alloc()), Ok(true));
+    assert_eq!(rt; action_shows(rt.alloc()), Ok(true));
+    assert_eq!(rt; result_shows(rt.alloc()), Ok(true));
+    Ok(())
+}
