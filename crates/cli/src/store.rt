@@ -1,3 +1,8 @@
+ghost use Rattle.std.specs.Prelude.{◌≡◌, ◌≤◌, ◌+◌, IfOk, IsErrOf, None, ◌<◌};
+ghost use Rattle.cli.specs.Store.{telling_of_folder, LoadsBlob, LoadsResult};
+ghost use Rattle.tree.specs.Source.{bytes_of};
+ghost use Rattle.tree.specs.Memory.{telling_of};
+
 use crate::error::CliError;
 use crate::files::read_file;
 use blob_digest::Digest;
@@ -35,7 +40,11 @@ impl<'r, R: Files + AllocGlobal> FolderSource<'r, R> {
     }
 
     /// Counts a failure, unless the fault is want of memory or the count is full.
-    fn fail(&mut self, fault: CliError) -> FetchError {
+    fn fail(&mut self, fault: CliError) -> FetchError
+        ensures told { telling_of self.new.told ≡ telling_of self.old.told }
+        ensures counted { result ≡ FetchError.Failed → self.new.failures ≡ self.old.failures + 1 }
+        ensures risen { self.old.failures ≤ self.new.failures }
+    {
         if matches!(fault, CliError::Memory) || self.failures == u64::MAX {
             return FetchError::Memory;
         }
@@ -62,36 +71,63 @@ fn read_entry<R: Files + AllocGlobal>(
     }
 }
 
-impl<'r, R: Files + AllocGlobal> BlobSource<Global> for FolderSource<'r, R> {
-    ghost use Rattle.cli.specs.Store.{telling_of_folder};
-
-    ghost tells = { telling_of_folder };
-
-    fn fetch(&mut self, alloc: Global, digest: &Digest) -> Result<Option<Vec<u8>>, FetchError> {
-        if let Some(bytes) = self.told.fetch(alloc, digest)? {
-            return Ok(Some(bytes));
-        }
+impl<'r, R: Files + AllocGlobal> FolderSource<'r, R> {
+    /// Reads a blob that wasn't read before.
+    fn load_blob(&mut self, alloc: Global, digest: &Digest) -> Result<Option<Vec<u8>>, FetchError>
+        requires { (telling_of_folder self.old).blobs digest.now ≡ None }
+        ensures told { IfOk result (λ answer. bytes_of answer ≡ (telling_of_folder self.new).blobs digest.now) }
+        ensures loaded { LoadsBlob (telling_of_folder self.old) (telling_of_folder self.new) digest.now }
+        ensures failed { IsErrOf result FetchError.Failed → self.old.failures < self.new.failures }
+    {
         match read_entry(self.rt, self.folder.as_str(), "cas", digest) {
             Ok(None) => Ok(None),
             Ok(Some(bytes)) => {
-                self.told.hold_blob(*digest, Vec::from_slice(alloc, &bytes)?)?;
+                let kept = Vec::from_slice(alloc, &bytes)?;
+                self.told.hold_blob(*digest, kept)?;
                 Ok(Some(bytes))
             }
             Err(fault) => Err(self.fail(fault)),
         }
     }
 
-    fn result(&mut self, alloc: Global, digest: &Digest) -> Result<Option<Vec<u8>>, FetchError> {
-        if let Some(bytes) = self.told.result(alloc, digest)? {
-            return Ok(Some(bytes));
-        }
+    /// Reads a result that wasn't read before.
+    fn load_result(
+        &mut self,
+        alloc: Global,
+        digest: &Digest,
+    ) -> Result<Option<Vec<u8>>, FetchError>
+        requires { (telling_of_folder self.old).results digest.now ≡ None }
+        ensures told { IfOk result (λ answer. bytes_of answer ≡ (telling_of_folder self.new).results digest.now) }
+        ensures loaded { LoadsResult (telling_of_folder self.old) (telling_of_folder self.new) digest.now }
+        ensures failed { IsErrOf result FetchError.Failed → self.old.failures < self.new.failures }
+    {
         match read_entry(self.rt, self.folder.as_str(), "ac", digest) {
             Ok(None) => Ok(None),
             Ok(Some(bytes)) => {
-                self.told.hold_result(*digest, Vec::from_slice(alloc, &bytes)?)?;
+                let kept = Vec::from_slice(alloc, &bytes)?;
+                self.told.hold_result(*digest, kept)?;
                 Ok(Some(bytes))
             }
             Err(fault) => Err(self.fail(fault)),
+        }
+    }
+}
+
+#[tactic(auto, using(crate::proofs::Folders::asks_loaded_blob, crate::proofs::Folders::asks_loaded_result, crate::proofs::Folders::asks_kept_blob, crate::proofs::Folders::asks_kept_result))]
+impl<'r, R: Files + AllocGlobal> BlobSource<Global> for FolderSource<'r, R> {
+    ghost tells = { telling_of_folder };
+
+    fn fetch(&mut self, alloc: Global, digest: &Digest) -> Result<Option<Vec<u8>>, FetchError> {
+        match self.told.fetch(alloc, digest)? {
+            Some(bytes) => Ok(Some(bytes)),
+            None => self.load_blob(alloc, digest),
+        }
+    }
+
+    fn result(&mut self, alloc: Global, digest: &Digest) -> Result<Option<Vec<u8>>, FetchError> {
+        match self.told.result(alloc, digest)? {
+            Some(bytes) => Ok(Some(bytes)),
+            None => self.load_result(alloc, digest),
         }
     }
 }
