@@ -1,7 +1,7 @@
 use Rattle.std.proofs.Common.{◌≡◌, ◌++◌, ◌∙◌, ap, sym, codes, Some, [], ◌∷◌}
 use Rattle.plan.specs.Lines.{origin_words}
 use Rattle.plan.specs.Values.{source}
-use Rattle.plan.proofs.Spelled.{whole_tree, tree_path, same_text}
+use Rattle.plan.proofs.Spelled.{whole_tree, same_text}
 use Rattle.plan.proofs.line.read_origin.Goals as goal
 
 pub returns-then-eq-clause-only : goal.returns-then-eq-clause-only
