@@ -1,4 +1,6 @@
 mod Escapes
 mod Lines
+mod NamesOrder
 mod Spelled
+mod TargetSets
 mod TextBytes

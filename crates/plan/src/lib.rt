@@ -7,6 +7,7 @@ mod escaped;
 mod line;
 mod plan;
 mod record;
+mod targets;
 mod words;
 
 pub use error::{Fault, PlanError};
