@@ -8,7 +8,7 @@ use Rattle.std.specs.List.{Contains}
 use Rattle.std.specs.BTreeSet.{BTreeSet, contains, IsKeyRangeOf, Updates}
 use Rattle.std.proofs.lemmas.Map.Views.{btree_set_contains_iff}
 use Rattle.messages.specs.Path.{Overlap}
-use Rattle.plan.specs.Targets.{names_cmp, BeginsWith, AreApart, OverlapsAny, IsWith}
+use Rattle.plan.specs.Targets.{names_cmp, BeginsWith, AreApart, OverlapsAny}
 use Rattle.plan.proofs.NamesOrder.{names_cmp_total, names_same, names_itself, before_longer, between, not_behind, begins_from, overlap_under, overlap_above}
 
 abbrev Key : Type 0
@@ -103,7 +103,7 @@ with_back s n k p updates (inr has) = by (names_cmp k p) refl
     by Equal e = (found n p).0 (updates.0 p ∙ rw e refl)
     by Greater e = (found n p).0 (updates.0 p ∙ rw e ((found s p).1 has))
 
-pub with_target : (s n : BTreeSet Key) (k : Key) → Updates names_cmp s n k true → IsWith true k s.keys n.keys
+pub with_target : (s n : BTreeSet Key) (k : Key) → Updates names_cmp s n k true → (p : Key) → Contains n.keys p ↔ ((p ≡ k) ⊎ Contains s.keys p)
 with_target s n k updates p = (with_forth s n k p updates, with_back s n k p updates)
 
 back : (p q : Key) → Overlap p q → Overlap q p
@@ -122,17 +122,17 @@ still_apart s n k updates apart new p q has also overlap = by (with_forth s n k 
 
 -- ---- what is answered
 
-pub refused : (targets : List Key) (names target : Key) → names ≡ target → OverlapsAny names targets → IsTrue false ↔ ¬ OverlapsAny target targets
-refused targets names target e overlaps = (λ t. cc t, λ none. absurd (none (subst (λ (p : Key). OverlapsAny p targets) e overlaps)))
+pub refused : (targets : List Key) (names target : Key) → names ≡ target → OverlapsAny names targets → OverlapsAny target targets
+refused targets names target e overlaps = subst (λ (p : Key). OverlapsAny p targets) e overlaps
 
 pub told_none : (targets : List Key) (names target : Key) (before behind : Bool) → names ≡ target → IsTrue before ↔ HasBeginning targets names → IsTrue behind ↔ HasLonger targets names
     → before ≡ false → behind ≡ false → OverlapsAny target targets → ⊥
 told_none targets names target before behind e begins longer not_before not_behind =
     subst (λ (p : Key). OverlapsAny p targets → ⊥) e (overlaps_none targets names (λ w. cc (sym not_before ∙ begins.1 w)) (λ w. cc (sym not_behind ∙ longer.1 w)))
 
-pub taken_with : (s n : BTreeSet Key) (old : List Key) (names target : Key) → s.keys ≡ old → names ≡ target → Updates names_cmp s n names true → IsWith true target old n.keys
-taken_with s n old names target view e updates =
-    subst (λ (ks : List Key). IsWith true target ks n.keys) view (subst (λ (p : Key). IsWith true p s.keys n.keys) e (with_target s n names updates))
+pub taken_with : (s n : BTreeSet Key) (old : List Key) (names target : Key) → s.keys ≡ old → names ≡ target → Updates names_cmp s n names true → (p : Key) → Contains n.keys p ↔ ((p ≡ target) ⊎ Contains old p)
+taken_with s n old names target view e updates p =
+    subst (λ (ks : List Key). Contains n.keys p ↔ ((p ≡ target) ⊎ Contains ks p)) view (subst (λ (t : Key). Contains n.keys p ↔ ((p ≡ t) ⊎ Contains s.keys p)) e (with_target s n names updates p))
 
 pub taken_apart : (s n : BTreeSet Key) (old : List Key) (names target : Key) → s.keys ≡ old → names ≡ target → Updates names_cmp s n names true → AreApart s.keys → (OverlapsAny target old → ⊥)
     → AreApart n.keys

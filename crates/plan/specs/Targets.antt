@@ -14,10 +14,10 @@ OverlapsAny path targets = (other : List (List ℕ)) × Contains targets other �
 abbrev pub AreApart : List (List (List ℕ)) → Type 0
 AreApart targets = (p q : List (List ℕ)) → Contains targets p → Contains targets q → Overlap p q → p ≡ q
 
--- the targets with one more, if it is taken
-abbrev pub IsWith : Bool → List (List ℕ) → List (List (List ℕ)) → List (List (List ℕ)) → Type 0
-IsWith true path old new = (p : List (List ℕ)) → Contains new p ↔ ((p ≡ path) ⊎ Contains old p)
-IsWith false path old new = new ≡ old
+-- A target is taken where it overlaps none, and then is one of the targets; else nothing changes.
+abbrev pub Takes : Bool → List (List ℕ) → List (List (List ℕ)) → List (List (List ℕ)) → Type 0
+Takes true path old new = (¬ OverlapsAny path old) × ((p : List (List ℕ)) → Contains new p ↔ ((p ≡ path) ⊎ Contains old p))
+Takes false path old new = OverlapsAny path old × (new ≡ old)
 
 -- ---- what the code keeps
 

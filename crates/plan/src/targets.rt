@@ -1,6 +1,6 @@
 ghost use Rattle.std.specs.Prelude.{◌≡◌, ◌↔◌, List, ℕ, [], IsTrue, IfOk, OnErr};
 ghost use Rattle.std.specs.List.{Contains};
-ghost use Rattle.plan.specs.Targets.{BeginsWith, OverlapsAny, IsWith};
+ghost use Rattle.plan.specs.Targets.{BeginsWith, Takes};
 
 use messages::{Name, Path};
 use std::alloc::{AllocError, Allocator};
@@ -139,8 +139,7 @@ impl<A: Allocator + Copy> Targets<A> {
         alloc: A,
         target: &Path<B>,
     ) -> Result<bool, AllocError>
-        ensures apart { IfOk result (λ taken. IsTrue taken ↔ ¬ OverlapsAny target.now self.old) }
-        ensures with { IfOk result (λ taken. IsWith taken target.now self.old self.new) }
+        ensures takes { IfOk result (λ taken. Takes taken target.now self.old self.new) }
         ensures unchanged { OnErr result (self.new ≡ self.old) }
     {
         let names = Names {
