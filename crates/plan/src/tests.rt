@@ -1,3 +1,5 @@
+mod escapes;
+
 use crate::{Fault, Plan, PlanError, Record};
 use refusing::Refusing;
 use std::alloc::{AllocError, Allocator};
