@@ -4,4 +4,5 @@ pub mod Line
 pub mod Lines
 pub mod Targets
 pub mod Plan
+pub mod Reading
 pub mod Record
