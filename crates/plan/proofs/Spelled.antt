@@ -1,7 +1,7 @@
 -- What stands in the spelling of a path, and of an origin.
-use Rattle.std.proofs.Common.{◌≡◌, ◌≢◌, nat_eq, ℕ, ◌<◌, Bool, true, false, ◌==◌, ◌&&◌, ◌||◌, All, List, [], ◌∷◌, ◌++◌, refl, ap, sym, ◌∙◌, subst, inl, inr, arith, codes, Some, Option, IfOk, Result}
+use Rattle.std.proofs.Common.{◌≡◌, ◌≢◌, nat_eq, ℕ, ◌<◌, Bool, true, false, ◌==◌, ◌||◌, All, List, [], ◌∷◌, ◌++◌, refl, ap, sym, ◌∙◌, subst, inl, inr, arith, codes, Some}
 use Rattle.std.specs.Cmp.Lexicographic.{pointwise, bytes_decides}
-use Rattle.std.specs.List.{AllPass, list_all, Contains}
+use Rattle.std.specs.List.{list_all, Contains}
 use Rattle.std.proofs.lemmas.Bool.{agree_below_at}
 use Rattle.std.proofs.lemmas.List.{append_cancel_left}
 use Rattle.std.proofs.lemmas.List.Elements.{All-head, All-tail}
@@ -14,7 +14,7 @@ use Rattle.messages.specs.Path.{IsPath, path_text, parts_of}
 use Rattle.messages.proofs.Paths.{text_utf8, parts_of_path}
 use Rattle.plan.specs.Escape.{is_plain, escaped_byte, escaped, escaped_path}
 use Rattle.plan.specs.Values.{OriginValue, source, output, LineValue, IsOrigin, IsLine}
-use Rattle.plan.specs.Lines.{origin_words, in_words}
+use Rattle.plan.specs.Lines.{origin_words}
 use Rattle.plan.proofs.TextBytes.{All-from_IsUtf8}
 use Rattle.plan.proofs.Escapes.{percent_decode-escaped_path}
 use Rattle.plan.proofs.Lines.{once}

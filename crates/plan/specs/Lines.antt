@@ -1,5 +1,5 @@
 -- Lines of a plan, as texts.
-use Rattle.std.specs.Prelude.{ℕ, suc, zero, List, [], ◌∷◌, ◌++◌, codes, Option, Some, None}
+use Rattle.std.specs.Prelude.{ℕ, suc, zero, List, [], ◌∷◌, ◌++◌, codes, Some, None}
 use Rattle.plan.specs.declared.line.Origin.{Origin}
 use Rattle.plan.specs.declared.line.Origin.TheVariants.{Source}
 use Rattle.plan.specs.Escape.{escaped_path}

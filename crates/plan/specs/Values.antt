@@ -1,5 +1,5 @@
 -- Plans as values: how the directories of a build are put together.
-use Rattle.std.specs.Prelude.{◌≡◌, ◌⊎◌, ◌<◌, ℕ, List, [], ◌∷◌}
+use Rattle.std.specs.Prelude.{◌≡◌, ◌⊎◌, ◌<◌, ℕ, List, []}
 use Rattle.blob_digest.specs.Digest.{DigestValue}
 use Rattle.messages.specs.Path.{IsPath}
 

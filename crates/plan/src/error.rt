@@ -1,3 +1,7 @@
+ghost use Rattle.std.specs.Prelude.{◌≡◌};
+ghost use Rattle.plan.specs.declared.error.ReadError.TheVariants as errors;
+
+use std::alloc::{AllocError, AllocFailed};
 use thiserror::Error;
 
 /// What is wrong with a line of a plan or a record.
@@ -9,6 +13,12 @@ pub enum Fault {
     /// Refusal 92.
     #[error("not a line that may stand here")]
     BadLine,
+    /// Refusal 95.
+    #[error("the target is an earlier line's target, or lies under or above it")]
+    Overlap,
+    /// Refusal 96.
+    #[error("more than 65536 lines")]
+    TooMany,
     /// Refusal 97.
     #[error("the record names other steps than the plan")]
     RecordDiffers,
@@ -20,4 +30,39 @@ pub enum Fault {
 pub struct PlanError {
     pub line: u64,
     pub fault: Fault,
+}
+
+/// Why a plan could not be read.
+#[derive(Clone, Copy, Debug, PartialEq, Eq, Error)]
+pub enum ReadError {
+    /// A line is at fault.
+    #[error("{0}")]
+    Faulty(PlanError),
+    /// No memory was left.
+    #[error("out of memory")]
+    Memory,
+}
+
+impl ReadError {
+    pub(crate) fn at(line: u64, fault: Fault) -> ReadError
+        ensures { result ≡ errors.Faulty (record { line = line; fault = fault }) }
+    {
+        ReadError::Faulty(PlanError { line, fault })
+    }
+}
+
+impl From<AllocError> for ReadError {
+    ghost from_gives = { λ _ e. e ≡ errors.Memory };
+
+    fn from(_e: AllocError) -> ReadError {
+        ReadError::Memory
+    }
+}
+
+impl<T: Drop> From<AllocFailed<T>> for ReadError {
+    ghost from_gives = { λ _ e. e ≡ errors.Memory };
+
+    fn from(_e: AllocFailed<T>) -> ReadError {
+        ReadError::Memory
+    }
 }

@@ -1,5 +1,5 @@
 //! Plans of a build and their records, as texts: each is read from exactly one text.
-//! So far a plan has no steps, and its root has no lines.
+//! So far a plan has no steps, and the lines of its root are of the source tree.
 #![tactic(auto)]
 
 mod error;
@@ -7,9 +7,10 @@ mod escaped;
 mod line;
 mod plan;
 mod record;
+mod targets;
 mod words;
 
-pub use error::{Fault, PlanError};
+pub use error::{Fault, PlanError, ReadError};
 pub use escaped::{read_path, write_path};
 pub use line::{Line, Origin};
 pub use plan::Plan;

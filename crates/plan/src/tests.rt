@@ -1,11 +1,61 @@
-use crate::{Fault, Plan, PlanError, Record};
+mod escapes;
+
+use crate::{Fault, Line, Origin, Plan, PlanError, ReadError, Record};
 use refusing::Refusing;
-use std::alloc::{AllocError, Allocator};
+use std::alloc::Allocator;
 use std::test::Fail;
 
 /// Texts, and the line and the fault that refuse them.
-const PLANS: [(&str, Option<(u64, Fault)>); 12] = [
+const PLANS: [(&str, Option<(u64, Fault)>); 27] = [
     ("buildplan 1\nroot\n", None),
+    ("buildplan 1\nroot\nin b src a\nin a src .\n", None),
+    (
+        "buildplan 1\nroot\nin x/a%20b src %C3%A9/y\nin x/c src y\nin x%2Bc src y\n",
+        None,
+    ),
+    (
+        "buildplan 1\nroot\nin x src y\nin x/z src y\n",
+        Some((4, Fault::Overlap)),
+    ),
+    (
+        "buildplan 1\nroot\nin x/z src y\nin x src y\n",
+        Some((4, Fault::Overlap)),
+    ),
+    (
+        "buildplan 1\nroot\nin x/a src y\nin x-b src y\nin x/a src .\n",
+        Some((5, Fault::Overlap)),
+    ),
+    (
+        "buildplan 1\nroot\nin a src y\nin a-b src y\nin a/b src y\nin\n",
+        Some((5, Fault::Overlap)),
+    ),
+    (
+        "buildplan 1\nroot\nin x src a%2db\n",
+        Some((3, Fault::BadLine)),
+    ),
+    ("buildplan 1\nroot\nin x src y", Some((3, Fault::BadLine))),
+    (
+        "buildplan 1\nroot\nin x src y\nin x src",
+        Some((4, Fault::BadLine)),
+    ),
+    (
+        "buildplan 1\nroot\nin x out gen o\n",
+        Some((3, Fault::BadLine)),
+    ),
+    ("buildplan 1\nroot\nin . src y\n", Some((3, Fault::BadLine))),
+    (
+        "buildplan 1\nroot\nin x  src y\n",
+        Some((3, Fault::BadLine)),
+    ),
+    (
+        "buildplan 1\nroot\nin x src y \n",
+        Some((3, Fault::BadLine)),
+    ),
+    (
+        "buildplan 1\nstep a e3b0c44298fc1c149afbf4c8996fb92427ae41e4649b934ca495991b7852b855/0\nroot\n",
+        Some((2, Fault::BadLine)),
+    ),
+    ("buildplan 1\nroot\n\n", Some((3, Fault::BadLine))),
     ("", Some((1, Fault::BadHeader))),
     ("buildplan 2\nroot\n", Some((1, Fault::BadHeader))),
     ("buildplan 1", Some((1, Fault::BadHeader))),
@@ -61,16 +111,52 @@ fn refusal(found: Result<(), PlanError>) -> Option<(u64, Fault)> {
     found.err().map(|error| (error.line, error.fault))
 }
 
+/// Whether the plan of the text is written as it again; or the refusal.
+fn again<A: Allocator + Copy>(alloc: A, text: &str) -> Result<bool, ReadError> {
+    let plan = Plan::read(alloc, text.as_bytes())?;
+    Ok(plan.write(alloc)?.as_slice() == text.as_bytes())
+}
+
+fn answer(expected: Option<(u64, Fault)>) -> Result<bool, ReadError> {
+    match expected {
+        Some((line, fault)) => Err(ReadError::Faulty(PlanError { line, fault })),
+        None => Ok(true),
+    }
+}
+
 #[test]
 fn texts(rt: HostRuntime) {
     for (text, expected) in PLANS {
-        let found = Plan::read(text.as_bytes()).map(|_plan| ());
-        assert_eq!(rt; refusal(found), expected, "{text:?}");
+        assert_eq!(rt; again(rt.alloc(), text), answer(expected), "{text:?}");
     }
     for (text, expected) in RECORDS {
         let found = Record::read(text.as_bytes()).map(|_record| ());
         assert_eq!(rt; refusal(found), expected, "{text:?}");
     }
+}
+
+/// The target and the origin, as texts.
+fn shown<'a, A: Allocator>(line: &'a Line<A>) -> (&'a str, Option<&'a str>) {
+    let origin = match &line.origin {
+        Origin::Source(path) => match path {
+            Some(path) => Some(path.as_str()),
+            None => None,
+        },
+    };
+    (line.target.as_str(), origin)
+}
+
+#[test]
+fn lines_in_order(rt: HostRuntime) -> Result<(), Fail> {
+    let plan = Plan::read(
+        rt.alloc(),
+        b"buildplan 1\nroot\nin b src a%20c\nin a src .\n",
+    )?;
+    let lines = plan.lines();
+    assert_eq!(rt; lines.len(), 2);
+    assert_eq!(rt; shown(&lines[0]), ("b", Some("a c")));
+    assert_eq!(rt; shown(&lines[1]), ("a", None));
+    Ok(())
 }
 
 #[test]
@@ -84,26 +170,20 @@ fn refusals_say_where(rt: HostRuntime) -> Result<(), Fail> {
     Ok(())
 }
 
-fn written<A: Allocator + Copy>(alloc: A) -> Result<Vec<u8, A>, AllocError> {
-    Plan {}.write(alloc)
-}
-
 #[test]
 fn each_request_for_memory_refused(rt: HostRuntime) {
     let mut refused = 0u64;
-    for number in 1..100u64 {
-        let heap = Refusing::new(rt.alloc(), number);
-        let answer = written(&heap);
-        if !heap.has_refused() {
-            let text = answer.map_or(
-                false,
-                |text| text.as_slice() == b"buildplan 1\nroot\n".as_slice(),
-            );
-            assert!(rt; text);
-            break;
+    for (text, expected) in PLANS {
+        for number in 1..1000u64 {
+            let heap = Refusing::new(rt.alloc(), number);
+            let found = again(&heap, text);
+            if !heap.has_refused() {
+                assert_eq!(rt; found, answer(expected), "{text:?}");
+                break;
+            }
+            assert_eq!(rt; found, Err(ReadError::Memory), "request {number}");
+            refused = refused.saturating_add(1);
         }
-        assert!(rt; answer.is_err(), "request {number}");
-        refused = refused.saturating_add(1);
     }
-    assert!(rt; refused >= 1);
+    assert!(rt; refused > 50, "{refused}");
 }

@@ -1,6 +1,4 @@
 use Rattle.std.proofs.Common.{◌≡◌, ◌++◌, ◌∙◌, ap, sym, codes, Some, [], ◌∷◌}
-use Rattle.plan.specs.Lines.{origin_words}
-use Rattle.plan.specs.Values.{source}
 use Rattle.plan.proofs.Spelled.{whole_tree, same_text}
 use Rattle.plan.proofs.line.read_origin.Goals as goal
 

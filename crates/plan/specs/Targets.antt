@@ -1,0 +1,30 @@
+-- Targets of lines, of which none overlaps another.
+use Rattle.std.specs.Prelude.{◌≡◌, ◌↔◌, ◌⊎◌, ℕ, Bool, true, false, List, ◌++◌}
+use Rattle.std.specs.declared.cmp.Ordering.{Ordering}
+use Rattle.std.specs.Ordering.{nat_cmp}
+use Rattle.std.specs.Cmp.Lexicographic.{slice_cmp}
+use Rattle.std.specs.List.{Contains}
+use Rattle.messages.specs.Path.{Overlap}
+
+-- a path overlaps one of the targets
+abbrev pub OverlapsAny : List (List ℕ) → List (List (List ℕ)) → Type 0
+OverlapsAny path targets = (other : List (List ℕ)) × Contains targets other × Overlap path other
+
+-- no two of the targets overlap
+abbrev pub AreApart : List (List (List ℕ)) → Type 0
+AreApart targets = (p q : List (List ℕ)) → Contains targets p → Contains targets q → Overlap p q → p ≡ q
+
+-- A target is taken where it overlaps none, and then is one of the targets; else nothing changes.
+abbrev pub Takes : Bool → List (List ℕ) → List (List (List ℕ)) → List (List (List ℕ)) → Type 0
+Takes true path old new = (¬ OverlapsAny path old) × ((p : List (List ℕ)) → Contains new p ↔ ((p ≡ path) ⊎ Contains old p))
+Takes false path old new = OverlapsAny path old × (new ≡ old)
+
+-- ---- what the code keeps
+
+-- the order of paths by their names
+abbrev pub names_cmp : List (List ℕ) → List (List ℕ) → Ordering
+names_cmp = slice_cmp (slice_cmp nat_cmp)
+
+-- the other path, or one above it
+abbrev pub BeginsWith : List (List ℕ) → List (List ℕ) → Type 0
+BeginsWith path above = (rest : List (List ℕ)) × (path ≡ above ++ rest)
