@@ -1,6 +1,6 @@
 -- A yes on a plan without steps holds of every run.
 use Rattle.std.proofs.Common.{◌≡◌, ℕ, zero, suc, List, [], ◌∷◌, refl, ap, sym, ◌∙◌, subst, map, inl, inr}
-use Rattle.std.specs.Prelude.{◌⊎◌, Option, Some, None, IsSomeAnd, option_map, option_and_then, slice_get}
+use Rattle.std.specs.Prelude.{Result, Ok, Err, IfOk, ◌⊎◌, Option, Some, None, IsSomeAnd, option_map, option_and_then, slice_get}
 use Rattle.blob_digest.specs.Digest.{DigestValue, NoClash}
 use Rattle.plan.specs.Values.{OriginValue, source, output, LineValue, StepValue, PlanValue}
 use Rattle.tree.specs.Tree.{Name, Tree, Leaf, Entry, tree_at, IsOrdered}
@@ -12,7 +12,10 @@ use Rattle.tree.proofs.LookupLemmas.{looks_tell}
 use Rattle.tree.proofs.GraftRoots.{root-graft}
 use Rattle.verifier.specs.Build.{Meaning, ActionMeaning, Outcome, Event, start, finish, lose, State, opening, happens, started, origins, origin_at, graft_of, step_action, action_of, IsRun}
 use Rattle.verifier.specs.Headline.{IsConcerned, EveryRunEndsIn}
+use Rattle.verifier.specs.declared.verdict.Verdict.{Verdict}
+use Rattle.verifier.specs.declared.verdict.Verdict.TheVariants.{Yes, No}
 use Rattle.verifier.specs.Accepted.{LooksAt, Resolves, IsAccepted}
+use Rattle.verifier.specs.Verdict.{IsVerdict, IsYes}
 
 abbrev pub nodes_of : List (List Name × Entry Leaf) → List (List Name × NodeValue)
 nodes_of = map (λ e. (e.0, entry_node e.1))
@@ -76,3 +79,14 @@ accepted_holds blobs results sources plan recorded claim none h = record { of_ru
     own_blob : (t : Tree Leaf) (plan : PlanValue) (meaning : Meaning) (chosen : List (ActionMeaning × Outcome)) (es : List Event) (b : List ℕ) → IsValue blobs b ⊎ IsBlobOf t b → IsConcerned blobs plan meaning t chosen es b
     own_blob t plan meaning chosen es b (inl v) = inl (inl v)
     own_blob t plan meaning chosen es b (inr v) = inr (inl (inl v))
+
+-- so does a yes as a verdict
+pub verdict_holds : {A : Type 0} (blobs results : Blobs) (sources : DigestValue) (plan : PlanValue) (recorded : List DigestValue) (claim : DigestValue) (v : Verdict A) → plan.steps ≡ []
+    → IsVerdict blobs sources plan.root_lines claim v → IsYes v → EveryRunEndsIn blobs results sources plan recorded claim
+verdict_holds blobs results sources plan recorded claim (Yes r steps) none h y = accepted_holds blobs results sources plan recorded claim none h.2
+verdict_holds blobs results sources plan recorded claim (No place c) none h y = elim y [ ]
+
+pub answers_hold : {A E : Type 0} (blobs results : Blobs) (sources : DigestValue) (plan : PlanValue) (recorded : List DigestValue) (claim : DigestValue) (answer : Result (Verdict A) E) → plan.steps ≡ []
+    → IfOk answer (λ v. IsVerdict blobs sources plan.root_lines claim v) → IfOk answer (λ v. IsYes v → EveryRunEndsIn blobs results sources plan recorded claim)
+answers_hold blobs results sources plan recorded claim (Ok v) none h = verdict_holds blobs results sources plan recorded claim v none h
+answers_hold blobs results sources plan recorded claim (Err e) none h = tt

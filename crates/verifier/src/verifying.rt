@@ -1,8 +1,9 @@
-ghost use Rattle.std.specs.Prelude.{◌≡◌, ◌<◌, IfOk, IsErrOf, length};
+ghost use Rattle.std.specs.Prelude.{◌≡◌, ◌<◌, [], IfOk, IsErrOf, length};
 ghost use Rattle.tree.specs.Source.{Asks};
 ghost use Rattle.tree.specs.Graft.{HaveApartTargets};
 ghost use Rattle.verifier.specs.Accepted.{targets};
-ghost use Rattle.verifier.specs.Verdict.{path_of, origin_names, IsVerdict};
+ghost use Rattle.verifier.specs.Verdict.{path_of, origin_names, IsVerdict, IsYes};
+ghost use Rattle.verifier.specs.Headline.{EveryRunEndsIn};
 ghost use Rattle.verifier.specs.Origins.{IsTooDeep, IsCauseOf, IsFound, IsResolved};
 
 use crate::error::VerifyError;
@@ -109,17 +110,25 @@ fn judge_root<A: Allocator + Copy, S: BlobSource<A>>(
     }
 }
 
-/// Temporary.
+/// Whether every build of the plan, from sources with this digest, ends in the claimed root. The
+/// lines of the root are looked up in their order, from the digests of the sources, and their graft
+/// is held against the claim; the first fault decides. The record says which actions the steps had.
+#[tactic(auto, using(crate::proofs::Targets::plan_targets))]
 pub fn verify<A: Allocator + Copy, S: BlobSource<A>>(
     alloc: A,
     sources: &Digest,
-    _plan: &Plan,
+    plan: &Plan<A>,
     _record: &Record,
     claim: &Digest,
     source: &mut S,
 ) -> Result<Verdict<A>, VerifyError>
+    // The one verdict, by what the source tells.
+    ensures verdict { IfOk result (λ verdict. IsVerdict (S.tells source.new).blobs sources.now plan.now.root_lines claim.now verdict) }
+    // Where it is yes, every complete run of the plan ends in the claimed root.
+    ensures holds { IfOk result (λ verdict. IsYes verdict → EveryRunEndsIn (S.tells source.new).blobs (S.tells source.new).results sources.now plan.now [] claim.now) }
+    // The source is asked once a name of the origins at most.
+    ensures asked { Asks (origin_names plan.now.root_lines) (S.tells source.old) (S.tells source.new) }
     ensures failed { IsErrOf result VerifyError.Fetch → (S.tells source.old).failures < (S.tells source.new).failures }
 {
-    let lines = Vec::new(alloc);
-    judge_root(alloc, sources, &lines, claim, source)
+    judge_root(alloc, sources, plan.lines(), claim, source)
 }
