@@ -1,6 +1,6 @@
 ghost use Rattle.std.specs.Prelude.{◌≡◌, ◌≤◌, ◌+◌, IfOk, IsErrOf, None, ◌<◌};
 ghost use Rattle.cli.specs.Store.{telling_of_folder, LoadsBlob, LoadsResult};
-ghost use Rattle.tree.specs.Source.{bytes_of};
+ghost use Rattle.tree.specs.Source.{bytes_of, greatest_count};
 ghost use Rattle.tree.specs.Memory.{telling_of};
 
 use crate::error::CliError;
@@ -44,6 +44,7 @@ impl<'r, R: Files + AllocGlobal> FolderSource<'r, R> {
         ensures told { telling_of self.new.told ≡ telling_of self.old.told }
         ensures counted { result ≡ FetchError.Failed → self.new.failures ≡ self.old.failures + 1 }
         ensures risen { self.old.failures ≤ self.new.failures }
+        ensures bounded { self.new.failures ≤ greatest_count }
     {
         if matches!(fault, CliError::Memory) || self.failures == u64::MAX {
             return FetchError::Memory;
@@ -79,6 +80,7 @@ impl<'r, R: Files + AllocGlobal> FolderSource<'r, R> {
         ensures loaded { LoadsBlob (telling_of_folder self.old) (telling_of_folder self.new) digest.now }
         ensures failed { IsErrOf result FetchError.Failed → self.old.failures < self.new.failures }
     {
+        let _count = self.failures;
         match read_entry(self.rt, self.folder.as_str(), "cas", digest) {
             Ok(None) => Ok(None),
             Ok(Some(bytes)) => {
@@ -101,6 +103,7 @@ impl<'r, R: Files + AllocGlobal> FolderSource<'r, R> {
         ensures loaded { LoadsResult (telling_of_folder self.old) (telling_of_folder self.new) digest.now }
         ensures failed { IsErrOf result FetchError.Failed → self.old.failures < self.new.failures }
     {
+        let _count = self.failures;
         match read_entry(self.rt, self.folder.as_str(), "ac", digest) {
             Ok(None) => Ok(None),
             Ok(Some(bytes)) => {
@@ -118,6 +121,7 @@ impl<'r, R: Files + AllocGlobal> BlobSource<Global> for FolderSource<'r, R> {
     ghost tells = { telling_of_folder };
 
     fn fetch(&mut self, alloc: Global, digest: &Digest) -> Result<Option<Vec<u8>>, FetchError> {
+        let _count = self.failures;
         match self.told.fetch(alloc, digest)? {
             Some(bytes) => Ok(Some(bytes)),
             None => self.load_blob(alloc, digest),
@@ -125,6 +129,7 @@ impl<'r, R: Files + AllocGlobal> BlobSource<Global> for FolderSource<'r, R> {
     }
 
     fn result(&mut self, alloc: Global, digest: &Digest) -> Result<Option<Vec<u8>>, FetchError> {
+        let _count = self.failures;
         match self.told.result(alloc, digest)? {
             Some(bytes) => Ok(Some(bytes)),
             None => self.load_result(alloc, digest),

@@ -4,7 +4,7 @@ use crate::report::{is_yes, report};
 use crate::store::FolderSource;
 use blob_digest::Digest;
 use clap::ArgMatches;
-use plan::{Plan, PlanError, Record};
+use plan::{Plan, PlanError, ReadError, Record};
 use std::alloc::Global;
 use std::io::Write;
 use std::rt::Files;
@@ -36,10 +36,11 @@ fn text_error(alloc: Global, path: &str, fault: PlanError) -> Result<CliError, C
     Ok(CliError::Text { path, fault })
 }
 
-fn read_plan<R: Files + AllocGlobal>(rt: &R, path: &str) -> Result<Plan, CliError> {
-    match Plan::read(&read_file(rt, path)?) {
+fn read_plan<R: Files + AllocGlobal>(rt: &R, path: &str) -> Result<Plan<Global>, CliError> {
+    match Plan::read(rt.alloc(), &read_file(rt, path)?) {
         Ok(plan) => Ok(plan),
-        Err(fault) => Err(text_error(rt.alloc(), path, fault)?),
+        Err(ReadError::Memory) => Err(CliError::Memory),
+        Err(ReadError::Faulty(fault)) => Err(text_error(rt.alloc(), path, fault)?),
     }
 }
 
@@ -55,7 +56,7 @@ fn judge<R: Files + AllocGlobal>(
     rt: &R,
     matches: &ArgMatches<'_>,
     sources: &Digest,
-    plan: &Plan,
+    plan: &Plan<Global>,
     record: &Record,
     claim: &Digest,
 ) -> Result<Verdict<Global>, CliError> {
