@@ -311,3 +311,9 @@ headed text lines behind e f = e ∙ ap (λ (l : List ℕ). plan_header ++ l) f
 pub handed_on : (r : Result PlanValue ReadError) (e : ReadError) (plan : PlanValue) → IsErr r → IsErrAnd r (λ other. other ≡ e) → GivesUnlessMemory {X = PlanValue} (Err e) plan → GivesUnlessMemory r plan
 handed_on (Ok x) e plan err told given = absurd (cc err)
 handed_on (Err other) e plan err told given = subst (λ (x : ReadError). GivesUnlessMemory {X = PlanValue} (Err x) plan) (sym told) given
+
+-- no text is that of two plans
+pub plan_one : (p q : PlanValue) → IsPlan p → IsPlan q → p.steps ≡ [] → q.steps ≡ [] → plan_text p ≡ plan_text q → p ≡ q
+plan_one p q is was none nothing e =
+    let same = plan_same p (plan_text q) (lines_text [] q.root_lines) q.root_lines is none (sym e) (plan_shape q nothing) (root_lawful q was nothing) refl in
+    sym same ∙ ap (λ (steps : List StepValue). plan_with steps q.root_lines) (sym nothing)

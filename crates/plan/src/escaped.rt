@@ -37,7 +37,8 @@ pub fn write_path<A: Allocator, B: Allocator>(
 }
 
 fn plain_path<A: Allocator>(alloc: A, text: &[u8]) -> Result<Option<Path<A>>, AllocError>
-    ensures found { IfOk result (λ read. IfSome read (λ path. IsPath path × (text.now ≡ path_text path))) }
+    ensures found { IfOk result (λ read. IfSome read (λ path.
+        IsPath path × (text.now ≡ path_text path))) }
     ensures only { (path : List (List ℕ)) → IsPath path → text.now ≡ path_text path
         → IfOk result (λ read. read ≡ Some path) }
 {
@@ -52,7 +53,8 @@ fn plain_path<A: Allocator>(alloc: A, text: &[u8]) -> Result<Option<Path<A>>, Al
 
 /// The path that is written so. `None` for any other text, also for another spelling of a path.
 pub fn read_path<A: Allocator + Copy>(alloc: A, text: &[u8]) -> Result<Option<Path<A>>, AllocError>
-    ensures found { IfOk result (λ read. IfSome read (λ path. IsPath path × (text.now ≡ escaped_path path))) }
+    ensures found { IfOk result (λ read. IfSome read (λ path.
+        IsPath path × (text.now ≡ escaped_path path))) }
     ensures only { (path : List (List ℕ)) → IsPath path → text.now ≡ escaped_path path
         → IfOk result (λ read. read ≡ Some path) }
 {

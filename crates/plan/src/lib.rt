@@ -13,7 +13,7 @@ mod words;
 pub use error::{Fault, PlanError, ReadError};
 pub use escaped::{read_path, write_path};
 pub use line::{Line, Origin};
-pub use plan::Plan;
+pub use plan::{Plan, spells_one_plan};
 pub use record::Record;
 
 #[cfg(test)]

@@ -35,8 +35,10 @@ impl<A: Allocator> Model for Line<A> {
 }
 
 fn read_origin<A: Allocator + Copy>(alloc: A, words: &[u8]) -> Result<Option<Origin<A>>, AllocError>
-    ensures found { IfOk result (λ read. IfSome read (λ origin. IsOrigin 0 (origin_value origin) × (words.now ≡ origin_words [] (origin_value origin)))) }
-    ensures only { (origin : OriginValue) → IsOrigin 0 origin → words.now ≡ origin_words [] origin
+    ensures found { IfOk result (λ read. IfSome read (λ origin.
+        IsOrigin 0 (origin_value origin) × (words.now ≡ origin_words [] (origin_value origin)))) }
+    ensures only { (origin : OriginValue) → IsOrigin 0 origin
+        → words.now ≡ origin_words [] origin
         → IfOk result (λ read. option_map origin_value read ≡ Some origin) }
 {
     let Some(path) = strip(words, b"src ") else {
@@ -56,7 +58,8 @@ pub(crate) fn read_line<A: Allocator + Copy>(
     alloc: A,
     words: &[u8],
 ) -> Result<Option<Line<A>>, AllocError>
-    ensures found { IfOk result (λ read. IfSome read (λ line. IsLine 0 line × (words.now ≡ in_words [] line))) }
+    ensures found { IfOk result (λ read. IfSome read (λ line.
+        IsLine 0 line × (words.now ≡ in_words [] line))) }
     ensures only { (line : LineValue) → IsLine 0 line → words.now ≡ in_words [] line
         → IfOk result (λ read. read ≡ Some line) }
 {
@@ -80,7 +83,8 @@ fn write_origin<A: Allocator + Copy>(
     text: &mut Vec<u8, A>,
     origin: &Origin<A>,
 ) -> Result<(), AllocError>
-    ensures { OnOk result (text.new.items ≡ text.old.items ++ origin_words [] (origin_value origin.now)) }
+    ensures { OnOk result
+        (text.new.items ≡ text.old.items ++ origin_words [] (origin_value origin.now)) }
 {
     text.extend_from_slice(b"src ")?;
     match origin {

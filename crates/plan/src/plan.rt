@@ -43,8 +43,10 @@ fn read_first<A: Allocator + Copy>(
     alloc: A,
     text: &[u8],
 ) -> Result<Option<(Line<A>, &[u8])>, AllocError>
-    ensures found { IfOk result (λ read. IfSome read (λ r. IsLine 0 r.0 × (text.now ≡ line_text (in_words [] r.0) ++ r.1.now))) }
-    ensures none { IfOk result (λ read. IfNone read ((line : LineValue) → ¬ FirstLine line text.now)) }
+    ensures found { IfOk result (λ read. IfSome read (λ r.
+        IsLine 0 r.0 × (text.now ≡ line_text (in_words [] r.0) ++ r.1.now))) }
+    ensures none { IfOk result (λ read.
+        IfNone read ((line : LineValue) → ¬ FirstLine line text.now)) }
 {
     let Some((words, behind)) = split_once(text, b'\n') else {
         return Ok(None);
@@ -57,7 +59,8 @@ fn read_first<A: Allocator + Copy>(
 
 /// The lines of the root, the first of which is line 3.
 fn read_root<A: Allocator + Copy>(alloc: A, text: &[u8]) -> Result<Vec<Line<A>, A>, ReadError>
-    ensures found { IfOk result (λ lines. AreLines 0 lines.items × (text.now ≡ lines_text [] lines.items)) }
+    ensures found { IfOk result (λ lines.
+        AreLines 0 lines.items × (text.now ≡ lines_text [] lines.items)) }
     ensures fault { IfErr result (FaultyUnlessMemory (IsRootFault text.now)) }
 {
     let mut lines = Vec::new(alloc);
@@ -85,9 +88,11 @@ impl<A: Allocator + Copy> Plan<A> {
     /// number of lines (96), then targets that overlap (95).
     pub fn read(alloc: A, text: &[u8]) -> Result<Plan<A>, ReadError>
         // The text is that of the plan.
-        ensures found { IfOk result (λ plan. IsPlan plan × (plan.steps ≡ []) × (text.now ≡ plan_text plan)) }
+        ensures found { IfOk result (λ plan.
+            IsPlan plan × (plan.steps ≡ []) × (text.now ≡ plan_text plan)) }
         // The plan whose text it is is answered.
-        ensures only { (plan : PlanValue) → IsPlan plan → plan.steps ≡ [] → text.now ≡ plan_text plan
+        ensures only { (plan : PlanValue) → IsPlan plan → plan.steps ≡ []
+            → text.now ≡ plan_text plan
             → GivesUnlessMemory result plan }
         // Which line is at fault, and how.
         ensures fault { IfErr result (FaultyUnlessMemory (IsPlanFault text.now)) }
@@ -125,3 +130,11 @@ impl<A: Allocator + Copy> Plan<A> {
         Ok(text)
     }
 }
+
+/// No text is that of two plans without steps. (That no plan has two is said by the text's being a
+/// function.) It does nothing.
+pub fn spells_one_plan()
+    ensures { (p q : PlanValue) → IsPlan p → IsPlan q → p.steps ≡ [] → q.steps ≡ []
+        → plan_text p ≡ plan_text q
+        → p ≡ q }
+{}

@@ -115,7 +115,8 @@ impl<A: Allocator + Copy> Targets<A> {
 
     /// Whether one of the targets is this path or lies above it: it is the one before the path.
     fn has_beginning(&self, names: &Names<A>) -> bool
-        ensures { IsTrue result ↔ ((above : List (List ℕ)) × Contains self.now above × BeginsWith names.now above) }
+        ensures { IsTrue result ↔
+            ((above : List (List ℕ)) × Contains self.now above × BeginsWith names.now above) }
     {
         match self.names.range(..=names).next_back() {
             Some(before) => begins_with(names, before),
@@ -125,7 +126,8 @@ impl<A: Allocator + Copy> Targets<A> {
 
     /// Whether one of the targets is this path or lies under it: it is the one behind the path.
     fn has_longer(&self, names: &Names<A>) -> bool
-        ensures { IsTrue result ↔ ((below : List (List ℕ)) × Contains self.now below × BeginsWith below names.now) }
+        ensures { IsTrue result ↔
+            ((below : List (List ℕ)) × Contains self.now below × BeginsWith below names.now) }
     {
         match self.names.range(names..).next() {
             Some(after) => begins_with(after, names),

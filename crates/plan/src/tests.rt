@@ -171,6 +171,22 @@ fn refusals_say_where(rt: HostRuntime) -> Result<(), Fail> {
 }
 
 #[test]
+fn lines_up_to_the_limit(rt: HostRuntime) -> Result<(), Fail> {
+    let alloc = rt.alloc();
+    let mut text = String::from_str(alloc, "buildplan 1\nroot\n")?;
+    for number in 0..65_536u64 {
+        let line = format!(in alloc; "in {number} src y\n")?;
+        text.push_str(line.as_str())?;
+    }
+    assert_eq!(rt; again(alloc, text.as_str()), Ok(true));
+    // It overlaps the first, but is one too many before all.
+    text.push_str("in 0 src y\n")?;
+    let refused = answer(Some((65_539, Fault::TooMany)));
+    assert_eq!(rt; again(alloc, text.as_str()), refused);
+    Ok(())
+}
+
+#[test]
 fn each_request_for_memory_refused(rt: HostRuntime) {
     let mut refused = 0u64;
     for (text, expected) in PLANS {
