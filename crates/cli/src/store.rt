@@ -46,6 +46,7 @@ impl<'r, R: Files + AllocGlobal> FolderSource<'r, R> {
         ensures risen { self.old.failures ≤ self.new.failures }
         ensures bounded { self.new.failures ≤ greatest_count }
     {
+        let _count = self.failures;
         if matches!(fault, CliError::Memory) || self.failures == u64::MAX {
             return FetchError::Memory;
         }

@@ -1,0 +1,6 @@
+use Rattle.tree.specs.Memory.{telling_of}
+use Rattle.cli.proofs.Folders.{loads_nothing_result}
+use Rattle.cli.proofs.store.FolderSource.load_result.Goals as goal
+
+pub returns-in-Err-clause-loaded : goal.returns-in-Err-clause-loaded
+returns-in-Err-clause-loaded g c = loads_nothing_result {old = telling_of c.args.self.now.told} {new = telling_of c.fail.new.self.told} c.fail.ensures.told c.fail.ensures.risen c.fail.ensures.bounded
