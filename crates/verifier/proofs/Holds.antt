@@ -32,10 +32,12 @@ resolved blobs t s ordered apart (l ∷ ls) xs h = at l.origin refl h.1 (resolve
     one p None from is told rest = cc
     one p (Some e) from is told rest =
         let node : entry_node e ≡ h.0 = cc in
-        let there : origin_at t s l.origin ≡ Some e = ap (origin_at t s) from ∙ is in
-        ((l.target, e) ∷ rest.0,
-         ap (λ o. option_and_then (λ e. option_map (λ es. (l.target, e) ∷ es) (origins t s ls)) o) there ∙ ap (option_map (λ es. (l.target, e) ∷ es)) rest.1,
-         (λ i. (l.target, node i) ∷ rest.2 i) ∙ sym h.4)
+        let there : origin_at t s l.origin ≡ Some e = ap (origin_at t s) from ∙ is in (
+          (l.target, e) ∷ rest.0,
+          ap (λ o. option_and_then (λ e. option_map (λ es. (l.target, e) ∷ es) (origins t s ls)) o) there ∙ ap (option_map (λ es. (l.target, e) ∷ es)) rest.1,
+          (λ i. (l.target, node i) ∷ rest.2 i) ∙ sym h.4,
+        )
+
     at : (origin : OriginValue) → l.origin ≡ origin → LooksAt blobs (root (form t)) origin (found h.0)
         → (es : List (List Name × Entry Leaf)) × (origins t s ls ≡ Some es) × (nodes_of es ≡ h.2)
         → (es : List (List Name × Entry Leaf)) × (origins t s (l ∷ ls) ≡ Some es) × (nodes_of es ≡ xs)
@@ -68,13 +70,15 @@ ends_at_once X plan meaning t (e ∷ es) end none run = absurd (no_event plan me
 -- a plan without steps that is accepted ends in the claim
 pub accepted_holds : (blobs results : Blobs) (sources : DigestValue) (plan : PlanValue) (recorded : List DigestValue) (claim : DigestValue) → plan.steps ≡ []
     → IsAccepted blobs sources plan.root_lines claim → EveryRunEndsIn blobs results sources plan recorded claim
-accepted_holds blobs results sources plan recorded claim none h = record { of_run = λ t meaning X chosen es end ordered is fits table agrees apart run all.
-    let at_once = ends_at_once X plan meaning t es end none run in
-    let own : NoClash (λ b. IsValue blobs b ⊎ IsBlobOf t b) = λ x y p q. apart x y (own_blob t plan meaning chosen es x p) (own_blob t plan meaning chosen es y q) in
-    let lines = resolved blobs t opening ordered own plan.root_lines h.nodes (subst (λ d. Resolves blobs d plan.root_lines h.nodes) (sym is) h.resolved) in
-    let ends : graft_of t end plan.root_lines ≡ Some (expand (graft lines.0)) = ap (λ s. graft_of t s plan.root_lines) at_once ∙ ap (option_map (λ es. expand (graft es))) lines.1 in
-    let roots : root (form (expand (graft lines.0))) ≡ claim = root-graft lines.0 ∙ ap (λ xs. root (graft xs)) lines.2 ∙ h.same in
-    subst (λ o. IsSomeAnd o (λ g. root (form g) ≡ claim)) (sym ends) roots }
+accepted_holds blobs results sources plan recorded claim none h = record {
+  of_run = λ t meaning X chosen es end ordered is fits table agrees apart run all.
+      let at_once = ends_at_once X plan meaning t es end none run in
+      let own : NoClash (λ b. IsValue blobs b ⊎ IsBlobOf t b) = λ x y p q. apart x y (own_blob t plan meaning chosen es x p) (own_blob t plan meaning chosen es y q) in
+      let lines = resolved blobs t opening ordered own plan.root_lines h.nodes (subst (λ d. Resolves blobs d plan.root_lines h.nodes) (sym is) h.resolved) in
+      let ends : graft_of t end plan.root_lines ≡ Some (expand (graft lines.0)) = ap (λ s. graft_of t s plan.root_lines) at_once ∙ ap (option_map (λ es. expand (graft es))) lines.1 in
+      let roots : root (form (expand (graft lines.0))) ≡ claim = root-graft lines.0 ∙ ap (λ xs. root (graft xs)) lines.2 ∙ h.same in
+      subst (λ o. IsSomeAnd o (λ g. root (form g) ≡ claim)) (sym ends) roots;
+}
   where
     own_blob : (t : Tree Leaf) (plan : PlanValue) (meaning : Meaning) (chosen : List (ActionMeaning × Outcome)) (es : List Event) (b : List ℕ) → IsValue blobs b ⊎ IsBlobOf t b → IsConcerned blobs plan meaning t chosen es b
     own_blob t plan meaning chosen es b (inl v) = inl (inl v)

@@ -27,6 +27,7 @@ plan_targets before (l ∷ ls) each apart = (some_names l.target each.0.target.s
     some_names : (p : List Name) → 0 < length p → p ≢ []
     some_names [] lt = absurd (omega arith)
     some_names (n ∷ p) lt = λ e. cc
+
     all_apart : (ks : List LineValue) → AllByRecursion (λ other. ¬ Overlap l.target other.target) ks → AllByRecursion (λ k. IsApart l.target k.0) (targets ks)
     all_apart [] h = tt
     all_apart (k ∷ ks) h = (h.0, all_apart ks h.1)

@@ -113,8 +113,8 @@ graft_of t s ls = option_map (λ es. expand (graft es)) (origins t s ls)
 abbrev pub step_action : Meaning → Tree Leaf → State → ℕ → StepValue → Option ActionMeaning
 step_action meaning t s i step =
     option_and_then (λ frame. option_and_then (λ command.
-        option_map (λ input. record { frame = frame; command = command; input = input }) (graft_of t s step.lines))
-        (slice_get meaning.commands i)) (slice_get meaning.frames i)
+    option_map (λ input. record { frame = frame; command = command; input = input }) (graft_of t s step.lines))
+    (slice_get meaning.commands i)) (slice_get meaning.frames i)
 
 abbrev pub action_of : PlanValue → Meaning → Tree Leaf → State → ℕ → Option ActionMeaning
 action_of plan meaning t s i = option_and_then (step_action meaning t s i) (slice_get plan.steps i)

@@ -26,7 +26,7 @@ RecordsAt blobs r p x =
     ((f : OutputFileValue) × Contains r.files f × (f.path ≡ p) × (x ≡ File f.digest f.executable))
     ⊎ (((l : OutputSymlinkValue) × Contains r.symlinks l × (l.path ≡ p) × (x ≡ Link l.target))
     ⊎ ((d : OutputDirectoryValue) × Contains r.directories d × (d.path ≡ p)
-        × (t : TreeValue) × IsTold IsTree tree_bytes blobs d.tree t × (x ≡ Dir (digest_of (directory_bytes t.root)))))
+    × (t : TreeValue) × IsTold IsTree tree_bytes blobs d.tree t × (x ≡ Dir (digest_of (directory_bytes t.root)))))
 
 -- what an outcome has at its output paths, by digests
 abbrev pub outputs_form : List (List Name × Entry Leaf) → List (List Name × NodeValue)

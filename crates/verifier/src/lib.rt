@@ -10,3 +10,6 @@ pub use error::VerifyError;
 pub use laws::{accepted_plans_end_in_the_claim, verdicts_are_single_valued};
 pub use verdict::{Cause, Place, Verdict};
 pub use verifying::verify;
+
+#[cfg(test)]
+mod tests;
