@@ -94,11 +94,7 @@ impl<'r, R: Files + AllocGlobal> FolderSource<'r, R> {
     }
 
     /// Reads a result that wasn't read before.
-    fn load_result(
-        &mut self,
-        alloc: Global,
-        digest: &Digest,
-    ) -> Result<Option<Vec<u8>>, FetchError>
+    fn load_result(&mut self, alloc: Global, digest: &Digest) -> Result<Option<Vec<u8>>, FetchError>
         requires { (telling_of_folder self.old).results digest.now ≡ None }
         ensures told { IfOk result (λ answer. bytes_of answer ≡ (telling_of_folder self.new).results digest.now) }
         ensures loaded { LoadsResult (telling_of_folder self.old) (telling_of_folder self.new) digest.now }

@@ -170,3 +170,120 @@ fn help_is_printed(rt: HostRuntime) -> Result<(), Fail> {
     }
     Ok(())
 }
+
+/// A Directory with one file, `a`, in two pieces of protobuf's bytes, and the digests of it and of
+/// the same with the file named `b`, by `sha256sum`.
+const DIRECTORY: &[u8] =
+    b"\x0a\x49\x0a\x01a\x12\x44\x0a\x4015e2b0d3c33891ebb0f1ef609ec419420c20e320ce94c65fbc8c3312448eb225\x10\x09";
+
+const SOURCES: &str = "a8ad7cf07ab5ff95d41832e5f811cf591228eeb51d4886871a776a82245d5712";
+
+const RENAMED: &str = "12a591c584381d21aef30a8f51dd0c0d9483a8a644eb6dd376286377983baee2";
+
+/// Plans with a store folder each, and their status, output and error line.
+const STORES: [(&str, &str, u8, &str, &str); 9] = [
+    ("store", "renames", 0, "yes RENAMED/75 steps 0\n", ""),
+    (
+        "store",
+        "below_file",
+        1,
+        "no root cause origin-missing a/c%20d\n",
+        "",
+    ),
+    (
+        "changed",
+        "renames",
+        1,
+        "no root cause blob-wrong SOURCES/75\n",
+        "",
+    ),
+    (
+        "nowhere",
+        "renames",
+        1,
+        "no root cause blob-missing SOURCES/75\n",
+        "",
+    ),
+    (
+        "store",
+        "whole",
+        1,
+        "no root cause root-differs SOURCES/75\n",
+        "",
+    ),
+    (
+        "store",
+        "overlaps",
+        2,
+        "",
+        "error: \"overlaps\": line 4: the target is an earlier line's target, or lies under or above it",
+    ),
+    (
+        "filled",
+        "renames",
+        3,
+        "",
+        "error: \"filled/cas/SOURCES\": not a file",
+    ),
+    (
+        "flat",
+        "renames",
+        3,
+        "",
+        "error: \"flat/cas/SOURCES\": Not a directory (os error 20)",
+    ),
+    (
+        "large",
+        "renames",
+        3,
+        "",
+        "error: \"large/cas/SOURCES\": a file of more than 16777216 bytes",
+    ),
+];
+
+fn fill_stores(rt: &HostRuntime) -> Result<(), Fail> {
+    let alloc = rt.alloc();
+    for folder in ["store/cas", "changed/cas", "filled/cas", "large/cas"] {
+        fs::create_dir_all(rt, folder)?;
+    }
+    let path = format!(in alloc; "store/cas/{SOURCES}")?;
+    fs::write(rt, &path, DIRECTORY)?;
+    let path = format!(in alloc; "changed/cas/{SOURCES}")?;
+    fs::write(rt, &path, &DIRECTORY[..74])?;
+    let path = format!(in alloc; "filled/cas/{SOURCES}")?;
+    fs::create_dir(rt, &path)?;
+    fs::create_dir(rt, "flat")?;
+    fs::write(rt, "flat/cas", "")?;
+    let path = format!(in alloc; "large/cas/{SOURCES}")?;
+    let large: Vec<u8> = vec![in alloc; 0; 16_777_217]?;
+    fs::write(rt, &path, large.as_slice())?;
+    fs::write(rt, "record", "buildrecord 1\n")?;
+    fs::write(rt, "renames", "buildplan 1\nroot\nin b src a\n")?;
+    fs::write(rt, "below_file", "buildplan 1\nroot\nin b src a/c%20d\n")?;
+    fs::write(rt, "whole", "buildplan 1\nroot\nin a src a\n")?;
+    fs::write(
+        rt,
+        "overlaps",
+        "buildplan 1\nroot\nin b src a\nin b/c src a\n",
+    )?;
+    Ok(())
+}
+
+#[test]
+fn stores_are_read(rt: HostRuntime) -> Result<(), Fail> {
+    let alloc = rt.alloc();
+    fill_stores(&rt)?;
+    for (store, plan, status, out, err) in STORES {
+        let line = format!(in alloc;
+            "verify --store {store} --sources {SOURCES}/75 --plan {plan} --record record --claim {RENAMED}/75"
+        )?;
+        let found = run(&rt, line.as_str())?;
+        let out = out.replace(alloc, "SOURCES", SOURCES)?;
+        let out = out.replace(alloc, "RENAMED", RENAMED)?;
+        let err = err.replace(alloc, "SOURCES", SOURCES)?;
+        assert_eq!(rt; found.0, status, "{line}");
+        assert_eq!(rt; found.1.as_str(), out.as_str(), "{line}");
+        assert_eq!(rt; found.2.as_str().trim_end(), err.as_str(), "{line}");
+    }
+    Ok(())
+}

@@ -27,7 +27,7 @@ fn verify_command<'a>(alloc: Global) -> Result<Command<'a>, AllocError> {
             alloc,
             "store",
             "FOLDER",
-            "A folder with blobs in cas/HASH and results in ac/HASH (not read so far)",
+            "A folder with blobs in cas/HASH and results in ac/HASH",
         )?)?
         .arg(required(
             alloc,
@@ -48,7 +48,7 @@ fn verify_command<'a>(alloc: Global) -> Result<Command<'a>, AllocError> {
 fn program<'a>(alloc: Global) -> Result<Command<'a>, AllocError> {
     Command::new(alloc, "buildcache")
         .version(VERSION)
-        .about("Verifies builds from digests; so far plans without steps and lines")
+        .about("Verifies builds from digests; so far plans without steps")
         .no_binary_name(true)
         .subcommand_required(true)
         .disable_help_subcommand(true)
