@@ -131,7 +131,7 @@ fn statuses_and_lines(rt: HostRuntime) -> Result<(), Fail> {
     fs::write(&rt, "bad", "buildplan 1\nroot \n")?;
     let many = format!(in alloc; "buildrecord 1\nstep a {EMPTY}\n")?;
     fs::write(&rt, "many", &many)?;
-    fs::create_dir(&rt, "folder")?;
+    fs::create_dir_all(&rt, "folder")?;
     let large: Vec<u8> = vec![in alloc; 0; 16_777_217]?;
     fs::write(&rt, "large", large.as_slice())?;
     for (line, status, out, err) in ROWS {
@@ -147,6 +147,10 @@ fn statuses_and_lines(rt: HostRuntime) -> Result<(), Fail> {
             "{line}"
         );
     }
+    for file in ["plan", "record", "bad", "many", "large"] {
+        fs::remove_file(&rt, file)?;
+    }
+    fs::remove_dir_all(&rt, "folder")?;
     Ok(())
 }
 
@@ -233,17 +237,23 @@ const STORES: [(&str, &str, u8, &str, &str); 9] = [
         "error: \"flat/cas/SOURCES\": Not a directory (os error 20)",
     ),
     (
-        "large",
+        "heavy",
         "renames",
         3,
         "",
-        "error: \"large/cas/SOURCES\": a file of more than 16777216 bytes",
+        "error: \"heavy/cas/SOURCES\": a file of more than 16777216 bytes",
     ),
 ];
 
 fn fill_stores(rt: &HostRuntime) -> Result<(), Fail> {
     let alloc = rt.alloc();
-    for folder in ["store/cas", "changed/cas", "filled/cas", "large/cas"] {
+    for folder in [
+        "store/cas",
+        "changed/cas",
+        "filled/cas",
+        "heavy/cas",
+        "flat",
+    ] {
         fs::create_dir_all(rt, folder)?;
     }
     let path = format!(in alloc; "store/cas/{SOURCES}")?;
@@ -251,10 +261,9 @@ fn fill_stores(rt: &HostRuntime) -> Result<(), Fail> {
     let path = format!(in alloc; "changed/cas/{SOURCES}")?;
     fs::write(rt, &path, &DIRECTORY[..74])?;
     let path = format!(in alloc; "filled/cas/{SOURCES}")?;
-    fs::create_dir(rt, &path)?;
-    fs::create_dir(rt, "flat")?;
+    fs::create_dir_all(rt, &path)?;
     fs::write(rt, "flat/cas", "")?;
-    let path = format!(in alloc; "large/cas/{SOURCES}")?;
+    let path = format!(in alloc; "heavy/cas/{SOURCES}")?;
     let large: Vec<u8> = vec![in alloc; 0; 16_777_217]?;
     fs::write(rt, &path, large.as_slice())?;
     fs::write(rt, "record", "buildrecord 1\n")?;
@@ -284,6 +293,12 @@ fn stores_are_read(rt: HostRuntime) -> Result<(), Fail> {
         assert_eq!(rt; found.0, status, "{line}");
         assert_eq!(rt; found.1.as_str(), out.as_str(), "{line}");
         assert_eq!(rt; found.2.as_str().trim_end(), err.as_str(), "{line}");
+    }
+    for folder in ["store", "changed", "filled", "flat", "heavy"] {
+        fs::remove_dir_all(&rt, folder)?;
+    }
+    for file in ["record", "renames", "below_file", "whole", "overlaps"] {
+        fs::remove_file(&rt, file)?;
     }
     Ok(())
 }
