@@ -1,7 +1,7 @@
 -- The error of a look-up, as the fault of a line.
-use Rattle.std.proofs.Common.{◌≡◌, List, refl, ap, sym, ◌∙◌, subst}
+use Rattle.std.proofs.Common.{◌≡◌, List, ap, sym, ◌∙◌, subst}
 use Rattle.blob_digest.specs.Digest.{DigestValue}
-use Rattle.plan.specs.Values.{OriginValue, source, LineValue}
+use Rattle.plan.specs.Values.{OriginValue, source}
 use Rattle.tree.specs.Tree.{Name}
 use Rattle.tree.specs.Source.{Blobs}
 use Rattle.tree.specs.Told.{missing, wrong, malformed}

@@ -2,12 +2,12 @@
 use Rattle.std.proofs.Common.{◌≡◌, ℕ, zero, suc, List, [], ◌∷◌, refl, ap, sym, ◌∙◌, subst, map, inl, inr}
 use Rattle.std.specs.Prelude.{Result, Ok, Err, IfOk, ◌⊎◌, Option, Some, None, IsSomeAnd, option_map, option_and_then, slice_get}
 use Rattle.blob_digest.specs.Digest.{DigestValue, NoClash}
-use Rattle.plan.specs.Values.{OriginValue, source, output, LineValue, StepValue, PlanValue}
+use Rattle.plan.specs.Values.{OriginValue, source, output, LineValue, PlanValue}
 use Rattle.tree.specs.Tree.{Name, Tree, Leaf, Entry, tree_at, IsOrdered}
 use Rattle.tree.specs.Form.{NodeValue, entry_node, form, root, IsBlobOf}
 use Rattle.tree.specs.Graft.{graft, expand}
 use Rattle.tree.specs.Source.{Blobs}
-use Rattle.tree.specs.Lookup.{Looked, nothing, found, IsValue}
+use Rattle.tree.specs.Lookup.{nothing, found, IsValue}
 use Rattle.tree.proofs.LookupLemmas.{looks_tell}
 use Rattle.tree.proofs.GraftRoots.{root-graft}
 use Rattle.verifier.specs.Build.{Meaning, ActionMeaning, Outcome, Event, start, finish, lose, State, opening, happens, started, origins, origin_at, graft_of, step_action, action_of, IsRun}

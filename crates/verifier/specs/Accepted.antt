@@ -1,6 +1,6 @@
 -- When a plan without steps is accepted: each line of the root has its origin in what a source tells, and their graft has
 -- the claim as its digest.
-use Rattle.std.specs.Prelude.{◌≡◌, ℕ, List, [], ◌∷◌, map}
+use Rattle.std.specs.Prelude.{◌≡◌, List, [], ◌∷◌, map}
 use Rattle.blob_digest.specs.Digest.{DigestValue}
 use Rattle.plan.specs.Values.{OriginValue, source, output, LineValue}
 use Rattle.tree.specs.Tree.{Name}

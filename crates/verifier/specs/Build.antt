@@ -1,5 +1,5 @@
 -- What a build is: the meaning of a plan's steps, their actions and outcomes, and runs of the plan.
-use Rattle.std.specs.Prelude.{◌≡◌, ◌==◌, ℕ, ℤ, bytes_eq, if◌then◌else◌, List, [], ◌∷◌, map, Option, Some, None, option_map, option_and_then, slice_get, Contains}
+use Rattle.std.specs.Prelude.{◌≡◌, ◌==◌, ℕ, ℤ, bytes_eq, if◌then◌else◌, List, [], ◌∷◌, Option, Some, None, option_map, option_and_then, slice_get, Contains}
 use Rattle.std.specs.List.{AllByRecursion}
 use Rattle.std.specs.Map.{lookup, remove_entry}
 use Rattle.blob_digest.specs.Digest.{DigestValue, digest_of}

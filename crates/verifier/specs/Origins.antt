@@ -1,9 +1,7 @@
 -- What the private functions that find the origins of lines answer.
 use Rattle.std.specs.Prelude.{◌≡◌, List}
 use Rattle.blob_digest.specs.Digest.{DigestValue}
-use Rattle.messages.specs.declared.node.Node.{Node}
 use Rattle.plan.specs.Values.{LineValue}
-use Rattle.tree.specs.Tree.{Name}
 use Rattle.tree.specs.Form.{node_value}
 use Rattle.tree.specs.Lines.{lines_of}
 use Rattle.tree.specs.Source.{Blobs}

@@ -3,7 +3,6 @@ use Rattle.std.proofs.Common.{◌≡◌, ◌+◌, ◌∷◌, [], ◌++◌, ap, s
 use Rattle.std.proofs.lemmas.List.{map-append}
 use Rattle.tree.specs.Form.{node_value}
 use Rattle.tree.specs.Lines.{lines_of}
-use Rattle.tree.proofs.Asking.{asks_within}
 use Rattle.verifier.specs.Origins.{IsFound}
 use Rattle.verifier.proofs.Lines.{LinesGoOn, lines_next, lines_end, lines_fault, asks_line, asks_lines}
 use Rattle.verifier.proofs.verifying.resolve.Goals as goal
