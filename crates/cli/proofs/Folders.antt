@@ -1,8 +1,8 @@
 -- A folder is asked: its tables first, and then its files.
-use Rattle.std.proofs.Common.{◌≡◌, ◌≢◌, ℕ, ◌+◌, ◌≤◌, List, refl, ap, sym, ◌∙◌, arith, inl, inr}
+use Rattle.std.proofs.Common.{◌≡◌, ◌≢◌, ℕ, ◌≤◌, List, refl, ap, sym, ◌∙◌, arith, inl, inr}
 use Rattle.std.specs.Prelude.{◌⊎◌, ◌&&◌, nat_eq, Option, Some, None}
 use Rattle.blob_digest.specs.Digest.{DigestValue}
-use Rattle.tree.specs.Source.{Blobs, Telling, Grows, GrowsAt, AsksBlob, AsksResult, CountsCall, greatest_count}
+use Rattle.tree.specs.Source.{Blobs, Telling, GrowsAt, AsksBlob, AsksResult, CountsCall, greatest_count}
 use Rattle.tree.specs.Memory.{HoldsBlob, HoldsResult, IsUnchanged}
 use Rattle.std.proofs.Common.{Bool, true, false}
 use Rattle.std.specs.Cmp.Lexicographic.{pointwise}

@@ -1,5 +1,5 @@
 -- What a store folder tells.
-use Rattle.std.specs.Prelude.{◌≡◌, ◌≤◌, ℕ}
+use Rattle.std.specs.Prelude.{◌≡◌, ◌≤◌}
 use Rattle.blob_digest.specs.Digest.{DigestValue}
 use Rattle.cli.specs.declared.store.FolderSource.{FolderSource}
 use Rattle.tree.specs.Source.{Telling, GrowsAt, greatest_count}
