@@ -266,7 +266,7 @@ fn fill_stores(rt: &HostRuntime) -> Result<(), Fail> {
     let path = format!(in alloc; "heavy/cas/{SOURCES}")?;
     let large: Vec<u8> = vec![in alloc; 0; 16_777_217]?;
     fs::write(rt, &path, large.as_slice())?;
-    fs::write(rt, "record", "buildrecord 1\n")?;
+    fs::write(rt, "recorded", "buildrecord 1\n")?;
     fs::write(rt, "renames", "buildplan 1\nroot\nin b src a\n")?;
     fs::write(rt, "below_file", "buildplan 1\nroot\nin b src a/c%20d\n")?;
     fs::write(rt, "whole", "buildplan 1\nroot\nin a src a\n")?;
@@ -284,7 +284,7 @@ fn stores_are_read(rt: HostRuntime) -> Result<(), Fail> {
     fill_stores(&rt)?;
     for (store, plan, status, out, err) in STORES {
         let line = format!(in alloc;
-            "verify --store {store} --sources {SOURCES}/75 --plan {plan} --record record --claim {RENAMED}/75"
+            "verify --store {store} --sources {SOURCES}/75 --plan {plan} --record recorded --claim {RENAMED}/75"
         )?;
         let found = run(&rt, line.as_str())?;
         let out = out.replace(alloc, "SOURCES", SOURCES)?;
@@ -297,7 +297,7 @@ fn stores_are_read(rt: HostRuntime) -> Result<(), Fail> {
     for folder in ["store", "changed", "filled", "flat", "heavy"] {
         fs::remove_dir_all(&rt, folder)?;
     }
-    for file in ["record", "renames", "below_file", "whole", "overlaps"] {
+    for file in ["recorded", "renames", "below_file", "whole", "overlaps"] {
         fs::remove_file(&rt, file)?;
     }
     Ok(())
