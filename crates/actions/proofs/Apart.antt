@@ -22,11 +22,11 @@ path_text-append (x ∷ y ∷ above) name rest s =
 some_names : (path : List (List ℕ)) → IsPath path → Some_part path
 some_names path is = subst Some_part (parts_of_path path is) (part_there (path_text path))
 
-under_text : (path above : List (List ℕ)) → IsPath above → LiesUnder path above → is_under (path_text path) (path_text above) ≡ true
+pub under_text : (path above : List (List ℕ)) → IsPath above → LiesUnder path above → is_under (path_text path) (path_text above) ≡ true
 under_text path above is (name, rest, e) =
     subst (λ (t : List ℕ). is_under t (path_text above) ≡ true) (sym (ap path_text e ∙ path_text-append above name rest (some_names above is))) (is_under-seam (path_text above) (path_text (name ∷ rest)))
 
-text_under : (path above : List (List ℕ)) → IsPath path → IsPath above → is_under (path_text path) (path_text above) ≡ true → LiesUnder path above
+pub text_under : (path above : List (List ℕ)) → IsPath path → IsPath above → is_under (path_text path) (path_text above) ≡ true → LiesUnder path above
 text_under path above is over h =
     let w = is_under-split (path_text path) (path_text above) h in
     let parts : path ≡ above ++ parts_of w.0 = sym (parts_of_path path is) ∙ ap parts_of w.1 ∙ parts-seam (path_text above) w.0 ∙ ap (λ (l : List (List ℕ)). l ++ parts_of w.0) (parts_of_path above over) in
@@ -47,7 +47,7 @@ not_false : (b : Bool) → (b ≡ true → ⊥) → b ≡ false
 not_false true h = absurd (h refl)
 not_false false h = refl
 
-row_none : (path : List (List ℕ)) (others : List (List (List ℕ))) → ArePaths others → lies_under_some (texts_of others) (path_text path) ≡ false → AllByRecursion (λ other. LiesUnder path other → ⊥) others
+pub row_none : (path : List (List ℕ)) (others : List (List (List ℕ))) → ArePaths others → lies_under_some (texts_of others) (path_text path) ≡ false → AllByRecursion (λ other. LiesUnder path other → ⊥) others
 row_none path [] is e = tt
 row_none path (other ∷ others) is e =
     let o = or_false (is_under (path_text path) (path_text other)) (lies_under_some (texts_of others) (path_text path)) e in
@@ -72,11 +72,11 @@ under_none (path ∷ paths) others is all h =
 
 -- ---- squares of facts, row by row
 
-firsts : {X Y : Type 0} (R : X → Y → Type 0) (y : Y) (ys : List Y) (xs : List X) → AllByRecursion (λ x. AllByRecursion (R x) (y ∷ ys)) xs → AllByRecursion (λ x. R x y) xs
+pub firsts : {X Y : Type 0} (R : X → Y → Type 0) (y : Y) (ys : List Y) (xs : List X) → AllByRecursion (λ x. AllByRecursion (R x) (y ∷ ys)) xs → AllByRecursion (λ x. R x y) xs
 firsts R y ys [] h = tt
 firsts R y ys (x ∷ xs) h = (h.0.0, firsts R y ys xs h.1)
 
-rests : {X Y : Type 0} (R : X → Y → Type 0) (y : Y) (ys : List Y) (xs : List X) → AllByRecursion (λ x. AllByRecursion (R x) (y ∷ ys)) xs → AllByRecursion (λ x. AllByRecursion (R x) ys) xs
+pub rests : {X Y : Type 0} (R : X → Y → Type 0) (y : Y) (ys : List Y) (xs : List X) → AllByRecursion (λ x. AllByRecursion (R x) (y ∷ ys)) xs → AllByRecursion (λ x. AllByRecursion (R x) ys) xs
 rests R y ys [] h = tt
 rests R y ys (x ∷ xs) h = (h.0.1, rests R y ys xs h.1)
 
@@ -101,7 +101,7 @@ weaker P Q f (x ∷ xs) h = (f x h.0, weaker P Q f xs h.1)
 abbrev pub Apart : List (List ℕ) → List (List ℕ) → Type 0
 Apart path other = Overlap path other → ⊥
 
-apart_of : (path other : List (List ℕ)) → path ≢ other → (LiesUnder path other → ⊥) → (LiesUnder other path → ⊥) → Apart path other
+pub apart_of : (path other : List (List ℕ)) → path ≢ other → (LiesUnder path other → ⊥) → (LiesUnder other path → ⊥) → Apart path other
 apart_of path other differ over under (inl e) = differ e
 apart_of path other differ over under (inr (inl u)) = over u
 apart_of path other differ over under (inr (inr u)) = under u
@@ -159,7 +159,7 @@ text_row : (path : List (List ℕ)) (others : List (List (List ℕ))) → IsPath
 text_row path [] is all h = tt
 text_row path (other ∷ others) is all h = (λ e. h.0 (inl (same_text path other is all.0 e)), text_row path others is all.1 h.1)
 
-text_rows : (paths others : List (List (List ℕ))) → ArePaths paths → ArePaths others → AreApartFrom paths others → AreApart (texts_of paths) (texts_of others)
+pub text_rows : (paths others : List (List (List ℕ))) → ArePaths paths → ArePaths others → AreApartFrom paths others → AreApart (texts_of paths) (texts_of others)
 text_rows [] others is all h = tt
 text_rows (path ∷ paths) others is all h = (text_row path others is.0 all h.0, text_rows paths others is.1 all h.1)
 

@@ -54,29 +54,13 @@ all_greater text t (u ∷ ts) less h = (flipped text u Less (total.trans text t 
 pub back_greater : {X : Type 0} (f : X → List (List ℕ)) (text : List ℕ) (front : List X) (x : X) (back : List X) → IsAscendingBy bytes_cmp (texts_in f (front ++ x ∷ back)) → bytes_cmp (path_text (f x)) text ≡ Greater → AllCompare Greater text (texts_in f (x ∷ back))
 back_greater f text front x back up more = (more, all_greater text (path_text (f x)) (texts_in f back) (flipped (path_text (f x)) text Greater more) (behind f front x back up))
 
-has_none : (text : List ℕ) (ts : List (List ℕ)) → AllCompare Greater text ts → has_name ts text ≡ false
+pub has_none : (text : List ℕ) (ts : List (List ℕ)) → AllCompare Greater text ts → has_name ts text ≡ false
 has_none text [] h = refl
 has_none text (t ∷ ts) h = let more : bytes_cmp t text ≡ Greater = h.0 in rw more (has_none text ts h.1)
 
-parted : {X : Type 0} (f : X → List (List ℕ)) (text : List ℕ) (front back : List X) → AllCompare Less text (texts_in f front) → AllCompare Greater text (texts_in f back) → has_name (texts_in f (front ++ back)) text ≡ false
-parted f text [] back before after = has_none text (texts_in f back) after
-parted f text (x ∷ front) back before after = let less : bytes_cmp (path_text (f x)) text ≡ Less = before.0 in rw less (parted f text front back before.1 after)
-
-pub not_there : {X : Type 0} (f : X → List (List ℕ)) (text : List ℕ) (xs : List X) (n : ℕ) → AllCompare Less text (texts_in f (take n xs)) → AllCompare Greater text (texts_in f (drop n xs)) → has_name (texts_in f xs) text ≡ false
-not_there f text xs n before after = subst (λ l. has_name (texts_in f l) text ≡ false) (take-append-drop n xs) (parted f text (take n xs) (drop n xs) before after)
-
-or_true : (a : Bool) → (a || true) ≡ true
+pub or_true : (a : Bool) → (a || true) ≡ true
 or_true true = refl
 or_true false = refl
-
-there : {X : Type 0} (f : X → List (List ℕ)) (text : List ℕ) (front : List X) (x : X) (back : List X) → bytes_cmp (path_text (f x)) text ≡ Equal → has_name (texts_in f (front ++ x ∷ back)) text ≡ true
-there f text [] x back same = rw same refl
-there f text (y ∷ front) x back same = let t = there f text front x back same in rw t (or_true (is_equal (bytes_cmp (path_text (f y)) text)))
-
-pub is_there : {X : Type 0} (f : X → List (List ℕ)) (text : List ℕ) (xs : List X) (n : ℕ) (x : X) (back : List X) → drop n xs ≡ x ∷ back → bytes_cmp (path_text (f x)) text ≡ Equal → has_name (texts_in f xs) text ≡ true
-is_there f text xs n x back split same =
-    let whole : take n xs ++ x ∷ back ≡ xs = ap (λ l. take n xs ++ l) (sym split) ∙ take-append-drop n xs in
-    subst (λ l. has_name (texts_in f l) text ≡ true) whole (there f text (take n xs) x back same)
 
 -- ---- texts behind a beginning and a slash
 
@@ -96,7 +80,7 @@ pub is_under-seam : (above more : List ℕ) → is_under (above ++ 47 ∷ more) 
 is_under-seam [] more = refl
 is_under-seam (b ∷ above) more = and_both (eqb b b) (is_under (above ++ 47 ∷ more) above) (eq-eqb b b refl) (is_under-seam above more)
 
-equal_name : (t text : List ℕ) (o : Ordering) → bytes_cmp t text ≡ o → is_equal o ≡ true → t ≡ text
+pub equal_name : (t text : List ℕ) (o : Ordering) → bytes_cmp t text ≡ o → is_equal o ≡ true → t ≡ text
 equal_name t text Less e h = absurd cc
 equal_name t text Equal e h = exact_bytes t text e
 equal_name t text Greater e h = absurd cc
@@ -117,7 +101,7 @@ under_listed [] front more h = absurd cc
 under_listed (t ∷ texts) front more h = under_one texts front more (is_equal (bytes_cmp t front)) t refl h (under_listed texts front more)
 
 -- cut at a slash
-cut : (k : ℕ) (text : List ℕ) → k < length text → get_or text k 0 ≡ 47 → take k text ++ 47 ∷ drop (k + 1) text ≡ text
+pub cut : (k : ℕ) (text : List ℕ) → k < length text → get_or text k 0 ≡ 47 → take k text ++ 47 ∷ drop (k + 1) text ≡ text
 cut k text within slash = ap (λ (l : List ℕ). take k text ++ l) (ap (λ (b : ℕ). b ∷ drop (k + 1) text) (sym slash) ∙ sym (drop_more text k 0 within)) ∙ take-append-drop k text
 
 pub under_found : (texts : List (List ℕ)) (text : List ℕ) (k : ℕ) → k < length text → get_or text k 0 ≡ 47 → has_name texts (take k text) ≡ true → lies_under_some texts text ≡ true

@@ -11,3 +11,7 @@ pub mod OutputDirectory
 pub mod OutputSymlink
 pub mod Stream
 pub mod ActionResult
+pub mod Outcome
+pub mod OutcomeLookup
+pub mod Recorded
+pub mod Merging

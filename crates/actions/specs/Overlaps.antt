@@ -1,7 +1,8 @@
 -- Paths that stand side by side: none equals another or lies under it.
-use Rattle.std.specs.Prelude.{ℕ, Bool, false, ◌==◌, ◌&&◌, ◌||◌, List, [], ◌∷◌, map}
+use Rattle.std.specs.Prelude.{◌≡◌, ℕ, ◌≤◌, Bool, false, ◌==◌, ◌&&◌, ◌||◌, List, [], ◌∷◌, map, length, take, drop, Some, slice_get, Result, Ok, Err}
 use Rattle.std.specs.List.{AllByRecursion, list_any}
-use Rattle.messages.specs.Order.{share_name}
+use Rattle.std.specs.declared.cmp.Ordering.TheVariants.{Less, Greater}
+use Rattle.messages.specs.Order.{bytes_cmp, share_name}
 use Rattle.messages.specs.Path.{Overlap, begins_with_slash, path_text}
 
 -- no two paths of the list overlap
@@ -31,3 +32,9 @@ some_cross texts others = share_name texts others || some_under texts others || 
 
 abbrev pub texts_of : List (List (List ℕ)) → List (List ℕ)
 texts_of paths = map path_text paths
+
+-- where a text stands in an ascending list, or where it would stand: behind those before it and before those behind it
+abbrev pub IsPlace : List (List ℕ) → List ℕ → Result ℕ ℕ → Type 0
+IsPlace texts text (Ok place) = slice_get texts place ≡ Some text
+IsPlace texts text (Err place) =
+    (place ≤ length texts) × AllByRecursion (λ t. bytes_cmp t text ≡ Less) (take place texts) × AllByRecursion (λ t. bytes_cmp t text ≡ Greater) (drop place texts)

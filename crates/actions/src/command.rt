@@ -1,4 +1,4 @@
-ghost use Rattle.std.specs.Prelude.{◌≡◌, ◌↔◌, Bool, None, IfOk, IfSome, IsOk, OnOk, Ok, map};
+ghost use Rattle.std.specs.Prelude.{◌≡◌, ◌↔◌, Bool, None, Contains, IfOk, IfSome, IsOk, IsTrue, OnOk, Ok, map};
 ghost use Rattle.std.specs.Bool.{OnTrue};
 ghost use Rattle.std.specs.List.{AllByRecursion, list_all};
 ghost use Rattle.std.specs.Option.{option_copied};
@@ -11,7 +11,7 @@ ghost use Rattle.actions.specs.Setting.{IsSetting};
 ghost use Rattle.actions.specs.Command.{CommandValue, IsCommand, are_arguments, is_argument, is_variable_name, is_variable, variable_names, directory_text, directory_of, texts_checked, lists_checked, command_of, command_bytes, decoded_command};
 
 use crate::fields::{read_paths, read_strings, write_paths, write_strings};
-use crate::listed::{check_paths, some_under};
+use crate::listed::{check_paths, has_text, some_under};
 use crate::setting::{EnvironmentVariable, Setting};
 use crate::shapes::command_shape;
 use canonical::{read_bytes, read_elements, write_bytes};
@@ -286,6 +286,15 @@ impl<A: Allocator> Command<A> {
         ensures lawful { IsCommand self.now }
     {
         &self.output_paths
+    }
+
+    /// Whether the path is one of the output paths, by binary search over their texts. It takes no
+    /// memory.
+    pub fn lists<B: Allocator>(&self, path: &Path<B>) -> bool
+        ensures listed { IsTrue result ↔ Contains self.now.output_paths path.now }
+        ensures lawful { IsCommand self.now }
+    {
+        has_text(self.output_paths(), path.as_bytes())
     }
 }
 

@@ -1,12 +1,12 @@
-ghost use Rattle.std.specs.Prelude.{◌≡◌, ℕ, List, map, None, OnOk};
-ghost use Rattle.std.specs.List.{AllByRecursion};
+ghost use Rattle.std.specs.Prelude.{◌≡◌, ℕ, List, map, None, OnOk, IfOk};
+ghost use Rattle.std.specs.List.{AllByRecursion, list_any};
 ghost use Rattle.wire.specs.Steps.{Gives};
 ghost use Rattle.messages.specs.Order.{bytes_cmp, has_name, share_name};
 ghost use Rattle.actions.specs.Ascending.{IsAscendingBy, ascends_behind};
-ghost use Rattle.actions.specs.Overlaps.{lies_under_some, some_under, some_cross, texts_of};
+ghost use Rattle.actions.specs.Overlaps.{IsPlace, is_under, lies_under_some, some_under, some_cross, texts_of};
 
 use messages::{MessageError, Path};
-use std::alloc::Allocator;
+use std::alloc::{AllocError, Allocator};
 use std::cmp::Ordering;
 
 /// What stands in a list by its path.
@@ -59,10 +59,10 @@ pub fn check_paths<L: Listed>(items: &[L]) -> Result<(), MessageError>
     Ok(())
 }
 
-/// Whether a path of ascending ones has this text, by binary search.
-fn has_text<L: Listed>(items: &[L], text: &[u8]) -> bool
+/// Where a text stands among those of ascending paths, or where it would stand, by binary search.
+pub fn place_of<L: Listed>(items: &[L], text: &[u8]) -> Result<usize, usize>
     requires { IsAscendingBy bytes_cmp (texts_of (map L.path_in items.now)) }
-    ensures { result ≡ has_name (texts_of (map L.path_in items.now)) text.now }
+    ensures { IsPlace (texts_of (map L.path_in items.now)) text.now result }
 {
     let mut low = 0;
     let mut high = items.len();
@@ -71,14 +71,22 @@ fn has_text<L: Listed>(items: &[L], text: &[u8]) -> bool
         match items[middle].path_text().cmp(text) {
             Ordering::Less => low = middle + 1,
             Ordering::Greater => high = middle,
-            Ordering::Equal => return true,
+            Ordering::Equal => return Ok(middle),
         }
     }
-    false
+    Err(low)
+}
+
+/// Whether a path of ascending ones has this text, by binary search.
+pub fn has_text<L: Listed>(items: &[L], text: &[u8]) -> bool
+    requires { IsAscendingBy bytes_cmp (texts_of (map L.path_in items.now)) }
+    ensures { result ≡ has_name (texts_of (map L.path_in items.now)) text.now }
+{
+    place_of(items, text).is_ok()
 }
 
 /// Whether the path of this text lies under one of ascending ones.
-fn lies_under_some<L: Listed>(text: &[u8], items: &[L]) -> bool
+pub fn lies_under_some<L: Listed>(text: &[u8], items: &[L]) -> bool
     requires { IsAscendingBy bytes_cmp (texts_of (map L.path_in items.now)) }
     ensures { result ≡ lies_under_some (texts_of (map L.path_in items.now)) text.now }
 {
@@ -88,6 +96,27 @@ fn lies_under_some<L: Listed>(text: &[u8], items: &[L]) -> bool
         }
     }
     false
+}
+
+/// Whether one of ascending paths lies under the path of this text: the first that could is that at
+/// the place of the text with a slash behind it.
+pub fn some_lies_under<A: Allocator, L: Listed>(
+    alloc: A,
+    items: &[L],
+    text: &[u8],
+) -> Result<bool, AllocError>
+    requires { IsAscendingBy bytes_cmp (texts_of (map L.path_in items.now)) }
+    ensures { IfOk result (λ b. b ≡ list_any (λ t. is_under t text.now) (texts_of (map L.path_in items.now))) }
+{
+    let mut below = Vec::from_slice(alloc, text)?;
+    below.push(b'/')?;
+    match place_of(items, &below) {
+        Ok(_) => Ok(true),
+        Err(place) => match items.get(place) {
+            Some(item) => Ok(item.path_text().starts_with(&below)),
+            None => Ok(false),
+        },
+    }
 }
 
 /// Whether a path lies under one of the others, which ascend.

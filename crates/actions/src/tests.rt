@@ -1,3 +1,4 @@
+mod outcomes;
 mod results;
 mod steps;
 
@@ -306,6 +307,19 @@ fn command_shows<A: Allocator + Copy>(alloc: A) -> Result<bool, MessageError> {
     Ok(texts && environment && directory && outputs && command.arguments().len() == 1)
 }
 
+/// Which of these the command made of parts lists as an output path.
+fn command_lists<A: Allocator + Copy>(
+    alloc: A,
+    texts: [&[u8]; 4],
+) -> Result<[bool; 4], MessageError> {
+    let command = Command::decode(alloc, b"\x0a\x09/bin/true\x3a\x03a-b\x3a\x03a/b\x3a\x02a0")?;
+    let mut listed = [false; 4];
+    for (place, text) in listed.iter_mut().zip(texts) {
+        *place = command.lists(&Path::new(alloc, text)?);
+    }
+    Ok(listed)
+}
+
 /// Whether the getters of the action made of parts, and those of its frame, show the parts.
 fn action_shows<A: Allocator + Copy>(alloc: A) -> Result<bool, MessageError> {
     let action = Action::decode(alloc, &action_by_parts(alloc)?)?;
@@ -337,6 +351,10 @@ fn result_shows<A: Allocator + Copy>(alloc: A) -> Result<bool, MessageError> {
 #[test]
 fn parts_shown(rt: HostRuntime) -> Result<(), Fail> {
     assert_eq!(rt; command_shows(rt.alloc()), Ok(true));
+    assert_eq!(rt;
+        command_lists(rt.alloc(), [b"a/b", b"a", b"a/b/c", b"a0"]),
+        Ok([true, false, false, true])
+    );
     assert_eq!(rt; action_shows(rt.alloc()), Ok(true));
     assert_eq!(rt; result_shows(rt.alloc()), Ok(true));
     Ok(())

@@ -1,3 +1,3 @@
-pub mod Report
 pub mod Store
 pub mod Status
+pub mod Printed

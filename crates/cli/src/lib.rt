@@ -4,7 +4,6 @@
 
 mod error;
 mod files;
-mod report;
 mod running;
 mod store;
 mod verify_command;

@@ -1,4 +1,5 @@
-ghost use Rattle.std.specs.Prelude.{◌≡◌, ◌<◌};
+ghost use Rattle.std.specs.Prelude.{◌≡◌, ◌<◌, IfOk};
+ghost use Rattle.cli.specs.Printed.{PrintsNo};
 
 use crate::error::CliError;
 use crate::verify_command::run_verify;
@@ -21,6 +22,8 @@ pub fn run_words<R, O: Write, E: Write>(rt: &R, words: &[String], out: &mut O, e
 where
     R: AllocGlobal + Files,
     ensures status { result < 4 }
+    // With status 1, the line of a no went to standard output, and nothing else.
+    ensures no { result ≡ 1 → PrintsNo (O.contents out.old) (O.contents out.new) }
     // With an answer, standard error stays as it was.
     ensures quiet { result < 2 → E.contents err.new ≡ E.contents err.old }
 {
@@ -38,6 +41,7 @@ where
 fn run<R, O: Write>(rt: &R, words: &[String], out: &mut O) -> Result<Ended, CliError>
 where
     R: AllocGlobal + Files,
+    ensures { IfOk result (λ ended. ended ≡ Ended.No → PrintsNo (O.contents out.old) (O.contents out.new)) }
 {
     let matches = match parse(rt.alloc(), words) {
         Ok(matches) => matches,
@@ -59,7 +63,9 @@ where
 }
 
 /// What clap answers in place of matches: help and version are printed, and a mistake is told.
-fn shown<R: AllocGlobal, O: Write>(rt: &R, error: Error, out: &mut O) -> Result<Ended, CliError> {
+fn shown<R: AllocGlobal, O: Write>(rt: &R, error: Error, out: &mut O) -> Result<Ended, CliError>
+    ensures { IfOk result (λ ended. ended ≡ Ended.Done) }
+{
     if error.kind() == ErrorKind::OutOfMemory {
         return Err(CliError::Memory);
     }

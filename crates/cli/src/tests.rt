@@ -1,3 +1,6 @@
+mod plans;
+mod steps;
+
 use crate::run_words;
 use std::fs;
 use std::test::Fail;
@@ -23,7 +26,7 @@ fn run(rt: &HostRuntime, line: &str) -> Result<(u8, String, String), Fail> {
 }
 
 /// Command lines with the files of this test, and their status, output and error line.
-const ROWS: [(&str, u8, &str, &str); 17] = [
+const ROWS: [(&str, u8, &str, &str); 18] = [
     (
         "verify --store s --sources EMPTY --plan plan --record record --claim EMPTY",
         0,
@@ -79,16 +82,22 @@ const ROWS: [(&str, u8, &str, &str); 17] = [
         "error: \"bad\": line 2: not a line that may stand here",
     ),
     (
+        "verify --store s --sources EMPTY --plan second --record none --claim EMPTY",
+        2,
+        "",
+        "error: \"second\": line 1: a plan begins with the line `buildplan 1`, and a record with `buildrecord 1`",
+    ),
+    (
         "verify --store s --sources EMPTY --plan record --record none --claim EMPTY",
         2,
         "",
-        "error: \"record\": line 1: the first line is not the header of this kind of file",
+        "error: \"record\": line 1: a plan begins with the line `buildplan 1`, and a record with `buildrecord 1`",
     ),
     (
         "verify --store s --sources EMPTY --plan plan --record bad --claim EMPTY",
         2,
         "",
-        "error: \"bad\": line 1: the first line is not the header of this kind of file",
+        "error: \"bad\": line 1: a plan begins with the line `buildplan 1`, and a record with `buildrecord 1`",
     ),
     (
         "verify --store s --sources EMPTY --plan plan --record many --claim EMPTY",
@@ -128,6 +137,7 @@ fn statuses_and_lines(rt: HostRuntime) -> Result<(), Fail> {
     let alloc = rt.alloc();
     fs::write(&rt, "plan", "buildplan 1\nroot\n")?;
     fs::write(&rt, "record", "buildrecord 1\n")?;
+    fs::write(&rt, "second", "buildplan 2\nroot\n")?;
     fs::write(&rt, "bad", "buildplan 1\nroot \n")?;
     let many = format!(in alloc; "buildrecord 1\nstep a {EMPTY}\n")?;
     fs::write(&rt, "many", &many)?;
@@ -147,7 +157,7 @@ fn statuses_and_lines(rt: HostRuntime) -> Result<(), Fail> {
             "{line}"
         );
     }
-    for file in ["plan", "record", "bad", "many", "large"] {
+    for file in ["plan", "record", "second", "bad", "many", "large"] {
         fs::remove_file(&rt, file)?;
     }
     fs::remove_dir_all(&rt, "folder")?;
@@ -159,7 +169,7 @@ fn help_is_printed(rt: HostRuntime) -> Result<(), Fail> {
     for line in ["--help", "verify --help"] {
         let (status, out, err) = run(&rt, line)?;
         assert_eq!(rt; status, 0, "{line}");
-        assert!(rt; out.as_str().contains("Usage: "), "{out}");
+        assert!(rt; out.as_str().contains("Usage: buildcache "), "{out}");
         assert!(rt; err.as_str().is_empty(), "{err}");
     }
     let (_, out, _) = run(&rt, "verify --help")?;

@@ -1,11 +1,17 @@
+ghost use Rattle.std.specs.Prelude.{IfOk, OnOk};
+ghost use Rattle.std.specs.Io.KnownBytes.{Appends};
+ghost use Rattle.cli.specs.Printed.{PrintsVerdict};
+ghost use Rattle.plan.specs.Record.{Fits};
+ghost use Rattle.report.specs.Line.{report_line};
+
 use crate::error::CliError;
 use crate::files::read_file;
-use crate::report::{is_yes, report};
 use crate::store::FolderSource;
 use blob_digest::Digest;
 use clap::ArgMatches;
-use plan::{Plan, PlanError, ReadError, Record};
-use std::alloc::Global;
+use plan::{Plan, ReadError, Record};
+use report::{is_yes, report};
+use std::alloc::{AllocError, Global};
 use std::io::Write;
 use std::rt::Files;
 use verifier::{Verdict, VerifyError, verify};
@@ -31,23 +37,35 @@ fn read_digest(
     }
 }
 
-fn text_error(alloc: Global, path: &str, fault: PlanError) -> Result<CliError, CliError> {
-    let path = String::from_str(alloc, path)?;
-    Ok(CliError::Text { path, fault })
+/// The error of a text that can't be read.
+fn text_error(alloc: Global, path: &str, error: ReadError) -> Result<CliError, AllocError> {
+    match error {
+        ReadError::Memory => Ok(CliError::Memory),
+        ReadError::Faulty(fault) => Ok(CliError::Text {
+            path: String::from_str(alloc, path)?,
+            fault,
+        }),
+    }
 }
 
 fn read_plan<R: Files + AllocGlobal>(rt: &R, path: &str) -> Result<Plan<Global>, CliError> {
     match Plan::read(rt.alloc(), &read_file(rt, path)?) {
         Ok(plan) => Ok(plan),
-        Err(ReadError::Memory) => Err(CliError::Memory),
-        Err(ReadError::Faulty(fault)) => Err(text_error(rt.alloc(), path, fault)?),
+        Err(error) => Err(text_error(rt.alloc(), path, error)?),
     }
 }
 
-fn read_record<R: Files + AllocGlobal>(rt: &R, path: &str) -> Result<Record, CliError> {
-    match Record::read(&read_file(rt, path)?) {
+/// The record of the plan that stands in the file.
+fn read_record<R: Files + AllocGlobal>(
+    rt: &R,
+    path: &str,
+    plan: &Plan<Global>,
+) -> Result<Record<Global>, CliError>
+    ensures { IfOk result (λ noted. Fits noted plan.now) }
+{
+    match Record::read(rt.alloc(), &read_file(rt, path)?, plan) {
         Ok(record) => Ok(record),
-        Err(fault) => Err(text_error(rt.alloc(), path, fault)?),
+        Err(error) => Err(text_error(rt.alloc(), path, error)?),
     }
 }
 
@@ -57,16 +75,32 @@ fn judge<R: Files + AllocGlobal>(
     matches: &ArgMatches<'_>,
     sources: &Digest,
     plan: &Plan<Global>,
-    record: &Record,
+    noted: &Record<Global>,
     claim: &Digest,
-) -> Result<Verdict<Global>, CliError> {
+) -> Result<Verdict<Global>, CliError>
+    requires { Fits noted.now plan.now }
+{
     let folder = String::from_str(rt.alloc(), text_of(matches, "store"))?;
     let mut source = FolderSource::new(rt, folder);
-    match verify(rt.alloc(), sources, plan, record, claim, &mut source) {
+    match verify(rt.alloc(), sources, plan, noted, claim, &mut source) {
         Ok(verdict) => Ok(verdict),
         Err(VerifyError::Memory) => Err(CliError::Memory),
         Err(VerifyError::Fetch) => Err(source.into_fault().unwrap_or(CliError::Memory)),
     }
+}
+
+/// Prints the verdict's line.
+fn print_verdict<O: Write>(
+    alloc: Global,
+    verdict: &Verdict<Global>,
+    out: &mut O,
+) -> Result<(), CliError>
+    ensures { OnOk result (Appends (O.contents out.old) (O.contents out.new) (report_line verdict.now)) }
+{
+    let line = report(alloc, verdict)?;
+    out.write_all(line.as_bytes()).map_err(CliError::Output)?;
+    out.flush().map_err(CliError::Output)?;
+    Ok(())
 }
 
 /// Prints the verdict's line, and answers whether it is yes. The digests are read first, then the
@@ -75,14 +109,14 @@ pub(crate) fn run_verify<R: Files + AllocGlobal, O: Write>(
     rt: &R,
     matches: &ArgMatches<'_>,
     out: &mut O,
-) -> Result<bool, CliError> {
+) -> Result<bool, CliError>
+    ensures { IfOk result (PrintsVerdict (O.contents out.old) (O.contents out.new)) }
+{
     let sources = read_digest(rt.alloc(), matches, "sources")?;
     let claim = read_digest(rt.alloc(), matches, "claim")?;
     let plan = read_plan(rt, text_of(matches, "plan"))?;
-    let record = read_record(rt, text_of(matches, "record"))?;
-    let verdict = judge(rt, matches, &sources, &plan, &record, &claim)?;
-    let line = report(rt.alloc(), &verdict)?;
-    out.write_all(line.as_bytes()).map_err(CliError::Output)?;
-    out.flush().map_err(CliError::Output)?;
+    let noted = read_record(rt, text_of(matches, "record"), &plan)?;
+    let verdict = judge(rt, matches, &sources, &plan, &noted, &claim)?;
+    print_verdict(rt.alloc(), &verdict, out)?;
     Ok(is_yes(&verdict))
 }

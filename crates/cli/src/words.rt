@@ -47,8 +47,9 @@ fn verify_command<'a>(alloc: Global) -> Result<Command<'a>, AllocError> {
 
 fn program<'a>(alloc: Global) -> Result<Command<'a>, AllocError> {
     Command::new(alloc, "buildcache")
+        .bin_name("buildcache")?
         .version(VERSION)
-        .about("Verifies builds from digests; so far plans without steps")
+        .about("Verifies builds from digests")
         .no_binary_name(true)
         .subcommand_required(true)
         .disable_help_subcommand(true)

@@ -17,3 +17,4 @@ pub mod DigestSets
 pub mod Searches
 pub mod Children
 pub mod Trees
+pub mod Projections

@@ -1,5 +1,5 @@
 -- The names of a path, one after another.
-use Rattle.std.proofs.Common.{◌≡◌, ℕ, ◌<◌, List, [], ◌∷◌, ◌++◌, get_or, length, map, subst, sym, zero, suc, arith}
+use Rattle.std.proofs.Common.{ℕ, ◌<◌, List, [], ◌∷◌, get_or, length, zero, suc, arith}
 use Rattle.std.specs.List.{AllByRecursion}
 
 -- a part of a list has what all its parts have

@@ -1,4 +1,4 @@
-ghost use Rattle.std.specs.Prelude.{◌≡◌, ◌≤◌, ◌++◌, List, ℕ, Result, IfOk, OnOk, option_map, map};
+ghost use Rattle.std.specs.Prelude.{◌≡◌, ◌≤◌, ◌++◌, List, ℕ, Result, IfOk, OnOk, OnErr, option_map, map, take, length};
 ghost use Rattle.wire.specs.Spelling.{spelling};
 ghost use Rattle.canonical.specs.Fields.{element_fields};
 ghost use Rattle.wire.specs.Bytes.{AreBytes};
@@ -77,7 +77,8 @@ pub fn read_optional<A: Allocator + Copy, M: Message<A>>(
     }
 }
 
-/// Writes the messages as the elements of a field, in order.
+/// Writes the messages as the elements of a field, in order, behind what stands in the buffer. Where
+/// memory runs out, the buffer is as it was.
 pub fn write_each<A: Allocator + Copy, M: Message<A>>(
     alloc: A,
     out: &mut Vec<u8, A>,
@@ -86,8 +87,30 @@ pub fn write_each<A: Allocator + Copy, M: Message<A>>(
 ) -> Result<(), AllocError>
     requires at_least { 1 ≤ number }
     requires at_most { number ≤ 536870911 }
-    ensures { OnOk result (out.new.items ≡ out.old.items
+    ensures appended { OnOk result (out.new.items ≡ out.old.items
         ++ spelling (element_fields number (map M.spells messages.now))) }
+    ensures kept { OnErr result (out.new.items ≡ out.old.items) }
+{
+    let len = out.len();
+    let written = append_each(alloc, out, number, messages);
+    if written.is_err() {
+        out.truncate(len);
+    }
+    written
+}
+
+/// Writes them, of which some may stand there where memory runs out.
+fn append_each<A: Allocator + Copy, M: Message<A>>(
+    alloc: A,
+    out: &mut Vec<u8, A>,
+    number: u32,
+    messages: &[M],
+) -> Result<(), AllocError>
+    requires at_least { 1 ≤ number }
+    requires at_most { number ≤ 536870911 }
+    ensures appended { OnOk result (out.new.items ≡ out.old.items
+        ++ spelling (element_fields number (map M.spells messages.now))) }
+    ensures front { OnErr result (take (length out.old.items) out.new.items ≡ out.old.items) }
 {
     for message in messages {
         write_element(out, number, &message.write(alloc)?)?;

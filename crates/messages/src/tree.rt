@@ -29,16 +29,20 @@ use std::marker::Model;
 pub struct Tree<A: Allocator> {
     root: Directory<A>,
     children: Vec<Directory<A>, A>,
+    // The digest of each child's encoding.
+    digests: Vec<Digest, A>,
 }
 
 impl<A: Allocator> Model for Tree<A> {
-    ghost use Rattle.messages.specs.Tree.{TreeValue, IsTree};
+    ghost use Rattle.std.specs.Prelude.{◌≡◌};
+    ghost use Rattle.messages.specs.Tree.{TreeValue, IsTree, tree_with, child_digests};
 
     ghost Value = { TreeValue };
 
     ghost view = { λ a. record { root = a.root; children = a.children.items } };
 
-    ghost invariant = { λ a. IsTree (record { root = a.root; children = a.children.items }) };
+    ghost invariant = { λ a. IsTree (tree_with a.root a.children.items)
+        × (a.digests.items ≡ child_digests (tree_with a.root a.children.items)) };
 }
 
 /// Appends the digests of the nodes.
@@ -195,15 +199,19 @@ fn checked_tree<A: Allocator + Copy>(
     alloc: A,
     root: Directory<A>,
     children: Vec<Directory<A>, A>,
-    digests: &[Digest],
+    digests: Vec<Digest, A>,
 ) -> Result<Tree<A>, MessageError>
-    requires { digests.now ≡ digests_of (map directory_bytes children.items) }
+    requires { digests.items ≡ digests_of (map directory_bytes children.items) }
     ensures exact { GivesUnlessMemory (λ t. t) result (tree_of (tree_with root children.items)) }
     ensures lawful { IfOk result IsTree }
 {
     let named = named_digests(alloc, &root, &children)?;
-    check_children(alloc, &named, digests)?;
-    Ok(Tree { root, children })
+    check_children(alloc, &named, &digests)?;
+    Ok(Tree {
+        root,
+        children,
+        digests,
+    })
 }
 
 impl<A: Allocator + Copy> Tree<A> {
@@ -223,7 +231,7 @@ impl<A: Allocator + Copy> Tree<A> {
             (tree_of (tree_with root children.items)) }
     {
         let digests = hash_directories(alloc, &children)?;
-        checked_tree(alloc, root, children, &digests)
+        checked_tree(alloc, root, children, digests)
     }
 }
 
@@ -242,6 +250,14 @@ impl<A: Allocator> Tree<A> {
         ensures lawful { IsTree self.now }
     {
         self.children.as_slice()
+    }
+
+    /// The digest of each child's encoding, in that order. Nothing is hashed again.
+    pub fn child_digests(&self) -> &[Digest]
+        ensures value { result.now ≡ child_digests self.now }
+        ensures lawful { IsTree self.now }
+    {
+        self.digests.as_slice()
     }
 }
 
@@ -274,7 +290,7 @@ impl<A: Allocator + Copy> Message<A> for Tree<A> {
             directories,
             digests,
         } = read_each_hashed(alloc, &read_elements(alloc, &fields, 2)?)?;
-        checked_tree(alloc, required_root(root)?, directories, &digests)
+        checked_tree(alloc, required_root(root)?, directories, digests)
     }
 
     fn write(&self, alloc: A) -> Result<Vec<u8, A>, AllocError> {

@@ -1,15 +1,19 @@
 -- One line, and one space in it, stand at one place.
-use Rattle.std.specs.Prelude.{codes, IfOk}
+use Rattle.std.specs.Prelude.{codes, decimal}
+use Rattle.std.proofs.Common.{◌≡◌, ◌≢◌, ℕ, suc, ◌<◌, ◌≤◌, ◌^◌, ◌==◌, Bool, not, true, false, inl, inr, List, [], ◌∷◌, ◌++◌, length, refl, sym, ap, ◌∙◌, subst, append_assoc, arith}
+use Rattle.std.specs.List.{Contains, list_all}
+use Rattle.std.proofs.lemmas.Bool.{eqb-true}
+use Rattle.std.proofs.lemmas.Fmt.{decimal_injective}
+use Rattle.std.proofs.lemmas.List.{append_cancel_left}
 use Rattle.std.proofs.lemmas.List.Elements.{Contains-append_cases, Contains-append_right}
 use Rattle.std.proofs.lemmas.List.Sums.{AllPass-from_list_all}
-use Rattle.blob_digest.proofs.DigestTexts.{all_pass-without, digest_text-without, in_tail}
-use Rattle.plan.specs.Record.{NamesStep, build_record_text}
-use Rattle.std.proofs.Common.{◌≡◌, ◌≢◌, ℕ, suc, ◌==◌, Bool, not, true, false, inl, inr, List, [], ◌∷◌, ◌++◌, length, refl, is_ok, Result, Ok, Err, sym, ap, ◌∙◌, append_assoc, append-nil, arith}
-use Rattle.std.specs.List.{Contains}
-use Rattle.std.proofs.lemmas.List.{append_cancel_left}
+use Rattle.hex.specs.Hex.{encode_lower, decode_sized}
 use Rattle.blob_digest.specs.Digest.{DigestValue, IsDigest}
-use Rattle.blob_digest.specs.Text.{digest_text}
-use Rattle.plan.specs.Line.{Begins, IsStepName, IsStepLine, is_step_name_byte, line_text}
+use Rattle.blob_digest.specs.DigestValue.{greatest_size}
+use Rattle.blob_digest.specs.Text.{digest_text, is_lower_hex}
+use Rattle.blob_digest.proofs.DigestTexts.{all_pass-without, digest_text-without, in_tail}
+use Rattle.blob_digest.proofs.HexTexts.{lower-encode, hash_given}
+use Rattle.plan.specs.Line.{Begins, IsStepName, is_step_name_byte, step_words, line_text}
 
 within : (h c : ℕ) (xs : List ℕ) → Contains xs c → Contains (h ∷ xs) c
 within h c xs (k, lt, e) = (suc k, omega arith, e)
@@ -29,76 +33,82 @@ once c (h ∷ a) (k ∷ b) x y p q e =
 pub name-without : (name : List ℕ) (c : ℕ) → IsStepName name → is_step_name_byte c ≡ false → ¬ Contains name c
 name-without name c h out = all_pass-without is_step_name_byte name c h.bytes out
 
--- behind `step ` and a first space stand the name and the digest
-pub step_parts : (line name digest : List ℕ) → ¬ Contains name 32 → line ≡ codes "step " ++ (name ++ 32 ∷ digest) → (s : IsStepLine line) → (name ≡ s.name) × (digest ≡ digest_text s.digest)
-step_parts line name digest none e s =
-    let whole = sym e ∙ s.words in
-    let words = append_cancel_left (codes "step ") (name ++ 32 ∷ digest) (s.name ++ 32 ∷ digest_text s.digest) whole in
-    once 32 name s.name digest (digest_text s.digest) none (name-without s.name 32 s.named refl) words
-
 -- what stands at the front of what is left stands behind what is cut off
 pub cut_front : (front next rest : List ℕ) → Begins (front ++ next) (front ++ rest) → Begins next rest
 cut_front front next rest (more, e) = (more, append_cancel_left front rest (next ++ more) (e ∙ append_assoc front next more))
 
-pub front_first : (front next rest : List ℕ) → Begins front (front ++ (next ++ rest))
-front_first front next rest = (next ++ rest, refl)
+-- a space stands behind a word
+pub has_space : (word rest : List ℕ) → Contains (word ++ 32 ∷ rest) 32
+has_space word rest = Contains-append_right word (32 ∷ rest) 32 (0, omega arith, refl)
 
-pub front_joined : (front next rest : List ℕ) → Begins (front ++ next) (front ++ (next ++ rest))
-front_joined front next rest = (rest, sym (append_assoc front next rest))
+-- what a line's text ends in
+pub line_front : (words rest : List ℕ) → line_text words ++ rest ≡ words ++ 10 ∷ rest
+line_front words rest = append_assoc words (10 ∷ []) rest
 
-pub front_itself : (front rest : List ℕ) → rest ≢ [] → front ++ rest ≢ front
-front_itself front rest some e = some (append_cancel_left front rest [] (e ∙ sym (append-nil front)))
-
--- a space stands behind a step's name
-pub has_space : (name rest : List ℕ) → Contains (name ++ 32 ∷ rest) 32
-has_space name rest = Contains-append_right name (32 ∷ rest) 32 (0, omega arith, refl)
-
--- a name and the text of a digest are a step's line
-pub step_line : {E : Type 0} (line name digest : List ℕ) (r : Result DigestValue E) → IsStepName name → line ≡ codes "step " ++ (name ++ 32 ∷ digest)
-    → IfOk r (λ d. IsDigest d × (digest ≡ digest_text d)) → is_ok r ≡ true → IsStepLine line
-step_line line name digest (Ok d) named e found is = record {
-  name = name;
-  digest = d;
-  named = named;
-  lawful = found.0;
-  words = e ∙ ap (λ t. codes "step " ++ (name ++ 32 ∷ t)) found.1;
-}
-step_line line name digest (Err x) named e found is = cc is
+pub nothing_left : (rest : List ℕ) → (length rest == 0) ≡ true → rest ≡ []
+nothing_left [] e = refl
+nothing_left (b ∷ rest) e = absurd (omega (arith, eqb-true (length (b ∷ rest)) 0 e))
 
 pub some_left : (rest : List ℕ) → (length rest == 0) ≡ false → rest ≢ []
 some_left rest e none = let zero_len = ap (λ (l : List ℕ). length l == 0) none in cc (sym e ∙ zero_len)
 
--- a line behind a header, and the text behind it
-pub line_joined : (header words rest : List ℕ) → header ++ (words ++ 10 ∷ rest) ≡ (header ++ line_text words) ++ rest
-line_joined header words rest = ap (λ t. header ++ t) (sym (append_assoc words (10 ∷ []) rest)) ∙ sym (append_assoc header (line_text words) rest)
+pub heads : (a b : ℕ) (x y : List ℕ) → a < b → a ∷ x ≡ b ∷ y → ⊥
+heads a b x y h e = let same : a ≡ b = cc e in omega arith
+
+-- ---- without a byte
 
 abbrev is_no_newline : ℕ → Bool
 is_no_newline c = not (c == 10)
 
--- a step's line has no newline
-pub no_newline : (words : List ℕ) → IsStepLine words → ¬ Contains words 10
-no_newline words s has =
-    let named = rw s.words at has in
-    elim (Contains-append_cases (codes "step ") (s.name ++ 32 ∷ digest_text s.digest) 10 named) [
-      | inl front ↦ all_pass-without is_no_newline (codes "step ") 10 (AllPass-from_list_all is_no_newline (codes "step ") refl) refl front
-      | inr words ↦ elim (Contains-append_cases s.name (32 ∷ digest_text s.digest) 10 words) [
-        | inl name ↦ name-without s.name 10 s.named refl name
-        | inr back ↦ elim (in_tail 32 (digest_text s.digest) 10 back) [
-          | inl space ↦ omega (arith, space)
-          | inr digest ↦ digest_text-without s.digest 10 s.lawful refl refl (λ e. omega (arith, e)) digest
-        ]
-      ]
-    ]
+pub free_of_newline : (text : List ℕ) → list_all is_no_newline text ≡ true → ¬ Contains text 10
+free_of_newline text h = all_pass-without is_no_newline text 10 (AllPass-from_list_all is_no_newline text h) refl
 
--- a step's line behind the header is the line that stands there
-pub names_line : (line rest text : List ℕ) → ¬ Contains line 10 → text ≡ build_record_text ++ (line ++ 10 ∷ rest) → NamesStep text → IsStepLine line
-names_line line rest text none e (words, s, (more, f)) =
-    let both = append_cancel_left build_record_text (line ++ 10 ∷ rest) (words ++ 10 ∷ more) (sym e ∙ f ∙ sym (line_joined build_record_text words more)) in
-    let same = once 10 line words rest more none (no_newline words s) both in
-    rw same.0 s
+pub behind_front : (front rest : List ℕ) → list_all is_no_newline front ≡ true → ¬ Contains rest 10 → ¬ Contains (front ++ rest) 10
+behind_front front rest h free has = elim (Contains-append_cases front rest 10 has) [
+  | inl first ↦ free_of_newline front h first
+  | inr last ↦ free last
+]
 
--- a step's line behind the header ends with a newline
-pub names_newline : (rest text : List ℕ) → text ≡ build_record_text ++ rest → NamesStep text → Contains rest 10
-names_newline rest text e (words, s, (more, f)) =
-    let both = append_cancel_left build_record_text rest (words ++ 10 ∷ more) (sym e ∙ f ∙ sym (line_joined build_record_text words more)) in
-    rw both (Contains-append_right words (10 ∷ more) 10 (0, omega arith, refl))
+pub behind_space : (word rest : List ℕ) → ¬ Contains word 10 → ¬ Contains rest 10 → ¬ Contains (word ++ 32 ∷ rest) 10
+behind_space word rest h free has = elim (Contains-append_cases word (32 ∷ rest) 10 has) [
+  | inl first ↦ h first
+  | inr last ↦ elim (in_tail 32 rest 10 last) [ inl e ↦ cc e | inr tail ↦ free tail ]
+]
+
+-- ---- a step's line
+
+-- behind `step ` and a first space stand the name and the digest
+pub step_parts : (words rest name digest named : List ℕ) (d : DigestValue) → words ≡ codes "step " ++ rest → rest ≡ name ++ 32 ∷ digest → ¬ Contains name 32 → IsStepName named
+    → words ≡ step_words named d → (name ≡ named) × (digest ≡ digest_text d)
+step_parts words rest name digest named d e f none is told =
+    let both = append_cancel_left (codes "step ") rest (named ++ 32 ∷ digest_text d) (sym e ∙ told) in
+    once 32 name named digest (digest_text d) none (name-without named 32 is refl) (sym f ∙ both)
+
+pub step_has_space : (words rest named : List ℕ) (d : DigestValue) → words ≡ codes "step " ++ rest → words ≡ step_words named d → Contains rest 32
+step_has_space words rest named d e told =
+    let both = append_cancel_left (codes "step ") rest (named ++ 32 ∷ digest_text d) (sym e ∙ told) in
+    subst (λ (l : List ℕ). Contains l 32) (sym both) (has_space named (digest_text d))
+
+-- it has no newline
+pub step_words-without : (name : List ℕ) (d : DigestValue) → IsStepName name → IsDigest d → ¬ Contains (step_words name d) 10
+step_words-without name d named lawful =
+    behind_front (codes "step ") (name ++ 32 ∷ digest_text d) refl
+    (behind_space name (digest_text d) (name-without name 10 named refl) (digest_text-without d 10 lawful refl refl (λ e. omega (arith, e))))
+
+small_size : (n : ℕ) → n ≤ greatest_size → n < 2 ^ 64
+small_size n h = omega arith
+
+digest_with : List ℕ → ℕ → DigestValue
+digest_with hash size = record { hash = hash; size = size }
+
+-- two digests have two texts
+pub digest_one : (d e : DigestValue) → IsDigest d → IsDigest e → digest_text d ≡ digest_text e → d ≡ e
+unfolding digest_with
+digest_one d e is was same =
+    let parts = once 47 (encode_lower d.hash) (encode_lower e.hash) (decimal d.size) (decimal e.size) (all_pass-without is_lower_hex (encode_lower d.hash) 47 (lower-encode d.hash is.hash.bytes) refl) (all_pass-without is_lower_hex (encode_lower e.hash) 47 (lower-encode e.hash was.hash.bytes) refl) same in
+    let size_in : d.size ≤ greatest_size = is.size in
+    let size_was : e.size ≤ greatest_size = was.size in
+    let size : d.size ≡ e.size = decimal_injective d.size e.size (small_size d.size size_in) (small_size e.size size_was) parts.1 in
+    let decoded = sym (hash_given d.hash is.hash) ∙ ap (λ (t : List ℕ). decode_sized t 32) parts.0 ∙ hash_given e.hash was.hash in
+    let hash : d.hash ≡ e.hash = cc decoded in
+    ap (λ (h : List ℕ). digest_with h d.size) hash ∙ ap (λ (n : ℕ). digest_with e.hash n) size

@@ -1,9 +1,8 @@
--- What stands in the spelling of a path, and of an origin.
-use Rattle.std.proofs.Common.{◌≡◌, ◌≢◌, nat_eq, ℕ, ◌<◌, Bool, true, false, ◌==◌, ◌||◌, All, List, [], ◌∷◌, ◌++◌, refl, ap, sym, ◌∙◌, subst, inl, inr, arith, codes, Some}
+-- What stands in the spelling of a path.
+use Rattle.std.proofs.Common.{◌≡◌, ◌≢◌, nat_eq, ℕ, ◌<◌, Bool, true, false, ◌==◌, ◌||◌, All, List, [], ◌∷◌, refl, ap, sym, ◌∙◌, subst, arith}
 use Rattle.std.specs.Cmp.Lexicographic.{pointwise, bytes_decides}
 use Rattle.std.specs.List.{list_all, Contains}
 use Rattle.std.proofs.lemmas.Bool.{agree_below_at}
-use Rattle.std.proofs.lemmas.List.{append_cancel_left}
 use Rattle.std.proofs.lemmas.List.Elements.{All-head, All-tail}
 use Rattle.std.proofs.lemmas.List.Folds.{list_all-append}
 use Rattle.std.proofs.lemmas.List.Sums.{AllPass-from_list_all}
@@ -13,11 +12,8 @@ use Rattle.blob_digest.proofs.DigestTexts.{all_pass-without}
 use Rattle.messages.specs.Path.{IsPath, path_text, parts_of}
 use Rattle.messages.proofs.Paths.{text_utf8, parts_of_path}
 use Rattle.plan.specs.Escape.{is_plain, escaped_byte, escaped, escaped_path}
-use Rattle.plan.specs.Values.{OriginValue, source, output, LineValue, IsOrigin, IsLine}
-use Rattle.plan.specs.Lines.{origin_words}
 use Rattle.plan.proofs.TextBytes.{All-from_IsUtf8}
 use Rattle.plan.proofs.Escapes.{percent_decode-escaped_path}
-use Rattle.plan.proofs.Lines.{once}
 
 -- a plain byte or `%`
 abbrev is_written : ℕ → Bool
@@ -52,35 +48,5 @@ escaped_path-dot path is e =
     let is_dot : IsPath ((46 ∷ []) ∷ []) = subst IsPath names is in
     is_dot.each.0.segment.no_dot refl
 
--- ---- what an origin is, by its words
-
-no_step : (step : ℕ) → step < 0 → ⊥
-no_step step h = omega arith
-
-pub whole_tree : (words : List ℕ) (origin : OriginValue) → words ≡ codes "src ." → IsOrigin 0 origin → words ≡ origin_words [] origin → source [] ≡ origin
-whole_tree words (source []) e is was = refl
-whole_tree words (source (name ∷ path)) e (inl none) was = cc none
-whole_tree words (source (name ∷ path)) e (inr is) was =
-    absurd (escaped_path-dot (name ∷ path) is (append_cancel_left (codes "src ") (escaped_path (name ∷ path)) (46 ∷ []) (sym was ∙ e)))
-whole_tree words (output step path) e is was = absurd (no_step step is.0)
-
--- ---- the parts of a line
-
-abbrev pub line_with : List (List ℕ) → OriginValue → LineValue
-line_with target origin = record { target = target; origin = origin }
-
--- what stands before the first space is the target, and what stands behind it the origin
-pub line_parts : (rest target origin : List ℕ) (line : LineValue) → IsLine 0 line → ¬ Contains target 32 → rest ≡ target ++ 32 ∷ origin
-    → rest ≡ escaped_path line.target ++ 32 ∷ origin_words [] line.origin → (target ≡ escaped_path line.target) × (origin ≡ origin_words [] line.origin)
-line_parts rest target origin line is none e was =
-    once 32 target (escaped_path line.target) origin (origin_words [] line.origin) none (escaped_path-without line.target 32 is.target refl) (sym e ∙ was)
-
 pub same_text : (xs ys : List ℕ) → pointwise nat_eq xs ys ≡ true → xs ≡ ys
 same_text xs ys h = (bytes_decides xs ys).0 h
-
-pub some_line : (target : List (List ℕ)) (origin : OriginValue) (line : LineValue) → Some target ≡ Some line.target → Some origin ≡ Some line.origin
-    → Some (line_with target origin) ≡ Some line
-some_line target origin line e f =
-    let t : target ≡ line.target = cc e in
-    let o : origin ≡ line.origin = cc f in
-    rw (t, o) refl

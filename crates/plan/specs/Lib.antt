@@ -4,5 +4,7 @@ pub mod Line
 pub mod Lines
 pub mod Targets
 pub mod Plan
+pub mod Faults
+pub mod Parts
 pub mod Reading
 pub mod Record

@@ -1,7 +1,7 @@
 -- Texts of lines: each ends with one newline, and its words are parted by one space.
 use Rattle.std.specs.Prelude.{◌≡◌, ℕ, ◌<◌, ◌≤◌, Bool, ◌&&◌, ◌||◌, ◌==◌, nat_le, List, [], ◌∷◌, ◌++◌, length, codes}
 use Rattle.std.specs.List.{AllPass}
-use Rattle.blob_digest.specs.Digest.{DigestValue, IsDigest}
+use Rattle.blob_digest.specs.Digest.{DigestValue}
 use Rattle.blob_digest.specs.Text.{digest_text}
 
 -- a line
@@ -25,11 +25,3 @@ pub record IsStepName (name : List ℕ) : Type 0 where
 -- the words of a line that names a step and a digest: `step NAME HASH/SIZE`
 abbrev pub step_words : List ℕ → DigestValue → List ℕ
 step_words name digest = codes "step " ++ (name ++ 32 ∷ digest_text digest)
-
--- what such a line says
-pub record IsStepLine (text : List ℕ) : Type 0 where
-  pub name : List ℕ
-  pub digest : DigestValue
-  pub named : IsStepName name
-  pub lawful : IsDigest digest
-  pub words : text ≡ step_words name digest

@@ -1,5 +1,6 @@
 -- What reading a plan answers where memory may run out.
 use Rattle.std.specs.Prelude.{◌≡◌, Result, Ok, Err}
+use Rattle.plan.specs.declared.error.Fault.TheVariants.{BadHeader}
 use Rattle.plan.specs.declared.error.PlanError.{PlanError}
 use Rattle.plan.specs.declared.error.ReadError.{ReadError}
 use Rattle.plan.specs.declared.error.ReadError.TheVariants.{Faulty, Memory}
@@ -14,3 +15,7 @@ abbrev pub GivesUnlessMemory : {X : Type 0} → Result X ReadError → X → Typ
 GivesUnlessMemory (Ok x) y = x ≡ y
 GivesUnlessMemory (Err Memory) y = Unit {0}
 GivesUnlessMemory (Err (Faulty e)) y = ⊥
+
+-- line 1 is not the header
+abbrev pub bad_header : ReadError
+bad_header = Faulty (record { line = 1; fault = BadHeader })

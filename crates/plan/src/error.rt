@@ -8,16 +8,22 @@ use thiserror::Error;
 #[derive(Clone, Copy, Debug, PartialEq, Eq, Error)]
 pub enum Fault {
     /// Refusal 91.
-    #[error("the first line is not the header of this kind of file")]
+    #[error("a plan begins with the line `buildplan 1`, and a record with `buildrecord 1`")]
     BadHeader,
     /// Refusal 92.
     #[error("not a line that may stand here")]
     BadLine,
+    /// Refusal 93.
+    #[error("an earlier step has this name")]
+    SameStep,
+    /// Refusal 94.
+    #[error("no earlier step has this name")]
+    LaterStep,
     /// Refusal 95.
     #[error("the target is an earlier line's target, or lies under or above it")]
     Overlap,
     /// Refusal 96.
-    #[error("more than 65536 lines")]
+    #[error("more than 4096 steps or 65536 lines")]
     TooMany,
     /// Refusal 97.
     #[error("the record names other steps than the plan")]
@@ -32,7 +38,7 @@ pub struct PlanError {
     pub fault: Fault,
 }
 
-/// Why a plan could not be read.
+/// Why a plan or a record could not be read.
 #[derive(Clone, Copy, Debug, PartialEq, Eq, Error)]
 pub enum ReadError {
     /// A line is at fault.

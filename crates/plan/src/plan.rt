@@ -1,14 +1,18 @@
-ghost use Rattle.std.specs.Prelude.{◌≡◌, ◌++◌, [], IfOk, IfErr, IfSome, IfNone, OnOk};
-ghost use Rattle.plan.specs.Line.{line_text};
-ghost use Rattle.plan.specs.Lines.{in_words};
-ghost use Rattle.plan.specs.Plan.{AreLines, IsPlan, FirstLine, lines_text, plan_text, IsRootFault, IsPlanFault};
-ghost use Rattle.plan.specs.Reading.{FaultyUnlessMemory, GivesUnlessMemory};
-ghost use Rattle.plan.specs.Values.{LineValue, PlanValue, IsLine};
+ghost use Rattle.std.specs.Prelude.{◌≡◌, ◌+◌, ◌<◌, ◌≤◌, ◌^◌, ◌++◌, [], Err, IfOk, IfErr, OnOk, length, codes};
+ghost use Rattle.std.specs.List.{AllByRecursion, flat_map};
+ghost use Rattle.plan.specs.Faults.{IsFaultBehind, IsPlanFault};
+ghost use Rattle.plan.specs.Parts.{IsLinesFault, IsFront};
+ghost use Rattle.plan.specs.Line.{Begins};
+ghost use Rattle.plan.specs.Plan.{AreLines, AreSteps, IsPlan, plan_header, lines_text, step_text, plan_text};
+ghost use Rattle.plan.specs.Reading.{FaultyUnlessMemory, GivesUnlessMemory, bad_header};
+ghost use Rattle.plan.specs.Values.{PlanValue, IsLine};
 
 use crate::error::{Fault, ReadError};
-use crate::line::{Line, read_line, write_line};
+use crate::line::{Line, first_line, write_lines};
+use crate::step::{Step, StepName, write_step_line};
+use crate::steps::Steps;
 use crate::targets::Targets;
-use crate::words::{split_once, strip};
+use crate::words::{first_step, strip};
 use std::alloc::{AllocError, Allocator};
 use std::marker::Model;
 
@@ -16,60 +20,64 @@ const HEADER: &[u8] = b"buildplan 1\n";
 
 const ROOT: &[u8] = b"root\n";
 
+/// The most steps of a plan.
+const MOST_STEPS: usize = 4096;
+
 /// The most lines of a directory.
 const MOST_LINES: usize = 65_536;
 
-/// How an artifact is put together: the lines of its root. So far a plan has no steps.
+/// How an artifact is put together: its steps, and the lines of its root.
 #[derive(Drop)]
 #[derive_where(Debug)]
 pub struct Plan<A: Allocator> {
-    lines: Vec<Line<A>, A>,
+    steps: Vec<Step<A>, A>,
+    root: Vec<Line<A>, A>,
 }
 
 impl<A: Allocator> Model for Plan<A> {
-    ghost use Rattle.std.specs.Prelude.{[]};
     ghost use Rattle.plan.specs.Values.{PlanValue};
     ghost use Rattle.plan.specs.Plan.{IsPlan};
 
     ghost Value = { PlanValue };
 
-    ghost view = { λ a. record { steps = []; root_lines = a.lines.items } };
+    ghost view = { λ a. record { steps = a.steps.items; root_lines = a.root.items } };
 
-    ghost invariant = { λ a. IsPlan (record { steps = []; root_lines = a.lines.items }) };
+    ghost invariant = { λ a. IsPlan (record { steps = a.steps.items; root_lines = a.root.items }) };
 }
 
-/// The line that a text begins with, and the text behind it. `None` where it begins with none.
-fn read_first<A: Allocator + Copy>(
+/// What a text begins with.
+#[derive(Drop)]
+struct Front<'a, A: Allocator> {
+    /// The steps in front of the root.
+    steps: Steps<A>,
+    /// The text behind them.
+    rest: &'a [u8],
+    /// The number of its first line.
+    number: u64,
+}
+
+/// The lines of a directory behind these steps, and the text behind them. The first line has this
+/// number.
+fn read_lines<'a, A: Allocator + Copy>(
     alloc: A,
-    text: &[u8],
-) -> Result<Option<(Line<A>, &[u8])>, AllocError>
-    ensures found { IfOk result (λ read. IfSome read (λ r.
-        IsLine 0 r.0 × (text.now ≡ line_text (in_words [] r.0) ++ r.1.now))) }
-    ensures none { IfOk result (λ read.
-        IfNone read ((line : LineValue) → ¬ FirstLine line text.now)) }
-{
-    let Some((words, behind)) = split_once(text, b'\n') else {
-        return Ok(None);
-    };
-    match read_line(alloc, words)? {
-        Some(line) => Ok(Some((line, behind))),
-        None => Ok(None),
-    }
-}
-
-/// The lines of the root, the first of which is line 3.
-fn read_root<A: Allocator + Copy>(alloc: A, text: &[u8]) -> Result<Vec<Line<A>, A>, ReadError>
-    ensures found { IfOk result (λ lines.
-        AreLines 0 lines.items × (text.now ≡ lines_text [] lines.items)) }
-    ensures fault { IfErr result (FaultyUnlessMemory (IsRootFault text.now)) }
+    steps: &Steps<A>,
+    text: &'a [u8],
+    first: u64,
+) -> Result<(Vec<Line<A>, A>, &'a [u8]), ReadError>
+    requires lawful { AreSteps [] steps.now }
+    requires first_fits { first < 2 ^ 62 }
+    ensures found { IfOk result (λ r. AreLines (length steps.now) r.0.items × (text.now ≡ lines_text steps.now r.0.items ++ r.1.now)) }
+    ensures none { IfOk result (λ r. ¬ Begins (codes "in ") r.1.now) }
+    ensures fault { IfErr result (FaultyUnlessMemory (IsLinesFault steps.now first text.now)) }
 {
     let mut lines = Vec::new(alloc);
     let mut targets = Targets::new(alloc);
     let mut rest = text;
-    while !rest.is_empty() {
-        let number = lines.len() as u64 + 3;
-        let Some((line, behind)) = read_first(alloc, rest)? else {
-            return Err(ReadError::at(number, Fault::BadLine));
+    while rest.starts_with(b"in ") {
+        let number = first + lines.len() as u64;
+        let (line, behind) = match first_line(alloc, steps, rest)? {
+            Ok(read) => read,
+            Err(fault) => return Err(ReadError::at(number, fault)),
         };
         if lines.len() == MOST_LINES {
             return Err(ReadError::at(number, Fault::TooMany));
@@ -80,41 +88,88 @@ fn read_root<A: Allocator + Copy>(alloc: A, text: &[u8]) -> Result<Vec<Line<A>, 
         lines.push(line)?;
         rest = behind;
     }
-    Ok(lines)
+    Ok((lines, rest))
+}
+
+/// The steps in front of the root, the first line of which is line 2.
+fn read_steps<A: Allocator + Copy>(alloc: A, text: &[u8]) -> Result<Front<'_, A>, ReadError>
+    ensures found { IfOk result (λ front. IsFront text.now front.steps front.rest.now front.number) }
+    ensures fault { IfErr result (FaultyUnlessMemory (IsFaultBehind (plan_header ++ text.now))) }
+{
+    let mut steps = Steps::new(alloc);
+    let mut rest = text;
+    let mut number = 2;
+    while let Some(line) = first_step(rest) {
+        if steps.number_of(line.name).is_some() {
+            return Err(ReadError::at(number, Fault::SameStep));
+        }
+        if steps.len() == MOST_STEPS {
+            return Err(ReadError::at(number, Fault::TooMany));
+        }
+        let (lines, behind) = read_lines(alloc, &steps, line.behind, number + 1)?;
+        number += 1 + lines.len() as u64;
+        let step = Step {
+            name: StepName::of_lawful(alloc, line.name)?,
+            frame: line.digest,
+            lines,
+        };
+        steps = steps.with(alloc, step)?;
+        rest = behind;
+    }
+    Ok(Front {
+        steps,
+        rest,
+        number,
+    })
 }
 
 impl<A: Allocator + Copy> Plan<A> {
-    /// The plan of this text. The first line at fault decides: its form (91 and 92), then the
-    /// number of lines (96), then targets that overlap (95).
+    /// The plan of this text. The first line at fault decides: its form (91 and 92), then a
+    /// step's name (93), the step that it reads (94), the number of steps or lines (96), then
+    /// targets that overlap (95).
     pub fn read(alloc: A, text: &[u8]) -> Result<Plan<A>, ReadError>
         // The text is that of the plan.
-        ensures found { IfOk result (λ plan.
-            IsPlan plan × (plan.steps ≡ []) × (text.now ≡ plan_text plan)) }
+        ensures found { IfOk result (λ plan. IsPlan plan × (text.now ≡ plan_text plan)) }
         // The plan whose text it is is answered.
-        ensures only { (plan : PlanValue) → IsPlan plan → plan.steps ≡ []
-            → text.now ≡ plan_text plan
+        ensures only { (plan : PlanValue) → IsPlan plan → text.now ≡ plan_text plan
             → GivesUnlessMemory result plan }
         // Which line is at fault, and how.
         ensures fault { IfErr result (FaultyUnlessMemory (IsPlanFault text.now)) }
+        // A text without the header takes no memory to refuse.
+        ensures header { ¬ Begins plan_header text.now → result ≡ Err bad_header }
     {
-        let Some(lines) = strip(text, HEADER) else {
+        let Some(rest) = strip(text, HEADER) else {
             return Err(ReadError::at(1, Fault::BadHeader));
         };
-        let Some(rest) = strip(lines, ROOT) else {
-            return Err(ReadError::at(2, Fault::BadLine));
+        let front = read_steps(alloc, rest)?;
+        let Some(rest) = strip(front.rest, ROOT) else {
+            return Err(ReadError::at(front.number, Fault::BadLine));
         };
+        let first = front.number + 1;
+        let (root, rest) = read_lines(alloc, &front.steps, rest, first)?;
+        if !rest.is_empty() {
+            return Err(ReadError::at(first + root.len() as u64, Fault::BadLine));
+        }
         Ok(Plan {
-            lines: read_root(alloc, rest)?,
+            steps: front.steps.into_vec(),
+            root,
         })
     }
 
-    /// The lines of the root, in order.
-    pub fn lines(&self) -> &[Line<A>]
-        ensures value { result.now ≡ self.now.root_lines }
-        ensures no_steps { self.now.steps ≡ [] }
+    /// The steps, in order.
+    pub fn steps(&self) -> &[Step<A>]
+        ensures value { result.now ≡ self.now.steps }
         ensures lawful { IsPlan self.now }
     {
-        self.lines.as_slice()
+        self.steps.as_slice()
+    }
+
+    /// The lines of the root, in order.
+    pub fn root(&self) -> &[Line<A>]
+        ensures value { result.now ≡ self.now.root_lines }
+        ensures lawful { IsPlan self.now }
+    {
+        self.root.as_slice()
     }
 
     /// The text of the plan.
@@ -123,18 +178,25 @@ impl<A: Allocator + Copy> Plan<A> {
     {
         let mut text = Vec::new(alloc);
         text.extend_from_slice(HEADER)?;
-        text.extend_from_slice(ROOT)?;
-        for line in &self.lines {
-            write_line(alloc, &mut text, line)?;
+        for step in &self.steps {
+            write_step(alloc, &mut text, &self.steps, step)?;
         }
+        text.extend_from_slice(ROOT)?;
+        write_lines(alloc, &mut text, &self.steps, &self.root)?;
         Ok(text)
     }
 }
 
-/// No text is that of two plans without steps. (That no plan has two is said by the text's being a
-/// function.) It does nothing.
-pub fn spells_one_plan()
-    ensures { (p q : PlanValue) → IsPlan p → IsPlan q → p.steps ≡ [] → q.steps ≡ []
-        → plan_text p ≡ plan_text q
-        → p ≡ q }
-{}
+/// Writes the step's line and its lines behind the text.
+fn write_step<A: Allocator + Copy>(
+    alloc: A,
+    text: &mut Vec<u8, A>,
+    steps: &[Step<A>],
+    step: &Step<A>,
+) -> Result<(), AllocError>
+    requires { AllByRecursion (IsLine (length steps.now)) step.now.lines }
+    ensures { OnOk result (text.new.items ≡ text.old.items ++ step_text steps.now step.now) }
+{
+    write_step_line(alloc, text, &step.name, &step.frame)?;
+    write_lines(alloc, text, steps, &step.lines)
+}

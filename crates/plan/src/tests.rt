@@ -1,12 +1,13 @@
 mod escapes;
+mod records;
 
-use crate::{Fault, Line, Origin, Plan, PlanError, ReadError, Record};
+use crate::{Fault, Line, Origin, Plan, PlanError, ReadError, StepName, is_step_name};
 use refusing::Refusing;
 use std::alloc::Allocator;
 use std::test::Fail;
 
 /// Texts, and the line and the fault that refuse them.
-const PLANS: [(&str, Option<(u64, Fault)>); 27] = [
+const PLANS: [(&str, Option<(u64, Fault)>); 45] = [
     ("buildplan 1\nroot\n", None),
     ("buildplan 1\nroot\nin b src a\nin a src .\n", None),
     (
@@ -40,7 +41,7 @@ const PLANS: [(&str, Option<(u64, Fault)>); 27] = [
     ),
     (
         "buildplan 1\nroot\nin x out gen o\n",
-        Some((3, Fault::BadLine)),
+        Some((3, Fault::LaterStep)),
     ),
     ("buildplan 1\nroot\nin . src y\n", Some((3, Fault::BadLine))),
     (
@@ -53,6 +54,78 @@ const PLANS: [(&str, Option<(u64, Fault)>); 27] = [
     ),
     (
         "buildplan 1\nstep a e3b0c44298fc1c149afbf4c8996fb92427ae41e4649b934ca495991b7852b855/0\nroot\n",
+        None,
+    ),
+    (
+        "buildplan 1\nstep a e3b0c44298fc1c149afbf4c8996fb92427ae41e4649b934ca495991b7852b855/0\nstep root e3b0c44298fc1c149afbf4c8996fb92427ae41e4649b934ca495991b7852b855/0\nin root out a root\nroot\nin in out root out/src\nin src out a step\n",
+        None,
+    ),
+    (
+        "buildplan 1\nstep a e3b0c44298fc1c149afbf4c8996fb92427ae41e4649b934ca495991b7852b855/0\nin x src y\nin x/z src y\nroot\n",
+        Some((4, Fault::Overlap)),
+    ),
+    (
+        "buildplan 1\nstep a e3b0c44298fc1c149afbf4c8996fb92427ae41e4649b934ca495991b7852b855/0\nin x out a o\nroot\n",
+        Some((3, Fault::LaterStep)),
+    ),
+    (
+        "buildplan 1\nstep a e3b0c44298fc1c149afbf4c8996fb92427ae41e4649b934ca495991b7852b855/0\nin x out a .\nroot\n",
+        Some((3, Fault::BadLine)),
+    ),
+    (
+        "buildplan 1\nstep a e3b0c44298fc1c149afbf4c8996fb92427ae41e4649b934ca495991b7852b855/0\nin x out A o\nroot\n",
+        Some((3, Fault::BadLine)),
+    ),
+    (
+        "buildplan 1\nstep a e3b0c44298fc1c149afbf4c8996fb92427ae41e4649b934ca495991b7852b855/0\nin x out b o\nstep b e3b0c44298fc1c149afbf4c8996fb92427ae41e4649b934ca495991b7852b855/0\nroot\n",
+        Some((3, Fault::LaterStep)),
+    ),
+    (
+        "buildplan 1\nstep a e3b0c44298fc1c149afbf4c8996fb92427ae41e4649b934ca495991b7852b855/0\nin x src y\nroot\nin x out b o\n",
+        Some((5, Fault::LaterStep)),
+    ),
+    (
+        "buildplan 1\nstep a e3b0c44298fc1c149afbf4c8996fb92427ae41e4649b934ca495991b7852b855/0\nin x src y\nin x out a o\n",
+        Some((4, Fault::LaterStep)),
+    ),
+    (
+        "buildplan 1\nstep a e3b0c44298fc1c149afbf4c8996fb92427ae41e4649b934ca495991b7852b855/0\nstep a e3b0c44298fc1c149afbf4c8996fb92427ae41e4649b934ca495991b7852b855/0\nroot\n",
+        Some((3, Fault::SameStep)),
+    ),
+    (
+        "buildplan 1\nstep a e3b0c44298fc1c149afbf4c8996fb92427ae41e4649b934ca495991b7852b855/0\nin x src y\nstep b e3b0c44298fc1c149afbf4c8996fb92427ae41e4649b934ca495991b7852b855/0\nin x out a y\nstep a e3b0c44298fc1c149afbf4c8996fb92427ae41e4649b934ca495991b7852b855/1\nroot\n",
+        Some((6, Fault::SameStep)),
+    ),
+    (
+        "buildplan 1\nstep a e3b0c44298fc1c149afbf4c8996fb92427ae41e4649b934ca495991b7852b855/0\n",
+        Some((3, Fault::BadLine)),
+    ),
+    (
+        "buildplan 1\nstep a e3b0c44298fc1c149afbf4c8996fb92427ae41e4649b934ca495991b7852b855/0\nroot\nstep b e3b0c44298fc1c149afbf4c8996fb92427ae41e4649b934ca495991b7852b855/0\n",
+        Some((4, Fault::BadLine)),
+    ),
+    (
+        "buildplan 1\nstep a e3b0c44298fc1c149afbf4c8996fb92427ae41e4649b934ca495991b7852b855/0\nroot\nroot\n",
+        Some((4, Fault::BadLine)),
+    ),
+    (
+        "buildplan 1\nstep a e3b0c44298fc1c149afbf4c8996fb92427ae41e4649b934ca495991b7852b855/0\nin x src y",
+        Some((3, Fault::BadLine)),
+    ),
+    (
+        "buildplan 1\nstep a e3b0c44298fc1c149afbf4c8996fb92427ae41e4649b934ca495991b7852b855/0\nin x src y\n",
+        Some((4, Fault::BadLine)),
+    ),
+    (
+        "buildplan 1\nstep a e3b0c44298fc1c149afbf4c8996fb92427ae41e4649b934ca495991b7852b855\nroot\n",
+        Some((2, Fault::BadLine)),
+    ),
+    (
+        "buildplan 1\nstep A e3b0c44298fc1c149afbf4c8996fb92427ae41e4649b934ca495991b7852b855/0\nroot\n",
+        Some((2, Fault::BadLine)),
+    ),
+    (
+        "buildplan 1\nstep  e3b0c44298fc1c149afbf4c8996fb92427ae41e4649b934ca495991b7852b855/0\nroot\n",
         Some((2, Fault::BadLine)),
     ),
     ("buildplan 1\nroot\n\n", Some((3, Fault::BadLine))),
@@ -68,48 +141,6 @@ const PLANS: [(&str, Option<(u64, Fault)>); 27] = [
     ("buildplan 1\nroot\nroot\n", Some((3, Fault::BadLine))),
     ("buildplan 1\nroot\n ", Some((3, Fault::BadLine))),
 ];
-
-const RECORDS: [(&str, Option<(u64, Fault)>); 14] = [
-    ("buildrecord 1\n", None),
-    ("", Some((1, Fault::BadHeader))),
-    ("buildrecord 1", Some((1, Fault::BadHeader))),
-    ("buildplan 1\n", Some((1, Fault::BadHeader))),
-    ("buildrecord 1\n\n", Some((2, Fault::BadLine))),
-    ("buildrecord 1\nstep\n", Some((2, Fault::BadLine))),
-    ("buildrecord 1\nstep a E/0\n", Some((2, Fault::BadLine))),
-    (
-        "buildrecord 1\nstep a e3b0c44298fc1c149afbf4c8996fb92427ae41e4649b934ca495991b7852b855/0\n",
-        Some((2, Fault::RecordDiffers)),
-    ),
-    (
-        "buildrecord 1\nstep a-z_09 e3b0c44298fc1c149afbf4c8996fb92427ae41e4649b934ca495991b7852b855/0\nx",
-        Some((2, Fault::RecordDiffers)),
-    ),
-    (
-        "buildrecord 1\nstep a e3b0c44298fc1c149afbf4c8996fb92427ae41e4649b934ca495991b7852b855/0",
-        Some((2, Fault::BadLine)),
-    ),
-    (
-        "buildrecord 1\nstep A e3b0c44298fc1c149afbf4c8996fb92427ae41e4649b934ca495991b7852b855/0\n",
-        Some((2, Fault::BadLine)),
-    ),
-    (
-        "buildrecord 1\nstep  a e3b0c44298fc1c149afbf4c8996fb92427ae41e4649b934ca495991b7852b855/0\n",
-        Some((2, Fault::BadLine)),
-    ),
-    (
-        "buildrecord 1\nstep a e3b0c44298fc1c149afbf4c8996fb92427ae41e4649b934ca495991b7852b855/00\n",
-        Some((2, Fault::BadLine)),
-    ),
-    (
-        "buildrecord 1\nstep 0123456789012345678901234567890123456789012345678901234567890123x e3b0c44298fc1c149afbf4c8996fb92427ae41e4649b934ca495991b7852b855/0\n",
-        Some((2, Fault::BadLine)),
-    ),
-];
-
-fn refusal(found: Result<(), PlanError>) -> Option<(u64, Fault)> {
-    found.err().map(|error| (error.line, error.fault))
-}
 
 /// Whether the plan of the text is written as it again; or the refusal.
 fn again<A: Allocator + Copy>(alloc: A, text: &str) -> Result<bool, ReadError> {
@@ -129,21 +160,18 @@ fn texts(rt: HostRuntime) {
     for (text, expected) in PLANS {
         assert_eq!(rt; again(rt.alloc(), text), answer(expected), "{text:?}");
     }
-    for (text, expected) in RECORDS {
-        let found = Record::read(text.as_bytes()).map(|_record| ());
-        assert_eq!(rt; refusal(found), expected, "{text:?}");
-    }
 }
 
-/// The target and the origin, as texts.
-fn shown<'a, A: Allocator>(line: &'a Line<A>) -> (&'a str, Option<&'a str>) {
-    let origin = match &line.origin {
+/// The target, the number of the origin's step, and the origin's path.
+fn shown<'a, A: Allocator>(line: &'a Line<A>) -> (&'a str, Option<usize>, Option<&'a str>) {
+    let (step, path) = match &line.origin {
         Origin::Source(path) => match path {
-            Some(path) => Some(path.as_str()),
-            None => None,
+            Some(path) => (None, Some(path.as_str())),
+            None => (None, None),
         },
+        Origin::Output(step, path) => (Some(*step), Some(path.as_str())),
     };
-    (line.target.as_str(), origin)
+    (line.target.as_str(), step, path)
 }
 
 #[test]
@@ -152,10 +180,69 @@ fn lines_in_order(rt: HostRuntime) -> Result<(), Fail> {
         rt.alloc(),
         b"buildplan 1\nroot\nin b src a%20c\nin a src .\n",
     )?;
-    let lines = plan.lines();
+    assert_eq!(rt; plan.steps().len(), 0);
+    let lines = plan.root();
     assert_eq!(rt; lines.len(), 2);
-    assert_eq!(rt; shown(&lines[0]), ("b", Some("a c")));
-    assert_eq!(rt; shown(&lines[1]), ("a", None));
+    assert_eq!(rt; shown(&lines[0]), ("b", None, Some("a c")));
+    assert_eq!(rt; shown(&lines[1]), ("a", None, None));
+    Ok(())
+}
+
+/// Two steps, of which one reads the other.
+const TWO_STEPS: &str =
+    "buildplan 1\nstep gen 0000000000000000000000000000000000000000000000000000000000000000/70\nstep use ffffffffffffffffffffffffffffffffffffffffffffffffffffffffffffffff/9223372036854775807\nin data/x out gen out/a\nroot\nin result out use res\n";
+
+#[test]
+fn steps_by_number(rt: HostRuntime) -> Result<(), Fail> {
+    let alloc = rt.alloc();
+    assert_eq!(rt; again(alloc, TWO_STEPS), Ok(true));
+    let plan = Plan::read(alloc, TWO_STEPS.as_bytes())?;
+    let steps = plan.steps();
+    assert_eq!(rt; steps.len(), 2);
+    let first = &steps[0];
+    assert_eq!(rt; first.name.as_str(), "gen");
+    assert_eq!(rt; first.frame.size(), 70);
+    assert_eq!(rt; first.lines.len(), 0);
+    let second = &steps[1];
+    assert_eq!(rt; second.name.as_bytes(), b"use".as_slice());
+    assert_eq!(rt; second.frame.hash(), [0xff; 32]);
+    assert_eq!(rt; second.lines.len(), 1);
+    assert_eq!(rt; shown(&second.lines[0]), ("data/x", Some(0), Some("out/a")));
+    assert_eq!(rt; plan.root().len(), 1);
+    assert_eq!(rt; shown(&plan.root()[0]), ("result", Some(1), Some("res")));
+    Ok(())
+}
+
+/// Texts, and whether they are names of steps.
+const NAMES: [(&str, bool); 8] = [
+    ("a", true),
+    ("root", true),
+    ("a-z_09", true),
+    (
+        "0123456789012345678901234567890123456789012345678901234567890123",
+        true,
+    ),
+    ("", false),
+    (
+        "01234567890123456789012345678901234567890123456789012345678901234",
+        false,
+    ),
+    ("a.b", false),
+    ("\u{e9}", false),
+];
+
+#[test]
+fn names_of_steps(rt: HostRuntime) -> Result<(), Fail> {
+    for (text, expected) in NAMES {
+        assert_eq!(rt; is_step_name(text.as_bytes()), expected, "{text:?}");
+        match StepName::new(rt.alloc(), text.as_bytes())? {
+            Some(name) => {
+                assert!(rt; expected, "{text:?}");
+                assert_eq!(rt; StepName::copy_of(rt.alloc(), &name)?.as_str(), text);
+            }
+            None => assert!(rt; !expected, "{text:?}"),
+        }
+    }
     Ok(())
 }
 
@@ -187,6 +274,26 @@ fn lines_up_to_the_limit(rt: HostRuntime) -> Result<(), Fail> {
 }
 
 #[test]
+fn steps_up_to_the_limit(rt: HostRuntime) -> Result<(), Fail> {
+    let alloc = rt.alloc();
+    let frame = "e3b0c44298fc1c149afbf4c8996fb92427ae41e4649b934ca495991b7852b855/0";
+    let mut text = String::from_str(alloc, "buildplan 1\n")?;
+    for number in 0..4096u64 {
+        let line = format!(in alloc; "step s{number} {frame}\n")?;
+        text.push_str(line.as_str())?;
+    }
+    let whole = format!(in alloc; "{text}root\nin x out s4095 y\n")?;
+    assert_eq!(rt; again(alloc, whole.as_str()), Ok(true));
+    let more = format!(in alloc; "{text}step t {frame}\n")?;
+    let refused = answer(Some((4098, Fault::TooMany)));
+    assert_eq!(rt; again(alloc, more.as_str()), refused);
+    let same = format!(in alloc; "{text}step s7 {frame}\n")?;
+    let refused = answer(Some((4098, Fault::SameStep)));
+    assert_eq!(rt; again(alloc, same.as_str()), refused);
+    Ok(())
+}
+
+#[test]
 fn each_request_for_memory_refused(rt: HostRuntime) {
     let mut refused = 0u64;
     for (text, expected) in PLANS {
@@ -201,5 +308,5 @@ fn each_request_for_memory_refused(rt: HostRuntime) {
             refused = refused.saturating_add(1);
         }
     }
-    assert!(rt; refused > 50, "{refused}");
+    assert!(rt; refused > 100, "{refused}");
 }

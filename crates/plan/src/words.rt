@@ -1,6 +1,10 @@
-ghost use Rattle.std.specs.Prelude.{◌≡◌, ◌↔◌, ◌∷◌, ◌++◌, IsTrue, Contains, MatchOption};
-ghost use Rattle.plan.specs.Line.{Begins, IsStepName, IsStepLine};
+ghost use Rattle.std.specs.Prelude.{◌≡◌, ◌∷◌, ◌++◌, List, ℕ, Contains, MatchOption};
+ghost use Rattle.blob_digest.specs.Digest.{DigestValue, IsDigest};
+ghost use Rattle.plan.specs.Faults.{BeginsWithLine};
+ghost use Rattle.plan.specs.Line.{Begins, IsStepName, line_text, step_words};
+ghost use Rattle.plan.specs.Lines.{step_line};
 
+use crate::step::is_step_name;
 use blob_digest::Digest;
 
 /// What stands behind these bytes at the front.
@@ -19,25 +23,45 @@ pub(crate) fn split_once(text: &[u8], byte: u8) -> Option<(&[u8], &[u8])>
     Some((front, &rest[1..]))
 }
 
-fn is_step_name(name: &[u8]) -> bool
-    ensures { IsTrue result ↔ IsStepName name.now }
+/// The name and the digest of the words `step NAME HASH/SIZE`.
+fn read_step_words(words: &[u8]) -> Option<(&[u8], Digest)>
+    ensures { MatchOption result
+        ((name : List ℕ) (digest : DigestValue) → IsStepName name → IsDigest digest → ¬ (words.now ≡ step_words name digest))
+        (λ r. IsStepName r.0.now × IsDigest r.1 × (words.now ≡ step_words r.0.now r.1)) }
 {
-    !name.is_empty()
-        && name.len() <= 64
-        && name
-            .iter()
-            .all(|b| matches!(*b, b'a'..=b'z' | b'0'..=b'9' | b'_' | b'-'))
+    let rest = strip(words, b"step ")?;
+    let (name, digest) = split_once(rest, b' ')?;
+    if !is_step_name(name) {
+        return None;
+    }
+    match Digest::read_text(digest) {
+        Ok(digest) => Some((name, digest)),
+        Err(_) => None,
+    }
 }
 
-/// Whether the line is `step NAME HASH/SIZE`.
-pub(crate) fn is_step_line(line: &[u8]) -> bool
-    ensures { IsTrue result ↔ IsStepLine line.now }
+/// The line `step NAME HASH/SIZE` that a text begins with.
+#[derive(Clone, Copy)]
+pub(crate) struct StepLine<'a> {
+    pub(crate) name: &'a [u8],
+    pub(crate) digest: Digest,
+    /// The text behind the line.
+    pub(crate) behind: &'a [u8],
+}
+
+/// The line `step NAME HASH/SIZE` that the text begins with. `None` where it begins with none.
+pub(crate) fn first_step(text: &[u8]) -> Option<StepLine<'_>>
+    ensures { MatchOption result
+        ((name : List ℕ) (digest : DigestValue) → ¬ BeginsWithLine (step_line name digest) text.now)
+        (λ r. IsStepName r.name.now × IsDigest r.digest × (text.now ≡ line_text (step_words r.name.now r.digest) ++ r.behind.now)) }
 {
-    let Some(words) = strip(line, b"step ") else {
-        return false;
-    };
-    let Some((name, digest)) = split_once(words, b' ') else {
-        return false;
-    };
-    is_step_name(name) && Digest::read_text(digest).is_ok()
+    let (words, behind) = split_once(text, b'\n')?;
+    match read_step_words(words) {
+        Some((name, digest)) => Some(StepLine {
+            name,
+            digest,
+            behind,
+        }),
+        None => None,
+    }
 }

@@ -69,7 +69,7 @@ with_same n m (File d e) D h = pick_file (is_same m n) (record { name = m; diges
 with_same n m (Link t) D h = pick_link (is_same m n) (record { name = m; target = t }) (find (λ f. is_same f.name n) D.files) (find (λ f. is_same f.name n) D.directories) (find (λ f. is_same f.name n) D.symlinks) h
 with_same n m (Dir d) D h = pick_dir (is_same m n) (record { name = m; digest = d }) (find (λ f. is_same f.name n) D.files) (find (λ f. is_same f.name n) D.directories) (find (λ f. is_same f.name n) D.symlinks) h
 
-child-with_child : (n m : Name) (x : NodeValue) (D : DirectoryValue) → (eq_by_cmp name_cmp n m ≡ true → child {A = Unit {0}} n D ≡ None) → child n (with_child m x D) ≡ cond (eq_by_cmp name_cmp n m) (Some x) (child n D)
+pub child-with_child : (n m : Name) (x : NodeValue) (D : DirectoryValue) → (eq_by_cmp name_cmp n m ≡ true → child {A = Unit {0}} n D ≡ None) → child n (with_child m x D) ≡ cond (eq_by_cmp name_cmp n m) (Some x) (child n D)
 child-with_child n m x D h = with_same n m x D (λ e. h (sym (same_test n m) ∙ e)) ∙ ap (λ b. cond b (Some x) (child n D)) (same_test n m)
 
 is_eq-Equal : (o : Ordering) → is_eq o ≡ true → o ≡ Equal
@@ -78,14 +78,14 @@ is_eq-Equal Equal e = refl
 is_eq-Equal Greater e = cc
 
 -- names that compare alike are one
-same_name : (n m : Name) → eq_by_cmp name_cmp n m ≡ true → n ≡ m
+pub same_name : (n m : Name) → eq_by_cmp name_cmp n m ≡ true → n ≡ m
 same_name n m e = name_same n m (is_eq-Equal (name_cmp n m) e)
 
 absent : (n m : Name) (x : NodeValue) (D : DirectoryValue) → name_cmp n m ≡ Less → child {A = Unit {0}} n D ≡ None → child {A = Unit {0}} n (with_child m x D) ≡ None
 absent n m x D h e = child-with_child n m x D (λ _. e) ∙ ap (λ b. cond b (Some x) (child n D)) (ap is_eq h) ∙ e
 
 -- a name below all names has no child
-child-below : (n : Name) (t : Tree NodeValue) → IsBelowAll n t → child {A = Unit {0}} n (directory_of t) ≡ None
+pub child-below : (n : Name) (t : Tree NodeValue) → IsBelowAll n t → child {A = Unit {0}} n (directory_of t) ≡ None
 child-below n empty h = refl
 child-below n (leaf m x rest) h = absent n m x (directory_of rest) h.0 (child-below n rest h.1)
 child-below n (folder m below rest) h = absent n m (Dir (root below)) (directory_of rest) h.0 (child-below n rest h.1)

@@ -3,7 +3,7 @@ mod Digests
 mod TreeLemmas
 mod SameTree
 mod SameMap
-mod OrderLemmas
+pub mod OrderLemmas
 mod GraftLaws
 mod GraftOrder
 mod GraftMap
@@ -21,3 +21,16 @@ pub mod VisitSteps
 pub mod Distinct
 pub mod SortedInsert
 pub mod Apart
+pub mod Listings
+pub mod FlatTrees
+pub mod FoldSteps
+pub mod ChildOrder
+pub mod UnfoldSteps
+pub mod ByPath
+pub mod LawfulTrees
+pub mod OwnDirectories
+pub mod FirstNames
+pub mod DifferenceSteps
+pub mod DifferenceOnce
+pub mod Visits
+pub mod TreeBlobs

@@ -10,7 +10,7 @@ use Rattle.messages.specs.Node.{child}
 use Rattle.tree.specs.Tree.{Name, name_cmp, Tree, empty, leaf, folder, Entry, single, whole, entry_of, below_entry, Leaf, file, link}
 use Rattle.tree.specs.Form.{NodeValue, form, directory_of, top, root, entry_node, IsContent, IsBlobBelow, IsBlobOf}
 use Rattle.tree.specs.Source.{Blobs, IsUnder}
-use Rattle.tree.specs.Told.{TellsDirectory, FailsDirectory}
+use Rattle.tree.specs.Told.{Fault, TellsDirectory, FailsDirectory}
 use Rattle.tree.specs.Lookup.{Looked, nothing, LooksFrom, Looks, IsValue, AgreesWith, TellsOfTrees}
 use Rattle.tree.proofs.OrderLemmas.{IsOrderedAt, entry_ordered}
 use Rattle.tree.proofs.Children.{child-directory_of}
@@ -52,25 +52,35 @@ none_below (n ∷ p) = refl
 tells_nothing : (o : Option NodeValue) (r : Looked) → o ≡ None → r ≡ nothing → AgreesWith o r
 tells_nothing o r h e = rw e h
 
+-- Directories are read so that the one under the digest of a tree is the tree's own.
+abbrev pub ReadsTrees : (List ℕ → Type 0) → (DigestValue → DirectoryValue → Type 0) → Type 0
+ReadsTrees S Reads = (t : Tree Leaf) (m : DirectoryValue) → S (top (form t)) → Reads (root (form t)) m → m ≡ directory_of (form t)
+
 -- a look-up from the form of an entry tells what stands below that entry
-looks_from : (B : Blobs) (S : List ℕ → Type 0) → ((b : List ℕ) → IsValue B b → S b) → NoClash S
+pub looks_from : (Reads : DigestValue → DirectoryValue → Type 0) (Fails : DigestValue → Fault → Type 0) (S : List ℕ → Type 0) → ReadsTrees S Reads
     → (p : List Name) (o : Option (Entry Leaf)) (r : Looked) → IsOrderedAt o → ((b : List ℕ) → IsBlobOfEntry o b → S b)
-    → LooksFrom (TellsDirectory B) (FailsDirectory B) p (option_map entry_node o) r → AgreesWith (option_map entry_node (below_entry p o)) r
-looks_from B S values apart p None r ordered own h = tells_nothing _ r (ap (option_map entry_node) (none_below p)) h
-looks_from B S values apart [] (Some (single (file c x))) r ordered own h = rw h refl
-looks_from B S values apart [] (Some (single (link t))) r ordered own h = rw h refl
-looks_from B S values apart [] (Some (whole t)) r ordered own h = rw h refl
-looks_from B S values apart (n ∷ p) (Some (single (file c x))) r ordered own h = rw h refl
-looks_from B S values apart (n ∷ p) (Some (single (link t))) r ordered own h = rw h refl
-looks_from B S values apart (n ∷ p) (Some (whole t)) r ordered own (inr h) = rw h.2 tt
-looks_from B S values apart (n ∷ p) (Some (whole t)) r ordered own (inl h) =
-    let same = told_root B t S h.0 values (own (top (form t)) (inl refl)) apart h.1 in
-    let rest : LooksFrom (TellsDirectory B) (FailsDirectory B) p (option_map entry_node (entry_of n t)) r = subst (λ o. LooksFrom (TellsDirectory B) (FailsDirectory B) p o r) (ap (child n) same ∙ child-directory_of n t ordered) h.2 in
-    looks_from B S values apart p (entry_of n t) r (entry_ordered n t ordered) (λ b q. own b (inr (entry_blobs n t b q))) rest
+    → LooksFrom Reads Fails p (option_map entry_node o) r → AgreesWith (option_map entry_node (below_entry p o)) r
+looks_from Reads Fails S reads p None r ordered own h = tells_nothing _ r (ap (option_map entry_node) (none_below p)) h
+looks_from Reads Fails S reads [] (Some (single (file c x))) r ordered own h = rw h refl
+looks_from Reads Fails S reads [] (Some (single (link t))) r ordered own h = rw h refl
+looks_from Reads Fails S reads [] (Some (whole t)) r ordered own h = rw h refl
+looks_from Reads Fails S reads (n ∷ p) (Some (single (file c x))) r ordered own h = rw h refl
+looks_from Reads Fails S reads (n ∷ p) (Some (single (link t))) r ordered own h = rw h refl
+looks_from Reads Fails S reads (n ∷ p) (Some (whole t)) r ordered own (inr h) = rw h.2 tt
+looks_from Reads Fails S reads (n ∷ p) (Some (whole t)) r ordered own (inl h) =
+    let same = reads t h.0 (own (top (form t)) (inl refl)) h.1 in
+    let rest : LooksFrom Reads Fails p (option_map entry_node (entry_of n t)) r = subst (λ o. LooksFrom Reads Fails p o r) (ap (child n) same ∙ child-directory_of n t ordered) h.2 in
+    looks_from Reads Fails S reads p (entry_of n t) r (entry_ordered n t ordered) (λ b q. own b (inr (entry_blobs n t b q))) rest
+
+-- what a source tells is read so
+pub told_reads : (B : Blobs) (S : List ℕ → Type 0) → ((b : List ℕ) → IsValue B b → S b) → NoClash S → ReadsTrees S (TellsDirectory B)
+told_reads B S values apart t m own told = told_root B t S m values own apart told
 
 -- a look-up from a tree's root tells what the tree has
 pub looks_tell : (B : Blobs) (d : DigestValue) (p : List Name) (r : Looked) → Looks B d p r → TellsOfTrees B d p r
 looks_tell B d p r h = record {
   of_tree = λ t ordered is apart.
-      looks_from B (λ b. IsValue B b ⊎ IsBlobOf t b) (λ b q. inl q) apart p (Some (whole t)) r ordered (λ b q. inr q) (subst (λ e. LooksFrom (TellsDirectory B) (FailsDirectory B) p (Some (Dir e)) r) (sym is) h);
+      let S : List ℕ → Type 0 = λ b. IsValue B b ⊎ IsBlobOf t b in
+      looks_from (TellsDirectory B) (FailsDirectory B) S (told_reads B S (λ b q. inl q) apart) p (Some (whole t)) r ordered (λ b q. inr q)
+      (subst (λ e. LooksFrom (TellsDirectory B) (FailsDirectory B) p (Some (Dir e)) r) (sym is) h);
 }

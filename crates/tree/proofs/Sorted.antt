@@ -6,10 +6,10 @@ use Rattle.std.specs.Cmp.Lexicographic.{pointwise, bytes_decides}
 use Rattle.std.specs.Ordering.{ordering_then}
 use Rattle.std.specs.declared.cmp.Ordering.{Ordering}
 use Rattle.std.specs.declared.cmp.Ordering.TheVariants.{Less, Equal, Greater}
-use Rattle.tree.specs.Tree.{Name, name_cmp, leaf, folder, IsBelowAll}
+use Rattle.tree.specs.Tree.{Name, path_cmp, name_cmp, leaf, folder, IsBelowAll}
 use Rattle.tree.specs.Graft.{put, graft}
 use Rattle.tree.specs.Visiting.{Apart, HaveApart}
-use Rattle.tree.specs.Visiting.{path_cmp, Ascend, first_under, led, total}
+use Rattle.tree.specs.Visiting.{Ascend, first_under, led, total}
 use Rattle.tree.proofs.TreeLemmas.{name_itself, name_same, name_trans, below-put}
 use Rattle.tree.proofs.GraftOrder.{under, graft-leaf, graft-under}
 
@@ -71,7 +71,7 @@ module _ {X : Type 0} where
 
   -- ---- the lines of one first name
 
-  led_step : (n : Name) (p : List Name) (x : X) (rest : List (List Name × X)) → first_under n (n ∷ p) x rest ≡ (p, x) ∷ rest
+  pub led_step : (n : Name) (p : List Name) (x : X) (rest : List (List Name × X)) → first_under n (n ∷ p) x rest ≡ (p, x) ∷ rest
   led_step n p x rest = ap (λ b. cond b ((p, x) ∷ rest) []) ((bytes_decides n n).1 refl)
 
   -- what holds of all lines of that name

@@ -10,16 +10,16 @@ use Rattle.std.specs.FinMap.{slice_cmp-IsAntisymmetric, nat_cmp-IsAntisymmetric}
 use Rattle.std.specs.Map.{keys_of}
 use Rattle.std.specs.BTreeMap.{insert_entry}
 use Rattle.messages.specs.declared.node.Node.{Node}
-use Rattle.tree.specs.Tree.{Name}
+use Rattle.tree.specs.Tree.{Name, path_cmp}
 use Rattle.tree.specs.Form.{NodeValue, node_value}
 use Rattle.tree.specs.Graft.{put, graft}
 use Rattle.tree.specs.Visiting.{Apart, HaveApart}
 use Rattle.tree.specs.Lines.{lines_of}
-use Rattle.tree.specs.Visiting.{path_cmp, Ascend, entry_lines}
+use Rattle.tree.specs.Visiting.{Ascend, entry_lines}
 use Rattle.tree.proofs.TreeLemmas.{ordered-graft}
 use Rattle.tree.proofs.GraftOrder.{put-put}
 
-path_same : (p q : List Name) → path_cmp p q ≡ Equal → p ≡ q
+pub path_same : (p q : List Name) → path_cmp p q ≡ Equal → p ≡ q
 path_same p q e = slice_cmp-IsAntisymmetric (slice_cmp-IsAntisymmetric nat_cmp-IsAntisymmetric) p q e
 
 not_itself : (p : List Name) → Apart p p → ⊥

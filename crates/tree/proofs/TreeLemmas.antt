@@ -17,7 +17,7 @@ name_itself n = tied_itself nat_list_cmp_total n
 pub name_same : (n m : Name) → name_cmp n m ≡ Equal → n ≡ m
 name_same n m e = slice_cmp-IsAntisymmetric nat_cmp-IsAntisymmetric n m e
 
-name_greater : (n m : Name) → name_cmp n m ≡ Greater → name_cmp m n ≡ Less
+pub name_greater : (n m : Name) → name_cmp n m ≡ Greater → name_cmp m n ≡ Less
 name_greater n m e = nat_list_cmp_total.antisymm m n ∙ ap ordering_reverse e
 
 pub name_trans : (n m k : Name) → name_cmp n m ≡ Less → name_cmp m k ≡ Less → name_cmp n k ≡ Less

@@ -1,7 +1,8 @@
 -- One child more of a directory that is being made.
-use Rattle.std.proofs.Common.{◌≡◌, ℕ, zero, suc, ◌+◌, ◌-◌, ◌<◌, ◌≤◌, List, [], ◌∷◌, ◌++◌, refl, ap, sym, ◌∙◌, subst, arith, append_assoc, length, take, drop, map, get_or, drop-cons}
+use Rattle.std.proofs.Common.{◌≡◌, ℕ, zero, suc, ◌+◌, ◌-◌, ◌<◌, ◌≤◌, List, [], ◌∷◌, ◌++◌, refl, ap, sym, ◌∙◌, subst, arith, Bool, true, false, cond, append_assoc, length, take, drop, map, get_or, drop-cons}
 use Rattle.std.proofs.lemmas.List.{drop-map, drop-drop, take_all, length-drop}
-use Rattle.std.specs.Prelude.{Result, Ok, Err, IfOk}
+use Rattle.std.specs.Prelude.{Result, Ok, Err, IfOk, nat_eq}
+use Rattle.std.specs.Cmp.Lexicographic.{pointwise}
 use Rattle.blob_digest.specs.Digest.{DigestValue, digest_of}
 use Rattle.messages.specs.declared.node.Node.TheVariants.{File, Link, Dir}
 use Rattle.messages.specs.DirectoryRules.{DirectoryValue}
@@ -13,36 +14,37 @@ use Rattle.canonical.specs.Fields.{element_fields}
 use Rattle.wire.specs.Spelling.{spelling}
 use Rattle.messages.specs.Directory.{directory_bytes}
 use Rattle.tree.specs.Tree.{Name, Tree}
+use Rattle.messages.specs.declared.node.Node.{Node}
 use Rattle.tree.specs.Form.{NodeValue, no_children, with_child, directory_of, root}
 use Rattle.tree.specs.Folded.{tops_below, visited}
 use Rattle.tree.specs.Graft.{graft}
 use Rattle.tree.specs.Visiting.{HaveApart}
-use Rattle.tree.specs.declared.grafting.Line.{Line}
-use Rattle.tree.specs.declared.grafting.Visited.{Visited}
-use Rattle.tree.specs.Visiting.{Ascend, led, total, items_of, line_values, joined, IsVisitOf}
+use Rattle.tree.specs.declared.visiting.Line.{Line}
+use Rattle.tree.specs.declared.visiting.Visited.{Visited}
+use Rattle.tree.specs.Visiting.{Ascend, first_under, led, total, items_of, lines_seen, line_values, joined, IsVisitOf}
 use Rattle.tree.proofs.Sorted.{step_leaf, step_under, total_under, total_drop, length_led}
 
 -- ---- children behind children
 
-none_after : {A : Type 0} (xs : List A) → xs ++ [] ≡ xs
+pub none_after : {A : Type 0} (xs : List A) → xs ++ [] ≡ xs
 none_after [] = refl
 none_after (x ∷ xs) = ap (λ ys. x ∷ ys) (none_after xs)
 
-joined_assoc : (a b c : DirectoryValue) → joined (joined a b) c ≡ joined a (joined b c)
+pub joined_assoc : (a b c : DirectoryValue) → joined (joined a b) c ≡ joined a (joined b c)
 joined_assoc a b c =
     let files = append_assoc a.files b.files c.files in
     let directories = append_assoc a.directories b.directories c.directories in
     let symlinks = append_assoc a.symlinks b.symlinks c.symlinks in
     λ i. record { files = files i; directories = directories i; symlinks = symlinks i }
 
-joined_none : (a : DirectoryValue) → joined a no_children ≡ a
+pub joined_none : (a : DirectoryValue) → joined a no_children ≡ a
 joined_none a =
     let files = none_after a.files in
     let directories = none_after a.directories in
     let symlinks = none_after a.symlinks in
     λ i. record { files = files i; directories = directories i; symlinks = symlinks i }
 
-child_joined : (n : Name) (x : NodeValue) (m : DirectoryValue) → joined (with_child n x no_children) m ≡ with_child n x m
+pub child_joined : (n : Name) (x : NodeValue) (m : DirectoryValue) → joined (with_child n x no_children) m ≡ with_child n x m
 child_joined n (File d e) m = refl
 child_joined n (Link t) m = refl
 child_joined n (Dir d) m = refl
@@ -161,6 +163,35 @@ makes_same {made} {other} {tops} {others} {rest} {all} d e h = subst (λ m. Make
 pub rest_of : {A : Type 0} (k : ℕ) (xs : List A) → take (length xs - k) (drop k xs) ≡ drop k xs
 rest_of k xs = take_all (length xs - k) (drop k xs) (let len = length-drop k xs in omega (arith, len))
 
+-- lines of one name, with what stands at them seen otherwise
+module _ {X Y : Type 0} (f : X → Y) where
+  abbrev pub seen_by : List (List Name × X) → List (List Name × Y)
+  seen_by ls = map (λ l. (l.0, f l.1)) ls
+
+  pub led_seen : (n : Name) (ls : List (List Name × X)) → led n (seen_by ls) ≡ seen_by (led n ls)
+  led_seen n [] = refl
+  led_seen n (l ∷ ls) = at l.0 (led_seen n ls)
+    where
+      at : (p : List Name) → led n (seen_by ls) ≡ seen_by (led n ls) → first_under n p (f l.1) (led n (seen_by ls)) ≡ seen_by (first_under n p l.1 (led n ls))
+      at [] ih = refl
+      at (m ∷ p) ih = by (pointwise nat_eq m n)
+        where
+          by : (b : Bool) → cond b ((p, f l.1) ∷ led n (seen_by ls)) [] ≡ seen_by (cond b ((p, l.1) ∷ led n ls) [])
+          by true = ap (λ r. (p, f l.1) ∷ r) ih
+          by false = refl
+
+module _ {A T X : Type 0} (f : T → X) where
+  -- lines, with what stands at them seen so
+  abbrev pub seen_as : List (Line A T) → List (List Name × X)
+  seen_as lines = map (λ l. (l.names.now, f l.item.now)) lines
+
+  values_seen : (lines : List (Line A T)) → seen_as lines ≡ seen_by f (lines_seen lines)
+  values_seen [] = refl
+  values_seen (l ∷ lines) = ap (λ r. (l.names.now, f l.item.now) ∷ r) (values_seen lines)
+
+  pub led_values : (n : Name) (under lines : List (Line A T)) → lines_seen under ≡ led n (lines_seen lines) → seen_as under ≡ led n (seen_as lines)
+  led_values n under lines h = values_seen under ∙ ap (seen_by f) h ∙ sym (led_seen f n (lines_seen lines)) ∙ ap (led n) (sym (values_seen lines))
+
 -- no line is without names
 pub no_line : {A B : Type 0} (f : A → List Name × B) (k : ℕ) (xs : List A) (d : A) (names : List Name) → k < length xs → d ≡ get_or xs k d → (f d).0 ≡ names → length names ≡ 0 → HaveApart (drop k (map f xs)) → ⊥
 no_line f k xs d [] lt is seen none apart = (subst HaveApart (drop_line f k xs d lt ∙ ap (λ a. f a ∷ drop (k + 1) (map f xs)) (sym is)) apart).0 seen
@@ -172,7 +203,7 @@ pub visit_of : {A E : Type 0} (r : Result (Visited A) E) (t : Tree NodeValue) (m
 visit_of (Ok v) t made tops m e h k = record { root = h ∙ ap (λ d. digest_of (directory_bytes d)) m; encodings = k ∙ ap (λ d. directory_bytes d ∷ tops) m ∙ ap (λ q. directory_bytes (directory_of t) ∷ q) e }
 visit_of (Err e) t made tops m q h k = tt
 
-pub values_length : {A : Type 0} (lines : List (Line A)) → length (line_values lines) ≡ length lines
+pub values_length : {A : Type 0} (lines : List (Line A (Node A))) → length (line_values lines) ≡ length lines
 values_length [] = refl
 values_length (l ∷ lines) = ap suc (values_length lines)
 

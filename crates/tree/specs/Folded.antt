@@ -2,8 +2,12 @@
 use Rattle.std.specs.Prelude.{◌≡◌, ℕ, bytes_eq, List, [], ◌∷◌, ◌++◌, map, if◌then◌else◌}
 use Rattle.std.specs.List.{list_any}
 use Rattle.std.specs.declared.vec.Vec.{Vec}
+use Rattle.blob_digest.specs.DigestValue.{IsDigest}
+use Rattle.messages.specs.declared.node.Node.TheVariants.{File, Link, Dir}
+use Rattle.messages.specs.Name.{IsName}
+use Rattle.messages.specs.Target.{IsTarget}
 use Rattle.tree.specs.declared.folding.Folded.{Folded}
-use Rattle.tree.specs.Tree.{Tree, empty, leaf, folder}
+use Rattle.tree.specs.Tree.{Tree, empty, leaf, folder, IsOrdered}
 use Rattle.tree.specs.Form.{NodeValue, top, root}
 
 -- The encodings in the order of a visit: a directory before what is below it, names in order, each
@@ -28,3 +32,23 @@ first_visits t = unseen [] (visited t)
 pub record IsFoldOf {A : Type 0} (t : Tree NodeValue) (f : Folded A) : Type 0 where
   pub root : f.root ≡ root t
   pub directories : map (λ (v : Vec ℕ A). v.items) f.directories.items ≡ first_visits t
+
+-- ---- trees whose Directories are lawful
+
+abbrev pub IsNode : NodeValue → Type 0
+IsNode (File d executable) = IsDigest d
+IsNode (Link target) = IsTarget target
+IsNode (Dir d) = IsDigest d
+
+-- every name is one, and every leaf is a lawful node
+abbrev pub AreLawful : Tree NodeValue → Type 0
+AreLawful empty = Unit {0}
+AreLawful (leaf n x rest) = (IsName n × IsNode x) × AreLawful rest
+AreLawful (folder n below rest) = (IsName n × AreLawful below) × AreLawful rest
+
+-- the fold of a tree whose Directories are lawful
+pub record IsFoldOfLawful {A : Type 0} (f : Folded A) : Type 0 where
+  pub tree : Tree NodeValue
+  pub ordered : IsOrdered tree
+  pub lawful : AreLawful tree
+  pub fold : IsFoldOf tree f

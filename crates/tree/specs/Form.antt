@@ -74,3 +74,8 @@ IsBlobBelow (folder n below rest) b = ((b ≡ top (form below)) ⊎ IsBlobBelow 
 
 abbrev pub IsBlobOf : Tree Leaf → List ℕ → Type 0
 IsBlobOf t b = (b ≡ top (form t)) ⊎ IsBlobBelow t b
+
+-- the blob of what stands at one path: a file's content, or a directory's Directory
+abbrev pub IsBlobAt : Entry Leaf → List ℕ → Type 0
+IsBlobAt (single x) b = IsContent x b
+IsBlobAt (whole t) b = b ≡ top (form t)

@@ -10,3 +10,8 @@ pub mod TreeError
 pub mod Folded
 pub mod Lines
 pub mod Visiting
+pub mod FlatTree
+pub mod Unfolded
+pub mod Unfolding
+pub mod Difference
+pub mod Comparing

@@ -57,6 +57,11 @@ pub record Asks (most : ℕ) (old new : Telling) : Type 0 where
   pub risen : old.calls ≤ new.calls
   pub most_calls : new.calls ≤ old.calls + most
 
+-- some calls, one after another
+pub record AsksSome (old new : Telling) : Type 0 where
+  pub most : ℕ
+  pub asks : Asks most old new
+
 -- the bytes of an answer
 abbrev pub bytes_of : {A : Type 0} → Option (Vec ℕ A) → Option (List ℕ)
 bytes_of None = None

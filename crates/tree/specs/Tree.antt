@@ -3,6 +3,7 @@ use Rattle.std.specs.Prelude.{◌≡◌, ℕ, Bool, List, [], ◌∷◌, Option,
 use Rattle.std.specs.declared.cmp.Ordering.{Ordering}
 use Rattle.std.specs.declared.cmp.Ordering.TheVariants.{Less}
 use Rattle.std.specs.Ordering.{eq_by_cmp}
+use Rattle.std.specs.Cmp.Lexicographic.{slice_cmp}
 use Rattle.messages.specs.Order.{bytes_cmp}
 
 -- a name, as its bytes
@@ -12,6 +13,10 @@ Name = List ℕ
 -- the order of names, by their bytes
 abbrev pub name_cmp : Name → Name → Ordering
 name_cmp = bytes_cmp
+
+-- the order of paths, name by name: a directory before what is below it
+abbrev pub path_cmp : List Name → List Name → Ordering
+path_cmp = slice_cmp name_cmp
 
 -- A directory, entry by entry in the order of names. An entry is a leaf or a directory below it; `rest` are the entries after it.
 pub data Tree (L : Type 0) : Type 0 where

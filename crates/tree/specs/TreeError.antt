@@ -4,6 +4,8 @@ use Rattle.blob_digest.specs.Digest.{DigestValue}
 use Rattle.tree.specs.declared.source.FetchError.{FetchError}
 use Rattle.tree.specs.declared.source.FetchError.TheVariants as fetching
 use Rattle.tree.specs.declared.error.TreeError.{TreeError}
+use Rattle.tree.specs.declared.error.AddError.{AddError}
+use Rattle.tree.specs.declared.error.AddError.TheVariants as adding
 use Rattle.tree.specs.declared.error.TreeError.TheVariants.{Absent, BlobMissing, BlobWrong, BlobMalformed, TooDeep, Fetch, Memory}
 use Rattle.tree.specs.Tree.{Name}
 use Rattle.tree.specs.Source.{Blobs}
@@ -43,3 +45,8 @@ IsAbsent (BlobMalformed e) = ⊥
 IsAbsent (TooDeep path) = ⊥
 IsAbsent Fetch = ⊥
 IsAbsent Memory = ⊥
+
+-- Why nothing was added at a path: it is taken, unless memory ran out.
+abbrev pub IsOverlapAt : {A : Type 0} → AddError A → List Name → Type 0 → Type 0
+IsOverlapAt (adding.Overlap path) p Taken = (path ≡ p) × Taken
+IsOverlapAt adding.Memory p Taken = Unit {0}

@@ -1,4 +1,5 @@
 ghost use Rattle.std.specs.Prelude.{◌≡◌};
+ghost use Rattle.tree.specs.declared.error.AddError.TheVariants as adding;
 ghost use Rattle.tree.specs.declared.error.TreeError.TheVariants as errors;
 ghost use Rattle.tree.specs.TreeError.{of_fetch};
 
@@ -6,24 +7,32 @@ use crate::source::FetchError;
 use blob_digest::Digest;
 use messages::Path;
 use std::alloc::{AllocError, AllocFailed, Allocator};
+use thiserror::Error;
 
 /// Why a tree can't be read.
-#[derive(Drop)]
+#[derive(Drop, Error)]
 #[derive_where(Debug)]
 pub enum TreeError<A: Allocator> {
     /// Refusal 41: nothing stands at the path.
+    #[error("nothing stands at the path")]
     Absent(Path<A>),
     /// Refusal 42: the source has no blob with the digest.
+    #[error("the source has no blob with the digest")]
     BlobMissing(Digest),
     /// Refusal 43: what the source has under the digest has another hash or length.
+    #[error("what the source has under the digest has another hash or length")]
     BlobWrong(Digest),
     /// Refusal 44: the blob with the digest is no message of the kind that was asked for.
+    #[error("the blob with the digest is no message of the kind")]
     BlobMalformed(Digest),
     /// Refusal 46: at the path, of 64 names, stands a directory that isn't empty.
+    #[error("a directory at a path of 64 names isn't empty")]
     TooDeep(Path<A>),
     /// The source failed.
+    #[error("the blob source failed")]
     Fetch,
     /// No memory was left.
+    #[error("out of memory")]
     Memory,
 }
 
@@ -51,5 +60,33 @@ impl<A: Allocator, T: Drop> From<AllocFailed<T>> for TreeError<A> {
 
     fn from(_e: AllocFailed<T>) -> TreeError<A> {
         TreeError::Memory
+    }
+}
+
+/// Why nothing can be added at a path.
+#[derive(Drop, Error)]
+#[derive_where(Debug)]
+pub enum AddError<A: Allocator> {
+    /// Refusal 45: what is there already leaves no room for this path.
+    #[error("what is there leaves no room for the path")]
+    Overlap(Path<A>),
+    /// No memory was left.
+    #[error("out of memory")]
+    Memory,
+}
+
+impl<A: Allocator> From<AllocError> for AddError<A> {
+    ghost from_gives = { λ _ e. e ≡ adding.Memory };
+
+    fn from(_e: AllocError) -> AddError<A> {
+        AddError::Memory
+    }
+}
+
+impl<A: Allocator, T: Drop> From<AllocFailed<T>> for AddError<A> {
+    ghost from_gives = { λ _ e. e ≡ adding.Memory };
+
+    fn from(_e: AllocFailed<T>) -> AddError<A> {
+        AddError::Memory
     }
 }

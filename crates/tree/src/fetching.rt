@@ -1,6 +1,6 @@
 ghost use Rattle.std.specs.Prelude.{◌≡◌, ◌<◌, IfOk, IfErr, IsErrOf};
 ghost use Rattle.blob_digest.specs.Digest.{empty_digest};
-ghost use Rattle.tree.specs.Source.{Asks};
+ghost use Rattle.tree.specs.Source.{Asks, GrowsAt};
 ghost use Rattle.tree.specs.Fetched.{Fetches};
 ghost use Rattle.tree.specs.Told.{IsTold, IsFault};
 ghost use Rattle.tree.specs.TreeError.{Explains};
@@ -23,7 +23,7 @@ pub enum Fetched<A: Allocator> {
 }
 
 /// Fetches a blob and hashes it. The empty blob is always there, and isn't asked for.
-#[tactic(auto, using(crate::proofs::Asking::asks_blob, crate::proofs::Asking::asks_none))]
+#[tactic(auto, using(crate::proofs::Asking::asks_blob, crate::proofs::Asking::asks_none, crate::proofs::Asking::grows_none))]
 pub fn fetch_blob<A: Allocator + Copy, S: BlobSource<A>>(
     alloc: A,
     source: &mut S,
@@ -31,6 +31,7 @@ pub fn fetch_blob<A: Allocator + Copy, S: BlobSource<A>>(
 ) -> Result<Fetched<A>, FetchError>
     ensures told { IfOk result (λ fetched. Fetches (S.tells source.new).blobs digest.now fetched) }
     ensures asked { Asks 1 (S.tells source.old) (S.tells source.new) }
+    ensures only { GrowsAt digest.now (S.tells source.old).blobs (S.tells source.new).blobs }
     ensures unasked { digest.now ≡ empty_digest → S.tells source.new ≡ S.tells source.old }
     ensures failed { IsErrOf result FetchError.Failed → (S.tells source.old).failures < (S.tells source.new).failures }
 {
@@ -58,6 +59,7 @@ pub fn fetch_message<A: Allocator + Copy, S: BlobSource<A>, M: Message<A>>(
     ensures told { IfOk result (λ m. IsTold M.keeps M.spells (S.tells source.new).blobs digest.now m) }
     ensures faulty { IfErr result (λ e. Explains (IsFault M.keeps M.spells (S.tells source.new).blobs digest.now) e) }
     ensures asked { Asks 1 (S.tells source.old) (S.tells source.new) }
+    ensures only { GrowsAt digest.now (S.tells source.old).blobs (S.tells source.new).blobs }
     ensures unasked { digest.now ≡ empty_digest → S.tells source.new ≡ S.tells source.old }
     ensures failed { IsErrOf result TreeError.Fetch → (S.tells source.old).failures < (S.tells source.new).failures }
 {

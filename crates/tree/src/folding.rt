@@ -1,7 +1,12 @@
 ghost use Rattle.std.specs.Prelude.{◌≡◌, [], IfOk};
+ghost use Rattle.tree.specs.FlatTree.{IsListOf, IsFoldOfList};
 ghost use Rattle.tree.specs.Folded.{unseen};
-ghost use Rattle.tree.specs.Visiting.{items_of};
+ghost use Rattle.tree.specs.Form.{NodeValue};
+ghost use Rattle.tree.specs.Tree.{Tree};
+ghost use Rattle.tree.specs.Visiting.{items_of, line_entries, IsVisitOf};
 
+use crate::flat_tree::{FlatEntry, FlatTree};
+use crate::visiting::{Children, Line, Visited, lines_under};
 use blob_digest::Digest;
 use indexmap::IndexSet;
 use std::alloc::{AllocError, Allocator};
@@ -46,4 +51,50 @@ pub(crate) fn each_once<A: Allocator + Copy>(
         directories.push(encoding)?;
     }
     Ok(directories)
+}
+
+/// The Directories of the tree whose list the entries are.
+fn visit_entries<A: Allocator + Copy>(
+    alloc: A,
+    entries: &[Line<'_, A, FlatEntry<A>>],
+) -> Result<Visited<A>, AllocError>
+    requires { (t : Tree NodeValue) × IsListOf (line_entries entries.now) t }
+    ensures { IfOk result (λ v. (t : Tree NodeValue) → IsListOf (line_entries entries.now) t → IsVisitOf t v) }
+{
+    let mut children = Children::new(alloc);
+    let mut start = 0;
+    while start < entries.len() {
+        let line = &entries[start];
+        start += 1;
+        if let Some((name, _)) = line.names.split_first() {
+            match line.item {
+                FlatEntry::File { digest, executable } => {
+                    children.push_file(alloc, name, *digest, *executable)?;
+                }
+                FlatEntry::Link { target } => children.push_symlink(alloc, name, target)?,
+                FlatEntry::Dir => {
+                    let under = lines_under(alloc, name, &entries[start..])?;
+                    children.push_folder(alloc, name, visit_entries(alloc, &under)?)?;
+                    start += under.len();
+                }
+            }
+        }
+    }
+    children.close(alloc)
+}
+
+/// The digest of a tree's root, and all its Directories. Linear in the entries times the names of
+/// their paths; each Directory is hashed once where it stands.
+pub fn fold<A: Allocator + Copy>(alloc: A, tree: &FlatTree<A>) -> Result<Folded<A>, AllocError>
+    ensures { IfOk result (λ folded. IsFoldOfList tree.now folded) }
+{
+    let mut lines = Vec::new(alloc);
+    for (names, item) in tree.entries.iter() {
+        lines.push(Line { names, item })?;
+    }
+    let visited = visit_entries(alloc, &lines)?;
+    Ok(Folded {
+        root: visited.root,
+        directories: each_once(alloc, visited.encodings)?,
+    })
 }

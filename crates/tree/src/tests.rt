@@ -1,3 +1,5 @@
+mod difference;
+mod flat;
 mod graft;
 mod lookup;
 mod source;

@@ -1,29 +1,96 @@
--- The error of a look-up, as the fault of a line.
-use Rattle.std.proofs.Common.{◌≡◌, List, ap, sym, ◌∙◌, subst}
+-- Errors of calls on trees, as faults of what is checked.
+use Rattle.std.proofs.Common.{◌≡◌, refl, ℕ, zero, suc, ◌<◌, List, [], ◌∷◌, length, get_or, ap, sym, subst, arith}
 use Rattle.blob_digest.specs.Digest.{DigestValue}
-use Rattle.plan.specs.Values.{OriginValue, source}
+use Rattle.std.specs.Prelude.{Result, Err, IsErrOf, Some, slice_get}
+use Rattle.actions.specs.Outcome.{OutcomeValue}
+use Rattle.actions.specs.OutcomeLookup.{LooksIn}
+use Rattle.plan.specs.Values.{source, output, LineValue, IsOrigin, IsLine}
 use Rattle.tree.specs.Tree.{Name}
-use Rattle.tree.specs.Source.{Blobs}
+use Rattle.tree.specs.Source.{Blobs, Telling}
+use Rattle.tree.specs.Told as told
 use Rattle.tree.specs.Told.{missing, wrong, malformed}
-use Rattle.tree.specs.Lookup.{Looked, fault, nothing}
+use Rattle.tree.specs.Form.{NodeValue}
+use Rattle.tree.specs.Lookup.{Looked, fault, nothing, found, Looks}
+use Rattle.tree.specs.Source.{AsksSome}
+use Rattle.tree.specs.Difference.{unread, FindsFirst, ExplainsDifference}
+use Rattle.tree.specs.TreeError as errors
 use Rattle.tree.specs.TreeError.{ExplainsLookup}
 use Rattle.tree.specs.declared.error.TreeError.{TreeError}
 use Rattle.tree.specs.declared.error.TreeError.TheVariants as tree
 use Rattle.verifier.specs.declared.verdict.Cause.{Cause}
-use Rattle.verifier.specs.declared.verdict.Cause.TheVariants.{OriginMissing}
+use Rattle.verifier.specs.declared.verdict.Cause.TheVariants.{BlobMissing, BlobWrong, BlobMalformed, OriginMissing}
+use Rattle.verifier.specs.declared.fault.Fault.{Fault}
+use Rattle.verifier.specs.declared.fault.Fault.TheVariants as faults
 use Rattle.verifier.specs.Accepted.{LooksAt}
-use Rattle.verifier.specs.Verdict.{Gives}
-use Rattle.verifier.specs.Origins.{IsCauseOf}
+use Rattle.verifier.specs.Answers.{Explains, IsFaultOf, IsDifference}
+use Rattle.verifier.specs.Faults.{cause_of, Gives, LineFault}
 
-in_sources : {A : Type 0} (B : Blobs) (d : DigestValue) (p : List Name) (error : TreeError A) (c : Cause A) → ExplainsLookup B d p error → IsCauseOf error c → (r : Looked) × LooksAt B d (source p) r × Gives (source p) r c
-in_sources B d p (tree.Absent q) c h is = (nothing, h.1, is ∙ ap OriginMissing h.0)
-in_sources B d p (tree.BlobMissing e) c h is = (fault (missing e), h, is)
-in_sources B d p (tree.BlobWrong e) c h is = (fault (wrong e), h, is)
-in_sources B d p (tree.BlobMalformed e) c h is = (fault (malformed e), h, is)
-in_sources B d p (tree.TooDeep q) c h is = elim h [ ]
-in_sources B d p tree.Fetch c h is = elim is [ ]
-in_sources B d p tree.Memory c h is = elim is [ ]
+module _ {A : Type 0} where
+  pub explains_map : (P Q : Cause A → Type 0) (f : Fault A) → ((c : Cause A) → P c → Q c) → Explains P f → Explains Q f
+  explains_map P Q (faults.Cause c) by h = by c h
+  explains_map P Q faults.Fetch by h = tt
+  explains_map P Q faults.Memory by h = tt
 
-pub explained : {A : Type 0} (B : Blobs) (d : DigestValue) (o : OriginValue) (p : List Name) (error : TreeError A) (c : Cause A) → o ≡ source p → ExplainsLookup B d p error → IsCauseOf error c
-    → (r : Looked) × LooksAt B d o r × Gives o r c
-explained B d o p error c from h is = subst (λ o. (r : Looked) × LooksAt B d o r × Gives o r c) (sym from) (in_sources B d p error c h is)
+  -- the fault of a blob
+  pub blob_explained : (P : told.Fault → Type 0) (error : TreeError A) (f : Fault A) → errors.Explains P error → IsFaultOf error f → Explains (λ c. (t : told.Fault) × P t × (c ≡ cause_of t)) f
+  blob_explained P (tree.Absent q) f h is = elim h [ ]
+  blob_explained P (tree.BlobMissing d) f h is = subst (Explains (λ c. (t : told.Fault) × P t × (c ≡ cause_of t))) (sym is) (missing d, h, refl)
+  blob_explained P (tree.BlobWrong d) f h is = subst (Explains (λ c. (t : told.Fault) × P t × (c ≡ cause_of t))) (sym is) (wrong d, h, refl)
+  blob_explained P (tree.BlobMalformed d) f h is = subst (Explains (λ c. (t : told.Fault) × P t × (c ≡ cause_of t))) (sym is) (malformed d, h, refl)
+  blob_explained P (tree.TooDeep q) f h is = elim h [ ]
+  blob_explained P tree.Fetch f h is = subst (Explains (λ c. (t : told.Fault) × P t × (c ≡ cause_of t))) (sym is) tt
+  blob_explained P tree.Memory f h is = subst (Explains (λ c. (t : told.Fault) × P t × (c ≡ cause_of t))) (sym is) tt
+
+  pub difference_explained : (own : List (List ℕ)) (B : Blobs) (g r : DigestValue) (error : TreeError A) (f : Fault A) → ExplainsDifference (FindsFirst own B g r) error → IsFaultOf error f → Explains (IsDifference own B g r) f
+  difference_explained own B g r (tree.Absent q) f h is = elim h [ ]
+  difference_explained own B g r (tree.BlobMissing d) f h is = subst (Explains (IsDifference own B g r)) (sym is) (unread (missing d), h, refl)
+  difference_explained own B g r (tree.BlobWrong d) f h is = subst (Explains (IsDifference own B g r)) (sym is) (unread (wrong d), h, refl)
+  difference_explained own B g r (tree.BlobMalformed d) f h is = subst (Explains (IsDifference own B g r)) (sym is) (unread (malformed d), h, refl)
+  difference_explained own B g r (tree.TooDeep q) f h is = elim h [ ]
+  difference_explained own B g r tree.Fetch f h is = subst (Explains (IsDifference own B g r)) (sym is) tt
+  difference_explained own B g r tree.Memory f h is = subst (Explains (IsDifference own B g r)) (sym is) tt
+
+  -- the fault of a line
+  pub line_explained : (B : Blobs) (d : DigestValue) (os : List OutcomeValue) (l : LineValue) (p : List Name) (error : TreeError A) (f : Fault A) → l.origin ≡ source p → ExplainsLookup B d p error → IsFaultOf error f
+      → Explains (LineFault B d os l) f
+  line_explained B d os l p error f from h is = by error h is
+    where
+      stands : (r : Looked) (c : Cause A) → Looks B d p r → Gives (source p) r c → f ≡ faults.Cause c → Explains (LineFault B d os l) f
+      stands r c look gives is = subst (Explains (LineFault B d os l)) (sym is) (r, subst (λ o. LooksAt B d os o r) (sym from) look, subst (λ o. Gives o r c) (sym from) gives)
+
+      by : (error : TreeError A) → ExplainsLookup B d p error → IsFaultOf error f → Explains (LineFault B d os l) f
+      by (tree.Absent q) h is = stands nothing (OriginMissing q) h.1 (ap OriginMissing h.0) is
+      by (tree.BlobMissing e) h is = stands (fault (missing e)) (BlobMissing e) h refl is
+      by (tree.BlobWrong e) h is = stands (fault (wrong e)) (BlobWrong e) h refl is
+      by (tree.BlobMalformed e) h is = stands (fault (malformed e)) (BlobMalformed e) h refl is
+      by (tree.TooDeep q) h is = elim h [ ]
+      by tree.Fetch h is = subst (Explains (LineFault B d os l)) (sym is) tt
+      by tree.Memory h is = subst (Explains (LineFault B d os l)) (sym is) tt
+
+item_there : (os : List OutcomeValue) (i : ℕ) (o : OutcomeValue) → i < length os → o ≡ get_or os i o → slice_get os i ≡ Some o
+item_there [] i o lt is = absurd (omega arith)
+item_there (x ∷ os) zero o lt is = ap Some (sym is)
+item_there (x ∷ os) (suc i) o lt is = item_there os i o (omega arith) is
+
+-- the outcome of the step that a line names
+named_outcome : (os : List OutcomeValue) (l : LineValue) (step : ℕ) (p : List Name) (o : OutcomeValue) → IsLine (length os) l → l.origin ≡ output step p → o ≡ get_or os step o → slice_get os step ≡ Some o
+named_outcome os l step p o line from is = item_there os step o (subst (IsOrigin (length os)) from line.origin).0 is
+
+pub output_found : (B : Blobs) (d : DigestValue) (os : List OutcomeValue) (l : LineValue) (step : ℕ) (p : List Name) (o : OutcomeValue) (x : NodeValue) → IsLine (length os) l → l.origin ≡ output step p → o ≡ get_or os step o
+    → LooksIn o p (found x) → LooksAt B d os l.origin (found x)
+output_found B d os l step p o x line from is look = subst (λ origin. LooksAt B d os origin (found x)) (sym from) (o, named_outcome os l step p o line from is, look)
+
+pub output_missing : {A : Type 0} (B : Blobs) (d : DigestValue) (os : List OutcomeValue) (l : LineValue) (step : ℕ) (p : List Name) (o : OutcomeValue) (q : List Name) → IsLine (length os) l → l.origin ≡ output step p → o ≡ get_or os step o
+    → LooksIn o p nothing → q ≡ p → LineFault {A = A} B d os l (OriginMissing q)
+output_missing {A} B d os l step p o q line from is look same = (
+  nothing,
+  subst (λ origin. LooksAt B d os origin nothing) (sym from) (o, named_outcome os l step p o line from is, look),
+  subst (λ origin. Gives {A = A} origin nothing (OriginMissing q)) (sym from) (ap OriginMissing same),
+)
+
+-- a failure of a later call is one of all calls
+pub later_failure : {T U E : Type 0} {old mid new : Telling} (y x : E) → AsksSome old mid → (IsErrOf {T = T} (Err y) x → mid.failures < new.failures) → AsksSome mid new → IsErrOf {T = U} (Err y) x → old.failures < new.failures
+later_failure {T} {U} {E} {old} {mid} {new} y x h rises later e = let same : y ≡ x = cc in omega (arith, h.asks.failures, rises (ap Err same))
+
+pub error_is : {T E : Type 0} (x y : E) → ◌≡◌ {A = Result T E} (Err x) (Err y) → x ≡ y
+error_is x y e = cc

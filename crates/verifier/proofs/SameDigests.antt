@@ -1,5 +1,5 @@
 -- The test of two digests.
-use Rattle.std.proofs.Common.{◌≡◌, ◌≢◌, refl, ap, sym, ◌∙◌, Bool, true, false}
+use Rattle.std.proofs.Common.{◌≡◌, ◌≢◌, refl, ap, sym, ◌∙◌, Bool, true, false, not}
 use Rattle.std.specs.Prelude.{◌&&◌, nat_eq}
 use Rattle.std.specs.Cmp.Lexicographic.{pointwise, bytes_decides}
 use Rattle.std.proofs.lemmas.Bool.{eqb-true, eq-eqb}
@@ -23,3 +23,17 @@ other_digests d e h is =
     let sizes = eq-eqb d.size e.size (ap (λ x. x.size) is) in
     let both : (pointwise nat_eq d.hash e.hash && nat_eq d.size e.size) ≡ true = ap (λ b. b && nat_eq d.size e.size) hashes ∙ sizes in
     (let never : ◌≡◌ {A = Bool} true false = sym both ∙ h in cc)
+
+pub differing_digests : (d e : DigestValue) → not (pointwise nat_eq d.hash e.hash && nat_eq d.size e.size) ≡ true → d ≢ e
+differing_digests d e h = other_digests d e (refuted (pointwise nat_eq d.hash e.hash && nat_eq d.size e.size) h)
+  where
+    refuted : (b : Bool) → not b ≡ true → b ≡ false
+    refuted true e = cc
+    refuted false e = refl
+
+pub no_other_digests : (d e : DigestValue) → not (pointwise nat_eq d.hash e.hash && nat_eq d.size e.size) ≡ false → d ≡ e
+no_other_digests d e h = same_digests d e (shown (pointwise nat_eq d.hash e.hash && nat_eq d.size e.size) h)
+  where
+    shown : (b : Bool) → not b ≡ false → b ≡ true
+    shown true e = refl
+    shown false e = cc

@@ -1,30 +1,32 @@
--- When a plan without steps is accepted: each line of the root has its origin in what a source tells, and their graft has
--- the claim as its digest.
-use Rattle.std.specs.Prelude.{◌≡◌, List, [], ◌∷◌, map}
+-- When the root of a plan is accepted: each line has its origin in the sources or in what an earlier step came to, and the
+-- graft of the lines has the claim as its digest.
+use Rattle.std.specs.Prelude.{◌≡◌, List, [], ◌∷◌, map, Some, slice_get}
+use Rattle.actions.specs.Outcome.{OutcomeValue}
+use Rattle.actions.specs.OutcomeLookup.{LooksIn}
 use Rattle.blob_digest.specs.Digest.{DigestValue}
 use Rattle.plan.specs.Values.{OriginValue, source, output, LineValue}
 use Rattle.tree.specs.Tree.{Name}
 use Rattle.tree.specs.Form.{NodeValue, root}
 use Rattle.tree.specs.Graft.{graft}
 use Rattle.tree.specs.Source.{Blobs}
-use Rattle.tree.specs.Lookup.{Looked, nothing, found, Looks}
+use Rattle.tree.specs.Lookup.{Looked, found, Looks}
 
--- what a look-up of an origin comes to. Without steps no step has an output
-abbrev pub LooksAt : Blobs → DigestValue → OriginValue → Looked → Type 0
-LooksAt blobs sources (source p) r = Looks blobs sources p r
-LooksAt blobs sources (output step p) r = r ≡ nothing
+-- what a look-up of an origin comes to: in the source tree, or in the recorded outcome of an earlier step
+abbrev pub LooksAt : Blobs → DigestValue → List OutcomeValue → OriginValue → Looked → Type 0
+LooksAt blobs sources outcomes (source p) r = Looks blobs sources p r
+LooksAt blobs sources outcomes (output step p) r = (o : OutcomeValue) × (slice_get outcomes step ≡ Some o) × LooksIn o p r
 
 -- each line's node, by look-up
-abbrev pub Resolves : Blobs → DigestValue → List LineValue → List (List Name × NodeValue) → Type 0
-Resolves blobs sources [] xs = xs ≡ []
-Resolves blobs sources (l ∷ ls) xs =
-    (x : NodeValue) × LooksAt blobs sources l.origin (found x) × (rest : List (List Name × NodeValue)) × Resolves blobs sources ls rest × (xs ≡ (l.target, x) ∷ rest)
+abbrev pub Resolves : Blobs → DigestValue → List OutcomeValue → List LineValue → List (List Name × NodeValue) → Type 0
+Resolves blobs sources outcomes [] xs = xs ≡ []
+Resolves blobs sources outcomes (l ∷ ls) xs =
+    (x : NodeValue) × LooksAt blobs sources outcomes l.origin (found x) × (rest : List (List Name × NodeValue)) × Resolves blobs sources outcomes ls rest × (xs ≡ (l.target, x) ∷ rest)
 
 -- the targets of lines, each with its origin
 abbrev pub targets : List LineValue → List (List Name × OriginValue)
 targets lines = map (λ l. (l.target, l.origin)) lines
 
-pub record IsAccepted (blobs : Blobs) (sources : DigestValue) (lines : List LineValue) (claim : DigestValue) : Type 0 where
+pub record IsAccepted (blobs : Blobs) (sources : DigestValue) (outcomes : List OutcomeValue) (lines : List LineValue) (claim : DigestValue) : Type 0 where
   pub nodes : List (List Name × NodeValue)
-  pub resolved : Resolves blobs sources lines nodes
+  pub resolved : Resolves blobs sources outcomes lines nodes
   pub same : root (graft nodes) ≡ claim

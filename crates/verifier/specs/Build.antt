@@ -132,7 +132,7 @@ abbrev pub lost : State → ℕ → Option (ℕ × ActionMeaning) → Option Sta
 lost s w None = None
 lost s w (Some job) = Some (record s { jobs = remove_entry (λ k. k == w) s.jobs })
 
--- The state after an event, if the event is permitted: a job's number isn't in use, and each origin is there.
+-- The state after an event, if the event can happen: a start's number isn't in use, and each origin is there.
 abbrev pub happens : PlanValue → Meaning → Tree Leaf → State → Event → Option State
 happens plan meaning t s (start i w) = started s i w (job_of w s) (action_of plan meaning t s i)
 happens plan meaning t s (finish w o) = finished s w o (job_of w s)
@@ -149,7 +149,7 @@ Obeys X s (start i w) = Unit {0}
 Obeys X s (finish w o) = (job : ℕ × ActionMeaning) → job_of w s ≡ Some job → Contains X (job.1, o)
 Obeys X s (lose w) = Unit {0}
 
--- The events are permitted one after another and obey the table, and lead from one state to the other.
+-- The events can happen one after another and obey the table, and lead from one state to the other.
 abbrev pub IsRun : List (ActionMeaning × Outcome) → PlanValue → Meaning → Tree Leaf → State → List Event → State → Type 0
 IsRun X plan meaning t s [] end = end ≡ s
 IsRun X plan meaning t s (e ∷ es) end = Obeys X s e × (mid : State) × (happens plan meaning t s e ≡ Some mid) × IsRun X plan meaning t mid es end

@@ -1,5 +1,6 @@
--- What a yes says: every complete run of the plan ends in exactly the claimed root.
-use Rattle.std.specs.Prelude.{◌≡◌, ◌⊎◌, ℕ, List, [], ◌∷◌, Some, IsSomeAnd, Contains}
+-- What a yes says: every complete run of the plan ends in exactly the claimed root, and no run is ever stuck.
+use Rattle.std.specs.Prelude.{◌≡◌, ◌⊎◌, ℕ, pos, List, [], ◌∷◌, Some, None, IsSomeAnd, slice_get, Contains}
+use Rattle.std.specs.List.{AllByRecursion}
 use Rattle.blob_digest.specs.Digest.{DigestValue, NoClash}
 use Rattle.messages.specs.DirectoryRules.{DirectoryValue}
 use Rattle.messages.specs.Directory.{directory_bytes}
@@ -7,12 +8,12 @@ use Rattle.messages.specs.Tree.{TreeValue, IsTree, tree_bytes}
 use Rattle.actions.specs.Command.{CommandValue, command_bytes}
 use Rattle.actions.specs.Frame.{FrameValue, frame_bytes}
 use Rattle.actions.specs.Action.{with_input, action_bytes}
-use Rattle.plan.specs.Values.{PlanValue}
+use Rattle.plan.specs.Values.{OriginValue, source, output, StepValue, PlanValue}
 use Rattle.tree.specs.Tree.{Name, Tree, Leaf, Entry, single, whole, IsOrdered}
 use Rattle.tree.specs.Form.{form, root, IsContent, IsBlobOf}
 use Rattle.tree.specs.Source.{Blobs}
 use Rattle.tree.specs.Lookup.{IsValue}
-use Rattle.verifier.specs.Build.{Meaning, ActionMeaning, Outcome, Event, start, finish, lose, State, opening, happens, action_of, graft_of, MeaningFits, IsTable, IsRun, HasFinishedAll}
+use Rattle.verifier.specs.Build.{Meaning, ActionMeaning, Outcome, Event, start, finish, lose, State, opening, outcome_of, job_of, happens, action_of, graft_of, MeaningFits, IsTable, IsRun, HasFinishedAll}
 use Rattle.verifier.specs.Recorded.{Agrees}
 
 -- ---- the blobs that a run is about
@@ -71,3 +72,40 @@ pub record EveryRunEndsIn (blobs results : Blobs) (sources : DigestValue) (plan 
       → NoClash (IsConcerned blobs plan meaning t chosen es)
       → IsRun X plan meaning t opening es end → HasFinishedAll plan end
       → IsSomeAnd (graft_of t end plan.root_lines) (λ g. root (form g) ≡ claim)
+
+-- ---- runs do what was recorded
+
+-- In a state each job runs the action that was chosen for its step, and each step that has finished came to the outcome
+-- that was chosen for it. By the record these have the recorded digests.
+pub record IsAsChosen (chosen : List (ActionMeaning × Outcome)) (s : State) : Type 0 where
+  pub jobs : (w : ℕ) (job : ℕ × ActionMeaning) → job_of w s ≡ Some job → (pair : ActionMeaning × Outcome) × (slice_get chosen job.0 ≡ Some pair) × (job.1 ≡ pair.0)
+  pub outcomes : (i : ℕ) (o : Outcome) → outcome_of i s ≡ Some o → (pair : ActionMeaning × Outcome) × (slice_get chosen i ≡ Some pair) × (o ≡ pair.1)
+
+-- That the recorded actions are run isn't a premise: under the same premises it holds in every run, complete or not.
+pub record EveryRunIsAsChosen (blobs results : Blobs) (sources : DigestValue) (plan : PlanValue) (recorded : List DigestValue) : Type 0 where
+  pub of_run : (t : Tree Leaf) (meaning : Meaning) (X chosen : List (ActionMeaning × Outcome)) (es : List Event) (now : State)
+      → IsOrdered t → root (form t) ≡ sources → MeaningFits plan meaning → IsTable X → Agrees blobs results X chosen recorded
+      → NoClash (IsConcerned blobs plan meaning t chosen es)
+      → IsRun X plan meaning t opening es now → IsAsChosen chosen now
+
+-- ---- no run is stuck
+
+-- the step that a line reads has finished
+abbrev pub HasFinished : State → OriginValue → Type 0
+HasFinished s (source p) = Unit {0}
+HasFinished s (output j p) = (o : Outcome) × (outcome_of j s ≡ Some o)
+
+-- In a state nothing is stuck:
+pub record IsNotStuck (X : List (ActionMeaning × Outcome)) (plan : PlanValue) (meaning : Meaning) (t : Tree Leaf) (s : State) : Type 0 where
+  -- a step may start, as a job of any number that isn't in use, where the steps that its lines read have finished: each origin is there
+  pub starts : (i w : ℕ) (step : StepValue) → slice_get plan.steps i ≡ Some step → AllByRecursion (λ l. HasFinished s l.origin) step.lines → job_of w s ≡ None
+      → (next : State) × (happens plan meaning t s (start i w) ≡ Some next)
+  -- a job that runs may finish: its action comes to an outcome, with exit code 0
+  pub finishes : (w : ℕ) (job : ℕ × ActionMeaning) → job_of w s ≡ Some job → (o : Outcome) × Contains X (job.1, o) × (o.exit_code ≡ pos 0)
+
+-- Under the same premises no run is stuck, complete or not.
+pub record NoRunIsStuck (blobs results : Blobs) (sources : DigestValue) (plan : PlanValue) (recorded : List DigestValue) : Type 0 where
+  pub of_run : (t : Tree Leaf) (meaning : Meaning) (X chosen : List (ActionMeaning × Outcome)) (es : List Event) (now : State)
+      → IsOrdered t → root (form t) ≡ sources → MeaningFits plan meaning → IsTable X → Agrees blobs results X chosen recorded
+      → NoClash (IsConcerned blobs plan meaning t chosen es)
+      → IsRun X plan meaning t opening es now → IsNotStuck X plan meaning t now

@@ -2,5 +2,9 @@ pub mod Build
 pub mod Recorded
 pub mod Headline
 pub mod Accepted
+pub mod Faults
+pub mod StepChecks
 pub mod Verdict
-pub mod Origins
+pub mod AsRecorded
+pub mod TwoSteps
+pub mod Answers

@@ -1,5 +1,6 @@
 -- What was recorded of a build: under each step's action the result that a source tells, and in it the outputs.
 use Rattle.std.specs.Prelude.{◌≡◌, ◌↔◌, ◌⊎◌, ℕ, List, map, Some, slice_get, length, Contains}
+use Rattle.std.specs.List.{AllByRecursion}
 use Rattle.blob_digest.specs.Digest.{DigestValue, digest_of}
 use Rattle.messages.specs.declared.node.Node.TheVariants.{File, Link, Dir}
 use Rattle.messages.specs.Directory.{directory_bytes}
@@ -37,6 +38,8 @@ pub record IsRecordedAs (blobs results : Blobs) (action : DigestValue) (o : Outc
   pub result : ActionResultValue
   pub told : IsResultOf results action result
   pub exit_code : o.exit_code ≡ result.exit_code
+  -- the Tree of each output directory is told
+  pub trees : AllByRecursion (λ (d : OutputDirectoryValue). (t : TreeValue) × IsTold IsTree tree_bytes blobs d.tree t) result.directories
   pub outputs : (p : List Name) (x : NodeValue) → Contains (outputs_form o.outputs) (p, x) ↔ RecordsAt blobs result p x
 
 -- A table agrees with a record: for each step it has a chosen pair of an action with the recorded digest and an outcome

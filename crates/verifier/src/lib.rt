@@ -2,12 +2,19 @@
 #![tactic(auto)]
 
 mod error;
+mod fault;
 mod laws;
+mod origins;
+mod steps;
+mod told;
 mod verdict;
 mod verifying;
 
 pub use error::VerifyError;
-pub use laws::{accepted_plans_end_in_the_claim, verdicts_are_single_valued};
+pub use laws::{
+    a_build_meets_the_premises, outcomes_are_maps, recorded_plans_end_in_the_claim,
+    verdicts_are_single_valued, yes_is_as_recorded,
+};
 pub use verdict::{Cause, Place, Verdict};
 pub use verifying::verify;
 

@@ -1,3 +1,5 @@
+mod steps;
+
 use crate::{Cause, Verdict, VerifyError, verify};
 use blob_digest::Digest;
 use plan::{Plan, ReadError, Record};
@@ -46,6 +48,7 @@ enum Told {
     Malformed(Digest),
     NoOrigin(usize),
     Differs(Digest),
+    OfStep,
 }
 
 fn shown<A: Allocator>(cause: Cause<A>) -> Told {
@@ -55,6 +58,7 @@ fn shown<A: Allocator>(cause: Cause<A>) -> Told {
         Cause::BlobMalformed(digest) => Told::Malformed(digest),
         Cause::OriginMissing(path) => Told::NoOrigin(path.as_str().len()),
         Cause::RootDiffers(digest) => Told::Differs(digest),
+        _ => Told::OfStep,
     }
 }
 
@@ -65,9 +69,27 @@ fn in_short<A: Allocator>(verdict: Verdict<A>) -> Told {
     }
 }
 
-fn answered<A: Allocator>(answer: Result<Verdict<A>, VerifyError>) -> Result<Told, Broken> {
-    match answer {
-        Ok(verdict) => Ok(in_short(verdict)),
+/// The verdict on the plan and the record of these texts.
+fn judge<A: Allocator + Copy>(
+    alloc: A,
+    plan: &[u8],
+    record: &[u8],
+    sources: &Digest,
+    claim: &Digest,
+    source: &mut MemorySource<A>,
+) -> Result<Verdict<A>, Broken> {
+    let plan = match Plan::read(alloc, plan) {
+        Ok(plan) => plan,
+        Err(ReadError::Memory) => return Err(Broken::Memory),
+        Err(ReadError::Faulty(_)) => return Err(Broken::Refused),
+    };
+    let record = match Record::read(alloc, record, &plan) {
+        Ok(record) => record,
+        Err(ReadError::Memory) => return Err(Broken::Memory),
+        Err(ReadError::Faulty(_)) => return Err(Broken::Refused),
+    };
+    match verify(alloc, sources, &plan, &record, claim, source) {
+        Ok(verdict) => Ok(verdict),
         Err(VerifyError::Memory) => Err(Broken::Memory),
         Err(VerifyError::Fetch) => Err(Broken::Refused),
     }
@@ -81,22 +103,14 @@ fn judged<A: Allocator + Copy>(
     held: Option<&[u8]>,
     claim: &Digest,
 ) -> Result<(Told, u64), Broken> {
-    let plan = match Plan::read(alloc, text) {
-        Ok(plan) => plan,
-        Err(ReadError::Memory) => return Err(Broken::Memory),
-        Err(ReadError::Faulty(_)) => return Err(Broken::Refused),
-    };
-    let record = match Record::read(b"buildrecord 1\n") {
-        Ok(record) => record,
-        Err(_) => return Err(Broken::Refused),
-    };
     let sources = Digest::of(SOURCES);
     let mut source = MemorySource::new(alloc);
     if let Some(bytes) = held {
         source.hold_blob(sources, Vec::from_slice(alloc, bytes)?)?;
     }
-    let told = answered(verify(alloc, &sources, &plan, &record, claim, &mut source))?;
-    Ok((told, source.calls()))
+    let record = b"buildrecord 1\n";
+    let verdict = judge(alloc, text, record, &sources, claim, &mut source)?;
+    Ok((in_short(verdict), source.calls()))
 }
 
 #[test]
@@ -167,16 +181,12 @@ fn each_request_for_memory_refused(rt: HostRuntime) {
 #[test]
 fn malformed_sources(rt: HostRuntime) -> Result<(), Broken> {
     let alloc = rt.alloc();
-    let Ok(plan) = Plan::read(alloc, b"buildplan 1\nroot\nin b src a\n") else {
-        return Err(Broken::Refused);
-    };
-    let Ok(record) = Record::read(b"buildrecord 1\n") else {
-        return Err(Broken::Refused);
-    };
+    let plan = b"buildplan 1\nroot\nin b src a\n";
+    let record = b"buildrecord 1\n";
     let sources = Digest::of(b"\n");
     let mut source = MemorySource::new(alloc);
     source.hold_blob(sources, Vec::from_slice(alloc, b"\n")?)?;
-    let told = answered(verify(alloc, &sources, &plan, &record, &sources, &mut source))?;
-    assert_eq!(rt; told, Told::Malformed(sources));
+    let verdict = judge(alloc, plan, record, &sources, &sources, &mut source)?;
+    assert_eq!(rt; in_short(verdict), Told::Malformed(sources));
     Ok(())
 }

@@ -1,108 +1,104 @@
-ghost use Rattle.std.specs.Prelude.{◌≡◌, ◌<◌, [], IfOk, IsErrOf, length};
-ghost use Rattle.tree.specs.Source.{Asks};
+ghost use Rattle.std.specs.Prelude.{◌≡◌, ◌<◌, [], IfOk, IfErr, IsErrOf, length};
+ghost use Rattle.std.specs.List.{AllByRecursion};
+ghost use Rattle.actions.specs.Outcome.{OutcomeValue};
+ghost use Rattle.plan.specs.Values.{IsLine};
+ghost use Rattle.plan.specs.Plan.{AreSteps};
+ghost use Rattle.plan.specs.Record.{Fits};
 ghost use Rattle.tree.specs.Graft.{HaveApartTargets};
+ghost use Rattle.tree.specs.Source.{AsksSome};
 ghost use Rattle.verifier.specs.Accepted.{targets};
-ghost use Rattle.verifier.specs.Verdict.{path_of, origin_names, IsVerdict, IsYes};
-ghost use Rattle.verifier.specs.Headline.{EveryRunEndsIn};
-ghost use Rattle.verifier.specs.Origins.{IsTooDeep, IsCauseOf, IsFound, IsResolved};
+ghost use Rattle.verifier.specs.Answers.{IsChecked};
+ghost use Rattle.verifier.specs.Headline.{EveryRunEndsIn, NoRunIsStuck};
+ghost use Rattle.verifier.specs.Verdict.{RootVerdict, IsVerdict, IsYes};
 
 use crate::error::VerifyError;
+use crate::fault::Fault;
+use crate::origins::resolve;
+use crate::steps::{Check, check_step};
 use crate::verdict::{Cause, Place, Verdict};
+use actions::Outcome;
 use blob_digest::Digest;
-use messages::Path;
-use plan::{Line, Origin, Plan, Record};
+use plan::{Line, Plan, Record, Step, StepName};
 use std::alloc::Allocator;
-use tree::{BlobSource, Node, TreeError, graft, lookup};
+use tree::{BlobSource, graft};
 
-/// What stands at a line's origin.
+/// What was recorded of all steps, or the first fault and its step.
 #[derive(Drop)]
-enum Found<A: Allocator> {
-    Origin(Node<A>),
-    Fault(Cause<A>),
+enum Checked<A: Allocator> {
+    Outcomes(Vec<Outcome<A>, A>),
+    First(StepName<A>, Cause<A>),
 }
 
-/// The nodes of all lines, with their targets, or the first fault.
-#[derive(Drop)]
-enum Resolved<A: Allocator> {
-    Nodes(Vec<(Path<A>, Node<A>), A>),
-    First(Cause<A>),
-}
-
-/// The cause that an error of a look-up is.
-fn cause_of<A: Allocator>(error: TreeError<A>) -> Result<Cause<A>, VerifyError>
-    requires { IsTooDeep error → ⊥ }
-    ensures told { IfOk result (λ cause. IsCauseOf error cause) }
-    ensures failed { IsErrOf result VerifyError.Fetch → error ≡ TreeError.Fetch }
+/// The cause that a fault is, unless the source failed or memory ran out.
+fn cause_in<A: Allocator>(fault: Fault<A>) -> Result<Cause<A>, VerifyError>
+    ensures cause { IfOk result (λ c. fault ≡ Fault.Cause c) }
+    ensures failed { IsErrOf result VerifyError.Fetch → fault ≡ Fault.Fetch }
+    ensures memory { IsErrOf result VerifyError.Memory → fault ≡ Fault.Memory }
 {
-    match error {
-        TreeError::Absent(path) => Ok(Cause::OriginMissing(path)),
-        TreeError::BlobMissing(digest) => Ok(Cause::BlobMissing(digest)),
-        TreeError::BlobWrong(digest) => Ok(Cause::BlobWrong(digest)),
-        TreeError::BlobMalformed(digest) => Ok(Cause::BlobMalformed(digest)),
-        TreeError::TooDeep(_) => unreachable!(),
-        TreeError::Fetch => Err(VerifyError::Fetch),
-        TreeError::Memory => Err(VerifyError::Memory),
+    match fault {
+        Fault::Cause(cause) => Ok(cause),
+        Fault::Fetch => Err(VerifyError::Fetch),
+        Fault::Memory => Err(VerifyError::Memory),
     }
 }
 
-/// What stands at the line's origin in the sources.
-fn find_origin<A: Allocator + Copy, S: BlobSource<A>>(
+/// The outcomes of the steps, each with its recorded action, up to the first fault.
+fn check_steps<A: Allocator + Copy, S: BlobSource<A>>(
     alloc: A,
     sources: &Digest,
-    line: &Line<A>,
+    steps: &[Step<A>],
+    recorded: &[Digest],
     source: &mut S,
-) -> Result<Found<A>, VerifyError>
-    ensures told { IfOk result (λ found. IsFound (S.tells source.new).blobs sources.now line.now found) }
-    ensures asked { Asks (length (path_of line.now.origin)) (S.tells source.old) (S.tells source.new) }
+) -> Result<Checked<A>, VerifyError>
+    requires lawful { AreSteps [] steps.now }
+    requires each { length recorded.now ≡ length steps.now }
+    ensures checked { IfOk result (IsChecked (S.tells source.new).blobs (S.tells source.new).results sources.now steps.now recorded.now) }
+    ensures asked { AsksSome (S.tells source.old) (S.tells source.new) }
     ensures failed { IsErrOf result VerifyError.Fetch → (S.tells source.old).failures < (S.tells source.new).failures }
 {
-    let Origin::Source(path) = &line.origin;
-    match lookup(alloc, sources, path.as_ref(), source) {
-        Ok(node) => Ok(Found::Origin(node)),
-        Err(error) => Ok(Found::Fault(cause_of(error)?)),
-    }
-}
-
-/// The nodes of all lines, up to the first fault.
-fn resolve<A: Allocator + Copy, S: BlobSource<A>>(
-    alloc: A,
-    sources: &Digest,
-    lines: &[Line<A>],
-    source: &mut S,
-) -> Result<Resolved<A>, VerifyError>
-    ensures told { IfOk result (λ resolved. IsResolved (S.tells source.new).blobs sources.now lines.now resolved) }
-    ensures asked { Asks (origin_names lines.now) (S.tells source.old) (S.tells source.new) }
-    ensures failed { IsErrOf result VerifyError.Fetch → (S.tells source.old).failures < (S.tells source.new).failures }
-{
-    let mut nodes = Vec::new(alloc);
-    for line in lines {
-        match find_origin(alloc, sources, line, source)? {
-            Found::Origin(node) => nodes.push((Path::copy_of(alloc, &line.target)?, node))?,
-            Found::Fault(cause) => return Ok(Resolved::First(cause)),
+    let mut outcomes = Vec::new(alloc);
+    for (index, step) in steps.iter().enumerate() {
+        let check = Check {
+            sources,
+            outcomes: &outcomes,
+            step,
+            recorded: &recorded[index],
+        };
+        match check_step(alloc, &check, source) {
+            Ok(outcome) => outcomes.push(outcome)?,
+            Err(fault) => {
+                let cause = cause_in(fault)?;
+                return Ok(Checked::First(StepName::copy_of(alloc, &step.name)?, cause));
+            }
         }
     }
-    Ok(Resolved::Nodes(nodes))
+    Ok(Checked::Outcomes(outcomes))
 }
 
-/// The verdict on the lines of the root.
+/// The verdict on the lines of the root, where the steps came to these outcomes.
 fn judge_root<A: Allocator + Copy, S: BlobSource<A>>(
     alloc: A,
     sources: &Digest,
+    outcomes: &[Outcome<A>],
     lines: &[Line<A>],
     claim: &Digest,
     source: &mut S,
 ) -> Result<Verdict<A>, VerifyError>
-    requires { HaveApartTargets (targets lines.now) }
-    ensures verdict { IfOk result (λ verdict. IsVerdict (S.tells source.new).blobs sources.now lines.now claim.now verdict) }
-    ensures asked { Asks (origin_names lines.now) (S.tells source.old) (S.tells source.new) }
+    requires lawful { AllByRecursion (IsLine (length outcomes.now)) lines.now }
+    requires apart { HaveApartTargets (targets lines.now) }
+    ensures verdict { IfOk result (RootVerdict (S.tells source.new).blobs sources.now outcomes.now lines.now claim.now) }
+    ensures asked { AsksSome (S.tells source.old) (S.tells source.new) }
     ensures failed { IsErrOf result VerifyError.Fetch → (S.tells source.old).failures < (S.tells source.new).failures }
 {
-    match resolve(alloc, sources, lines, source)? {
-        Resolved::First(cause) => Ok(Verdict::No(Place::Root, cause)),
-        Resolved::Nodes(nodes) => {
+    match resolve(alloc, sources, outcomes, lines, source) {
+        Err(fault) => Ok(Verdict::No(Place::Root, cause_in(fault)?)),
+        Ok(nodes) => {
             let root = graft(alloc, &nodes)?.root;
             if root == *claim {
-                Ok(Verdict::Yes { root, steps: 0 })
+                Ok(Verdict::Yes {
+                    root,
+                    steps: outcomes.len() as u64,
+                })
             } else {
                 Ok(Verdict::No(Place::Root, Cause::RootDiffers(root)))
             }
@@ -110,25 +106,48 @@ fn judge_root<A: Allocator + Copy, S: BlobSource<A>>(
     }
 }
 
-/// Whether every build of the plan, from sources with this digest, ends in the claimed root. The
-/// lines of the root are looked up in their order, from the digests of the sources, and their graft
-/// is held against the claim; the first fault decides. The record says which actions the steps had.
-#[tactic(auto, using(crate::proofs::Targets::plan_targets))]
+/// The verdict, as far as it is told by what is checked.
+fn decide<A: Allocator + Copy, S: BlobSource<A>>(
+    alloc: A,
+    sources: &Digest,
+    plan: &Plan<A>,
+    recorded: &[Digest],
+    claim: &Digest,
+    source: &mut S,
+) -> Result<Verdict<A>, VerifyError>
+    requires { length recorded.now ≡ length plan.now.steps }
+    ensures verdict { IfOk result (IsVerdict (S.tells source.new).blobs (S.tells source.new).results sources.now plan.now recorded.now claim.now) }
+    ensures asked { AsksSome (S.tells source.old) (S.tells source.new) }
+    ensures failed { IsErrOf result VerifyError.Fetch → (S.tells source.old).failures < (S.tells source.new).failures }
+{
+    match check_steps(alloc, sources, plan.steps(), recorded, source)? {
+        Checked::First(name, cause) => Ok(Verdict::No(Place::Step(name), cause)),
+        Checked::Outcomes(outcomes) => {
+            judge_root(alloc, sources, &outcomes, plan.root(), claim, source)
+        }
+    }
+}
+
+/// Whether every build of the plan, from sources with this digest, ends in the claimed root, as far
+/// as equal actions come to the same and the recorded ones to what was recorded. The record says
+/// which actions the steps had. The steps are checked in the order of the plan, and then the lines
+/// of the root; the first fault decides. A file's content is never fetched.
 pub fn verify<A: Allocator + Copy, S: BlobSource<A>>(
     alloc: A,
     sources: &Digest,
     plan: &Plan<A>,
-    _record: &Record,
+    record: &Record<A>,
     claim: &Digest,
     source: &mut S,
 ) -> Result<Verdict<A>, VerifyError>
+    requires { Fits «record».now plan.now }
     // The one verdict, by what the source tells.
-    ensures verdict { IfOk result (λ verdict. IsVerdict (S.tells source.new).blobs sources.now plan.now.root_lines claim.now verdict) }
-    // Where it is yes, every complete run of the plan ends in the claimed root.
-    ensures holds { IfOk result (λ verdict. IsYes verdict → EveryRunEndsIn (S.tells source.new).blobs (S.tells source.new).results sources.now plan.now [] claim.now) }
-    // The source is asked once a name of the origins at most.
-    ensures asked { Asks (origin_names plan.now.root_lines) (S.tells source.old) (S.tells source.new) }
+    ensures verdict { IfOk result (IsVerdict (S.tells source.new).blobs (S.tells source.new).results sources.now plan.now «record».now.digests claim.now) }
+    // Where it is yes, every complete run of the plan ends in exactly the claimed root, and no run is ever stuck.
+    ensures holds { IfOk result (λ verdict. IsYes verdict → EveryRunEndsIn (S.tells source.new).blobs (S.tells source.new).results sources.now plan.now «record».now.digests claim.now) }
+    ensures unstuck { IfOk result (λ verdict. IsYes verdict → NoRunIsStuck (S.tells source.new).blobs (S.tells source.new).results sources.now plan.now «record».now.digests) }
+    ensures asked { AsksSome (S.tells source.old) (S.tells source.new) }
     ensures failed { IsErrOf result VerifyError.Fetch → (S.tells source.old).failures < (S.tells source.new).failures }
 {
-    judge_root(alloc, sources, plan.lines(), claim, source)
+    decide(alloc, sources, plan, record.digests(), claim, source)
 }

@@ -16,10 +16,10 @@ HasGroupsFault count NotMinimal bytes = (front : List ℕ) × (length front ≤ 
 HasGroupsFault count BadWireType bytes = ⊥
 HasGroupsFault count BadNumber bytes = ⊥
 
-abbrev failed : {A : Type 0} → WireError → Result A WireError
+abbrev pub failed : {A : Type 0} → WireError → Result A WireError
 failed e = Err e
 
-err_is : {A : Type 0} (d e : WireError) → failed {A = A} d ≡ failed e → d ≡ e
+pub err_is : {A : Type 0} (d e : WireError) → failed {A = A} d ≡ failed e → d ≡ e
 err_is d e h = cc
 
 bind_err : {A B : Type 0} (r : Result A WireError) (f : A → B) (e : WireError) → (r >>= λ x. Ok (f x)) ≡ Err e → r ≡ Err e

@@ -12,14 +12,14 @@ use std::alloc::Allocator;
 
 /// What a line puts at its target.
 #[derive(Clone, Copy)]
-enum Put {
+pub(super) enum Put {
     Nine,
     Executable,
     Link,
     Empty,
 }
 
-fn node<A: Allocator + Copy>(alloc: A, put: Put) -> Result<Node<A>, Broken> {
+pub(super) fn node<A: Allocator + Copy>(alloc: A, put: Put) -> Result<Node<A>, Broken> {
     let nine = Digest::of(b"123456789");
     Ok(match put {
         Put::Nine => Node::File {
@@ -68,7 +68,7 @@ fn is_apart<A: Allocator>(path: &Path<A>, lines: &[(Path<A>, Node<A>)]) -> bool
 }
 
 /// Whether no target overlaps another.
-fn are_apart<A: Allocator>(lines: &[(Path<A>, Node<A>)]) -> bool
+pub(super) fn are_apart<A: Allocator>(lines: &[(Path<A>, Node<A>)]) -> bool
     ensures { IsTrue result → HaveApartTargets (lines_of lines.now) }
 {
     match lines.split_first() {

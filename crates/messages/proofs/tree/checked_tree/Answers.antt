@@ -9,14 +9,16 @@ pub invariant_of-result : goal.invariant_of-result
 invariant_of-result g c =
     let t : TreeValue = record { root = c.args.root; children = c.args.children.items } in
     let named : c.deref-2.result.now ≡ named_in t = c.deref-2.ensures.value ∙ c.in_ok-named.ensures.named ∙ ap (λ (l : List DirectoryValue). named_by (c.args.root ∷ l)) c.deref.ensures.value in
-    let exact : children_checked (named_in t) (child_digests t) ≡ Ok tt = ap (λ (l : List DigestValue). children_checked l (child_digests t)) (sym named) ∙ ap (children_checked c.deref-2.result.now) (sym c.requires) ∙ c.in_ok-check_children.ensures in
+    let held : c.deref-3.result.now ≡ child_digests t = c.deref-3.ensures.value ∙ c.requires in
+    let exact : children_checked (named_in t) (child_digests t) ≡ Ok tt = ap (λ (l : List DigestValue). children_checked l (child_digests t)) (sym named) ∙ ap (children_checked c.deref-2.result.now) (sym held) ∙ c.in_ok-check_children.ensures in
     let there = children_there (named_in t) (child_digests t) exact in
-    record { root = c.in_ok-named.ensures.root; children = rw c.deref.ensures.value at c.in_ok-named.ensures.children; held = there.0; named = there.1 }
+    (record { root = c.in_ok-named.ensures.root; children = rw c.deref.ensures.value at c.in_ok-named.ensures.children; held = there.0; named = there.1 }, c.requires)
 
 pub returns-clause-lawful : goal.returns-clause-lawful
 returns-clause-lawful g c =
     let t : TreeValue = record { root = c.args.root; children = c.args.children.items } in
     let named : c.deref-2.result.now ≡ named_in t = c.deref-2.ensures.value ∙ c.in_ok-named.ensures.named ∙ ap (λ (l : List DirectoryValue). named_by (c.args.root ∷ l)) c.deref.ensures.value in
-    let exact : children_checked (named_in t) (child_digests t) ≡ Ok tt = ap (λ (l : List DigestValue). children_checked l (child_digests t)) (sym named) ∙ ap (children_checked c.deref-2.result.now) (sym c.requires) ∙ c.in_ok-check_children.ensures in
+    let held : c.deref-3.result.now ≡ child_digests t = c.deref-3.ensures.value ∙ c.requires in
+    let exact : children_checked (named_in t) (child_digests t) ≡ Ok tt = ap (λ (l : List DigestValue). children_checked l (child_digests t)) (sym named) ∙ ap (children_checked c.deref-2.result.now) (sym held) ∙ c.in_ok-check_children.ensures in
     let there = children_there (named_in t) (child_digests t) exact in
     record { root = c.in_ok-named.ensures.root; children = rw c.deref.ensures.value at c.in_ok-named.ensures.children; held = there.0; named = there.1 }

@@ -1,40 +1,22 @@
-use Rattle.std.proofs.Common.{◌≡◌, ◌++◌, ◌∙◌, ap, sym, subst, codes, Some, None, [], ◌∷◌, option_map}
-use Rattle.std.specs.List.{Contains}
-use Rattle.std.proofs.lemmas.List.{append_cancel_left}
+use Rattle.std.proofs.Common.{◌≡◌, sym, ◌∙◌}
+use Rattle.messages.specs.Path.{IsPath}
 use Rattle.plan.specs.Escape.{escaped_path}
-use Rattle.plan.specs.Lines.{origin_words, origin_value}
-use Rattle.plan.proofs.Lines.{has_space}
-use Rattle.plan.proofs.Spelled.{line_parts, some_line}
+use Rattle.plan.proofs.OneLine.{in_space, line_fault}
+use Rattle.plan.proofs.Written.{in_parts}
 use Rattle.plan.proofs.line.read_line.Goals as goal
 
-pub returns-in_default-split_once-clause-only : goal.returns-in_default-split_once-clause-only
-returns-in_default-split_once-clause-only g c = λ line is e.
-    let rest = append_cancel_left (codes "in ") c.in-Some.rest.now (escaped_path line.target ++ 32 ∷ origin_words [] line.origin) (sym c.in-Some.ensures ∙ e) in
-    let space : Contains c.in-Some.rest.now 32 = subst (λ l. Contains l 32) (sym rest) (has_space (escaped_path line.target) (origin_words [] line.origin)) in
-    absurd (c.in_default-split_once.ensures space)
+pub returns-in_default-split_once : goal.returns-in_default-split_once
+returns-in_default-split_once g c = λ target origin is told. c.in_default-split_once.ensures (in_space c.in-Some.rest.now target origin (sym c.in-Some.ensures ∙ told))
 
-pub returns-in_default-2-clause-only : goal.returns-in_default-2-clause-only
-returns-in_default-2-clause-only g c = λ line is e.
-    let rest = append_cancel_left (codes "in ") c.in-Some.rest.now (escaped_path line.target ++ 32 ∷ origin_words [] line.origin) (sym c.in-Some.ensures ∙ e) in
-    let k = c.in-Some-split_once.ensures in
-    let parts = line_parts c.in-Some.rest.now c.in-Some-split_once.target.now c.in-Some-split_once.origin.now line is k.1 k.0 rest in
-    let found = c.in_ok-target.ensures.only line.target is.target parts.0 in
-    absurd (c.in_default-2.not-Some line.target found)
+pub returns-in_default-2 : goal.returns-in_default-2
+returns-in_default-2 g c = λ target origin is told.
+    let split = c.in-Some-split_once.ensures in
+    let parts = in_parts c.in-Some.rest.now c.in-Some-split_once.target.now c.in-Some-split_once.origin.now target origin is.0 split.1 split.0 (sym c.in-Some.ensures ∙ told) in
+    absurd (c.in_default-2.not-Some target (c.in_ok-target.ensures.only target is.0 parts.0))
 
-pub returns-in_default-3-clause-only : goal.returns-in_default-3-clause-only
-returns-in_default-3-clause-only g c = λ line is e.
-    let rest = append_cancel_left (codes "in ") c.in-Some.rest.now (escaped_path line.target ++ 32 ∷ origin_words [] line.origin) (sym c.in-Some.ensures ∙ e) in
-    let k = c.in-Some-split_once.ensures in
-    let parts = line_parts c.in-Some.rest.now c.in-Some-split_once.target.now c.in-Some-split_once.origin.now line is k.1 k.0 rest in
-    let found = c.in_ok-origin.ensures.only line.origin is.origin parts.1 in
-    let none : None ≡ Some line.origin = ap (option_map origin_value) (sym c.in_default-3.is) ∙ found in
-    absurd cc
-
-pub returns-clause-only : goal.returns-clause-only
-returns-clause-only g c = λ line is e.
-    let rest = append_cancel_left (codes "in ") c.in-Some.rest.now (escaped_path line.target ++ 32 ∷ origin_words [] line.origin) (sym c.in-Some.ensures ∙ e) in
-    let k = c.in-Some-split_once.ensures in
-    let parts = line_parts c.in-Some.rest.now c.in-Some-split_once.target.now c.in-Some-split_once.origin.now line is k.1 k.0 rest in
-    let target = sym c.in-Some-2.is ∙ c.in_ok-target.ensures.only line.target is.target parts.0 in
-    let origin = ap (option_map origin_value) (sym c.in-Some-3.is) ∙ c.in_ok-origin.ensures.only line.origin is.origin parts.1 in
-    some_line c.in-Some-2.target (origin_value c.in-Some-3.origin) line target origin
+pub returns-in-Err : goal.returns-in-Err
+returns-in-Err g c =
+    let split = c.in-Some-split_once.ensures in
+    let found : IsPath c.in-Some-2.target × (c.in-Some-split_once.target.now ≡ escaped_path c.in-Some-2.target) = rw c.in-Some-2.is at c.in_ok-target.ensures.found in
+    let fault = rw c.in-Err.is at (c.in_ok-origin.ensures {u = tt}) in
+    line_fault c.args.steps.now c.args.words.now c.in-Some.rest.now c.in-Some-split_once.target.now c.in-Some-split_once.origin.now c.in-Some-2.target c.in-Err.fault c.in-Some.ensures split.0 split.1 found.0 found.1 fault

@@ -1,11 +1,17 @@
 use Rattle.std.proofs.Common.{subst}
 use Rattle.std.specs.Prelude.{IfOk}
 use Rattle.verifier.specs.Verdict.{IsVerdict}
-use Rattle.verifier.proofs.Holds.{answers_hold}
+use Rattle.verifier.proofs.Holds.{answers_hold, answers_unstuck}
 use Rattle.verifier.proofs.verifying.verify.Goals as goal
 
 pub returns-clause-holds : goal.returns-clause-holds
 returns-clause-holds g c =
-    let tells = g.S.BlobSource.tells c.judge_root.new.source in
-    let verdict = subst (λ lines. IfOk c.judge_root.result (λ v. IsVerdict tells.blobs c.args.sources.now lines c.args.claim.now v)) c.lines.ensures.value c.judge_root.ensures.verdict in
-    answers_hold tells.blobs tells.results c.args.sources.now c.args.plan.now _ c.args.claim.now c.judge_root.result c.lines.ensures.no_steps verdict
+    let tells = g.S.BlobSource.tells c.decide.new.source in
+    let verdict = subst (λ digests. IfOk c.decide.result (IsVerdict tells.blobs tells.results c.args.sources.now c.args.plan.now digests c.args.claim.now)) c.digests.ensures.value c.decide.ensures.verdict in
+    answers_hold tells.blobs tells.results c.args.sources.now c.args.plan.now c.args.record.now.digests c.args.claim.now c.decide.result verdict
+
+pub returns-clause-unstuck : goal.returns-clause-unstuck
+returns-clause-unstuck g c =
+    let tells = g.S.BlobSource.tells c.decide.new.source in
+    let verdict = subst (λ digests. IfOk c.decide.result (IsVerdict tells.blobs tells.results c.args.sources.now c.args.plan.now digests c.args.claim.now)) c.digests.ensures.value c.decide.ensures.verdict in
+    answers_unstuck tells.blobs tells.results c.args.sources.now c.args.plan.now c.args.record.now.digests c.args.claim.now c.decide.result verdict

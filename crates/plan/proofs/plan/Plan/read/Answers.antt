@@ -1,35 +1,90 @@
-use Rattle.std.proofs.Common.{◌++◌, sym, subst, refl, inl, inr, codes}
-use Rattle.plan.specs.Line.{line_text, Begins}
-use Rattle.plan.specs.Plan.{plan_header, front, IsPlanFault}
-use Rattle.plan.specs.Reading.{FaultyUnlessMemory}
-use Rattle.plan.proofs.Lines.{cut_front}
-use Rattle.plan.proofs.PlanTexts.{plan_begins, only_memory, plan_same, headed, handed_on}
+use Rattle.std.proofs.Common.{◌≡◌, ◌+◌, ◌++◌, ◌∙◌, [], List, sym, subst, arith}
+use Rattle.plan.specs.Faults.{IsFaultBehind, IsPlanFault}
+use Rattle.plan.specs.Parts.{IsLinesFault}
+use Rattle.plan.specs.Plan.{IsPlan, plan_header, plan_text}
+use Rattle.plan.specs.Values.{StepValue}
+use Rattle.plan.proofs.Beginnings.{root_fault, lines_of_root, end_fault, handed_on, plan_with}
+use Rattle.plan.proofs.Chains.{plan_one}
+use Rattle.plan.proofs.Lines.{nothing_left, some_left}
+use Rattle.plan.proofs.Reading.{lifted, lifted_error, only_error, only_handed, no_header, small_number, whole_plan}
 use Rattle.plan.proofs.plan.Plan.read.Goals as goal
 
 pub returns-in_default-clause-only : goal.returns-in_default-clause-only
-returns-in_default-clause-only g c = λ plan is none e.
-    let begins = plan_begins plan none c.args.text.now e in
-    absurd (c.in_default.ensures (line_text (codes "root") ++ begins.0, begins.1))
+returns-in_default-clause-only g c = λ plan is e. absurd (c.in_default.ensures (no_header c.args.text.now plan e))
+
+pub returns-in_err-front-clause-fault : goal.returns-in_err-front-clause-fault
+returns-in_err-front-clause-fault g c =
+    handed_on c.from_residual.result c.in_err-front.field-0.0 (IsFaultBehind (plan_header ++ c.in-Some.rest.now)) (IsPlanFault c.args.text.now) c.from_residual.ensures.1
+    (λ x h. lifted c.args.text.now c.in-Some.rest.now x c.in-Some.ensures h) c.in_err-front.ensures.fault
+
+pub returns-in_err-front-clause-only : goal.returns-in_err-front-clause-only
+returns-in_err-front-clause-only g c = λ plan is e. only_handed c.args.text.now c.from_residual.result plan c.from_residual.ensures.0 is e (returns-in_err-front-clause-fault g c)
 
 pub returns-in_default-strip-clause-fault : goal.returns-in_default-strip-clause-fault
 returns-in_default-strip-clause-fault g c =
-    subst (FaultyUnlessMemory (IsPlanFault c.args.text.now)) (sym c.at-in_default-strip.ensures)
-    (inr (inl (refl, (c.in-Some.lines.now, c.in-Some.ensures), λ begins. c.in_default-strip.ensures (cut_front plan_header (line_text (codes "root")) c.in-Some.lines.now (subst (Begins front) c.in-Some.ensures begins)))))
+    lifted_error c.args.text.now c.in-Some.rest.now c.at-in_default-strip.result c.in-Some.ensures
+    (root_fault c.in-Some.rest.now c.in_ok-front.front.rest.now c.in_ok-front.front.steps c.in_ok-front.front.number c.at-in_default-strip.result c.in_ok-front.ensures.found c.in_default-strip.ensures c.at-in_default-strip.ensures)
 
 pub returns-in_default-strip-clause-only : goal.returns-in_default-strip-clause-only
-returns-in_default-strip-clause-only g c = λ plan is none e.
-    let begins = plan_begins plan none c.args.text.now e in
-    absurd (c.in_default-strip.ensures (cut_front plan_header (line_text (codes "root")) c.in-Some.lines.now (subst (Begins front) c.in-Some.ensures begins)))
+returns-in_default-strip-clause-only g c = λ plan is e. only_error c.args.text.now c.at-in_default-strip.result plan is e (returns-in_default-strip-clause-fault g c)
 
-pub returns-in_err-read_root-clause-only : goal.returns-in_err-read_root-clause-only
-returns-in_err-read_root-clause-only g c = λ plan is none e.
-    let cut = headed c.args.text.now c.in-Some.lines.now c.in-Some-strip.rest.now c.in-Some.ensures c.in-Some-strip.ensures in
-    let fault = c.in_err-read_root.ensures.fault in
-    let given = only_memory plan c.args.text.now c.in-Some-strip.rest.now c.in_err-read_root.field-0.0 is none e cut fault in
-    handed_on c.from_residual.result c.in_err-read_root.field-0.0 plan c.from_residual.ensures.0 c.from_residual.ensures.1 given
+pub overflow_add-first : goal.overflow_add-first
+overflow_add-first g c = omega (arith, small_number c.in-Some.rest.now c.in_ok-front.front.rest.now c.in_ok-front.front.steps c.in_ok-front.front.number c.in_ok-front.ensures.found)
+
+pub read_lines-requires-clause-first_fits : goal.read_lines-requires-clause-first_fits
+read_lines-requires-clause-first_fits g c = omega (arith, small_number c.in-Some.rest.now c.in_ok-front.front.rest.now c.in_ok-front.front.steps c.in_ok-front.front.number c.in_ok-front.ensures.found)
+
+pub returns-in_err-root-clause-fault : goal.returns-in_err-root-clause-fault
+returns-in_err-root-clause-fault g c =
+    let e1 = c.in_err-root.ensures.fault in
+    let s2 = c.in-Some-strip.ensures in
+    handed_on c.from_residual-in_err-root.result c.in_err-root.field-0.0 (IsLinesFault c.in_ok-front.front.steps (c.in_ok-front.front.number + 1) c.in-Some-strip.rest.now) (IsPlanFault c.args.text.now) c.from_residual-in_err-root.ensures.1
+    (λ x h. lifted c.args.text.now c.in-Some.rest.now x c.in-Some.ensures (lines_of_root c.in-Some.rest.now c.in_ok-front.front.rest.now c.in-Some-strip.rest.now c.in_ok-front.front.steps c.in_ok-front.front.number x c.in_ok-front.ensures.found c.in-Some-strip.ensures h))
+    c.in_err-root.ensures.fault
+
+pub returns-in_err-root-clause-only : goal.returns-in_err-root-clause-only
+returns-in_err-root-clause-only g c = λ plan is e. only_handed c.args.text.now c.from_residual-in_err-root.result plan c.from_residual-in_err-root.ensures.0 is e (returns-in_err-root-clause-fault g c)
+
+pub overflow_add-first-then-not-is_empty : goal.overflow_add-first-then-not-is_empty
+overflow_add-first-then-not-is_empty g c =
+    let found = (c.in_ok-root.ensures {u = tt}).found in
+    let few = found.0.few in
+    omega (arith, small_number c.in-Some.rest.now c.in_ok-front.front.rest.now c.in_ok-front.front.steps c.in_ok-front.front.number c.in_ok-front.ensures.found, few, c.len.ensures, c.in_ok-root.root.ok)
+
+pub returns-then-not-is_empty-clause-fault : goal.returns-then-not-is_empty-clause-fault
+returns-then-not-is_empty-clause-fault g c =
+    let found = (c.in_ok-root.ensures {u = tt}).found in
+    let some = some_left c.in_ok-root.rest.now (sym c.is_empty.ensures ∙ c.if-not-is_empty.true) in
+    lifted_error c.args.text.now c.in-Some.rest.now c.at-then-not-is_empty.result c.in-Some.ensures
+    (end_fault c.in-Some.rest.now c.in_ok-front.front.rest.now c.in-Some-strip.rest.now c.in_ok-root.rest.now c.in_ok-front.front.steps c.in_ok-root.root.items c.in_ok-front.front.number (c.in_ok-front.front.number + 1 + c.len.result) c.at-then-not-is_empty.result
+    c.in_ok-front.ensures.found c.in-Some-strip.ensures found.0 found.1 some (c.in_ok-root.ensures {u = tt}).none (omega (arith, c.len.ensures, c.in_ok-root.root.ok)) c.at-then-not-is_empty.ensures)
+
+pub returns-then-not-is_empty-clause-only : goal.returns-then-not-is_empty-clause-only
+returns-then-not-is_empty-clause-only g c = λ plan is e. only_error c.args.text.now c.at-then-not-is_empty.result plan is e (returns-then-not-is_empty-clause-fault g c)
+
+pub returns-clause-found : goal.returns-clause-found
+returns-clause-found g c =
+    let found = (c.in_ok-root.ensures {u = tt}).found in
+    let none : c.in_ok-root.rest.now ≡ [] = nothing_left c.in_ok-root.rest.now (sym c.is_empty.ensures ∙ c.if-not-is_empty.false) in
+    let whole = whole_plan c.args.text.now c.in-Some.rest.now c.in_ok-front.front.rest.now c.in-Some-strip.rest.now c.in_ok-root.rest.now c.in_ok-front.front.steps c.in_ok-root.root.items c.in_ok-front.front.number c.in-Some.ensures c.in_ok-front.ensures.found c.in-Some-strip.ensures found.0 found.1 none in
+    subst (λ (steps : List StepValue). IsPlan (plan_with steps c.in_ok-root.root.items) × (c.args.text.now ≡ plan_text (plan_with steps c.in_ok-root.root.items))) (sym c.into_vec.ensures) whole
 
 pub returns-clause-only : goal.returns-clause-only
-returns-clause-only g c = λ plan is none e.
-    let cut = headed c.args.text.now c.in-Some.lines.now c.in-Some-strip.rest.now c.in-Some.ensures c.in-Some-strip.ensures in
-    let found = c.in_ok-read_root.ensures.found in
-    plan_same plan c.args.text.now c.in-Some-strip.rest.now c.in_ok-read_root.field-0.items is none e cut found.0 found.1
+returns-clause-only g c = λ plan is e.
+    let found = returns-clause-found g c in
+    plan_one (plan_with c.into_vec.result.items c.in_ok-root.root.items) plan found.0 is (sym found.1 ∙ e)
+
+pub returns-in_err-front-clause-header : goal.returns-in_err-front-clause-header
+returns-in_err-front-clause-header g c = λ no. absurd (no (_, c.in-Some.ensures))
+
+pub returns-in_default-strip-clause-header : goal.returns-in_default-strip-clause-header
+returns-in_default-strip-clause-header g c = λ no. absurd (no (_, c.in-Some.ensures))
+
+pub returns-in_err-root-clause-header : goal.returns-in_err-root-clause-header
+returns-in_err-root-clause-header g c = λ no. absurd (no (_, c.in-Some.ensures))
+
+pub returns-then-not-is_empty-clause-header : goal.returns-then-not-is_empty-clause-header
+returns-then-not-is_empty-clause-header g c = λ no. absurd (no (_, c.in-Some.ensures))
+
+pub returns-clause-header : goal.returns-clause-header
+returns-clause-header g c = λ no. absurd (no (_, c.in-Some.ensures))

@@ -1,6 +1,7 @@
-use Rattle.std.proofs.Common.{◌≡◌, ◌++◌, [], take}
-use Rattle.plan.specs.Plan.{front, lines_text}
+use Rattle.std.proofs.Common.{◌≡◌, ◌++◌, take}
+use Rattle.std.specs.List.{flat_map}
+use Rattle.plan.specs.Plan.{plan_header, step_text}
 use Rattle.plan.proofs.plan.Plan.write.Given as goal
 
-abbrev pub invariant-loop-line : goal.invariant-loop-line
-invariant-loop-line g l = l.text.items ≡ front ++ lines_text [] (take l.line-index l.line-items)
+abbrev pub invariant-loop-step : goal.invariant-loop-step
+invariant-loop-step g l = l.text.items ≡ plan_header ++ flat_map (step_text l.self.steps) (take l.step-index l.self.steps)

@@ -1,32 +1,41 @@
--- What stands behind the header.
-use Rattle.std.proofs.Common.{◌≢◌, ◌++◌, [], refl, sym, ap, ◌∙◌, inl, inr}
-use Rattle.plan.specs.Record.{build_record_text}
-use Rattle.plan.proofs.Lines.{front_itself, line_joined, names_line, names_newline, some_left}
+use Rattle.std.proofs.Common.{◌≡◌, ◌++◌, ◌∙◌, List, ℕ, [], ap, sym, subst}
+use Rattle.plan.specs.Record.{IsRecord, names_of, record_header, entries_text, IsEntryFault, IsRecordFault}
+use Rattle.plan.specs.Values.{StepValue}
+use Rattle.plan.proofs.Beginnings.{handed_on}
+use Rattle.plan.proofs.Directories.{named, AreNamed}
+use Rattle.plan.proofs.Entries.{record_with}
+use Rattle.plan.proofs.Records.{only_handed_record, lifted_record, record_one}
+use Rattle.plan.proofs.StepNames.{step_names}
 use Rattle.plan.proofs.record.Record.read.Goals as goal
 
-pub returns-in-Some-split_once-clause-fault : goal.returns-in-Some-split_once-clause-fault
-returns-in-Some-split_once-clause-fault c =
-    let line = c.in-Some-split_once.line.now in
-    let more = c.in-Some-split_once.field-0-1.now in
-    let split = c.in-Some-split_once.ensures {u = tt} in
-    let whole = c.in-Some.ensures {u = tt} ∙ ap (λ t. build_record_text ++ t) split.0 in
-    inr (inl (refl, (line, c.is_step_line.ensures.0 c.if-is_step_line.true, (more, whole ∙ line_joined build_record_text line more))))
+pub returns-in_default-clause-only : goal.returns-in_default-clause-only
+returns-in_default-clause-only g c = λ r is fits e. absurd (c.in_default.ensures (_, e))
 
-pub returns-in_default-split_once-clause-fault : goal.returns-in_default-split_once-clause-fault
-returns-in_default-split_once-clause-fault c =
-    let line = c.in-Some-split_once.line.now in
-    let more = c.in-Some-split_once.field-0-1.now in
-    let rest = c.in-Some.rest.now in
-    let behind = c.in-Some.ensures {u = tt} in
-    let split = c.in-Some-split_once.ensures {u = tt} in
-    let whole = behind ∙ ap (λ t. build_record_text ++ t) split.0 in
-    let some : rest ≢ [] = some_left rest (sym c.is_empty.ensures ∙ c.if-is_empty.false) in
-    inr (inr (refl, (rest, behind), λ e. front_itself build_record_text rest some (sym behind ∙ e), λ n. cc (sym c.if-is_step_line.false ∙ c.is_step_line.ensures.1 (names_line line more c.args.text.now split.1 whole n))))
+pub read_entries-requires-clause-lawful : goal.read_entries-requires-clause-lawful
+read_entries-requires-clause-lawful g c = subst AreNamed (sym c.steps.ensures.value) (named [] c.args.plan.now.steps c.steps.ensures.lawful.steps)
 
-pub returns-in_default-split_once-2-clause-fault : goal.returns-in_default-split_once-2-clause-fault
-returns-in_default-split_once-2-clause-fault c =
-    let rest = c.in-Some.rest.now in
-    let behind = c.in-Some.ensures {u = tt} in
-    let some : rest ≢ [] = some_left rest (sym c.is_empty.ensures ∙ c.if-is_empty.false) in
-    let none = rw c.in_default-split_once.is at c.split_once.ensures in
-    inr (inr (refl, (rest, behind), λ e. front_itself build_record_text rest some (sym behind ∙ e), λ n. none (names_newline rest c.args.text.now behind n)))
+pub returns-in_err-digests-clause-fault : goal.returns-in_err-digests-clause-fault
+returns-in_err-digests-clause-fault g c =
+    handed_on c.from_residual.result c.in_err-digests.field-0.0 (IsEntryFault (step_names c.steps.result.now) (record_header ++ c.in-Some.rest.now)) (IsRecordFault (names_of c.args.plan.now) c.args.text.now) c.from_residual.ensures.1
+    (λ x h. lifted_record (names_of c.args.plan.now) c.args.text.now c.in-Some.rest.now x c.in-Some.ensures (subst (λ (ss : List StepValue). IsEntryFault (step_names ss) (record_header ++ c.in-Some.rest.now) x) c.steps.ensures.value h))
+    c.in_err-digests.ensures.fault
+
+pub returns-in_err-digests-clause-only : goal.returns-in_err-digests-clause-only
+returns-in_err-digests-clause-only g c = λ r is fits e. only_handed_record (names_of c.args.plan.now) c.args.text.now c.from_residual.result r c.from_residual.ensures.0 is fits e (returns-in_err-digests-clause-fault g c)
+
+pub returns-clause-only : goal.returns-clause-only
+returns-clause-only g c = λ r is fits e.
+    let found : IsRecord (record_with (names_of c.args.plan.now) c.in_ok-digests.digests.items) × (c.in-Some.rest.now ≡ entries_text (names_of c.args.plan.now) c.in_ok-digests.digests.items) =
+    subst (λ (ss : List StepValue). IsRecord (record_with (step_names ss) c.in_ok-digests.digests.items) × (c.in-Some.rest.now ≡ entries_text (step_names ss) c.in_ok-digests.digests.items)) c.steps.ensures.value c.in_ok-digests.ensures.found
+    in
+    (c.in_ok-new.ensures {u = tt})
+    ∙ record_one (record_with (names_of c.args.plan.now) c.in_ok-digests.digests.items) r found.0 is (sym fits) (sym (c.in-Some.ensures ∙ ap (λ (t : List ℕ). record_header ++ t) found.1) ∙ e)
+
+pub returns-in_err-digests-clause-header : goal.returns-in_err-digests-clause-header
+returns-in_err-digests-clause-header g c = λ no. absurd (no (_, c.in-Some.ensures))
+
+pub returns-in_err-new-clause-header : goal.returns-in_err-new-clause-header
+returns-in_err-new-clause-header g c = λ no. absurd (no (_, c.in-Some.ensures))
+
+pub returns-clause-header : goal.returns-clause-header
+returns-clause-header g c = λ no. absurd (no (_, c.in-Some.ensures))

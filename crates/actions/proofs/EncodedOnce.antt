@@ -1,0 +1,348 @@
+-- One encoding is that of one frame, Action, Command and ActionResult.
+use Rattle.std.proofs.Common.{◌≡◌, ℕ, zero, suc, List, [], ◌∷◌, map, Option, Some, None, Ok, refl, ap, sym, ◌∙◌, arith}
+use Rattle.std.specs.Prelude.{ℤ, pos, FitsSigned, IfSome, Result, option_map}
+use Rattle.std.specs.Int.{w32, w64, cast_unsigned}
+use Rattle.std.specs.List.{AllByRecursion}
+use Rattle.hex.specs.declared.error.FromHexError.{FromHexError}
+use Rattle.hex.specs.Hex.{encode_lower, decode_of, IsBytes}
+use Rattle.hex.proofs.HexLemmas.{decode_of-encode_lower}
+use Rattle.wire.specs.Record.{Record}
+use Rattle.wire.specs.Spelling.{spelling}
+use Rattle.canonical.specs.Fields.{bytes_field, number_field, int_field, bool_field, message_field, element_fields}
+use Rattle.canonical.specs.Columns.{column}
+use Rattle.canonical.proofs.FieldKinds.{int32_read}
+use Rattle.blob_digest.specs.DigestValue.{DigestValue, IsDigest}
+use Rattle.messages.specs.declared.error.MessageError.{MessageError}
+use Rattle.messages.specs.DigestMessage.{digest_bytes}
+use Rattle.messages.specs.Path.{IsPath, parts_of, path_text}
+use Rattle.messages.proofs.Paths.{parts_of_path}
+use Rattle.actions.specs.Setting.{SettingValue, setting_bytes}
+use Rattle.actions.specs.Platform.{platform_bytes, platform_entry_of}
+use Rattle.actions.specs.Frame.{FrameValue, IsFrame, frame_bytes}
+use Rattle.actions.specs.Action.{ActionValue, IsAction, action_bytes}
+use Rattle.actions.specs.Overlaps.{texts_of}
+use Rattle.actions.specs.Command.{CommandValue, IsCommand, command_bytes, directory_text, directory_of}
+use Rattle.actions.specs.Stream.{StreamValue, IsStream}
+use Rattle.actions.specs.OutputFile.{OutputFileValue, IsOutputFile, output_file_bytes}
+use Rattle.actions.specs.OutputDirectory.{OutputDirectoryValue, IsOutputDirectory, output_directory_bytes}
+use Rattle.actions.specs.OutputSymlink.{OutputSymlinkValue, IsOutputSymlink, output_symlink_bytes}
+use Rattle.actions.specs.ActionResult.{ActionResultValue, IsActionResult, action_result_bytes}
+use Rattle.actions.proofs.Commands.{directory_given}
+use Rattle.actions.proofs.FieldLists.{AreFields, bool_is, bool_once, bytes_are, bytes_once, each_once, eight, elements_are, elements_once, five, four, given_once, message_is, message_once, number_is, number_once, spelled_fields, three, together}
+
+-- ---- what messages are made of
+
+hex_once : (xs ys : List ℕ) → IsBytes xs → IsBytes ys → encode_lower xs ≡ encode_lower ys → xs ≡ ys
+hex_once xs ys h k e =
+    let both : ◌≡◌ {A = Result (List ℕ) FromHexError} (Ok xs) (Ok ys) = sym (decode_of-encode_lower xs h) ∙ ap decode_of e ∙ decode_of-encode_lower ys k in
+    cc
+
+digest_once : (d e : DigestValue) → IsDigest d → IsDigest e → digest_bytes d ≡ digest_bytes e → d ≡ e
+digest_once d e h k eq =
+    let parts = spelled_fields (1 ∷ []) 2 (bytes_field 1 (encode_lower d.hash) ∷ []) (bytes_field 1 (encode_lower e.hash) ∷ []) (int_field 2 (pos d.size)) (int_field 2 (pos e.size))
+    (omega arith, bytes_are 1 (encode_lower d.hash), (omega arith, number_is 2 _)) (omega arith, bytes_are 1 (encode_lower e.hash), (omega arith, number_is 2 _)) eq in
+    let lists = parts.0 in
+    let first : bytes_field 1 (encode_lower d.hash) ≡ bytes_field 1 (encode_lower e.hash) = cc in
+    let hashes = hex_once d.hash e.hash h.hash.bytes k.hash.bytes (bytes_once 1 (encode_lower d.hash) (encode_lower e.hash) first) in
+    let casts : cast_unsigned w64 (pos d.size) ≡ cast_unsigned w64 (pos e.size) = number_once 2 _ _ parts.1 in
+    let sizes : d.size ≡ e.size = omega (arith, casts, h.size, k.size) in
+    λ i. record { hash = hashes i; size = sizes i }
+
+optional_once : (o p : Option DigestValue) → IfSome o IsDigest → IfSome p IsDigest → option_map digest_bytes o ≡ option_map digest_bytes p → o ≡ p
+optional_once None None h k e = refl
+optional_once None (Some d) h k e = absurd cc
+optional_once (Some d) None h k e = absurd cc
+optional_once (Some d) (Some f) h k e = let same : digest_bytes d ≡ digest_bytes f = cc in ap Some (digest_once d f h k same)
+
+setting_once : (s t : SettingValue) → setting_bytes s ≡ setting_bytes t → s ≡ t
+unfolding setting_bytes
+setting_once s t e =
+    let parts = spelled_fields (1 ∷ []) 2 (bytes_field 1 s.name ∷ []) (bytes_field 1 t.name ∷ []) (bytes_field 2 s.value) (bytes_field 2 t.value)
+    (omega arith, bytes_are 1 s.name, (omega arith, bytes_are 2 s.value)) (omega arith, bytes_are 1 t.name, (omega arith, bytes_are 2 t.value)) e in
+    let lists = parts.0 in
+    let first : bytes_field 1 s.name ≡ bytes_field 1 t.name = cc in
+    let names = bytes_once 1 s.name t.name first in
+    let values = bytes_once 2 s.value t.value parts.1 in
+    λ i. record { name = names i; value = values i }
+
+any : {X : Type 0} (xs : List X) → AllByRecursion (λ x. Unit {0}) xs
+any [] = tt
+any (x ∷ xs) = (tt, any xs)
+
+settings_once : (ss ts : List SettingValue) → map setting_bytes ss ≡ map setting_bytes ts → ss ≡ ts
+settings_once ss ts e = each_once setting_bytes (λ s. Unit {0}) (λ s t h k. setting_once s t) ss ts (any ss) (any ts) e
+
+properties_once : (ss ts : List SettingValue) → platform_bytes (record { properties = ss }) ≡ platform_bytes (record { properties = ts }) → ss ≡ ts
+unfolding platform_bytes
+properties_once ss ts e =
+    let parts = spelled_fields [] 1 [] [] (element_fields 1 (map setting_bytes ss)) (element_fields 1 (map setting_bytes ts))
+    (omega arith, elements_are 1 (map setting_bytes ss)) (omega arith, elements_are 1 (map setting_bytes ts)) e in
+    settings_once ss ts (elements_once 1 (map setting_bytes ss) (map setting_bytes ts) parts.1)
+
+entry_once : (ss ts : List SettingValue) → platform_entry_of ss ≡ platform_entry_of ts → ss ≡ ts
+entry_once [] [] e = refl
+entry_once [] (t ∷ ts) e = absurd cc
+entry_once (s ∷ ss) [] e = absurd cc
+entry_once (s ∷ ss) (t ∷ ts) e =
+    let same : platform_bytes (record { properties = s ∷ ss }) ≡ platform_bytes (record { properties = t ∷ ts }) = cc in
+    properties_once (s ∷ ss) (t ∷ ts) same
+
+path_once : (p q : List (List ℕ)) → IsPath p → IsPath q → path_text p ≡ path_text q → p ≡ q
+path_once p q h k e = sym (parts_of_path p h) ∙ ap parts_of e ∙ parts_of_path q k
+
+directory_once : (o p : Option (List (List ℕ))) → IfSome o IsPath → IfSome p IsPath → directory_text o ≡ directory_text p → o ≡ p
+directory_once o p h k e =
+    let same : ◌≡◌ {A = Result (Option (List (List ℕ))) MessageError} (Ok o) (Ok p) = sym (directory_given o h) ∙ ap directory_of e ∙ directory_given p k in
+    cc
+
+own_number : (n : ℕ) → column 4 (number_field 4 n) ≡ number_field 4 n
+own_number zero = refl
+own_number (suc n) = refl
+
+code_once : (a b : ℤ) → FitsSigned w32 a → FitsSigned w32 b → int_field 4 a ≡ int_field 4 b → a ≡ b
+code_once a b h k e =
+    sym (int32_read 4 (int_field 4 a) a h (own_number (cast_unsigned w64 a))) ∙ int32_read 4 (int_field 4 a) b k (own_number (cast_unsigned w64 a) ∙ e)
+
+-- ---- the messages
+
+abbrev frame_fields : FrameValue → List (List Record)
+frame_fields f =
+    message_field 1 (Some (digest_bytes f.command)) ∷
+    bool_field 7 f.do_not_cache ∷
+    bytes_field 9 f.salt ∷
+    []
+
+abbrev frame_last : FrameValue → List Record
+frame_last f = message_field 10 (platform_entry_of f.platform.properties)
+
+are_frame_fields : (f : FrameValue) → AreFields 0 (1 ∷ 7 ∷ 9 ∷ []) 10 (frame_fields f) (frame_last f)
+are_frame_fields f = (
+  omega arith,
+  message_is 1 (Some (digest_bytes f.command)),
+  (
+    omega arith,
+    bool_is 7 f.do_not_cache,
+    (omega arith, bytes_are 9 f.salt, (omega arith, message_is 10 (platform_entry_of f.platform.properties))),
+  ),
+)
+
+frame_spelled : (f : FrameValue) → spelling (together (frame_fields f) (frame_last f)) ≡ frame_bytes f
+unfolding frame_bytes
+frame_spelled f = ap spelling (four (message_field 1 (Some (digest_bytes f.command))) (bool_field 7 f.do_not_cache) (bytes_field 9 f.salt) (frame_last f))
+
+pub frame_bytes_injective : (f g : FrameValue) → IsFrame f → IsFrame g → frame_bytes f ≡ frame_bytes g → f ≡ g
+frame_bytes_injective f g h k e =
+    let fields = spelled_fields (1 ∷ 7 ∷ 9 ∷ []) 10 (frame_fields f) (frame_fields g) (frame_last f) (frame_last g) (are_frame_fields f) (are_frame_fields g)
+    (frame_spelled f ∙ e ∙ sym (frame_spelled g)) in
+    let lists = fields.0 in
+    let f1 : message_field 1 (Some (digest_bytes f.command)) ≡ message_field 1 (Some (digest_bytes g.command)) = cc in
+    let f7 : bool_field 7 f.do_not_cache ≡ bool_field 7 g.do_not_cache = cc in
+    let f9 : bytes_field 9 f.salt ≡ bytes_field 9 g.salt = cc in
+    let command = digest_once f.command g.command h.command k.command (given_once 1 (digest_bytes f.command) (digest_bytes g.command) f1) in
+    let cached = bool_once 7 f.do_not_cache g.do_not_cache f7 in
+    let salt = bytes_once 9 f.salt g.salt f9 in
+    let properties = entry_once f.platform.properties g.platform.properties (message_once 10 (platform_entry_of f.platform.properties) (platform_entry_of g.platform.properties) fields.1) in
+    λ i. record { command = command i; do_not_cache = cached i; salt = salt i; platform = record { properties = properties i } }
+
+abbrev action_fields : ActionValue → List (List Record)
+action_fields a =
+    message_field 1 (Some (digest_bytes a.frame.command)) ∷
+    message_field 2 (Some (digest_bytes a.input)) ∷
+    bool_field 7 a.frame.do_not_cache ∷
+    bytes_field 9 a.frame.salt ∷
+    []
+
+abbrev action_last : ActionValue → List Record
+action_last a = message_field 10 (platform_entry_of a.frame.platform.properties)
+
+are_action_fields : (a : ActionValue) → AreFields 0 (1 ∷ 2 ∷ 7 ∷ 9 ∷ []) 10 (action_fields a) (action_last a)
+are_action_fields a = (
+  omega arith,
+  message_is 1 (Some (digest_bytes a.frame.command)),
+  (
+    omega arith,
+    message_is 2 (Some (digest_bytes a.input)),
+    (
+      omega arith,
+      bool_is 7 a.frame.do_not_cache,
+      (omega arith, bytes_are 9 a.frame.salt, (omega arith, message_is 10 (platform_entry_of a.frame.platform.properties))),
+    ),
+  ),
+)
+
+action_spelled : (a : ActionValue) → spelling (together (action_fields a) (action_last a)) ≡ action_bytes a
+unfolding action_bytes
+action_spelled a = ap spelling (five (message_field 1 (Some (digest_bytes a.frame.command))) (message_field 2 (Some (digest_bytes a.input))) (bool_field 7 a.frame.do_not_cache) (bytes_field 9 a.frame.salt) (action_last a))
+
+pub action_bytes_injective : (a b : ActionValue) → IsAction a → IsAction b → action_bytes a ≡ action_bytes b → a ≡ b
+action_bytes_injective a b h k e =
+    let fields = spelled_fields (1 ∷ 2 ∷ 7 ∷ 9 ∷ []) 10 (action_fields a) (action_fields b) (action_last a) (action_last b) (are_action_fields a) (are_action_fields b)
+    (action_spelled a ∙ e ∙ sym (action_spelled b)) in
+    let lists = fields.0 in
+    let f1 : message_field 1 (Some (digest_bytes a.frame.command)) ≡ message_field 1 (Some (digest_bytes b.frame.command)) = cc in
+    let f2 : message_field 2 (Some (digest_bytes a.input)) ≡ message_field 2 (Some (digest_bytes b.input)) = cc in
+    let f7 : bool_field 7 a.frame.do_not_cache ≡ bool_field 7 b.frame.do_not_cache = cc in
+    let f9 : bytes_field 9 a.frame.salt ≡ bytes_field 9 b.frame.salt = cc in
+    let command = digest_once a.frame.command b.frame.command h.frame.command k.frame.command (given_once 1 (digest_bytes a.frame.command) (digest_bytes b.frame.command) f1) in
+    let input = digest_once a.input b.input h.input k.input (given_once 2 (digest_bytes a.input) (digest_bytes b.input) f2) in
+    let cached = bool_once 7 a.frame.do_not_cache b.frame.do_not_cache f7 in
+    let salt = bytes_once 9 a.frame.salt b.frame.salt f9 in
+    let properties = entry_once a.frame.platform.properties b.frame.platform.properties (message_once 10 (platform_entry_of a.frame.platform.properties) (platform_entry_of b.frame.platform.properties) fields.1) in
+    λ i. record { frame = record { command = command i; do_not_cache = cached i; salt = salt i; platform = record { properties = properties i } }; input = input i }
+
+abbrev command_fields : CommandValue → List (List Record)
+command_fields c =
+    element_fields 1 c.arguments ∷
+    element_fields 2 (map setting_bytes c.environment) ∷
+    bytes_field 6 (directory_text c.working_directory) ∷
+    []
+
+abbrev command_last : CommandValue → List Record
+command_last c = element_fields 7 (texts_of c.output_paths)
+
+are_command_fields : (c : CommandValue) → AreFields 0 (1 ∷ 2 ∷ 6 ∷ []) 7 (command_fields c) (command_last c)
+are_command_fields c = (
+  omega arith,
+  elements_are 1 c.arguments,
+  (
+    omega arith,
+    elements_are 2 (map setting_bytes c.environment),
+    (omega arith, bytes_are 6 (directory_text c.working_directory), (omega arith, elements_are 7 (texts_of c.output_paths))),
+  ),
+)
+
+command_spelled : (c : CommandValue) → spelling (together (command_fields c) (command_last c)) ≡ command_bytes c
+unfolding command_bytes
+command_spelled c = ap spelling (four (element_fields 1 c.arguments) (element_fields 2 (map setting_bytes c.environment)) (bytes_field 6 (directory_text c.working_directory)) (command_last c))
+
+pub command_bytes_injective : (c d : CommandValue) → IsCommand c → IsCommand d → command_bytes c ≡ command_bytes d → c ≡ d
+command_bytes_injective c d h k e =
+    let fields = spelled_fields (1 ∷ 2 ∷ 6 ∷ []) 7 (command_fields c) (command_fields d) (command_last c) (command_last d) (are_command_fields c) (are_command_fields d)
+    (command_spelled c ∙ e ∙ sym (command_spelled d)) in
+    let lists = fields.0 in
+    let f1 : element_fields 1 c.arguments ≡ element_fields 1 d.arguments = cc in
+    let f2 : element_fields 2 (map setting_bytes c.environment) ≡ element_fields 2 (map setting_bytes d.environment) = cc in
+    let f6 : bytes_field 6 (directory_text c.working_directory) ≡ bytes_field 6 (directory_text d.working_directory) = cc in
+    let arguments = elements_once 1 c.arguments d.arguments f1 in
+    let environment = settings_once c.environment d.environment (elements_once 2 (map setting_bytes c.environment) (map setting_bytes d.environment) f2) in
+    let directory = directory_once c.working_directory d.working_directory h.working_directory k.working_directory (bytes_once 6 (directory_text c.working_directory) (directory_text d.working_directory) f6) in
+    let paths = each_once path_text IsPath path_once c.output_paths d.output_paths h.output_paths k.output_paths (elements_once 7 (texts_of c.output_paths) (texts_of d.output_paths) fields.1) in
+    λ i. record { arguments = arguments i; environment = environment i; working_directory = directory i; output_paths = paths i }
+
+output_file_spelled : (x : OutputFileValue) → spelling (together (bytes_field 1 (path_text x.path) ∷ message_field 2 (Some (digest_bytes x.digest)) ∷ []) (bool_field 4 x.executable)) ≡ output_file_bytes x
+unfolding output_file_bytes
+output_file_spelled x = ap spelling (three (bytes_field 1 (path_text x.path)) (message_field 2 (Some (digest_bytes x.digest))) (bool_field 4 x.executable))
+
+output_file_once : (x y : OutputFileValue) → IsOutputFile x → IsOutputFile y → output_file_bytes x ≡ output_file_bytes y → x ≡ y
+output_file_once x y h k e =
+    let fields = spelled_fields (1 ∷ 2 ∷ []) 4
+    (bytes_field 1 (path_text x.path) ∷ message_field 2 (Some (digest_bytes x.digest)) ∷ []) (bytes_field 1 (path_text y.path) ∷ message_field 2 (Some (digest_bytes y.digest)) ∷ [])
+    (bool_field 4 x.executable) (bool_field 4 y.executable)
+    (omega arith, bytes_are 1 (path_text x.path), (omega arith, message_is 2 (Some (digest_bytes x.digest)), (omega arith, bool_is 4 x.executable)))
+    (omega arith, bytes_are 1 (path_text y.path), (omega arith, message_is 2 (Some (digest_bytes y.digest)), (omega arith, bool_is 4 y.executable)))
+    (output_file_spelled x ∙ e ∙ sym (output_file_spelled y)) in
+    let lists = fields.0 in
+    let f1 : bytes_field 1 (path_text x.path) ≡ bytes_field 1 (path_text y.path) = cc in
+    let f2 : message_field 2 (Some (digest_bytes x.digest)) ≡ message_field 2 (Some (digest_bytes y.digest)) = cc in
+    let path = path_once x.path y.path h.path k.path (bytes_once 1 (path_text x.path) (path_text y.path) f1) in
+    let digest = digest_once x.digest y.digest h.digest k.digest (given_once 2 (digest_bytes x.digest) (digest_bytes y.digest) f2) in
+    let executable = bool_once 4 x.executable y.executable fields.1 in
+    λ i. record { path = path i; digest = digest i; executable = executable i }
+
+output_directory_once : (x y : OutputDirectoryValue) → IsOutputDirectory x → IsOutputDirectory y → output_directory_bytes x ≡ output_directory_bytes y → x ≡ y
+unfolding output_directory_bytes
+output_directory_once x y h k e =
+    let fields = spelled_fields (1 ∷ []) 3
+    (bytes_field 1 (path_text x.path) ∷ []) (bytes_field 1 (path_text y.path) ∷ [])
+    (message_field 3 (Some (digest_bytes x.tree))) (message_field 3 (Some (digest_bytes y.tree)))
+    (omega arith, bytes_are 1 (path_text x.path), (omega arith, message_is 3 (Some (digest_bytes x.tree))))
+    (omega arith, bytes_are 1 (path_text y.path), (omega arith, message_is 3 (Some (digest_bytes y.tree)))) e in
+    let lists = fields.0 in
+    let f1 : bytes_field 1 (path_text x.path) ≡ bytes_field 1 (path_text y.path) = cc in
+    let path = path_once x.path y.path h.path k.path (bytes_once 1 (path_text x.path) (path_text y.path) f1) in
+    let tree = digest_once x.tree y.tree h.tree k.tree (given_once 3 (digest_bytes x.tree) (digest_bytes y.tree) fields.1) in
+    λ i. record { path = path i; tree = tree i }
+
+output_symlink_once : (x y : OutputSymlinkValue) → IsOutputSymlink x → IsOutputSymlink y → output_symlink_bytes x ≡ output_symlink_bytes y → x ≡ y
+unfolding output_symlink_bytes
+output_symlink_once x y h k e =
+    let fields = spelled_fields (1 ∷ []) 2
+    (bytes_field 1 (path_text x.path) ∷ []) (bytes_field 1 (path_text y.path) ∷ []) (bytes_field 2 x.target) (bytes_field 2 y.target)
+    (omega arith, bytes_are 1 (path_text x.path), (omega arith, bytes_are 2 x.target)) (omega arith, bytes_are 1 (path_text y.path), (omega arith, bytes_are 2 y.target)) e in
+    let lists = fields.0 in
+    let f1 : bytes_field 1 (path_text x.path) ≡ bytes_field 1 (path_text y.path) = cc in
+    let path = path_once x.path y.path h.path k.path (bytes_once 1 (path_text x.path) (path_text y.path) f1) in
+    let target = bytes_once 2 x.target y.target fields.1 in
+    λ i. record { path = path i; target = target i }
+
+stream_once : (s t : StreamValue) → IsStream s → IsStream t → s.raw ≡ t.raw → option_map digest_bytes s.digest ≡ option_map digest_bytes t.digest → s ≡ t
+stream_once s t h k raw e =
+    let digest = optional_once s.digest t.digest h.digest k.digest e in
+    λ i. record { raw = raw i; digest = digest i }
+
+abbrev result_fields : ActionResultValue → List (List Record)
+result_fields r =
+    element_fields 2 (map output_file_bytes r.files) ∷
+    element_fields 3 (map output_directory_bytes r.directories) ∷
+    int_field 4 r.exit_code ∷
+    bytes_field 5 r.stdout.raw ∷
+    message_field 6 (option_map digest_bytes r.stdout.digest) ∷
+    bytes_field 7 r.stderr.raw ∷
+    message_field 8 (option_map digest_bytes r.stderr.digest) ∷
+    []
+
+abbrev result_last : ActionResultValue → List Record
+result_last r = element_fields 12 (map output_symlink_bytes r.symlinks)
+
+are_result_fields : (r : ActionResultValue) → AreFields 0 (2 ∷ 3 ∷ 4 ∷ 5 ∷ 6 ∷ 7 ∷ 8 ∷ []) 12 (result_fields r) (result_last r)
+are_result_fields r = (
+  omega arith,
+  elements_are 2 (map output_file_bytes r.files),
+  (
+    omega arith,
+    elements_are 3 (map output_directory_bytes r.directories),
+    (
+      omega arith,
+      number_is 4 _,
+      (
+        omega arith,
+        bytes_are 5 r.stdout.raw,
+        (
+          omega arith,
+          message_is 6 (option_map digest_bytes r.stdout.digest),
+          (
+            omega arith,
+            bytes_are 7 r.stderr.raw,
+            (omega arith, message_is 8 (option_map digest_bytes r.stderr.digest), (omega arith, elements_are 12 (map output_symlink_bytes r.symlinks))),
+          ),
+        ),
+      ),
+    ),
+  ),
+)
+
+result_spelled : (r : ActionResultValue) → spelling (together (result_fields r) (result_last r)) ≡ action_result_bytes r
+unfolding action_result_bytes
+result_spelled r =
+    ap spelling (eight (element_fields 2 (map output_file_bytes r.files)) (element_fields 3 (map output_directory_bytes r.directories)) (int_field 4 r.exit_code) (bytes_field 5 r.stdout.raw)
+    (message_field 6 (option_map digest_bytes r.stdout.digest)) (bytes_field 7 r.stderr.raw) (message_field 8 (option_map digest_bytes r.stderr.digest)) (result_last r))
+
+pub action_result_bytes_injective : (r s : ActionResultValue) → IsActionResult r → IsActionResult s → action_result_bytes r ≡ action_result_bytes s → r ≡ s
+action_result_bytes_injective r s h k e =
+    let fields = spelled_fields (2 ∷ 3 ∷ 4 ∷ 5 ∷ 6 ∷ 7 ∷ 8 ∷ []) 12 (result_fields r) (result_fields s) (result_last r) (result_last s) (are_result_fields r) (are_result_fields s)
+    (result_spelled r ∙ e ∙ sym (result_spelled s)) in
+    let lists = fields.0 in
+    let f2 : element_fields 2 (map output_file_bytes r.files) ≡ element_fields 2 (map output_file_bytes s.files) = cc in
+    let f3 : element_fields 3 (map output_directory_bytes r.directories) ≡ element_fields 3 (map output_directory_bytes s.directories) = cc in
+    let f4 : int_field 4 r.exit_code ≡ int_field 4 s.exit_code = cc in
+    let f5 : bytes_field 5 r.stdout.raw ≡ bytes_field 5 s.stdout.raw = cc in
+    let f6 : message_field 6 (option_map digest_bytes r.stdout.digest) ≡ message_field 6 (option_map digest_bytes s.stdout.digest) = cc in
+    let f7 : bytes_field 7 r.stderr.raw ≡ bytes_field 7 s.stderr.raw = cc in
+    let f8 : message_field 8 (option_map digest_bytes r.stderr.digest) ≡ message_field 8 (option_map digest_bytes s.stderr.digest) = cc in
+    let files = each_once output_file_bytes IsOutputFile output_file_once r.files s.files h.files k.files (elements_once 2 (map output_file_bytes r.files) (map output_file_bytes s.files) f2) in
+    let directories = each_once output_directory_bytes IsOutputDirectory output_directory_once r.directories s.directories h.directories k.directories (elements_once 3 (map output_directory_bytes r.directories) (map output_directory_bytes s.directories) f3) in
+    let symlinks = each_once output_symlink_bytes IsOutputSymlink output_symlink_once r.symlinks s.symlinks h.symlinks k.symlinks (elements_once 12 (map output_symlink_bytes r.symlinks) (map output_symlink_bytes s.symlinks) fields.1) in
+    let code = code_once r.exit_code s.exit_code h.exit_code k.exit_code f4 in
+    let stdout = stream_once r.stdout s.stdout h.stdout k.stdout (bytes_once 5 r.stdout.raw s.stdout.raw f5) (message_once 6 (option_map digest_bytes r.stdout.digest) (option_map digest_bytes s.stdout.digest) f6) in
+    let stderr = stream_once r.stderr s.stderr h.stderr k.stderr (bytes_once 7 r.stderr.raw s.stderr.raw f7) (message_once 8 (option_map digest_bytes r.stderr.digest) (option_map digest_bytes s.stderr.digest) f8) in
+    λ i. record { files = files i; directories = directories i; symlinks = symlinks i; exit_code = code i; stdout = stdout i; stderr = stderr i }

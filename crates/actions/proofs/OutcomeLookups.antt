@@ -1,0 +1,66 @@
+-- A look-up in an outcome, as the code has it.
+use Rattle.std.proofs.Common.{◌≡◌, ℕ, ◌<◌, List, [], ◌∷◌, ◌++◌, length, map, drop, get_or, Option, Some, Result, Ok, Err, refl, sym, ap, subst, ◌∙◌, inl, inr, arith}
+use Rattle.std.specs.Prelude.{Contains, slice_get, option_map, IfOk}
+use Rattle.std.specs.List.{AllByRecursion}
+use Rattle.std.proofs.lemmas.List.{length-map}
+use Rattle.std.proofs.lemmas.Option.{slice_get-map, slice_get_within, slice_get_read}
+use Rattle.messages.specs.declared.node.Node.{Node}
+use Rattle.messages.specs.Order.{bytes_cmp}
+use Rattle.messages.specs.Path.{IsPath}
+use Rattle.tree.specs.Lookup.{nothing, looked}
+use Rattle.actions.specs.declared.outcome.Output.{Output}
+use Rattle.actions.specs.Ascending.{IsAscendingBy}
+use Rattle.actions.specs.Overlaps.{texts_of}
+use Rattle.actions.specs.Outcome.{OutcomeValue, IsOutcome, output_value, outputs_in, output_paths}
+use Rattle.actions.specs.OutcomeLookup.{StandsOver, LooksBelow, LooksIn}
+use Rattle.actions.proofs.TreeLookups.{holds_mapped}
+
+module _ {A : Type 0} where
+  abbrev pub paths_in : List (List (List ℕ) × Output A) → List (List (List ℕ))
+  paths_in es = map (λ e. e.0) es
+
+  pub same_paths : (es : List (List (List ℕ) × Output A)) → output_paths (outputs_in es) ≡ paths_in es
+  same_paths [] = refl
+  same_paths (e ∷ es) = ap (λ ps. e.0 ∷ ps) (same_paths es)
+
+  pub paths_of : (o : OutcomeValue) (es : List (List (List ℕ) × Output A)) → outputs_in es ≡ o.outputs → output_paths o.outputs ≡ paths_in es
+  paths_of o es e = ap output_paths (sym e) ∙ same_paths es
+
+  pub ascending : (o : OutcomeValue) (es : List (List (List ℕ) × Output A)) → outputs_in es ≡ o.outputs → IsOutcome o → IsAscendingBy bytes_cmp (texts_of (paths_in es))
+  ascending o es e k = subst (λ ps. IsAscendingBy bytes_cmp (texts_of ps)) (paths_of o es e) k.ascend
+
+  pub lawful : (o : OutcomeValue) (es : List (List (List ℕ) × Output A)) → outputs_in es ≡ o.outputs → IsOutcome o → AllByRecursion IsPath (paths_in es)
+  lawful o es e k = subst (AllByRecursion IsPath) (paths_of o es e) k.paths
+
+  pub within : (es : List (List (List ℕ) × Output A)) (place : ℕ) (above : List (List ℕ)) → slice_get (paths_in es) place ≡ Some above → place < length es
+  within es place above e = omega (arith, slice_get_within (paths_in es) place above e, length-map es (λ (d : List (List ℕ) × Output A). d.0))
+
+  pub none_over : (o : OutcomeValue) (path : List (List ℕ)) (es : List (List (List ℕ) × Output A)) → outputs_in es ≡ o.outputs → AllByRecursion (λ above. ¬ StandsOver above path) (paths_in es) → LooksIn o path nothing
+  none_over o path es e h = inr (subst (AllByRecursion (λ d. ¬ StandsOver d.0 path)) e (each es h), refl)
+    where
+      each : (ds : List (List (List ℕ) × Output A)) → AllByRecursion (λ above. ¬ StandsOver above path) (paths_in ds) → AllByRecursion (λ d. ¬ StandsOver d.0 path) (outputs_in ds)
+      each [] k = tt
+      each (d ∷ ds) k = (k.0, each ds k.1)
+
+  pub looks_over : {E : Type 0} (o : OutcomeValue) (path rest : List (List ℕ)) (es : List (List (List ℕ) × Output A)) (place names : ℕ) (item : List (List ℕ) × Output A) (above : List (List ℕ)) (r : Result (Option (Node A)) E)
+      → outputs_in es ≡ o.outputs → slice_get (paths_in es) place ≡ Some above → item ≡ get_or es place item → path ≡ above ++ drop names path → rest ≡ drop names path
+      → IfOk r (λ x. LooksBelow (output_value item.1) rest (looked x)) → IfOk r (λ x. LooksIn o path (looked x))
+  looks_over {E} o path rest es place names item above r e at is split left below = by r below
+    where
+      inside : place < length es
+      inside = within es place above at
+
+      one : item.0 ≡ above
+      one =
+          let here : Some item.0 ≡ Some above = sym (slice_get-map (λ (d : List (List ℕ) × Output A). d.0) es place ∙ ap (option_map (λ (d : List (List ℕ) × Output A). d.0)) (slice_get_read es (length es) place item refl inside is)) ∙ at in
+          cc
+
+      whole : path ≡ item.0 ++ rest
+      whole = split ∙ ap (λ p. p ++ drop names path) (sym one) ∙ ap (λ p. item.0 ++ p) (sym left)
+
+      there : Contains o.outputs (item.0, output_value item.1)
+      there = subst (λ l. Contains l (item.0, output_value item.1)) e (holds_mapped (λ (d : List (List ℕ) × Output A). (d.0, output_value d.1)) es item (place, inside, sym is))
+
+      by : (s : Result (Option (Node A)) E) → IfOk s (λ x. LooksBelow (output_value item.1) rest (looked x)) → IfOk s (λ x. LooksIn o path (looked x))
+      by (Ok x) h = inl ((item.0, output_value item.1), there, rest, whole, h)
+      by (Err f) h = tt

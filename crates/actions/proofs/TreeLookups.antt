@@ -1,0 +1,178 @@
+-- A look-up in a tree, name by name: each directory that a node names is one of the tree's children.
+use Rattle.std.proofs.Common.{◌≡◌, ◌≢◌, ℕ, true, false, eqb, ◌&&◌, zero, suc, ◌+◌, ◌<◌, ◌≤◌, List, [], ◌∷◌, ◌++◌, length, map, take, drop, get_or, Option, Some, None, option_map, refl, sym, ap, subst, ◌∙◌, inl, arith, drop-cons}
+use Rattle.std.specs.Prelude.{Contains, slice_get, MatchOption, IsSome, IfSome, nat_eq}
+use Rattle.std.specs.Cmp.Lexicographic.{pointwise, bytes_decides}
+use Rattle.std.proofs.lemmas.Bool.{eq-eqb}
+use Rattle.std.proofs.lemmas.Option.{slice_get_read}
+use Rattle.messages.proofs.Choices.{and_both}
+use Rattle.std.specs.Borrow.{Bor}
+use Rattle.std.specs.List.{AllByRecursion}
+use Rattle.std.proofs.lemmas.List.{take_more, drop_more, take-map, length-map}
+use Rattle.std.proofs.lemmas.List.Elements.{Contains-append_left, Contains-append_right}
+use Rattle.blob_digest.specs.Digest.{DigestValue, digest_of}
+use Rattle.messages.specs.declared.node.Node.{Node}
+use Rattle.messages.specs.declared.node.Node.TheVariants.{File, Link, Dir}
+use Rattle.messages.specs.DirectoryRules.{DirectoryValue}
+use Rattle.messages.specs.Directory.{directory_bytes}
+use Rattle.messages.specs.Tree.{TreeValue, IsTree, node_digests, named_by, named_in, digests_of, child_digests}
+use Rattle.messages.specs.Node.{IsChild, child}
+use Rattle.messages.proofs.Children.{child_stands}
+use Rattle.tree.specs.Form.{NodeValue, node_value}
+use Rattle.tree.specs.Lookup.{Looked, nothing, found, LooksFrom}
+use Rattle.tree.proofs.Children.{child_value}
+use Rattle.actions.specs.OutcomeLookup.{IsFirstChild, NoFault, IsChildOf}
+
+-- ---- what lists hold
+
+pub behind : {X : Type 0} (y : X) (xs : List X) (x : X) → Contains xs x → Contains (y ∷ xs) x
+behind y xs x (k, lt, e) = (suc k, omega (arith, lt), e)
+
+pub holds_mapped : {X Y : Type 0} (f : X → Y) (xs : List X) (x : X) → Contains xs x → Contains (map f xs) (f x)
+holds_mapped f [] x (k, lt, e) = absurd (omega arith)
+holds_mapped f (y ∷ xs) x (zero, lt, e) = (0, omega arith, ap f e)
+holds_mapped f (y ∷ xs) x (suc k, lt, e) = behind (f y) (map f xs) (f x) (holds_mapped f xs x (k, omega (arith, lt), e))
+
+pub all_at : {X : Type 0} (P : X → Type 0) (xs : List X) (x : X) → AllByRecursion P xs → Contains xs x → P x
+all_at P [] x all (k, lt, e) = absurd (omega arith)
+all_at P (y ∷ xs) x all (zero, lt, e) = subst P e all.0
+all_at P (y ∷ xs) x all (suc k, lt, e) = all_at P xs x all.1 (k, omega (arith, lt), e)
+
+-- ---- what a tree's directories name
+
+named : (ds : List DirectoryValue) (m : DirectoryValue) (d : DigestValue) → Contains ds m → Contains (node_digests m.directories) d → Contains (named_by ds) d
+named [] m d (k, lt, e) h = absurd (omega arith)
+named (x ∷ ds) m d (zero, lt, e) h = Contains-append_left (node_digests x.directories) (named_by ds) d (subst (λ y. Contains (node_digests y.directories) d) (sym e) h)
+named (x ∷ ds) m d (suc k, lt, e) h = Contains-append_right (node_digests x.directories) (named_by ds) d (named ds m d (k, omega (arith, lt), e) h)
+
+-- a child of one of the tree's directories
+pub child_named : {A : Type 0} (t : TreeValue) (m : DirectoryValue) (name : List ℕ) (node : Node A) → IsTree t → Contains (t.root ∷ t.children) m → Some node ≡ child name m → IsChildOf t node
+child_named {A} t m name node is here stands = λ digest e.
+    let at : IsChild {A = A} name m (Some (Dir digest)) = subst (IsChild {A = A} name m) (sym stands ∙ ap Some e) (child_stands A name m) in
+    all_at (Contains (child_digests t)) (named_in t) digest is.held (named (t.root ∷ t.children) m digest here (holds_mapped (λ n. n.digest) m.directories _ at))
+
+pub root_there : (t : TreeValue) → Contains (t.root ∷ t.children) t.root
+root_there t = (0, omega arith, refl)
+
+pub first_there : (t : TreeValue) (d : DigestValue) (m : DirectoryValue) → IsFirstChild t d m → Contains (t.root ∷ t.children) m
+first_there t d m h = behind t.root t.children m (subst (λ l. Contains l m) (sym h.stands) (Contains-append_right h.before (m ∷ h.behind) m (0, omega arith, refl)))
+
+-- ---- the first child with a digest
+
+abbrev pub NotAmong : DigestValue → List DigestValue → Type 0
+NotAmong d ds = AllByRecursion (λ e. e ≢ d) ds
+
+pub none_push : (d e : DigestValue) (ds : List DigestValue) → NotAmong d ds → e ≢ d → NotAmong d (ds ++ e ∷ [])
+none_push d e [] h n = (n, tt)
+none_push d e (x ∷ ds) h n = (h.0, none_push d e ds h.1 n)
+
+pub not_held : (d : DigestValue) (ds : List DigestValue) → NotAmong d ds → Contains ds d → ⊥
+not_held d ds h c = all_at (λ e. e ≢ d) ds d h c refl
+
+same_length : (t : TreeValue) → length (child_digests t) ≡ length t.children
+same_length t = length-map (map directory_bytes t.children) digest_of ∙ length-map t.children directory_bytes
+
+digests_taken : (n : ℕ) (ms : List DirectoryValue) → take n (digests_of (map directory_bytes ms)) ≡ digests_of (map directory_bytes (take n ms))
+digests_taken n ms = take-map digest_of n (map directory_bytes ms) ∙ ap digests_of (take-map directory_bytes n ms)
+
+before_all : (d : DigestValue) (ms : List DirectoryValue) → NotAmong d (digests_of (map directory_bytes ms)) → AllByRecursion (λ m. digest_of (directory_bytes m) ≢ d) ms
+before_all d [] h = tt
+before_all d (m ∷ ms) h = (h.0, before_all d ms h.1)
+
+digest_there : (ms : List DirectoryValue) (i : ℕ) (m : DirectoryValue) (e : DigestValue) → slice_get ms i ≡ Some m → i < length (digests_of (map directory_bytes ms)) → e ≡ get_or (digests_of (map directory_bytes ms)) i e → digest_of (directory_bytes m) ≡ e
+digest_there [] i m e at lt is = absurd cc
+digest_there (x ∷ ms) zero m e at lt is = let same : x ≡ m = cc in ap (λ y. digest_of (directory_bytes y)) (sym same) ∙ sym is
+digest_there (x ∷ ms) (suc i) m e at lt is = digest_there ms i m e at (omega (arith, lt)) is
+
+parted : (ms : List DirectoryValue) (i : ℕ) (m : DirectoryValue) → slice_get ms i ≡ Some m → ms ≡ take i ms ++ m ∷ drop (suc i) ms
+parted [] i m at = absurd cc
+parted (x ∷ ms) zero m at = let same : x ≡ m = cc in ap (λ y. y ∷ ms) same
+parted (x ∷ ms) (suc i) m at = ap (λ l. x ∷ l) (parted ms i m at)
+
+pub first_found : (t : TreeValue) (d e : DigestValue) (i : ℕ) (m : DirectoryValue) → NotAmong d (take i (child_digests t)) → i < length (child_digests t) → e ≡ get_or (child_digests t) i e → e ≡ d → slice_get t.children i ≡ Some m → IsFirstChild t d m
+first_found t d e i m none lt is same at = record {
+  before = take i t.children;
+  behind = drop (suc i) t.children;
+  stands = parted t.children i m at;
+  right = digest_there t.children i m e at lt is ∙ same;
+  first = before_all d (take i t.children) (subst (NotAmong d) (digests_taken i t.children) none);
+}
+
+-- there is a child wherever there is a digest
+pub child_at : (t : TreeValue) (i : ℕ) → i < length (child_digests t) → slice_get t.children i ≡ None → ⊥
+child_at t i lt none = missing t.children i (omega (arith, same_length t, lt)) none
+  where
+    missing : (ms : List DirectoryValue) (j : ℕ) → j < length ms → slice_get ms j ≡ None → ⊥
+    missing [] j less e = absurd (omega arith)
+    missing (x ∷ ms) zero less e = cc
+    missing (x ∷ ms) (suc j) less e = missing ms j (omega (arith, less)) e
+
+-- ---- the walk
+
+abbrev pub LooksOn : TreeValue → List (List ℕ) → Option NodeValue → Looked → Type 0
+LooksOn t names o r = LooksFrom (IsFirstChild t) NoFault names o r
+
+-- a look-up of the rest from here ends the look-up of all names from the start
+pub record Descends (t : TreeValue) (start : NodeValue) (names : List (List ℕ)) (o : Option NodeValue) (rest : List (List ℕ)) : Type 0 where
+  pub ends : (r : Looked) → LooksOn t rest o r → LooksOn t names (Some start) r
+
+pub descends_first : (t : TreeValue) (start : NodeValue) (names : List (List ℕ)) → Descends t start names (Some start) names
+descends_first t start names = record { ends = λ r h. h }
+
+pub descends_child : {A : Type 0} (t : TreeValue) (start : NodeValue) (names : List (List ℕ)) (i : ℕ) (name : List ℕ) (node : Node A) (d : DigestValue) (m : DirectoryValue) (o : Option (Node A)) → i < length names → name ≡ get_or names i name → node ≡ Dir d → Descends t start names (Some (node_value node)) (drop i names) → IsFirstChild t d m → o ≡ child name m
+    → Descends t start names (option_map node_value o) (drop (i + 1) names)
+descends_child {A} t start names i name node d m o lt is dir goes first stands =
+    let split : drop i names ≡ name ∷ drop (i + 1) names = drop_more names i name lt ∙ ap (λ n. n ∷ drop (i + 1) names) (sym is) in
+    let from : Descends t start names (Some (Dir d)) (name ∷ drop (i + 1) names) = subst (Descends t start names (Some (Dir d))) split (subst (λ x. Descends t start names (Some (node_value x)) (drop i names)) dir goes) in
+    let same : option_map node_value o ≡ child name m = ap (option_map node_value) stands ∙ child_value A name m in
+    subst (λ x. Descends t start names x (drop (i + 1) names)) (sym same) (record { ends = λ r h. from.ends r (inl (m, first, h)) })
+
+pub descends_nowhere : (t : TreeValue) (start : NodeValue) (names rest : List (List ℕ)) → Descends t start names None rest → LooksOn t names (Some start) nothing
+descends_nowhere t start names rest goes = goes.ends nothing refl
+
+-- a file or a link has nothing below it
+pub descends_leaf : {A : Type 0} (t : TreeValue) (start : NodeValue) (names : List (List ℕ)) (i : ℕ) (node : Node A) → i < length names → ((d : DigestValue) → node ≡ Dir d → ⊥) → Descends t start names (Some (node_value node)) (drop i names) → LooksOn t names (Some start) nothing
+descends_leaf {A} t start names i node lt dir goes = goes.ends nothing (leaf node dir (drop i names) some)
+  where
+    some : drop i names ≡ [] → ⊥
+    some e = let split : drop i names ≡ get_or names i [] ∷ drop (suc i) names = drop-cons names i [] lt in cc
+
+    leaf : (x : Node A) → ((d : DigestValue) → x ≡ Dir d → ⊥) → (rest : List (List ℕ)) → (rest ≡ [] → ⊥) → LooksOn t rest (Some (node_value x)) nothing
+    leaf (File e b) none [] s = absurd (s refl)
+    leaf (Link e) none [] s = absurd (s refl)
+    leaf (Dir e) none rest s = absurd (none e refl)
+    leaf (File e b) none (n ∷ rest) s = refl
+    leaf (Link e) none (n ∷ rest) s = refl
+
+pub descends_end : (t : TreeValue) (start : NodeValue) (names : List (List ℕ)) (i : ℕ) (x : NodeValue) → length names ≤ i → Descends t start names (Some x) (drop i names) → LooksOn t names (Some start) (found x)
+descends_end t start names i x le goes = goes.ends (found x) (last (drop i names) (past names i le))
+  where
+    past : (ns : List (List ℕ)) (j : ℕ) → length ns ≤ j → drop j ns ≡ []
+    past [] zero h = refl
+    past [] (suc j) h = refl
+    past (n ∷ ns) zero h = absurd (omega arith)
+    past (n ∷ ns) (suc j) h = past ns j (omega (arith, h))
+
+    last : (rest : List (List ℕ)) → rest ≡ [] → LooksOn t rest (Some x) (found x)
+    last [] e = refl
+    last (n ∷ rest) e = cc
+
+-- ---- as the code has it
+
+pub got_child : (t : TreeValue) (d e : DigestValue) (i : ℕ) (ds : List DigestValue) (ms : List DirectoryValue) (o : Option (Bor DirectoryValue)) → (i < length ms → IsSome o) → IfSome o (λ x. x.now ≡ get_or ms i x.now) → ms ≡ t.children → ds ≡ child_digests t → NotAmong d (take i ds) → i < length ds → e ≡ get_or ds i e → e ≡ d → MatchOption o (Contains (child_digests t) d → ⊥) (λ m. IsFirstChild t d m.now)
+got_child t d e i ds ms None some at here held none lt is same = absurd (never (some (omega (arith, same_length t, ap length held, ap length here, lt))))
+  where
+    never : IsSome {T = Bor DirectoryValue} None → ⊥
+    never h = cc
+got_child t d e i ds ms (Some m) some at here held none lt is same =
+    let within : i < length t.children = omega (arith, same_length t, ap length held, lt) in
+    first_found t d e i m.now (subst (λ l. NotAmong d (take i l)) held none) (subst (λ l. i < length l) held lt) (subst (λ l. e ≡ get_or l i e) held is) same
+    (slice_get_read t.children (length t.children) i m.now refl within (subst (λ l. m.now ≡ get_or l i m.now) here at))
+
+same_test : (d : DigestValue) → (pointwise nat_eq d.hash d.hash && eqb d.size d.size) ≡ true
+same_test d = and_both (pointwise nat_eq d.hash d.hash) (eqb d.size d.size) ((bytes_decides d.hash d.hash).1 refl) (eq-eqb d.size d.size refl)
+
+pub differ : (e d : DigestValue) → false ≡ (pointwise nat_eq e.hash d.hash && eqb e.size d.size) → e ≡ d → ⊥
+differ e d h same = let own = same_test e in let alike : false ≡ (pointwise nat_eq e.hash e.hash && eqb e.size e.size) = h ∙ ap (λ (x : DigestValue). pointwise nat_eq e.hash x.hash && eqb e.size x.size) (sym same) in cc
+
+pub none_next : (d e : DigestValue) (ds : List DigestValue) (i : ℕ) → i < length ds → e ≡ get_or ds i e → (e ≡ d → ⊥) → NotAmong d (take i ds) → NotAmong d (take (i + 1) ds)
+none_next d e ds i lt is differs none = subst (NotAmong d) (sym (take_more ds i e lt ∙ ap (λ x. take i ds ++ x ∷ []) (sym is))) (none_push d e (take i ds) none differs)

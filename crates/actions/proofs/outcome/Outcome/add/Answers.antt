@@ -1,0 +1,42 @@
+use Rattle.std.proofs.Common.{◌≡◌, Some, None, refl, ap, subst}
+use Rattle.std.specs.List.{insert}
+use Rattle.actions.specs.Overlaps.{ArePathsApart}
+use Rattle.actions.specs.Outcome.{OutcomeValue, HasRoom, outputs_in}
+use Rattle.actions.proofs.OutcomeLookups.{paths_in, ascending, lawful, paths_of}
+use Rattle.actions.proofs.Added.{lawful_added, is_added, full}
+use Rattle.actions.proofs.outcome.Outcome.add.Goals as goal
+
+pub room_for-requires-clause-ascend : goal.room_for-requires-clause-ascend
+room_for-requires-clause-ascend g c =
+    let o : OutcomeValue = record { exit_code = c.self.inside.exit_code; outputs = outputs_in c.self.inside.outputs.items } in
+    rw c.deref.ensures.value (ascending o c.self.inside.outputs.items refl c.self.invariant)
+
+pub room_for-requires-clause-lawful : goal.room_for-requires-clause-lawful
+room_for-requires-clause-lawful g c =
+    let o : OutcomeValue = record { exit_code = c.self.inside.exit_code; outputs = outputs_in c.self.inside.outputs.items } in
+    rw c.deref.ensures.value (lawful o c.self.inside.outputs.items refl c.self.invariant)
+
+pub room_for-requires-clause-apart : goal.room_for-requires-clause-apart
+room_for-requires-clause-apart g c =
+    let o : OutcomeValue = record { exit_code = c.self.inside.exit_code; outputs = outputs_in c.self.inside.outputs.items } in
+    rw c.deref.ensures.value (subst ArePathsApart (paths_of o c.self.inside.outputs.items refl) c.self.invariant.apart)
+
+pub invariant_of-self-in-Some : goal.invariant_of-self-in-Some
+invariant_of-self-in-Some g c =
+    let items = c.self.inside.outputs.items in
+    let room : HasRoom (paths_in items) c.args.path (Some c.in-Some.place) = subst (λ l. HasRoom (paths_in l) c.args.path (Some c.in-Some.place)) c.deref.ensures.value (subst (HasRoom (paths_in c.deref.result.now) c.args.path) c.in-Some.is (c.in_ok-place.ensures {u = tt})) in
+    let after : c.insert.new.self.items ≡ insert items c.in-Some.place (c.args.path, c.args.output) = (c.in_ok-insert-in-Some.ensures {u = tt}).items in
+    rw after (lawful_added items c.in-Some.place (c.args.path, c.args.output) c.self.inside.exit_code room)
+
+pub returns-in_ok-insert-in-Some-clause-added : goal.returns-in_ok-insert-in-Some-clause-added
+returns-in_ok-insert-in-Some-clause-added g c =
+    let items = c.self.inside.outputs.items in
+    let room : HasRoom (paths_in items) c.args.path (Some c.in-Some.place) = subst (λ l. HasRoom (paths_in l) c.args.path (Some c.in-Some.place)) c.deref.ensures.value (subst (HasRoom (paths_in c.deref.result.now) c.args.path) c.in-Some.is (c.in_ok-place.ensures {u = tt})) in
+    let after : c.insert.new.self.items ≡ insert items c.in-Some.place (c.args.path, c.args.output) = (c.in_ok-insert-in-Some.ensures {u = tt}).items in
+    is_added c.args.self.now _ items c.in-Some.place (c.args.path, c.args.output) (ap (λ (o : OutcomeValue). o.outputs) c.self.view_is) (ap outputs_in after) (ap (λ (o : OutcomeValue). o.exit_code) c.self.view_is) room
+
+pub returns-in-None-clause-refused : goal.returns-in-None-clause-refused
+returns-in-None-clause-refused g c =
+    let items = c.self.inside.outputs.items in
+    let none : HasRoom (paths_in items) c.args.path None = subst (λ l. HasRoom (paths_in l) c.args.path None) c.deref.ensures.value (subst (HasRoom (paths_in c.deref.result.now) c.args.path) c.in-None.is (c.in_ok-place.ensures {u = tt})) in
+    (refl, full c.args.self.now items c.args.path (ap (λ (o : OutcomeValue). o.outputs) c.self.view_is) none)

@@ -1,0 +1,14 @@
+use Rattle.std.proofs.Common.{length}
+use Rattle.tree.specs.Source.{Asks}
+use Rattle.actions.specs.Outcome.{outputs_in}
+use Rattle.actions.specs.Recorded.{StandForAll, directories_among}
+use Rattle.actions.proofs.Reading.{read_so_far}
+use Rattle.actions.proofs.recording.read_outputs.Given as goal
+
+abbrev pub invariant-loop-output : goal.invariant-loop-output
+invariant-loop-output g l =
+    let tells = g.S.BlobSource.tells in
+    record {
+      read : StandForAll (tells l.source).blobs (read_so_far l.output-index l.recorded) (outputs_in l.outputs.items);
+      asked : Asks (length (directories_among (read_so_far l.output-index l.recorded))) (tells l.fn.source) (tells l.source);
+    }

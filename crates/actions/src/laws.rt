@@ -1,0 +1,21 @@
+ghost use Rattle.std.specs.Prelude.{◌≡◌, List, ℕ};
+ghost use Rattle.tree.specs.Source.{Blobs};
+ghost use Rattle.tree.specs.Told.{Fault};
+ghost use Rattle.tree.specs.Lookup.{Looked};
+ghost use Rattle.actions.specs.ActionResult.{ActionResultValue};
+ghost use Rattle.actions.specs.Outcome.{OutcomeValue, IsOutcome};
+ghost use Rattle.actions.specs.OutcomeLookup.{LooksIn};
+ghost use Rattle.actions.specs.OutputDirectory.{OutputDirectoryValue};
+ghost use Rattle.actions.specs.Recorded.{RecordedValue, AreOutputs, IsRecorded, IsFirstFault};
+
+/// What a result and a source determine. A law: it does nothing.
+pub fn outcomes_are_single_valued()
+    // The outputs of a result stand in one order.
+    ensures outputs { (r : ActionResultValue) (xs ys : List RecordedValue) → AreOutputs r xs → AreOutputs r ys → xs ≡ ys }
+    // A result stands for one outcome, or one fault is the first, and not both.
+    ensures recorded { (blobs : Blobs) (r : ActionResultValue) (o p : OutcomeValue) → IsRecorded blobs r o → IsRecorded blobs r p → o ≡ p }
+    ensures faults { (blobs : Blobs) (ds : List OutputDirectoryValue) (f g : Fault) → IsFirstFault blobs ds f → IsFirstFault blobs ds g → f ≡ g }
+    ensures excluded { (blobs : Blobs) (r : ActionResultValue) (o : OutcomeValue) (f : Fault) → IsRecorded blobs r o → IsFirstFault blobs r.directories f → ⊥ }
+    // A look-up in an outcome comes to one thing.
+    ensures looked { (o : OutcomeValue) (path : List (List ℕ)) (r s : Looked) → IsOutcome o → LooksIn o path r → LooksIn o path s → r ≡ s }
+{}

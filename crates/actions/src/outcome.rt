@@ -1,0 +1,136 @@
+ghost use Rattle.std.specs.Prelude.{◌≡◌, [], map, IfOk, IfErr, OnOk, OnErr};
+ghost use Rattle.std.specs.List.{AllByRecursion};
+ghost use Rattle.messages.specs.Order.{bytes_cmp};
+ghost use Rattle.messages.specs.Path.{IsPath};
+ghost use Rattle.actions.specs.Ascending.{IsAscendingBy};
+ghost use Rattle.actions.specs.Overlaps.{ArePathsApart, texts_of};
+ghost use Rattle.actions.specs.Outcome.{IsOutcome, IsAdded, ExplainsAdd, HasRoom, output_value, outputs_in};
+
+use crate::listed::{Listed, lies_under_some, place_of, some_lies_under};
+use blob_digest::Digest;
+use messages::{Path, Target, Tree};
+use std::alloc::{AllocError, Allocator};
+use std::marker::Model;
+use tree::AddError;
+
+/// What an action made at an output path.
+#[derive(Drop)]
+#[derive_where(Debug)]
+pub enum Output<A: Allocator> {
+    /// A file, by the digest of its content.
+    File { digest: Digest, executable: bool },
+    /// A symbolic link.
+    Link { target: Target<A> },
+    /// A whole directory.
+    Tree(Tree<A>),
+}
+
+/// What an action comes to: its exit code and its outputs, which ascend by the texts of their
+/// paths. No path equals another or lies under it.
+#[derive(Drop)]
+#[derive_where(Debug)]
+pub struct Outcome<A: Allocator> {
+    exit_code: i32,
+    outputs: Vec<(Path<A>, Output<A>), A>,
+}
+
+impl<A: Allocator> Model for Outcome<A> {
+    ghost use Rattle.actions.specs.Outcome.{OutcomeValue, IsOutcome, outputs_in};
+
+    ghost Value = { OutcomeValue };
+
+    ghost view = { λ a. record { exit_code = a.exit_code; outputs = outputs_in a.outputs.items } };
+
+    ghost invariant = { λ a. IsOutcome (record { exit_code = a.exit_code; outputs = outputs_in a.outputs.items }) };
+}
+
+impl<A: Allocator> Outcome<A> {
+    /// The outcome of this exit code, without outputs.
+    pub fn new(alloc: A, exit_code: i32) -> Outcome<A>
+        ensures { result ≡ record { exit_code = exit_code; outputs = [] } }
+    {
+        Outcome {
+            exit_code,
+            outputs: Vec::new(alloc),
+        }
+    }
+
+    /// The outcome of this exit code and these outputs, which keep the rules.
+    pub fn from_outputs(exit_code: i32, outputs: Vec<(Path<A>, Output<A>), A>) -> Outcome<A>
+        requires { IsOutcome (record { exit_code = exit_code; outputs = outputs_in outputs.items }) }
+        ensures { result ≡ record { exit_code = exit_code; outputs = outputs_in outputs.items } }
+    {
+        Outcome { exit_code, outputs }
+    }
+
+    /// The exit code of the process.
+    pub fn exit_code(&self) -> i32
+        ensures value { result ≡ self.now.exit_code }
+        ensures lawful { IsOutcome self.now }
+    {
+        self.exit_code
+    }
+
+    /// The outputs, by the texts of their paths.
+    pub fn outputs(&self) -> &[(Path<A>, Output<A>)]
+        ensures value { outputs_in result.now ≡ self.now.outputs }
+        ensures lawful { IsOutcome self.now }
+    {
+        &self.outputs
+    }
+}
+
+impl<A: Allocator> Listed for (Path<A>, Output<A>) {
+    ghost use Rattle.messages.specs.Path.{IsPath};
+
+    ghost path_in = { λ e. e.0 };
+
+    ghost keeps = { λ e. IsPath e.0 };
+
+    fn path_text(&self) -> &[u8] {
+        self.0.as_bytes()
+    }
+}
+
+/// Where an output of this path would stand, unless a path that is there leaves no room for it.
+fn room_for<A: Allocator + Copy>(
+    alloc: A,
+    outputs: &[(Path<A>, Output<A>)],
+    path: &Path<A>,
+) -> Result<Option<usize>, AllocError>
+    requires ascend { IsAscendingBy bytes_cmp (texts_of (map (λ e. e.0) outputs.now)) }
+    requires lawful { AllByRecursion IsPath (map (λ e. e.0) outputs.now) }
+    requires apart { ArePathsApart (map (λ e. e.0) outputs.now) }
+    ensures { IfOk result (HasRoom (map (λ e. e.0) outputs.now) path.now) }
+{
+    let text = path.as_bytes();
+    let Err(place) = place_of(outputs, text) else {
+        return Ok(None);
+    };
+    if lies_under_some(text, outputs) {
+        return Ok(None);
+    }
+    if some_lies_under(alloc, outputs, text)? {
+        return Ok(None);
+    }
+    Ok(Some(place))
+}
+
+impl<A: Allocator + Copy> Outcome<A> {
+    /// One more output, in its place by the path's text. Refusal 45 where the path equals, lies
+    /// under or lies above one that is there. The place and the overlaps are found by binary
+    /// searches, one for each name of the path; after a refusal nothing has changed.
+    pub fn add(&mut self, alloc: A, path: Path<A>, output: Output<A>) -> Result<(), AddError<A>>
+        ensures added { OnOk result (IsAdded self.old path (output_value output) self.new) }
+        ensures refused { IfErr result (λ e. ExplainsAdd self.old path e) }
+        ensures unchanged { OnErr result (self.new ≡ self.old) }
+    {
+        match room_for(alloc, &self.outputs, &path)? {
+            Some(place) => {
+                self.outputs.insert(place, (path, output))?;
+                Ok(())
+            }
+            None => Err(AddError::Overlap(path)),
+        }
+    }
+}

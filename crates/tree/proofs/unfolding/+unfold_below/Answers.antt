@@ -1,0 +1,105 @@
+-- The entries so far, and those of the next child.
+use Rattle.std.proofs.Common.{[], ◌∷◌, ◌++◌, length, ap, sym, subst, ◌∙◌, arith, length-append}
+use Rattle.std.proofs.lemmas.Result.{err_from_is_err_and}
+use Rattle.std.proofs.lemmas.Map.Iter.{rest_more, rest_all}
+use Rattle.messages.specs.declared.node.Node.TheVariants as nodes
+use Rattle.tree.specs.Form.{node_value}
+use Rattle.tree.specs.FlatTree.{flat_value}
+use Rattle.tree.specs.Lookup.{names_in}
+use Rattle.tree.specs.Unfolding.{child_values, AreChildren, ExplainsChild}
+use Rattle.tree.proofs.UnfoldSteps.{Unfolds, fault_here, asks_one, asks_some_more, unfolds_first, unfolds_leaf, unfolds_folder, unfolds_end, child_too_deep, child_fault, flat_pushed, counts_leaf, counts_folder}
+use Rattle.tree.proofs.unfolding.+unfold_below.Goals as goal
+use Rattle.tree.proofs.unfolding.+unfold_below.Goals.{in-File+in_ok-push-in-File, in-Link+in_ok-push-in-Link, in-Dir+in_ok-push-in-Dir+in_ok-unfold_below-in-Dir+in-Some-1, in-Dir+in_ok-push-in-Dir+in_ok-unfold_below-in-Dir+in-None-1}
+
+pub returns-in_err-directory-clause-refused : goal.returns-in_err-directory-clause-refused
+returns-in_err-directory-clause-refused g t c =
+    let p = err_from_is_err_and c.from_residual.result c.from_residual.ensures.1 in
+    rw (p.1, p.2) (fault_here _ c.args.digest.now _ _ c.in_err-directory.ensures.faulty)
+
+pub loop-name-init : goal.loop-name-init
+loop-name-init g t c = record {
+  next = tt;
+  finite = tt;
+  asked = asks_one c.fetch_message.ensures.asked;
+  few = omega (arith, c.fetch_message.ensures.asked.most_calls);
+  unfolds = unfolds_first _ c.args.digest.now c.in_ok-directory.directory (names_in c.args.above.now) _ _ c.in_ok-directory.ensures.told
+      (subst (λ l. AreChildren (child_values l) c.in_ok-directory.directory) (sym c.into_iter-name-iterator.ensures.into_iter_gives.0) (c.in_ok-items.ensures {u = tt}));
+}
+
+pub returns-in_err-path-clause-refused : goal.returns-in_err-path-clause-refused
+returns-in_err-path-clause-refused g t c =
+    let p = err_from_is_err_and c.from_residual-in_err-path.result c.from_residual-in_err-path.ensures.1 in
+    let steps = rest_more (λ x. x) c.loop-name.name-iterator c.next.new.self c.next.result (c.in-Some.name, c.in-Some.node) c.in-Some.is c.next.ensures.steps in
+    let unfolds = subst (λ l. Unfolds (g.S.BlobSource.tells c.loop-name.source).blobs c.args.digest.now (names_in c.args.above.now) (flat_value c.args.entries.now.items) (flat_value c.loop-name.entries.items) (child_values l)) steps c.loop-name.invariant.unfolds in
+    let full = subst (λ o. ExplainsChild o c.in_err-path.field-0.0) c.as_ref.ensures.value c.in_err-path.ensures.refused in
+    rw (p.1, p.2) (child_too_deep _ c.args.digest.now c.args.above.now _ _ c.in-Some.name (node_value c.in-Some.node) (child_values c.next.new.self) _ unfolds full)
+
+pub unfold_below-requires : goal.unfold_below-requires
+unfold_below-requires g t c κs within =
+    let few = (c.in_ok-names.ensures {u = tt}).lawful.few in
+    let path = c.in_ok-path.ensures.path ∙ ap (λ o. names_in o ++ c.in-Some.name ∷ []) c.as_ref.ensures.value in
+    let longer = ap length path ∙ length-append (names_in c.args.above.now) (c.in-Some.name ∷ []) in
+    (omega (arith, few, longer, c.decreases), within)
+
+pub returns-in_err-unfold_below-in-Dir-clause-refused : goal.returns-in_err-unfold_below-in-Dir-clause-refused
+returns-in_err-unfold_below-in-Dir-clause-refused g t c =
+    let p = err_from_is_err_and c.from_residual-in_err-unfold_below-in-Dir.result c.from_residual-in_err-unfold_below-in-Dir.ensures.1 in
+    let steps = rest_more (λ x. x) c.loop-name.name-iterator c.next.new.self c.next.result (c.in-Some.name, c.in-Some.node) c.in-Some.is c.next.ensures.steps in
+    let unfolds = subst (λ l. Unfolds (g.S.BlobSource.tells c.loop-name.source).blobs c.args.digest.now (names_in c.args.above.now) (flat_value c.args.entries.now.items) (flat_value c.loop-name.entries.items) (child_values l)) steps c.loop-name.invariant.unfolds in
+    let node = subst (λ x. Unfolds (g.S.BlobSource.tells c.loop-name.source).blobs c.args.digest.now (names_in c.args.above.now) (flat_value c.args.entries.now.items) (flat_value c.loop-name.entries.items) ((c.in-Some.name, node_value x) ∷ child_values c.next.new.self)) c.in-Dir.is unfolds in
+    let path = c.in_ok-path.ensures.path ∙ ap (λ o. names_in o ++ c.in-Some.name ∷ []) c.as_ref.ensures.value in
+    rw (p.1, p.2) (child_fault _ _ c.args.digest.now c.in-Dir.digest (names_in c.args.above.now) c.in_ok-path.path _ _ c.in-Some.name (child_values c.next.new.self) _ c.unfold_below.ensures.asked.asks.blobs node path c.in_err-unfold_below-in-Dir.ensures.refused)
+
+pub returns-in_err-unfold_below-in-Dir-clause-asked : goal.returns-in_err-unfold_below-in-Dir-clause-asked
+returns-in_err-unfold_below-in-Dir-clause-asked g t c = asks_some_more c.loop-name.invariant.asked c.unfold_below.ensures.asked
+
+pub loop-name-preserved : goal.loop-name-preserved
+loop-name-preserved g t c =
+    let steps = rest_more (λ x. x) c.loop-name.name-iterator c.next.new.self c.next.result (c.in-Some.name, c.in-Some.node) c.in-Some.is c.next.ensures.steps in
+    let unfolds = subst (λ l. Unfolds (g.S.BlobSource.tells c.loop-name.source).blobs c.args.digest.now (names_in c.args.above.now) (flat_value c.args.entries.now.items) (flat_value c.loop-name.entries.items) (child_values l)) steps c.loop-name.invariant.unfolds in
+    let path = c.in_ok-path.ensures.path ∙ ap (λ o. names_in o ++ c.in-Some.name ∷ []) c.as_ref.ensures.value in
+    let names = c.in_ok-names.ensures {u = tt} in
+    let before = λ (x : nodes.the_data g.row.A.Denot). Unfolds (g.S.BlobSource.tells c.loop-name.source).blobs c.args.digest.now (names_in c.args.above.now) (flat_value c.args.entries.now.items) (flat_value c.loop-name.entries.items) ((c.in-Some.name, node_value x) ∷ child_values c.next.new.self) in
+    elim c.match-node-3.branch [
+      | in-File+in_ok-push-in-File w ↦
+          let pushed = flat_pushed c.loop-name.entries.items w.push.new.self.items c.in_ok-names.names _ c.in_ok-path.path names.value (w.in_ok-push-in-File.ensures {u = tt}).items in
+          rw (w.source-is, w.entries-is) (record {
+            next = tt;
+            finite = tt;
+            asked = c.loop-name.invariant.asked;
+            few = omega (arith, c.loop-name.invariant.few, counts_leaf _ _ c.in_ok-path.path _ pushed);
+            unfolds = unfolds_leaf _ _ c.args.digest.now (names_in c.args.above.now) _ _ _ c.in-Some.name _ c.in_ok-path.path (child_values c.next.new.self) (λ e b h. h) (subst before w.in-File.is unfolds) path names.lawful pushed;
+          })
+      | in-Link+in_ok-push-in-Link w ↦
+          let pushed = flat_pushed c.loop-name.entries.items w.push-in-Link.new.self.items c.in_ok-names.names _ c.in_ok-path.path names.value (w.in_ok-push-in-Link.ensures {u = tt}).items in
+          rw (w.source-is, w.entries-is) (record {
+            next = tt;
+            finite = tt;
+            asked = c.loop-name.invariant.asked;
+            few = omega (arith, c.loop-name.invariant.few, counts_leaf _ _ c.in_ok-path.path _ pushed);
+            unfolds = unfolds_leaf _ _ c.args.digest.now (names_in c.args.above.now) _ _ _ c.in-Some.name _ c.in_ok-path.path (child_values c.next.new.self) (λ e b h. h) (subst before w.in-Link.is unfolds) path names.lawful pushed;
+          })
+      | in-Dir+in_ok-push-in-Dir+in_ok-unfold_below-in-Dir+in-Some-1 w ↦
+          let pushed = flat_pushed c.loop-name.entries.items w.push-in-Dir.new.self.items c.in_ok-names.names _ c.in_ok-path.path names.value (w.in_ok-push-in-Dir.ensures {u = tt}).items in
+          rw (w.source-is, w.entries-is) (record {
+            next = tt;
+            finite = tt;
+            asked = asks_some_more c.loop-name.invariant.asked w.unfold_below.ensures.asked;
+            few = omega (arith, c.loop-name.invariant.few, counts_folder _ _ c.in_ok-path.path pushed, (w.in_ok-unfold_below-in-Dir.ensures {u = tt}).few);
+            unfolds = unfolds_folder _ _ c.args.digest.now (names_in c.args.above.now) _ _ _ _ c.in-Some.name w.in-Dir.digest c.in_ok-path.path (child_values c.next.new.self) w.unfold_below.ensures.asked.asks.blobs (subst before w.in-Dir.is unfolds) path names.lawful pushed (w.in_ok-unfold_below-in-Dir.ensures {u = tt}).told;
+          })
+      | in-Dir+in_ok-push-in-Dir+in_ok-unfold_below-in-Dir+in-None-1 w ↦
+          let pushed = flat_pushed c.loop-name.entries.items w.push-in-Dir.new.self.items c.in_ok-names.names _ c.in_ok-path.path names.value (w.in_ok-push-in-Dir.ensures {u = tt}).items in
+          rw (w.source-is, w.entries-is) (record {
+            next = tt;
+            finite = tt;
+            asked = asks_some_more c.loop-name.invariant.asked w.unfold_below.ensures.asked;
+            few = omega (arith, c.loop-name.invariant.few, counts_folder _ _ c.in_ok-path.path pushed, (w.in_ok-unfold_below-in-Dir.ensures {u = tt}).few);
+            unfolds = unfolds_folder _ _ c.args.digest.now (names_in c.args.above.now) _ _ _ _ c.in-Some.name w.in-Dir.digest c.in_ok-path.path (child_values c.next.new.self) w.unfold_below.ensures.asked.asks.blobs (subst before w.in-Dir.is unfolds) path names.lawful pushed (w.in_ok-unfold_below-in-Dir.ensures {u = tt}).told;
+          })
+    ]
+
+pub returns-clause-told : goal.returns-clause-told
+returns-clause-told g t c =
+    let none = rest_all (λ x. x) c.loop-name.name-iterator c.next.new.self c.next.result c.in-None.is c.next.ensures.steps in
+    unfolds_end _ c.args.digest.now _ _ _ (subst (λ l. Unfolds (g.S.BlobSource.tells c.loop-name.source).blobs c.args.digest.now (names_in c.args.above.now) (flat_value c.args.entries.now.items) (flat_value c.loop-name.entries.items) (child_values l)) none c.loop-name.invariant.unfolds)

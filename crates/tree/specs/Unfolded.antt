@@ -1,0 +1,69 @@
+-- The tree that a source tells under a digest, Directory by Directory, and why there is none.
+use Rattle.std.specs.Prelude.{◌≡◌, ◌≢◌, ℕ, ◌+◌, List, [], ◌∷◌, ◌++◌, length}
+use Rattle.blob_digest.specs.Digest.{DigestValue}
+use Rattle.messages.specs.declared.node.Node.TheVariants.{Dir}
+use Rattle.messages.specs.DirectoryRules.{DirectoryValue}
+use Rattle.tree.specs.declared.error.TreeError.{TreeError}
+use Rattle.tree.specs.declared.error.TreeError.TheVariants.{Absent, BlobMissing, BlobWrong, BlobMalformed, TooDeep, Fetch, Memory}
+use Rattle.tree.specs.Tree.{Name, Tree, empty, leaf, folder, Standing, nothing, a_leaf, a_directory}
+use Rattle.tree.specs.Form.{NodeValue, no_children, directory_of, root}
+use Rattle.tree.specs.Source.{Blobs}
+use Rattle.tree.specs.Told.{Fault, missing, wrong, malformed, TellsDirectory, FailsDirectory}
+use Rattle.tree.specs.Lookup.{found, Looks}
+use Rattle.tree.specs.FlatTree.{FlatValue, IsListOf}
+
+-- the Directory of each directory below the top is told
+abbrev pub TellsBelow : Blobs → Tree NodeValue → Type 0
+TellsBelow B empty = Unit {0}
+TellsBelow B (leaf n x rest) = TellsBelow B rest
+TellsBelow B (folder n below rest) = (TellsDirectory B (root below) (directory_of below) × TellsBelow B below) × TellsBelow B rest
+
+-- Every Directory of the tree is told, that of its top under the digest.
+pub record TellsTree (B : Blobs) (d : DigestValue) (t : Tree NodeValue) : Type 0 where
+  pub root : root t ≡ d
+  pub top : TellsDirectory B d (directory_of t)
+  pub below : TellsBelow B t
+
+-- the list of the tree that is told under a digest
+pub record IsUnfolded (B : Blobs) (d : DigestValue) (entries : FlatValue) : Type 0 where
+  pub tree : Tree NodeValue
+  pub list : IsListOf entries tree
+  pub told : TellsTree B d tree
+
+-- how many of the entries are directories
+abbrev pub directories_at : Standing NodeValue → ℕ
+directories_at nothing = 0
+directories_at (a_leaf x) = 0
+directories_at a_directory = 1
+
+abbrev pub directories_in : FlatValue → ℕ
+directories_in [] = 0
+directories_in (e ∷ entries) = directories_at e.1 + directories_in entries
+
+-- ---- why there is none
+
+-- a directory that a look-up finds, whose Directory isn't told
+pub record IsFaultBelow (B : Blobs) (d e : DigestValue) (f : Fault) : Type 0 where
+  pub path : List Name
+  pub reached : Looks B d path (found (Dir e))
+  pub fault : FailsDirectory B e f
+
+-- a directory with an entry at a path of 64 names, of which `above` are above the digest
+pub record IsDeep (B : Blobs) (d : DigestValue) (above path : List Name) : Type 0 where
+  pub below : List Name
+  pub split : path ≡ above ++ below
+  pub names : length path ≡ 64
+  pub digest : DigestValue
+  pub reached : Looks B d below (found (Dir digest))
+  pub directory : DirectoryValue
+  pub told : TellsDirectory B digest directory
+  pub some : directory ≢ no_children
+
+abbrev pub ExplainsUnfold : {A : Type 0} → Blobs → DigestValue → List Name → TreeError A → Type 0
+ExplainsUnfold B d above (Absent path) = ⊥
+ExplainsUnfold B d above (BlobMissing e) = IsFaultBelow B d e (missing e)
+ExplainsUnfold B d above (BlobWrong e) = IsFaultBelow B d e (wrong e)
+ExplainsUnfold B d above (BlobMalformed e) = IsFaultBelow B d e (malformed e)
+ExplainsUnfold B d above (TooDeep path) = IsDeep B d above path
+ExplainsUnfold B d above Fetch = Unit {0}
+ExplainsUnfold B d above Memory = Unit {0}

@@ -1,0 +1,144 @@
+ghost use Rattle.std.specs.Prelude.{◌≡◌, ◌≢◌, ◌↔◌, ◌<◌, ◌≤◌, ◌+◌, ◌*◌, MatchOption, IsNone, IfOk, IfErr, IfSome, IsErrOf, length, map};
+ghost use Rattle.std.specs.List.{AllWithin, HoldsAt};
+ghost use Rattle.blob_digest.specs.Digest.{digest_of};
+ghost use Rattle.tree.specs.Comparing.{encodings_in, AreOwn};
+ghost use Rattle.tree.specs.Difference.{Reads, FailsToRead, LeavesOwn, Finds, FindsFirst, made_by, differing, ExplainsDifference};
+ghost use Rattle.tree.specs.Folded.{IsFoldOfLawful};
+ghost use Rattle.tree.specs.Lookup.{names_in};
+ghost use Rattle.tree.specs.Source.{Asks, AsksSome};
+ghost use Rattle.tree.specs.TreeError.{Explains};
+
+use crate::difference::{Difference, FirstName, Unlike, first_name};
+use crate::error::TreeError;
+use crate::fetching::fetch_message;
+use crate::folding::Folded;
+use crate::source::BlobSource;
+use crate::unfolding::child_path;
+use blob_digest::Digest;
+use messages::{Directory, MessageError, Path};
+use std::alloc::{AllocError, Allocator};
+
+/// The Directories that a graft made, and the digest of each.
+#[derive(Drop)]
+struct OwnDirectories<'a, A: Allocator> {
+    encodings: &'a [Vec<u8, A>],
+    digests: &'a [Digest],
+}
+
+/// The digest of each encoding.
+fn digests_of<A: Allocator>(
+    alloc: A,
+    encodings: &[Vec<u8, A>],
+) -> Result<Vec<Digest, A>, AllocError>
+    ensures { IfOk result (λ v. v.items ≡ map (λ e. digest_of e.items) encodings.now) }
+{
+    let mut digests = Vec::new(alloc);
+    for encoding in encodings {
+        digests.push(Digest::of(encoding))?;
+    }
+    Ok(digests)
+}
+
+/// Where the digest first stands.
+fn place_of(digests: &[Digest], digest: &Digest) -> Option<usize>
+    ensures { MatchOption result (AllWithin (λ d. d ≢ digest.now) digests.now 0 (length digests.now))
+        (λ i. (i < length digests.now) × HoldsAt (λ d. d ≡ digest.now) digests.now i × AllWithin (λ d. d ≢ digest.now) digests.now 0 i) }
+{
+    digests.iter().position(|other| other == digest)
+}
+
+/// The Directory with a digest: one that the graft made, or else the one that the source tells.
+fn read_directory<A: Allocator + Copy, S: BlobSource<A>>(
+    alloc: A,
+    own: &OwnDirectories<'_, A>,
+    digest: &Digest,
+    source: &mut S,
+) -> Result<Directory<A>, TreeError<A>>
+    requires { AreOwn own.now }
+    ensures told { IfOk result (λ m. Reads (encodings_in own.now) (S.tells source.new).blobs digest.now m) }
+    ensures faulty { IfErr result (λ e. Explains (FailsToRead (encodings_in own.now) (S.tells source.new).blobs digest.now) e) }
+    ensures asked { Asks 1 (S.tells source.old) (S.tells source.new) }
+    ensures unasked { LeavesOwn (encodings_in own.now) (S.tells source.old).blobs (S.tells source.new).blobs }
+    ensures failed { IsErrOf result TreeError.Fetch → (S.tells source.old).failures < (S.tells source.new).failures }
+{
+    let Some(place) = place_of(own.digests, digest) else {
+        return fetch_message(alloc, source, digest);
+    };
+    match Directory::decode(alloc, &own.encodings[place]) {
+        Ok(directory) => Ok(directory),
+        Err(error) => match error {
+            MessageError::Memory => Err(TreeError::Memory),
+            _ => unreachable!(),
+        },
+    }
+}
+
+/// The first difference below a path, where paths may have `deeper` names more.
+fn difference_below<A: Allocator + Copy, S: BlobSource<A>>(
+    alloc: A,
+    own: &OwnDirectories<'_, A>,
+    above: &Option<Path<A>>,
+    deeper: usize,
+    grafted: &Digest,
+    recorded: &Digest,
+    source: &mut S,
+) -> Result<Difference<A>, TreeError<A>>
+    requires own { AreOwn own.now }
+    requires some { 0 < deeper }
+    requires depth { deeper + length (names_in above.now) ≡ 64 }
+    requires other { grafted.now ≢ recorded.now }
+    ensures found { IfOk result (λ x. Finds (encodings_in own.now) (S.tells source.new).blobs deeper (names_in above.now) grafted.now recorded.now (differing x)) }
+    ensures refused { IfErr result (λ e. ExplainsDifference (Finds (encodings_in own.now) (S.tells source.new).blobs deeper (names_in above.now) grafted.now recorded.now) e) }
+    ensures asked { Asks (2 * deeper) (S.tells source.old) (S.tells source.new) }
+    ensures unasked { LeavesOwn (encodings_in own.now) (S.tells source.old).blobs (S.tells source.new).blobs }
+    ensures failed { IsErrOf result TreeError.Fetch → (S.tells source.old).failures < (S.tells source.new).failures }
+{
+    let there = read_directory(alloc, own, recorded, source)?;
+    let here = read_directory(alloc, own, grafted, source)?;
+    let FirstName { name, unlike } = first_name(alloc, &here, &there)?;
+    let path = child_path(alloc, above.as_ref(), &name)?;
+    match unlike {
+        Unlike::OnlyRecorded => Ok(Difference::Unexplained(path)),
+        Unlike::OnlyGrafted => Ok(Difference::Absent(path)),
+        Unlike::Others => Ok(Difference::Differs(path)),
+        Unlike::Directories { grafted, recorded } => {
+            if deeper == 1 {
+                return Ok(Difference::Differs(path));
+            }
+            let above = Some(path);
+            difference_below(alloc, own, &above, deeper - 1, &grafted, &recorded, source)
+        }
+    }
+}
+
+/// The first difference of a graft and the directory with a digest, Directory by Directory, names
+/// in their order: `None` where the digest is the graft's. The recorded Directory is read before
+/// the grafted one; one that the graft made is never fetched, and nothing is that isn't compared.
+/// Refusals 42 to 44.
+pub fn first_difference<A: Allocator + Copy, S: BlobSource<A>>(
+    alloc: A,
+    grafted: &Folded<A>,
+    recorded: &Digest,
+    source: &mut S,
+) -> Result<Option<Difference<A>>, TreeError<A>>
+    requires { IsFoldOfLawful grafted.now }
+    ensures same { IfOk result (λ o. IsNone o ↔ (recorded.now ≡ grafted.now.root)) }
+    ensures found { IfOk result (λ o. IfSome o (λ x. FindsFirst (made_by grafted.now) (S.tells source.new).blobs grafted.now.root recorded.now (differing x))) }
+    ensures refused { IfErr result (λ e. ExplainsDifference (FindsFirst (made_by grafted.now) (S.tells source.new).blobs grafted.now.root recorded.now) e) }
+    ensures asked { AsksSome (S.tells source.old) (S.tells source.new) }
+    ensures few { (S.tells source.new).calls ≤ (S.tells source.old).calls + 128 }
+    ensures unasked { recorded.now ≡ grafted.now.root → S.tells source.new ≡ S.tells source.old }
+    ensures unasked_own { LeavesOwn (made_by grafted.now) (S.tells source.old).blobs (S.tells source.new).blobs }
+    ensures failed { IsErrOf result TreeError.Fetch → (S.tells source.old).failures < (S.tells source.new).failures }
+{
+    if *recorded == grafted.root {
+        return Ok(None);
+    }
+    let digests = digests_of(alloc, &grafted.directories)?;
+    let own = OwnDirectories {
+        encodings: &grafted.directories,
+        digests: &digests,
+    };
+    let first = difference_below(alloc, &own, &None, 64, &grafted.root, recorded, source)?;
+    Ok(Some(first))
+}

@@ -1,0 +1,390 @@
+-- What runs of a plan keep, where the plan is as recorded and no two different blobs concerned share a digest.
+use Rattle.std.proofs.Common.{◌≡◌, ℕ, zero, suc, Bool, true, false, cond, List, [], ◌∷◌, map, Option, Some, None, length, refl, ap, sym, ◌∙◌, subst, arith, inl, inr}
+use Rattle.std.specs.Prelude.{◌==◌, pos, option_map, option_and_then, slice_get, IsSomeAnd, Contains}
+use Rattle.std.specs.List.{AllByRecursion}
+use Rattle.std.specs.Map.{lookup, remove_entry}
+use Rattle.std.proofs.lemmas.Bool.Decides.{Decides-eqb}
+use Rattle.blob_digest.specs.Digest.{DigestValue, digest_of, NoClash}
+use Rattle.messages.specs.Directory.{directory_bytes}
+use Rattle.messages.specs.declared.node.Node.TheVariants.{Dir}
+use Rattle.messages.specs.Tree.{TreeValue, IsTree, tree_bytes}
+use Rattle.actions.specs.Action.{ActionValue, with_input, action_bytes}
+use Rattle.actions.specs.ActionResult.{ActionResultValue, action_result_bytes}
+use Rattle.actions.specs.Command.{CommandValue, command_bytes}
+use Rattle.actions.specs.Frame.{FrameValue, frame_bytes}
+use Rattle.actions.specs.Outcome.{OutputValue, OutcomeValue}
+use Rattle.actions.specs.OutcomeLookup.{LooksIn}
+use Rattle.actions.specs.Recorded.{RecordedValue, file, directory, link, StandForAll}
+use Rattle.actions.proofs.EncodedOnce.{frame_bytes_injective, action_bytes_injective, command_bytes_injective, action_result_bytes_injective}
+use Rattle.actions.proofs.RecordedAt.{recorded_at}
+use Rattle.actions.proofs.TreeBytes.{tree_bytes_some}
+use Rattle.actions.proofs.Rooms.{holds_at}
+use Rattle.plan.specs.Values.{OriginValue, source, output, LineValue, StepValue, PlanValue}
+use Rattle.tree.specs.Tree.{Name, Tree, Leaf, Entry, whole, IsOrdered, IsOrderedEntry}
+use Rattle.tree.specs.Form.{NodeValue, entry_node, form, top, root, IsBlobOf}
+use Rattle.tree.specs.Graft.{graft, expand}
+use Rattle.tree.specs.Source.{Blobs, IsUnder, IsBlobUnder}
+use Rattle.tree.specs.Told.{IsTold, TellsDirectory, FailsDirectory}
+use Rattle.tree.specs.Lookup.{found, LooksFrom, IsValue}
+use Rattle.tree.proofs.GraftRoots.{root-graft}
+use Rattle.tree.proofs.LookupLemmas.{looks_from, told_reads}
+use Rattle.tree.proofs.OrderLemmas.{IsOrderedAt, ordered_at, ordered_grafted}
+use Rattle.tree.proofs.SameRoot.{same_root}
+use Rattle.tree.proofs.TreeDigests.{IsDigest-digest_of, only_empty}
+use Rattle.verifier.specs.Accepted.{LooksAt, Resolves}
+use Rattle.verifier.specs.AsRecorded.{IsPlanAsRecorded}
+use Rattle.verifier.specs.Build.{Meaning, ActionMeaning, action_digest, Outcome, output_at, output_from, below_path, StepFits, MeaningFits, Event, start, finish, lose, State, opening, outcome_of, job_of, origin_at, origins, graft_of, step_action, action_of, started, finished, lost, happens, IsTable, Obeys, IsRun, HasFinishedAll}
+use Rattle.verifier.specs.Headline.{IsDirectoryInTree, IsBlobOfAction, IsBlobOfEvent, IsBlobOfEvents, IsBlobOfChosen, HasFinished, IsNotStuck, IsAsChosen}
+use Rattle.verifier.specs.Recorded.{Agrees, IsRecordedAs, RecordsAt}
+use Rattle.verifier.proofs.OutputLookups.{HoldsTree, HoldsOutput, outputs_tell}
+use Rattle.verifier.proofs.RecordedSteps.{get_other, as_many, IsRecordedStep, step_at}
+
+-- ---- lists and options
+
+-- two answers of one look-up are one
+one_answer : {X : Type 0} (o : Option X) (x y : X) → o ≡ Some x → o ≡ Some y → x ≡ y
+one_answer o x y e f = let both : ◌≡◌ {A = Option _} (Some x) (Some y) = sym e ∙ f in cc
+
+-- what a look-up finds is one of the entries
+found_one : {A : Type 0} (P : ℕ × A → Type 0) (j : ℕ) (es : List (ℕ × A)) (x : A) → AllByRecursion P es → lookup (λ k. k == j) es ≡ Some x → P (j, x)
+found_one P j [] x h e = cc
+found_one {A} P j (y ∷ es) x h e = at (y.0 == j) refl e (found_one P j es x h.1)
+  where
+    at : (q : Bool) → (y.0 == j) ≡ q → cond q (Some y.1) (lookup (λ k. k == j) es) ≡ Some x → (lookup (λ k. k == j) es ≡ Some x → P (j, x)) → P (j, x)
+    at true p e rest = let key : y.0 ≡ j = (Decides-eqb y.0 j).0 p in let value : y.1 ≡ x = cc in subst P (λ i. (key i, value i)) h.0
+    at false p e rest = rest e
+
+kept_rest : {A : Type 0} (P : ℕ × A → Type 0) (j : ℕ) (es : List (ℕ × A)) → AllByRecursion P es → AllByRecursion P (remove_entry (λ k. k == j) es)
+kept_rest P j [] h = tt
+kept_rest P j (y ∷ es) h = elim (y.0 == j) as (λ q. AllByRecursion P (cond q es (y ∷ remove_entry (λ k. k == j) es))) [ true ↦ h.1 | false ↦ (h.0, kept_rest P j es h.1) ]
+
+abbrev nodes_of : List (List Name × Entry Leaf) → List (List Name × NodeValue)
+nodes_of es = map (λ e. (e.0, entry_node e.1)) es
+
+-- an outcome's output at a path is in order
+output_ordered : (os : List (List Name × Entry Leaf)) (p : List Name) → AllByRecursion (λ (e : List Name × Entry Leaf). IsOrderedEntry e.1) os → IsOrderedAt (output_at os p)
+output_ordered [] p h = tt
+output_ordered (o ∷ os) p h = elim (below_path o.0 p) as (λ q. IsOrderedAt (output_from q o.1 (output_at os p))) [ None ↦ output_ordered os p h.1 | Some q ↦ ordered_at q (Some o.1) h.0 ]
+
+-- ---- a set of blobs without a clash
+
+-- all that a run is about stands in a set
+pub record Within (S : List ℕ → Type 0) (B : Blobs) (t : Tree Leaf) (chosen : List (ActionMeaning × Outcome)) : Type 0 where
+  pub values : (b : List ℕ) → IsValue B b → S b
+  pub directories : (b : List ℕ) → IsDirectoryInTree B b → S b
+  pub own : (b : List ℕ) → IsBlobOf t b → S b
+  pub picked : (b : List ℕ) → IsBlobOfChosen chosen b → S b
+
+module _ (S : List ℕ → Type 0) (apart : NoClash S) where
+  -- what a source tells under a digest is each blob of the set with that digest
+  told_bytes : (B : Blobs) (d : DigestValue) (bytes other : List ℕ) → ((b : List ℕ) → IsValue B b → S b) → IsBlobUnder B d bytes → S other → digest_of other ≡ d → bytes ≡ other
+  told_bytes B d bytes other values told within is = by told.held
+    where
+      by : IsUnder B d (Some bytes) → bytes ≡ other
+      by (inl h) = let none : bytes ≡ [] = (let both : ◌≡◌ {A = Option (List ℕ)} (Some bytes) (Some []) = h.1 in cc) in none ∙ sym (only_empty other (is ∙ h.0))
+      by (inr h) = apart bytes other (values bytes (d, sym h.1)) within (told.right ∙ sym is)
+
+  module _ (B C : Blobs) (t : Tree Leaf) (chosen : List (ActionMeaning × Outcome)) (within : Within S B t chosen) where
+    -- the Trees of a recorded outcome
+    holds_told : (d : DigestValue) (u : TreeValue) → IsTold IsTree tree_bytes B d u → HoldsTree S apart u
+    holds_told d u told = record { lawful = told.lawful; held = λ m inside. within.directories (directory_bytes m) (u, told.lawful, by told.blob.held, m, inside, refl) }
+      where
+        by : IsUnder B d (Some (tree_bytes u)) → IsValue B (tree_bytes u)
+        by (inl h) = absurd (tree_bytes_some u (let both : ◌≡◌ {A = Option (List ℕ)} (Some (tree_bytes u)) (Some []) = h.1 in cc))
+        by (inr h) = (d, sym h.1)
+
+    holds_outputs : (xs : List RecordedValue) (es : List (List Name × OutputValue)) → StandForAll B xs es → (e : List Name × OutputValue) → Contains es e → HoldsOutput S apart e.1
+    holds_outputs [] es h e (k, lt, is) = let none : length es ≡ 0 = ap length h in absurd (omega (arith, none))
+    holds_outputs (x ∷ xs) [] h e c = elim h [ ]
+    holds_outputs (file f ∷ xs) (y ∷ es) h e (zero, lt, is) = subst (λ (z : List Name × OutputValue). HoldsOutput S apart z.1) is (subst (HoldsOutput S apart) (sym h.1) tt)
+    holds_outputs (link l ∷ xs) (y ∷ es) h e (zero, lt, is) = subst (λ (z : List Name × OutputValue). HoldsOutput S apart z.1) is (subst (HoldsOutput S apart) (sym h.1) tt)
+    holds_outputs (directory d ∷ xs) (y ∷ es) h e (zero, lt, is) = subst (λ (z : List Name × OutputValue). HoldsOutput S apart z.1) is (subst (HoldsOutput S apart) (sym h.1.2) (holds_told d.tree h.1.0 h.1.1))
+    holds_outputs (x ∷ xs) (y ∷ es) h e (suc k, lt, is) = holds_outputs xs es h.2 e (k, omega (arith, lt), is)
+
+    module _ (src : DigestValue) (plan : PlanValue) (ds : List DigestValue) (claim : DigestValue) (meaning : Meaning) (X : List (ActionMeaning × Outcome))
+        (ordered : IsOrdered t) (sources : root (form t) ≡ src) (fits : MeaningFits plan meaning) (table : IsTable X) (agrees : Agrees B C X chosen ds) (h : IsPlanAsRecorded B C src plan ds claim) where
+      -- ---- the steps, each with its chosen pair
+
+      -- what was recorded of a step, and what was chosen for it
+      record Chosen (i : ℕ) (s : StepValue) : Type 0 where
+        kept : IsRecordedStep B C src ds h.outcomes i i s
+        pair : ActionMeaning × Outcome
+        pair_at : slice_get chosen i ≡ Some pair
+        in_table : Contains X pair
+        digest : action_digest pair.0 ≡ kept.digest
+        recorded_as : IsRecordedAs B C kept.digest pair.1
+
+      chosen_at : (i : ℕ) (s : StepValue) → slice_get plan.steps i ≡ Some s → Chosen i s
+      chosen_at i s at =
+          let step = step_at B C src plan.steps ds h.outcomes h.steps i s at in
+          let pair = get_other ds chosen i step.digest (sym agrees.each) step.digest_at in
+          let facts = agrees.pairs i step.digest pair.0 step.digest_at pair.1 in
+          record { kept = step; pair = pair.0; pair_at = pair.1; in_table = facts.0; digest = facts.1; recorded_as = facts.2 }
+
+      -- each chosen pair is in the table
+      pair_in_table : (i : ℕ) (pair : ActionMeaning × Outcome) → slice_get chosen i ≡ Some pair → Contains X pair
+      pair_in_table i pair at = let d = get_other chosen ds i pair agrees.each at in (agrees.pairs i d.0 pair d.1 at).0
+
+      -- the result that was recorded is one
+      same_result : (i : ℕ) (s : StepValue) (c : Chosen i s) → c.kept.step.result ≡ c.recorded_as.result
+      same_result i s c =
+          action_result_bytes_injective c.kept.step.result c.recorded_as.result c.kept.step.lawful c.recorded_as.told.lawful
+          (one_answer (C c.kept.digest) (action_result_bytes c.kept.step.result) (action_result_bytes c.recorded_as.result) c.kept.step.held c.recorded_as.told.held)
+
+      -- the chosen outcome has exit code 0
+      succeeds : (i : ℕ) (s : StepValue) (c : Chosen i s) → c.pair.1.exit_code ≡ pos 0
+      succeeds i s c = c.recorded_as.exit_code ∙ ap (λ (r : ActionResultValue). r.exit_code) (sym (same_result i s c)) ∙ c.kept.step.exit_code
+
+      -- at each path it has the node that was recorded there
+      chosen_tells : (i : ℕ) (s : StepValue) (c : Chosen i s) (p : List Name) (x : NodeValue) → LooksIn c.kept.outcome p (found x) → option_map entry_node (output_at c.pair.1.outputs p) ≡ Some x
+      chosen_tells i s c p x look =
+          let v = c.kept.outcome in
+          let told = c.kept.step.recorded in
+          outputs_tell S apart c.pair.1 v (table.actions c.pair.0 c.pair.1 c.in_table).1 (λ b k. within.picked b (c.pair, holds_at chosen i c.pair c.pair_at, inr k)) (holds_outputs told.recorded v.outputs told.outputs)
+          (λ q y inside. (c.recorded_as.outputs q y).1 (subst (λ r. RecordsAt B r q y) (same_result i s c) ((recorded_at B c.kept.step.result v q y told).0 inside))) p x look
+
+      -- ---- what a run keeps: each published outcome is the chosen one of its step, and each job runs the chosen action
+
+      abbrev IsPublished : ℕ × Outcome → Type 0
+      IsPublished e = (pair : ActionMeaning × Outcome) × (slice_get chosen e.0 ≡ Some pair) × (e.1 ≡ pair.1)
+
+      abbrev IsJob : ℕ × (ℕ × ActionMeaning) → Type 0
+      IsJob j = (s : StepValue) × (slice_get plan.steps j.1.0 ≡ Some s) × (pair : ActionMeaning × Outcome) × (slice_get chosen j.1.0 ≡ Some pair) × (j.1.1 ≡ pair.0)
+
+      pub record Keeps (s : State) : Type 0 where
+        pub done : AllByRecursion IsPublished s.done
+        pub jobs : AllByRecursion IsJob s.jobs
+
+      -- the outcome of a step that has finished
+      published : (s : State) → Keeps s → (i : ℕ) (step : StepValue) (c : Chosen i step) (o : Outcome) → outcome_of i s ≡ Some o → o ≡ c.pair.1
+      published s keeps i step c o is =
+          let e = found_one IsPublished i s.done o keeps.done is in
+          e.2 ∙ ap (λ (z : ActionMeaning × Outcome). z.1) (one_answer (slice_get chosen i) e.0 c.pair e.1 c.pair_at)
+
+      -- an outcome that is looked into is that of a step
+      origin_step : (j : ℕ) (v : OutcomeValue) → slice_get h.outcomes j ≡ Some v → (s : StepValue) × (slice_get plan.steps j ≡ Some s)
+      origin_step j v e = get_other h.outcomes plan.steps j v (as_many B C src plan.steps ds h.outcomes h.steps) e
+
+      -- an origin has the node that was looked up
+      origin_tells : (s : State) → Keeps s → (o : OriginValue) (x : NodeValue) → LooksAt B src h.outcomes o (found x) → HasFinished s o → option_map entry_node (origin_at t s o) ≡ Some x
+      origin_tells s keeps (source p) x look done =
+          looks_from (TellsDirectory B) (FailsDirectory B) S (told_reads B S within.values apart) p (Some (whole t)) (found x) ordered within.own
+          (subst (λ d. LooksFrom (TellsDirectory B) (FailsDirectory B) p (Some (Dir d)) (found x)) (sym sources) look)
+      origin_tells s keeps (output j p) x look done =
+          let step = origin_step j look.0 look.1 in
+          let c = chosen_at j step.0 step.1 in
+          let outcome = one_answer (slice_get h.outcomes j) look.0 c.kept.outcome look.1 c.kept.outcome_at in
+          let is = published s keeps j step.0 c done.0 done.1 in
+          ap (λ q. option_map entry_node (option_and_then (λ (o : Outcome). output_at o.outputs p) q)) done.1
+          ∙ ap (λ (o : Outcome). option_map entry_node (output_at o.outputs p)) is
+          ∙ chosen_tells j step.0 c p x (subst (λ v. LooksIn v p (found x)) outcome look.2)
+
+      origin_ordered : (s : State) → Keeps s → (o : OriginValue) → IsOrderedAt (origin_at t s o)
+      origin_ordered s keeps (source p) = ordered_at p (Some (whole t)) ordered
+      origin_ordered s keeps (output j p) = by (outcome_of j s) refl
+        where
+          by : (q : Option Outcome) → outcome_of j s ≡ q → IsOrderedAt (option_and_then (λ (o : Outcome). output_at o.outputs p) q)
+          by None is = tt
+          by (Some o) is =
+              let e = found_one IsPublished j s.done o keeps.done is in
+              let lawful = (table.actions e.0.0 e.0.1 (pair_in_table j e.0 e.1)).1 in
+              subst (λ (z : Outcome). IsOrderedAt (output_at z.outputs p)) (sym e.2) (output_ordered e.0.1.outputs p lawful.outputs)
+
+      -- ---- lines and their grafts
+
+      abbrev HaveFinished : State → List LineValue → Type 0
+      HaveFinished s ls = AllByRecursion (λ (l : LineValue). HasFinished s l.origin) ls
+
+      lines_tell : (s : State) → Keeps s → (ls : List LineValue) (xs : List (List Name × NodeValue)) → Resolves B src h.outcomes ls xs → HaveFinished s ls
+          → (es : List (List Name × Entry Leaf)) × (origins t s ls ≡ Some es) × (nodes_of es ≡ xs) × AllByRecursion (λ (e : List Name × Entry Leaf). IsOrderedEntry e.1) es
+      lines_tell s keeps [] xs r done = ([], refl, sym r, tt)
+      lines_tell s keeps (l ∷ ls) xs r done = one (origin_at t s l.origin) refl (origin_tells s keeps l.origin r.0 r.1 done.0) (origin_ordered s keeps l.origin) (lines_tell s keeps ls r.2 r.3 done.1)
+        where
+          one : (o : Option (Entry Leaf)) → origin_at t s l.origin ≡ o → option_map entry_node (origin_at t s l.origin) ≡ Some r.0 → IsOrderedAt (origin_at t s l.origin)
+              → (es : List (List Name × Entry Leaf)) × (origins t s ls ≡ Some es) × (nodes_of es ≡ r.2) × AllByRecursion (λ (e : List Name × Entry Leaf). IsOrderedEntry e.1) es
+              → (es : List (List Name × Entry Leaf)) × (origins t s (l ∷ ls) ≡ Some es) × (nodes_of es ≡ xs) × AllByRecursion (λ (e : List Name × Entry Leaf). IsOrderedEntry e.1) es
+          one None is told in_order rest = absurd (let none : ◌≡◌ {A = Option NodeValue} None (Some r.0) = sym (ap (option_map entry_node) is) ∙ told in cc)
+          one (Some e) is told in_order rest =
+              let both : ◌≡◌ {A = Option NodeValue} (Some (entry_node e)) (Some r.0) = sym (ap (option_map entry_node) is) ∙ told in
+              let node : entry_node e ≡ r.0 = cc in (
+                (l.target, e) ∷ rest.0,
+                ap (λ o. option_and_then (λ e. option_map (λ es. (l.target, e) ∷ es) (origins t s ls)) o) is ∙ ap (option_map (λ es. (l.target, e) ∷ es)) rest.1,
+                (λ i. (l.target, node i) ∷ rest.2 i) ∙ sym r.4,
+                (subst IsOrderedAt is in_order, rest.3),
+              )
+
+      -- the graft of lines whose steps have finished is there, with the digest that was found
+      grafts : (s : State) → Keeps s → (ls : List LineValue) (xs : List (List Name × NodeValue)) → Resolves B src h.outcomes ls xs → HaveFinished s ls
+          → (g : Tree Leaf) × (graft_of t s ls ≡ Some g) × (root (form g) ≡ root (graft xs)) × IsOrdered g
+      grafts s keeps ls xs r done =
+          let k = lines_tell s keeps ls xs r done in
+          (expand (graft k.0), ap (option_map (λ es. expand (graft es))) k.1, root-graft k.0 ∙ ap (λ ys. root (graft ys)) k.2, ordered_grafted k.0 k.3)
+
+      -- where a graft is there, the steps that its lines read have finished
+      origin_finished : (s : State) (o : OriginValue) (e : Entry Leaf) → origin_at t s o ≡ Some e → HasFinished s o
+      origin_finished s (source p) e is = tt
+      origin_finished s (output j p) e is = by (outcome_of j s) refl is
+        where
+          by : (q : Option Outcome) → outcome_of j s ≡ q → option_and_then (λ (o : Outcome). output_at o.outputs p) q ≡ Some e → (o : Outcome) × (outcome_of j s ≡ Some o)
+          by None at is = absurd cc
+          by (Some o) at is = (o, at)
+
+      origins_finished : (s : State) (ls : List LineValue) (es : List (List Name × Entry Leaf)) → origins t s ls ≡ Some es → HaveFinished s ls
+      origins_finished s [] es is = tt
+      origins_finished s (l ∷ ls) es is = by (origin_at t s l.origin) (origins t s ls) refl refl is (origins_finished s ls)
+        where
+          by : (o : Option (Entry Leaf)) (q : Option (List (List Name × Entry Leaf))) → origin_at t s l.origin ≡ o → origins t s ls ≡ q → option_and_then (λ e. option_map (λ es. (l.target, e) ∷ es) q) o ≡ Some es
+              → ((es : List (List Name × Entry Leaf)) → origins t s ls ≡ Some es → HaveFinished s ls) → HasFinished s l.origin × HaveFinished s ls
+          by None q at those is rest = absurd cc
+          by (Some e) None at those is rest = absurd cc
+          by (Some e) (Some others) at those is rest = (origin_finished s l.origin e at, rest others those)
+
+      graft_finished : (s : State) (ls : List LineValue) (g : Tree Leaf) → graft_of t s ls ≡ Some g → HaveFinished s ls
+      graft_finished s ls g is = by (origins t s ls) refl is
+        where
+          by : (q : Option (List (List Name × Entry Leaf))) → origins t s ls ≡ q → option_map (λ es. expand (graft es)) q ≡ Some g → HaveFinished s ls
+          by None those is = absurd cc
+          by (Some es) those is = origins_finished s ls es those
+
+      -- ---- events
+
+      -- the action of a step, by its frame and its command
+      action_made : (s : State) (i : ℕ) (step : StepValue) (at : slice_get plan.steps i ≡ Some step)
+          → action_of plan meaning t s i ≡ option_map {U = ActionMeaning} (λ input. record { frame = (fits.steps i step at).0; command = (fits.steps i step at).1; input = input }) (graft_of t s step.lines)
+      action_made s i step at =
+          let f = fits.steps i step at in
+          ap (option_and_then (step_action meaning t s i)) at
+          ∙ ap (λ q. option_and_then {U = ActionMeaning} (λ (frame : FrameValue). option_and_then {U = ActionMeaning} (λ (command : CommandValue). option_map {U = ActionMeaning} (λ input. record { frame = frame; command = command; input = input }) (graft_of t s step.lines)) (slice_get meaning.commands i)) q) f.2
+          ∙ ap (λ q. option_and_then {U = ActionMeaning} (λ (command : CommandValue). option_map {U = ActionMeaning} (λ input. record { frame = f.0; command = command; input = input }) (graft_of t s step.lines)) q) f.3
+
+      -- an action that a step may start with
+      pub record IsActionOf (s : State) (i : ℕ) (a : ActionMeaning) : Type 0 where
+        pub step : StepValue
+        pub at : slice_get plan.steps i ≡ Some step
+        pub fit : StepFits step.frame a.frame a.command
+        pub grafted : graft_of t s step.lines ≡ Some a.input
+
+      action_is : (s : State) (i : ℕ) (a : ActionMeaning) → action_of plan meaning t s i ≡ Some a → IsActionOf s i a
+      action_is s i a is = by (slice_get plan.steps i) refl
+        where
+          by : (q : Option StepValue) → slice_get plan.steps i ≡ q → IsActionOf s i a
+          by None at = absurd (let none : ◌≡◌ {A = Option ActionMeaning} None (Some a) = sym (ap (option_and_then (step_action meaning t s i)) at) ∙ is in cc)
+          by (Some step) at = made (graft_of t s step.lines) refl (sym (action_made s i step at) ∙ is)
+            where
+              f : (frame : FrameValue) × (command : CommandValue) × (slice_get meaning.frames i ≡ Some frame) × (slice_get meaning.commands i ≡ Some command) × StepFits step.frame frame command
+              f = fits.steps i step at
+
+              made : (g : Option (Tree Leaf)) → graft_of t s step.lines ≡ g → option_map {U = ActionMeaning} (λ input. record { frame = f.0; command = f.1; input = input }) g ≡ Some a → IsActionOf s i a
+              made None grafted is = absurd cc
+              made (Some g) grafted is =
+                  let whole_action : ◌≡◌ {A = ActionMeaning} (record { frame = f.0; command = f.1; input = g }) a = cc in
+                  record {
+                    step = step;
+                    at = at;
+                    fit = subst (λ (a : ActionMeaning). StepFits step.frame a.frame a.command) whole_action f.4;
+                    grafted = grafted ∙ ap (λ (a : ActionMeaning). Some a.input) whole_action;
+                  }
+
+      -- a step that starts takes the chosen action
+      takes_chosen : (s : State) → Keeps s → (i : ℕ) (a : ActionMeaning) (p : IsActionOf s i a) (c : Chosen i p.step) → ((b : List ℕ) → IsBlobOfAction a b → S b) → a ≡ c.pair.0
+      takes_chosen s keeps i a p c blobs =
+          let A = c.pair.0 in
+          let r = c.kept.step in
+          let lawful = (table.actions A c.pair.1 c.in_table).0 in
+          let picked : (b : List ℕ) → IsBlobOfAction A b → S b = λ b k. within.picked b (c.pair, holds_at chosen i c.pair c.pair_at, inl k) in
+          -- the recorded Action is that of the chosen action
+          let spelled = told_bytes B c.kept.digest (action_bytes r.action) (action_bytes (with_input A.frame (root (form A.input)))) within.values r.action_told.blob (picked _ (inl (inl refl))) c.digest in
+          let told = action_bytes_injective r.action (with_input A.frame (root (form A.input))) r.action_told.lawful (record { frame = lawful.frame; input = IsDigest-digest_of (top (form A.input)) }) spelled in
+          let told_frame : r.action.frame ≡ A.frame = ap (λ (x : ActionValue). x.frame) told in
+          let told_input : r.action.input ≡ root (form A.input) = ap (λ (x : ActionValue). x.input) told in
+          -- so the plan's frame is its frame
+          let frames = apart (frame_bytes a.frame) (frame_bytes A.frame) (blobs _ (inl (inr refl))) (picked _ (inl (inr refl))) (p.fit.frame_digest ∙ sym r.frame ∙ ap (λ f. digest_of (frame_bytes f)) told_frame) in
+          let frame = frame_bytes_injective a.frame A.frame p.fit.frame_lawful lawful.frame frames in
+          -- the command is its command
+          let commands = apart (command_bytes a.command) (command_bytes A.command) (blobs _ (inr (inl refl))) (picked _ (inr (inl refl))) (sym p.fit.command_digest ∙ ap (λ (f : FrameValue). f.command) frame ∙ lawful.named) in
+          let command = command_bytes_injective a.command A.command p.fit.command_lawful lawful.command commands in
+          -- and the graft of the lines is its input
+          let g = grafts s keeps p.step.lines r.nodes r.resolved (graft_finished s p.step.lines a.input p.grafted) in
+          let same : g.0 ≡ a.input = one_answer (graft_of t s p.step.lines) g.0 a.input g.1 p.grafted in
+          let roots : root (form a.input) ≡ root (form A.input) = ap (λ u. root (form u)) (sym same) ∙ g.2 ∙ r.input ∙ told_input in
+          let input = same_root S apart a.input A.input (subst IsOrdered same g.3) lawful.input (λ b q. blobs b (inr (inr q))) (λ b q. picked b (inr (inr q))) roots in
+          λ i. record { frame = frame i; command = command i; input = input i }
+
+      -- each event keeps it
+      keeps_event : (s mid : State) (e : Event) → Keeps s → Obeys X s e → ((b : List ℕ) → IsBlobOfEvent plan meaning t s e b → S b) → happens plan meaning t s e ≡ Some mid → Keeps mid
+      keeps_event s mid (start i w) keeps obeys blobs is = by (job_of w s) (action_of plan meaning t s i) refl is
+        where
+          by : (q : Option (ℕ × ActionMeaning)) (o : Option ActionMeaning) → action_of plan meaning t s i ≡ o → started s i w q o ≡ Some mid → Keeps mid
+          by (Some job) o e is = absurd cc
+          by None None e is = absurd cc
+          by None (Some a) e is =
+              let p = action_is s i a e in
+              let c = chosen_at i p.step p.at in
+              let same = takes_chosen s keeps i a p c (λ b k. blobs b (a, e, k)) in
+              let whole_state : ◌≡◌ {A = State} (record s { jobs = (w, (i, a)) ∷ s.jobs }) mid = cc in
+              subst Keeps whole_state (record { done = keeps.done; jobs = ((p.step, p.at, c.pair, c.pair_at, same), keeps.jobs) })
+      keeps_event s mid (finish w o) keeps obeys blobs is = by (job_of w s) refl is
+        where
+          by : (q : Option (ℕ × ActionMeaning)) → job_of w s ≡ q → finished s w o q ≡ Some mid → Keeps mid
+          by None e is = absurd cc
+          by (Some job) e is =
+              let j = found_one IsJob w s.jobs job keeps.jobs e in
+              let outcome = table.same j.2.0 o j.2.1 (subst (λ a. Contains X (a, o)) j.4 (obeys job e)) (pair_in_table job.0 j.2 j.3) in
+              let whole_state : ◌≡◌ {A = State} (record { done = (job.0, o) ∷ s.done; jobs = remove_entry (λ k. k == w) s.jobs }) mid = cc in
+              subst Keeps whole_state (record { done = ((j.2, j.3, outcome), keeps.done); jobs = kept_rest IsJob w s.jobs keeps.jobs })
+      keeps_event s mid (lose w) keeps obeys blobs is = by (job_of w s) is
+        where
+          by : (q : Option (ℕ × ActionMeaning)) → lost s w q ≡ Some mid → Keeps mid
+          by None is = absurd cc
+          by (Some job) is =
+              let whole_state : ◌≡◌ {A = State} (record s { jobs = remove_entry (λ k. k == w) s.jobs }) mid = cc in
+              subst Keeps whole_state (record { done = keeps.done; jobs = kept_rest IsJob w s.jobs keeps.jobs })
+
+      -- so does a run
+      keeps_run : (s end : State) (es : List Event) → Keeps s → ((b : List ℕ) → IsBlobOfEvents plan meaning t s es b → S b) → IsRun X plan meaning t s es end → Keeps end
+      keeps_run s end [] keeps blobs r = subst Keeps (sym r) keeps
+      keeps_run s end (e ∷ es) keeps blobs r = keeps_run r.1 end es (keeps_event s r.1 e keeps r.0 (λ b k. blobs b (inl k)) r.2) (λ b k. blobs b (inr (r.1, r.2, k))) r.3
+
+      pub runs_keep : (end : State) (es : List Event) → ((b : List ℕ) → IsBlobOfEvents plan meaning t opening es b → S b) → IsRun X plan meaning t opening es end → Keeps end
+      runs_keep end es blobs r = keeps_run opening end es (record { done = tt; jobs = tt }) blobs r
+
+      -- ---- what a run comes to
+
+      finished_all : (end : State) → HasFinishedAll plan end → (ls : List LineValue) (xs : List (List Name × NodeValue)) → Resolves B src h.outcomes ls xs → HaveFinished end ls
+      finished_all end all [] xs r = tt
+      finished_all end all (l ∷ ls) xs r = (one l.origin r.1, finished_all end all ls r.2 r.3)
+        where
+          one : (o : OriginValue) → LooksAt B src h.outcomes o (found r.0) → HasFinished end o
+          one (source p) look = tt
+          one (output j p) look = let step = origin_step j look.0 look.1 in all j step.0 step.1
+
+      -- A complete run ends in a tree with the claim as its digest.
+      pub ends_in_claim : (end : State) → Keeps end → HasFinishedAll plan end → IsSomeAnd (graft_of t end plan.root_lines) (λ g. root (form g) ≡ claim)
+      ends_in_claim end keeps all =
+          let g = grafts end keeps plan.root_lines h.root.nodes h.root.resolved (finished_all end all plan.root_lines h.root.nodes h.root.resolved) in
+          let roots : root (form g.0) ≡ claim = g.2 ∙ h.root.same in
+          subst (λ o. IsSomeAnd o (λ g. root (form g) ≡ claim)) (sym g.1) roots
+
+      -- Nothing is stuck.
+      pub nothing_is_stuck : (now : State) → Keeps now → IsNotStuck X plan meaning t now
+      nothing_is_stuck now keeps = record {
+        starts = λ i w step at done free.
+            let c = chosen_at i step at in
+            let f = fits.steps i step at in
+            let g = grafts now keeps step.lines c.kept.step.nodes c.kept.step.resolved done in
+            let a : ActionMeaning = record { frame = f.0; command = f.1; input = g.0 } in
+            let made : action_of plan meaning t now i ≡ Some a = action_made now i step at ∙ ap (option_map {U = ActionMeaning} (λ input. record { frame = f.0; command = f.1; input = input })) g.1 in
+            (record now { jobs = (w, (i, a)) ∷ now.jobs }, ap (λ q. started now i w q (action_of plan meaning t now i)) free ∙ ap (started now i w None) made);
+        finishes = λ w job is.
+            let j = found_one IsJob w now.jobs job keeps.jobs is in
+            let c = chosen_at job.0 j.0 j.1 in
+            let same = one_answer (slice_get chosen job.0) c.pair j.2 c.pair_at j.3 in
+            (j.2.1, subst (λ a. Contains X (a, j.2.1)) (sym j.4) (pair_in_table job.0 j.2 j.3), ap (λ (z : ActionMeaning × Outcome). z.1.exit_code) (sym same) ∙ succeeds job.0 j.0 c);
+      }
+
+      -- Jobs and outcomes are the chosen ones.
+      pub runs_as_chosen : (now : State) → Keeps now → IsAsChosen chosen now
+      runs_as_chosen now keeps = record {
+        jobs = λ w job is. let j = found_one IsJob w now.jobs job keeps.jobs is in (j.2, j.3, j.4);
+        outcomes = λ i o is. found_one IsPublished i now.done o keeps.done is;
+      }

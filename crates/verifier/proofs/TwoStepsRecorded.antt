@@ -1,0 +1,207 @@
+-- The build of two steps is as recorded.
+use Rattle.std.proofs.Common.{◌≡◌, ℕ, suc, List, [], ◌∷◌, Some, refl, ap, sym, subst, arith, inl, inr, false}
+use Rattle.std.specs.Prelude.{FitsSigned, pos, codes}
+use Rattle.std.specs.Int.{w32}
+use Rattle.hex.specs.Hex.{encode_with, decode_pairs}
+use Rattle.sha2.specs.Sha256.{compress, digest_bytes, first_words, hash_after, rounds, schedule, sha256}
+use Rattle.wire.specs.Varint.{groups, varint}
+use Rattle.blob_digest.specs.Digest.{DigestValue, IsDigest, digest_of}
+use Rattle.messages.specs.declared.node.Node.TheVariants as nodes
+use Rattle.messages.specs.Directory.{directory_bytes}
+use Rattle.messages.specs.Tree.{IsTree, tree_bytes}
+use Rattle.actions.specs.declared.outcome.Output.TheVariants as outputs
+use Rattle.actions.specs.Action.{with_input, IsAction, action_bytes}
+use Rattle.actions.specs.ActionResult.{IsActionResult, action_result_bytes}
+use Rattle.actions.specs.Outcome.{OutcomeValue}
+use Rattle.actions.specs.Recorded.{file, directory, IsRecorded}
+use Rattle.actions.specs.Command.{IsCommand, command_bytes}
+use Rattle.tree.specs.Tree.{empty}
+use Rattle.tree.specs.Form.{form, root, top}
+use Rattle.tree.specs.Told.{IsTold}
+use Rattle.tree.proofs.TreeDigests.{IsDigest-digest_of}
+use Rattle.plan.specs.Values.{output}
+use Rattle.tree.specs.Graft.{graft}
+use Rattle.verifier.specs.AsRecorded.{IsAsRecorded, IsPlanAsRecorded}
+use Rattle.verifier.specs.TwoSteps as two
+use Rattle.verifier.proofs.TwoSteps.{gen_action_named, gen_command_lawful, gen_command_named, gen_frame_lawful, gen_frame_named, gen_tree_lawful, input_named, newline_named, out_path, res_path, sources_named, tree_named, use_action_named, use_command_lawful, use_command_named, use_frame_lawful, use_frame_named}
+
+-- ---- what the source has
+
+gen_action_kept : two.blobs two.gen_action_digest ≡ Some (action_bytes (with_input two.gen.0.frame two.sources))
+unfolding two.gen_action_digest decode_pairs
+gen_action_kept = refl
+
+use_action_kept : two.blobs two.use_action_digest ≡ Some (action_bytes (with_input two.uses.0.frame two.input_digest))
+unfolding two.gen_action_digest two.use_action_digest decode_pairs
+use_action_kept = refl
+
+gen_command_kept : two.blobs two.gen_command_digest ≡ Some (command_bytes two.gen.0.command)
+unfolding two.gen_action_digest two.use_action_digest two.gen_command_digest decode_pairs
+gen_command_kept = refl
+
+use_command_kept : two.blobs two.use_command_digest ≡ Some (command_bytes two.uses.0.command)
+unfolding two.gen_action_digest two.use_action_digest two.gen_command_digest two.use_command_digest decode_pairs
+use_command_kept = refl
+
+tree_kept : two.blobs two.tree_digest ≡ Some (tree_bytes two.gen_tree)
+unfolding two.gen_action_digest two.use_action_digest two.gen_command_digest two.use_command_digest two.tree_digest decode_pairs
+tree_kept = refl
+
+pub gen_result_kept : two.results two.gen_action_digest ≡ Some (action_result_bytes two.gen_result)
+unfolding two.gen_action_digest decode_pairs
+gen_result_kept = refl
+
+pub use_result_kept : two.results two.use_action_digest ≡ Some (action_result_bytes two.use_result)
+unfolding two.gen_action_digest two.use_action_digest decode_pairs
+use_result_kept = refl
+
+-- a digest with another size than 0 is not that of no bytes
+sized : (d : DigestValue) (n : ℕ) → d.size ≡ suc n → d ≡ digest_of [] → ⊥
+unfolding digest_of
+sized d n is e = let size = ap (λ (x : DigestValue). x.size) e in absurd (omega (arith, size, is))
+
+stored : {M : Type 0} (keeps : M → Type 0) (spells : M → List ℕ) (d : DigestValue) (m : M) → keeps m → digest_of (spells m) ≡ d → (d ≡ digest_of [] → ⊥) → two.blobs d ≡ Some (spells m) → IsTold keeps spells two.blobs d m
+stored keeps spells d m lawful named some kept = record { lawful = lawful; blob = record { held = inr (some, sym kept); right = named } }
+
+gen_action_told : IsTold IsAction action_bytes two.blobs two.gen_action_digest (with_input two.gen.0.frame two.sources)
+unfolding two.gen_action_digest
+gen_action_told =
+    stored IsAction action_bytes two.gen_action_digest (with_input two.gen.0.frame two.sources) (record { frame = gen_frame_lawful; input = subst IsDigest sources_named (IsDigest-digest_of (top (form empty))) })
+    gen_action_named (sized two.gen_action_digest 137 refl) gen_action_kept
+
+use_action_told : IsTold IsAction action_bytes two.blobs two.use_action_digest (with_input two.uses.0.frame two.input_digest)
+unfolding two.use_action_digest
+use_action_told =
+    stored IsAction action_bytes two.use_action_digest (with_input two.uses.0.frame two.input_digest) (record { frame = use_frame_lawful; input = subst IsDigest input_named (IsDigest-digest_of (top (form two.data_input))) })
+    use_action_named (sized two.use_action_digest 139 refl) use_action_kept
+
+gen_command_told : IsTold IsCommand command_bytes two.blobs two.gen_command_digest two.gen.0.command
+unfolding two.gen_command_digest
+gen_command_told = stored IsCommand command_bytes two.gen_command_digest two.gen.0.command gen_command_lawful gen_command_named (sized two.gen_command_digest 15 refl) gen_command_kept
+
+use_command_told : IsTold IsCommand command_bytes two.blobs two.use_command_digest two.uses.0.command
+unfolding two.use_command_digest
+use_command_told = stored IsCommand command_bytes two.use_command_digest two.uses.0.command use_command_lawful use_command_named (sized two.use_command_digest 15 refl) use_command_kept
+
+pub tree_told : IsTold IsTree tree_bytes two.blobs two.tree_digest two.gen_tree
+unfolding two.tree_digest
+tree_told = stored IsTree tree_bytes two.tree_digest two.gen_tree gen_tree_lawful tree_named (sized two.tree_digest 76 refl) tree_kept
+
+-- ---- the results
+
+zero_fits : FitsSigned w32 (pos 0)
+zero_fits = omega arith
+
+pub gen_result_lawful : IsActionResult two.gen_result
+gen_result_lawful = record {
+  files = tt;
+  directories = (record { path = out_path; tree = subst IsDigest tree_named (IsDigest-digest_of (tree_bytes two.gen_tree)) }, tt);
+  symlinks = tt;
+  paths = record { files_ascend = tt; directories_ascend = (tt, tt); symlinks_ascend = tt; apart = (tt, tt) };
+  exit_code = zero_fits;
+  stdout = record { digest = tt };
+  stderr = record { digest = tt };
+}
+
+pub use_result_lawful : IsActionResult two.use_result
+use_result_lawful = record {
+  files = (record { path = res_path; digest = subst IsDigest newline_named (IsDigest-digest_of (10 ∷ [])) }, tt);
+  directories = tt;
+  symlinks = tt;
+  paths = record { files_ascend = (tt, tt); directories_ascend = tt; symlinks_ascend = tt; apart = (tt, tt) };
+  exit_code = zero_fits;
+  stdout = record { digest = tt };
+  stderr = record { digest = tt };
+}
+
+-- what the results stand for
+abbrev gen_outcome : OutcomeValue
+gen_outcome = record { exit_code = pos 0; outputs = (codes "out" ∷ [], outputs.Tree two.gen_tree) ∷ [] }
+
+abbrev use_outcome : OutcomeValue
+use_outcome = record { exit_code = pos 0; outputs = (codes "res" ∷ [], outputs.File two.newline_digest false) ∷ [] }
+
+gen_recorded : IsRecorded two.blobs two.gen_result gen_outcome
+gen_recorded = record {
+  lawful = record { paths = (out_path, tt); ascend = (tt, tt); apart = (tt, tt) };
+  exit_code = refl;
+  recorded = directory (record { path = codes "out" ∷ []; tree = two.tree_digest }) ∷ [];
+  ordered = record { ascend = (tt, tt); files = refl; directories = refl; symlinks = refl };
+  outputs = (refl, (two.gen_tree, tree_told, refl), refl);
+}
+
+use_recorded : IsRecorded two.blobs two.use_result use_outcome
+use_recorded = record {
+  lawful = record { paths = (res_path, tt); ascend = (tt, tt); apart = (tt, tt) };
+  exit_code = refl;
+  recorded = file (record { path = codes "res" ∷ []; digest = two.newline_digest; executable = false }) ∷ [];
+  ordered = record { ascend = (tt, tt); files = refl; directories = refl; symlinks = refl };
+  outputs = (refl, refl, refl);
+}
+
+-- ---- the steps and the root
+
+pub root_named : root (graft ((codes "result" ∷ [], nodes.File two.newline_digest false) ∷ [])) ≡ two.claim
+unfolding two.newline_digest two.claim first_words schedule rounds compress hash_after digest_bytes sha256 digest_of groups varint directory_bytes encode_with decode_pairs
+root_named = refl
+
+gen_passes : IsAsRecorded two.blobs two.results two.sources [] (record { name = codes "gen"; frame = two.gen_frame_digest; lines = [] }) two.gen_action_digest gen_outcome
+gen_passes = record {
+  action = with_input two.gen.0.frame two.sources;
+  command = two.gen.0.command;
+  nodes = [];
+  result = two.gen_result;
+  action_told = gen_action_told;
+  may_be_cached = refl;
+  frame = gen_frame_named;
+  command_told = gen_command_told;
+  resolved = refl;
+  input = sources_named;
+  lawful = gen_result_lawful;
+  held = gen_result_kept;
+  exit_code = refl;
+  recorded = gen_recorded;
+  listed = ((0, omega arith, refl), tt);
+}
+
+use_passes : IsAsRecorded two.blobs two.results two.sources (gen_outcome ∷ []) (record { name = codes "use"; frame = two.use_frame_digest; lines = record { target = codes "data" ∷ codes "x" ∷ []; origin = output 0 (codes "out" ∷ codes "a" ∷ []) } ∷ [] }) two.use_action_digest use_outcome
+use_passes = record {
+  action = with_input two.uses.0.frame two.input_digest;
+  command = two.uses.0.command;
+  nodes = (codes "data" ∷ codes "x" ∷ [], nodes.File (digest_of (codes "123456789")) false) ∷ [];
+  result = two.use_result;
+  action_told = use_action_told;
+  may_be_cached = refl;
+  frame = use_frame_named;
+  command_told = use_command_told;
+  resolved = (
+    nodes.File (digest_of (codes "123456789")) false,
+    (gen_outcome, refl, inl ((codes "out" ∷ [], outputs.Tree two.gen_tree), (0, omega arith, refl), codes "a" ∷ [], refl, refl)),
+    [],
+    refl,
+    refl,
+  );
+  input = input_named;
+  lawful = use_result_lawful;
+  held = use_result_kept;
+  exit_code = refl;
+  recorded = use_recorded;
+  listed = ((0, omega arith, refl), tt);
+}
+
+pub as_recorded : IsPlanAsRecorded two.blobs two.results two.sources two.plan two.recorded two.claim
+as_recorded = record {
+  outcomes = gen_outcome ∷ use_outcome ∷ [];
+  steps = (gen_outcome, gen_passes, (use_outcome, use_passes, refl));
+  root = record {
+    nodes = (codes "result" ∷ [], nodes.File two.newline_digest false) ∷ [];
+    resolved = (
+      nodes.File two.newline_digest false,
+      (use_outcome, refl, inl ((codes "res" ∷ [], outputs.File two.newline_digest false), (0, omega arith, refl), [], refl, refl)),
+      [],
+      refl,
+      refl,
+    );
+    same = root_named;
+  };
+}

@@ -1,0 +1,77 @@
+-- What a source and lawful outcomes tell determines what the lines of a directory come to.
+use Rattle.std.proofs.Common.{◌≡◌, ℕ, zero, suc, List, [], ◌∷◌, sym, ◌∙◌, subst, inl, inr}
+use Rattle.std.specs.Prelude.{Option, Some, slice_get}
+use Rattle.std.specs.List.{AllByRecursion}
+use Rattle.blob_digest.specs.Digest.{DigestValue}
+use Rattle.actions.specs.Outcome.{OutcomeValue, IsOutcome}
+use Rattle.actions.specs.OutcomeLookup.{LooksIn}
+use Rattle.actions.proofs.Once.{looked_once}
+use Rattle.plan.specs.Values.{OriginValue, source, output, LineValue}
+use Rattle.tree.specs.Tree.{Name}
+use Rattle.tree.specs.Form.{NodeValue}
+use Rattle.tree.specs.Source.{Blobs}
+use Rattle.tree.specs.Told.{missing, wrong, malformed}
+use Rattle.tree.specs.Lookup.{Looked, fault, nothing, found}
+use Rattle.tree.proofs.LookupOnce.{looks_once}
+use Rattle.verifier.specs.declared.verdict.Cause.{Cause}
+use Rattle.verifier.specs.Accepted.{LooksAt, Resolves}
+use Rattle.verifier.specs.Faults.{Gives, LineFault, FirstFault}
+
+abbrev pub AreLawful : List OutcomeValue → Type 0
+AreLawful outcomes = AllByRecursion IsOutcome outcomes
+
+found_is : (x y : NodeValue) → found x ≡ found y → x ≡ y
+found_is x y e = cc
+
+-- one outcome stands at a place, and it is lawful
+some_is : (o p : OutcomeValue) → ◌≡◌ {A = Option OutcomeValue} (Some o) (Some p) → o ≡ p
+some_is o p e = cc
+
+one_there : (os : List OutcomeValue) (step : ℕ) (o p : OutcomeValue) → slice_get os step ≡ Some o → slice_get os step ≡ Some p → o ≡ p
+one_there os step o p h k = some_is o p (sym h ∙ k)
+
+lawful_there : (os : List OutcomeValue) (step : ℕ) (o : OutcomeValue) → AreLawful os → slice_get os step ≡ Some o → IsOutcome o
+lawful_there [] step o h e = absurd cc
+lawful_there (x ∷ os) zero o h e = subst IsOutcome (some_is x o e) h.0
+lawful_there (x ∷ os) (suc step) o h e = lawful_there os step o h.1 e
+
+module _ (B : Blobs) (d : DigestValue) (os : List OutcomeValue) (lawful : AreLawful os) where
+  looks_at_once : (o : OriginValue) (r s : Looked) → LooksAt B d os o r → LooksAt B d os o s → r ≡ s
+  looks_at_once (source p) r s h k = looks_once B d p r s h k
+  looks_at_once (output step p) r s h k =
+      looked_once h.0 p r s (lawful_there os step h.0 lawful h.1) h.2 (subst (λ o. LooksIn o p s) (one_there os step k.0 h.0 k.1 h.1) k.2)
+
+  pub resolves_once : (ls : List LineValue) (xs ys : List (List Name × NodeValue)) → Resolves B d os ls xs → Resolves B d os ls ys → xs ≡ ys
+  resolves_once [] xs ys h k = h ∙ sym k
+  resolves_once (l ∷ ls) xs ys h k =
+      let nodes = found_is h.0 k.0 (looks_at_once l.origin (found h.0) (found k.0) h.1 k.1) in
+      let rest = resolves_once ls h.2 k.2 h.3 k.3 in
+      h.4 ∙ (λ i. (l.target, nodes i) ∷ rest i) ∙ sym k.4
+
+  module _ {A : Type 0} where
+    gives_once : (o : OriginValue) (r : Looked) (c e : Cause A) → Gives o r c → Gives o r e → c ≡ e
+    gives_once o (fault (missing f)) c e h k = h ∙ sym k
+    gives_once o (fault (wrong f)) c e h k = h ∙ sym k
+    gives_once o (fault (malformed f)) c e h k = h ∙ sym k
+    gives_once o nothing c e h k = h ∙ sym k
+    gives_once o (found x) c e h k = elim h [ ]
+
+    line_once : (l : LineValue) (c e : Cause A) → LineFault B d os l c → LineFault B d os l e → c ≡ e
+    line_once l c e h k = gives_once l.origin h.0 c e h.2 (subst (λ r. Gives l.origin r e) (looks_at_once l.origin k.0 h.0 k.1 h.1) k.2)
+
+    line_found : (l : LineValue) (c : Cause A) (x : NodeValue) → LineFault B d os l c → LooksAt B d os l.origin (found x) → ⊥
+    line_found l c x h k = subst (λ r. Gives l.origin r c) (looks_at_once l.origin h.0 (found x) h.1 k) h.2
+
+    -- one fault is the first
+    pub first_once : (ls : List LineValue) (c e : Cause A) → FirstFault B d os ls c → FirstFault B d os ls e → c ≡ e
+    first_once [] c e h k = elim h [ ]
+    first_once (l ∷ ls) c e (inl h) (inl k) = line_once l c e h k
+    first_once (l ∷ ls) c e (inl h) (inr k) = absurd (line_found l c k.0 h k.1)
+    first_once (l ∷ ls) c e (inr h) (inl k) = absurd (line_found l e h.0 k h.1)
+    first_once (l ∷ ls) c e (inr h) (inr k) = first_once ls c e h.2 k.2
+
+    -- lines that have their origins have no fault
+    pub first_resolves : (ls : List LineValue) (c : Cause A) (xs : List (List Name × NodeValue)) → FirstFault B d os ls c → Resolves B d os ls xs → ⊥
+    first_resolves [] c xs h k = h
+    first_resolves (l ∷ ls) c xs (inl h) k = line_found l c k.0 h k.1
+    first_resolves (l ∷ ls) c xs (inr h) k = first_resolves ls c k.2 h.2 k.3

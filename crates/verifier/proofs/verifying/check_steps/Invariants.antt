@@ -1,0 +1,13 @@
+use Rattle.std.proofs.Common.{◌≡◌, drop, length}
+use Rattle.tree.specs.Source.{AsksSome}
+use Rattle.verifier.proofs.CheckingSteps.{StepsGoOn}
+use Rattle.verifier.proofs.verifying.check_steps.Given as goal
+
+abbrev pub invariant-loop-index : goal.invariant-loop-index
+invariant-loop-index g l =
+    let tells = g.S.BlobSource.tells in
+    record {
+      asked : AsksSome (tells l.fn.source) (tells l.source);
+      count : length l.outcomes.items ≡ l.index;
+      goes : StepsGoOn g.row.A.Denot (tells l.source).blobs (tells l.source).results l.sources l.steps l.recorded l.outcomes.items (drop l.index l.steps) (drop l.index l.recorded);
+    }

@@ -1,0 +1,53 @@
+-- A yes in plain words: each step is as recorded, and the root is accepted.
+use Rattle.std.specs.Prelude.{◌≡◌, pos, false, List, [], ◌∷◌, ◌++◌, Some}
+use Rattle.blob_digest.specs.Digest.{DigestValue, digest_of}
+use Rattle.actions.specs.Action.{ActionValue, IsAction, action_bytes}
+use Rattle.actions.specs.ActionResult.{ActionResultValue, IsActionResult, action_result_bytes}
+use Rattle.actions.specs.Command.{CommandValue, IsCommand, command_bytes}
+use Rattle.actions.specs.Frame.{frame_bytes}
+use Rattle.actions.specs.Outcome.{OutcomeValue}
+use Rattle.actions.specs.Recorded.{IsRecorded}
+use Rattle.plan.specs.Values.{StepValue, PlanValue}
+use Rattle.tree.specs.Tree.{Name}
+use Rattle.tree.specs.Form.{NodeValue, root}
+use Rattle.tree.specs.Graft.{graft}
+use Rattle.tree.specs.Source.{Blobs}
+use Rattle.tree.specs.Told.{IsTold}
+use Rattle.verifier.specs.Accepted.{Resolves, IsAccepted}
+use Rattle.verifier.specs.StepChecks.{AreListed}
+
+-- A step with a recorded digest is as recorded, and came to an outcome, where the steps before it came to these:
+pub record IsAsRecorded (B C : Blobs) (sources : DigestValue) (before : List OutcomeValue) (step : StepValue) (d : DigestValue) (o : OutcomeValue) : Type 0 where
+  pub action : ActionValue
+  pub command : CommandValue
+  pub nodes : List (List Name × NodeValue)
+  pub result : ActionResultValue
+  -- the Action that is told under the digest may be cached, and its frame is the plan's
+  pub action_told : IsTold IsAction action_bytes B d action
+  pub may_be_cached : action.frame.do_not_cache ≡ false
+  pub frame : digest_of (frame_bytes action.frame) ≡ step.frame
+  -- its Command is told
+  pub command_told : IsTold IsCommand command_bytes B action.frame.command command
+  -- its input is the graft of the step's lines
+  pub resolved : Resolves B sources before step.lines nodes
+  pub input : root (graft nodes) ≡ action.input
+  -- its result is held, with exit code 0, and stands for the outcome
+  pub lawful : IsActionResult result
+  pub held : C d ≡ Some (action_result_bytes result)
+  pub exit_code : result.exit_code ≡ pos 0
+  pub recorded : IsRecorded B result o
+  -- each output is one that the Command lists
+  pub listed : AreListed command o
+
+-- The steps with their recorded digests are as recorded, one after another, where those before them came to these outcomes.
+abbrev pub AreAsRecorded : Blobs → Blobs → DigestValue → List OutcomeValue → List StepValue → List DigestValue → List OutcomeValue → Type 0
+AreAsRecorded B C sources before [] ds outcomes = outcomes ≡ before
+AreAsRecorded B C sources before (s ∷ ss) [] outcomes = ⊥
+AreAsRecorded B C sources before (s ∷ ss) (d ∷ ds) outcomes =
+    (o : OutcomeValue) × IsAsRecorded B C sources before s d o × AreAsRecorded B C sources (before ++ o ∷ []) ss ds outcomes
+
+-- A plan is as recorded, and ends in the claim.
+pub record IsPlanAsRecorded (B C : Blobs) (sources : DigestValue) (plan : PlanValue) (recorded : List DigestValue) (claim : DigestValue) : Type 0 where
+  pub outcomes : List OutcomeValue
+  pub steps : AreAsRecorded B C sources [] plan.steps recorded outcomes
+  pub root : IsAccepted B sources outcomes plan.root_lines claim
