@@ -5,11 +5,13 @@
 mod digest;
 mod error;
 mod hasher;
+mod laws;
 mod text;
 
 pub use digest::{Digest, GREATEST_SIZE};
 pub use error::DigestError;
 pub use hasher::Hasher;
+pub use laws::digests_compare_by_hash_then_size;
 pub use text::read_hash;
 
 #[cfg(test)]
