@@ -1,8 +1,10 @@
 -- Choices between a value and a refusal, and what their tests say.
-use Rattle.std.proofs.Common.{◌≡◌, ◌≢◌, ℕ, Bool, true, false, cond, eqb, not, ◌&&◌, ◌||◌, List, [], ◌∷◌, Ok, Err, refl}
+use Rattle.std.proofs.Common.{◌≡◌, ◌≢◌, ℕ, Bool, true, false, cond, eqb, not, ◌&&◌, ◌||◌, List, [], ◌∷◌, Result, Ok, Err, refl, sym, ap, ◌∙◌}
 use Rattle.std.proofs.lemmas.Bool.{eqb-true, eq-eqb}
 use Rattle.std.specs.List.{AllByRecursion, list_any}
 use Rattle.wire.proofs.Steps.{ok_is}
+use Rattle.messages.specs.declared.error.MessageError.{MessageError}
+use Rattle.messages.specs.Gives.{RefusesBeforeMemory}
 
 pub chosen_ok : {A E : Type 0} (b : Bool) (x : A) (e : E) (y : A) → cond b (Ok x) (Err e) ≡ Ok y → (b ≡ true) × (x ≡ y)
 chosen_ok {A} {E} true x e y h = (refl, ok_is {E = E} x y h)
@@ -51,3 +53,11 @@ none_is c (b ∷ text) h = let o = or_false (eqb b c) (list_any (λ x. eqb x c) 
 pub none_found : (c : ℕ) (text : List ℕ) → AllByRecursion (λ b. b ≢ c) text → list_any (λ b. eqb b c) text ≡ false
 none_found c [] h = refl
 none_found c (b ∷ text) h = or_neither (eqb b c) (list_any (λ x. eqb x c) text) (differ b c (eqb b c) refl h.0) (none_found c text h.1)
+
+-- ---- refusals, which come before want of memory
+
+pub given_unrefused : {X Y : Type 0} (r : Result X MessageError) (read : Result Y MessageError) (y : Y) → read ≡ Ok y → RefusesBeforeMemory r read
+given_unrefused r read y given = λ e h. let k : Ok y ≡ Err e = sym given ∙ h in absurd cc
+
+pub refusal_told : {X Y : Type 0} (read : Result Y MessageError) (e : MessageError) → read ≡ Err e → RefusesBeforeMemory {X = X} (Err e) read
+refusal_told read e refused = λ f h. let k : Err e ≡ Err f = sym refused ∙ h in let i : e ≡ f = cc in ap Err i

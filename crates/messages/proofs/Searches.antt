@@ -128,6 +128,20 @@ module _ {X : Type 0} (key : X → List ℕ) where
   found_there name [] x e = absurd cc
   found_there name (y ∷ xs) x e = found_at name y xs x (is_same (key y) name) refl e (found_there name xs x)
 
+  name_at : (name : List ℕ) (y : X) (xs : List X) (x : X) (b : Bool) → is_same (key y) name ≡ b → cond b (Some y) (find (named name) xs) ≡ Some x → (find (named name) xs ≡ Some x → Contains (names xs) name) → Contains (names (y ∷ xs)) name
+  name_at name y xs x true is e rest =
+      let first : 0 < length (names (y ∷ xs)) = omega arith in
+      (0, first, same_name (key y) name is)
+  name_at name y xs x false is e rest =
+      let behind = rest e in
+      let less : suc behind.0 < length (names (y ∷ xs)) = let lt = behind.1 in omega arith in
+      (suc behind.0, less, behind.2)
+
+  -- a name that is found is one of the list
+  pub name_there : (name : List ℕ) (xs : List X) (x : X) → find (named name) xs ≡ Some x → Contains (names xs) name
+  name_there name [] x e = absurd cc
+  name_there name (y ∷ xs) x e = name_at name y xs x (is_same (key y) name) refl e (name_there name xs x)
+
   pub there_found : (name : List ℕ) (xs : List X) (x : X) → IsAscending (names xs) → Contains xs x → key x ≡ name → find (named name) xs ≡ Some x
   there_found name [] x up (k, lt, e) same = absurd (omega arith)
   there_found name (y ∷ xs) x up (zero, lt, e) same =

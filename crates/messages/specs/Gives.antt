@@ -10,3 +10,7 @@ FailsUnlessMemory e read = read ≡ Err e
 abbrev pub GivesUnlessMemory : {X Y : Type 0} → (X → Y) → Result X MessageError → Result Y MessageError → Type 0
 GivesUnlessMemory view (Ok x) read = read ≡ Ok (view x)
 GivesUnlessMemory view (Err e) read = FailsUnlessMemory e read
+
+-- a refusal is told before want of memory
+abbrev pub RefusesBeforeMemory : {X Y : Type 0} → Result X MessageError → Result Y MessageError → Type 0
+RefusesBeforeMemory result read = (e : MessageError) → read ≡ Err e → result ≡ Err e

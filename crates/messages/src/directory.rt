@@ -1,5 +1,5 @@
-ghost use Rattle.std.specs.Prelude.{◌≡◌, ◌↔◌, IsOk, IfOk, OnOk, Ok, Option};
-ghost use Rattle.std.specs.List.{AllByRecursion};
+ghost use Rattle.std.specs.Prelude.{◌≡◌, ◌↔◌, IsOk, IsErr, IfOk, OnOk, Ok, Option};
+ghost use Rattle.std.specs.List.{AllByRecursion, Contains};
 ghost use Rattle.wire.specs.Steps.{Gives};
 ghost use Rattle.messages.specs.FileNode.{IsFileNode};
 ghost use Rattle.messages.specs.DirectoryNode.{IsDirectoryNode};
@@ -164,6 +164,8 @@ impl<A: Allocator + Copy> Directory<A> {
         ensures only { (node : Option (Node A)) → IsChild name.now self.now node
             → IfOk result (λ answer. answer ≡ node) }
         ensures exact { IfOk result (λ node. node ≡ child name.now self.now) }
+        // Only the target of a symbolic link takes memory.
+        ensures memory { IsErr result → Contains (symlink_names self.now.symlinks) name.now }
     {
         self.find_child(alloc, name)
     }
@@ -171,6 +173,7 @@ impl<A: Allocator + Copy> Directory<A> {
     fn find_child(&self, alloc: A, name: &[u8]) -> Result<Option<Node<A>>, AllocError>
         ensures exact { IfOk result (λ node. node ≡ child name.now self.now) }
         ensures lawful { IsDirectory self.now }
+        ensures memory { IsErr result → Contains (symlink_names self.now.symlinks) name.now }
     {
         if let Some(file) = find_named(&self.files, name) {
             return Ok(Some(Node::File {

@@ -6,6 +6,7 @@
 mod digest;
 mod directory;
 mod error;
+mod laws;
 mod message;
 mod name;
 mod node;
@@ -18,6 +19,7 @@ mod tree;
 pub use digest::{decode_digest, encode_digest};
 pub use directory::Directory;
 pub use error::MessageError;
+pub use laws::clones_are_equal;
 pub use message::{
     Message, decode, encodes_one_value, read_each, read_fields, read_optional, write_each,
 };

@@ -1,5 +1,5 @@
 ghost use Rattle.std.specs.Prelude.{◌≡◌, ◌↔◌, IsTrue, IfOk, Ok};
-ghost use Rattle.messages.specs.Gives.{GivesUnlessMemory};
+ghost use Rattle.messages.specs.Gives.{GivesUnlessMemory, RefusesBeforeMemory};
 ghost use Rattle.messages.specs.Name.{is_dots, is_segment, IsSegment, IsName, name_of};
 
 use crate::error::MessageError;
@@ -111,7 +111,8 @@ pub fn is_name(text: &str) -> bool
 }
 
 fn read_name<A: Allocator>(alloc: A, text: &[u8]) -> Result<Name<A>, MessageError>
-    ensures { GivesUnlessMemory (λ n. n) result (name_of text.now) }
+    ensures exact { GivesUnlessMemory (λ n. n) result (name_of text.now) }
+    ensures refused { RefusesBeforeMemory result (name_of text.now) }
 {
     match str::from_utf8(text) {
         Ok(text) if is_segment(text.as_bytes()) => Ok(Name {
@@ -127,6 +128,7 @@ impl<A: Allocator> Name<A> {
         ensures found { IfOk result (λ name. IsName name × (text.now ≡ name)) }
         ensures only { IsName text.now → GivesUnlessMemory (λ n. n) result (Ok text.now) }
         ensures exact { GivesUnlessMemory (λ n. n) result (name_of text.now) }
+        ensures refused { RefusesBeforeMemory result (name_of text.now) }
     {
         read_name(alloc, text)
     }

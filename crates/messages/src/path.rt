@@ -1,7 +1,7 @@
 ghost use Rattle.std.specs.Prelude.{◌≡◌, ◌↔◌, ℕ, List, [], ◌∷◌, ◌++◌, IsTrue, IfOk, Ok, Err, nat_lt, length, if◌then◌else◌};
 ghost use Rattle.std.specs.List.{list_all};
 ghost use Rattle.messages.specs.declared.error.MessageError.TheVariants as errors;
-ghost use Rattle.messages.specs.Gives.{GivesUnlessMemory};
+ghost use Rattle.messages.specs.Gives.{GivesUnlessMemory, RefusesBeforeMemory};
 ghost use Rattle.messages.specs.Name.{is_segment};
 ghost use Rattle.std.specs.Str.Iter.{split_text, split_has_more, split_pattern};
 ghost use Rattle.messages.specs.Path.{path_below, IsPath, LiesUnder, Overlap, is_path, parts_of, path_of, path_text, text_cmp};
@@ -55,7 +55,8 @@ pub fn is_path(text: &str) -> bool
 }
 
 fn read_path<A: Allocator>(alloc: A, text: &[u8]) -> Result<Path<A>, MessageError>
-    ensures { GivesUnlessMemory (λ p. p) result (path_of text.now) }
+    ensures exact { GivesUnlessMemory (λ p. p) result (path_of text.now) }
+    ensures refused { RefusesBeforeMemory result (path_of text.now) }
 {
     match str::from_utf8(text) {
         Ok(text) if is_path(text) => Ok(Path {
@@ -72,6 +73,7 @@ impl<A: Allocator> Path<A> {
         ensures only { (path : List (List ℕ)) → IsPath path → text.now ≡ path_text path
             → GivesUnlessMemory (λ p. p) result (Ok path) }
         ensures exact { GivesUnlessMemory (λ p. p) result (path_of text.now) }
+        ensures refused { RefusesBeforeMemory result (path_of text.now) }
     {
         read_path(alloc, text)
     }
@@ -100,7 +102,8 @@ impl<A: Allocator> Path<A> {
         parent: &Path<B>,
         name: &Name<C>,
     ) -> Result<Path<A>, MessageError>
-        ensures { GivesUnlessMemory (λ p. p) result (path_below parent.now name.now) }
+        ensures exact { GivesUnlessMemory (λ p. p) result (path_below parent.now name.now) }
+        ensures refused { RefusesBeforeMemory result (path_below parent.now name.now) }
     {
         if part_count(parent.as_str()) == 64 {
             return Err(MessageError::BadPath);

@@ -1,5 +1,5 @@
 ghost use Rattle.std.specs.Prelude.{◌≡◌, ◌↔◌, IsTrue, IfOk, Ok};
-ghost use Rattle.messages.specs.Gives.{GivesUnlessMemory};
+ghost use Rattle.messages.specs.Gives.{GivesUnlessMemory, RefusesBeforeMemory};
 ghost use Rattle.messages.specs.Target.{is_link, IsTarget, target_of};
 
 use crate::error::MessageError;
@@ -63,7 +63,8 @@ pub fn is_target(text: &str) -> bool
 }
 
 fn read_target<A: Allocator>(alloc: A, text: &[u8]) -> Result<Target<A>, MessageError>
-    ensures { GivesUnlessMemory (λ n. n) result (target_of text.now) }
+    ensures exact { GivesUnlessMemory (λ n. n) result (target_of text.now) }
+    ensures refused { RefusesBeforeMemory result (target_of text.now) }
 {
     match str::from_utf8(text) {
         Ok(text) if is_link(text.as_bytes()) => Ok(Target {
@@ -79,6 +80,7 @@ impl<A: Allocator> Target<A> {
         ensures found { IfOk result (λ target. IsTarget target × (text.now ≡ target)) }
         ensures only { IsTarget text.now → GivesUnlessMemory (λ n. n) result (Ok text.now) }
         ensures exact { GivesUnlessMemory (λ n. n) result (target_of text.now) }
+        ensures refused { RefusesBeforeMemory result (target_of text.now) }
     {
         read_target(alloc, text)
     }

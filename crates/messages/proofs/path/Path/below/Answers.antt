@@ -16,9 +16,9 @@ invariant_of-result g c =
     let parts : parts_of (string_bytes c.push_str.new.self) ≡ path ++ name ∷ [] = ap parts_of whole ∙ parts_below path text name c.as_str-2.ensures.parts c.as_str-3.ensures.lawful in
     subst IsPath (sym parts) (one_more path name c.as_str-2.ensures.lawful c.as_str-3.ensures.lawful room)
 
-pub returns : goal.returns
+pub returns-clause-exact : goal.returns-clause-exact
 unfolding lib.Utf8.encode
-returns g c =
+returns-clause-exact g c =
     let path = c.args.parent.now in
     let name = c.args.name.now in
     let text = c.as_str-2.result.now in
