@@ -1,1 +1,3 @@
+pub mod CommandLines
+pub mod Entries
 pub mod Folders

@@ -1,3 +1,5 @@
-pub mod Store
-pub mod Status
+pub mod CommandLine
+pub mod Faults
 pub mod Printed
+pub mod Status
+pub mod Store

@@ -1,6 +1,7 @@
 -- What a store folder tells.
-use Rattle.std.specs.Prelude.{◌≡◌, ◌≤◌}
+use Rattle.std.specs.Prelude.{◌≡◌, ℕ, ◌≤◌, List, ◌∷◌, ◌++◌, take}
 use Rattle.blob_digest.specs.Digest.{DigestValue}
+use Rattle.blob_digest.specs.Text.{digest_text}
 use Rattle.cli.specs.declared.store.FolderSource.{FolderSource}
 use Rattle.tree.specs.Source.{Telling, GrowsAt, greatest_count}
 use Rattle.tree.specs.Memory.{telling_of}
@@ -23,3 +24,7 @@ pub record LoadsResult (old new : Telling) (d : DigestValue) : Type 0 where
   pub calls : new.calls ≡ old.calls
   pub failures : old.failures ≤ new.failures
   pub bounded : new.failures ≤ greatest_count
+
+-- the file for a digest in a part of the store: FOLDER/PART/HASH, with the 64 hex digits that the digest's text begins with
+abbrev pub entry_path : List ℕ → List ℕ → DigestValue → List ℕ
+entry_path folder part digest = folder ++ 47 ∷ (part ++ 47 ∷ take 64 (digest_text digest))

@@ -1,3 +1,6 @@
+ghost use Rattle.std.specs.Prelude.{IfErr, MatchResult};
+ghost use Rattle.cli.specs.Faults.{IsFileFault};
+
 use crate::error::CliError;
 use std::io::ErrorKind;
 use std::rt::Files;
@@ -7,7 +10,9 @@ use std::{fs, io};
 const GREATEST_FILE: u64 = 16_777_216;
 
 /// The bytes of the file there. Links are followed.
-pub(crate) fn read_file<R: Files + AllocGlobal>(rt: &R, path: &str) -> Result<Vec<u8>, CliError> {
+pub(crate) fn read_file<R: Files + AllocGlobal>(rt: &R, path: &str) -> Result<Vec<u8>, CliError>
+    ensures { IfErr result (IsFileFault path.now) }
+{
     let metadata = match fs::metadata(rt, path) {
         Ok(metadata) => metadata,
         Err(fault) => return Err(file_error(rt, path, fault)?),
@@ -32,7 +37,9 @@ pub(crate) fn read_file<R: Files + AllocGlobal>(rt: &R, path: &str) -> Result<Ve
     Ok(bytes)
 }
 
-fn file_error<R: AllocGlobal>(rt: &R, path: &str, fault: io::Error) -> Result<CliError, CliError> {
+fn file_error<R: AllocGlobal>(rt: &R, path: &str, fault: io::Error) -> Result<CliError, CliError>
+    ensures { MatchResult result (IsFileFault path.now) (IsFileFault path.now) }
+{
     if fault.kind() == ErrorKind::OutOfMemory {
         return Ok(CliError::Memory);
     }

@@ -1,5 +1,7 @@
-ghost use Rattle.std.specs.Prelude.{◌≡◌, ◌<◌, IfOk};
-ghost use Rattle.cli.specs.Printed.{PrintsNo};
+ghost use Rattle.std.specs.Prelude.{◌≡◌, ◌⊎◌, ◌<◌, IfErr, IfOk, map, string_bytes};
+ghost use Rattle.clap.specs.Words.{kind_of};
+ghost use Rattle.cli.specs.Printed.{IsDone, PrintsNo};
+ghost use Rattle.cli.specs.Status.{status_of};
 
 use crate::error::CliError;
 use crate::verify_command::run_verify;
@@ -22,8 +24,12 @@ pub fn run_words<R, O: Write, E: Write>(rt: &R, words: &[String], out: &mut O, e
 where
     R: AllocGlobal + Files,
     ensures status { result < 4 }
-    // With status 1, the line of a no went to standard output, and nothing else.
-    ensures no { result ≡ 1 → PrintsNo (O.contents out.old) (O.contents out.new) }
+    // With status 0, the words ask for help, or the line of their yes went to standard output, and nothing else.
+    ensures done { result ≡ 0 → IsDone (map string_bytes words.now) (O.contents out.old) (O.contents out.new) }
+    // With status 1, the line of their no.
+    ensures no { result ≡ 1 → PrintsNo (map string_bytes words.now) (O.contents out.old) (O.contents out.new) }
+    // With status 2, nothing was printed.
+    ensures unprinted { result ≡ 2 → O.contents out.new ≡ O.contents out.old }
     // With an answer, standard error stays as it was.
     ensures quiet { result < 2 → E.contents err.new ≡ E.contents err.old }
 {
@@ -41,7 +47,9 @@ where
 fn run<R, O: Write>(rt: &R, words: &[String], out: &mut O) -> Result<Ended, CliError>
 where
     R: AllocGlobal + Files,
-    ensures { IfOk result (λ ended. ended ≡ Ended.No → PrintsNo (O.contents out.old) (O.contents out.new)) }
+    ensures done { IfOk result (λ ended. ended ≡ Ended.Done → IsDone (map string_bytes words.now) (O.contents out.old) (O.contents out.new)) }
+    ensures no { IfOk result (λ ended. ended ≡ Ended.No → PrintsNo (map string_bytes words.now) (O.contents out.old) (O.contents out.new)) }
+    ensures unprinted { IfErr result (λ fault. status_of fault ≡ 2 → O.contents out.new ≡ O.contents out.old) }
 {
     let matches = match parse(rt.alloc(), words) {
         Ok(matches) => matches,
@@ -64,7 +72,8 @@ where
 
 /// What clap answers in place of matches: help and version are printed, and a mistake is told.
 fn shown<R: AllocGlobal, O: Write>(rt: &R, error: Error, out: &mut O) -> Result<Ended, CliError>
-    ensures { IfOk result (λ ended. ended ≡ Ended.Done) }
+    ensures done { IfOk result (λ ended. (ended ≡ Ended.Done) × ((kind_of error ≡ ErrorKind.DisplayHelp) ⊎ (kind_of error ≡ ErrorKind.DisplayVersion))) }
+    ensures unprinted { IfErr result (λ fault. status_of fault ≡ 2 → O.contents out.new ≡ O.contents out.old) }
 {
     if error.kind() == ErrorKind::OutOfMemory {
         return Err(CliError::Memory);

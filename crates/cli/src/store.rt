@@ -1,12 +1,13 @@
-ghost use Rattle.std.specs.Prelude.{◌≡◌, ◌≤◌, ◌+◌, IfOk, IsErrOf, None, ◌<◌};
-ghost use Rattle.cli.specs.Store.{telling_of_folder, LoadsBlob, LoadsResult};
+ghost use Rattle.std.specs.Prelude.{◌≡◌, ◌≤◌, ◌+◌, IfErr, IfOk, IfSome, IsErrOf, None, Some, ◌<◌, codes, string_bytes};
+ghost use Rattle.cli.specs.Faults.{IsFileFault};
+ghost use Rattle.cli.specs.Store.{entry_path, telling_of_folder, LoadsBlob, LoadsResult};
 ghost use Rattle.tree.specs.Source.{bytes_of, greatest_count};
 ghost use Rattle.tree.specs.Memory.{telling_of};
 
 use crate::error::CliError;
 use crate::files::read_file;
 use blob_digest::Digest;
-use std::alloc::Global;
+use std::alloc::{AllocError, Global};
 use std::io::ErrorKind;
 use std::rt::Files;
 use tree::{BlobSource, FetchError, MemorySource};
@@ -41,10 +42,12 @@ impl<'r, R: Files + AllocGlobal> FolderSource<'r, R> {
 
     /// Counts a failure, unless the fault is want of memory or the count is full.
     fn fail(&mut self, fault: CliError) -> FetchError
+        ensures kept { result ≡ FetchError.Failed → self.new.fault ≡ Some fault }
         ensures told { telling_of self.new.told ≡ telling_of self.old.told }
         ensures counted { result ≡ FetchError.Failed → self.new.failures ≡ self.old.failures + 1 }
         ensures risen { self.old.failures ≤ self.new.failures }
         ensures bounded { self.new.failures ≤ greatest_count }
+        ensures unfailed { (result ≡ FetchError.Failed → ⊥) → self.new.failures ≡ self.old.failures }
     {
         let _count = self.failures;
         if matches!(fault, CliError::Memory) || self.failures == u64::MAX {
@@ -56,16 +59,31 @@ impl<'r, R: Files + AllocGlobal> FolderSource<'r, R> {
     }
 }
 
+/// The path of the file for a digest in a part of the store.
+fn entry_path(
+    alloc: Global,
+    folder: &str,
+    part: &str,
+    digest: &Digest,
+) -> Result<String, AllocError>
+    ensures { IfOk result (λ path. string_bytes path ≡ entry_path folder.now part.now digest.now) }
+{
+    let _size = digest.size();
+    let mut hash = digest.write_text(alloc)?;
+    hash.truncate(64);
+    format!(in alloc; "{folder}/{part}/{hash}")
+}
+
 /// The bytes of the file for a digest in a part of the store, if it is there.
 fn read_entry<R: Files + AllocGlobal>(
     rt: &R,
     folder: &str,
     part: &str,
     digest: &Digest,
-) -> Result<Option<Vec<u8>>, CliError> {
-    let text = digest.write_text(rt.alloc())?;
-    let hash = text.as_str().split('/').next().unwrap_or("");
-    let path = format!(in rt.alloc(); "{folder}/{part}/{hash}")?;
+) -> Result<Option<Vec<u8>>, CliError>
+    ensures { IfErr result (IsFileFault (entry_path folder.now part.now digest.now)) }
+{
+    let path = entry_path(rt.alloc(), folder, part, digest)?;
     match read_file(rt, path.as_str()) {
         Ok(bytes) => Ok(Some(bytes)),
         Err(CliError::File { fault, .. }) if fault.kind() == ErrorKind::NotFound => Ok(None),
@@ -79,7 +97,9 @@ impl<'r, R: Files + AllocGlobal> FolderSource<'r, R> {
         requires { (telling_of_folder self.old).blobs digest.now ≡ None }
         ensures told { IfOk result (λ answer. bytes_of answer ≡ (telling_of_folder self.new).blobs digest.now) }
         ensures loaded { LoadsBlob (telling_of_folder self.old) (telling_of_folder self.new) digest.now }
+        ensures fault { IsErrOf result FetchError.Failed → IfSome self.new.fault (IsFileFault (entry_path (string_bytes self.old.folder) (codes "cas") digest.now)) }
         ensures failed { IsErrOf result FetchError.Failed → self.old.failures < self.new.failures }
+        ensures unfailed { (IsErrOf result FetchError.Failed → ⊥) → self.new.failures ≡ self.old.failures }
     {
         let _count = self.failures;
         match read_entry(self.rt, self.folder.as_str(), "cas", digest) {
@@ -98,7 +118,9 @@ impl<'r, R: Files + AllocGlobal> FolderSource<'r, R> {
         requires { (telling_of_folder self.old).results digest.now ≡ None }
         ensures told { IfOk result (λ answer. bytes_of answer ≡ (telling_of_folder self.new).results digest.now) }
         ensures loaded { LoadsResult (telling_of_folder self.old) (telling_of_folder self.new) digest.now }
+        ensures fault { IsErrOf result FetchError.Failed → IfSome self.new.fault (IsFileFault (entry_path (string_bytes self.old.folder) (codes "ac") digest.now)) }
         ensures failed { IsErrOf result FetchError.Failed → self.old.failures < self.new.failures }
+        ensures unfailed { (IsErrOf result FetchError.Failed → ⊥) → self.new.failures ≡ self.old.failures }
     {
         let _count = self.failures;
         match read_entry(self.rt, self.folder.as_str(), "ac", digest) {

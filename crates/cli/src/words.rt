@@ -1,3 +1,7 @@
+ghost use Rattle.std.specs.Prelude.{◌≡◌, IfOk, map, string_bytes, false};
+ghost use Rattle.clap.specs.Words.{FailsBy, app_of, fault_of, rule_of, subcommand_of, subcommand_rows_of};
+ghost use Rattle.cli.specs.CommandLine.{required_option, verify_line, program_line};
+
 use clap::{Arg, ArgAction, ArgMatches, Command, Error};
 use std::alloc::{AllocError, Global};
 
@@ -9,18 +13,21 @@ fn required<'a>(
     name: &'static str,
     value: &'static str,
     help: &'static str,
-) -> Result<Arg<'a>, AllocError> {
-    Ok(
-        Arg::new(alloc, name)
-            .long(name)
-            .value_name(value)
-            .help(help)
-            .required(true)
-            .action(ArgAction::Set),
-    )
+) -> Arg<'a>
+    ensures rule { rule_of result ≡ required_option name.now }
+    ensures local { result.global ≡ false }
+{
+    Arg::new(alloc, name)
+        .long(name)
+        .value_name(value)
+        .help(help)
+        .required(true)
+        .action(ArgAction::Set)
 }
 
-fn verify_command<'a>(alloc: Global) -> Result<Command<'a>, AllocError> {
+fn verify_command<'a>(alloc: Global) -> Result<Command<'a>, AllocError>
+    ensures { IfOk result (λ c. app_of c ≡ verify_line) }
+{
     Command::new(alloc, "verify")
         .about("Say whether every build of a plan ends in exactly the claimed root")
         .arg(required(
@@ -28,24 +35,26 @@ fn verify_command<'a>(alloc: Global) -> Result<Command<'a>, AllocError> {
             "store",
             "FOLDER",
             "A folder with blobs in cas/HASH and results in ac/HASH",
-        )?)?
+        ))?
         .arg(required(
             alloc,
             "sources",
             "DIGEST",
             "The digest of the source tree, as HASH/SIZE",
-        )?)?
-        .arg(required(alloc, "plan", "FILE", "The plan")?)?
-        .arg(required(alloc, "record", "FILE", "The record of the recorded build")?)?
+        ))?
+        .arg(required(alloc, "plan", "FILE", "The plan"))?
+        .arg(required(alloc, "record", "FILE", "The record of the recorded build"))?
         .arg(required(
             alloc,
             "claim",
             "DIGEST",
             "The digest of the root that is claimed, as HASH/SIZE",
-        )?)
+        ))
 }
 
-fn program<'a>(alloc: Global) -> Result<Command<'a>, AllocError> {
+fn program<'a>(alloc: Global) -> Result<Command<'a>, AllocError>
+    ensures { IfOk result (λ c. app_of c ≡ program_line) }
+{
     Command::new(alloc, "buildcache")
         .bin_name("buildcache")?
         .version(VERSION)
@@ -57,6 +66,11 @@ fn program<'a>(alloc: Global) -> Result<Command<'a>, AllocError> {
 }
 
 /// The program's words, read.
-pub(crate) fn parse<'a>(alloc: Global, words: &'a [String]) -> Result<ArgMatches<'a>, Error> {
+pub(crate) fn parse<'a>(alloc: Global, words: &'a [String]) -> Result<ArgMatches<'a>, Error>
+    // The subcommand that they call, and what was found for its options.
+    ensures called { IfOk result (λ m. subcommand_rows_of m ≡ subcommand_of program_line (map string_bytes words.now)) }
+    // What they are at fault with, or ask for in place of a command.
+    ensures fails { FailsBy (fault_of program_line (map string_bytes words.now)) result }
+{
     program(alloc)?.try_get_matches_from(words)
 }

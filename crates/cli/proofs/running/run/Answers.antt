@@ -1,7 +1,19 @@
-use Rattle.std.proofs.lemmas.Bool.{iff_false}
+use Rattle.std.proofs.Common.{rules, inl, map, string_bytes, Global}
+use Rattle.clap.specs.Words.{found_of, rows_of, subcommand_of, subcommand_rows_of}
+use Rattle.cli.specs.CommandLine.{CallsVerify, program_line}
+use Rattle.cli.proofs.CommandLines.{options_found, yes_printed, no_printed}
 use Rattle.cli.proofs.running.run.Goals as goal
 
-pub returns-in-Some-verify-default : goal.returns-in-Some-verify-default
-returns-in-Some-verify-default g c =
-    let printed = c.in_ok-run_verify-in-Some-verify-default.ensures in
-    λ _. (printed.0, iff_false printed.1 c.if-branch.false, printed.2)
+pub returns-then-branch-clause-done : goal.returns-then-branch-clause-done
+returns-then-branch-clause-done g c =
+    let words = map string_bytes c.args.words.now in
+    let called : CallsVerify words = record { faultless = c.in-Ok.ensures.fails; command = search rules } in
+    let rows = options_found (subcommand_rows_of c.in-Ok.matches) (subcommand_of program_line words) _ c.in-Ok.ensures.called c.in-Some-verify-default.ensures.rows in
+    λ _. inl (yes_printed words called rows c.in_ok-run_verify-in-Some-verify-default.ensures.printed c.if-branch.true)
+
+pub returns-in-Some-verify-default-clause-no : goal.returns-in-Some-verify-default-clause-no
+returns-in-Some-verify-default-clause-no g c =
+    let words = map string_bytes c.args.words.now in
+    let called : CallsVerify words = record { faultless = c.in-Ok.ensures.fails; command = search rules } in
+    let rows = options_found (subcommand_rows_of c.in-Ok.matches) (subcommand_of program_line words) _ c.in-Ok.ensures.called c.in-Some-verify-default.ensures.rows in
+    λ _. no_printed words called rows c.in_ok-run_verify-in-Some-verify-default.ensures.printed c.if-branch.false

@@ -1,0 +1,30 @@
+-- What a call of `verify` came to, said of the words.
+use Rattle.std.proofs.Common.{◌≡◌, ◌∙◌, ap, subst, Bool, true, false, ℕ, List, []}
+use Rattle.std.specs.Prelude.{◌↔◌, IsTrue, Option, Some, None, option_map, unwrap_or}
+use Rattle.std.specs.Option.{option_map_or}
+use Rattle.std.proofs.lemmas.Bool.{iff_false}
+use Rattle.clap.specs.Words.{Row, Text}
+use Rattle.verifier.specs.Verdict.{IsYes}
+use Rattle.cli.specs.CommandLine.{CallsVerify, options_of}
+use Rattle.cli.specs.Printed.{PrintsVerdict, PrintsYes, PrintsNo}
+
+-- the rows of the subcommand that was found are those of the one that the words call
+pub options_found : (found called : Option (Text × List Row)) (rows : List Row) → found ≡ called → Some rows ≡ option_map (λ p. p.1) found → rows ≡ option_map_or (λ p. p.1) called []
+options_found None called rows is e = absurd (never e)
+  where
+    never : ◌≡◌ {A = Option (List Row)} (Some rows) None → ⊥
+    never h = cc
+options_found (Some p) called rows is e = ap (λ (o : Option (List Row)). unwrap_or o []) e ∙ ap (λ (o : Option (Text × List Row)). option_map_or (λ q. q.1) o []) is
+
+-- what was printed for some options, and whether it is yes
+abbrev pub IsAnswer : List Row → Option (List ℕ) → Option (List ℕ) → Bool → Type 0
+IsAnswer rows old new positive = (prints : PrintsVerdict rows old new) × (IsTrue positive ↔ IsYes prints.verdict)
+
+said : (words : List Text) {rows : List Row} {old new : Option (List ℕ)} {positive : Bool} → rows ≡ options_of words → IsAnswer rows old new positive → IsAnswer (options_of words) old new positive
+said words {rows} {old} {new} {positive} is h = subst (λ (options : List Row). IsAnswer options old new positive) is h
+
+pub yes_printed : (words : List Text) {rows : List Row} {old new : Option (List ℕ)} {positive : Bool} → CallsVerify words → rows ≡ options_of words → IsAnswer rows old new positive → positive ≡ true → PrintsYes words old new
+yes_printed words called is h true_is = let s = said words is h in record { called = called; prints = s.0; positive = s.1.0 true_is }
+
+pub no_printed : (words : List Text) {rows : List Row} {old new : Option (List ℕ)} {positive : Bool} → CallsVerify words → rows ≡ options_of words → IsAnswer rows old new positive → positive ≡ false → PrintsNo words old new
+no_printed words called is h false_is = let s = said words is h in record { called = called; prints = s.0; negative = iff_false s.1 false_is }

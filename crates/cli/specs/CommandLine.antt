@@ -1,0 +1,47 @@
+-- The program's command line, and what its words ask for.
+use Rattle.std.specs.Prelude.{◌≡◌, ◌⊎◌, true, List, [], Option, Some, codes, option_map, unwrap_or}
+use Rattle.std.specs.Option.{option_map_or}
+use Rattle.clap.specs.Simple.{on_top}
+use Rattle.clap.specs.Words.{App, IsAmong, Row, Rule, Shape, Text, fault_of, first_of, new_app, new_rule, subcommand_of, with_rule, with_subcommand}
+use Rattle.clap.specs.declared.builder.action.ArgAction.TheVariants.{Set}
+use Rattle.clap.specs.declared.error.kind.ErrorKind.TheVariants.{DisplayHelp, DisplayVersion}
+
+-- an option `--NAME VALUE` that a command cannot do without
+abbrev pub required_option : Text → Rule
+required_option name =
+    record (new_rule name) { long = Some name; value_names = 1; action = Some Set; required = true }
+
+-- the command with one more such option
+abbrev pub with_option : App → Text → App
+with_option app name = with_rule app (required_option name)
+
+-- `verify` and its options
+abbrev pub verify_line : App
+verify_line =
+    with_option (with_option (with_option (with_option (with_option (new_app (codes "verify")) (codes "store")) (codes "sources")) (codes "plan")) (codes "record")) (codes "claim")
+
+-- the program: it has a version, and wants a command as its first word
+abbrev pub program_line : App
+program_line =
+    with_subcommand
+    (on_top (λ s. record s { has_version = true; no_binary_name = true; subcommand_required = true; disable_help_subcommand = true }) (new_app (codes "buildcache")))
+    verify_line.top
+
+-- ---- what the words ask for
+
+-- the words are not at fault, and call `verify`
+pub record CallsVerify (words : List Text) : Type 0 where
+  pub faultless : fault_of program_line words ≡ []
+  pub command : option_map (λ p. p.0) (subcommand_of program_line words) ≡ Some (codes "verify")
+
+-- what the words say of each option of the command that they call
+abbrev pub options_of : List Text → List Row
+options_of words = option_map_or (λ p. p.1) (subcommand_of program_line words) []
+
+-- the text that stands for an option
+abbrev pub option_text : List Row → Text → Text
+option_text options name = unwrap_or (first_of name options) []
+
+-- in place of a command's work, the words ask for help or for the version
+abbrev pub AsksForHelp : List Text → Type 0
+AsksForHelp words = IsAmong DisplayHelp (fault_of program_line words) ⊎ IsAmong DisplayVersion (fault_of program_line words)
