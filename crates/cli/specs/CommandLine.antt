@@ -1,5 +1,5 @@
 -- The program's command line, and what its words ask for.
-use Rattle.std.specs.Prelude.{◌≡◌, ◌⊎◌, true, List, [], Option, Some, codes, option_map, unwrap_or}
+use Rattle.std.specs.Prelude.{◌≡◌, ◌⊎◌, true, List, [], ◌∷◌, ◌++◌, Some, codes, option_map, unwrap_or}
 use Rattle.std.specs.Option.{option_map_or}
 use Rattle.clap.specs.Simple.{on_top}
 use Rattle.clap.specs.Words.{App, IsAmong, Row, Rule, Shape, Text, fault_of, first_of, new_app, new_rule, subcommand_of, with_rule, with_subcommand}
@@ -45,3 +45,19 @@ option_text options name = unwrap_or (first_of name options) []
 -- in place of a command's work, the words ask for help or for the version
 abbrev pub AsksForHelp : List Text → Type 0
 AsksForHelp words = IsAmong DisplayHelp (fault_of program_line words) ⊎ IsAmong DisplayVersion (fault_of program_line words)
+
+-- ---- examples
+
+-- `verify`, with each option and its text in one word
+abbrev pub verify_words : Text → Text → Text → Text → Text → List Text
+verify_words store sources plan noted claim =
+    codes "verify" ∷ (codes "--store=" ++ store) ∷ (codes "--sources=" ++ sources) ∷ (codes "--plan=" ++ plan) ∷ (codes "--record=" ++ noted) ∷ (codes "--claim=" ++ claim) ∷ []
+
+-- the words call `verify` with these texts for its options
+pub record AsksVerify (words : List Text) (store sources plan noted claim : Text) : Type 0 where
+  pub called : CallsVerify words
+  pub store_is : option_text (options_of words) (codes "store") ≡ store
+  pub sources_are : option_text (options_of words) (codes "sources") ≡ sources
+  pub plan_is : option_text (options_of words) (codes "plan") ≡ plan
+  pub noted_is : option_text (options_of words) (codes "record") ≡ noted
+  pub claim_is : option_text (options_of words) (codes "claim") ≡ claim

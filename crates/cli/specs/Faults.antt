@@ -1,5 +1,7 @@
 -- What the errors of a command tell.
-use Rattle.std.specs.Prelude.{◌≡◌, ◌↔◌, ℕ, List, string_bytes}
+use Rattle.std.specs.Prelude.{◌≡◌, ◌≢◌, ◌⊎◌, ◌↔◌, ℕ, List, string_bytes}
+use Rattle.clap.specs.declared.error.kind.ErrorKind.{ErrorKind}
+use Rattle.clap.specs.declared.error.kind.ErrorKind.TheVariants.{DisplayHelp, DisplayVersion}
 use Rattle.blob_digest.specs.Digest.{DigestValue, IsDigest}
 use Rattle.blob_digest.specs.Text.{digest_text, BeginsWithHash}
 use Rattle.blob_digest.specs.declared.error.DigestError.TheVariants.{BadHex}
@@ -33,3 +35,10 @@ IsTextFault path error e = ⊥
 abbrev pub IsOfFile : List ℕ → CliError → Type 0
 IsOfFile path (Text p fault) = string_bytes p ≡ path
 IsOfFile path e = IsFileFault path e
+
+-- where clap gave no matches: the words are at fault, or help or the version could not be printed, or memory ran out
+abbrev pub IsShownFault : ErrorKind → CliError → Type 0
+IsShownFault kind (Words text) = (kind ≢ DisplayHelp) × (kind ≢ DisplayVersion)
+IsShownFault kind (Output fault) = (kind ≡ DisplayHelp) ⊎ (kind ≡ DisplayVersion)
+IsShownFault kind Memory = Unit {0}
+IsShownFault kind _ = ⊥

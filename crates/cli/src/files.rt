@@ -1,4 +1,5 @@
-ghost use Rattle.std.specs.Prelude.{IfErr, MatchResult};
+ghost use Rattle.std.specs.Prelude.{◌≡◌, ◌≢◌, ◌≤◌, IfErr, IfOk, MatchResult, Ok, vec_len};
+ghost use Rattle.std.specs.IoError.{error_kind};
 ghost use Rattle.cli.specs.Faults.{IsFileFault};
 
 use crate::error::CliError;
@@ -11,7 +12,8 @@ const GREATEST_FILE: u64 = 16_777_216;
 
 /// The bytes of the file there. Links are followed.
 pub(crate) fn read_file<R: Files + AllocGlobal>(rt: &R, path: &str) -> Result<Vec<u8>, CliError>
-    ensures { IfErr result (IsFileFault path.now) }
+    ensures few { IfOk result (λ bytes. vec_len bytes ≤ GREATEST_FILE) }
+    ensures fault { IfErr result (IsFileFault path.now) }
 {
     let metadata = match fs::metadata(rt, path) {
         Ok(metadata) => metadata,
@@ -38,7 +40,9 @@ pub(crate) fn read_file<R: Files + AllocGlobal>(rt: &R, path: &str) -> Result<Ve
 }
 
 fn file_error<R: AllocGlobal>(rt: &R, path: &str, fault: io::Error) -> Result<CliError, CliError>
-    ensures { MatchResult result (IsFileFault path.now) (IsFileFault path.now) }
+    ensures fault { MatchResult result (IsFileFault path.now) (IsFileFault path.now) }
+    ensures memory { error_kind fault ≡ ErrorKind.OutOfMemory → result ≡ Ok CliError.Memory }
+    ensures other { error_kind fault ≢ ErrorKind.OutOfMemory → IfOk result (λ told. told ≢ CliError.Memory) }
 {
     if fault.kind() == ErrorKind::OutOfMemory {
         return Ok(CliError::Memory);

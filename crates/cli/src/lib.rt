@@ -4,11 +4,13 @@
 
 mod error;
 mod files;
+mod laws;
 mod running;
 mod store;
 mod verify_command;
 mod words;
 
+pub use laws::words_are_understood;
 pub use running::run_words;
 
 #[cfg(test)]

@@ -1,5 +1,6 @@
-ghost use Rattle.std.specs.Prelude.{◌≡◌, ◌⊎◌, ◌<◌, IfErr, IfOk, map, string_bytes};
+ghost use Rattle.std.specs.Prelude.{◌≡◌, ◌⊎◌, ◌<◌, Err, IfErr, IfOk, map, string_bytes};
 ghost use Rattle.clap.specs.Words.{kind_of};
+ghost use Rattle.cli.specs.Faults.{IsShownFault};
 ghost use Rattle.cli.specs.Printed.{IsDone, PrintsNo};
 ghost use Rattle.cli.specs.Status.{status_of};
 
@@ -73,6 +74,8 @@ where
 /// What clap answers in place of matches: help and version are printed, and a mistake is told.
 fn shown<R: AllocGlobal, O: Write>(rt: &R, error: Error, out: &mut O) -> Result<Ended, CliError>
     ensures done { IfOk result (λ ended. (ended ≡ Ended.Done) × ((kind_of error ≡ ErrorKind.DisplayHelp) ⊎ (kind_of error ≡ ErrorKind.DisplayVersion))) }
+    ensures memory { kind_of error ≡ ErrorKind.OutOfMemory → result ≡ Err CliError.Memory }
+    ensures fault { IfErr result (IsShownFault (kind_of error)) }
     ensures unprinted { IfErr result (λ fault. status_of fault ≡ 2 → O.contents out.new ≡ O.contents out.old) }
 {
     if error.kind() == ErrorKind::OutOfMemory {
