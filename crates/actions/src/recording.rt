@@ -51,6 +51,7 @@ impl<'a, A: Allocator + Copy> RecordedOutput<'a, A> {
         ensures asked { Asks 1 (S.tells source.old) (S.tells source.new) }
         ensures unasked { IsWithoutTree (recorded_value self.now) → S.tells source.new ≡ S.tells source.old }
         ensures failed { IsErrOf result TreeError.Fetch → (S.tells source.old).failures < (S.tells source.new).failures }
+        ensures unfailed { (IsErrOf result TreeError.Fetch → ⊥) → (S.tells source.new).failures ≡ (S.tells source.old).failures }
     {
         match self {
             RecordedOutput::File(file) => Ok(Output::File {
@@ -166,6 +167,7 @@ fn read_outputs<A: Allocator + Copy, S: BlobSource<A>>(
     ensures faulty { IfErr result (λ e. Explains (IsFirstFault (S.tells source.new).blobs (directories_among (recorded_values recorded.now))) e) }
     ensures asked { Asks (length (directories_among (recorded_values recorded.now))) (S.tells source.old) (S.tells source.new) }
     ensures failed { IsErrOf result TreeError.Fetch → (S.tells source.old).failures < (S.tells source.new).failures }
+    ensures unfailed { (IsErrOf result TreeError.Fetch → ⊥) → (S.tells source.new).failures ≡ (S.tells source.old).failures }
 {
     let mut outputs = Vec::new(alloc);
     for output in recorded {
@@ -187,6 +189,7 @@ pub fn recorded<A: Allocator + Copy, S: BlobSource<A>>(
     ensures faulty { IfErr result (λ e. Explains (IsFirstFault (S.tells source.new).blobs made.now.directories) e) }
     ensures asked { Asks (length made.now.directories) (S.tells source.old) (S.tells source.new) }
     ensures failed { IsErrOf result TreeError.Fetch → (S.tells source.old).failures < (S.tells source.new).failures }
+    ensures unfailed { (IsErrOf result TreeError.Fetch → ⊥) → (S.tells source.new).failures ≡ (S.tells source.old).failures }
 {
     let recorded = made.outputs(alloc)?;
     let outputs = read_outputs(alloc, &recorded, source)?;

@@ -1,5 +1,6 @@
 -- Calls of a source, one after another.
 use Rattle.std.proofs.Common.{◌≡◌, ℕ, ◌+◌, ◌-◌, ◌*◌, ◌<◌, ◌≤◌, List, [], ◌∷◌, refl, ap, ◌∙◌, arith}
+use Rattle.std.specs.Prelude.{Result, Ok, Err}
 use Rattle.std.specs.List.{AllByRecursion}
 use Rattle.blob_digest.specs.Digest.{DigestValue, digest_of}
 use Rattle.tree.specs.Source.{Blobs, Telling, GrowsAt, AsksBlob, AsksResult, Asks}
@@ -61,6 +62,10 @@ asks_both {deeper} some h k = asks_within {a = 1 + 1} {b = 2 * deeper} (omega (a
 
 pub asks_below : {deeper : ℕ} {old mid late new : Telling} → 0 < deeper → Asks 1 old mid → Asks 1 mid late → Asks (2 * (deeper - 1)) late new → Asks (2 * deeper) old new
 asks_below {deeper} some h k l = asks_within {a = 1 + 1 + 2 * (deeper - 1)} {b = 2 * deeper} (omega (arith, some)) (asks_then (asks_then h k) l)
+
+-- an answer is no error
+pub ok_no_error : {T E : Type 0} {x : T} {e : E} → ◌≡◌ {A = Result T E} (Ok x) (Err e) → ⊥
+ok_no_error h = cc
 
 -- ---- what is told under which digests
 

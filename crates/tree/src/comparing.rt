@@ -60,6 +60,7 @@ fn read_directory<A: Allocator + Copy, S: BlobSource<A>>(
     ensures asked { Asks 1 (S.tells source.old) (S.tells source.new) }
     ensures unasked { LeavesOwn (encodings_in own.now) (S.tells source.old).blobs (S.tells source.new).blobs }
     ensures failed { IsErrOf result TreeError.Fetch → (S.tells source.old).failures < (S.tells source.new).failures }
+    ensures unfailed { (IsErrOf result TreeError.Fetch → ⊥) → (S.tells source.new).failures ≡ (S.tells source.old).failures }
 {
     let Some(place) = place_of(own.digests, digest) else {
         return fetch_message(alloc, source, digest);
@@ -92,6 +93,7 @@ fn difference_below<A: Allocator + Copy, S: BlobSource<A>>(
     ensures asked { Asks (2 * deeper) (S.tells source.old) (S.tells source.new) }
     ensures unasked { LeavesOwn (encodings_in own.now) (S.tells source.old).blobs (S.tells source.new).blobs }
     ensures failed { IsErrOf result TreeError.Fetch → (S.tells source.old).failures < (S.tells source.new).failures }
+    ensures unfailed { (IsErrOf result TreeError.Fetch → ⊥) → (S.tells source.new).failures ≡ (S.tells source.old).failures }
 {
     let there = read_directory(alloc, own, recorded, source)?;
     let here = read_directory(alloc, own, grafted, source)?;
@@ -130,6 +132,7 @@ pub fn first_difference<A: Allocator + Copy, S: BlobSource<A>>(
     ensures unasked { recorded.now ≡ grafted.now.root → S.tells source.new ≡ S.tells source.old }
     ensures unasked_own { LeavesOwn (made_by grafted.now) (S.tells source.old).blobs (S.tells source.new).blobs }
     ensures failed { IsErrOf result TreeError.Fetch → (S.tells source.old).failures < (S.tells source.new).failures }
+    ensures unfailed { (IsErrOf result TreeError.Fetch → ⊥) → (S.tells source.new).failures ≡ (S.tells source.old).failures }
 {
     if *recorded == grafted.root {
         return Ok(None);

@@ -34,6 +34,7 @@ pub fn fetch_blob<A: Allocator + Copy, S: BlobSource<A>>(
     ensures only { GrowsAt digest.now (S.tells source.old).blobs (S.tells source.new).blobs }
     ensures unasked { digest.now ≡ empty_digest → S.tells source.new ≡ S.tells source.old }
     ensures failed { IsErrOf result FetchError.Failed → (S.tells source.old).failures < (S.tells source.new).failures }
+    ensures unfailed { (IsErrOf result FetchError.Failed → ⊥) → (S.tells source.new).failures ≡ (S.tells source.old).failures }
 {
     if *digest == Digest::empty() {
         return Ok(Fetched::Right(Vec::new(alloc)));
@@ -62,6 +63,7 @@ pub fn fetch_message<A: Allocator + Copy, S: BlobSource<A>, M: Message<A>>(
     ensures only { GrowsAt digest.now (S.tells source.old).blobs (S.tells source.new).blobs }
     ensures unasked { digest.now ≡ empty_digest → S.tells source.new ≡ S.tells source.old }
     ensures failed { IsErrOf result TreeError.Fetch → (S.tells source.old).failures < (S.tells source.new).failures }
+    ensures unfailed { (IsErrOf result TreeError.Fetch → ⊥) → (S.tells source.new).failures ≡ (S.tells source.old).failures }
 {
     match fetch_blob(alloc, source, digest)? {
         Fetched::Missing => Err(TreeError::BlobMissing(*digest)),

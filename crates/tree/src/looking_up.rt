@@ -29,6 +29,7 @@ pub fn lookup<A: Allocator + Copy, S: BlobSource<A>>(
     ensures absent { IfErr result (λ e. IsAbsent e → TellsOfTrees (S.tells source.new).blobs root.now (names_in (option_map (λ p. p.now) path.entry)) nothing) }
     ensures asked { Asks (length (names_in (option_map (λ p. p.now) path.entry))) (S.tells source.old) (S.tells source.new) }
     ensures failed { IsErrOf result TreeError.Fetch → (S.tells source.old).failures < (S.tells source.new).failures }
+    ensures unfailed { (IsErrOf result TreeError.Fetch → ⊥) → (S.tells source.new).failures ≡ (S.tells source.old).failures }
 {
     match path {
         None => Ok(Node::Dir(*root)),
@@ -46,6 +47,7 @@ fn look_up<A: Allocator + Copy, S: BlobSource<A>>(
     ensures refused { IfErr result (λ e. ExplainsLookup (S.tells source.new).blobs root.now path.now e) }
     ensures asked { Asks (length path.now) (S.tells source.old) (S.tells source.new) }
     ensures failed { IsErrOf result TreeError.Fetch → (S.tells source.old).failures < (S.tells source.new).failures }
+    ensures unfailed { (IsErrOf result TreeError.Fetch → ⊥) → (S.tells source.new).failures ≡ (S.tells source.old).failures }
 {
     let names = path.to_names(alloc)?;
     match descend(alloc, root, &names, source)? {
@@ -65,6 +67,7 @@ fn descend<A: Allocator + Copy, S: BlobSource<A>>(
     ensures refused { IfErr result (λ e. ExplainsLookup (S.tells source.new).blobs root.now names.now e) }
     ensures asked { Asks (length names.now) (S.tells source.old) (S.tells source.new) }
     ensures failed { IsErrOf result TreeError.Fetch → (S.tells source.old).failures < (S.tells source.new).failures }
+    ensures unfailed { (IsErrOf result TreeError.Fetch → ⊥) → (S.tells source.new).failures ≡ (S.tells source.old).failures }
 {
     let mut node = Node::Dir(*root);
     for name in names {

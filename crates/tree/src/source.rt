@@ -36,11 +36,13 @@ pub trait BlobSource<A: Allocator> {
     fn fetch(&mut self, alloc: A, digest: &Digest) -> Result<Option<Vec<u8, A>>, FetchError>
         ensures told { IfOk result (λ answer. bytes_of answer ≡ (tells self.new).blobs digest.now) }
         ensures asked { AsksBlob (tells self.old) (tells self.new) digest.now }
-        ensures failed { IsErrOf result FetchError.Failed → (tells self.old).failures < (tells self.new).failures };
+        ensures failed { IsErrOf result FetchError.Failed → (tells self.old).failures < (tells self.new).failures }
+        ensures unfailed { (IsErrOf result FetchError.Failed → ⊥) → (tells self.new).failures ≡ (tells self.old).failures };
 
     /// The result that it has for the action with a digest.
     fn result(&mut self, alloc: A, digest: &Digest) -> Result<Option<Vec<u8, A>>, FetchError>
         ensures told { IfOk result (λ answer. bytes_of answer ≡ (tells self.new).results digest.now) }
         ensures asked { AsksResult (tells self.old) (tells self.new) digest.now }
-        ensures failed { IsErrOf result FetchError.Failed → (tells self.old).failures < (tells self.new).failures };
+        ensures failed { IsErrOf result FetchError.Failed → (tells self.old).failures < (tells self.new).failures }
+        ensures unfailed { (IsErrOf result FetchError.Failed → ⊥) → (tells self.new).failures ≡ (tells self.old).failures };
 }

@@ -129,6 +129,7 @@ fn unfold_below<A: Allocator + Copy, S: BlobSource<A>>(
     ensures asked { AsksSome (S.tells source.old) (S.tells source.new) }
     ensures few { OnOk result ((S.tells source.new).calls + directories_in (flat_value entries.old.items) ≤ (S.tells source.old).calls + 1 + directories_in (flat_value entries.new.items)) }
     ensures failed { IsErrOf result TreeError.Fetch → (S.tells source.old).failures < (S.tells source.new).failures }
+    ensures unfailed { (IsErrOf result TreeError.Fetch → ⊥) → (S.tells source.new).failures ≡ (S.tells source.old).failures }
 {
     let directory: Directory<A> = fetch_message(alloc, source, digest)?;
     for (name, node) in children_by_name(alloc, &directory)? {
@@ -173,6 +174,7 @@ pub fn unfold<A: Allocator + Copy, S: BlobSource<A>>(
     // At most one call for the root and for each directory in it.
     ensures few { IfOk result (λ tree. (S.tells source.new).calls ≤ (S.tells source.old).calls + 1 + directories_in tree) }
     ensures failed { IsErrOf result TreeError.Fetch → (S.tells source.old).failures < (S.tells source.new).failures }
+    ensures unfailed { (IsErrOf result TreeError.Fetch → ⊥) → (S.tells source.new).failures ≡ (S.tells source.old).failures }
 {
     let mut entries = Vec::new(alloc);
     unfold_below(alloc, root, &None, source, &mut entries)?;

@@ -32,6 +32,7 @@ fn find_origin<A: Allocator + Copy, S: BlobSource<A>>(
     ensures faulty { IfErr result (λ e. Explains (LineFault (S.tells source.new).blobs sources.now outcomes.now line.now) e) }
     ensures asked { AsksSome (S.tells source.old) (S.tells source.new) }
     ensures failed { IsErrOf result Fault.Fetch → (S.tells source.old).failures < (S.tells source.new).failures }
+    ensures unfailed { (IsErrOf result Fault.Fetch → ⊥) → (S.tells source.new).failures ≡ (S.tells source.old).failures }
 {
     match &line.origin {
         Origin::Source(path) => match lookup(alloc, sources, path.as_ref(), source) {
@@ -58,6 +59,7 @@ pub(crate) fn resolve<A: Allocator + Copy, S: BlobSource<A>>(
     ensures faulty { IfErr result (λ e. Explains (FirstFault (S.tells source.new).blobs sources.now outcomes.now lines.now) e) }
     ensures asked { AsksSome (S.tells source.old) (S.tells source.new) }
     ensures failed { IsErrOf result Fault.Fetch → (S.tells source.old).failures < (S.tells source.new).failures }
+    ensures unfailed { (IsErrOf result Fault.Fetch → ⊥) → (S.tells source.new).failures ≡ (S.tells source.old).failures }
 {
     let mut nodes = Vec::new(alloc);
     for line in lines {

@@ -48,6 +48,7 @@ pub(crate) fn check_step<A: Allocator + Copy, S: BlobSource<A>>(
     ensures failed { IfErr result (Explains (λ c. StepEnds (S.tells source.new).blobs (S.tells source.new).results check.now.sources.now check.now.outcomes.now check.now.step.now check.now.recorded.now (failed c))) }
     ensures asked { AsksSome (S.tells source.old) (S.tells source.new) }
     ensures fetch { IsErrOf result Fault.Fetch → (S.tells source.old).failures < (S.tells source.new).failures }
+    ensures unfailed { (IsErrOf result Fault.Fetch → ⊥) → (S.tells source.new).failures ≡ (S.tells source.old).failures }
 {
     let action: Action<A> = told(alloc, check.recorded, source)?;
     check_action(alloc, check, &action, source)
@@ -66,6 +67,7 @@ fn check_action<A: Allocator + Copy, S: BlobSource<A>>(
     ensures failed { IfErr result (Explains (λ c. ActionEnds (S.tells source.new).blobs (S.tells source.new).results check.now.sources.now check.now.outcomes.now check.now.step.now action.now check.now.recorded.now (failed c))) }
     ensures asked { AsksSome (S.tells source.old) (S.tells source.new) }
     ensures fetch { IsErrOf result Fault.Fetch → (S.tells source.old).failures < (S.tells source.new).failures }
+    ensures unfailed { (IsErrOf result Fault.Fetch → ⊥) → (S.tells source.new).failures ≡ (S.tells source.old).failures }
 {
     if action.do_not_cache() {
         return Err(Fault::Cause(Cause::DoNotCache));
@@ -88,6 +90,7 @@ fn check_frame<A: Allocator + Copy, S: BlobSource<A>>(
     ensures failed { IfErr result (Explains (λ c. FrameEnds (S.tells source.new).blobs (S.tells source.new).results check.now.sources.now check.now.outcomes.now check.now.step.now action.now command.now check.now.recorded.now (failed c))) }
     ensures asked { AsksSome (S.tells source.old) (S.tells source.new) }
     ensures fetch { IsErrOf result Fault.Fetch → (S.tells source.old).failures < (S.tells source.new).failures }
+    ensures unfailed { (IsErrOf result Fault.Fetch → ⊥) → (S.tells source.new).failures ≡ (S.tells source.old).failures }
 {
     let step = check.step;
     let frame = Digest::of(&action.frame().encode(alloc)?);
@@ -111,6 +114,7 @@ fn check_lines<A: Allocator + Copy, S: BlobSource<A>>(
     ensures failed { IfErr result (Explains (λ c. LinesEnd (S.tells source.new).blobs (S.tells source.new).results check.now.sources.now check.now.outcomes.now check.now.step.now action.now command.now check.now.recorded.now (failed c))) }
     ensures asked { AsksSome (S.tells source.old) (S.tells source.new) }
     ensures fetch { IsErrOf result Fault.Fetch → (S.tells source.old).failures < (S.tells source.new).failures }
+    ensures unfailed { (IsErrOf result Fault.Fetch → ⊥) → (S.tells source.new).failures ≡ (S.tells source.old).failures }
 {
     let step = check.step;
     let nodes = resolve(alloc, check.sources, check.outcomes, &step.lines, source)?;
@@ -131,6 +135,7 @@ fn check_input<A: Allocator + Copy, S: BlobSource<A>>(
     ensures failed { IfErr result (Explains (λ c. InputEnds (S.tells source.new).blobs (S.tells source.new).results action.now command.now recorded.now (lines_of nodes.now) (failed c))) }
     ensures asked { AsksSome (S.tells source.old) (S.tells source.new) }
     ensures fetch { IsErrOf result Fault.Fetch → (S.tells source.old).failures < (S.tells source.new).failures }
+    ensures unfailed { (IsErrOf result Fault.Fetch → ⊥) → (S.tells source.new).failures ≡ (S.tells source.old).failures }
 {
     let grafted = graft(alloc, nodes)?;
     let input = action.input_root_digest();
@@ -152,6 +157,7 @@ fn explain_difference<A: Allocator + Copy, S: BlobSource<A>>(
     ensures explained { Explains (IsDifference (made_by grafted.now) (S.tells source.new).blobs grafted.now.root input.now) result }
     ensures asked { AsksSome (S.tells source.old) (S.tells source.new) }
     ensures fetch { result ≡ Fault.Fetch → (S.tells source.old).failures < (S.tells source.new).failures }
+    ensures unfailed { (result ≡ Fault.Fetch → ⊥) → (S.tells source.new).failures ≡ (S.tells source.old).failures }
 {
     match first_difference(alloc, grafted, input, source) {
         Ok(Some(difference)) => Fault::Cause(cause_of_difference(difference)),
@@ -181,6 +187,7 @@ fn check_result<A: Allocator + Copy, S: BlobSource<A>>(
     ensures failed { IfErr result (Explains (λ c. HeldEnds (S.tells source.new).blobs (S.tells source.new).results command.now recorded.now (failed c))) }
     ensures asked { AsksSome (S.tells source.old) (S.tells source.new) }
     ensures fetch { IsErrOf result Fault.Fetch → (S.tells source.old).failures < (S.tells source.new).failures }
+    ensures unfailed { (IsErrOf result Fault.Fetch → ⊥) → (S.tells source.new).failures ≡ (S.tells source.old).failures }
 {
     match source.result(alloc, recorded)? {
         None => Err(Fault::Cause(Cause::ResultMissing)),
@@ -215,6 +222,7 @@ fn check_outputs<A: Allocator + Copy, S: BlobSource<A>>(
     ensures failed { IfErr result (Explains (λ c. ResultEnds (S.tells source.new).blobs command.now made.now (failed c))) }
     ensures asked { AsksSome (S.tells source.old) (S.tells source.new) }
     ensures fetch { IsErrOf result Fault.Fetch → (S.tells source.old).failures < (S.tells source.new).failures }
+    ensures unfailed { (IsErrOf result Fault.Fetch → ⊥) → (S.tells source.new).failures ≡ (S.tells source.old).failures }
 {
     let exit_code = made.exit_code();
     if exit_code != 0 {
@@ -237,6 +245,7 @@ fn read_outputs<A: Allocator + Copy, S: BlobSource<A>>(
     ensures refused { IfErr result (Explains (OutputFault (S.tells source.new).blobs command.now (recorded_values recorded.now))) }
     ensures asked { AsksSome (S.tells source.old) (S.tells source.new) }
     ensures fetch { IsErrOf result Fault.Fetch → (S.tells source.old).failures < (S.tells source.new).failures }
+    ensures unfailed { (IsErrOf result Fault.Fetch → ⊥) → (S.tells source.new).failures ≡ (S.tells source.old).failures }
 {
     let mut outputs = Vec::new(alloc);
     for output in recorded {
@@ -258,6 +267,7 @@ fn read_output<A: Allocator + Copy, S: BlobSource<A>>(
     ensures refused { IfErr result (Explains (IsRefused (S.tells source.new).blobs command.now (recorded_value output.now))) }
     ensures asked { AsksSome (S.tells source.old) (S.tells source.new) }
     ensures fetch { IsErrOf result Fault.Fetch → (S.tells source.old).failures < (S.tells source.new).failures }
+    ensures unfailed { (IsErrOf result Fault.Fetch → ⊥) → (S.tells source.new).failures ≡ (S.tells source.old).failures }
 {
     if !command.lists(output.path()) {
         let path = Path::copy_of(alloc, output.path())?;

@@ -19,6 +19,7 @@ pub(crate) fn told<A: Allocator + Copy, S: BlobSource<A>, M: Message<A>>(
     ensures faulty { IfErr result (λ e. Explains (IsCauseOfFault M.keeps M.spells (S.tells source.new).blobs digest.now) e) }
     ensures asked { Asks 1 (S.tells source.old) (S.tells source.new) }
     ensures failed { IsErrOf result Fault.Fetch → (S.tells source.old).failures < (S.tells source.new).failures }
+    ensures unfailed { (IsErrOf result Fault.Fetch → ⊥) → (S.tells source.new).failures ≡ (S.tells source.old).failures }
 {
     match fetch_message(alloc, source, digest) {
         Ok(message) => Ok(message),

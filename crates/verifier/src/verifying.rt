@@ -34,6 +34,7 @@ fn cause_in<A: Allocator>(fault: Fault<A>) -> Result<Cause<A>, VerifyError>
     ensures cause { IfOk result (λ c. fault ≡ Fault.Cause c) }
     ensures failed { IsErrOf result VerifyError.Fetch → fault ≡ Fault.Fetch }
     ensures memory { IsErrOf result VerifyError.Memory → fault ≡ Fault.Memory }
+    ensures told { fault ≡ Fault.Fetch → IsErrOf result VerifyError.Fetch }
 {
     match fault {
         Fault::Cause(cause) => Ok(cause),
@@ -55,6 +56,7 @@ fn check_steps<A: Allocator + Copy, S: BlobSource<A>>(
     ensures checked { IfOk result (IsChecked (S.tells source.new).blobs (S.tells source.new).results sources.now steps.now recorded.now) }
     ensures asked { AsksSome (S.tells source.old) (S.tells source.new) }
     ensures failed { IsErrOf result VerifyError.Fetch → (S.tells source.old).failures < (S.tells source.new).failures }
+    ensures unfailed { (IsErrOf result VerifyError.Fetch → ⊥) → (S.tells source.new).failures ≡ (S.tells source.old).failures }
 {
     let mut outcomes = Vec::new(alloc);
     for (index, step) in steps.iter().enumerate() {
@@ -89,6 +91,7 @@ fn judge_root<A: Allocator + Copy, S: BlobSource<A>>(
     ensures verdict { IfOk result (RootVerdict (S.tells source.new).blobs sources.now outcomes.now lines.now claim.now) }
     ensures asked { AsksSome (S.tells source.old) (S.tells source.new) }
     ensures failed { IsErrOf result VerifyError.Fetch → (S.tells source.old).failures < (S.tells source.new).failures }
+    ensures unfailed { (IsErrOf result VerifyError.Fetch → ⊥) → (S.tells source.new).failures ≡ (S.tells source.old).failures }
 {
     match resolve(alloc, sources, outcomes, lines, source) {
         Err(fault) => Ok(Verdict::No(Place::Root, cause_in(fault)?)),
@@ -119,6 +122,7 @@ fn decide<A: Allocator + Copy, S: BlobSource<A>>(
     ensures verdict { IfOk result (IsVerdict (S.tells source.new).blobs (S.tells source.new).results sources.now plan.now recorded.now claim.now) }
     ensures asked { AsksSome (S.tells source.old) (S.tells source.new) }
     ensures failed { IsErrOf result VerifyError.Fetch → (S.tells source.old).failures < (S.tells source.new).failures }
+    ensures unfailed { (IsErrOf result VerifyError.Fetch → ⊥) → (S.tells source.new).failures ≡ (S.tells source.old).failures }
 {
     match check_steps(alloc, sources, plan.steps(), recorded, source)? {
         Checked::First(name, cause) => Ok(Verdict::No(Place::Step(name), cause)),
@@ -148,6 +152,7 @@ pub fn verify<A: Allocator + Copy, S: BlobSource<A>>(
     ensures unstuck { IfOk result (λ verdict. IsYes verdict → NoRunIsStuck (S.tells source.new).blobs (S.tells source.new).results sources.now plan.now «record».now.digests) }
     ensures asked { AsksSome (S.tells source.old) (S.tells source.new) }
     ensures failed { IsErrOf result VerifyError.Fetch → (S.tells source.old).failures < (S.tells source.new).failures }
+    ensures unfailed { (IsErrOf result VerifyError.Fetch → ⊥) → (S.tells source.new).failures ≡ (S.tells source.old).failures }
 {
     decide(alloc, sources, plan, record.digests(), claim, source)
 }

@@ -1,4 +1,4 @@
-use Rattle.std.proofs.Common.{length}
+use Rattle.std.proofs.Common.{◌≡◌, length}
 use Rattle.tree.specs.Source.{Asks}
 use Rattle.actions.specs.Outcome.{outputs_in}
 use Rattle.actions.specs.Recorded.{StandForAll, directories_among}
@@ -10,5 +10,6 @@ invariant-loop-output g l =
     let tells = g.S.BlobSource.tells in
     record {
       read : StandForAll (tells l.source).blobs (read_so_far l.output-index l.recorded) (outputs_in l.outputs.items);
+      unfailed : (tells l.source).failures ≡ (tells l.fn.source).failures;
       asked : Asks (length (directories_among (read_so_far l.output-index l.recorded))) (tells l.fn.source) (tells l.source);
     }

@@ -4,6 +4,7 @@ use Rattle.std.specs.Int.{w32}
 use Rattle.std.proofs.lemmas.Int.{to_z-of_z}
 use Rattle.actions.specs.Recorded.{recorded_values}
 use Rattle.actions.specs.Outcome.{outputs_in}
+use Rattle.tree.proofs.Asking.{ok_no_error}
 use Rattle.actions.proofs.Outcomes.{lawful_outcome, recorded_outcome}
 use Rattle.actions.proofs.recording.recorded.Goals as goal
 
@@ -16,3 +17,6 @@ returns-clause-found g c =
     let fits = subst (FitsSigned w32) (sym c.exit_code.ensures.value) c.exit_code.ensures.lawful.exit_code in
     recorded_outcome _ c.args.made.now (recorded_values c.deref.result.now) (outputs_in c.in_ok-outputs.outputs.items) _ c.from_outputs.result c.exit_code.ensures.lawful (rw c.deref.ensures.value (c.in_ok-recorded.ensures {u = tt})) c.in_ok-outputs.ensures.found
     (to_z-of_z w32 c.exit_code.result fits ∙ c.exit_code.ensures.value) c.from_outputs.ensures
+
+pub returns-clause-unfailed : goal.returns-clause-unfailed
+returns-clause-unfailed g c = λ other. c.in_ok-outputs.ensures.unfailed ok_no_error

@@ -5,7 +5,7 @@ use Rattle.tree.specs.Lookup.{names_in}
 use Rattle.tree.specs.Unfolding.{ExplainsChild}
 use Rattle.tree.specs.Difference.{Finds, child_of, differing, ExplainsDifference}
 use Rattle.tree.specs.Comparing.{encodings_in, IsUnlike}
-use Rattle.tree.proofs.Asking.{asks_first, asks_both, asks_below, leaves_then}
+use Rattle.tree.proofs.Asking.{asks_first, asks_both, asks_below, leaves_then, ok_no_error}
 use Rattle.tree.proofs.OwnDirectories.{ok_more, err_more}
 use Rattle.tree.proofs.DifferenceSteps.{ReadsBoth, reads_still, reads_both, finds_recorded, finds_grafted, finds_others, finds_last, finds_below, recorded_fault, grafted_fault, child_fault, explains_below}
 use Rattle.tree.proofs.comparing.+difference_below.Goals as goal
@@ -163,3 +163,7 @@ returns-then-deeper-eq1-clause-unasked g t c = leaves_then c.read_directory.ensu
 pub returns-clause-unasked : goal.returns-clause-unasked
 returns-clause-unasked g t c =
     leaves_then c.read_directory.ensures.unasked (leaves_then c.read_directory-2.ensures.unasked c.difference_below.ensures.unasked)
+
+pub returns-clause-unfailed : goal.returns-clause-unfailed
+returns-clause-unfailed g t c = λ other.
+    c.difference_below.ensures.unfailed other ∙ (c.in_ok-here.ensures {u = tt}).unfailed ok_no_error ∙ (c.in_ok-there.ensures {u = tt}).unfailed ok_no_error

@@ -3,7 +3,7 @@ use Rattle.std.proofs.Common.{ap, sym, ◌∙◌}
 use Rattle.std.specs.Prelude.{Some, None}
 use Rattle.std.proofs.lemmas.Result.{err_from_is_err_and}
 use Rattle.messages.specs.Node.{child}
-use Rattle.tree.proofs.Asking.{asks_more, asks_then}
+use Rattle.tree.proofs.Asking.{asks_more, asks_then, ok_no_error}
 use Rattle.tree.proofs.Descent.{goes_dir, goes_child, goes_nowhere, goes_wrong}
 use Rattle.tree.proofs.looking_up.descend.Goals as goal
 
@@ -34,6 +34,7 @@ loop-name-preserved g c =
     let goes = goes_dir _ c.args.root.now c.in-Dir.digest c.args.names.now _ c.loop-name.node c.in-Dir.is c.loop-name.invariant.goes in
     record {
       asked = asks_then c.loop-name.invariant.asked c.fetch_message.ensures.asked;
+      unfailed = c.in_ok-directory.ensures.unfailed ok_no_error ∙ c.loop-name.invariant.unfailed;
       goes = goes_child _ _ c.args.root.now _ c.args.names.now c.loop-name.name-index c.name-item.result _ (Some c.in-Some.next) c.loop-name-test.true goes c.fetch_message.ensures.asked.blobs c.in_ok-directory.ensures.told c.name-item.is
           (sym c.in-Some.is ∙ (c.in_ok-next.ensures {u = tt}).exact ∙ ap (λ n. child n c.in_ok-directory.directory) c.as_bytes.ensures.value);
     }

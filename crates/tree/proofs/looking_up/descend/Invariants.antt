@@ -1,4 +1,4 @@
-use Rattle.std.proofs.Common.{drop}
+use Rattle.std.proofs.Common.{◌≡◌, drop}
 use Rattle.std.specs.Prelude.{Some}
 use Rattle.tree.specs.Form.{node_value}
 use Rattle.tree.specs.Source.{Asks}
@@ -10,5 +10,6 @@ invariant-loop-name g l =
     let tells = g.S.BlobSource.tells in
     record {
       asked : Asks l.name-index (tells l.fn.source) (tells l.source);
+      unfailed : (tells l.source).failures ≡ (tells l.fn.source).failures;
       goes : GoesOn (tells l.source).blobs l.root l.names (Some (node_value l.node)) (drop l.name-index l.names);
     }

@@ -7,6 +7,7 @@ use Rattle.tree.specs.Form.{node_value}
 use Rattle.tree.specs.FlatTree.{flat_value}
 use Rattle.tree.specs.Lookup.{names_in}
 use Rattle.tree.specs.Unfolding.{child_values, AreChildren, ExplainsChild}
+use Rattle.tree.proofs.Asking.{ok_no_error}
 use Rattle.tree.proofs.UnfoldSteps.{Unfolds, fault_here, asks_one, asks_some_more, unfolds_first, unfolds_leaf, unfolds_folder, unfolds_end, child_too_deep, child_fault, flat_pushed, counts_leaf, counts_folder}
 use Rattle.tree.proofs.unfolding.+unfold_below.Goals as goal
 use Rattle.tree.proofs.unfolding.+unfold_below.Goals.{in-File+in_ok-push-in-File, in-Link+in_ok-push-in-Link, in-Dir+in_ok-push-in-Dir+in_ok-unfold_below-in-Dir+in-Some-1, in-Dir+in_ok-push-in-Dir+in_ok-unfold_below-in-Dir+in-None-1}
@@ -21,6 +22,7 @@ loop-name-init g t c = record {
   next = tt;
   finite = tt;
   asked = asks_one c.fetch_message.ensures.asked;
+  unfailed = c.in_ok-directory.ensures.unfailed ok_no_error;
   few = omega (arith, c.fetch_message.ensures.asked.most_calls);
   unfolds = unfolds_first _ c.args.digest.now c.in_ok-directory.directory (names_in c.args.above.now) _ _ c.in_ok-directory.ensures.told
       (subst (λ l. AreChildren (child_values l) c.in_ok-directory.directory) (sym c.into_iter-name-iterator.ensures.into_iter_gives.0) (c.in_ok-items.ensures {u = tt}));
@@ -50,6 +52,11 @@ returns-in_err-unfold_below-in-Dir-clause-refused g t c =
     let path = c.in_ok-path.ensures.path ∙ ap (λ o. names_in o ++ c.in-Some.name ∷ []) c.as_ref.ensures.value in
     rw (p.1, p.2) (child_fault _ _ c.args.digest.now c.in-Dir.digest (names_in c.args.above.now) c.in_ok-path.path _ _ c.in-Some.name (child_values c.next.new.self) _ c.unfold_below.ensures.asked.asks.blobs node path c.in_err-unfold_below-in-Dir.ensures.refused)
 
+pub returns-in_err-unfold_below-in-Dir-clause-unfailed : goal.returns-in_err-unfold_below-in-Dir-clause-unfailed
+returns-in_err-unfold_below-in-Dir-clause-unfailed g t c =
+    let p = err_from_is_err_and c.from_residual-in_err-unfold_below-in-Dir.result c.from_residual-in_err-unfold_below-in-Dir.ensures.1 in
+    rw (p.1, p.2) (λ other. c.in_err-unfold_below-in-Dir.ensures.unfailed other ∙ c.loop-name.invariant.unfailed)
+
 pub returns-in_err-unfold_below-in-Dir-clause-asked : goal.returns-in_err-unfold_below-in-Dir-clause-asked
 returns-in_err-unfold_below-in-Dir-clause-asked g t c = asks_some_more c.loop-name.invariant.asked c.unfold_below.ensures.asked
 
@@ -67,6 +74,7 @@ loop-name-preserved g t c =
             next = tt;
             finite = tt;
             asked = c.loop-name.invariant.asked;
+            unfailed = c.loop-name.invariant.unfailed;
             few = omega (arith, c.loop-name.invariant.few, counts_leaf _ _ c.in_ok-path.path _ pushed);
             unfolds = unfolds_leaf _ _ c.args.digest.now (names_in c.args.above.now) _ _ _ c.in-Some.name _ c.in_ok-path.path (child_values c.next.new.self) (λ e b h. h) (subst before w.in-File.is unfolds) path names.lawful pushed;
           })
@@ -76,6 +84,7 @@ loop-name-preserved g t c =
             next = tt;
             finite = tt;
             asked = c.loop-name.invariant.asked;
+            unfailed = c.loop-name.invariant.unfailed;
             few = omega (arith, c.loop-name.invariant.few, counts_leaf _ _ c.in_ok-path.path _ pushed);
             unfolds = unfolds_leaf _ _ c.args.digest.now (names_in c.args.above.now) _ _ _ c.in-Some.name _ c.in_ok-path.path (child_values c.next.new.self) (λ e b h. h) (subst before w.in-Link.is unfolds) path names.lawful pushed;
           })
@@ -85,6 +94,7 @@ loop-name-preserved g t c =
             next = tt;
             finite = tt;
             asked = asks_some_more c.loop-name.invariant.asked w.unfold_below.ensures.asked;
+            unfailed = (w.in_ok-unfold_below-in-Dir.ensures {u = tt}).unfailed ok_no_error ∙ c.loop-name.invariant.unfailed;
             few = omega (arith, c.loop-name.invariant.few, counts_folder _ _ c.in_ok-path.path pushed, (w.in_ok-unfold_below-in-Dir.ensures {u = tt}).few);
             unfolds = unfolds_folder _ _ c.args.digest.now (names_in c.args.above.now) _ _ _ _ c.in-Some.name w.in-Dir.digest c.in_ok-path.path (child_values c.next.new.self) w.unfold_below.ensures.asked.asks.blobs (subst before w.in-Dir.is unfolds) path names.lawful pushed (w.in_ok-unfold_below-in-Dir.ensures {u = tt}).told;
           })
@@ -94,6 +104,7 @@ loop-name-preserved g t c =
             next = tt;
             finite = tt;
             asked = asks_some_more c.loop-name.invariant.asked w.unfold_below.ensures.asked;
+            unfailed = (w.in_ok-unfold_below-in-Dir.ensures {u = tt}).unfailed ok_no_error ∙ c.loop-name.invariant.unfailed;
             few = omega (arith, c.loop-name.invariant.few, counts_folder _ _ c.in_ok-path.path pushed, (w.in_ok-unfold_below-in-Dir.ensures {u = tt}).few);
             unfolds = unfolds_folder _ _ c.args.digest.now (names_in c.args.above.now) _ _ _ _ c.in-Some.name w.in-Dir.digest c.in_ok-path.path (child_values c.next.new.self) w.unfold_below.ensures.asked.asks.blobs (subst before w.in-Dir.is unfolds) path names.lawful pushed (w.in_ok-unfold_below-in-Dir.ensures {u = tt}).told;
           })

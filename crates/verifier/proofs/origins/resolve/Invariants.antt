@@ -1,4 +1,4 @@
-use Rattle.std.proofs.Common.{drop}
+use Rattle.std.proofs.Common.{◌≡◌, drop}
 use Rattle.tree.specs.Lines.{lines_of}
 use Rattle.tree.specs.Source.{AsksSome}
 use Rattle.verifier.proofs.Lines.{LinesGoOn}
@@ -9,5 +9,6 @@ invariant-loop-line g l =
     let tells = g.S.BlobSource.tells in
     record {
       asked : AsksSome (tells l.fn.source) (tells l.source);
+      unfailed : (tells l.source).failures ≡ (tells l.fn.source).failures;
       goes : LinesGoOn g.row.A.Denot (tells l.source).blobs l.sources l.outcomes l.lines (lines_of l.nodes.items) (drop l.line-index l.lines);
     }

@@ -1,7 +1,8 @@
-use Rattle.std.proofs.Common.{◌≡◌, sym, subst, rules}
+use Rattle.std.proofs.Common.{◌≡◌, sym, subst, ◌∙◌, rules}
 use Rattle.tree.specs.Graft.{HaveApartTargets}
 use Rattle.tree.specs.Lines.{lines_of}
 use Rattle.tree.proofs.UnfoldSteps.{asks_some_more}
+use Rattle.tree.proofs.Asking.{ok_no_error}
 use Rattle.verifier.specs.Accepted.{Resolves}
 use Rattle.verifier.specs.StepChecks.{passed, failed, InputEnds, LinesEnd}
 use Rattle.verifier.proofs.Targets.{apart_nodes}
@@ -34,3 +35,6 @@ returns-clause-failed g c =
 
 pub returns-clause-asked : goal.returns-clause-asked
 returns-clause-asked g c = asks_some_more c.resolve.ensures.asked c.check_input.ensures.asked
+
+pub returns-clause-unfailed : goal.returns-clause-unfailed
+returns-clause-unfailed g c = λ other. c.check_input.ensures.unfailed other ∙ c.in_ok-nodes.ensures.unfailed ok_no_error

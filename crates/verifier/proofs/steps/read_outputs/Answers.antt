@@ -4,6 +4,7 @@ use Rattle.std.proofs.lemmas.List.{map-append}
 use Rattle.std.proofs.lemmas.Result.{err_from_is_err_and}
 use Rattle.actions.specs.Outcome.{output_value, outputs_in}
 use Rattle.actions.specs.Recorded.{recorded_value, recorded_values}
+use Rattle.tree.proofs.Asking.{ok_no_error}
 use Rattle.tree.proofs.UnfoldSteps.{asks_some_more}
 use Rattle.verifier.specs.StepChecks.{IsRefused, OutputFault}
 use Rattle.verifier.proofs.Explained.{explains_map}
@@ -35,6 +36,7 @@ loop-output-preserved g c =
     let values : outputs_in c.push.new.self.items ≡ outputs_in c.loop-output.outputs.items ++ (path, output_value read) ∷ [] = ap outputs_in pushed ∙ map-append (λ e. (e.0, output_value e.1)) c.loop-output.outputs.items ((path, read) ∷ []) in
     record {
       asked = asks_some_more c.loop-output.invariant.asked c.read_output.ensures.asked;
+      unfailed = c.in_ok-read.ensures.unfailed ok_no_error ∙ c.loop-output.invariant.unfailed;
       goes = subst (λ es. OutputsGoOn g.row.A.Denot B c.args.command.now (recorded_values c.args.recorded.now) es (recorded_values (drop (c.loop-output.output-index + 1) c.args.recorded.now))) (sym values)
           (outputs_next _ B c.args.command.now (recorded_values c.args.recorded.now) (outputs_in c.loop-output.outputs.items) c.args.recorded.now c.loop-output.output-index c.output-item.result path (output_value read) c.loop-output-test.true c.output-item.is c.loop-output.invariant.goes
           c.read_output.ensures.asked.asks.blobs ((c.in_ok-copy_of.ensures {u = tt}) ∙ c.path.ensures) (c.in_ok-read.ensures.listed refl) c.in_ok-read.ensures.read);

@@ -1,4 +1,4 @@
-use Rattle.std.proofs.Common.{drop}
+use Rattle.std.proofs.Common.{◌≡◌, drop}
 use Rattle.actions.specs.Outcome.{outputs_in}
 use Rattle.actions.specs.Recorded.{recorded_values}
 use Rattle.tree.specs.Source.{AsksSome}
@@ -10,5 +10,6 @@ invariant-loop-output g l =
     let tells = g.S.BlobSource.tells in
     record {
       asked : AsksSome (tells l.fn.source) (tells l.source);
+      unfailed : (tells l.source).failures ≡ (tells l.fn.source).failures;
       goes : OutputsGoOn g.row.A.Denot (tells l.source).blobs l.command (recorded_values l.recorded) (outputs_in l.outputs.items) (recorded_values (drop l.output-index l.recorded));
     }

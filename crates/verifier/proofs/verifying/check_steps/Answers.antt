@@ -4,6 +4,7 @@ use Rattle.std.specs.List.{AllByRecursion}
 use Rattle.std.proofs.lemmas.List.{length-append}
 use Rattle.std.specs.Prelude.{Err}
 use Rattle.plan.specs.Values.{IsLine}
+use Rattle.tree.proofs.Asking.{ok_no_error}
 use Rattle.tree.proofs.UnfoldSteps.{asks_some_more}
 use Rattle.verifier.specs.declared.error.VerifyError.TheVariants as errors
 use Rattle.verifier.specs.Answers.{Explains}
@@ -46,6 +47,22 @@ returns-in_err-copy_of-in-Err-clause-asked g c = asks_some_more c.loop-index.inv
 pub returns-in-Err-clause-asked : goal.returns-in-Err-clause-asked
 returns-in-Err-clause-asked g c = asks_some_more c.loop-index.invariant.asked c.check_step.ensures.asked
 
+pub returns-in_err-push-in-Ok-clause-unfailed : goal.returns-in_err-push-in-Ok-clause-unfailed
+returns-in_err-push-in-Ok-clause-unfailed g c = λ other. (c.in-Ok.ensures {u = tt}).unfailed ok_no_error ∙ c.loop-index.invariant.unfailed
+
+pub returns-in_err-cause-in-Err-clause-unfailed : goal.returns-in_err-cause-in-Err-clause-unfailed
+returns-in_err-cause-in-Err-clause-unfailed g c =
+    let p = err_from_is_err_and c.from_residual-in_err-cause-in-Err.result c.from_residual-in_err-cause-in-Err.ensures.1 in
+    rw (p.1, p.2) (λ other. (c.in-Err.ensures {u = tt}).unfailed (λ e. other (ap Err (error_is c.in_err-cause-in-Err.field-0.0 _ ((c.in_err-cause-in-Err.ensures {u = tt}).told (error_is c.in-Err.fault _ e))))) ∙ c.loop-index.invariant.unfailed)
+
+pub returns-in_err-copy_of-in-Err-clause-unfailed : goal.returns-in_err-copy_of-in-Err-clause-unfailed
+returns-in_err-copy_of-in-Err-clause-unfailed g c = λ other.
+    (c.in-Err.ensures {u = tt}).unfailed (λ e. ok_no_error ((c.in_ok-cause-in-Err.ensures {u = tt}).told (error_is c.in-Err.fault _ e))) ∙ c.loop-index.invariant.unfailed
+
+pub returns-in-Err-clause-unfailed : goal.returns-in-Err-clause-unfailed
+returns-in-Err-clause-unfailed g c = λ other.
+    (c.in-Err.ensures {u = tt}).unfailed (λ e. ok_no_error ((c.in_ok-cause-in-Err.ensures {u = tt}).told (error_is c.in-Err.fault _ e))) ∙ c.loop-index.invariant.unfailed
+
 pub returns-in-Err-clause-checked : goal.returns-in-Err-clause-checked
 returns-in-Err-clause-checked g c =
     let old = g.S.BlobSource.tells c.loop-index.source in
@@ -67,6 +84,7 @@ loop-index-preserved g c =
     let longer : length c.push.new.self.items ≡ length c.loop-index.outcomes.items + 1 = ap length pushed ∙ length-append c.loop-index.outcomes.items (o ∷ []) in
     record {
       asked = asks_some_more c.loop-index.invariant.asked c.check_step.ensures.asked;
+      unfailed = (c.in-Ok.ensures {u = tt}).unfailed ok_no_error ∙ c.loop-index.invariant.unfailed;
       count = longer ∙ ap (λ n. n + 1) c.loop-index.invariant.count;
       goes = subst (λ os. StepsGoOn g.row.A.Denot tells.blobs tells.results c.args.sources.now c.args.steps.now c.args.recorded.now os (drop (c.loop-index.index + 1) c.args.steps.now) (drop (c.loop-index.index + 1) c.args.recorded.now)) (sym pushed)
           (steps_next old.blobs old.results tells.blobs tells.results c.args.sources.now c.args.steps.now c.args.recorded.now c.loop-index.outcomes.items c.loop-index.index c.index-steps-index.result c.index-recorded-index.result o

@@ -9,5 +9,6 @@ invariant-loop-index g l =
     record {
       asked : AsksSome (tells l.fn.source) (tells l.source);
       count : length l.outcomes.items ≡ l.index;
+      unfailed : (tells l.source).failures ≡ (tells l.fn.source).failures;
       goes : StepsGoOn g.row.A.Denot (tells l.source).blobs (tells l.source).results l.sources l.steps l.recorded l.outcomes.items (drop l.index l.steps) (drop l.index l.recorded);
     }

@@ -1,9 +1,10 @@
 -- The steps, and then the root.
-use Rattle.std.proofs.Common.{◌≡◌, [], length, ap, sym, subst, arith}
+use Rattle.std.proofs.Common.{◌≡◌, [], length, ap, sym, subst, ◌∙◌, arith}
 use Rattle.std.specs.Prelude.{IfOk}
 use Rattle.std.specs.List.{AllByRecursion}
 use Rattle.plan.specs.Values.{IsLine}
 use Rattle.plan.specs.Plan as plans
+use Rattle.tree.proofs.Asking.{ok_no_error}
 use Rattle.tree.proofs.UnfoldSteps.{asks_some_more}
 use Rattle.verifier.specs.declared.verdict.Verdict.TheVariants.{No}
 use Rattle.verifier.specs.declared.verdict.Place.TheVariants.{Step}
@@ -57,3 +58,6 @@ returns-in-Outcomes-clause-failed g c = λ e.
     let later = c.judge_root.ensures.failed e in
     let before = c.check_steps.ensures.asked.asks.failures in
     omega (arith, later, before)
+
+pub returns-in-Outcomes-clause-unfailed : goal.returns-in-Outcomes-clause-unfailed
+returns-in-Outcomes-clause-unfailed g c = λ other. c.judge_root.ensures.unfailed other ∙ (c.in_ok-name.ensures {u = tt}).unfailed ok_no_error
