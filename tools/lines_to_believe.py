@@ -8,6 +8,7 @@ import os
 # Words of private functions alone, and an example: no public claim rests on these.
 ASIDE = {
     "actions": ["Merging"],
+    "cli": ["Faults"],
     "plan": ["Parts"],
     "tree": ["Comparing", "Unfolding", "Visiting"],
     "verifier": ["Answers", "TwoSteps"],
