@@ -1,5 +1,5 @@
-use Rattle.std.proofs.Common.{rules, inl, map, string_bytes, Global}
-use Rattle.clap.specs.Words.{found_of, rows_of, subcommand_of, subcommand_rows_of}
+use Rattle.std.proofs.Common.{rules, inl, map, string_bytes}
+use Rattle.clap.specs.Words.{subcommand_of, subcommand_rows_of}
 use Rattle.cli.specs.CommandLine.{CallsVerify, program_line}
 use Rattle.cli.proofs.CommandLines.{options_found, yes_printed, no_printed}
 use Rattle.cli.proofs.running.run.Goals as goal

@@ -1,4 +1,4 @@
-use Rattle.std.proofs.Common.{arith, length, string_bytes}
+use Rattle.std.proofs.Common.{arith}
 use Rattle.cli.proofs.Entries.{only_ascii}
 use Rattle.cli.proofs.store.entry_path.Goals as goal
 
