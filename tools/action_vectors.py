@@ -1,15 +1,16 @@
 #!/usr/bin/python3
-"""Prints the tables of crates/actions/src/tests: messages of these kinds as Python's protobuf encodes them.
+"""Prints the tables of crates/action_messages/src/tests: messages of these kinds as Python's protobuf encodes them.
 
 By hand, with Debian's protobuf-compiler and python3-protobuf (tried with 3.21.12):
 
     protoc --python_out=/tmp action_messages.proto
-    PYTHONPATH=/tmp ./action_vectors.py Platform Command Frame > ../crates/actions/src/tests/steps.rt
-    PYTHONPATH=/tmp ./action_vectors.py Action Result > ../crates/actions/src/tests/results.rt
-    cd ../crates/actions && rt fmt
+    PYTHONPATH=/tmp ./action_vectors.py Platform Command Frame Action > ../crates/action_messages/src/tests/steps.rt
+    PYTHONPATH=/tmp ./action_vectors.py Result > ../crates/action_messages/src/tests/results.rt
+    cd ../crates/action_messages && rt fmt
 
-The bytes are protobuf's. Which of them are refused, and how, is read from docs/FORMATS.md; a row
-that is accepted is told by its length.
+The bytes are protobuf's. Which of them are refused, and how, is read from docs/FORMATS.md. A row
+that is accepted is told by its length; one of a result, which is read tolerantly, by what protobuf
+itself reads and writes again, without the fields that are skipped and with each list in order.
 """
 
 import hashlib
@@ -20,10 +21,12 @@ from action_messages_pb2 import (
     ActionResult,
     Command,
     Digest,
+    ExecutedActionMetadata,
     OutputDirectory,
     OutputFile,
     OutputSymlink,
     Platform,
+    Timestamp,
 )
 
 NINE = "15e2b0d3c33891ebb0f1ef609ec419420c20e320ce94c65fbc8c3312448eb225"
@@ -101,6 +104,31 @@ def result(f=(), d=(), l=(), **others):
 
 frame = Action(command_digest=line)
 action = Action(command_digest=line, input_root_digest=empty)
+
+# What a worker writes beside a result.
+metadata = ExecutedActionMetadata(
+    worker="w1",
+    queued_timestamp=Timestamp(seconds=1700000000, nanos=500),
+    worker_completed_timestamp=Timestamp(seconds=1700000009),
+)
+
+
+def joined(*messages):
+    """The messages one after another: protobuf reads them as one."""
+    return b"".join(m if isinstance(m, bytes) else m.SerializeToString() for m in messages)
+
+
+def longer(number, value, groups):
+    """A varint field whose value has so many groups of seven bits."""
+    bytes_ = bytes((value >> 7 * i & 127) | (128 if i < groups - 1 else 0) for i in range(groups))
+    return bytes([number << 3]) + bytes_
+
+
+def field(number, payload):
+    """A field of bytes, with a length of three groups."""
+    size = len(payload)
+    return bytes([number << 3 | 2, size & 127 | 128, size >> 7 | 128, 0]) + payload
+
 
 # A kind, a message or bytes, and the refusal, if any.
 ROWS = [
@@ -216,10 +244,10 @@ ROWS = [
         ),
         None,
     ),
-    ("Result", result(f=["b", "a"]), UNSORTED),
-    ("Result", result(f=["a", "a"]), UNSORTED),
-    ("Result", result(d=["b", "a"]), UNSORTED),
-    ("Result", result(l=["b", "a"]), UNSORTED),
+    ("Result", result(f=["b", "a"]), None),
+    ("Result", result(f=["a", "a"]), SAME),
+    ("Result", result(d=["b", "a"]), None),
+    ("Result", result(l=["b", "a"]), None),
     ("Result", result(f=["a", "a/b"]), SAME),
     ("Result", result(d=["a", "a!x", "a/b"]), SAME),
     ("Result", result(l=["a", "a/b/c"]), SAME),
@@ -230,7 +258,7 @@ ROWS = [
     ("Result", result(f=["o"], l=["o/p"]), SAME),
     ("Result", result(d=["o"], l=["a", "o/p/q"]), SAME),
     ("Result", result(d=["o/p"], l=["a", "o", "p"]), SAME),
-    ("Result", result(f=["o", "o/p"], l=["b", "a"]), UNSORTED),
+    ("Result", result(f=["o", "o/p"], l=["b", "a"]), SAME),
     ("Result", result(f=["a"], d=["a-b"], l=["a!"]), None),
     ("Result", ActionResult(output_files=[OutputFile(path="..")]), missing(2)),
     ("Result", ActionResult(output_files=[OutputFile(digest=nine)]), BAD_PATH),
@@ -249,15 +277,63 @@ ROWS = [
                 OutputDirectory(path="d", tree_digest=nine, is_topologically_sorted=True)
             ]
         ),
-        unsupported(4),
+        None,
     ),
     ("Result", ActionResult(stderr_digest=upper), BAD_HEX),
-    ("Result", ActionResult(execution_metadata=nine), unsupported(9)),
+    ("Result", ActionResult(execution_metadata=metadata), None),
     ("Result", b"\x52\x00", unsupported(10)),
-    ("Result", b"\x20\x00", DEFAULT),
-    ("Result", b"\x20\x80\x80\x80\x80\x08", RANGE),
-    ("Result", b"\x20\xff\xff\xff\xff\x0f", RANGE),
-    ("Result", b"\x2a\x00", DEFAULT),
+    ("Result", b"\x20\x00", None),
+    ("Result", b"\x20\x80\x80\x80\x80\x08", None),
+    ("Result", b"\x20\xff\xff\xff\xff\x0f", None),
+    ("Result", b"\x2a\x00", None),
+    # Fields in another order, as from several messages.
+    (
+        "Result",
+        joined(
+            result(l=["z", "m/l"]),
+            ActionResult(execution_metadata=metadata, stderr_raw=b"e"),
+            result(f=["f", "b/c"]),
+            ActionResult(exit_code=-7),
+            result(d=["e", "d"], f=["b/a"]),
+            ActionResult(exit_code=7, stderr_raw=b"rr"),
+        ),
+        None,
+    ),
+    # A message whose fields come in several occurrences.
+    (
+        "Result",
+        joined(
+            ActionResult(stdout_digest=Digest(size_bytes=9)),
+            ActionResult(exit_code=1),
+            ActionResult(stdout_digest=Digest(hash=NINE)),
+        ),
+        None,
+    ),
+    (
+        "Result",
+        field(
+            2,
+            joined(
+                OutputFile(is_executable=True),
+                OutputFile(digest=Digest(hash=LINE, size_bytes=1)),
+                OutputFile(path="g"),
+                OutputFile(digest=Digest(hash=NINE)),
+                OutputFile(path="f"),
+                longer(4, 0, 3),
+            ),
+        ),
+        None,
+    ),
+    (
+        "Result",
+        field(3, joined(OutputDirectory(tree_digest=nine, is_topologically_sorted=True), b"\x0a\x01d")),
+        None,
+    ),
+    ("Result", field(12, joined(OutputSymlink(target="t"), OutputSymlink(path="l"))), None),
+    # Numbers in more groups than they need, and beyond 32 bits.
+    ("Result", longer(4, 5, 10), None),
+    ("Result", longer(4, 2**63 + 2**32 + 9, 10), None),
+    ("Result", joined(longer(4, 3, 2), longer(4, 0, 5)), None),
 ]
 
 
@@ -287,8 +363,22 @@ def pieces(data):
 MOST = 14
 
 
+def again(data):
+    """What protobuf reads, written without the fields that are skipped, each list in order."""
+    read = ActionResult.FromString(data)
+    read.ClearField("execution_metadata")
+    for directory in read.output_directories:
+        directory.ClearField("is_topologically_sorted")
+    for outputs in (read.output_files, read.output_directories, read.output_symlinks):
+        outputs.sort(key=lambda output: output.path.encode())
+    return read.SerializeToString(deterministic=True)
+
+
 def row(kind, message, refusal):
     data = message if isinstance(message, bytes) else message.SerializeToString(deterministic=True)
+    if kind == "Result":
+        answer = f"Err({refusal})" if refusal else f"Ok(&[{pieces(again(data))}])"
+        return f"    (&[{pieces(data)}], {answer}),"
     answer = f"Err({refusal})" if refusal else f"Ok({len(data)})"
     return f"    (Kind::{kind}, &[{pieces(data)}], {answer}),"
 
@@ -297,17 +387,25 @@ kinds = sys.argv[1:]
 tables = [(kind, [row(*r) for r in ROWS if r[0] == kind]) for kind in kinds]
 text = "\n".join(line for _, rows in tables for line in rows)
 names = [name for name in HASHES.values() if f" {name}" in text or f"[{name}" in text]
-print(f"use super::{{{', '.join(sorted([*names, 'Kind', 'Row']))}}};")
+types = {"Reading" if kind == "Result" else "Row" for kind in kinds}
+if "Row" in types:
+    types.add("Kind")
+print(f"use super::{{{', '.join(sorted([*names, *types]))}}};")
 if "DigestError" in text:
     print("use blob_digest::DigestError;")
-print("use canonical::CanonError;")
+if "CanonError" in text:
+    print("use canonical::CanonError;")
 print("use messages::MessageError;")
 print()
-print("// The pieces of messages as protobuf encodes them, and their length or the refusal.")
+if "Row" in types:
+    print("// The pieces of messages as protobuf encodes them, and their length or the refusal.")
+else:
+    print("// The pieces of results, and those of what protobuf reads and writes again, or the refusal.")
 print("// tools/action_vectors.py prints this file.")
 for kind, rows in tables:
     for number, start in enumerate(range(0, len(rows), MOST), 1):
         table = rows[start : start + MOST]
-        print(f"\npub const {kind.upper()}_{number}: [Row; {len(table)}] = [")
+        row_type = "Reading" if kind == "Result" else "Row"
+        print(f"\npub const {kind.upper()}_{number}: [{row_type}; {len(table)}] = [")
         print("\n".join(table))
         print("];")

@@ -7,9 +7,11 @@ import os
 
 # Words of private functions alone, and an example: no public claim rests on these.
 ASIDE = {
-    "actions": ["Merging"],
+    "action_messages": ["Merging"],
     "cli": ["Faults"],
+    "eviction": ["Victims", "View"],
     "plan": ["Parts"],
+    "runs": ["TwoSteps"],
     "tree": ["Comparing", "Unfolding", "Visiting"],
     "verifier": ["Answers", "TwoSteps"],
 }

@@ -6,8 +6,8 @@ use Rattle.std.proofs.lemmas.List.{map-append, take-map, drop-map, take-append-d
 use Rattle.messages.specs.Order.{bytes_cmp}
 use Rattle.messages.specs.Path.{IsPath}
 use Rattle.actions.specs.declared.outcome.Output.{Output}
-use Rattle.actions.specs.Ascending.{IsAscendingBy}
-use Rattle.actions.specs.Overlaps.{ArePathsApart, texts_of}
+use Rattle.action_messages.specs.Ascending.{IsAscendingBy}
+use Rattle.action_messages.specs.Overlaps.{ArePathsApart, texts_of}
 use Rattle.actions.specs.Outcome.{OutcomeValue, IsOutcome, IsAdded, HasRoom, LeavesNoRoom, output_value, outputs_in, output_paths}
 use Rattle.actions.proofs.OutcomeLookups.{paths_in, same_paths, paths_of}
 

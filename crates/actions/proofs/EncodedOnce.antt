@@ -16,18 +16,18 @@ use Rattle.messages.specs.declared.error.MessageError.{MessageError}
 use Rattle.messages.specs.DigestMessage.{digest_bytes}
 use Rattle.messages.specs.Path.{IsPath, parts_of, path_text}
 use Rattle.messages.proofs.Paths.{parts_of_path}
-use Rattle.actions.specs.Setting.{SettingValue, setting_bytes}
-use Rattle.actions.specs.Platform.{platform_bytes, platform_entry_of}
-use Rattle.actions.specs.Frame.{FrameValue, IsFrame, frame_bytes}
-use Rattle.actions.specs.Action.{ActionValue, IsAction, action_bytes}
-use Rattle.actions.specs.Overlaps.{texts_of}
-use Rattle.actions.specs.Command.{CommandValue, IsCommand, command_bytes, directory_text, directory_of}
-use Rattle.actions.specs.Stream.{StreamValue, IsStream}
-use Rattle.actions.specs.OutputFile.{OutputFileValue, IsOutputFile, output_file_bytes}
-use Rattle.actions.specs.OutputDirectory.{OutputDirectoryValue, IsOutputDirectory, output_directory_bytes}
-use Rattle.actions.specs.OutputSymlink.{OutputSymlinkValue, IsOutputSymlink, output_symlink_bytes}
-use Rattle.actions.specs.ActionResult.{ActionResultValue, IsActionResult, action_result_bytes}
-use Rattle.actions.proofs.Commands.{directory_given}
+use Rattle.action_messages.specs.Setting.{SettingValue, setting_bytes}
+use Rattle.action_messages.specs.Platform.{platform_bytes, platform_entry_of}
+use Rattle.action_messages.specs.Frame.{FrameValue, IsFrame, frame_bytes}
+use Rattle.action_messages.specs.Action.{ActionValue, IsAction, action_bytes}
+use Rattle.action_messages.specs.Overlaps.{texts_of}
+use Rattle.action_messages.specs.Command.{CommandValue, IsCommand, command_bytes, directory_text, directory_of}
+use Rattle.action_messages.specs.Stream.{StreamValue, IsStream}
+use Rattle.action_messages.specs.OutputFile.{OutputFileValue, IsOutputFile, output_file_bytes}
+use Rattle.action_messages.specs.OutputDirectory.{OutputDirectoryValue, IsOutputDirectory, output_directory_bytes}
+use Rattle.action_messages.specs.OutputSymlink.{OutputSymlinkValue, IsOutputSymlink, output_symlink_bytes}
+use Rattle.action_messages.specs.ActionResult.{ActionResultValue, IsActionResult, action_result_bytes}
+use Rattle.action_messages.proofs.Commands.{directory_given}
 use Rattle.actions.proofs.FieldLists.{AreFields, bool_is, bool_once, bytes_are, bytes_once, each_once, eight, elements_are, elements_once, five, four, given_once, message_is, message_once, number_is, number_once, spelled_fields, three, together}
 
 -- ---- what messages are made of

@@ -13,21 +13,22 @@ use Rattle.messages.specs.Node.{child}
 use Rattle.messages.specs.Tree.{TreeValue, IsTree, tree_bytes}
 use Rattle.messages.proofs.Orders.{itself}
 use Rattle.tree.specs.Form.{NodeValue}
-use Rattle.tree.specs.Source.{Blobs, IsUnder}
-use Rattle.tree.specs.Told.{Fault, IsTold}
+use Rattle.blob_source.specs.Source.{Blobs, IsUnder}
+use Rattle.blob_source.specs.Told.{Fault, IsTold}
 use Rattle.tree.specs.Lookup.{Looked, LooksFrom}
 use Rattle.tree.proofs.LookupOnce.{told_or_fault, fault_once}
 use Rattle.actions.specs.declared.outcome.Output.TheVariants as outputs
-use Rattle.actions.specs.Ascending.{IsAscendingBy}
-use Rattle.actions.specs.Overlaps.{ArePathsApart}
-use Rattle.actions.specs.OutputFile.{OutputFileValue}
-use Rattle.actions.specs.OutputSymlink.{OutputSymlinkValue}
-use Rattle.actions.specs.OutputDirectory.{OutputDirectoryValue}
-use Rattle.actions.specs.ActionResult.{ActionResultValue}
+use Rattle.action_messages.specs.Ascending.{IsAscendingBy}
+use Rattle.action_messages.specs.Overlaps.{ArePathsApart}
+use Rattle.action_messages.specs.OutputFile.{OutputFileValue}
+use Rattle.action_messages.specs.OutputSymlink.{OutputSymlinkValue}
+use Rattle.action_messages.specs.OutputDirectory.{OutputDirectoryValue}
+use Rattle.action_messages.specs.ActionResult.{ActionResultValue}
 use Rattle.actions.specs.Outcome.{OutputValue, OutcomeValue, IsOutcome, output_paths}
 use Rattle.actions.specs.OutcomeLookup.{IsFirstChild, NoFault, LooksBelow, LooksIn, StandsOver}
-use Rattle.actions.specs.Recorded.{RecordedValue, file, directory, link, files_among, directories_among, links_among, AreOutputs, StandsFor, StandForAll, IsRecorded, IsFirstFault, IsOutputFault}
-use Rattle.actions.proofs.Merging.{texts}
+use Rattle.action_messages.specs.Outputs.{RecordedValue, file, directory, link, files_among, directories_among, links_among, AreOutputs}
+use Rattle.actions.specs.Recorded.{StandsFor, StandForAll, IsRecorded, IsFirstFault, IsOutputFault}
+use Rattle.action_messages.proofs.Merging.{texts}
 use Rattle.actions.proofs.TreeLookups.{all_at, holds_mapped}
 use Rattle.actions.proofs.Outcomes.{apart_back}
 use Rattle.actions.proofs.TreeBytes.{tree_bytes_injective}

@@ -9,8 +9,8 @@ use Rattle.messages.specs.Order.{bytes_cmp}
 use Rattle.messages.specs.Path.{IsPath}
 use Rattle.tree.specs.Lookup.{nothing, looked}
 use Rattle.actions.specs.declared.outcome.Output.{Output}
-use Rattle.actions.specs.Ascending.{IsAscendingBy}
-use Rattle.actions.specs.Overlaps.{texts_of}
+use Rattle.action_messages.specs.Ascending.{IsAscendingBy}
+use Rattle.action_messages.specs.Overlaps.{texts_of}
 use Rattle.actions.specs.Outcome.{OutcomeValue, IsOutcome, output_value, outputs_in, output_paths}
 use Rattle.actions.specs.OutcomeLookup.{StandsOver, LooksBelow, LooksIn}
 use Rattle.actions.proofs.TreeLookups.{holds_mapped}

@@ -3,17 +3,18 @@ use Rattle.std.proofs.Common.{◌≡◌, ℕ, List, [], ◌∷◌, ◌++◌, map
 use Rattle.std.specs.Prelude.{ℤ}
 use Rattle.std.specs.List.{AllByRecursion}
 use Rattle.messages.specs.Path.{IsPath}
-use Rattle.tree.specs.Source.{Blobs}
-use Rattle.actions.specs.Overlaps.{ArePathsApart, texts_of}
+use Rattle.blob_source.specs.Source.{Blobs}
+use Rattle.action_messages.specs.Overlaps.{ArePathsApart, texts_of}
 use Rattle.messages.specs.Order.{bytes_cmp}
-use Rattle.actions.specs.Ascending.{IsAscendingBy}
-use Rattle.actions.specs.OutputFile.{IsOutputFile}
-use Rattle.actions.specs.OutputDirectory.{IsOutputDirectory}
-use Rattle.actions.specs.OutputSymlink.{IsOutputSymlink}
-use Rattle.actions.specs.ActionResult.{ActionResultValue, IsActionResult, file_paths, directory_paths, symlink_paths}
+use Rattle.action_messages.specs.Ascending.{IsAscendingBy}
+use Rattle.action_messages.specs.OutputFile.{IsOutputFile}
+use Rattle.action_messages.specs.OutputDirectory.{IsOutputDirectory}
+use Rattle.action_messages.specs.OutputSymlink.{IsOutputSymlink}
+use Rattle.action_messages.specs.ActionResult.{ActionResultValue, IsActionResult, file_paths, directory_paths, symlink_paths}
 use Rattle.actions.specs.Outcome.{OutputValue, OutcomeValue, IsOutcome, output_paths}
-use Rattle.actions.specs.Recorded.{RecordedValue, file, directory, link, recorded_path, files_among, directories_among, links_among, AreOutputs, StandForAll, IsRecorded}
-use Rattle.actions.proofs.Apart.{Apart, AreApartFrom, firsts, rests, weaker, apart_parts, from_parts}
+use Rattle.action_messages.specs.Outputs.{RecordedValue, file, directory, link, recorded_path, files_among, directories_among, links_among, AreOutputs}
+use Rattle.actions.specs.Recorded.{StandForAll, IsRecorded}
+use Rattle.action_messages.proofs.Apart.{Apart, AreApartFrom, firsts, rests, weaker, apart_parts, from_parts}
 
 pub apart_back : (p q : List (List ℕ)) → Apart p q → Apart q p
 apart_back p q h (inl e) = h (inl (sym e))

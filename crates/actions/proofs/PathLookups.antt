@@ -12,12 +12,12 @@ use Rattle.messages.specs.Order.{has_name}
 use Rattle.messages.specs.Path.{IsPath, LiesUnder, parts_of, path_text}
 use Rattle.messages.proofs.Orders.{has_none}
 use Rattle.messages.proofs.Paths.{parts-seam, parts_of_path}
-use Rattle.actions.specs.Overlaps.{IsPlace, lies_under_some, texts_of}
+use Rattle.action_messages.specs.Overlaps.{IsPlace, lies_under_some, texts_of}
 use Rattle.actions.specs.declared.looking_up.Over.{Over}
 use Rattle.actions.specs.OutcomeLookup.{StandsOver, IsOver}
-use Rattle.actions.proofs.Searches.{cut, under_not_found}
-use Rattle.actions.proofs.Places.{place_test}
-use Rattle.actions.proofs.Apart.{ArePaths, row_none}
+use Rattle.action_messages.proofs.Searches.{cut, under_not_found}
+use Rattle.action_messages.proofs.Places.{place_test}
+use Rattle.action_messages.proofs.Apart.{ArePaths, row_none}
 
 -- how many slashes a text has
 abbrev pub slashes : List ℕ → ℕ

@@ -3,17 +3,18 @@ use Rattle.std.proofs.Common.{◌≡◌, ℕ, ◌+◌, ◌<◌, List, [], ◌∷
 use Rattle.std.proofs.lemmas.List.{length-append, take_more, drop_more, take-append-drop, map-append}
 use Rattle.tree.specs.declared.error.TreeError.{TreeError}
 use Rattle.tree.specs.declared.error.TreeError.TheVariants.{Absent, BlobMissing, BlobWrong, BlobMalformed, TooDeep, Fetch, Memory}
-use Rattle.tree.specs.Source.{Blobs, Telling, Grows, Asks}
-use Rattle.tree.specs.Told.{Fault, missing, wrong, malformed}
+use Rattle.blob_source.specs.Source.{Blobs, Telling, Grows, Asks}
+use Rattle.blob_source.specs.Told.{Fault, missing, wrong, malformed}
 use Rattle.tree.specs.TreeError.{Explains}
-use Rattle.tree.proofs.Asking.{asks_then, asks_within}
+use Rattle.blob_source.proofs.Asking.{asks_then, asks_within}
 use Rattle.tree.proofs.Descent.{told_still}
 use Rattle.actions.specs.declared.outcome.Output.{Output}
-use Rattle.actions.specs.declared.recording.RecordedOutput.{RecordedOutput}
-use Rattle.actions.specs.ActionResult.{ActionResultValue}
+use Rattle.action_messages.specs.declared.recorded_output.RecordedOutput.{RecordedOutput}
+use Rattle.action_messages.specs.ActionResult.{ActionResultValue}
 use Rattle.actions.specs.Outcome.{OutputValue, OutcomeValue, output_value, outputs_in}
-use Rattle.actions.specs.Recorded.{RecordedValue, file, directory, link, recorded_value, recorded_values, recorded_path, directories_among, StandsFor, StandForAll, IsRecorded, IsFirstFault, IsOutputFault, IsWithoutTree}
-use Rattle.actions.proofs.Merging.{directories_append}
+use Rattle.action_messages.specs.Outputs.{RecordedValue, file, directory, link, recorded_value, recorded_values, recorded_path, directories_among}
+use Rattle.actions.specs.Recorded.{StandsFor, StandForAll, IsRecorded, IsFirstFault, IsOutputFault, IsWithoutTree}
+use Rattle.action_messages.proofs.Merging.{directories_append}
 
 -- ---- what was read stays
 

@@ -6,14 +6,15 @@ use Rattle.messages.specs.declared.node.Node.TheVariants as nodes
 use Rattle.messages.specs.Directory.{directory_bytes}
 use Rattle.messages.specs.Tree.{TreeValue, IsTree, tree_bytes}
 use Rattle.tree.specs.Form.{NodeValue}
-use Rattle.tree.specs.Source.{Blobs}
-use Rattle.tree.specs.Told.{IsTold}
-use Rattle.actions.specs.OutputFile.{OutputFileValue}
-use Rattle.actions.specs.OutputDirectory.{OutputDirectoryValue}
-use Rattle.actions.specs.OutputSymlink.{OutputSymlinkValue}
-use Rattle.actions.specs.ActionResult.{ActionResultValue}
+use Rattle.blob_source.specs.Source.{Blobs}
+use Rattle.blob_source.specs.Told.{IsTold}
+use Rattle.action_messages.specs.OutputFile.{OutputFileValue}
+use Rattle.action_messages.specs.OutputDirectory.{OutputDirectoryValue}
+use Rattle.action_messages.specs.OutputSymlink.{OutputSymlinkValue}
+use Rattle.action_messages.specs.ActionResult.{ActionResultValue}
 use Rattle.actions.specs.Outcome.{OutputValue, OutcomeValue, output_node, tree_node, outputs_form}
-use Rattle.actions.specs.Recorded.{RecordedValue, file, directory, link, recorded_path, files_among, directories_among, links_among, StandsFor, StandForAll, IsRecorded}
+use Rattle.action_messages.specs.Outputs.{RecordedValue, file, directory, link, recorded_path, files_among, directories_among, links_among}
+use Rattle.actions.specs.Recorded.{StandsFor, StandForAll, IsRecorded}
 use Rattle.actions.proofs.TreeLookups.{behind}
 use Rattle.actions.proofs.Once.{tree_once}
 

@@ -16,13 +16,13 @@ use Rattle.messages.specs.Path.{IsPath, LiesUnder, path_text, parts_of}
 use Rattle.messages.proofs.Choices.{or_false}
 use Rattle.messages.proofs.Orders.{flipped}
 use Rattle.messages.proofs.Paths.{parts_of_path}
-use Rattle.actions.specs.Ascending.{IsAscendingBy}
-use Rattle.actions.specs.Overlaps.{ArePathsApart, IsPlace, is_under, lies_under_some, texts_of}
+use Rattle.action_messages.specs.Ascending.{IsAscendingBy}
+use Rattle.action_messages.specs.Overlaps.{ArePathsApart, IsPlace, is_under, lies_under_some, texts_of}
 use Rattle.actions.specs.Outcome.{HasRoom}
-use Rattle.actions.proofs.Apart.{Apart, ArePaths, weaker, row_none, text_under, under_text, apart_of}
+use Rattle.action_messages.proofs.Apart.{Apart, ArePaths, weaker, row_none, text_under, under_text, apart_of}
 use Rattle.actions.proofs.Outcomes.{apart_back}
 use Rattle.actions.proofs.PathLookups.{path_at, not_listed, row_same}
-use Rattle.actions.proofs.Searches.{texts_in, AllCompare, is_under-split, is_under-seam}
+use Rattle.action_messages.proofs.Searches.{texts_in, AllCompare, is_under-split, is_under-seam}
 use Rattle.actions.proofs.TreeLookups.{behind, all_at}
 
 -- ---- a text that begins with another and a slash
@@ -172,7 +172,7 @@ inserted_ascends t [] back up before after = (weaker (λ u. bytes_cmp u t ≡ Gr
 inserted_ascends t (s ∷ front) back up before after =
     (all_between (λ u. bytes_cmp s u ≡ Less) front back t up.0 before.0, inserted_ascends t front back up.1 before.1 after)
 
-inserted_apart : (p : List (List ℕ)) (front back : List (List (List ℕ))) → ArePathsApart (front ++ back) → AllByRecursion (Apart p) (front ++ back) → ArePathsApart (front ++ p ∷ back)
+pub inserted_apart : (p : List (List ℕ)) (front back : List (List (List ℕ))) → ArePathsApart (front ++ back) → AllByRecursion (Apart p) (front ++ back) → ArePathsApart (front ++ p ∷ back)
 inserted_apart p [] back apart all = (all, apart)
 inserted_apart p (q ∷ front) back apart all = (all_between (Apart q) front back p apart.0 (apart_back p q all.0), inserted_apart p front back apart.1 all.1)
 

@@ -1,17 +1,3 @@
-pub mod Fields
-pub mod Ascending
-pub mod Overlaps
-pub mod Setting
-pub mod Platform
-pub mod Command
-pub mod Frame
-pub mod Action
-pub mod OutputFile
-pub mod OutputDirectory
-pub mod OutputSymlink
-pub mod Stream
-pub mod ActionResult
 pub mod Outcome
 pub mod OutcomeLookup
 pub mod Recorded
-pub mod Merging

@@ -12,8 +12,8 @@ use Rattle.tree.specs.declared.error.AddError.{AddError}
 use Rattle.tree.specs.declared.error.AddError.TheVariants.{Overlap, Memory}
 use Rattle.actions.specs.declared.outcome.Output.{Output}
 use Rattle.actions.specs.declared.outcome.Output.TheVariants.{File, Link, Tree}
-use Rattle.actions.specs.Ascending.{IsAscendingBy}
-use Rattle.actions.specs.Overlaps.{ArePathsApart, texts_of}
+use Rattle.action_messages.specs.Ascending.{IsAscendingBy}
+use Rattle.action_messages.specs.Overlaps.{ArePathsApart, texts_of}
 
 -- an output, whatever allocator holds it
 abbrev pub OutputValue : Type 0

@@ -8,7 +8,7 @@ use Rattle.messages.specs.declared.node.Node.{Node}
 use Rattle.messages.specs.declared.node.Node.TheVariants.{Dir}
 use Rattle.messages.specs.Tree.{TreeValue, child_digests}
 use Rattle.messages.specs.Node.{child}
-use Rattle.tree.specs.Told.{Fault}
+use Rattle.blob_source.specs.Told.{Fault}
 use Rattle.tree.specs.Lookup.{Looked, nothing, found, LooksFrom}
 use Rattle.actions.specs.declared.outcome.Output.TheVariants.{Tree}
 use Rattle.actions.specs.declared.looking_up.Over.{Over}

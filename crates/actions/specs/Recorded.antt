@@ -1,67 +1,13 @@
--- The outputs of a result in one order, and the outcome that a result stands for.
-use Rattle.std.specs.Prelude.{◌≡◌, ◌⊎◌, ℕ, List, [], ◌∷◌, map}
-use Rattle.messages.specs.Order.{bytes_cmp}
+-- The outcome that a result stands for, and why there is none.
+use Rattle.std.specs.Prelude.{◌≡◌, ◌⊎◌, ℕ, List, [], ◌∷◌}
 use Rattle.messages.specs.Tree.{TreeValue, IsTree, tree_bytes}
-use Rattle.tree.specs.Source.{Blobs}
-use Rattle.tree.specs.Told.{IsTold, Fault, IsFault}
-use Rattle.actions.specs.declared.recording.RecordedOutput.{RecordedOutput}
-use Rattle.actions.specs.declared.recording.RecordedOutput.TheVariants as outputs
+use Rattle.action_messages.specs.OutputDirectory.{OutputDirectoryValue}
+use Rattle.action_messages.specs.ActionResult.{ActionResultValue}
+use Rattle.action_messages.specs.Outputs.{RecordedValue, file, directory, link, recorded_path, AreOutputs}
+use Rattle.blob_source.specs.Source.{Blobs}
+use Rattle.blob_source.specs.Told.{IsTold, Fault, IsFault}
 use Rattle.actions.specs.declared.outcome.Output.TheVariants.{File, Link, Tree}
-use Rattle.actions.specs.Ascending.{IsAscendingBy}
-use Rattle.actions.specs.Overlaps.{texts_of}
-use Rattle.actions.specs.OutputFile.{OutputFileValue}
-use Rattle.actions.specs.OutputDirectory.{OutputDirectoryValue}
-use Rattle.actions.specs.OutputSymlink.{OutputSymlinkValue}
-use Rattle.actions.specs.ActionResult.{ActionResultValue}
 use Rattle.actions.specs.Outcome.{OutputValue, OutcomeValue, IsOutcome}
-
--- an output as a result has it
-pub data RecordedValue : Type 0 where
-  file : OutputFileValue → RecordedValue
-  directory : OutputDirectoryValue → RecordedValue
-  link : OutputSymlinkValue → RecordedValue
-
-abbrev pub recorded_value : {A : Type 0} → RecordedOutput A → RecordedValue
-recorded_value (outputs.File f) = file f.now
-recorded_value (outputs.Directory d) = directory d.now
-recorded_value (outputs.Link l) = link l.now
-
-abbrev pub recorded_values : {A : Type 0} → List (RecordedOutput A) → List RecordedValue
-recorded_values xs = map recorded_value xs
-
-abbrev pub recorded_path : RecordedValue → List (List ℕ)
-recorded_path (file f) = f.path
-recorded_path (directory d) = d.path
-recorded_path (link l) = l.path
-
--- ---- the outputs in one order
-
-abbrev pub files_among : List RecordedValue → List OutputFileValue
-files_among [] = []
-files_among (file f ∷ xs) = f ∷ files_among xs
-files_among (directory d ∷ xs) = files_among xs
-files_among (link l ∷ xs) = files_among xs
-
-abbrev pub directories_among : List RecordedValue → List OutputDirectoryValue
-directories_among [] = []
-directories_among (file f ∷ xs) = directories_among xs
-directories_among (directory d ∷ xs) = d ∷ directories_among xs
-directories_among (link l ∷ xs) = directories_among xs
-
-abbrev pub links_among : List RecordedValue → List OutputSymlinkValue
-links_among [] = []
-links_among (file f ∷ xs) = links_among xs
-links_among (directory d ∷ xs) = links_among xs
-links_among (link l ∷ xs) = l ∷ links_among xs
-
--- the files, directories and links of a result, all together by the texts of their paths
-pub record AreOutputs (r : ActionResultValue) (xs : List RecordedValue) : Type 0 where
-  pub ascend : IsAscendingBy bytes_cmp (texts_of (map recorded_path xs))
-  pub files : files_among xs ≡ r.files
-  pub directories : directories_among xs ≡ r.directories
-  pub symlinks : links_among xs ≡ r.symlinks
-
--- ---- the outcome
 
 -- An output of a result stands for one of an outcome: a directory for the Tree that is told under its digest.
 abbrev pub StandsFor : Blobs → RecordedValue → OutputValue → Type 0

@@ -1,12 +1,13 @@
 ghost use Rattle.std.specs.Prelude.{◌≡◌, List, ℕ};
-ghost use Rattle.tree.specs.Source.{Blobs};
-ghost use Rattle.tree.specs.Told.{Fault};
+ghost use Rattle.blob_source.specs.Source.{Blobs};
+ghost use Rattle.blob_source.specs.Told.{Fault};
 ghost use Rattle.tree.specs.Lookup.{Looked};
-ghost use Rattle.actions.specs.ActionResult.{ActionResultValue};
+ghost use Rattle.action_messages.specs.ActionResult.{ActionResultValue};
+ghost use Rattle.action_messages.specs.OutputDirectory.{OutputDirectoryValue};
+ghost use Rattle.action_messages.specs.Outputs.{RecordedValue, AreOutputs};
 ghost use Rattle.actions.specs.Outcome.{OutcomeValue, IsOutcome};
 ghost use Rattle.actions.specs.OutcomeLookup.{LooksIn};
-ghost use Rattle.actions.specs.OutputDirectory.{OutputDirectoryValue};
-ghost use Rattle.actions.specs.Recorded.{RecordedValue, AreOutputs, IsRecorded, IsFirstFault};
+ghost use Rattle.actions.specs.Recorded.{IsRecorded, IsFirstFault};
 
 /// What a result and a source determine. A law: it does nothing.
 pub fn outcomes_are_single_valued()

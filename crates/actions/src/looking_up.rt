@@ -5,13 +5,13 @@ ghost use Rattle.messages.specs.Path.{IsPath};
 ghost use Rattle.messages.specs.Tree.{IsTree, child_digests};
 ghost use Rattle.tree.specs.Form.{node_value};
 ghost use Rattle.tree.specs.Lookup.{LooksFrom, looked};
-ghost use Rattle.actions.specs.Ascending.{IsAscendingBy};
-ghost use Rattle.actions.specs.Overlaps.{texts_of};
+ghost use Rattle.action_messages.specs.Ascending.{IsAscendingBy};
+ghost use Rattle.action_messages.specs.Overlaps.{texts_of};
 ghost use Rattle.actions.specs.Outcome.{output_value};
 ghost use Rattle.actions.specs.OutcomeLookup.{IsFirstChild, NoFault, LooksInTree, LooksBelow, LooksIn, IsOver, IsChildOf};
 
-use crate::listed::{Listed, place_of};
 use crate::outcome::{Outcome, Output};
+use action_messages::{Listed, place_of};
 use blob_digest::Digest;
 use messages::{Directory, Name, Node, Path, Target, Tree};
 use std::alloc::{AllocError, Allocator};

@@ -1,12 +1,12 @@
 ghost use Rattle.std.specs.Prelude.{◌≡◌, [], map, IfOk, IfErr, OnOk, OnErr};
-ghost use Rattle.std.specs.List.{AllByRecursion};
+ghost use Rattle.std.specs.List.{AllByRecursion, list_any};
 ghost use Rattle.messages.specs.Order.{bytes_cmp};
 ghost use Rattle.messages.specs.Path.{IsPath};
-ghost use Rattle.actions.specs.Ascending.{IsAscendingBy};
-ghost use Rattle.actions.specs.Overlaps.{ArePathsApart, texts_of};
+ghost use Rattle.action_messages.specs.Ascending.{IsAscendingBy};
+ghost use Rattle.action_messages.specs.Overlaps.{ArePathsApart, is_under, texts_of};
 ghost use Rattle.actions.specs.Outcome.{IsOutcome, IsAdded, ExplainsAdd, HasRoom, output_value, outputs_in};
 
-use crate::listed::{Listed, lies_under_some, place_of, some_lies_under};
+use action_messages::{Listed, lies_under_some, place_of};
 use blob_digest::Digest;
 use messages::{Path, Target, Tree};
 use std::alloc::{AllocError, Allocator};
@@ -80,15 +80,24 @@ impl<A: Allocator> Outcome<A> {
     }
 }
 
-impl<A: Allocator> Listed for (Path<A>, Output<A>) {
-    ghost use Rattle.messages.specs.Path.{IsPath};
-
-    ghost path_in = { λ e. e.0 };
-
-    ghost keeps = { λ e. IsPath e.0 };
-
-    fn path_text(&self) -> &[u8] {
-        self.0.as_bytes()
+/// Whether one of ascending paths lies under the path of this text: the first that could is that at
+/// the place of the text with a slash behind it.
+fn some_lies_under<A: Allocator, L: Listed>(
+    alloc: A,
+    items: &[L],
+    text: &[u8],
+) -> Result<bool, AllocError>
+    requires { IsAscendingBy bytes_cmp (texts_of (map L.path_in items.now)) }
+    ensures { IfOk result (λ b. b ≡ list_any (λ t. is_under t text.now) (texts_of (map L.path_in items.now))) }
+{
+    let mut below = Vec::from_slice(alloc, text)?;
+    below.push(b'/')?;
+    match place_of(items, &below) {
+        Ok(_) => Ok(true),
+        Err(place) => match items.get(place) {
+            Some(item) => Ok(item.path_text().starts_with(&below)),
+            None => Ok(false),
+        },
     }
 }
 

@@ -1,4 +1,5 @@
 use crate::ROUNDS;
+use crate::timing::{percent, time_hash};
 use anyhow::{Context, Result, bail, ensure};
 use blob_digest::Digest;
 use messages::{Directory, FileNode, Name};
@@ -50,21 +51,10 @@ fn memory_of_decode(rt: &HostRuntime, bytes: &[u8]) -> Result<u64> {
 }
 
 /// How long one call took, and a part of what it gave.
-fn time_hash(rt: &HostRuntime, bytes: &[u8]) -> Result<(Duration, u8)> {
-    let start = Instant::now(rt)?;
-    let hash = Digest::of(bytes).hash();
-    Ok((start.elapsed(rt)?, hash[0]))
-}
-
 fn time_decode(rt: &HostRuntime, bytes: &[u8]) -> Result<(Duration, usize)> {
     let start = Instant::now(rt)?;
     let directory = Directory::decode(rt.alloc(), bytes)?;
     Ok((start.elapsed(rt)?, directory.files().len()))
-}
-
-/// Percent of the base, 0 where that is 0.
-fn percent(part: u128, base: u128) -> u128 {
-    part.saturating_mul(100).checked_div(base).unwrap_or(0)
 }
 
 /// Prints how long it takes to hash and to decode a directory of so many files, and how much

@@ -2,3 +2,4 @@ pub mod DigestValue
 pub mod Digest
 pub mod Text
 pub mod Hashing
+pub mod Body

@@ -2,12 +2,14 @@
 //! A blob is hashed whole or in pieces, and a digest has exactly one text, `HASH/SIZE`.
 #![tactic(auto)]
 
+mod body;
 mod digest;
 mod error;
 mod hasher;
 mod laws;
 mod text;
 
+pub use body::{Body, GREATEST_BLOB, Sealed};
 pub use digest::{Digest, GREATEST_SIZE};
 pub use error::DigestError;
 pub use hasher::Hasher;

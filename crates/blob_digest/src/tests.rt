@@ -1,4 +1,4 @@
-use crate::{Digest, DigestError, Hasher, read_hash};
+use crate::{Body, Digest, DigestError, Hasher, Sealed, read_hash};
 use refusing::Refusing;
 use std::alloc::{AllocError, Allocator};
 use std::test::Fail;
@@ -117,4 +117,51 @@ fn each_request_for_memory_refused(rt: HostRuntime) {
         refused = refused.saturating_add(1);
     }
     assert!(rt; refused >= 2);
+}
+
+/// A body of the pieces, sealed: its digest, and its bytes again.
+fn sealed_in<A: Allocator + Copy>(
+    alloc: A,
+    pieces: &[&[u8]],
+) -> Result<(Digest, Vec<u8, A>), AllocError> {
+    let mut body = Body::new(alloc);
+    for piece in pieces {
+        if body.len() <= 1_000 && piece.len() <= 1_000 {
+            body.push(piece)?;
+        }
+    }
+    let sealed = body.seal();
+    Ok((sealed.digest(), sealed.into_bytes()))
+}
+
+#[test]
+fn bodies_in_pieces(rt: HostRuntime) -> Result<(), Fail> {
+    for (blob, _) in VECTORS {
+        for cut in 0..blob.len() {
+            let (front, back) = blob.split_at(cut);
+            let (digest, bytes) = sealed_in(rt.alloc(), &[front, back])?;
+            assert_eq!(rt; digest, Digest::of(blob));
+            assert_eq!(rt; bytes.as_slice(), blob);
+        }
+        let whole = Sealed::of(Vec::from_slice(rt.alloc(), blob)?);
+        assert_eq!(rt; whole.digest(), Digest::of(blob));
+        assert_eq!(rt; whole.as_slice(), blob);
+    }
+    assert!(rt; Body::new(rt.alloc()).is_empty());
+    Ok(())
+}
+
+#[test]
+fn bodies_without_memory(rt: HostRuntime) -> Result<(), Fail> {
+    let heap = Refusing::new(rt.alloc(), 1);
+    let mut body = Body::new(&heap);
+    assert_eq!(rt; body.push(b"12345"), Err(AllocError));
+    assert_eq!(rt; body.len(), 0);
+    body.push(b"12345")?;
+    heap.refuse(1);
+    assert_eq!(rt; body.len(), 5);
+    assert!(rt; !body.is_empty());
+    assert_eq!(rt; body.seal().digest(), Digest::of(b"12345"));
+    assert!(rt; !heap.has_refused());
+    Ok(())
 }

@@ -2,8 +2,8 @@
 use Rattle.std.proofs.Common.{◌≡◌, ◌≢◌, ℕ, ◌≤◌, List, refl, ap, sym, ◌∙◌, arith, inl, inr}
 use Rattle.std.specs.Prelude.{◌⊎◌, ◌&&◌, nat_eq, Option, Some, None}
 use Rattle.blob_digest.specs.Digest.{DigestValue}
-use Rattle.tree.specs.Source.{Blobs, Telling, GrowsAt, AsksBlob, AsksResult, CountsCall, greatest_count}
-use Rattle.tree.specs.Memory.{HoldsBlob, HoldsResult, IsUnchanged}
+use Rattle.blob_source.specs.Source.{Blobs, Telling, GrowsAt, AsksBlob, AsksResult, CountsCall, greatest_count}
+use Rattle.blob_source.specs.Memory.{HoldsBlob, HoldsResult, IsUnchanged}
 use Rattle.std.proofs.Common.{Bool, true, false}
 use Rattle.std.specs.Cmp.Lexicographic.{pointwise}
 use Rattle.verifier.proofs.SameDigests.{same_digests, other_digests}

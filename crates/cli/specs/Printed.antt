@@ -9,7 +9,7 @@ use Rattle.plan.specs.Plan.{IsPlan}
 use Rattle.plan.specs.Record.{RecordValue, IsRecord, Fits}
 use Rattle.plan.specs.Values.{PlanValue}
 use Rattle.report.specs.Line.{report_line}
-use Rattle.tree.specs.Source.{Blobs}
+use Rattle.blob_source.specs.Source.{Telling}
 use Rattle.verifier.specs.declared.verdict.Verdict.{Verdict}
 use Rattle.verifier.specs.Headline.{EveryRunEndsIn, NoRunIsStuck}
 use Rattle.verifier.specs.Verdict.{IsVerdict, IsYes}
@@ -20,16 +20,17 @@ pub record Spells (text : Text) (digest : DigestValue) : Type 0 where
   pub lawful : IsDigest digest
   pub text_is : text ≡ digest_text digest
 
--- The verdict on a plan and the recorded actions of its steps, by what a store told. Where it is yes, every complete
--- run of the plan ends in exactly the claimed root, and no run is ever stuck.
-pub record IsJudged (sources : DigestValue) (plan : PlanValue) (recorded : List DigestValue) (claim : DigestValue) (v : Verdict Global) : Type 0 where
-  pub blobs : Blobs
-  pub results : Blobs
-  pub verdict : IsVerdict blobs results sources plan recorded claim v
-  pub holds : IsYes v → EveryRunEndsIn blobs results sources plan recorded claim
-  pub unstuck : IsYes v → NoRunIsStuck blobs results sources plan recorded
+-- The verdict on a plan and the recorded actions of its steps, by what a store told. Where it is
+-- yes, every complete run of the plan ends in exactly the claimed root, and no run is ever stuck.
+pub record IsJudged (sources : DigestValue) (plan : PlanValue) (recorded : List DigestValue)
+    (claim : DigestValue) (v : Verdict Global) : Type 0 where
+  pub told : Telling
+  pub verdict : IsVerdict told sources plan recorded claim v
+  pub holds : IsYes v → EveryRunEndsIn told.blobs told.results sources plan recorded claim
+  pub unstuck : IsYes v → NoRunIsStuck told.blobs told.results sources plan recorded
 
--- the line of a verdict was printed, of the one on the digests that the options spell, a plan, and a record of it
+-- the line of a verdict was printed, of the one on the digests that the options spell, a plan, and
+-- a record of it
 pub record PrintsVerdict (options : List Row) (old new : Option (List ℕ)) : Type 0 where
   pub sources : DigestValue
   pub claim : DigestValue

@@ -3,8 +3,8 @@ use Rattle.std.specs.Prelude.{◌≡◌, ℕ, ◌≤◌, List, ◌∷◌, ◌++�
 use Rattle.blob_digest.specs.Digest.{DigestValue}
 use Rattle.blob_digest.specs.Text.{digest_text}
 use Rattle.cli.specs.declared.store.FolderSource.{FolderSource}
-use Rattle.tree.specs.Source.{Telling, GrowsAt, greatest_count}
-use Rattle.tree.specs.Memory.{telling_of}
+use Rattle.blob_source.specs.Source.{Telling, GrowsAt, greatest_count}
+use Rattle.blob_source.specs.Memory.{telling_of}
 
 -- What was read is kept in tables, and stays told; each fault of the file system is a failure.
 abbrev pub telling_of_folder : {R P Q : Type 0} → FolderSource R P Q → Telling

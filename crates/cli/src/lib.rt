@@ -12,6 +12,3 @@ mod words;
 
 pub use laws::words_are_understood;
 pub use running::run_words;
-
-#[cfg(test)]
-mod tests;

@@ -1,8 +1,8 @@
 ghost use Rattle.std.specs.Prelude.{◌≡◌, ◌≤◌, ◌+◌, IfErr, IfOk, IfSome, IsErrOf, None, Some, ◌<◌, codes, string_bytes};
 ghost use Rattle.cli.specs.Faults.{IsFileFault};
 ghost use Rattle.cli.specs.Store.{entry_path, telling_of_folder, LoadsBlob, LoadsResult};
-ghost use Rattle.tree.specs.Source.{bytes_of, greatest_count};
-ghost use Rattle.tree.specs.Memory.{telling_of};
+ghost use Rattle.blob_source.specs.Source.{bytes_of, greatest_count};
+ghost use Rattle.blob_source.specs.Memory.{telling_of};
 
 use crate::error::CliError;
 use crate::files::read_file;

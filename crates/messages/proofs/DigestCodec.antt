@@ -22,21 +22,21 @@ use Rattle.messages.specs.Shapes.{single}
 use Rattle.messages.specs.DigestMessage.{digest_shape, digest_bytes, hash_of, size_of, digest_in, decoded_digest}
 use Rattle.messages.proofs.Hashes.{hash_found, hash_again, hash_utf8}
 
-size_found : (z : ℤ) (n : ℕ) → size_of z ≡ Ok n → z ≡ pos n
+pub size_found : (z : ℤ) (n : ℕ) → size_of z ≡ Ok n → z ≡ pos n
 size_found (pos m) n e = let same : m ≡ n = ok_is {E = MessageError} m n e in ap pos same
 size_found (negsuc m) n e = absurd cc
 
-size_small : (z : ℤ) (n : ℕ) → FitsSigned w64 z → z ≡ pos n → n ≤ greatest_size
+pub size_small : (z : ℤ) (n : ℕ) → FitsSigned w64 z → z ≡ pos n → n ≤ greatest_size
 size_small (pos m) n f e = let low : m < 2 ^ 63 = f.sfits in let same : m ≡ n = cc in omega arith
 size_small (negsuc m) n f e = absurd cc
 
-small_fits : (n : ℕ) → n ≤ greatest_size → FitsSigned w64 (pos n)
+pub small_fits : (n : ℕ) → n ≤ greatest_size → FitsSigned w64 (pos n)
 small_fits n h = record { sfits = let lt : n < 2 ^ 63 = omega arith in lt }
 
 abbrev pub digest_parts : DigestValue → List Part
 digest_parts d = (single 1 kinds.String, bytes_field 1 (encode_lower d.hash)) ∷ (single 2 kinds.Int64, int_field 2 (pos d.size)) ∷ []
 
-digest_message : IsMessage digest_shape digest_in digest_parts IsDigest
+pub digest_message : IsMessage digest_shape digest_in digest_parts IsDigest
 digest_message = record {
   ascends = refl;
   found = λ rs d s shape e.
@@ -64,7 +64,9 @@ digest_message = record {
       rw (t, n, h) refl;
 }
 
+pub digest_joined : (d : DigestValue) → spelling (joined (digest_parts d)) ≡ digest_bytes d
+digest_joined d = ap spelling (ap (λ (l : List Record). bytes_field 1 (encode_lower d.hash) ++ l) (append-nil (int_field 2 (pos d.size))))
+
 pub digest_codec : IsCodec decoded_digest digest_bytes IsDigest
 unfolding decoded_digest
-digest_codec = codec_as decoded_digest digest_bytes (codec told digest_shape digest_in digest_parts IsDigest digest_message) (λ b. refl)
-    (λ d. ap spelling (ap (λ (l : List Record). bytes_field 1 (encode_lower d.hash) ++ l) (append-nil (int_field 2 (pos d.size)))))
+digest_codec = codec_as decoded_digest digest_bytes (codec told digest_shape digest_in digest_parts IsDigest digest_message) (λ b. refl) digest_joined

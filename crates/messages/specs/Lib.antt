@@ -13,3 +13,4 @@ pub mod DirectoryRules
 pub mod Directory
 pub mod Tree
 pub mod Node
+pub mod Tolerant

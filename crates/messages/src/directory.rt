@@ -11,7 +11,7 @@ ghost use Rattle.messages.specs.Node.{IsChild, child};
 ghost use Rattle.messages.specs.Directory.{directory_bytes, decoded_directory};
 
 use crate::error::MessageError;
-use crate::message::{Message, decode, read_each, read_fields, write_each};
+use crate::message::{Encode, Message, decode, read_each, read_fields, write_each};
 use crate::node::{DirectoryNode, FileNode, Node, SymlinkNode};
 use crate::order::{check_order, find_named, share_a_name};
 use crate::shapes::directory_shape;
@@ -113,14 +113,27 @@ impl<A: Allocator> Directory<A> {
     }
 }
 
-#[tactic(auto, using(crate::proofs::Spellings::spelled_parts), unfolding(crate::specs::Directory::decoded_directory, crate::specs::Directory::directory_bytes))]
-impl<A: Allocator + Copy> Message<A> for Directory<A> {
-    ghost use Rattle.messages.specs.DirectoryRules.{IsDirectory};
-    ghost use Rattle.messages.specs.Directory.{directory_bytes, decoded_directory};
-
-    ghost reads = { decoded_directory };
+#[tactic(auto, using(crate::proofs::Spellings::spelled_parts), unfolding(crate::specs::Directory::directory_bytes))]
+impl<A: Allocator + Copy> Encode<A> for Directory<A> {
+    ghost use Rattle.messages.specs.Directory.{directory_bytes};
 
     ghost spells = { directory_bytes };
+
+    fn write(&self, alloc: A) -> Result<Vec<u8, A>, AllocError> {
+        let mut out = Vec::new(alloc);
+        write_each(alloc, &mut out, 1, &self.files)?;
+        write_each(alloc, &mut out, 2, &self.directories)?;
+        write_each(alloc, &mut out, 3, &self.symlinks)?;
+        Ok(out)
+    }
+}
+
+#[tactic(auto, using(crate::proofs::Spellings::spelled_parts), unfolding(crate::specs::Directory::decoded_directory))]
+impl<A: Allocator + Copy> Message<A> for Directory<A> {
+    ghost use Rattle.messages.specs.DirectoryRules.{IsDirectory};
+    ghost use Rattle.messages.specs.Directory.{decoded_directory};
+
+    ghost reads = { decoded_directory };
 
     ghost keeps = { IsDirectory };
 
@@ -132,14 +145,6 @@ impl<A: Allocator + Copy> Message<A> for Directory<A> {
         let directories = read_each(alloc, &read_elements(alloc, &fields, 2)?)?;
         let symlinks = read_each(alloc, &read_elements(alloc, &fields, 3)?)?;
         Directory::new(files, directories, symlinks)
-    }
-
-    fn write(&self, alloc: A) -> Result<Vec<u8, A>, AllocError> {
-        let mut out = Vec::new(alloc);
-        write_each(alloc, &mut out, 1, &self.files)?;
-        write_each(alloc, &mut out, 2, &self.directories)?;
-        write_each(alloc, &mut out, 3, &self.symlinks)?;
-        Ok(out)
     }
 }
 

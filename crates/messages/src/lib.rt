@@ -1,6 +1,7 @@
 //! Names, paths, digests, directories and trees as messages of the Remote Execution API: each is
 //! read from its one canonical encoding and written as it, and a value that keeps its rules has
-//! exactly one. Reading names the first rule that is broken.
+//! exactly one. Reading names the first rule that is broken. A digest within a message that is read
+//! tolerantly is read so too.
 #![tactic(auto)]
 
 mod digest;
@@ -14,6 +15,7 @@ mod order;
 mod path;
 mod shapes;
 mod target;
+mod tolerant;
 mod tree;
 
 pub use digest::{decode_digest, encode_digest};
@@ -21,13 +23,11 @@ pub use directory::Directory;
 pub use error::MessageError;
 pub use laws::clones_are_equal;
 pub use message::{
-    Message, decode, encodes_one_value, read_each, read_fields, read_optional, write_each,
+    Encode, Message, decode, encodes_one_value, read_each, read_fields, read_optional, write_each,
 };
 pub use name::{Name, is_name};
 pub use node::{DirectoryNode, FileNode, Node, SymlinkNode};
 pub use path::{Path, is_path};
 pub use target::{Target, is_target};
+pub use tolerant::{Tolerant, read_any_each, read_any_fields, read_any_optional};
 pub use tree::Tree;
-
-#[cfg(test)]
-mod tests;

@@ -15,13 +15,19 @@ use canonical::{Shape, check, write_element};
 use std::alloc::{AllocError, Allocator};
 use wire::Field;
 
-/// What is read from bytes and written as bytes.
-pub trait Message<A: Allocator>: Drop {
-    /// What the bytes say, or the first refusal.
-    ghost reads: { List ℕ → Result Self MessageError };
-
+/// What is written as bytes.
+pub trait Encode<A: Allocator>: Drop {
     /// The bytes that are written.
     ghost spells: { Self → List ℕ };
+
+    fn write(&self, alloc: A) -> Result<Vec<u8, A>, AllocError>
+        ensures { IfOk result (λ v. v.items ≡ spells self.now) };
+}
+
+/// What is read from the bytes that it is written as, and from no others.
+pub trait Message<A: Allocator>: Encode<A> {
+    /// What the bytes say, or the first refusal.
+    ghost reads: { List ℕ → Result Self MessageError };
 
     /// The rules of values.
     ghost keeps: { Self → Type 0 };
@@ -29,12 +35,9 @@ pub trait Message<A: Allocator>: Drop {
     fn read(alloc: A, bytes: &[u8]) -> Result<Self, MessageError>
         ensures { GivesUnlessMemory (λ m. m) result (reads bytes.now) };
 
-    fn write(&self, alloc: A) -> Result<Vec<u8, A>, AllocError>
-        ensures { IfOk result (λ v. v.items ≡ spells self.now) };
-
     /// What is read is what is spelled, and nothing else. It does nothing.
     fn is_exact()
-        ensures { IsCodec reads spells keeps };
+        ensures { IsCodec reads Self.spells keeps };
 }
 
 /// The fields of a message of the shape.
@@ -79,7 +82,7 @@ pub fn read_optional<A: Allocator + Copy, M: Message<A>>(
 
 /// Writes the messages as the elements of a field, in order, behind what stands in the buffer. Where
 /// memory runs out, the buffer is as it was.
-pub fn write_each<A: Allocator + Copy, M: Message<A>>(
+pub fn write_each<A: Allocator + Copy, M: Encode<A>>(
     alloc: A,
     out: &mut Vec<u8, A>,
     number: u32,
@@ -100,7 +103,7 @@ pub fn write_each<A: Allocator + Copy, M: Message<A>>(
 }
 
 /// Writes them, of which some may stand there where memory runs out.
-fn append_each<A: Allocator + Copy, M: Message<A>>(
+fn append_each<A: Allocator + Copy, M: Encode<A>>(
     alloc: A,
     out: &mut Vec<u8, A>,
     number: u32,

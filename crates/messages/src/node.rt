@@ -3,7 +3,7 @@ ghost use Rattle.messages.specs.Gives.{GivesUnlessMemory};
 ghost use Rattle.messages.specs.FileNode.{required_digest};
 
 use crate::error::MessageError;
-use crate::message::{Message, read_fields};
+use crate::message::{Encode, Message, read_fields};
 use crate::name::Name;
 use crate::order::Named;
 use crate::shapes::{directory_node_shape, file_node_shape, symlink_node_shape};
@@ -92,13 +92,26 @@ fn required_digest<A: Allocator + Copy>(
     }
 }
 
-#[tactic(auto, using(crate::proofs::Spellings::spelled_parts), unfolding(crate::specs::FileNode::decoded_file_node))]
-impl<A: Allocator + Copy> Message<A> for FileNode<A> {
-    ghost use Rattle.messages.specs.FileNode.{IsFileNode, file_node_bytes, decoded_file_node};
-
-    ghost reads = { decoded_file_node };
+#[tactic(auto, using(crate::proofs::Spellings::spelled_parts))]
+impl<A: Allocator + Copy> Encode<A> for FileNode<A> {
+    ghost use Rattle.messages.specs.FileNode.{file_node_bytes};
 
     ghost spells = { file_node_bytes };
+
+    fn write(&self, alloc: A) -> Result<Vec<u8, A>, AllocError> {
+        let mut out = Vec::new(alloc);
+        write_bytes(&mut out, 1, self.name.as_bytes())?;
+        write_message(&mut out, 2, Some(&self.digest.write(alloc)?))?;
+        write_bool(&mut out, 4, self.executable)?;
+        Ok(out)
+    }
+}
+
+#[tactic(auto, unfolding(crate::specs::FileNode::decoded_file_node))]
+impl<A: Allocator + Copy> Message<A> for FileNode<A> {
+    ghost use Rattle.messages.specs.FileNode.{IsFileNode, decoded_file_node};
+
+    ghost reads = { decoded_file_node };
 
     ghost keeps = { IsFileNode };
 
@@ -114,23 +127,27 @@ impl<A: Allocator + Copy> Message<A> for FileNode<A> {
             executable: read_bool(&fields, 4),
         })
     }
+}
+
+#[tactic(auto, using(crate::proofs::Spellings::spelled_parts))]
+impl<A: Allocator + Copy> Encode<A> for DirectoryNode<A> {
+    ghost use Rattle.messages.specs.DirectoryNode.{directory_node_bytes};
+
+    ghost spells = { directory_node_bytes };
 
     fn write(&self, alloc: A) -> Result<Vec<u8, A>, AllocError> {
         let mut out = Vec::new(alloc);
         write_bytes(&mut out, 1, self.name.as_bytes())?;
         write_message(&mut out, 2, Some(&self.digest.write(alloc)?))?;
-        write_bool(&mut out, 4, self.executable)?;
         Ok(out)
     }
 }
 
-#[tactic(auto, using(crate::proofs::Spellings::spelled_parts), unfolding(crate::specs::DirectoryNode::decoded_directory_node))]
+#[tactic(auto, unfolding(crate::specs::DirectoryNode::decoded_directory_node))]
 impl<A: Allocator + Copy> Message<A> for DirectoryNode<A> {
-    ghost use Rattle.messages.specs.DirectoryNode.{IsDirectoryNode, directory_node_bytes, decoded_directory_node};
+    ghost use Rattle.messages.specs.DirectoryNode.{IsDirectoryNode, decoded_directory_node};
 
     ghost reads = { decoded_directory_node };
-
-    ghost spells = { directory_node_bytes };
 
     ghost keeps = { IsDirectoryNode };
 
@@ -142,22 +159,27 @@ impl<A: Allocator + Copy> Message<A> for DirectoryNode<A> {
         let name = Name::new(alloc, read_bytes(&fields, 1))?;
         Ok(DirectoryNode { name, digest })
     }
+}
+
+#[tactic(auto, using(crate::proofs::Spellings::spelled_parts))]
+impl<A: Allocator + Copy> Encode<A> for SymlinkNode<A> {
+    ghost use Rattle.messages.specs.SymlinkNode.{symlink_node_bytes};
+
+    ghost spells = { symlink_node_bytes };
 
     fn write(&self, alloc: A) -> Result<Vec<u8, A>, AllocError> {
         let mut out = Vec::new(alloc);
         write_bytes(&mut out, 1, self.name.as_bytes())?;
-        write_message(&mut out, 2, Some(&self.digest.write(alloc)?))?;
+        write_bytes(&mut out, 2, self.target.as_bytes())?;
         Ok(out)
     }
 }
 
-#[tactic(auto, using(crate::proofs::Spellings::spelled_parts), unfolding(crate::specs::SymlinkNode::decoded_symlink_node))]
+#[tactic(auto, unfolding(crate::specs::SymlinkNode::decoded_symlink_node))]
 impl<A: Allocator + Copy> Message<A> for SymlinkNode<A> {
-    ghost use Rattle.messages.specs.SymlinkNode.{IsSymlinkNode, symlink_node_bytes, decoded_symlink_node};
+    ghost use Rattle.messages.specs.SymlinkNode.{IsSymlinkNode, decoded_symlink_node};
 
     ghost reads = { decoded_symlink_node };
-
-    ghost spells = { symlink_node_bytes };
 
     ghost keeps = { IsSymlinkNode };
 
@@ -168,13 +190,6 @@ impl<A: Allocator + Copy> Message<A> for SymlinkNode<A> {
         let name = Name::new(alloc, read_bytes(&fields, 1))?;
         let target = Target::new(alloc, read_bytes(&fields, 2))?;
         Ok(SymlinkNode { name, target })
-    }
-
-    fn write(&self, alloc: A) -> Result<Vec<u8, A>, AllocError> {
-        let mut out = Vec::new(alloc);
-        write_bytes(&mut out, 1, self.name.as_bytes())?;
-        write_bytes(&mut out, 2, self.target.as_bytes())?;
-        Ok(out)
     }
 }
 

@@ -12,7 +12,7 @@ ghost use Rattle.blob_digest.specs.Digest.{digest_cmp, digest_of};
 
 use crate::directory::Directory;
 use crate::error::MessageError;
-use crate::message::{Message, decode, read_fields, read_optional, write_each};
+use crate::message::{Encode, Message, decode, read_fields, read_optional, write_each};
 use crate::node::DirectoryNode;
 use crate::shapes::tree_shape;
 use blob_digest::Digest;
@@ -271,13 +271,26 @@ fn required_root<A: Allocator>(root: Option<Directory<A>>) -> Result<Directory<A
     }
 }
 
-#[tactic(auto, using(crate::proofs::Spellings::spelled_parts), unfolding(crate::specs::Tree::decoded_tree, crate::specs::Tree::tree_bytes))]
-impl<A: Allocator + Copy> Message<A> for Tree<A> {
-    ghost use Rattle.messages.specs.Tree.{IsTree, tree_bytes, decoded_tree};
-
-    ghost reads = { decoded_tree };
+#[tactic(auto, using(crate::proofs::Spellings::spelled_parts), unfolding(crate::specs::Tree::tree_bytes))]
+impl<A: Allocator + Copy> Encode<A> for Tree<A> {
+    ghost use Rattle.messages.specs.Tree.{tree_bytes};
 
     ghost spells = { tree_bytes };
+
+    fn write(&self, alloc: A) -> Result<Vec<u8, A>, AllocError> {
+        let mut out = Vec::new(alloc);
+        let root = self.root.write(alloc)?;
+        write_message(&mut out, 1, Some(&root))?;
+        write_each(alloc, &mut out, 2, &self.children)?;
+        Ok(out)
+    }
+}
+
+#[tactic(auto, unfolding(crate::specs::Tree::decoded_tree))]
+impl<A: Allocator + Copy> Message<A> for Tree<A> {
+    ghost use Rattle.messages.specs.Tree.{IsTree, decoded_tree};
+
+    ghost reads = { decoded_tree };
 
     ghost keeps = { IsTree };
 
@@ -291,14 +304,6 @@ impl<A: Allocator + Copy> Message<A> for Tree<A> {
             digests,
         } = read_each_hashed(alloc, &read_elements(alloc, &fields, 2)?)?;
         checked_tree(alloc, required_root(root)?, directories, digests)
-    }
-
-    fn write(&self, alloc: A) -> Result<Vec<u8, A>, AllocError> {
-        let mut out = Vec::new(alloc);
-        let root = self.root.write(alloc)?;
-        write_message(&mut out, 1, Some(&root))?;
-        write_each(alloc, &mut out, 2, &self.children)?;
-        Ok(out)
     }
 }
 

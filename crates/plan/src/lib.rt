@@ -21,6 +21,3 @@ pub use line::{Line, Origin};
 pub use plan::Plan;
 pub use record::Record;
 pub use step::{Step, StepName, is_step_name};
-
-#[cfg(test)]
-mod tests;

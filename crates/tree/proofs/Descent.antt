@@ -10,8 +10,8 @@ use Rattle.tree.specs.declared.error.TreeError.{TreeError}
 use Rattle.tree.specs.declared.error.TreeError.TheVariants.{Absent, BlobMissing, BlobWrong, BlobMalformed, TooDeep, Fetch, Memory}
 use Rattle.tree.specs.Tree.{Name}
 use Rattle.tree.specs.Form.{NodeValue, node_value}
-use Rattle.tree.specs.Source.{Blobs, Grows, IsUnder}
-use Rattle.tree.specs.Told.{IsTold, Fault, missing, wrong, malformed, TellsDirectory, FailsDirectory}
+use Rattle.blob_source.specs.Source.{Blobs, Grows, IsUnder}
+use Rattle.blob_source.specs.Told.{IsTold, Fault, missing, wrong, malformed, TellsDirectory, FailsDirectory}
 use Rattle.tree.specs.Lookup.{Looked, fault, nothing, found, LooksFrom, Looks}
 use Rattle.tree.specs.TreeError.{Explains, ExplainsLookup}
 use Rattle.tree.proofs.Children.{child_value}

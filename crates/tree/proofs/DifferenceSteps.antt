@@ -9,8 +9,8 @@ use Rattle.tree.specs.declared.error.TreeError.{TreeError}
 use Rattle.tree.specs.declared.error.TreeError.TheVariants.{Absent, BlobMissing, BlobWrong, BlobMalformed, TooDeep, Fetch, Memory}
 use Rattle.tree.specs.Tree.{Name}
 use Rattle.tree.specs.Form.{NodeValue}
-use Rattle.tree.specs.Source.{Blobs, Grows}
-use Rattle.tree.specs.Told.{Fault, missing, wrong, malformed}
+use Rattle.blob_source.specs.Source.{Blobs, Grows}
+use Rattle.blob_source.specs.Told.{Fault, missing, wrong, malformed}
 use Rattle.tree.specs.Lookup.{names_in}
 use Rattle.tree.specs.TreeError.{Explains}
 use Rattle.tree.specs.Unfolding.{ExplainsChild}

@@ -19,7 +19,7 @@ use Rattle.tree.specs.Tree.{Name, path_cmp, Tree, empty, whole, tree_at, Standin
 use Rattle.blob_digest.specs.Digest.{DigestValue}
 use Rattle.tree.specs.declared.folding.Folded.{Folded}
 use Rattle.tree.specs.Form.{NodeValue, root}
-use Rattle.tree.specs.Source.{Blobs}
+use Rattle.blob_source.specs.Source.{Blobs}
 use Rattle.tree.specs.Unfolded.{IsUnfolded}
 use Rattle.tree.specs.FlatTree.{standing_in, FlatValue, IsListOf, IsFlatTree, IsFoldOfList, IsTaken, IsAdded, IsFirstMissing, entry_value, found_value, flat_value}
 use Rattle.tree.proofs.SameMap.{same_map as same_trees}

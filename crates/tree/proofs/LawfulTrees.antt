@@ -13,7 +13,7 @@ use Rattle.messages.specs.Order.{AreApart}
 use Rattle.tree.specs.Tree.{Name, name_cmp, Tree, empty, leaf, folder, IsBelowAll, IsOrdered}
 use Rattle.tree.specs.Form.{NodeValue, node_value, with_child, directory_of, top, root}
 use Rattle.tree.specs.declared.folding.Folded.{Folded}
-use Rattle.tree.specs.Folded.{IsNode, AreLawful, IsFoldOfLawful, IsFoldOf, tops_below, unseen}
+use Rattle.tree.specs.Folded.{IsNode, AreLawful, IsFoldOfLawful, IsFoldOf, tops_below, unseen, first_visits}
 use Rattle.tree.specs.Graft.{sole, put, graft}
 use Rattle.tree.specs.Lines.{lines_of, IsLine}
 use Rattle.tree.specs.Difference.{made_by}
@@ -160,6 +160,11 @@ lawful_put (n ∷ p) x (folder m below rest) p_is x_is h =
 lawful_graft : (ls : List (List Name × NodeValue)) → AllByRecursion IsLine ls → AreLawful (graft ls)
 lawful_graft [] h = tt
 lawful_graft (l ∷ ls) h = lawful_put l.0 l.1 (graft ls) h.0.0 h.0.1 (lawful_graft ls h.1)
+
+-- what such a graft made are encodings of Directories
+pub lawful_visits : (ls : List (List Name × NodeValue)) → AllByRecursion IsLine ls → AllByRecursion IsEncoding (first_visits (graft ls))
+lawful_visits ls h =
+    all_unseen IsEncoding [] (top (graft ls) ∷ tops_below (graft ls)) (lawful_top (graft ls) (ordered-graft ls) (lawful_graft ls h), lawful_tops (graft ls) (ordered-graft ls) (lawful_graft ls h))
 
 pub fold_of_lawful : {A : Type 0} (f : Folded A) (ls : List (List Name × NodeValue)) → AllByRecursion IsLine ls → IsFoldOf (graft ls) f → IsFoldOfLawful f
 fold_of_lawful f ls h fold = record { tree = graft ls; ordered = ordered-graft ls; lawful = lawful_graft ls h; fold = fold }

@@ -1,5 +1,4 @@
-pub mod Asking
-mod Digests
+pub mod Leaving
 mod TreeLemmas
 mod SameTree
 mod SameMap
@@ -34,3 +33,6 @@ pub mod DifferenceSteps
 pub mod DifferenceOnce
 pub mod Visits
 pub mod TreeBlobs
+pub mod Totals
+pub mod FirstDifferences
+pub mod TrueDifferences

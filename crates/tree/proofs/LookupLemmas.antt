@@ -9,8 +9,8 @@ use Rattle.messages.specs.Directory.{directory_bytes}
 use Rattle.messages.specs.Node.{child}
 use Rattle.tree.specs.Tree.{Name, name_cmp, Tree, empty, leaf, folder, Entry, single, whole, entry_of, below_entry, Leaf, file, link}
 use Rattle.tree.specs.Form.{NodeValue, form, directory_of, top, root, entry_node, IsContent, IsBlobBelow, IsBlobOf}
-use Rattle.tree.specs.Source.{Blobs, IsUnder}
-use Rattle.tree.specs.Told.{Fault, TellsDirectory, FailsDirectory}
+use Rattle.blob_source.specs.Source.{Blobs, IsUnder}
+use Rattle.blob_source.specs.Told.{Fault, TellsDirectory, FailsDirectory}
 use Rattle.tree.specs.Lookup.{Looked, nothing, LooksFrom, Looks, IsValue, AgreesWith, TellsOfTrees}
 use Rattle.tree.proofs.OrderLemmas.{IsOrderedAt, entry_ordered}
 use Rattle.tree.proofs.Children.{child-directory_of}

@@ -8,8 +8,8 @@ use Rattle.messages.specs.Directory.{directory_bytes}
 use Rattle.messages.specs.Node.{child}
 use Rattle.tree.specs.Tree.{Name}
 use Rattle.tree.specs.Form.{NodeValue}
-use Rattle.tree.specs.Source.{Blobs, IsUnder}
-use Rattle.tree.specs.Told.{IsTold, Fault, missing, wrong, malformed, IsFault, TellsDirectory, FailsDirectory}
+use Rattle.blob_source.specs.Source.{Blobs, IsUnder}
+use Rattle.blob_source.specs.Told.{IsTold, Fault, missing, wrong, malformed, IsFault, TellsDirectory, FailsDirectory}
 use Rattle.tree.specs.Lookup.{Looked, fault, LooksFrom, Looks}
 use Rattle.tree.proofs.DirectoryBytes.{directory_bytes_injective}
 use Rattle.tree.proofs.TreeDigests.{lawful_digests}

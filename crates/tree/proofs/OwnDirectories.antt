@@ -9,7 +9,7 @@ use Rattle.messages.specs.declared.error.MessageError.TheVariants as errors
 use Rattle.messages.specs.Gives.{FailsUnlessMemory}
 use Rattle.tree.specs.declared.error.TreeError.{TreeError}
 use Rattle.tree.specs.declared.error.TreeError.TheVariants.{Absent, BlobMissing, BlobWrong, BlobMalformed, TooDeep, Fetch, Memory}
-use Rattle.tree.specs.Told.{Fault, missing, wrong, malformed}
+use Rattle.blob_source.specs.Told.{Fault, missing, wrong, malformed}
 use Rattle.tree.specs.TreeError.{Explains}
 use Rattle.tree.specs.Visiting.{items_of}
 use Rattle.tree.specs.Difference.{IsFirstOf, IsNoneOf}

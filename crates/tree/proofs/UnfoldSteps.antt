@@ -14,8 +14,8 @@ use Rattle.tree.specs.declared.error.TreeError.{TreeError}
 use Rattle.tree.specs.declared.error.TreeError.TheVariants.{Absent, BlobMissing, BlobWrong, BlobMalformed, TooDeep, Fetch, Memory}
 use Rattle.tree.specs.Tree.{Name, name_cmp, Tree, empty, leaf, folder, a_leaf, a_directory, IsBelowAll, IsOrdered}
 use Rattle.tree.specs.Form.{NodeValue, no_children, with_child, directory_of, root}
-use Rattle.tree.specs.Source.{Blobs, Grows, IsMissing, IsWrong, Telling, Asks, AsksSome}
-use Rattle.tree.specs.Told.{IsMalformed, Fault, missing, wrong, malformed, TellsDirectory, FailsDirectory}
+use Rattle.blob_source.specs.Source.{Blobs, Grows, IsMissing, IsWrong, Telling, Asks, AsksSome}
+use Rattle.blob_source.specs.Told.{IsMalformed, Fault, missing, wrong, malformed, TellsDirectory, FailsDirectory}
 use Rattle.tree.specs.TreeError.{Explains}
 use Rattle.tree.specs.Lookup.{Looked, found, LooksFrom, Looks, names_in}
 use Rattle.std.specs.declared.vec.Vec.{Vec}
@@ -23,7 +23,7 @@ use Rattle.tree.specs.declared.flat_tree.FlatEntry.{FlatEntry}
 use Rattle.tree.specs.FlatTree.{under, listed, FlatValue, IsFlatTree, entry_value, flat_value}
 use Rattle.tree.specs.Unfolded.{TellsBelow, IsUnfolded, IsFaultBelow, ExplainsUnfold, directories_at, directories_in}
 use Rattle.tree.specs.Unfolding.{leaves, AreChildren, IsFull, ExplainsChild, prefixed, Appends}
-use Rattle.tree.proofs.Asking.{asks_then}
+use Rattle.blob_source.proofs.Asking.{asks_then}
 use Rattle.tree.proofs.Children.{child-with_child, child-below}
 use Rattle.tree.proofs.Descent.{told_still}
 use Rattle.tree.proofs.TreeLemmas.{name_itself, apart_cmp}
@@ -279,12 +279,6 @@ child_fault B C d e above path old new n rest why g h is at =
 
 pub asks_some : {old mid new : Telling} {n : ℕ} → AsksSome old mid → Asks n mid new → AsksSome old new
 asks_some {old} {mid} {new} {n} h k = record { most = h.most + n; asks = asks_then h.asks k }
-
-pub asks_some_more : {old mid new : Telling} → AsksSome old mid → AsksSome mid new → AsksSome old new
-asks_some_more {old} {mid} {new} h k = record { most = h.most + k.most; asks = asks_then h.asks k.asks }
-
-pub asks_one : {old new : Telling} → Asks 1 old new → AsksSome old new
-asks_one {old} {new} h = record { most = 1; asks = h }
 
 -- ---- what the code keeps
 

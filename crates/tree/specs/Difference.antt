@@ -9,8 +9,8 @@ use Rattle.messages.specs.Directory.{directory_bytes}
 use Rattle.messages.specs.Node.{child}
 use Rattle.tree.specs.Tree.{Name, name_cmp}
 use Rattle.tree.specs.Form.{NodeValue}
-use Rattle.tree.specs.Source.{Blobs}
-use Rattle.tree.specs.Told.{Fault, missing, wrong, malformed, TellsDirectory, FailsDirectory}
+use Rattle.blob_source.specs.Source.{Blobs}
+use Rattle.blob_source.specs.Told.{Fault, missing, wrong, malformed, TellsDirectory, FailsDirectory}
 use Rattle.tree.specs.declared.difference.Difference.{Difference}
 use Rattle.tree.specs.declared.difference.Difference.TheVariants.{Unexplained, Absent, Differs}
 use Rattle.tree.specs.declared.error.TreeError.{TreeError}

@@ -1,10 +1,6 @@
-pub mod Source
-pub mod Fetched
-pub mod Memory
 pub mod Tree
 pub mod Graft
 pub mod Form
-pub mod Told
 pub mod Lookup
 pub mod TreeError
 pub mod Folded
@@ -15,3 +11,4 @@ pub mod Unfolded
 pub mod Unfolding
 pub mod Difference
 pub mod Comparing
+pub mod TrueDifference

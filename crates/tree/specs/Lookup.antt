@@ -7,8 +7,8 @@ use Rattle.messages.specs.DirectoryRules.{DirectoryValue}
 use Rattle.messages.specs.Node.{child}
 use Rattle.tree.specs.Tree.{Name, Tree, Leaf, tree_at, IsOrdered}
 use Rattle.tree.specs.Form.{NodeValue, node_value, entry_node, form, root, IsBlobOf}
-use Rattle.tree.specs.Source.{Blobs}
-use Rattle.tree.specs.Told.{Fault, TellsDirectory, FailsDirectory}
+use Rattle.blob_source.specs.Source.{Blobs}
+use Rattle.blob_source.specs.Told.{Fault, TellsDirectory, FailsDirectory}
 
 -- what a look-up comes to: a fault on the way, nothing, or a node
 pub data Looked : Type 0 where

@@ -1,20 +1,30 @@
 -- What an error of a call on trees says.
 use Rattle.std.specs.Prelude.{◌≡◌, List}
 use Rattle.blob_digest.specs.Digest.{DigestValue}
-use Rattle.tree.specs.declared.source.FetchError.{FetchError}
-use Rattle.tree.specs.declared.source.FetchError.TheVariants as fetching
+use Rattle.blob_source.specs.declared.source.FetchError.{FetchError}
+use Rattle.blob_source.specs.declared.source.FetchError.TheVariants as fetching
+use Rattle.blob_source.specs.declared.fetching.MessageFetchError.{MessageFetchError}
+use Rattle.blob_source.specs.declared.fetching.MessageFetchError.TheVariants as reading
 use Rattle.tree.specs.declared.error.TreeError.{TreeError}
 use Rattle.tree.specs.declared.error.AddError.{AddError}
 use Rattle.tree.specs.declared.error.AddError.TheVariants as adding
 use Rattle.tree.specs.declared.error.TreeError.TheVariants.{Absent, BlobMissing, BlobWrong, BlobMalformed, TooDeep, Fetch, Memory}
 use Rattle.tree.specs.Tree.{Name}
-use Rattle.tree.specs.Source.{Blobs}
-use Rattle.tree.specs.Told.{Fault, missing, wrong, malformed}
+use Rattle.blob_source.specs.Source.{Blobs}
+use Rattle.blob_source.specs.Told.{Fault, missing, wrong, malformed}
 use Rattle.tree.specs.Lookup.{Looks, fault, nothing}
 
 abbrev pub of_fetch : {A : Type 0} → FetchError → TreeError A
 of_fetch fetching.Failed = Fetch
 of_fetch fetching.Memory = Memory
+
+-- the error of a message that is fetched, as one of a call on trees
+abbrev pub of_message : {A : Type 0} → MessageFetchError → TreeError A
+of_message (reading.Missing e) = BlobMissing e
+of_message (reading.Wrong e) = BlobWrong e
+of_message (reading.Malformed e) = BlobMalformed e
+of_message reading.Failed = Fetch
+of_message reading.Memory = Memory
 
 -- Why no message was answered: a fault, unless the source failed or memory ran out.
 abbrev pub Explains : {A : Type 0} → (Fault → Type 0) → TreeError A → Type 0

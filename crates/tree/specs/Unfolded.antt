@@ -7,8 +7,8 @@ use Rattle.tree.specs.declared.error.TreeError.{TreeError}
 use Rattle.tree.specs.declared.error.TreeError.TheVariants.{Absent, BlobMissing, BlobWrong, BlobMalformed, TooDeep, Fetch, Memory}
 use Rattle.tree.specs.Tree.{Name, Tree, empty, leaf, folder, Standing, nothing, a_leaf, a_directory}
 use Rattle.tree.specs.Form.{NodeValue, no_children, directory_of, root}
-use Rattle.tree.specs.Source.{Blobs}
-use Rattle.tree.specs.Told.{Fault, missing, wrong, malformed, TellsDirectory, FailsDirectory}
+use Rattle.blob_source.specs.Source.{Blobs}
+use Rattle.blob_source.specs.Told.{Fault, missing, wrong, malformed, TellsDirectory, FailsDirectory}
 use Rattle.tree.specs.Lookup.{found, Looks}
 use Rattle.tree.specs.FlatTree.{FlatValue, IsListOf}
 

@@ -6,7 +6,7 @@ use Rattle.messages.specs.DirectoryRules.{DirectoryValue}
 use Rattle.messages.specs.Path.{IsPath}
 use Rattle.tree.specs.declared.error.TreeError.{TreeError}
 use Rattle.tree.specs.declared.error.TreeError.TheVariants.{Absent, BlobMissing, BlobWrong, BlobMalformed, TooDeep, Fetch, Memory}
-use Rattle.tree.specs.Source.{Blobs}
+use Rattle.blob_source.specs.Source.{Blobs}
 use Rattle.blob_digest.specs.Digest.{DigestValue}
 use Rattle.tree.specs.Tree.{Name, Tree, empty, leaf, IsOrdered}
 use Rattle.tree.specs.Form.{NodeValue, node_value, directory_of}

@@ -5,16 +5,16 @@ ghost use Rattle.tree.specs.Comparing.{encodings_in, AreOwn};
 ghost use Rattle.tree.specs.Difference.{Reads, FailsToRead, LeavesOwn, Finds, FindsFirst, made_by, differing, ExplainsDifference};
 ghost use Rattle.tree.specs.Folded.{IsFoldOfLawful};
 ghost use Rattle.tree.specs.Lookup.{names_in};
-ghost use Rattle.tree.specs.Source.{Asks, AsksSome};
+ghost use Rattle.blob_source.specs.Source.{Asks, AsksSome};
 ghost use Rattle.tree.specs.TreeError.{Explains};
 
 use crate::difference::{Difference, FirstName, Unlike, first_name};
 use crate::error::TreeError;
 use crate::fetching::fetch_message;
 use crate::folding::Folded;
-use crate::source::BlobSource;
 use crate::unfolding::child_path;
 use blob_digest::Digest;
+use blob_source::BlobSource;
 use messages::{Directory, MessageError, Path};
 use std::alloc::{AllocError, Allocator};
 

@@ -1,10 +1,10 @@
 ghost use Rattle.std.specs.Prelude.{◌≡◌};
 ghost use Rattle.tree.specs.declared.error.AddError.TheVariants as adding;
 ghost use Rattle.tree.specs.declared.error.TreeError.TheVariants as errors;
-ghost use Rattle.tree.specs.TreeError.{of_fetch};
+ghost use Rattle.tree.specs.TreeError.{of_fetch, of_message};
 
-use crate::source::FetchError;
 use blob_digest::Digest;
+use blob_source::{FetchError, MessageFetchError};
 use messages::Path;
 use std::alloc::{AllocError, AllocFailed, Allocator};
 use thiserror::Error;
@@ -43,6 +43,20 @@ impl<A: Allocator> From<FetchError> for TreeError<A> {
         match error {
             FetchError::Failed => TreeError::Fetch,
             FetchError::Memory => TreeError::Memory,
+        }
+    }
+}
+
+impl<A: Allocator> From<MessageFetchError> for TreeError<A> {
+    ghost from_gives = { λ error e. e ≡ of_message error };
+
+    fn from(error: MessageFetchError) -> TreeError<A> {
+        match error {
+            MessageFetchError::Missing(digest) => TreeError::BlobMissing(digest),
+            MessageFetchError::Wrong(digest) => TreeError::BlobWrong(digest),
+            MessageFetchError::Malformed(digest) => TreeError::BlobMalformed(digest),
+            MessageFetchError::Failed => TreeError::Fetch,
+            MessageFetchError::Memory => TreeError::Memory,
         }
     }
 }

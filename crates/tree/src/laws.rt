@@ -1,16 +1,18 @@
-ghost use Rattle.std.specs.Prelude.{◌≡◌, ◌⊎◌, ◌↔◌, ℕ, bytes_eq, List, ◌∷◌, map, Some, Contains};
-ghost use Rattle.std.specs.List.{IsDistinct};
+ghost use Rattle.std.specs.Prelude.{◌≡◌, ◌≢◌, ◌⊎◌, ◌↔◌, ℕ, bytes_eq, List, ◌∷◌, map, Some, Contains};
+ghost use Rattle.std.specs.List.{AllByRecursion, IsDistinct};
 ghost use Rattle.blob_digest.specs.Digest.{DigestValue, NoClash};
-ghost use Rattle.messages.specs.DirectoryRules.{DirectoryValue};
+ghost use Rattle.messages.specs.DirectoryRules.{DirectoryValue, IsDirectory};
 ghost use Rattle.tree.specs.Tree.{Name, Tree, Entry, whole, Leaf, tree_at, stands_at, IsOrdered};
 ghost use Rattle.tree.specs.Folded.{first_visits};
 ghost use Rattle.tree.specs.declared.folding.Folded.{Folded};
 ghost use Rattle.tree.specs.FlatTree.{FlatValue, standing_in, IsListOf, IsFoldOfList};
 ghost use Rattle.tree.specs.Unfolded.{IsUnfolded};
 ghost use Rattle.tree.specs.Form.{NodeValue, form, top, root, entry_node, IsBlobOf, IsBlobAt};
-ghost use Rattle.tree.specs.Source.{Blobs};
-ghost use Rattle.tree.specs.Told.{Fault, TellsDirectory, FailsDirectory};
+ghost use Rattle.blob_source.specs.Source.{Blobs};
+ghost use Rattle.blob_source.specs.Told.{Fault, TellsDirectory, FailsDirectory};
 ghost use Rattle.tree.specs.Lookup.{Looked, Looks};
+ghost use Rattle.tree.specs.TrueDifference.{IsTrueDifference};
+ghost use Rattle.messages.specs.Directory.{directory_bytes};
 ghost use Rattle.tree.specs.Difference.{Differing, FindsFirst};
 ghost use Rattle.tree.specs.Graft.{graft, expand, HaveApartTargets, IsApart, IsGraftOf};
 
@@ -53,6 +55,26 @@ pub fn look_ups_are_single_valued()
     ensures faults { (blobs : Blobs) (d : DigestValue) (f g : Fault) → FailsDirectory blobs d f → FailsDirectory blobs d g → f ≡ g }
     ensures excluded { (blobs : Blobs) (d : DigestValue) (m : DirectoryValue) (f : Fault) → TellsDirectory blobs d m → FailsDirectory blobs d f → ⊥ }
     ensures looked { (blobs : Blobs) (d : DigestValue) (p : List Name) (r s : Looked) → Looks blobs d p r → Looks blobs d p s → r ≡ s }
+{}
+
+/// Whatever a source tells, a look-up comes to something, and two directories with different digests
+/// have a first difference; where it is that a Directory can't be read, that is what is found. It
+/// can't be that there is none. A law: it does nothing.
+pub fn answers_are_always_there()
+    ensures looked { (blobs : Blobs) (d : DigestValue) (p : List Name)
+        → ((r : Looked) → Looks blobs d p r → ⊥) → ⊥ }
+    ensures differs { (own : List (List ℕ)) (blobs : Blobs) (g r : DigestValue)
+        → AllByRecursion (λ b. (m : DirectoryValue) × IsDirectory m × (b ≡ directory_bytes m)) own
+        → g ≢ r
+        → ((x : Differing) → FindsFirst own blobs g r x → ⊥) → ⊥ }
+{}
+
+/// What is found as the first difference is one: by look-ups, the graft and the recorded directory
+/// have not the same at its path, and at each path before it they have, or directories both. A law:
+/// it does nothing.
+pub fn differences_are_true()
+    ensures { (own : List (List ℕ)) (blobs : Blobs) (g r : DigestValue) (x : Differing)
+        → FindsFirst own blobs g r x → IsTrueDifference own blobs g r x }
 {}
 
 /// What a graft's Directories and a source tell determines the first difference. A law: it does

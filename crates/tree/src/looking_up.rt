@@ -1,13 +1,13 @@
 ghost use Rattle.std.specs.Prelude.{◌≡◌, ◌<◌, IfOk, IfErr, IsErrOf, OnOk, length, option_map};
-ghost use Rattle.tree.specs.Source.{Asks};
+ghost use Rattle.blob_source.specs.Source.{Asks};
 ghost use Rattle.tree.specs.Form.{node_value};
 ghost use Rattle.tree.specs.Lookup.{Looks, TellsOfTrees, found, nothing, names_in, looked};
 ghost use Rattle.tree.specs.TreeError.{ExplainsLookup, IsAbsent};
 
 use crate::error::TreeError;
 use crate::fetching::fetch_message;
-use crate::source::BlobSource;
 use blob_digest::Digest;
+use blob_source::BlobSource;
 use messages::{Directory, Name, Node, Path};
 use std::alloc::Allocator;
 

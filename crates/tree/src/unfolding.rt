@@ -3,7 +3,7 @@ ghost use Rattle.std.specs.List.{AllByRecursion};
 ghost use Rattle.messages.specs.DirectoryRules.{directory_with, file_names, directory_names, symlink_names};
 ghost use Rattle.messages.specs.Order.{IsAscending, AreApart};
 ghost use Rattle.messages.specs.Path.{IsPath};
-ghost use Rattle.tree.specs.Source.{AsksSome};
+ghost use Rattle.blob_source.specs.Source.{AsksSome};
 ghost use Rattle.tree.specs.FlatTree.{IsFlatTree, flat_value};
 ghost use Rattle.tree.specs.Lookup.{names_in};
 ghost use Rattle.tree.specs.Unfolded.{IsUnfolded, ExplainsUnfold, directories_in};
@@ -12,8 +12,8 @@ ghost use Rattle.tree.specs.Unfolding.{child_values, made, AreChildren, Explains
 use crate::error::TreeError;
 use crate::fetching::fetch_message;
 use crate::flat_tree::{EntryMap, FlatEntry, FlatTree};
-use crate::source::BlobSource;
 use blob_digest::Digest;
+use blob_source::BlobSource;
 use messages::{
     Directory, DirectoryNode, FileNode, MessageError, Name, Node, Path, SymlinkNode, Target,
 };

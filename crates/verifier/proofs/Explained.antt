@@ -1,17 +1,16 @@
 -- Errors of calls on trees, as faults of what is checked.
 use Rattle.std.proofs.Common.{◌≡◌, refl, ℕ, zero, suc, ◌<◌, List, [], ◌∷◌, length, get_or, ap, sym, subst, arith}
 use Rattle.blob_digest.specs.Digest.{DigestValue}
-use Rattle.std.specs.Prelude.{Result, Err, IsErrOf, Some, slice_get}
+use Rattle.std.specs.Prelude.{Some, slice_get}
 use Rattle.actions.specs.Outcome.{OutcomeValue}
 use Rattle.actions.specs.OutcomeLookup.{LooksIn}
 use Rattle.plan.specs.Values.{source, output, LineValue, IsOrigin, IsLine}
 use Rattle.tree.specs.Tree.{Name}
-use Rattle.tree.specs.Source.{Blobs, Telling}
-use Rattle.tree.specs.Told as told
-use Rattle.tree.specs.Told.{missing, wrong, malformed}
+use Rattle.blob_source.specs.Source.{Blobs}
+use Rattle.blob_source.specs.Told as told
+use Rattle.blob_source.specs.Told.{IsTold, missing, wrong, malformed}
 use Rattle.tree.specs.Form.{NodeValue}
 use Rattle.tree.specs.Lookup.{Looked, fault, nothing, found, Looks}
-use Rattle.tree.specs.Source.{AsksSome}
 use Rattle.tree.specs.Difference.{unread, FindsFirst, ExplainsDifference}
 use Rattle.tree.specs.TreeError as errors
 use Rattle.tree.specs.TreeError.{ExplainsLookup}
@@ -21,9 +20,12 @@ use Rattle.verifier.specs.declared.verdict.Cause.{Cause}
 use Rattle.verifier.specs.declared.verdict.Cause.TheVariants.{BlobMissing, BlobWrong, BlobMalformed, OriginMissing}
 use Rattle.verifier.specs.declared.fault.Fault.{Fault}
 use Rattle.verifier.specs.declared.fault.Fault.TheVariants as faults
-use Rattle.verifier.specs.Accepted.{LooksAt}
-use Rattle.verifier.specs.Answers.{Explains, IsFaultOf, IsDifference}
-use Rattle.verifier.specs.Faults.{cause_of, Gives, LineFault}
+use Rattle.messages.specs.declared.node.Node.{Node}
+use Rattle.tree.specs.Lines.{lines_of}
+use Rattle.verifier.specs.Accepted.{LooksAt, Resolves}
+use Rattle.verifier.specs.Answers.{IsFaultOf, IsDifference}
+use Rattle.verifier.specs.Stage.{Explains}
+use Rattle.verifier.specs.Faults.{cause_of, IsCauseOfLook, LineFault}
 
 module _ {A : Type 0} where
   pub explains_map : (P Q : Cause A → Type 0) (f : Fault A) → ((c : Cause A) → P c → Q c) → Explains P f → Explains Q f
@@ -55,8 +57,8 @@ module _ {A : Type 0} where
       → Explains (LineFault B d os l) f
   line_explained B d os l p error f from h is = by error h is
     where
-      stands : (r : Looked) (c : Cause A) → Looks B d p r → Gives (source p) r c → f ≡ faults.Cause c → Explains (LineFault B d os l) f
-      stands r c look gives is = subst (Explains (LineFault B d os l)) (sym is) (r, subst (λ o. LooksAt B d os o r) (sym from) look, subst (λ o. Gives o r c) (sym from) gives)
+      stands : (r : Looked) (c : Cause A) → Looks B d p r → IsCauseOfLook (source p) r c → f ≡ faults.Cause c → Explains (LineFault B d os l) f
+      stands r c look gives is = subst (Explains (LineFault B d os l)) (sym is) (r, subst (λ o. LooksAt B d os o r) (sym from) look, subst (λ o. IsCauseOfLook o r c) (sym from) gives)
 
       by : (error : TreeError A) → ExplainsLookup B d p error → IsFaultOf error f → Explains (LineFault B d os l) f
       by (tree.Absent q) h is = stands nothing (OriginMissing q) h.1 (ap OriginMissing h.0) is
@@ -85,12 +87,13 @@ pub output_missing : {A : Type 0} (B : Blobs) (d : DigestValue) (os : List Outco
 output_missing {A} B d os l step p o q line from is look same = (
   nothing,
   subst (λ origin. LooksAt B d os origin nothing) (sym from) (o, named_outcome os l step p o line from is, look),
-  subst (λ origin. Gives {A = A} origin nothing (OriginMissing q)) (sym from) (ap OriginMissing same),
+  subst (λ origin. IsCauseOfLook {A = A} origin nothing (OriginMissing q)) (sym from) (ap OriginMissing same),
 )
 
--- a failure of a later call is one of all calls
-pub later_failure : {T U E : Type 0} {old mid new : Telling} (y x : E) → AsksSome old mid → (IsErrOf {T = T} (Err y) x → mid.failures < new.failures) → AsksSome mid new → IsErrOf {T = U} (Err y) x → old.failures < new.failures
-later_failure {T} {U} {E} {old} {mid} {new} y x h rises later e = let same : y ≡ x = cc in omega (arith, h.asks.failures, rises (ap Err same))
+-- ---- what was told, as it is named elsewhere
 
-pub error_is : {T E : Type 0} (x y : E) → ◌≡◌ {A = Result T E} (Err x) (Err y) → x ≡ y
-error_is x y e = cc
+pub told_at : {M : Type 0} {keeps : M → Type 0} {spells : M → List ℕ} {B : Blobs} {d e : DigestValue} {m : M} → d ≡ e → IsTold keeps spells B d m → IsTold keeps spells B e m
+told_at {M} {keeps} {spells} {B} {d} {e} {m} same told = subst (λ x. IsTold keeps spells B x m) same told
+
+pub resolves_at : {A : Type 0} (B : Blobs) (d : DigestValue) (os : List OutcomeValue) (ls ls' : List LineValue) (ns ns' : List (List Name × Node A)) → ls ≡ ls' → ns ≡ ns' → Resolves B d os ls (lines_of ns) → Resolves B d os ls' (lines_of ns')
+resolves_at B d os ls ls' ns ns' same same' h = subst (λ l. Resolves B d os l (lines_of ns')) same (subst (λ n. Resolves B d os ls (lines_of n)) same' h)

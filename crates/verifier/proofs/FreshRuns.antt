@@ -8,14 +8,17 @@ use Rattle.blob_digest.specs.Digest.{DigestValue, digest_of, NoClash}
 use Rattle.messages.specs.Directory.{directory_bytes}
 use Rattle.messages.specs.declared.node.Node.TheVariants.{Dir}
 use Rattle.messages.specs.Tree.{TreeValue, IsTree, tree_bytes}
-use Rattle.actions.specs.Action.{ActionValue, with_input, action_bytes}
-use Rattle.actions.specs.ActionResult.{ActionResultValue, action_result_bytes}
-use Rattle.actions.specs.Command.{CommandValue, command_bytes}
-use Rattle.actions.specs.Frame.{FrameValue, frame_bytes}
+use Rattle.action_messages.specs.Action.{ActionValue, with_input, action_bytes}
+use Rattle.action_messages.specs.ActionResult.{ActionResultValue}
+use Rattle.action_messages.specs.Command.{CommandValue, command_bytes}
+use Rattle.action_messages.specs.Frame.{FrameValue, frame_bytes}
 use Rattle.actions.specs.Outcome.{OutputValue, OutcomeValue}
 use Rattle.actions.specs.OutcomeLookup.{LooksIn}
-use Rattle.actions.specs.Recorded.{RecordedValue, file, directory, link, StandForAll}
-use Rattle.actions.proofs.EncodedOnce.{frame_bytes_injective, action_bytes_injective, command_bytes_injective, action_result_bytes_injective}
+use Rattle.action_messages.specs.Outputs.{RecordedValue, file, directory, link}
+use Rattle.actions.specs.Recorded.{StandForAll}
+use Rattle.actions.proofs.EncodedOnce.{frame_bytes_injective, action_bytes_injective, command_bytes_injective}
+use Rattle.action_messages.specs.Reads.{Reads}
+use Rattle.action_messages.proofs.ReadOnce.{reads_once}
 use Rattle.actions.proofs.RecordedAt.{recorded_at}
 use Rattle.actions.proofs.TreeBytes.{tree_bytes_some}
 use Rattle.actions.proofs.Rooms.{holds_at}
@@ -23,8 +26,8 @@ use Rattle.plan.specs.Values.{OriginValue, source, output, LineValue, StepValue,
 use Rattle.tree.specs.Tree.{Name, Tree, Leaf, Entry, whole, IsOrdered, IsOrderedEntry}
 use Rattle.tree.specs.Form.{NodeValue, entry_node, form, top, root, IsBlobOf}
 use Rattle.tree.specs.Graft.{graft, expand}
-use Rattle.tree.specs.Source.{Blobs, IsUnder, IsBlobUnder}
-use Rattle.tree.specs.Told.{IsTold, TellsDirectory, FailsDirectory}
+use Rattle.blob_source.specs.Source.{Blobs, IsUnder, IsBlobUnder}
+use Rattle.blob_source.specs.Told.{IsTold, TellsDirectory, FailsDirectory}
 use Rattle.tree.specs.Lookup.{found, LooksFrom, IsValue}
 use Rattle.tree.proofs.GraftRoots.{root-graft}
 use Rattle.tree.proofs.LookupLemmas.{looks_from, told_reads}
@@ -42,7 +45,7 @@ use Rattle.verifier.proofs.RecordedSteps.{get_other, as_many, IsRecordedStep, st
 -- ---- lists and options
 
 -- two answers of one look-up are one
-one_answer : {X : Type 0} (o : Option X) (x y : X) → o ≡ Some x → o ≡ Some y → x ≡ y
+pub one_answer : {X : Type 0} (o : Option X) (x y : X) → o ≡ Some x → o ≡ Some y → x ≡ y
 one_answer o x y e f = let both : ◌≡◌ {A = Option _} (Some x) (Some y) = sym e ∙ f in cc
 
 -- what a look-up finds is one of the entries
@@ -62,7 +65,7 @@ abbrev nodes_of : List (List Name × Entry Leaf) → List (List Name × NodeValu
 nodes_of es = map (λ e. (e.0, entry_node e.1)) es
 
 -- an outcome's output at a path is in order
-output_ordered : (os : List (List Name × Entry Leaf)) (p : List Name) → AllByRecursion (λ (e : List Name × Entry Leaf). IsOrderedEntry e.1) os → IsOrderedAt (output_at os p)
+pub output_ordered : (os : List (List Name × Entry Leaf)) (p : List Name) → AllByRecursion (λ (e : List Name × Entry Leaf). IsOrderedEntry e.1) os → IsOrderedAt (output_at os p)
 output_ordered [] p h = tt
 output_ordered (o ∷ os) p h = elim (below_path o.0 p) as (λ q. IsOrderedAt (output_from q o.1 (output_at os p))) [ None ↦ output_ordered os p h.1 | Some q ↦ ordered_at q (Some o.1) h.0 ]
 
@@ -77,7 +80,7 @@ pub record Within (S : List ℕ → Type 0) (B : Blobs) (t : Tree Leaf) (chosen 
 
 module _ (S : List ℕ → Type 0) (apart : NoClash S) where
   -- what a source tells under a digest is each blob of the set with that digest
-  told_bytes : (B : Blobs) (d : DigestValue) (bytes other : List ℕ) → ((b : List ℕ) → IsValue B b → S b) → IsBlobUnder B d bytes → S other → digest_of other ≡ d → bytes ≡ other
+  pub told_bytes : (B : Blobs) (d : DigestValue) (bytes other : List ℕ) → ((b : List ℕ) → IsValue B b → S b) → IsBlobUnder B d bytes → S other → digest_of other ≡ d → bytes ≡ other
   told_bytes B d bytes other values told within is = by told.held
     where
       by : IsUnder B d (Some bytes) → bytes ≡ other
@@ -128,8 +131,9 @@ module _ (S : List ℕ → Type 0) (apart : NoClash S) where
       -- the result that was recorded is one
       same_result : (i : ℕ) (s : StepValue) (c : Chosen i s) → c.kept.step.result ≡ c.recorded_as.result
       same_result i s c =
-          action_result_bytes_injective c.kept.step.result c.recorded_as.result c.kept.step.lawful c.recorded_as.told.lawful
-          (one_answer (C c.kept.digest) (action_result_bytes c.kept.step.result) (action_result_bytes c.recorded_as.result) c.kept.step.held c.recorded_as.told.held)
+          let h = c.kept.step.held in
+          let k = c.recorded_as.held in
+          reads_once c.kept.step.result c.recorded_as.result h.0 h.2 (subst (Reads c.recorded_as.result) (one_answer (C c.kept.digest) k.0 h.0 k.1 h.1) k.2)
 
       -- the chosen outcome has exit code 0
       succeeds : (i : ℕ) (s : StepValue) (c : Chosen i s) → c.pair.1.exit_code ≡ pos 0

@@ -4,7 +4,7 @@ use Rattle.std.specs.Prelude.{ℕ, Result, Ok, Err, IfOk}
 use Rattle.blob_digest.specs.Digest.{DigestValue}
 use Rattle.plan.specs.Values.{PlanValue}
 use Rattle.tree.specs.Tree.{Tree, Leaf}
-use Rattle.tree.specs.Source.{Blobs}
+use Rattle.blob_source.specs.Source.{Blobs, Telling}
 use Rattle.verifier.specs.declared.verdict.Verdict.{Verdict}
 use Rattle.verifier.specs.AsRecorded.{IsPlanAsRecorded}
 use Rattle.verifier.specs.Build.{Meaning, ActionMeaning, Outcome, Event}
@@ -51,11 +51,11 @@ module _ (B C : Blobs) (sources : DigestValue) (plan : PlanValue) (ds : List Dig
   }
 
 -- so a yes says both
-module _ {A E : Type 0} (B C : Blobs) (sources : DigestValue) (plan : PlanValue) (ds : List DigestValue) (claim : DigestValue) where
-  pub answers_hold : (answer : Result (Verdict A) E) → IfOk answer (IsVerdict B C sources plan ds claim) → IfOk answer (λ v. IsYes v → EveryRunEndsIn B C sources plan ds claim)
-  answers_hold (Ok v) h = λ yes. recorded_ends B C sources plan ds claim (yes_recorded B C sources plan ds claim v h yes)
+module _ {A E : Type 0} (t : Telling) (sources : DigestValue) (plan : PlanValue) (ds : List DigestValue) (claim : DigestValue) where
+  pub answers_hold : (answer : Result (Verdict A) E) → IfOk answer (IsVerdict t sources plan ds claim) → IfOk answer (λ v. IsYes v → EveryRunEndsIn t.blobs t.results sources plan ds claim)
+  answers_hold (Ok v) h = λ yes. recorded_ends t.blobs t.results sources plan ds claim (yes_recorded A t sources plan ds claim v h yes)
   answers_hold (Err e) h = tt
 
-  pub answers_unstuck : (answer : Result (Verdict A) E) → IfOk answer (IsVerdict B C sources plan ds claim) → IfOk answer (λ v. IsYes v → NoRunIsStuck B C sources plan ds)
-  answers_unstuck (Ok v) h = λ yes. recorded_unstuck B C sources plan ds claim (yes_recorded B C sources plan ds claim v h yes)
+  pub answers_unstuck : (answer : Result (Verdict A) E) → IfOk answer (IsVerdict t sources plan ds claim) → IfOk answer (λ v. IsYes v → NoRunIsStuck t.blobs t.results sources plan ds)
+  answers_unstuck (Ok v) h = λ yes. recorded_unstuck t.blobs t.results sources plan ds claim (yes_recorded A t sources plan ds claim v h yes)
   answers_unstuck (Err e) h = tt

@@ -15,4 +15,12 @@ pub mod RecordedSteps
 pub mod FreshRuns
 pub mod Explained
 pub mod Checking
+pub mod Stages
+pub mod ChecksThen
+pub mod StageLaws
+pub mod StepLaws
 pub mod CheckingSteps
+pub mod NoAtStep
+pub mod StageTotals
+pub mod Totals
+pub mod VerdictTotal

@@ -10,8 +10,8 @@ use Rattle.std.specs.List.{AllByRecursion}
 use Rattle.plan.specs.Values.{OriginValue, source, output, LineValue, IsLine}
 use Rattle.tree.specs.Tree.{Name}
 use Rattle.tree.specs.Form.{NodeValue}
-use Rattle.tree.specs.Source.{Blobs, Grows}
-use Rattle.tree.specs.Told.{TellsDirectory, FailsDirectory}
+use Rattle.blob_source.specs.Source.{Blobs, Grows}
+use Rattle.blob_source.specs.Told.{TellsDirectory, FailsDirectory}
 use Rattle.tree.specs.Lookup.{found, LooksFrom}
 use Rattle.tree.proofs.Descent.{told_still}
 use Rattle.verifier.specs.declared.verdict.Cause.{Cause}

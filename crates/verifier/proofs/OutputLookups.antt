@@ -24,9 +24,9 @@ use Rattle.tree.proofs.DirectoryBytes.{directory_bytes_injective}
 use Rattle.tree.proofs.TreeDigests.{lawful_digests, tree_digests}
 use Rattle.tree.proofs.OrderLemmas.{entry_ordered}
 use Rattle.tree.proofs.LookupLemmas.{ReadsTrees, looks_from, entry_blobs}
-use Rattle.verifier.specs.Build.{Outcome, IsOutcome, below_path, output_from, output_at}
+use Rattle.verifier.specs.Build.{Outcome, IsTreeOutcome, below_path, output_from, output_at}
 use Rattle.verifier.specs.Headline.{IsBlobOfEntry, IsBlobOfOutcome}
-use Rattle.verifier.specs.Recorded.{outputs_form}
+use Rattle.verifier.specs.Recorded.{entries_form}
 
 -- ---- what an outcome has below one of its paths
 
@@ -90,14 +90,14 @@ output_found (o ∷ os) p e is = by (below_path o.0 p) refl is (output_found os 
 -- ---- the Trees that a source has
 
 -- what a mapped list holds comes from the list
-mapped_from : {X Y : Type 0} (f : X → Y) (xs : List X) (y : Y) → Contains (map f xs) y → (x : X) × Contains xs x × (f x ≡ y)
+pub mapped_from : {X Y : Type 0} (f : X → Y) (xs : List X) (y : Y) → Contains (map f xs) y → (x : X) × Contains xs x × (f x ≡ y)
 mapped_from f [] y (k, lt, e) = absurd (omega arith)
 mapped_from f (x ∷ xs) y (zero, lt, e) = (x, (0, omega arith, refl), e)
 mapped_from f (x ∷ xs) y (suc k, lt, e) = let h = mapped_from f xs y (k, omega (arith, lt), e) in (h.0, behind x xs h.0 h.1, h.2)
 
 module _ (S : List ℕ → Type 0) (apart : NoClash S) where
   -- a Directory with a tree's digest is the tree's
-  directory_is : (u : Tree Leaf) (m : DirectoryValue) → IsDirectory m → S (directory_bytes m) → S (top (form u)) → digest_of (directory_bytes m) ≡ root (form u) → m ≡ directory_of (form u)
+  pub directory_is : (u : Tree Leaf) (m : DirectoryValue) → IsDirectory m → S (directory_bytes m) → S (top (form u)) → digest_of (directory_bytes m) ≡ root (form u) → m ≡ directory_of (form u)
   directory_is u m lawful held own is = directory_bytes_injective m (directory_of (form u)) (lawful_digests m lawful) (tree_digests u) (apart (directory_bytes m) (top (form u)) held own is)
 
   -- the Directories of a Tree are among the blobs
@@ -110,7 +110,7 @@ module _ (S : List ℕ → Type 0) (apart : NoClash S) where
   HoldsOutput (outputs.Link target) = Unit {0}
   HoldsOutput (outputs.Tree t) = HoldsTree t
 
-  reads_tree : (t : TreeValue) → HoldsTree t → ReadsTrees S (IsFirstChild t)
+  pub reads_tree : (t : TreeValue) → HoldsTree t → ReadsTrees S (IsFirstChild t)
   reads_tree t h u m own c =
       let inside : Contains t.children m = subst (λ l. Contains l m) (sym c.stands) (Contains-append_right c.before (m ∷ c.behind) m (0, omega arith, refl)) in
       directory_is u m (all_at IsDirectory t.children m h.lawful.children inside) (h.held m (behind t.root t.children m inside)) own c.right
@@ -132,8 +132,8 @@ module _ (S : List ℕ → Type 0) (apart : NoClash S) where
       looks_from (IsFirstChild t) NoFault S (reads_tree t h) q (entry_of n u) (found y) (entry_ordered n u ordered) (λ b k. own b (inr (entry_blobs n u b k))) rest
 
   -- each node of a recorded outcome stands in the outcome at the same path
-  pub outputs_tell : (o : Outcome) (v : OutcomeValue) → IsOutcome o → ((b : List ℕ) → IsBlobOfOutcome o b → S b) → ((e : List Name × OutputValue) → Contains v.outputs e → HoldsOutput e.1)
-      → ((p : List Name) (x : NodeValue) → Contains (recorded.outputs_form v.outputs) (p, x) → Contains (outputs_form o.outputs) (p, x))
+  pub outputs_tell : (o : Outcome) (v : OutcomeValue) → IsTreeOutcome o → ((b : List ℕ) → IsBlobOfOutcome o b → S b) → ((e : List Name × OutputValue) → Contains v.outputs e → HoldsOutput e.1)
+      → ((p : List Name) (x : NodeValue) → Contains (recorded.outputs_form v.outputs) (p, x) → Contains (entries_form o.outputs) (p, x))
       → (p : List Name) (x : NodeValue) → LooksIn v p (found x) → option_map entry_node (output_at o.outputs p) ≡ Some x
   outputs_tell o v lawful own held same p x (inr (all, none)) = absurd cc
   outputs_tell o v lawful own held same p x (inl (e, inside, q, path, look)) =

@@ -7,7 +7,7 @@ use Rattle.actions.specs.Outcome.{OutcomeValue}
 use Rattle.plan.specs.Values.{OriginValue, source, output, LineValue, StepValue}
 use Rattle.tree.specs.Tree.{Name}
 use Rattle.tree.specs.Form.{NodeValue}
-use Rattle.tree.specs.Source.{Blobs}
+use Rattle.blob_source.specs.Source.{Blobs}
 use Rattle.tree.specs.Lookup.{Looked}
 use Rattle.verifier.specs.Accepted.{LooksAt, Resolves}
 use Rattle.verifier.specs.AsRecorded.{IsAsRecorded, AreAsRecorded}
@@ -82,7 +82,6 @@ module _ (B C : Blobs) (src : DigestValue) where
     command_told = h.command_told;
     resolved = subst (λ os. Resolves B src os s.lines h.nodes) (sym e) (resolves_more before more s.lines h.nodes h.resolved);
     input = h.input;
-    lawful = h.lawful;
     held = h.held;
     exit_code = h.exit_code;
     recorded = h.recorded;

@@ -9,7 +9,7 @@ use Rattle.plan.specs.Plan as plans
 use Rattle.tree.specs.Tree.{Name}
 use Rattle.tree.specs.Form.{NodeValue}
 use Rattle.tree.specs.Graft.{IsApart, HaveApartTargets}
-use Rattle.tree.specs.Source.{Blobs}
+use Rattle.blob_source.specs.Source.{Blobs}
 use Rattle.verifier.specs.Accepted.{Resolves, targets}
 
 all_nodes : (P : List Name → Type 0) (B : Blobs) (d : DigestValue) (os : List OutcomeValue) (ls : List LineValue) (xs : List (List Name × NodeValue)) → Resolves B d os ls xs → AllByRecursion (λ (k : List Name × OriginValue). P k.0) (targets ls) → AllByRecursion (λ (k : List Name × NodeValue). P k.0) xs

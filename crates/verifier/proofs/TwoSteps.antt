@@ -14,17 +14,17 @@ use Rattle.messages.specs.Path.{IsPath}
 use Rattle.messages.specs.Tree.{IsTree, tree_bytes}
 use Rattle.messages.proofs.Names.{IsName-from}
 use Rattle.messages.proofs.Paths.{one_name}
-use Rattle.actions.specs.Action.{with_input, action_bytes}
-use Rattle.actions.specs.Command.{CommandValue, IsCommand, command_bytes, texts_checked, lists_checked}
-use Rattle.actions.specs.Frame.{FrameValue, IsFrame, frame_bytes}
-use Rattle.actions.proofs.Commands.{command_made}
+use Rattle.action_messages.specs.Action.{with_input, action_bytes}
+use Rattle.action_messages.specs.Command.{CommandValue, IsCommand, command_bytes, texts_checked, lists_checked}
+use Rattle.action_messages.specs.Frame.{FrameValue, IsFrame, frame_bytes}
+use Rattle.action_messages.proofs.Commands.{command_made}
 use Rattle.tree.specs.Tree.{empty}
 use Rattle.tree.specs.Form.{form, root}
 use Rattle.tree.proofs.TreeDigests.{IsDigest-digest_of}
 use Rattle.plan.specs.Line.{is_step_name_byte}
 use Rattle.plan.specs.Plan.{IsPlan}
 use Rattle.plan.specs.Values.{output, StepValue}
-use Rattle.verifier.specs.Build.{ActionMeaning, Outcome, IsActionMeaning, IsOutcome, StepFits, MeaningFits, IsTable}
+use Rattle.verifier.specs.Build.{ActionMeaning, Outcome, IsActionMeaning, IsTreeOutcome, StepFits, MeaningFits, IsTable}
 use Rattle.verifier.specs.TwoSteps as two
 
 -- ---- digests
@@ -133,13 +133,13 @@ fits = record { steps = by }
         (two.uses.0.frame, two.uses.0.command, refl, refl, record { frame_lawful = use_frame_lawful; command_lawful = use_command_lawful; frame_digest = use_frame_named ∙ frame; command_digest = sym use_command_named })
     by (suc (suc i)) step at = absurd cc
 
-gen_lawful : IsActionMeaning two.gen.0 × IsOutcome two.gen.1
+gen_lawful : IsActionMeaning two.gen.0 × IsTreeOutcome two.gen.1
 gen_lawful = (
   record { frame = gen_frame_lawful; command = gen_command_lawful; named = sym gen_command_named; input = tt },
   record { apart = ((λ e. absurd cc), tt, tt); outputs = ((tt, tt), tt) },
 )
 
-use_lawful : IsActionMeaning two.uses.0 × IsOutcome two.uses.1
+use_lawful : IsActionMeaning two.uses.0 × IsTreeOutcome two.uses.1
 use_lawful = (
   record { frame = use_frame_lawful; command = use_command_lawful; named = sym use_command_named; input = (tt, (tt, tt), tt) },
   record { apart = ((λ e. absurd cc), tt, tt); outputs = (tt, tt) },
@@ -161,9 +161,9 @@ table_lawful = record { same = same; actions = each }
     same a o p (suc zero, lt, e) (suc (suc k), mt, f) = absurd (omega (arith, mt))
     same a o p (suc (suc j), lt, e) c = absurd (omega (arith, lt))
 
-    each : (a : ActionMeaning) (o : Outcome) → Contains two.table (a, o) → IsActionMeaning a × IsOutcome o
-    each a o (zero, lt, e) = subst (λ (z : ActionMeaning × Outcome). IsActionMeaning z.0 × IsOutcome z.1) e gen_lawful
-    each a o (suc zero, lt, e) = subst (λ (z : ActionMeaning × Outcome). IsActionMeaning z.0 × IsOutcome z.1) e use_lawful
+    each : (a : ActionMeaning) (o : Outcome) → Contains two.table (a, o) → IsActionMeaning a × IsTreeOutcome o
+    each a o (zero, lt, e) = subst (λ (z : ActionMeaning × Outcome). IsActionMeaning z.0 × IsTreeOutcome z.1) e gen_lawful
+    each a o (suc zero, lt, e) = subst (λ (z : ActionMeaning × Outcome). IsActionMeaning z.0 × IsTreeOutcome z.1) e use_lawful
     each a o (suc (suc k), lt, e) = absurd (omega (arith, lt))
 
 -- ---- the plan is lawful

@@ -15,9 +15,9 @@ use Rattle.blob_digest.specs.Digest.{DigestValue, digest_of, digest_cmp, NoClash
 use Rattle.messages.specs.Directory.{directory_bytes}
 use Rattle.messages.specs.DirectoryRules.{DirectoryValue}
 use Rattle.messages.specs.Tree.{TreeValue, tree_bytes}
-use Rattle.actions.specs.Action.{with_input, action_bytes}
-use Rattle.actions.specs.Command.{command_bytes}
-use Rattle.actions.specs.Frame.{frame_bytes}
+use Rattle.action_messages.specs.Action.{with_input, action_bytes}
+use Rattle.action_messages.specs.Command.{command_bytes}
+use Rattle.action_messages.specs.Frame.{frame_bytes}
 use Rattle.actions.proofs.TreeBytes.{tree_bytes_injective}
 use Rattle.actions.proofs.TreeLookups.{behind, holds_mapped}
 use Rattle.tree.specs.Tree.{Name, Tree, empty, leaf, Leaf, file, Entry}
@@ -65,10 +65,10 @@ all_digests =
     two.gen_frame_digest ∷
     two.use_frame_digest ∷
     two.sources ∷
-    two.named (codes "a8ad7cf07ab5ff95d41832e5f811cf591228eeb51d4886871a776a82245d5712") 75 ∷
+    two.digest_named (codes "a8ad7cf07ab5ff95d41832e5f811cf591228eeb51d4886871a776a82245d5712") 75 ∷
     two.input_digest ∷
-    two.named (codes "2b127d56dfb9a5f0dc5f3ef28b22d5dda3fa6e156c4bed3f304e23b21ae8136b") 75 ∷
-    two.named (codes "15e2b0d3c33891ebb0f1ef609ec419420c20e320ce94c65fbc8c3312448eb225") 9 ∷
+    two.digest_named (codes "2b127d56dfb9a5f0dc5f3ef28b22d5dda3fa6e156c4bed3f304e23b21ae8136b") 75 ∷
+    two.digest_named (codes "15e2b0d3c33891ebb0f1ef609ec419420c20e320ce94c65fbc8c3312448eb225") 9 ∷
     two.newline_digest ∷
     []
 

@@ -1,5 +1,13 @@
 -- The build of two steps is as recorded.
-use Rattle.std.proofs.Common.{◌≡◌, ℕ, suc, List, [], ◌∷◌, Some, refl, ap, sym, subst, arith, inl, inr, false}
+use Rattle.std.proofs.Common.{◌≡◌, ℕ, zero, suc, Bool, true, ltb, ◌&&◌, List, [], ◌∷◌, Some, refl, ap, sym, subst, arith, inl, inr, false, lit<}
+use Rattle.std.specs.List.{list_all}
+use Rattle.std.proofs.lemmas.Bool.{ltb-true}
+use Rattle.wire.specs.Bytes.{IsBytes, AreBytes}
+use Rattle.wire.specs.Varint.{varint, groups}
+use Rattle.action_messages.specs.OutputFile.{output_file_bytes}
+use Rattle.action_messages.specs.OutputDirectory.{output_directory_bytes}
+use Rattle.action_messages.proofs.Written.{canon_reads}
+use Rattle.verifier.specs.Holding.{HoldsResult}
 use Rattle.std.specs.Prelude.{FitsSigned, pos, codes}
 use Rattle.std.specs.Int.{w32}
 use Rattle.hex.specs.Hex.{encode_with, decode_pairs}
@@ -10,14 +18,15 @@ use Rattle.messages.specs.declared.node.Node.TheVariants as nodes
 use Rattle.messages.specs.Directory.{directory_bytes}
 use Rattle.messages.specs.Tree.{IsTree, tree_bytes}
 use Rattle.actions.specs.declared.outcome.Output.TheVariants as outputs
-use Rattle.actions.specs.Action.{with_input, IsAction, action_bytes}
-use Rattle.actions.specs.ActionResult.{IsActionResult, action_result_bytes}
+use Rattle.action_messages.specs.Action.{with_input, IsAction, action_bytes}
+use Rattle.action_messages.specs.ActionResult.{IsActionResult, action_result_bytes}
 use Rattle.actions.specs.Outcome.{OutcomeValue}
-use Rattle.actions.specs.Recorded.{file, directory, IsRecorded}
-use Rattle.actions.specs.Command.{IsCommand, command_bytes}
+use Rattle.action_messages.specs.Outputs.{file, directory}
+use Rattle.actions.specs.Recorded.{IsRecorded}
+use Rattle.action_messages.specs.Command.{IsCommand, command_bytes}
 use Rattle.tree.specs.Tree.{empty}
 use Rattle.tree.specs.Form.{form, root, top}
-use Rattle.tree.specs.Told.{IsTold}
+use Rattle.blob_source.specs.Told.{IsTold}
 use Rattle.tree.proofs.TreeDigests.{IsDigest-digest_of}
 use Rattle.plan.specs.Values.{output}
 use Rattle.tree.specs.Graft.{graft}
@@ -43,8 +52,8 @@ use_command_kept : two.blobs two.use_command_digest ≡ Some (command_bytes two.
 unfolding two.gen_action_digest two.use_action_digest two.gen_command_digest two.use_command_digest decode_pairs
 use_command_kept = refl
 
-tree_kept : two.blobs two.tree_digest ≡ Some (tree_bytes two.gen_tree)
-unfolding two.gen_action_digest two.use_action_digest two.gen_command_digest two.use_command_digest two.tree_digest decode_pairs
+pub tree_kept : two.blobs two.tree_digest ≡ Some (tree_bytes two.gen_tree)
+unfolding two.gen_action_digest two.use_action_digest two.gen_command_digest two.use_command_digest two.tree_digest decode_pairs encode_with
 tree_kept = refl
 
 pub gen_result_kept : two.results two.gen_action_digest ≡ Some (action_result_bytes two.gen_result)
@@ -63,23 +72,23 @@ sized d n is e = let size = ap (λ (x : DigestValue). x.size) e in absurd (omega
 stored : {M : Type 0} (keeps : M → Type 0) (spells : M → List ℕ) (d : DigestValue) (m : M) → keeps m → digest_of (spells m) ≡ d → (d ≡ digest_of [] → ⊥) → two.blobs d ≡ Some (spells m) → IsTold keeps spells two.blobs d m
 stored keeps spells d m lawful named some kept = record { lawful = lawful; blob = record { held = inr (some, sym kept); right = named } }
 
-gen_action_told : IsTold IsAction action_bytes two.blobs two.gen_action_digest (with_input two.gen.0.frame two.sources)
+pub gen_action_told : IsTold IsAction action_bytes two.blobs two.gen_action_digest (with_input two.gen.0.frame two.sources)
 unfolding two.gen_action_digest
 gen_action_told =
     stored IsAction action_bytes two.gen_action_digest (with_input two.gen.0.frame two.sources) (record { frame = gen_frame_lawful; input = subst IsDigest sources_named (IsDigest-digest_of (top (form empty))) })
     gen_action_named (sized two.gen_action_digest 137 refl) gen_action_kept
 
-use_action_told : IsTold IsAction action_bytes two.blobs two.use_action_digest (with_input two.uses.0.frame two.input_digest)
+pub use_action_told : IsTold IsAction action_bytes two.blobs two.use_action_digest (with_input two.uses.0.frame two.input_digest)
 unfolding two.use_action_digest
 use_action_told =
     stored IsAction action_bytes two.use_action_digest (with_input two.uses.0.frame two.input_digest) (record { frame = use_frame_lawful; input = subst IsDigest input_named (IsDigest-digest_of (top (form two.data_input))) })
     use_action_named (sized two.use_action_digest 139 refl) use_action_kept
 
-gen_command_told : IsTold IsCommand command_bytes two.blobs two.gen_command_digest two.gen.0.command
+pub gen_command_told : IsTold IsCommand command_bytes two.blobs two.gen_command_digest two.gen.0.command
 unfolding two.gen_command_digest
 gen_command_told = stored IsCommand command_bytes two.gen_command_digest two.gen.0.command gen_command_lawful gen_command_named (sized two.gen_command_digest 15 refl) gen_command_kept
 
-use_command_told : IsTold IsCommand command_bytes two.blobs two.use_command_digest two.uses.0.command
+pub use_command_told : IsTold IsCommand command_bytes two.blobs two.use_command_digest two.uses.0.command
 unfolding two.use_command_digest
 use_command_told = stored IsCommand command_bytes two.use_command_digest two.uses.0.command use_command_lawful use_command_named (sized two.use_command_digest 15 refl) use_command_kept
 
@@ -92,7 +101,7 @@ tree_told = stored IsTree tree_bytes two.tree_digest two.gen_tree gen_tree_lawfu
 zero_fits : FitsSigned w32 (pos 0)
 zero_fits = omega arith
 
-pub gen_result_lawful : IsActionResult two.gen_result
+gen_result_lawful : IsActionResult two.gen_result
 gen_result_lawful = record {
   files = tt;
   directories = (record { path = out_path; tree = subst IsDigest tree_named (IsDigest-digest_of (tree_bytes two.gen_tree)) }, tt);
@@ -103,7 +112,7 @@ gen_result_lawful = record {
   stderr = record { digest = tt };
 }
 
-pub use_result_lawful : IsActionResult two.use_result
+use_result_lawful : IsActionResult two.use_result
 use_result_lawful = record {
   files = (record { path = res_path; digest = subst IsDigest newline_named (IsDigest-digest_of (10 ∷ [])) }, tt);
   directories = tt;
@@ -114,6 +123,35 @@ use_result_lawful = record {
   stderr = record { digest = tt };
 }
 
+-- ---- the results are read again
+
+bytes_fit : (bytes : List ℕ) → list_all (λ b. ltb b 256) bytes ≡ true → IsBytes bytes
+bytes_fit [] e i = lit< tt
+bytes_fit (b ∷ bytes) e zero = ltb-true b 256 (both (ltb b 256) (list_all (λ c. ltb c 256) bytes) e).0
+  where
+    both : (x y : Bool) → (x && y) ≡ true → (x ≡ true) × (y ≡ true)
+    both true y h = (refl, h)
+    both false y h = absurd cc
+bytes_fit (b ∷ bytes) e (suc i) = bytes_fit bytes (rest (ltb b 256) (list_all (λ c. ltb c 256) bytes) e) i
+  where
+    rest : (x y : Bool) → (x && y) ≡ true → y ≡ true
+    rest true y h = h
+    rest false y h = absurd cc
+
+gen_result_bytes : AreBytes (action_result_bytes two.gen_result)
+unfolding action_result_bytes output_directory_bytes varint groups two.tree_digest decode_pairs encode_with
+gen_result_bytes = (lit< tt, bytes_fit (action_result_bytes two.gen_result) refl)
+
+use_result_bytes : AreBytes (action_result_bytes two.use_result)
+unfolding action_result_bytes output_file_bytes varint groups two.newline_digest decode_pairs encode_with
+use_result_bytes = (lit< tt, bytes_fit (action_result_bytes two.use_result) refl)
+
+pub gen_result_held : HoldsResult two.results two.gen_action_digest two.gen_result
+gen_result_held = (action_result_bytes two.gen_result, gen_result_kept, canon_reads (action_result_bytes two.gen_result) two.gen_result gen_result_bytes gen_result_lawful refl)
+
+pub use_result_held : HoldsResult two.results two.use_action_digest two.use_result
+use_result_held = (action_result_bytes two.use_result, use_result_kept, canon_reads (action_result_bytes two.use_result) two.use_result use_result_bytes use_result_lawful refl)
+
 -- what the results stand for
 abbrev gen_outcome : OutcomeValue
 gen_outcome = record { exit_code = pos 0; outputs = (codes "out" ∷ [], outputs.Tree two.gen_tree) ∷ [] }
@@ -121,7 +159,7 @@ gen_outcome = record { exit_code = pos 0; outputs = (codes "out" ∷ [], outputs
 abbrev use_outcome : OutcomeValue
 use_outcome = record { exit_code = pos 0; outputs = (codes "res" ∷ [], outputs.File two.newline_digest false) ∷ [] }
 
-gen_recorded : IsRecorded two.blobs two.gen_result gen_outcome
+pub gen_recorded : IsRecorded two.blobs two.gen_result gen_outcome
 gen_recorded = record {
   lawful = record { paths = (out_path, tt); ascend = (tt, tt); apart = (tt, tt) };
   exit_code = refl;
@@ -130,7 +168,7 @@ gen_recorded = record {
   outputs = (refl, (two.gen_tree, tree_told, refl), refl);
 }
 
-use_recorded : IsRecorded two.blobs two.use_result use_outcome
+pub use_recorded : IsRecorded two.blobs two.use_result use_outcome
 use_recorded = record {
   lawful = record { paths = (res_path, tt); ascend = (tt, tt); apart = (tt, tt) };
   exit_code = refl;
@@ -157,8 +195,7 @@ gen_passes = record {
   command_told = gen_command_told;
   resolved = refl;
   input = sources_named;
-  lawful = gen_result_lawful;
-  held = gen_result_kept;
+  held = gen_result_held;
   exit_code = refl;
   recorded = gen_recorded;
   listed = ((0, omega arith, refl), tt);
@@ -182,8 +219,7 @@ use_passes = record {
     refl,
   );
   input = input_named;
-  lawful = use_result_lawful;
-  held = use_result_kept;
+  held = use_result_held;
   exit_code = refl;
   recorded = use_recorded;
   listed = ((0, omega arith, refl), tt);

@@ -4,19 +4,19 @@ use Rattle.std.specs.Prelude.{slice_get, Contains, codes}
 use Rattle.blob_digest.specs.Digest.{DigestValue, digest_of}
 use Rattle.messages.specs.declared.node.Node.TheVariants as nodes
 use Rattle.messages.specs.Tree.{IsTree, tree_bytes}
-use Rattle.actions.specs.Action.{with_input, action_bytes}
+use Rattle.action_messages.specs.Action.{with_input, action_bytes}
 use Rattle.actions.specs.Outcome.{tree_node}
-use Rattle.actions.specs.OutputFile.{OutputFileValue}
-use Rattle.actions.specs.OutputDirectory.{OutputDirectoryValue}
+use Rattle.action_messages.specs.OutputFile.{OutputFileValue}
+use Rattle.action_messages.specs.OutputDirectory.{OutputDirectoryValue}
 use Rattle.actions.proofs.TreeBytes.{tree_bytes_injective}
 use Rattle.tree.specs.Tree.{Name, empty}
 use Rattle.tree.specs.Form.{NodeValue}
-use Rattle.tree.specs.Told.{IsTold}
+use Rattle.blob_source.specs.Told.{IsTold}
 use Rattle.verifier.specs.Build.{ActionMeaning, action_digest, Outcome, finish, State, opening, job_of, Obeys, IsRun, HasFinishedAll}
-use Rattle.verifier.specs.Recorded.{Agrees, IsRecordedAs, RecordsAt, outputs_form}
+use Rattle.verifier.specs.Recorded.{Agrees, IsRecordedAs, RecordsAt, entries_form}
 use Rattle.verifier.specs.TwoSteps as two
 use Rattle.verifier.proofs.TwoSteps.{sources_named, input_named, gen_action_named, use_action_named, newline_named}
-use Rattle.verifier.proofs.TwoStepsRecorded.{gen_result_kept, use_result_kept, gen_result_lawful, use_result_lawful, tree_told}
+use Rattle.verifier.proofs.TwoStepsRecorded.{gen_result_held, use_result_held, tree_told}
 use Rattle.verifier.proofs.StepsOnce.{told_once}
 
 -- ---- the run
@@ -90,16 +90,16 @@ abbrev file_node : DigestValue → Bool → NodeValue
 file_node digest executable = nodes.File digest executable
 
 gen_recorded_as : IsRecordedAs two.blobs two.results two.gen_action_digest two.gen.1
-gen_recorded_as = record { result = two.gen_result; told = record { lawful = gen_result_lawful; held = gen_result_kept }; exit_code = refl; trees = ((two.gen_tree, tree_told), tt); outputs = λ p x. (there p x, back p x) }
+gen_recorded_as = record { result = two.gen_result; held = gen_result_held; exit_code = refl; trees = ((two.gen_tree, tree_told), tt); outputs = λ p x. (there p x, back p x) }
   where
-    there : (p : List Name) (x : NodeValue) → Contains (outputs_form two.gen.1.outputs) (p, x) → RecordsAt two.blobs two.gen_result p x
+    there : (p : List Name) (x : NodeValue) → Contains (entries_form two.gen.1.outputs) (p, x) → RecordsAt two.blobs two.gen_result p x
     there p x (zero, lt, e) =
         let path = ap (λ (z : List Name × NodeValue). z.0) e in
         let is = ap (λ (z : List Name × NodeValue). z.1) e in
         inr (inr (record { path = codes "out" ∷ []; tree = two.tree_digest }, (0, omega arith, refl), path, two.gen_tree, tree_told, sym is))
     there p x (suc k, lt, e) = absurd (omega (arith, lt))
 
-    back : (p : List Name) (x : NodeValue) → RecordsAt two.blobs two.gen_result p x → Contains (outputs_form two.gen.1.outputs) (p, x)
+    back : (p : List Name) (x : NodeValue) → RecordsAt two.blobs two.gen_result p x → Contains (entries_form two.gen.1.outputs) (p, x)
     back p x (inl (f, (k, lt, e), path, is)) = absurd (omega (arith, lt))
     back p x (inr (inl (l, (k, lt, e), path, is))) = absurd (omega (arith, lt))
     back p x (inr (inr (d, (suc k, lt, e), path, t, told, is))) = absurd (omega (arith, lt))
@@ -110,16 +110,16 @@ gen_recorded_as = record { result = two.gen_result; told = record { lawful = gen
         (0, omega arith, λ i. (paths i, node i))
 
 use_recorded_as : IsRecordedAs two.blobs two.results two.use_action_digest two.uses.1
-use_recorded_as = record { result = two.use_result; told = record { lawful = use_result_lawful; held = use_result_kept }; exit_code = refl; trees = tt; outputs = λ p x. (there p x, back p x) }
+use_recorded_as = record { result = two.use_result; held = use_result_held; exit_code = refl; trees = tt; outputs = λ p x. (there p x, back p x) }
   where
-    there : (p : List Name) (x : NodeValue) → Contains (outputs_form two.uses.1.outputs) (p, x) → RecordsAt two.blobs two.use_result p x
+    there : (p : List Name) (x : NodeValue) → Contains (entries_form two.uses.1.outputs) (p, x) → RecordsAt two.blobs two.use_result p x
     there p x (zero, lt, e) =
         let path = ap (λ (z : List Name × NodeValue). z.0) e in
         let is = ap (λ (z : List Name × NodeValue). z.1) e in
         inl (record { path = codes "res" ∷ []; digest = two.newline_digest; executable = false }, (0, omega arith, refl), path, sym is ∙ ap (λ d. file_node d false) newline_named)
     there p x (suc k, lt, e) = absurd (omega (arith, lt))
 
-    back : (p : List Name) (x : NodeValue) → RecordsAt two.blobs two.use_result p x → Contains (outputs_form two.uses.1.outputs) (p, x)
+    back : (p : List Name) (x : NodeValue) → RecordsAt two.blobs two.use_result p x → Contains (entries_form two.uses.1.outputs) (p, x)
     back p x (inl (f, (suc k, lt, e), path, is)) = absurd (omega (arith, lt))
     back p x (inr (inl (l, (k, lt, e), path, is))) = absurd (omega (arith, lt))
     back p x (inr (inr (d, (k, lt, e), path, t, told, is))) = absurd (omega (arith, lt))
@@ -128,10 +128,10 @@ use_recorded_as = record { result = two.use_result; told = record { lawful = use
         let node = ap (λ d. file_node d false) newline_named ∙ ap (λ (f : OutputFileValue). file_node f.digest f.executable) e ∙ sym is in
         (0, omega arith, λ i. (paths i, node i))
 
-gen_digest : action_digest two.gen.0 ≡ two.gen_action_digest
+pub gen_digest : action_digest two.gen.0 ≡ two.gen_action_digest
 gen_digest = ap (λ d. digest_of (action_bytes (with_input two.gen.0.frame d))) sources_named ∙ gen_action_named
 
-use_digest : action_digest two.uses.0 ≡ two.use_action_digest
+pub use_digest : action_digest two.uses.0 ≡ two.use_action_digest
 use_digest = ap (λ d. digest_of (action_bytes (with_input two.uses.0.frame d))) input_named ∙ use_action_named
 
 abbrev IsPicked : DigestValue → ActionMeaning × Outcome → Type 0

@@ -9,13 +9,13 @@ use Rattle.actions.proofs.Once.{looked_once}
 use Rattle.plan.specs.Values.{OriginValue, source, output, LineValue}
 use Rattle.tree.specs.Tree.{Name}
 use Rattle.tree.specs.Form.{NodeValue}
-use Rattle.tree.specs.Source.{Blobs}
-use Rattle.tree.specs.Told.{missing, wrong, malformed}
+use Rattle.blob_source.specs.Source.{Blobs}
+use Rattle.blob_source.specs.Told.{missing, wrong, malformed}
 use Rattle.tree.specs.Lookup.{Looked, fault, nothing, found}
 use Rattle.tree.proofs.LookupOnce.{looks_once}
 use Rattle.verifier.specs.declared.verdict.Cause.{Cause}
 use Rattle.verifier.specs.Accepted.{LooksAt, Resolves}
-use Rattle.verifier.specs.Faults.{Gives, LineFault, FirstFault}
+use Rattle.verifier.specs.Faults.{IsCauseOfLook, LineFault, FirstFault}
 
 abbrev pub AreLawful : List OutcomeValue → Type 0
 AreLawful outcomes = AllByRecursion IsOutcome outcomes
@@ -49,7 +49,7 @@ module _ (B : Blobs) (d : DigestValue) (os : List OutcomeValue) (lawful : AreLaw
       h.4 ∙ (λ i. (l.target, nodes i) ∷ rest i) ∙ sym k.4
 
   module _ {A : Type 0} where
-    gives_once : (o : OriginValue) (r : Looked) (c e : Cause A) → Gives o r c → Gives o r e → c ≡ e
+    gives_once : (o : OriginValue) (r : Looked) (c e : Cause A) → IsCauseOfLook o r c → IsCauseOfLook o r e → c ≡ e
     gives_once o (fault (missing f)) c e h k = h ∙ sym k
     gives_once o (fault (wrong f)) c e h k = h ∙ sym k
     gives_once o (fault (malformed f)) c e h k = h ∙ sym k
@@ -57,10 +57,10 @@ module _ (B : Blobs) (d : DigestValue) (os : List OutcomeValue) (lawful : AreLaw
     gives_once o (found x) c e h k = elim h [ ]
 
     line_once : (l : LineValue) (c e : Cause A) → LineFault B d os l c → LineFault B d os l e → c ≡ e
-    line_once l c e h k = gives_once l.origin h.0 c e h.2 (subst (λ r. Gives l.origin r e) (looks_at_once l.origin k.0 h.0 k.1 h.1) k.2)
+    line_once l c e h k = gives_once l.origin h.0 c e h.2 (subst (λ r. IsCauseOfLook l.origin r e) (looks_at_once l.origin k.0 h.0 k.1 h.1) k.2)
 
     line_found : (l : LineValue) (c : Cause A) (x : NodeValue) → LineFault B d os l c → LooksAt B d os l.origin (found x) → ⊥
-    line_found l c x h k = subst (λ r. Gives l.origin r c) (looks_at_once l.origin h.0 (found x) h.1 k) h.2
+    line_found l c x h k = subst (λ r. IsCauseOfLook l.origin r c) (looks_at_once l.origin h.0 (found x) h.1 k) h.2
 
     -- one fault is the first
     pub first_once : (ls : List LineValue) (c e : Cause A) → FirstFault B d os ls c → FirstFault B d os ls e → c ≡ e

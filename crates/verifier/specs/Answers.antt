@@ -1,31 +1,23 @@
 -- What the private functions that check a plan answer.
-use Rattle.std.specs.Prelude.{◌≡◌, ◌⊎◌, ℕ, List, [], ◌∷◌, ◌++◌}
-use Rattle.actions.specs.Outcome.{OutcomeValue}
-use Rattle.plan.specs.Values.{StepValue}
-use Rattle.verifier.specs.declared.verifying.Checked.{Checked}
-use Rattle.verifier.specs.declared.verifying.Checked.TheVariants.{Outcomes, First}
+use Rattle.std.specs.Prelude.{◌≡◌, ℕ, List, []}
 use Rattle.blob_digest.specs.Digest.{DigestValue}
-use Rattle.tree.specs.Source.{Blobs}
-use Rattle.tree.specs.Told as told
-use Rattle.tree.specs.Told.{IsFault}
-use Rattle.tree.specs.declared.source.FetchError.{FetchError}
-use Rattle.tree.specs.declared.source.FetchError.TheVariants as fetching
+use Rattle.plan.specs.Values.{StepValue}
+use Rattle.blob_source.specs.Source.{Blobs, Telling}
+use Rattle.blob_source.specs.declared.source.FetchError.{FetchError}
+use Rattle.blob_source.specs.declared.source.FetchError.TheVariants as fetching
 use Rattle.tree.specs.declared.difference.Difference.{Difference}
+use Rattle.tree.specs.declared.error.TreeError.{TreeError}
+use Rattle.tree.specs.declared.error.TreeError.TheVariants as tree
 use Rattle.tree.specs.Difference.{Differing, FindsFirst, differing}
-use Rattle.verifier.specs.Faults.{cause_of}
-use Rattle.verifier.specs.StepChecks.{difference_cause, StepEnds, passed, failed}
 use Rattle.verifier.specs.declared.fault.Fault.{Fault}
 use Rattle.verifier.specs.declared.fault.Fault.TheVariants as faults
 use Rattle.verifier.specs.declared.verdict.Cause.{Cause}
-use Rattle.tree.specs.declared.error.TreeError.{TreeError}
-use Rattle.tree.specs.declared.error.TreeError.TheVariants as tree
 use Rattle.verifier.specs.declared.verdict.Cause.TheVariants.{BlobMissing, BlobWrong, BlobMalformed, OriginMissing}
-
--- a cause that holds so, unless the source failed or memory ran out
-abbrev pub Explains : {A : Type 0} → (Cause A → Type 0) → Fault A → Type 0
-Explains P (faults.Cause c) = P c
-Explains P faults.Fetch = Unit {0}
-Explains P faults.Memory = Unit {0}
+use Rattle.verifier.specs.declared.verdict.Place.TheVariants.{Step}
+use Rattle.verifier.specs.declared.verifying.Checked.{Checked}
+use Rattle.verifier.specs.declared.verifying.Checked.TheVariants.{Outcomes, First}
+use Rattle.verifier.specs.StepChecks.{difference_cause}
+use Rattle.verifier.specs.Verdict.{steps_check}
 
 -- a look-up has gone as deep as it may
 abbrev pub IsTooDeep : {A : Type 0} → TreeError A → Type 0
@@ -47,36 +39,22 @@ IsFaultOf (tree.TooDeep path) f = ⊥
 IsFaultOf tree.Fetch f = f ≡ faults.Fetch
 IsFaultOf tree.Memory f = f ≡ faults.Memory
 
-abbrev pub of_fetch : {A : Type 0} → FetchError → Fault A
-of_fetch fetching.Failed = faults.Fetch
-of_fetch fetching.Memory = faults.Memory
-
--- the cause that a message isn't told
-abbrev pub IsCauseOfFault : {M A : Type 0} → (M → Type 0) → (M → List ℕ) → Blobs → DigestValue → Cause A → Type 0
-IsCauseOfFault keeps spells B d c = (f : told.Fault) × IsFault keeps spells B d f × (c ≡ cause_of f)
+abbrev pub fault_of_fetch : {A : Type 0} → FetchError → Fault A
+fault_of_fetch fetching.Failed = faults.Fetch
+fault_of_fetch fetching.Memory = faults.Memory
 
 -- the cause that a graft with these Directories isn't the recorded input
-abbrev pub IsDifference : {A : Type 0} → List (List ℕ) → Blobs → DigestValue → DigestValue → Cause A → Type 0
+abbrev pub IsDifference : {A : Type 0} → List (List ℕ) → Blobs → DigestValue → DigestValue
+    → Cause A → Type 0
 IsDifference own B g r c = (x : Differing) × FindsFirst own B g r x × (c ≡ difference_cause x)
 
 abbrev pub IsDifferenceCause : {A : Type 0} → Difference A → Cause A → Type 0
 IsDifferenceCause d c = c ≡ difference_cause (differing d)
 
--- The steps with their recorded actions, in front of which others came to these outcomes: all pass and come to more
--- outcomes, or the first that fails does so for a cause.
-abbrev pub StepsPass : Type 0 → Blobs → Blobs → DigestValue → List OutcomeValue → List StepValue → List DigestValue → List OutcomeValue → Type 0
-StepsPass A B C sources before [] ds outcomes = outcomes ≡ before
-StepsPass A B C sources before (s ∷ ss) [] outcomes = ⊥
-StepsPass A B C sources before (s ∷ ss) (d ∷ ds) outcomes =
-    (o : OutcomeValue) × StepEnds {A = A} B C sources before s d (passed o) × StepsPass A B C sources (before ++ o ∷ []) ss ds outcomes
-
-abbrev pub FirstFails : {A : Type 0} → Blobs → Blobs → DigestValue → List OutcomeValue → List StepValue → List DigestValue → List ℕ → Cause A → Type 0
-FirstFails B C sources before [] ds name c = ⊥
-FirstFails B C sources before (s ∷ ss) [] name c = ⊥
-FirstFails {A} B C sources before (s ∷ ss) (d ∷ ds) name c =
-    ((name ≡ s.name) × StepEnds B C sources before s d (failed c))
-    ⊎ ((o : OutcomeValue) × StepEnds {A = A} B C sources before s d (passed o) × FirstFails B C sources (before ++ o ∷ []) ss ds name c)
-
-abbrev pub IsChecked : {A : Type 0} → Blobs → Blobs → DigestValue → List StepValue → List DigestValue → Checked A → Type 0
-IsChecked {A} B C sources steps ds (Outcomes outcomes) = StepsPass A B C sources [] steps ds outcomes.items
-IsChecked B C sources steps ds (First name c) = FirstFails B C sources [] steps ds name c
+-- what the check of the steps came to: the outcomes of all, or the first that fails and why
+abbrev pub IsChecked : {A : Type 0} → Telling → DigestValue → List StepValue → List DigestValue
+    → Checked A → Type 0
+IsChecked {A} tells sources steps ds (Outcomes outcomes) =
+    (steps_check {A = A} tells sources [] steps ds).passes outcomes.items
+IsChecked tells sources steps ds (First name c) =
+    (steps_check tells sources [] steps ds).fails (Step name, c)

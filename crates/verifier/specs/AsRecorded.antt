@@ -1,23 +1,26 @@
 -- A yes in plain words: each step is as recorded, and the root is accepted.
-use Rattle.std.specs.Prelude.{◌≡◌, pos, false, List, [], ◌∷◌, ◌++◌, Some}
+use Rattle.std.specs.Prelude.{◌≡◌, ℕ, pos, false, List, [], ◌∷◌, ◌++◌, Some, slice_get, take}
 use Rattle.blob_digest.specs.Digest.{DigestValue, digest_of}
-use Rattle.actions.specs.Action.{ActionValue, IsAction, action_bytes}
-use Rattle.actions.specs.ActionResult.{ActionResultValue, IsActionResult, action_result_bytes}
-use Rattle.actions.specs.Command.{CommandValue, IsCommand, command_bytes}
-use Rattle.actions.specs.Frame.{frame_bytes}
+use Rattle.action_messages.specs.Action.{ActionValue, IsAction, action_bytes}
+use Rattle.action_messages.specs.ActionResult.{ActionResultValue}
+use Rattle.verifier.specs.Holding.{HoldsResult}
+use Rattle.action_messages.specs.Command.{CommandValue, IsCommand, command_bytes}
+use Rattle.action_messages.specs.Frame.{frame_bytes}
 use Rattle.actions.specs.Outcome.{OutcomeValue}
 use Rattle.actions.specs.Recorded.{IsRecorded}
 use Rattle.plan.specs.Values.{StepValue, PlanValue}
 use Rattle.tree.specs.Tree.{Name}
 use Rattle.tree.specs.Form.{NodeValue, root}
 use Rattle.tree.specs.Graft.{graft}
-use Rattle.tree.specs.Source.{Blobs}
-use Rattle.tree.specs.Told.{IsTold}
+use Rattle.blob_source.specs.Source.{Blobs}
+use Rattle.blob_source.specs.Told.{IsTold}
 use Rattle.verifier.specs.Accepted.{Resolves, IsAccepted}
 use Rattle.verifier.specs.StepChecks.{AreListed}
 
--- A step with a recorded digest is as recorded, and came to an outcome, where the steps before it came to these:
-pub record IsAsRecorded (B C : Blobs) (sources : DigestValue) (before : List OutcomeValue) (step : StepValue) (d : DigestValue) (o : OutcomeValue) : Type 0 where
+-- A step with a recorded digest is as recorded, and came to an outcome, where the steps before it
+-- came to these:
+pub record IsAsRecorded (B C : Blobs) (sources : DigestValue) (before : List OutcomeValue)
+    (step : StepValue) (d : DigestValue) (o : OutcomeValue) : Type 0 where
   pub action : ActionValue
   pub command : CommandValue
   pub nodes : List (List Name × NodeValue)
@@ -32,22 +35,39 @@ pub record IsAsRecorded (B C : Blobs) (sources : DigestValue) (before : List Out
   pub resolved : Resolves B sources before step.lines nodes
   pub input : root (graft nodes) ≡ action.input
   -- its result is held, with exit code 0, and stands for the outcome
-  pub lawful : IsActionResult result
-  pub held : C d ≡ Some (action_result_bytes result)
+  pub held : HoldsResult C d result
   pub exit_code : result.exit_code ≡ pos 0
   pub recorded : IsRecorded B result o
   -- each output is one that the Command lists
   pub listed : AreListed command o
 
--- The steps with their recorded digests are as recorded, one after another, where those before them came to these outcomes.
-abbrev pub AreAsRecorded : Blobs → Blobs → DigestValue → List OutcomeValue → List StepValue → List DigestValue → List OutcomeValue → Type 0
+-- The steps with their recorded digests are as recorded, one after another, where those before them
+-- came to these outcomes.
+abbrev pub AreAsRecorded : Blobs → Blobs → DigestValue → List OutcomeValue → List StepValue
+    → List DigestValue → List OutcomeValue → Type 0
 AreAsRecorded B C sources before [] ds outcomes = outcomes ≡ before
 AreAsRecorded B C sources before (s ∷ ss) [] outcomes = ⊥
 AreAsRecorded B C sources before (s ∷ ss) (d ∷ ds) outcomes =
-    (o : OutcomeValue) × IsAsRecorded B C sources before s d o × AreAsRecorded B C sources (before ++ o ∷ []) ss ds outcomes
+    (o : OutcomeValue) × IsAsRecorded B C sources before s d o
+    × AreAsRecorded B C sources (before ++ o ∷ []) ss ds outcomes
+
+-- The first step that isn't as recorded: the steps before it are, and after the outcomes that they
+-- came to it isn't, whatever it came to.
+pub record IsFirstUnlikeRecorded (B C : Blobs) (sources : DigestValue) (earlier : List OutcomeValue)
+    (steps : List StepValue) (recorded : List DigestValue) (name : List ℕ) : Type 0 where
+  pub index : ℕ
+  pub step : StepValue
+  pub digest : DigestValue
+  pub outcomes : List OutcomeValue
+  pub step_at : slice_get steps index ≡ Some step
+  pub digest_at : slice_get recorded index ≡ Some digest
+  pub named : name ≡ step.name
+  pub before : AreAsRecorded B C sources earlier (take index steps) recorded outcomes
+  pub unlike : (o : OutcomeValue) → IsAsRecorded B C sources outcomes step digest o → ⊥
 
 -- A plan is as recorded, and ends in the claim.
-pub record IsPlanAsRecorded (B C : Blobs) (sources : DigestValue) (plan : PlanValue) (recorded : List DigestValue) (claim : DigestValue) : Type 0 where
+pub record IsPlanAsRecorded (B C : Blobs) (sources : DigestValue) (plan : PlanValue)
+    (recorded : List DigestValue) (claim : DigestValue) : Type 0 where
   pub outcomes : List OutcomeValue
   pub steps : AreAsRecorded B C sources [] plan.steps recorded outcomes
   pub root : IsAccepted B sources outcomes plan.root_lines claim

@@ -3,9 +3,9 @@ use Rattle.std.specs.Prelude.{◌≡◌, ◌==◌, ℕ, ℤ, bytes_eq, if◌then
 use Rattle.std.specs.List.{AllByRecursion}
 use Rattle.std.specs.Map.{lookup, remove_entry}
 use Rattle.blob_digest.specs.Digest.{DigestValue, digest_of}
-use Rattle.actions.specs.Command.{CommandValue, IsCommand, command_bytes}
-use Rattle.actions.specs.Frame.{FrameValue, IsFrame, frame_bytes}
-use Rattle.actions.specs.Action.{with_input, action_bytes}
+use Rattle.action_messages.specs.Command.{CommandValue, IsCommand, command_bytes}
+use Rattle.action_messages.specs.Frame.{FrameValue, IsFrame, frame_bytes}
+use Rattle.action_messages.specs.Action.{with_input, action_bytes}
 use Rattle.plan.specs.Values.{OriginValue, source, output, LineValue, StepValue, PlanValue}
 use Rattle.tree.specs.Tree.{Name, Tree, Leaf, Entry, tree_at, below_entry, IsOrdered, IsOrderedEntry}
 use Rattle.tree.specs.Form.{form, root}
@@ -41,7 +41,7 @@ pub record Outcome : Type 0 where
   pub outputs : List (List Name × Entry Leaf)
 
 -- no output equals another or lies under it
-pub record IsOutcome (o : Outcome) : Type 0 where
+pub record IsTreeOutcome (o : Outcome) : Type 0 where
   pub apart : HaveApartTargets o.outputs
   pub outputs : AllByRecursion (λ (e : List Name × Entry Leaf). IsOrderedEntry e.1) o.outputs
 
@@ -62,7 +62,8 @@ output_at (o ∷ os) p = output_from (below_path o.0 p) o.1 (output_at os p)
 
 -- ---- a meaning of a plan
 
-pub record StepFits (planned : DigestValue) (frame : FrameValue) (command : CommandValue) : Type 0 where
+pub record StepFits (planned : DigestValue) (frame : FrameValue)
+    (command : CommandValue) : Type 0 where
   pub frame_lawful : IsFrame frame
   pub command_lawful : IsCommand command
   pub frame_digest : digest_of (frame_bytes frame) ≡ planned
@@ -71,7 +72,8 @@ pub record StepFits (planned : DigestValue) (frame : FrameValue) (command : Comm
 -- each step has a frame with its digest, and a command with the frame's
 pub record MeaningFits (plan : PlanValue) (meaning : Meaning) : Type 0 where
   pub steps : (i : ℕ) (step : StepValue) → slice_get plan.steps i ≡ Some step
-      → (frame : FrameValue) × (command : CommandValue) × (slice_get meaning.frames i ≡ Some frame) × (slice_get meaning.commands i ≡ Some command) × StepFits step.frame frame command
+      → (frame : FrameValue) × (command : CommandValue) × (slice_get meaning.frames i ≡ Some frame)
+      × (slice_get meaning.commands i ≡ Some command) × StepFits step.frame frame command
 
 -- ---- runs
 
@@ -81,7 +83,8 @@ pub data Event : Type 0 where
   finish : (job : ℕ) (outcome : Outcome) → Event
   lose : (job : ℕ) → Event
 
--- the outcomes of the steps that have finished, the latest first, and the jobs that run: each its step and its action
+-- the outcomes of the steps that have finished, the latest first, and the jobs that run: each its
+-- step and its action
 pub record State : Type 0 where
   pub done : List (ℕ × Outcome)
   pub jobs : List (ℕ × (ℕ × ActionMeaning))
@@ -103,7 +106,9 @@ origin_at t s (output j p) = option_and_then (λ o. output_at o.outputs p) (outc
 
 abbrev pub origins : Tree Leaf → State → List LineValue → Option (List (List Name × Entry Leaf))
 origins t s [] = Some []
-origins t s (l ∷ ls) = option_and_then (λ e. option_map (λ es. (l.target, e) ∷ es) (origins t s ls)) (origin_at t s l.origin)
+origins t s (l ∷ ls) =
+    option_and_then (λ e. option_map (λ es. (l.target, e) ∷ es) (origins t s ls))
+    (origin_at t s l.origin)
 
 -- the graft of lines, if each origin is there
 abbrev pub graft_of : Tree Leaf → State → List LineValue → Option (Tree Leaf)
@@ -113,26 +118,30 @@ graft_of t s ls = option_map (λ es. expand (graft es)) (origins t s ls)
 abbrev pub step_action : Meaning → Tree Leaf → State → ℕ → StepValue → Option ActionMeaning
 step_action meaning t s i step =
     option_and_then (λ frame. option_and_then (λ command.
-    option_map (λ input. record { frame = frame; command = command; input = input }) (graft_of t s step.lines))
+    option_map (λ input. record { frame = frame; command = command; input = input })
+    (graft_of t s step.lines))
     (slice_get meaning.commands i)) (slice_get meaning.frames i)
 
 abbrev pub action_of : PlanValue → Meaning → Tree Leaf → State → ℕ → Option ActionMeaning
 action_of plan meaning t s i = option_and_then (step_action meaning t s i) (slice_get plan.steps i)
 
-abbrev pub started : State → ℕ → ℕ → Option (ℕ × ActionMeaning) → Option ActionMeaning → Option State
+abbrev pub started : State → ℕ → ℕ → Option (ℕ × ActionMeaning) → Option ActionMeaning
+    → Option State
 started s i w (Some busy) a = None
 started s i w None None = None
 started s i w None (Some a) = Some (record s { jobs = (w, (i, a)) ∷ s.jobs })
 
 abbrev pub finished : State → ℕ → Outcome → Option (ℕ × ActionMeaning) → Option State
 finished s w o None = None
-finished s w o (Some job) = Some (record { done = (job.0, o) ∷ s.done; jobs = remove_entry (λ k. k == w) s.jobs })
+finished s w o (Some job) =
+    Some (record { done = (job.0, o) ∷ s.done; jobs = remove_entry (λ k. k == w) s.jobs })
 
 abbrev pub lost : State → ℕ → Option (ℕ × ActionMeaning) → Option State
 lost s w None = None
 lost s w (Some job) = Some (record s { jobs = remove_entry (λ k. k == w) s.jobs })
 
--- The state after an event, if the event can happen: a start's number isn't in use, and each origin is there.
+-- The state after an event, if the event can happen: a start's number isn't in use, and each origin
+-- is there.
 abbrev pub happens : PlanValue → Meaning → Tree Leaf → State → Event → Option State
 happens plan meaning t s (start i w) = started s i w (job_of w s) (action_of plan meaning t s i)
 happens plan meaning t s (finish w o) = finished s w o (job_of w s)
@@ -141,7 +150,8 @@ happens plan meaning t s (lose w) = lost s w (job_of w s)
 -- An execution table says what each action comes to: equal actions have equal outcomes.
 pub record IsTable (X : List (ActionMeaning × Outcome)) : Type 0 where
   pub same : (a : ActionMeaning) (o p : Outcome) → Contains X (a, o) → Contains X (a, p) → o ≡ p
-  pub actions : (a : ActionMeaning) (o : Outcome) → Contains X (a, o) → IsActionMeaning a × IsOutcome o
+  pub actions : (a : ActionMeaning) (o : Outcome) → Contains X (a, o)
+      → IsActionMeaning a × IsTreeOutcome o
 
 -- a job that finishes has the outcome of its action in the table
 abbrev pub Obeys : List (ActionMeaning × Outcome) → State → Event → Type 0
@@ -150,10 +160,13 @@ Obeys X s (finish w o) = (job : ℕ × ActionMeaning) → job_of w s ≡ Some jo
 Obeys X s (lose w) = Unit {0}
 
 -- The events can happen one after another and obey the table, and lead from one state to the other.
-abbrev pub IsRun : List (ActionMeaning × Outcome) → PlanValue → Meaning → Tree Leaf → State → List Event → State → Type 0
+abbrev pub IsRun : List (ActionMeaning × Outcome) → PlanValue → Meaning → Tree Leaf → State
+    → List Event → State → Type 0
 IsRun X plan meaning t s [] end = end ≡ s
-IsRun X plan meaning t s (e ∷ es) end = Obeys X s e × (mid : State) × (happens plan meaning t s e ≡ Some mid) × IsRun X plan meaning t mid es end
+IsRun X plan meaning t s (e ∷ es) end = Obeys X s e × (mid : State)
+    × (happens plan meaning t s e ≡ Some mid) × IsRun X plan meaning t mid es end
 
 -- every step has finished
 abbrev pub HasFinishedAll : PlanValue → State → Type 0
-HasFinishedAll plan s = (j : ℕ) (step : StepValue) → slice_get plan.steps j ≡ Some step → (o : Outcome) × (outcome_of j s ≡ Some o)
+HasFinishedAll plan s = (j : ℕ) (step : StepValue) → slice_get plan.steps j ≡ Some step
+    → (o : Outcome) × (outcome_of j s ≡ Some o)

@@ -5,8 +5,8 @@ use Rattle.actions.specs.Outcome.{OutcomeValue}
 use Rattle.plan.specs.Values.{OriginValue, source, output, LineValue}
 use Rattle.tree.specs.Tree.{Name}
 use Rattle.tree.specs.Form.{NodeValue}
-use Rattle.tree.specs.Source.{Blobs}
-use Rattle.tree.specs.Told.{Fault, missing, wrong, malformed}
+use Rattle.blob_source.specs.Source.{Blobs}
+use Rattle.blob_source.specs.Told.{Fault, missing, wrong, malformed}
 use Rattle.tree.specs.Lookup.{Looked, fault, nothing, found}
 use Rattle.verifier.specs.declared.verdict.Cause.{Cause}
 use Rattle.verifier.specs.declared.verdict.Cause.TheVariants.{BlobMissing, BlobWrong, BlobMalformed, OriginMissing}
@@ -23,18 +23,24 @@ abbrev pub path_of : OriginValue → List Name
 path_of (source p) = p
 path_of (output step p) = p
 
--- the cause that a look-up of an origin gives where it finds no node: the fault on the way, or that nothing is there
-abbrev pub Gives : {A : Type 0} → OriginValue → Looked → Cause A → Type 0
-Gives o (fault f) c = c ≡ cause_of f
-Gives o nothing c = c ≡ OriginMissing (path_of o)
-Gives o (found x) c = ⊥
+-- the cause that a look-up of an origin gives where it finds no node: the fault on the way, or that
+-- nothing is there
+abbrev pub IsCauseOfLook : {A : Type 0} → OriginValue → Looked → Cause A → Type 0
+IsCauseOfLook o (fault f) c = c ≡ cause_of f
+IsCauseOfLook o nothing c = c ≡ OriginMissing (path_of o)
+IsCauseOfLook o (found x) c = ⊥
 
 -- why a line has no origin
-abbrev pub LineFault : {A : Type 0} → Blobs → DigestValue → List OutcomeValue → LineValue → Cause A → Type 0
-LineFault blobs sources outcomes l c = (r : Looked) × LooksAt blobs sources outcomes l.origin r × Gives l.origin r c
+abbrev pub LineFault : {A : Type 0} → Blobs → DigestValue → List OutcomeValue → LineValue → Cause A
+    → Type 0
+LineFault blobs sources outcomes l c = (r : Looked) × LooksAt blobs sources outcomes l.origin r
+    × IsCauseOfLook l.origin r c
 
 -- the fault of the first line that has no origin
-abbrev pub FirstFault : {A : Type 0} → Blobs → DigestValue → List OutcomeValue → List LineValue → Cause A → Type 0
+abbrev pub FirstFault : {A : Type 0} → Blobs → DigestValue → List OutcomeValue → List LineValue
+    → Cause A → Type 0
 FirstFault blobs sources outcomes [] c = ⊥
 FirstFault blobs sources outcomes (l ∷ ls) c =
-    LineFault blobs sources outcomes l c ⊎ ((x : NodeValue) × LooksAt blobs sources outcomes l.origin (found x) × FirstFault blobs sources outcomes ls c)
+    LineFault blobs sources outcomes l c
+    ⊎ ((x : NodeValue) × LooksAt blobs sources outcomes l.origin (found x)
+    × FirstFault blobs sources outcomes ls c)

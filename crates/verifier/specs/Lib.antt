@@ -1,9 +1,12 @@
+pub mod Holding
 pub mod Build
 pub mod Recorded
 pub mod Headline
 pub mod Accepted
 pub mod Faults
+pub mod Stage
 pub mod StepChecks
+pub mod Checks
 pub mod Verdict
 pub mod AsRecorded
 pub mod TwoSteps

@@ -1,104 +1,130 @@
--- Whether a step is as recorded: what is checked of it, one thing after another. Each check either ends with its cause or
--- leads to the next, which stands above it here; `StepEnds`, the first, is the last below.
-use Rattle.std.specs.Prelude.{◌≡◌, ◌≢◌, ◌⊎◌, ℕ, pos, true, false, List, [], ◌∷◌, Some, None}
+-- Whether a step is as recorded: what is checked of it, one thing after another, and why each
+-- fails.
+use Rattle.std.specs.Prelude.{◌≡◌, ◌≢◌, ◌⊎◌, ℕ, pos, false, List, [], ◌∷◌, Some, None}
 use Rattle.std.specs.List.{AllByRecursion, Contains}
 use Rattle.blob_digest.specs.Digest.{DigestValue, digest_of}
-use Rattle.actions.specs.Action.{ActionValue, IsAction, action_bytes}
-use Rattle.actions.specs.ActionResult.{ActionResultValue, IsActionResult, action_result_bytes}
-use Rattle.actions.specs.Command.{CommandValue, IsCommand, command_bytes}
-use Rattle.actions.specs.Frame.{frame_bytes}
+use Rattle.action_messages.specs.Action.{ActionValue, IsAction, action_bytes}
+use Rattle.action_messages.specs.ActionResult.{ActionResultValue}
+use Rattle.action_messages.specs.Command.{CommandValue, IsCommand, command_bytes}
+use Rattle.action_messages.specs.Frame.{frame_bytes}
 use Rattle.actions.specs.Outcome.{OutcomeValue, OutputValue, output_paths}
-use Rattle.actions.specs.Recorded.{RecordedValue, recorded_path, AreOutputs, StandsFor, IsOutputFault, IsRecorded}
-use Rattle.plan.specs.Values.{StepValue}
+use Rattle.action_messages.specs.Reads.{Reads}
+use Rattle.action_messages.specs.Outputs.{RecordedValue, recorded_path, AreOutputs}
+use Rattle.actions.specs.Recorded.{StandsFor, IsOutputFault, IsRecorded}
+use Rattle.plan.specs.Values.{LineValue, StepValue}
 use Rattle.tree.specs.Tree.{Name}
 use Rattle.tree.specs.Form.{NodeValue, root}
 use Rattle.tree.specs.Folded.{first_visits}
 use Rattle.tree.specs.Graft.{graft}
-use Rattle.tree.specs.Source.{Blobs}
-use Rattle.tree.specs.Told.{Fault, IsTold, IsFault}
+use Rattle.blob_source.specs.Source.{Blobs, Telling}
+use Rattle.blob_source.specs.Told.{Fault, IsTold, IsFault}
 use Rattle.tree.specs.Difference.{Differing, unexplained, absent, differs, unread, FindsFirst}
 use Rattle.verifier.specs.declared.verdict.Cause.{Cause}
 use Rattle.verifier.specs.declared.verdict.Cause.TheVariants.{DoNotCache, FrameDiffers, InputUnexplained, InputAbsent, InputDiffers, ResultMissing, ResultMalformed, ExitCode, OutputUnlisted}
 use Rattle.verifier.specs.Accepted.{Resolves}
 use Rattle.verifier.specs.Faults.{cause_of, FirstFault}
+use Rattle.verifier.specs.Holding.{HoldsResult}
+use Rattle.verifier.specs.Stage.{Stage, ◌and_then◌, demands}
 
--- how the check of a step ends: with the outcome that was recorded, or with a cause
-pub data Ended (A : Type 0) : Type 0 where
-  passed : OutcomeValue → Ended A
-  failed : Cause A → Ended A
+-- ---- what a step must be, one check each
 
--- a message is told under a digest, and the check goes on; or it ends with the cause that none is
-abbrev pub ToldThen : {M A : Type 0} → (M → Type 0) → (M → List ℕ) → Blobs → DigestValue → (M → Type 0) → Ended A → Type 0
-ToldThen {M} keeps spells B d Next end = ((f : Fault) × IsFault keeps spells B d f × (end ≡ failed (cause_of f))) ⊎ ((m : M) × IsTold keeps spells B d m × Next m)
+-- a message of a kind is told under a digest
+abbrev pub message : {A M : Type 0} → (M → Type 0) → (M → List ℕ) → Blobs → DigestValue
+    → Stage (Cause A) M
+message keeps spells B d = record {
+  passes = IsTold keeps spells B d;
+  fails = λ cause. (f : Fault) × IsFault keeps spells B d f × (cause ≡ cause_of f);
+}
 
--- ---- 8: each output, by path, is listed in the command, and its Tree is told
+-- the action may be cached
+abbrev pub cached : {A : Type 0} → ActionValue → Stage (Cause A) (Unit {0})
+cached action = demands (action.frame.do_not_cache ≡ false) DoNotCache
 
--- why an output is refused
-abbrev pub IsRefused : {A : Type 0} → Blobs → CommandValue → RecordedValue → Cause A → Type 0
-IsRefused B c x cause =
-    ((Contains c.output_paths (recorded_path x) → ⊥) × (cause ≡ OutputUnlisted (recorded_path x)))
-    ⊎ (Contains c.output_paths (recorded_path x) × (f : Fault) × IsOutputFault B x f × (cause ≡ cause_of f))
+-- the action's frame is the plan's
+abbrev pub framed : {A : Type 0} → ActionValue → DigestValue → Stage (Cause A) (Unit {0})
+framed action frame = demands (digest_of (frame_bytes action.frame) ≡ frame) FrameDiffers
 
-abbrev pub OutputFault : {A : Type 0} → Blobs → CommandValue → List RecordedValue → Cause A → Type 0
-OutputFault B c [] cause = ⊥
-OutputFault B c (x ∷ xs) cause =
-    IsRefused B c x cause
-    ⊎ (Contains c.output_paths (recorded_path x) × (y : OutputValue) × StandsFor B x y × OutputFault B c xs cause)
+-- each line has its origin
+abbrev pub resolved : {A : Type 0} → Blobs → DigestValue → List OutcomeValue → List LineValue
+    → Stage (Cause A) (List (List Name × NodeValue))
+resolved B sources outcomes lines = record {
+  passes = Resolves B sources outcomes lines;
+  fails = FirstFault B sources outcomes lines;
+}
 
-abbrev pub AreListed : CommandValue → OutcomeValue → Type 0
-AreListed c o = AllByRecursion (Contains c.output_paths) (output_paths o.outputs)
-
-abbrev pub OutputsEnd : {A : Type 0} → Blobs → CommandValue → ActionResultValue → Ended A → Type 0
-OutputsEnd {A} B c r end =
-    ((xs : List RecordedValue) × AreOutputs r xs × (cause : Cause A) × OutputFault B c xs cause × (end ≡ failed cause))
-    ⊎ ((o : OutcomeValue) × IsRecorded B r o × AreListed c o × (end ≡ passed o))
-
--- ---- 7: a result is held, is one, and has exit code 0
-
-abbrev pub ResultEnds : {A : Type 0} → Blobs → CommandValue → ActionResultValue → Ended A → Type 0
-ResultEnds B c r end = ((r.exit_code ≢ pos 0) × (end ≡ failed (ExitCode r.exit_code))) ⊎ ((r.exit_code ≡ pos 0) × OutputsEnd B c r end)
-
-abbrev pub HeldEnds : {A : Type 0} → Blobs → Blobs → CommandValue → DigestValue → Ended A → Type 0
-HeldEnds B C c d end =
-    ((C d ≡ None) × (end ≡ failed ResultMissing))
-    ⊎ (((bytes : List ℕ) × (C d ≡ Some bytes) × ((r : ActionResultValue) → IsActionResult r → bytes ≢ action_result_bytes r) × (end ≡ failed ResultMalformed))
-    ⊎ ((r : ActionResultValue) × IsActionResult r × (C d ≡ Some (action_result_bytes r)) × ResultEnds B c r end))
-
--- ---- 6: the graft of the lines is the recorded input
-
+-- the cause that a difference of the recorded input is
 abbrev pub difference_cause : {A : Type 0} → Differing → Cause A
 difference_cause (unexplained path) = InputUnexplained path
 difference_cause (absent path) = InputAbsent path
 difference_cause (differs path) = InputDiffers path
 difference_cause (unread f) = cause_of f
 
-abbrev pub InputEnds : {A : Type 0} → Blobs → Blobs → ActionValue → CommandValue → DigestValue → List (List Name × NodeValue) → Ended A → Type 0
-InputEnds B C a c d xs end =
-    ((root (graft xs) ≢ a.input) × (x : Differing) × FindsFirst (first_visits (graft xs)) B (root (graft xs)) a.input x × (end ≡ failed (difference_cause x)))
-    ⊎ ((root (graft xs) ≡ a.input) × HeldEnds B C c d end)
+-- the graft of the lines is the recorded input
+abbrev pub grafted : {A : Type 0} → Blobs → ActionValue → List (List Name × NodeValue)
+    → Stage (Cause A) (Unit {0})
+grafted B action nodes = record {
+  passes = λ _. root (graft nodes) ≡ action.input;
+  fails = λ cause.
+      (root (graft nodes) ≢ action.input) × (x : Differing)
+      × FindsFirst (first_visits (graft nodes)) B (root (graft nodes)) action.input x
+      × (cause ≡ difference_cause x);
+}
 
--- ---- 5: each line has its origin
+-- a result is held under the action's digest
+abbrev pub held : {A : Type 0} → Blobs → DigestValue → Stage (Cause A) ActionResultValue
+held C d = record {
+  passes = HoldsResult C d;
+  fails = λ cause.
+      ((C d ≡ None) × (cause ≡ ResultMissing))
+      ⊎ ((bytes : List ℕ) × (C d ≡ Some bytes)
+      × ((r : ActionResultValue) → Reads r bytes → ⊥) × (cause ≡ ResultMalformed));
+}
 
-abbrev pub LinesEnd : {A : Type 0} → Blobs → Blobs → DigestValue → List OutcomeValue → StepValue → ActionValue → CommandValue → DigestValue → Ended A → Type 0
-LinesEnd {A} B C sources outcomes s a c d end =
-    ((cause : Cause A) × FirstFault B sources outcomes s.lines cause × (end ≡ failed cause))
-    ⊎ ((xs : List (List Name × NodeValue)) × Resolves B sources outcomes s.lines xs × InputEnds B C a c d xs end)
+-- the recorded process ended well
+abbrev pub succeeded : {A : Type 0} → ActionResultValue → Stage (Cause A) (Unit {0})
+succeeded result = demands (result.exit_code ≡ pos 0) (ExitCode result.exit_code)
 
--- ---- 4: the action's frame is the plan's
+-- why an output is refused: the command doesn't list it, or its Tree isn't told
+abbrev pub IsRefusedOutput : {A : Type 0} → Blobs → CommandValue → RecordedValue → Cause A → Type 0
+IsRefusedOutput B c x cause =
+    ((Contains c.output_paths (recorded_path x) → ⊥) × (cause ≡ OutputUnlisted (recorded_path x)))
+    ⊎ (Contains c.output_paths (recorded_path x)
+    × (f : Fault) × IsOutputFault B x f × (cause ≡ cause_of f))
 
-abbrev pub FrameEnds : {A : Type 0} → Blobs → Blobs → DigestValue → List OutcomeValue → StepValue → ActionValue → CommandValue → DigestValue → Ended A → Type 0
-FrameEnds B C sources outcomes s a c d end =
-    ((digest_of (frame_bytes a.frame) ≢ s.frame) × (end ≡ failed FrameDiffers))
-    ⊎ ((digest_of (frame_bytes a.frame) ≡ s.frame) × LinesEnd B C sources outcomes s a c d end)
+-- why the first of the outputs that is refused is so
+abbrev pub OutputFault : {A : Type 0} → Blobs → CommandValue → List RecordedValue → Cause A → Type 0
+OutputFault B c [] cause = ⊥
+OutputFault B c (x ∷ xs) cause =
+    IsRefusedOutput B c x cause
+    ⊎ (Contains c.output_paths (recorded_path x)
+    × (y : OutputValue) × StandsFor B x y × OutputFault B c xs cause)
 
--- ---- 2 and 3: the action may be cached, and its Command is told
+-- each output is one that the command lists
+abbrev pub AreListed : CommandValue → OutcomeValue → Type 0
+AreListed c o = AllByRecursion (Contains c.output_paths) (output_paths o.outputs)
 
-abbrev pub ActionEnds : {A : Type 0} → Blobs → Blobs → DigestValue → List OutcomeValue → StepValue → ActionValue → DigestValue → Ended A → Type 0
-ActionEnds B C sources outcomes s a d end =
-    ((a.frame.do_not_cache ≡ true) × (end ≡ failed DoNotCache))
-    ⊎ ((a.frame.do_not_cache ≡ false) × ToldThen IsCommand command_bytes B a.frame.command (λ c. FrameEnds B C sources outcomes s a c d end) end)
+-- each output, by path, is one that the command lists, and its Tree is told
+abbrev pub read : {A : Type 0} → Blobs → CommandValue → ActionResultValue
+    → Stage (Cause A) OutcomeValue
+read B command result = record {
+  passes = λ outcome. IsRecorded B result outcome × AreListed command outcome;
+  fails = λ cause. (xs : List RecordedValue) × AreOutputs result xs
+      × OutputFault B command xs cause;
+}
 
--- ---- 1: the recorded Action is told. How the check of a step with a recorded digest ends, where earlier steps came to these outcomes
+-- ---- all of them, in their order
 
-abbrev pub StepEnds : {A : Type 0} → Blobs → Blobs → DigestValue → List OutcomeValue → StepValue → DigestValue → Ended A → Type 0
-StepEnds B C sources outcomes s d end = ToldThen IsAction action_bytes B d (λ a. ActionEnds B C sources outcomes s a d end) end
+-- The check of a step with a recorded digest, where the steps before it came to these outcomes, by
+-- what a source tells. It passes with the outcome that was recorded.
+abbrev pub step_check : {A : Type 0} → Telling → DigestValue → List OutcomeValue → StepValue
+    → DigestValue → Stage (Cause A) OutcomeValue
+step_check tells sources outcomes step d =
+    message IsAction action_bytes tells.blobs d and_then λ action.
+    cached action and_then λ _.
+    message IsCommand command_bytes tells.blobs action.frame.command and_then λ command.
+    framed action step.frame and_then λ _.
+    resolved tells.blobs sources outcomes step.lines and_then λ nodes.
+    grafted tells.blobs action nodes and_then λ _.
+    held tells.results d and_then λ result.
+    succeeded result and_then λ _.
+    read tells.blobs command result

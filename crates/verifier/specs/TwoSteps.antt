@@ -1,63 +1,73 @@
--- A build of two steps, and a run of it. The step `gen` makes a directory `out` with a file `a`; the step `use` has that
--- file at `data/x` and makes a file `res`, which is the plan's `result`. The source tree is empty.
+-- A build of two steps, and a run of it. The step `gen` makes a directory `out` with a file `a`;
+-- the step `use` has that file at `data/x` and makes a file `res`, which is the plan's `result`.
+-- The source tree is empty.
 use Rattle.std.specs.Prelude.{ℕ, pos, false, List, [], ◌∷◌, codes, Some, None, Result, Ok, Err, if◌then◌else◌}
 use Rattle.std.specs.Ordering.{is_eq}
 use Rattle.hex.specs.declared.error.FromHexError.{FromHexError}
 use Rattle.hex.specs.Hex.{decode_of}
 use Rattle.blob_digest.specs.Digest.{DigestValue, digest_cmp}
 use Rattle.messages.specs.Tree.{TreeValue, tree_bytes}
-use Rattle.actions.specs.Action.{with_input, action_bytes}
-use Rattle.actions.specs.ActionResult.{ActionResultValue, action_result_bytes}
-use Rattle.actions.specs.Command.{CommandValue, command_bytes}
-use Rattle.actions.specs.Frame.{FrameValue}
-use Rattle.actions.specs.Stream.{StreamValue}
+use Rattle.action_messages.specs.Action.{with_input, action_bytes}
+use Rattle.action_messages.specs.ActionResult.{ActionResultValue, action_result_bytes}
+use Rattle.action_messages.specs.Command.{CommandValue, command_bytes}
+use Rattle.action_messages.specs.Frame.{FrameValue}
+use Rattle.action_messages.specs.Stream.{StreamValue}
 use Rattle.plan.specs.Values.{output, PlanValue}
 use Rattle.tree.specs.Tree.{Tree, empty, leaf, folder, Leaf, file, single, whole}
 use Rattle.tree.specs.Form.{form, directory_of}
-use Rattle.tree.specs.Source.{Blobs}
+use Rattle.blob_source.specs.Source.{Blobs}
 use Rattle.verifier.specs.Build.{Meaning, ActionMeaning, Outcome, Event, start, finish, lose, State}
 
 -- ---- digests, by their texts
 
-abbrev pub bytes_of : Result (List ℕ) FromHexError → List ℕ
-bytes_of (Ok bytes) = bytes
-bytes_of (Err e) = []
+abbrev pub decoded_bytes : Result (List ℕ) FromHexError → List ℕ
+decoded_bytes (Ok bytes) = bytes
+decoded_bytes (Err e) = []
 
-abbrev pub named : List ℕ → ℕ → DigestValue
-named text size = record { hash = bytes_of (decode_of text); size = size }
+abbrev pub digest_named : List ℕ → ℕ → DigestValue
+digest_named text size = record { hash = decoded_bytes (decode_of text); size = size }
 
 unfoldable pub sources : DigestValue
-sources = named (codes "e3b0c44298fc1c149afbf4c8996fb92427ae41e4649b934ca495991b7852b855") 0
+sources = digest_named (codes "e3b0c44298fc1c149afbf4c8996fb92427ae41e4649b934ca495991b7852b855") 0
 
 unfoldable pub gen_command_digest : DigestValue
-gen_command_digest = named (codes "43b5603d8c920492eedab636629490a50d40f11971c950797c0d1711f10c1a39") 16
+gen_command_digest = digest_named
+    (codes "43b5603d8c920492eedab636629490a50d40f11971c950797c0d1711f10c1a39") 16
 
 unfoldable pub use_command_digest : DigestValue
-use_command_digest = named (codes "ce8a8059ab7ecd0520ec188764d4c3c8e56d0c35205b8058ddf3853ec7395e87") 16
+use_command_digest = digest_named
+    (codes "ce8a8059ab7ecd0520ec188764d4c3c8e56d0c35205b8058ddf3853ec7395e87") 16
 
 unfoldable pub gen_frame_digest : DigestValue
-gen_frame_digest = named (codes "bd339d8d91c018e516e108e168b9d93805d002156c0a4b5c9217902e870e003b") 70
+gen_frame_digest = digest_named
+    (codes "bd339d8d91c018e516e108e168b9d93805d002156c0a4b5c9217902e870e003b") 70
 
 unfoldable pub use_frame_digest : DigestValue
-use_frame_digest = named (codes "f7fd538a1a558788f2635e15ec55bc303b4d3cf08cd0b1e4294be8071203942b") 70
+use_frame_digest = digest_named
+    (codes "f7fd538a1a558788f2635e15ec55bc303b4d3cf08cd0b1e4294be8071203942b") 70
 
 unfoldable pub gen_action_digest : DigestValue
-gen_action_digest = named (codes "5a185e72d4310898344d5ab18f8496f6a1d13cf7743b074da01eda5ebd541fb5") 138
+gen_action_digest = digest_named
+    (codes "5a185e72d4310898344d5ab18f8496f6a1d13cf7743b074da01eda5ebd541fb5") 138
 
 unfoldable pub use_action_digest : DigestValue
-use_action_digest = named (codes "c6dea7f262ab600975ab975663137f6b0e75599de4257077560190bf9ebcac59") 140
+use_action_digest = digest_named
+    (codes "c6dea7f262ab600975ab975663137f6b0e75599de4257077560190bf9ebcac59") 140
 
 unfoldable pub input_digest : DigestValue
-input_digest = named (codes "7b70ba397f62d1c448897c06501b8d8e1f61634a5b619836c14d439f0160ac8b") 78
+input_digest = digest_named
+    (codes "7b70ba397f62d1c448897c06501b8d8e1f61634a5b619836c14d439f0160ac8b") 78
 
 unfoldable pub tree_digest : DigestValue
-tree_digest = named (codes "b702720dfa91251d7827a7c362e98aec2fbb92800b4cd6d796eb0b8b84a40cb7") 77
+tree_digest = digest_named
+    (codes "b702720dfa91251d7827a7c362e98aec2fbb92800b4cd6d796eb0b8b84a40cb7") 77
 
 unfoldable pub newline_digest : DigestValue
-newline_digest = named (codes "01ba4719c80b6fe911b091a7c05124b64eeece964e09c058ef8f9805daca546b") 1
+newline_digest = digest_named
+    (codes "01ba4719c80b6fe911b091a7c05124b64eeece964e09c058ef8f9805daca546b") 1
 
 unfoldable pub claim : DigestValue
-claim = named (codes "e52456cc01aac4a9837dfa56d8c8ee186aa901ffd00cdd1fec2296d728042cf9") 80
+claim = digest_named (codes "e52456cc01aac4a9837dfa56d8c8ee186aa901ffd00cdd1fec2296d728042cf9") 80
 
 -- ---- the source tree, the plan and its meaning
 
@@ -68,21 +78,42 @@ abbrev pub plan : PlanValue
 plan = record {
   steps =
       record { name = codes "gen"; frame = gen_frame_digest; lines = [] } ∷
-      record { name = codes "use"; frame = use_frame_digest; lines = record { target = codes "data" ∷ codes "x" ∷ []; origin = output 0 (codes "out" ∷ codes "a" ∷ []) } ∷ [] } ∷
+      record {
+        name = codes "use";
+        frame = use_frame_digest;
+        lines =
+            record {
+              target = codes "data" ∷ codes "x" ∷ [];
+              origin = output 0 (codes "out" ∷ codes "a" ∷ []);
+            } ∷ [];
+      } ∷
       [];
   root_lines = record { target = codes "result" ∷ []; origin = output 1 (codes "res" ∷ []) } ∷ [];
 }
 
 -- a command that makes one output
 abbrev pub making : List ℕ → CommandValue
-making path = record { arguments = codes "/bin/true" ∷ []; environment = []; working_directory = None; output_paths = (path ∷ []) ∷ [] }
+making path = record {
+  arguments = codes "/bin/true" ∷ [];
+  environment = [];
+  working_directory = None;
+  output_paths = (path ∷ []) ∷ [];
+}
 
 -- a frame with nothing but a command
 abbrev pub framing : DigestValue → FrameValue
-framing digest = record { command = digest; do_not_cache = false; salt = []; platform = record { properties = [] } }
+framing digest = record {
+  command = digest;
+  do_not_cache = false;
+  salt = [];
+  platform = record { properties = [] };
+}
 
 abbrev pub meaning : Meaning
-meaning = record { frames = framing gen_command_digest ∷ framing use_command_digest ∷ []; commands = making (codes "out") ∷ making (codes "res") ∷ [] }
+meaning = record {
+  frames = framing gen_command_digest ∷ framing use_command_digest ∷ [];
+  commands = making (codes "out") ∷ making (codes "res") ∷ [];
+}
 
 -- ---- what the steps come to
 
@@ -120,10 +151,24 @@ abbrev pub no_stream : StreamValue
 no_stream = record { raw = []; digest = None }
 
 abbrev pub gen_result : ActionResultValue
-gen_result = record { files = []; directories = record { path = codes "out" ∷ []; tree = tree_digest } ∷ []; symlinks = []; exit_code = pos 0; stdout = no_stream; stderr = no_stream }
+gen_result = record {
+  files = [];
+  directories = record { path = codes "out" ∷ []; tree = tree_digest } ∷ [];
+  symlinks = [];
+  exit_code = pos 0;
+  stdout = no_stream;
+  stderr = no_stream;
+}
 
 abbrev pub use_result : ActionResultValue
-use_result = record { files = record { path = codes "res" ∷ []; digest = newline_digest; executable = false } ∷ []; directories = []; symlinks = []; exit_code = pos 0; stdout = no_stream; stderr = no_stream }
+use_result = record {
+  files = record { path = codes "res" ∷ []; digest = newline_digest; executable = false } ∷ [];
+  directories = [];
+  symlinks = [];
+  exit_code = pos 0;
+  stdout = no_stream;
+  stderr = no_stream;
+}
 
 -- what is kept under some digests, and nothing else
 abbrev pub keeping : List (DigestValue × List ℕ) → Blobs
@@ -140,7 +185,8 @@ kept_blobs =
     []
 
 abbrev pub kept_results : List (DigestValue × List ℕ)
-kept_results = (gen_action_digest, action_result_bytes gen_result) ∷ (use_action_digest, action_result_bytes use_result) ∷ []
+kept_results = (gen_action_digest, action_result_bytes gen_result) ∷
+    (use_action_digest, action_result_bytes use_result) ∷ []
 
 abbrev pub blobs : Blobs
 blobs = keeping kept_blobs
@@ -148,11 +194,12 @@ blobs = keeping kept_blobs
 abbrev pub results : Blobs
 results = keeping kept_results
 
--- ---- a run: `gen` is started twice, one of the jobs is lost, and the other finishes; `use` and, once more, `gen` are
--- started, and both finish
+-- ---- a run: `gen` is started twice, one of the jobs is lost, and the other finishes; `use` and,
+-- once more, `gen` are started, and both finish
 
 abbrev pub events : List Event
-events = start 0 0 ∷ start 0 1 ∷ lose 0 ∷ finish 1 gen.1 ∷ start 1 0 ∷ start 0 1 ∷ finish 1 gen.1 ∷ finish 0 uses.1 ∷ []
+events = start 0 0 ∷ start 0 1 ∷ lose 0 ∷ finish 1 gen.1 ∷ start 1 0 ∷ start 0 1 ∷ finish 1 gen.1 ∷
+    finish 0 uses.1 ∷ []
 
 abbrev pub end : State
 end = record { done = (1, uses.1) ∷ (0, gen.1) ∷ (0, gen.1) ∷ []; jobs = [] }

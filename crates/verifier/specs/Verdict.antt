@@ -1,44 +1,60 @@
--- The verdict on a plan: yes, or the first fault. The steps are checked in their order, and then the lines of the root.
-use Rattle.std.specs.Prelude.{◌≡◌, ◌≢◌, ◌⊎◌, List, [], ◌∷◌, ◌++◌, length}
+-- The verdict on a plan: yes, or the first fault. The steps are checked in their order, and then
+-- the lines of the root.
+use Rattle.std.specs.Prelude.{◌≡◌, List, [], ◌∷◌, ◌++◌, length}
 use Rattle.blob_digest.specs.Digest.{DigestValue}
 use Rattle.actions.specs.Outcome.{OutcomeValue}
 use Rattle.plan.specs.Values.{LineValue, StepValue, PlanValue}
-use Rattle.tree.specs.Tree.{Name}
-use Rattle.tree.specs.Form.{NodeValue, root}
+use Rattle.tree.specs.Form.{root}
 use Rattle.tree.specs.Graft.{graft}
-use Rattle.tree.specs.Source.{Blobs}
+use Rattle.blob_source.specs.Source.{Telling}
 use Rattle.verifier.specs.declared.verdict.Verdict.{Verdict}
 use Rattle.verifier.specs.declared.verdict.Verdict.TheVariants.{Yes, No}
+use Rattle.verifier.specs.declared.verdict.Place.{Place}
 use Rattle.verifier.specs.declared.verdict.Place.TheVariants.{Step, Root}
 use Rattle.verifier.specs.declared.verdict.Cause.{Cause}
 use Rattle.verifier.specs.declared.verdict.Cause.TheVariants.{RootDiffers}
-use Rattle.verifier.specs.Accepted.{Resolves, IsAccepted}
-use Rattle.verifier.specs.Faults.{FirstFault}
-use Rattle.verifier.specs.StepChecks.{passed, failed, StepEnds}
+use Rattle.verifier.specs.Stage.{Stage, ◌and_then◌, demands, comes_to}
+use Rattle.verifier.specs.StepChecks.{resolved, step_check}
 
--- each line of the root has its origin, but their graft isn't the claim
-abbrev pub Differs : {A : Type 0} → Blobs → DigestValue → List OutcomeValue → List LineValue → DigestValue → Cause A → Type 0
-Differs blobs sources outcomes lines claim c =
-    (xs : List (List Name × NodeValue)) × Resolves blobs sources outcomes lines xs × (root (graft xs) ≢ claim) × (c ≡ RootDiffers (root (graft xs)))
+-- the check of the root: each of its lines has its origin, and their graft is the claim
+abbrev pub root_check : {A : Type 0} → Telling → DigestValue → List OutcomeValue → List LineValue
+    → DigestValue → Stage (Cause A) (Unit {0})
+root_check tells sources outcomes lines claim =
+    resolved tells.blobs sources outcomes lines and_then λ nodes.
+    demands (root (graft nodes) ≡ claim) (RootDiffers (root (graft nodes)))
 
--- the verdict on the lines of the root, where so many steps came to these outcomes
-abbrev pub RootVerdict : {A : Type 0} → Blobs → DigestValue → List OutcomeValue → List LineValue → DigestValue → Verdict A → Type 0
-RootVerdict blobs sources outcomes lines claim (Yes r steps) = (r ≡ claim) × (steps ≡ length outcomes) × IsAccepted blobs sources outcomes lines claim
-RootVerdict blobs sources outcomes lines claim (No Root c) = FirstFault blobs sources outcomes lines c ⊎ Differs blobs sources outcomes lines claim c
-RootVerdict blobs sources outcomes lines claim (No (Step name) c) = ⊥
+-- a check, which fails with its place
+abbrev pub located : {A V : Type 0} → Place A → Stage (Cause A) V → Stage (Place A × Cause A) V
+located place check = record {
+  passes = check.passes;
+  fails = λ why. (why.0 ≡ place) × check.fails why.1;
+}
 
--- The steps that are left, each with its recorded action, are checked one after another: the first that fails is the
--- verdict, and each that passes leaves its outcome to those behind it.
-abbrev pub VerdictFrom : {A : Type 0} → Blobs → Blobs → DigestValue → List LineValue → DigestValue → List OutcomeValue → List StepValue → List DigestValue → Verdict A → Type 0
-VerdictFrom blobs results sources lines claim outcomes [] ds v = RootVerdict blobs sources outcomes lines claim v
-VerdictFrom blobs results sources lines claim outcomes (s ∷ ss) [] v = ⊥
-VerdictFrom {A} blobs results sources lines claim outcomes (s ∷ ss) (d ∷ ds) v =
-    ((c : Cause A) × StepEnds blobs results sources outcomes s d (failed c) × (v ≡ No (Step s.name) c))
-    ⊎ ((o : OutcomeValue) × StepEnds {A = A} blobs results sources outcomes s d (passed o) × VerdictFrom blobs results sources lines claim (outcomes ++ o ∷ []) ss ds v)
+-- The check of the steps that are left, each with its recorded digest, where those before them came
+-- to these outcomes. It passes with the outcomes of all.
+abbrev pub steps_check : {A : Type 0} → Telling → DigestValue → List OutcomeValue → List StepValue
+    → List DigestValue → Stage (Place A × Cause A) (List OutcomeValue)
+steps_check tells sources outcomes [] ds = comes_to outcomes
+steps_check tells sources outcomes (s ∷ ss) [] = record { passes = λ _. ⊥; fails = λ _. ⊥ }
+steps_check tells sources outcomes (s ∷ ss) (d ∷ ds) =
+    located (Step s.name) (step_check tells sources outcomes s d) and_then λ outcome.
+    steps_check tells sources (outcomes ++ outcome ∷ []) ss ds
 
--- the verdict on a plan with the recorded actions of its steps
-abbrev pub IsVerdict : {A : Type 0} → Blobs → Blobs → DigestValue → PlanValue → List DigestValue → DigestValue → Verdict A → Type 0
-IsVerdict blobs results sources plan recorded claim v = VerdictFrom blobs results sources plan.root_lines claim [] plan.steps recorded v
+-- the check of a plan with the recorded digests of its steps
+abbrev pub plan_check : {A : Type 0} → Telling → DigestValue → PlanValue → List DigestValue
+    → DigestValue → Stage (Place A × Cause A) (Unit {0})
+plan_check tells sources plan recorded claim =
+    steps_check tells sources [] plan.steps recorded and_then λ outcomes.
+    located Root (root_check tells sources outcomes plan.root_lines claim)
+
+-- the verdict on a plan: yes where its check passes, and else where and why it fails
+abbrev pub IsVerdict : {A : Type 0} → Telling → DigestValue → PlanValue → List DigestValue
+    → DigestValue → Verdict A → Type 0
+IsVerdict {A} tells sources plan recorded claim (Yes root steps) =
+    (root ≡ claim) × (steps ≡ length plan.steps)
+    × (plan_check {A = A} tells sources plan recorded claim).passes tt
+IsVerdict tells sources plan recorded claim (No place cause) =
+    (plan_check tells sources plan recorded claim).fails (place, cause)
 
 abbrev pub IsYes : {A : Type 0} → Verdict A → Type 0
 IsYes (Yes r steps) = Unit {0}

@@ -34,10 +34,10 @@ impl<A: Allocator, T: Drop> From<AllocFailed<T>> for Fault<A> {
 }
 
 impl<A: Allocator> From<FetchError> for Fault<A> {
-    ghost use Rattle.tree.specs.declared.source.FetchError.TheVariants as fetching;
-    ghost use Rattle.verifier.specs.Answers.{of_fetch};
+    ghost use Rattle.blob_source.specs.declared.source.FetchError.TheVariants as fetching;
+    ghost use Rattle.verifier.specs.Answers.{fault_of_fetch};
 
-    ghost from_gives = { λ error e. e ≡ of_fetch error };
+    ghost from_gives = { λ error e. e ≡ fault_of_fetch error };
 
     fn from(error: FetchError) -> Fault<A> {
         match error {

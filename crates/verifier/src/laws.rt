@@ -1,19 +1,24 @@
-ghost use Rattle.std.specs.Prelude.{◌≡◌, ◌↔◌, ℕ, List, length, ◌++◌, Some, Contains};
+ghost use Rattle.std.specs.Prelude.{◌≡◌, ◌↔◌, ℕ, List, [], length, ◌++◌, Some, Contains};
 ghost use Rattle.blob_digest.specs.Digest.{DigestValue, NoClash};
+ghost use Rattle.blob_digest.specs.DigestValue.{IsDigest};
 ghost use Rattle.plan.specs.Plan.{IsPlan};
-ghost use Rattle.plan.specs.Values.{PlanValue};
+ghost use Rattle.plan.specs.Values.{StepValue, PlanValue};
 ghost use Rattle.tree.specs.Form.{NodeValue, form, root};
-ghost use Rattle.tree.specs.Source.{Blobs};
+ghost use Rattle.blob_source.specs.Source.{Blobs, Telling};
 ghost use Rattle.tree.specs.Tree.{Name, Leaf, Entry, below_entry, IsOrdered};
 ghost use Rattle.verifier.specs.declared.verdict.Cause.TheVariants.{RootDiffers};
-ghost use Rattle.verifier.specs.declared.verdict.Place.TheVariants.{Root};
+ghost use Rattle.verifier.specs.declared.verdict.Place.TheVariants.{Root, Step};
 ghost use Rattle.verifier.specs.declared.verdict.Verdict.{Verdict};
 ghost use Rattle.verifier.specs.declared.verdict.Verdict.TheVariants.{Yes, No};
-ghost use Rattle.actions.specs.ActionResult.{ActionResultValue};
-ghost use Rattle.actions.specs.Outcome.{OutcomeValue, outputs_form};
+ghost use Rattle.action_messages.specs.ActionResult.{ActionResultValue};
+ghost use Rattle.actions.specs.Outcome.{OutcomeValue, IsOutcome, outputs_form};
+ghost use Rattle.std.specs.List.{AllByRecursion};
 ghost use Rattle.actions.specs.Recorded.{IsRecorded};
-ghost use Rattle.verifier.specs.AsRecorded.{IsPlanAsRecorded};
-ghost use Rattle.verifier.specs.Build.{Outcome, IsOutcome, output_at, opening, MeaningFits, IsTable, IsRun, HasFinishedAll};
+ghost use Rattle.verifier.specs.AsRecorded.{IsAsRecorded, AreAsRecorded, IsFirstUnlikeRecorded, IsPlanAsRecorded};
+ghost use Rattle.verifier.specs.Accepted.{IsAccepted};
+ghost use Rattle.verifier.specs.StepChecks.{step_check};
+ghost use Rattle.verifier.specs.declared.verdict.Cause.{Cause};
+ghost use Rattle.verifier.specs.Build.{Outcome, IsTreeOutcome, output_at, opening, MeaningFits, IsTable, IsRun, HasFinishedAll};
 ghost use Rattle.verifier.specs.Headline.{IsConcerned, EveryRunEndsIn, EveryRunIsAsChosen, NoRunIsStuck};
 ghost use Rattle.verifier.specs.Recorded.{RecordsAt, Agrees};
 ghost use Rattle.verifier.specs.TwoSteps as two;
@@ -25,42 +30,96 @@ use std::alloc::Allocator;
 /// stuck, and each runs the recorded actions and comes to the recorded outcomes. A law: it does
 /// nothing.
 pub fn recorded_plans_end_in_the_claim()
-    ensures ends { (blobs results : Blobs) (sources : DigestValue) (plan : PlanValue) (recorded : List DigestValue) (claim : DigestValue)
-        → IsPlanAsRecorded blobs results sources plan recorded claim → EveryRunEndsIn blobs results sources plan recorded claim }
-    ensures unstuck { (blobs results : Blobs) (sources : DigestValue) (plan : PlanValue) (recorded : List DigestValue) (claim : DigestValue)
-        → IsPlanAsRecorded blobs results sources plan recorded claim → NoRunIsStuck blobs results sources plan recorded }
-    ensures chosen { (blobs results : Blobs) (sources : DigestValue) (plan : PlanValue) (recorded : List DigestValue) (claim : DigestValue)
-        → IsPlanAsRecorded blobs results sources plan recorded claim → EveryRunIsAsChosen blobs results sources plan recorded }
+    ensures ends { (blobs results : Blobs) (sources : DigestValue) (plan : PlanValue)
+        (recorded : List DigestValue) (claim : DigestValue)
+        → IsPlanAsRecorded blobs results sources plan recorded claim
+        → EveryRunEndsIn blobs results sources plan recorded claim }
+    ensures unstuck { (blobs results : Blobs) (sources : DigestValue) (plan : PlanValue)
+        (recorded : List DigestValue) (claim : DigestValue)
+        → IsPlanAsRecorded blobs results sources plan recorded claim
+        → NoRunIsStuck blobs results sources plan recorded }
+    ensures chosen { (blobs results : Blobs) (sources : DigestValue) (plan : PlanValue)
+        (recorded : List DigestValue) (claim : DigestValue)
+        → IsPlanAsRecorded blobs results sources plan recorded claim
+        → EveryRunIsAsChosen blobs results sources plan recorded }
 {}
 
 /// A verdict is yes exactly where each step is as recorded and the root is accepted, and there the
 /// verdict is that; where it is that the root differs, the plan is as recorded with that root. A law:
 /// it does nothing.
 pub fn yes_is_as_recorded<A: Allocator>()
-    ensures yes { (blobs results : Blobs) (sources : DigestValue) (plan : PlanValue) (recorded : List DigestValue) (claim : DigestValue) (v : Verdict A)
-        → IsVerdict blobs results sources plan recorded claim v → (IsYes v ↔ IsPlanAsRecorded blobs results sources plan recorded claim) }
-    ensures accepted { (blobs results : Blobs) (sources : DigestValue) (plan : PlanValue) (recorded : List DigestValue) (claim : DigestValue)
-        → IsPlanAsRecorded blobs results sources plan recorded claim → IsVerdict {A = A} blobs results sources plan recorded claim (Yes claim (length plan.steps)) }
-    ensures differs { (blobs results : Blobs) (sources : DigestValue) (plan : PlanValue) (recorded : List DigestValue) (claim other : DigestValue)
-        → IsVerdict {A = A} blobs results sources plan recorded claim (No Root (RootDiffers other)) → IsPlanAsRecorded blobs results sources plan recorded other }
+    ensures yes { (tells : Telling) (sources : DigestValue) (plan : PlanValue)
+        (recorded : List DigestValue) (claim : DigestValue) (v : Verdict A)
+        → IsVerdict tells sources plan recorded claim v
+        → (IsYes v ↔ IsPlanAsRecorded tells.blobs tells.results sources plan recorded claim) }
+    ensures accepted { (tells : Telling) (sources : DigestValue) (plan : PlanValue)
+        (recorded : List DigestValue) (claim : DigestValue)
+        → IsPlanAsRecorded tells.blobs tells.results sources plan recorded claim
+        → IsVerdict {A = A} tells sources plan recorded claim (Yes claim (length plan.steps)) }
+    ensures differs { (tells : Telling) (sources : DigestValue) (plan : PlanValue)
+        (recorded : List DigestValue) (claim other : DigestValue)
+        → IsVerdict {A = A} tells sources plan recorded claim (No Root (RootDiffers other))
+        → IsPlanAsRecorded tells.blobs tells.results sources plan recorded other }
+{}
+
+/// The check of a step passes with an outcome exactly where the step is as recorded with that
+/// outcome, and where it fails, the step isn't as recorded with any. A law: it does nothing.
+pub fn steps_are_as_recorded<A: Allocator>()
+    ensures passes { (tells : Telling) (sources : DigestValue) (before : List OutcomeValue)
+        (step : StepValue) (d : DigestValue) (o : OutcomeValue)
+        → ((step_check {A = A} tells sources before step d).passes o
+        ↔ IsAsRecorded tells.blobs tells.results sources before step d o) }
+    ensures fails { (tells : Telling) (sources : DigestValue) (before : List OutcomeValue)
+        (step : StepValue) (d : DigestValue) (cause : Cause A)
+        → AllByRecursion IsOutcome before → (step_check tells sources before step d).fails cause
+        → (o : OutcomeValue) → IsAsRecorded tells.blobs tells.results sources before step d o → ⊥ }
+{}
+
+/// Where the verdict is no at a step, every step before it is as recorded, and this one isn't; where
+/// it is no at the root, every step is as recorded, and the root isn't accepted. A law: it does
+/// nothing.
+pub fn no_is_unlike_recorded<A: Allocator>()
+    ensures step { (tells : Telling) (sources : DigestValue) (plan : PlanValue)
+        (recorded : List DigestValue) (claim : DigestValue) (name : List ℕ) (cause : Cause A)
+        → IsVerdict tells sources plan recorded claim (No (Step name) cause)
+        → IsFirstUnlikeRecorded tells.blobs tells.results sources [] plan.steps recorded name }
+    ensures root { (tells : Telling) (sources : DigestValue) (plan : PlanValue)
+        (recorded : List DigestValue) (claim : DigestValue) (cause : Cause A)
+        → IsVerdict tells sources plan recorded claim (No Root cause)
+        → (outcomes : List OutcomeValue)
+        × AreAsRecorded tells.blobs tells.results sources [] plan.steps recorded outcomes
+        × (IsAccepted tells.blobs sources outcomes plan.root_lines claim → ⊥) }
+{}
+
+/// Every lawful plan with as many recorded digests has a verdict, whatever the source tells: it can't
+/// be that none is one. A law: it does nothing.
+pub fn plans_have_verdicts<A: Allocator>()
+    ensures { (tells : Telling) (sources : DigestValue) (plan : PlanValue)
+        (recorded : List DigestValue) (claim : DigestValue)
+        → IsDigest sources → IsPlan plan → length recorded ≡ length plan.steps
+        → ((v : Verdict A) → IsVerdict tells sources plan recorded claim v → ⊥) → ⊥ }
 {}
 
 /// What a source tells determines the verdict. A law: it does nothing.
 pub fn verdicts_are_single_valued<A: Allocator>()
-    ensures { (blobs results : Blobs) (sources : DigestValue) (plan : PlanValue) (recorded : List DigestValue) (claim : DigestValue) (v w : Verdict A)
-        → IsVerdict blobs results sources plan recorded claim v → IsVerdict blobs results sources plan recorded claim w → v ≡ w }
+    ensures { (tells : Telling) (sources : DigestValue) (plan : PlanValue)
+        (recorded : List DigestValue) (claim : DigestValue) (v w : Verdict A)
+        → IsVerdict tells sources plan recorded claim v
+        → IsVerdict tells sources plan recorded claim w → v ≡ w }
 {}
 
 /// The premises of what a yes says can be met together, where the verdict is yes: by a build of two
 /// steps, one of which is started three times and lost once. A law: it does nothing.
 pub fn a_build_meets_the_premises()
     ensures plan { IsPlan two.plan }
-    ensures accepted { IsPlanAsRecorded two.blobs two.results two.sources two.plan two.recorded two.claim }
+    ensures accepted { IsPlanAsRecorded two.blobs two.results two.sources two.plan
+        two.recorded two.claim }
     ensures tree { IsOrdered two.tree × (root (form two.tree) ≡ two.sources) }
     ensures meaning { MeaningFits two.plan two.meaning }
     ensures table { IsTable two.table }
     ensures agrees { Agrees two.blobs two.results two.table two.table two.recorded }
-    ensures apart { NoClash (IsConcerned two.blobs two.plan two.meaning two.tree two.table two.events) }
+    ensures apart { NoClash (IsConcerned two.blobs two.plan two.meaning two.tree two.table
+        two.events) }
     ensures run { IsRun two.table two.plan two.meaning two.tree opening two.events two.end }
     ensures complete { HasFinishedAll two.plan two.end }
 {}
@@ -68,9 +127,12 @@ pub fn a_build_meets_the_premises()
 /// What the words of a record and of outcomes come to. A law: it does nothing.
 pub fn outcomes_are_maps()
     // An outcome has at a path what stands there below the one output that is at or above it.
-    ensures outputs { (o : Outcome) (p : List Name) (e : Entry Leaf) → IsOutcome o
-        → (output_at o.outputs p ≡ Some e ↔ ((x : List Name × Entry Leaf) × Contains o.outputs x × (q : List Name) × (p ≡ x.0 ++ q) × (below_entry q (Some x.1) ≡ Some e))) }
+    ensures outputs { (o : Outcome) (p : List Name) (e : Entry Leaf) → IsTreeOutcome o
+        → (output_at o.outputs p ≡ Some e
+        ↔ ((x : List Name × Entry Leaf) × Contains o.outputs x × (q : List Name)
+        × (p ≡ x.0 ++ q) × (below_entry q (Some x.1) ≡ Some e))) }
     // The outcome that a result stands for has at each output path what the result records there.
-    ensures recorded { (blobs : Blobs) (r : ActionResultValue) (o : OutcomeValue) (p : List Name) (x : NodeValue) → IsRecorded blobs r o
+    ensures recorded { (blobs : Blobs) (r : ActionResultValue) (o : OutcomeValue) (p : List Name)
+        (x : NodeValue) → IsRecorded blobs r o
         → (Contains (outputs_form o.outputs) (p, x) ↔ RecordsAt blobs r p x) }
 {}

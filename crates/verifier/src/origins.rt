@@ -1,13 +1,12 @@
-ghost use Rattle.std.specs.Prelude.{◌≡◌, ◌<◌, ◌≤◌, IfOk, IfErr, IsErrOf, length};
-ghost use Rattle.actions.specs.Outcome.{OutcomeValue};
+ghost use Rattle.std.specs.Prelude.{IfOk, IfErr, IsErrOf, length};
 ghost use Rattle.plan.specs.Values.{IsLine};
 ghost use Rattle.std.specs.List.{AllByRecursion};
 ghost use Rattle.tree.specs.Form.{node_value};
 ghost use Rattle.tree.specs.Lines.{lines_of};
 ghost use Rattle.tree.specs.Lookup.{found};
-ghost use Rattle.tree.specs.Source.{AsksSome};
 ghost use Rattle.verifier.specs.Accepted.{LooksAt, Resolves};
-ghost use Rattle.verifier.specs.Answers.{Explains};
+ghost use Rattle.blob_source.specs.Called.{Called};
+ghost use Rattle.verifier.specs.Stage.{Explains};
 ghost use Rattle.verifier.specs.Faults.{LineFault, FirstFault};
 
 use crate::fault::{Fault, fault_of};
@@ -28,11 +27,11 @@ fn find_origin<A: Allocator + Copy, S: BlobSource<A>>(
     source: &mut S,
 ) -> Result<Node<A>, Fault<A>>
     requires { IsLine (length outcomes.now) line.now }
-    ensures told { IfOk result (λ node. LooksAt (S.tells source.new).blobs sources.now outcomes.now line.now.origin (found (node_value node))) }
-    ensures faulty { IfErr result (λ e. Explains (LineFault (S.tells source.new).blobs sources.now outcomes.now line.now) e) }
-    ensures asked { AsksSome (S.tells source.old) (S.tells source.new) }
-    ensures failed { IsErrOf result Fault.Fetch → (S.tells source.old).failures < (S.tells source.new).failures }
-    ensures unfailed { (IsErrOf result Fault.Fetch → ⊥) → (S.tells source.new).failures ≡ (S.tells source.old).failures }
+    ensures told { IfOk result (λ node. LooksAt (S.tells source.new).blobs sources.now
+        outcomes.now line.now.origin (found (node_value node))) }
+    ensures faulty { IfErr result (Explains (LineFault (S.tells source.new).blobs sources.now
+        outcomes.now line.now)) }
+    ensures called { Called (S.tells source.old) (S.tells source.new) (IsErrOf result Fault.Fetch) }
 {
     match &line.origin {
         Origin::Source(path) => match lookup(alloc, sources, path.as_ref(), source) {
@@ -55,11 +54,11 @@ pub(crate) fn resolve<A: Allocator + Copy, S: BlobSource<A>>(
     source: &mut S,
 ) -> Result<Vec<(Path<A>, Node<A>), A>, Fault<A>>
     requires { AllByRecursion (IsLine (length outcomes.now)) lines.now }
-    ensures told { IfOk result (λ nodes. Resolves (S.tells source.new).blobs sources.now outcomes.now lines.now (lines_of nodes.items)) }
-    ensures faulty { IfErr result (λ e. Explains (FirstFault (S.tells source.new).blobs sources.now outcomes.now lines.now) e) }
-    ensures asked { AsksSome (S.tells source.old) (S.tells source.new) }
-    ensures failed { IsErrOf result Fault.Fetch → (S.tells source.old).failures < (S.tells source.new).failures }
-    ensures unfailed { (IsErrOf result Fault.Fetch → ⊥) → (S.tells source.new).failures ≡ (S.tells source.old).failures }
+    ensures told { IfOk result (λ nodes. Resolves (S.tells source.new).blobs sources.now
+        outcomes.now lines.now (lines_of nodes.items)) }
+    ensures faulty { IfErr result (Explains (FirstFault (S.tells source.new).blobs sources.now
+        outcomes.now lines.now)) }
+    ensures called { Called (S.tells source.old) (S.tells source.new) (IsErrOf result Fault.Fetch) }
 {
     let mut nodes = Vec::new(alloc);
     for line in lines {

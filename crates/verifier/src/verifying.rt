@@ -1,20 +1,20 @@
-ghost use Rattle.std.specs.Prelude.{◌≡◌, ◌<◌, [], IfOk, IfErr, IsErrOf, length};
+ghost use Rattle.std.specs.Prelude.{◌≡◌, [], IfOk, IsErrOf, length};
 ghost use Rattle.std.specs.List.{AllByRecursion};
-ghost use Rattle.actions.specs.Outcome.{OutcomeValue};
 ghost use Rattle.plan.specs.Values.{IsLine};
 ghost use Rattle.plan.specs.Plan.{AreSteps};
 ghost use Rattle.plan.specs.Record.{Fits};
+ghost use Rattle.blob_source.specs.Called.{Called};
 ghost use Rattle.tree.specs.Graft.{HaveApartTargets};
-ghost use Rattle.tree.specs.Source.{AsksSome};
 ghost use Rattle.verifier.specs.Accepted.{targets};
 ghost use Rattle.verifier.specs.Answers.{IsChecked};
+ghost use Rattle.verifier.specs.Checks.{Checks};
 ghost use Rattle.verifier.specs.Headline.{EveryRunEndsIn, NoRunIsStuck};
-ghost use Rattle.verifier.specs.Verdict.{RootVerdict, IsVerdict, IsYes};
+ghost use Rattle.verifier.specs.Verdict.{root_check, IsVerdict, IsYes};
 
 use crate::error::VerifyError;
 use crate::fault::Fault;
 use crate::origins::resolve;
-use crate::steps::{Check, check_step};
+use crate::steps::check_step;
 use crate::verdict::{Cause, Place, Verdict};
 use actions::Outcome;
 use blob_digest::Digest;
@@ -53,20 +53,14 @@ fn check_steps<A: Allocator + Copy, S: BlobSource<A>>(
 ) -> Result<Checked<A>, VerifyError>
     requires lawful { AreSteps [] steps.now }
     requires each { length recorded.now ≡ length steps.now }
-    ensures checked { IfOk result (IsChecked (S.tells source.new).blobs (S.tells source.new).results sources.now steps.now recorded.now) }
-    ensures asked { AsksSome (S.tells source.old) (S.tells source.new) }
-    ensures failed { IsErrOf result VerifyError.Fetch → (S.tells source.old).failures < (S.tells source.new).failures }
-    ensures unfailed { (IsErrOf result VerifyError.Fetch → ⊥) → (S.tells source.new).failures ≡ (S.tells source.old).failures }
+    ensures checked { IfOk result (IsChecked (S.tells source.new) sources.now steps.now
+        recorded.now) }
+    ensures called { Called (S.tells source.old) (S.tells source.new)
+        (IsErrOf result VerifyError.Fetch) }
 {
     let mut outcomes = Vec::new(alloc);
     for (index, step) in steps.iter().enumerate() {
-        let check = Check {
-            sources,
-            outcomes: &outcomes,
-            step,
-            recorded: &recorded[index],
-        };
-        match check_step(alloc, &check, source) {
+        match check_step(alloc, sources, &outcomes, step, &recorded[index], source) {
             Ok(outcome) => outcomes.push(outcome)?,
             Err(fault) => {
                 let cause = cause_in(fault)?;
@@ -77,36 +71,27 @@ fn check_steps<A: Allocator + Copy, S: BlobSource<A>>(
     Ok(Checked::Outcomes(outcomes))
 }
 
-/// The verdict on the lines of the root, where the steps came to these outcomes.
-fn judge_root<A: Allocator + Copy, S: BlobSource<A>>(
+/// Each line of the root has its origin, and their graft is the claim. The steps came to these
+/// outcomes.
+fn check_root<A: Allocator + Copy, S: BlobSource<A>>(
     alloc: A,
     sources: &Digest,
     outcomes: &[Outcome<A>],
     lines: &[Line<A>],
     claim: &Digest,
     source: &mut S,
-) -> Result<Verdict<A>, VerifyError>
+) -> Result<(), Fault<A>>
     requires lawful { AllByRecursion (IsLine (length outcomes.now)) lines.now }
     requires apart { HaveApartTargets (targets lines.now) }
-    ensures verdict { IfOk result (RootVerdict (S.tells source.new).blobs sources.now outcomes.now lines.now claim.now) }
-    ensures asked { AsksSome (S.tells source.old) (S.tells source.new) }
-    ensures failed { IsErrOf result VerifyError.Fetch → (S.tells source.old).failures < (S.tells source.new).failures }
-    ensures unfailed { (IsErrOf result VerifyError.Fetch → ⊥) → (S.tells source.new).failures ≡ (S.tells source.old).failures }
+    ensures { Checks (λ tells. root_check tells sources.now outcomes.now lines.now claim.now)
+        (S.tells source.old) (S.tells source.new) result }
 {
-    match resolve(alloc, sources, outcomes, lines, source) {
-        Err(fault) => Ok(Verdict::No(Place::Root, cause_in(fault)?)),
-        Ok(nodes) => {
-            let root = graft(alloc, &nodes)?.root;
-            if root == *claim {
-                Ok(Verdict::Yes {
-                    root,
-                    steps: outcomes.len() as u64,
-                })
-            } else {
-                Ok(Verdict::No(Place::Root, Cause::RootDiffers(root)))
-            }
-        }
+    let nodes = resolve(alloc, sources, outcomes, lines, source)?;
+    let root = graft(alloc, &nodes)?.root;
+    if root != *claim {
+        return Err(Fault::Cause(Cause::RootDiffers(root)));
     }
+    Ok(())
 }
 
 /// The verdict, as far as it is told by what is checked.
@@ -119,16 +104,21 @@ fn decide<A: Allocator + Copy, S: BlobSource<A>>(
     source: &mut S,
 ) -> Result<Verdict<A>, VerifyError>
     requires { length recorded.now ≡ length plan.now.steps }
-    ensures verdict { IfOk result (IsVerdict (S.tells source.new).blobs (S.tells source.new).results sources.now plan.now recorded.now claim.now) }
-    ensures asked { AsksSome (S.tells source.old) (S.tells source.new) }
-    ensures failed { IsErrOf result VerifyError.Fetch → (S.tells source.old).failures < (S.tells source.new).failures }
-    ensures unfailed { (IsErrOf result VerifyError.Fetch → ⊥) → (S.tells source.new).failures ≡ (S.tells source.old).failures }
+    ensures verdict { IfOk result (IsVerdict (S.tells source.new) sources.now plan.now
+        recorded.now claim.now) }
+    ensures called { Called (S.tells source.old) (S.tells source.new)
+        (IsErrOf result VerifyError.Fetch) }
 {
-    match check_steps(alloc, sources, plan.steps(), recorded, source)? {
-        Checked::First(name, cause) => Ok(Verdict::No(Place::Step(name), cause)),
-        Checked::Outcomes(outcomes) => {
-            judge_root(alloc, sources, &outcomes, plan.root(), claim, source)
-        }
+    let outcomes = match check_steps(alloc, sources, plan.steps(), recorded, source)? {
+        Checked::First(name, cause) => return Ok(Verdict::No(Place::Step(name), cause)),
+        Checked::Outcomes(outcomes) => outcomes,
+    };
+    match check_root(alloc, sources, &outcomes, plan.root(), claim, source) {
+        Err(fault) => Ok(Verdict::No(Place::Root, cause_in(fault)?)),
+        Ok(()) => Ok(Verdict::Yes {
+            root: *claim,
+            steps: outcomes.len() as u64,
+        }),
     }
 }
 
@@ -146,13 +136,18 @@ pub fn verify<A: Allocator + Copy, S: BlobSource<A>>(
 ) -> Result<Verdict<A>, VerifyError>
     requires { Fits «record».now plan.now }
     // The one verdict, by what the source tells.
-    ensures verdict { IfOk result (IsVerdict (S.tells source.new).blobs (S.tells source.new).results sources.now plan.now «record».now.digests claim.now) }
-    // Where it is yes, every complete run of the plan ends in exactly the claimed root, and no run is ever stuck.
-    ensures holds { IfOk result (λ verdict. IsYes verdict → EveryRunEndsIn (S.tells source.new).blobs (S.tells source.new).results sources.now plan.now «record».now.digests claim.now) }
-    ensures unstuck { IfOk result (λ verdict. IsYes verdict → NoRunIsStuck (S.tells source.new).blobs (S.tells source.new).results sources.now plan.now «record».now.digests) }
-    ensures asked { AsksSome (S.tells source.old) (S.tells source.new) }
-    ensures failed { IsErrOf result VerifyError.Fetch → (S.tells source.old).failures < (S.tells source.new).failures }
-    ensures unfailed { (IsErrOf result VerifyError.Fetch → ⊥) → (S.tells source.new).failures ≡ (S.tells source.old).failures }
+    ensures verdict { IfOk result (IsVerdict (S.tells source.new) sources.now plan.now
+        «record».now.digests claim.now) }
+    // Where it is yes, every complete run of the plan ends in exactly the claimed root, and no run
+    // is ever stuck.
+    ensures holds { IfOk result (λ verdict. IsYes verdict
+        → EveryRunEndsIn (S.tells source.new).blobs (S.tells source.new).results
+        sources.now plan.now «record».now.digests claim.now) }
+    ensures unstuck { IfOk result (λ verdict. IsYes verdict
+        → NoRunIsStuck (S.tells source.new).blobs (S.tells source.new).results
+        sources.now plan.now «record».now.digests) }
+    ensures called { Called (S.tells source.old) (S.tells source.new)
+        (IsErrOf result VerifyError.Fetch) }
 {
     decide(alloc, sources, plan, record.digests(), claim, source)
 }

@@ -1,11 +1,11 @@
 -- The first fault of a varint is the one that its bytes have.
-use Rattle.std.proofs.Common.{◌≡◌, ℕ, zero, suc, ◌+◌, ◌-◌, ◌*◌, ◌<◌, ◌≤◌, cond, eqb, ltb, List, [], ◌∷◌, length, Result, Ok, Err, refl, sym, ap, subst, arith, inl, inr}
+use Rattle.std.proofs.Common.{◌≡◌, ℕ, zero, suc, ◌+◌, ◌-◌, ◌*◌, ◌<◌, ◌≤◌, true, cond, eqb, ltb, List, [], ◌∷◌, length, Result, Ok, Err, refl, sym, ap, subst, arith, inl, inr}
 use Rattle.std.specs.List.{AllByRecursion}
 use Rattle.std.proofs.lemmas.Bool.{eqb-true, ltb-true, ltb-false}
 use Rattle.wire.specs.declared.error.WireError.{WireError}
 use Rattle.wire.specs.declared.error.WireError.TheVariants.{Truncated, VarintTooLong, NotMinimal, BadWireType, BadNumber}
 use Rattle.wire.specs.Steps.{◌>>=◌}
-use Rattle.wire.specs.Varint.{groups_at, varint_at, StandsBehind, HasVarintFault}
+use Rattle.wire.specs.Varint.{groups_by, varint_by, varint_at, StandsBehind, HasVarintFault}
 use Rattle.wire.proofs.Records.{chosen}
 
 -- the fault of the groups behind a first one
@@ -22,14 +22,14 @@ failed e = Err e
 pub err_is : {A : Type 0} (d e : WireError) → failed {A = A} d ≡ failed e → d ≡ e
 err_is d e h = cc
 
-bind_err : {A B : Type 0} (r : Result A WireError) (f : A → B) (e : WireError) → (r >>= λ x. Ok (f x)) ≡ Err e → r ≡ Err e
+pub bind_err : {A B : Type 0} (r : Result A WireError) (f : A → B) (e : WireError) → (r >>= λ x. Ok (f x)) ≡ Err e → r ≡ Err e
 bind_err (Ok x) f e h = absurd cc
 bind_err {A} {B} (Err d) f e h = let same : d ≡ e = err_is {A = B} d e h in ap (λ (x : WireError). failed {A = A} x) same
 
-none_before : (b : ℕ) (bytes : List ℕ) → StandsBehind [] b (b ∷ bytes)
+pub none_before : (b : ℕ) (bytes : List ℕ) → StandsBehind [] b (b ∷ bytes)
 none_before b bytes = record { follow = tt; rest = bytes; parts = refl }
 
-one_before : (a b : ℕ) (front bytes : List ℕ) → 128 ≤ a → StandsBehind front b bytes → StandsBehind (a ∷ front) b (a ∷ bytes)
+pub one_before : (a b : ℕ) (front bytes : List ℕ) → 128 ≤ a → StandsBehind front b bytes → StandsBehind (a ∷ front) b (a ∷ bytes)
 one_before a b front bytes le s = record { follow = (le, s.follow); rest = s.rest; parts = ap (λ (l : List ℕ). a ∷ l) s.parts }
 
 more_fault : (count b : ℕ) (bytes : List ℕ) (e : WireError) → 128 ≤ b → HasGroupsFault count e bytes → HasGroupsFault (suc count) e (b ∷ bytes)
@@ -49,8 +49,8 @@ nought_fault count b bytes e h =
       | inr g ↦ let no = g.1 in absurd cc
     ]
 
-groups_faulty : (count : ℕ) (bytes : List ℕ) (e : WireError) → groups_at count bytes ≡ Err e → HasGroupsFault count e bytes
-unfolding groups_at
+groups_faulty : (count : ℕ) (bytes : List ℕ) (e : WireError) → groups_by true count bytes ≡ Err e → HasGroupsFault count e bytes
+unfolding groups_by
 groups_faulty zero [] e h = subst (λ (d : WireError). HasGroupsFault zero d []) (err_is {A = ℕ × List ℕ} Truncated e h) (omega arith, tt)
 groups_faulty (suc count) [] e h = subst (λ (d : WireError). HasGroupsFault (suc count) d []) (err_is {A = ℕ × List ℕ} Truncated e h) (omega arith, tt)
 groups_faulty zero (b ∷ bytes) e h =
@@ -61,9 +61,9 @@ groups_faulty zero (b ∷ bytes) e h =
       | inr g ↦ nought_fault zero b bytes e g.1
     ]
 groups_faulty (suc count) (b ∷ bytes) e h =
-    elim (chosen (ltb b 128) (cond (eqb b 0) (Err NotMinimal) (Ok (b, bytes))) (groups_at count bytes >>= λ high. Ok (b - 128 + 128 * high.0, high.1)) (Err e) h) [
+    elim (chosen (ltb b 128) (cond (eqb b 0) (Err NotMinimal) (Ok (b, bytes))) (groups_by true count bytes >>= λ high. Ok (b - 128 + 128 * high.0, high.1)) (Err e) h) [
       | inl g ↦ nought_fault (suc count) b bytes e g.1
-      | inr g ↦ more_fault count b bytes e (ltb-false b 128 g.0) (groups_faulty count bytes e (bind_err (groups_at count bytes) (λ high. (b - 128 + 128 * high.0, high.1)) e g.1))
+      | inr g ↦ more_fault count b bytes e (ltb-false b 128 g.0) (groups_faulty count bytes e (bind_err (groups_by true count bytes) (λ high. (b - 128 + 128 * high.0, high.1)) e g.1))
     ]
 
 whole_fault : (b : ℕ) (bytes : List ℕ) (e : WireError) → 128 ≤ b → HasGroupsFault 8 e bytes → HasVarintFault e (b ∷ bytes)
@@ -74,10 +74,10 @@ whole_fault b bytes BadWireType le h = absurd h
 whole_fault b bytes BadNumber le h = absurd h
 
 pub varint_faulty : (bytes : List ℕ) (e : WireError) → varint_at bytes ≡ Err e → HasVarintFault e bytes
-unfolding varint_at
+unfolding varint_by
 varint_faulty [] e h = subst (λ (d : WireError). HasVarintFault d []) (err_is {A = ℕ × List ℕ} Truncated e h) (omega arith, tt)
 varint_faulty (b ∷ bytes) e h =
-    elim (chosen (ltb b 128) (Ok (b, bytes)) (groups_at 8 bytes >>= λ high. Ok (b - 128 + 128 * high.0, high.1)) (Err e) h) [
+    elim (chosen (ltb b 128) (Ok (b, bytes)) (groups_by true 8 bytes >>= λ high. Ok (b - 128 + 128 * high.0, high.1)) (Err e) h) [
       | inl g ↦ let no = g.1 in absurd cc
-      | inr g ↦ whole_fault b bytes e (ltb-false b 128 g.0) (groups_faulty 8 bytes e (bind_err (groups_at 8 bytes) (λ high. (b - 128 + 128 * high.0, high.1)) e g.1))
+      | inr g ↦ whole_fault b bytes e (ltb-false b 128 g.0) (groups_faulty 8 bytes e (bind_err (groups_by true 8 bytes) (λ high. (b - 128 + 128 * high.0, high.1)) e g.1))
     ]

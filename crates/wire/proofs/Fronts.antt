@@ -10,16 +10,16 @@ use Rattle.wire.proofs.Faults.{varint_faulty}
 use Rattle.wire.proofs.Records.{varint_takes, varint_again}
 use Rattle.wire.proofs.Steps.{ok_is}
 
-abbrev Front : Type 0
+abbrev pub Front : Type 0
 Front = ℕ × ℕ
 
-abbrev answered : Front → Result Front WireError
+abbrev pub answered : Front → Result Front WireError
 answered found = Ok found
 
-abbrev rest_of : List ℕ → Front → ℕ × List ℕ
+abbrev pub rest_of : List ℕ → Front → ℕ × List ℕ
 rest_of bytes found = (found.0, drop found.1 bytes)
 
-same_front : (a b m n : ℕ) → a ≡ b → m ≡ n → answered (a, m) ≡ answered (b, n)
+pub same_front : (a b m n : ℕ) → a ≡ b → m ≡ n → answered (a, m) ≡ answered (b, n)
 same_front a b m n p q = ap (λ (k : ℕ). answered (k, m)) p ∙ ap (λ (k : ℕ). answered (b, k)) q
 
 pub front_found : (bytes : List ℕ) (r : Result Front WireError) → IsBytes bytes → Gives (rest_of bytes) r (varint_at bytes) → IfOk r (λ found. found.1 ≤ length bytes) → IfOk r (λ found. take found.1 bytes ≡ varint found.0)

@@ -4,7 +4,7 @@ use Rattle.std.proofs.lemmas.Bool.{lt-ltb, le-ltb, cases_lt}
 use Rattle.wire.specs.Varint.{groups, varint, group_sum, AreGroups, IsShortest}
 use Rattle.wire.proofs.Varints.{limit}
 
-AreGroups-cons : (b : ℕ) (bytes : List ℕ) → 128 ≤ b → AreGroups bytes → AreGroups (b ∷ bytes)
+pub AreGroups-cons : (b : ℕ) (bytes : List ℕ) → 128 ≤ b → AreGroups bytes → AreGroups (b ∷ bytes)
 AreGroups-cons b [] le are = absurd are
 AreGroups-cons b (c ∷ bytes) le are = (le, are)
 

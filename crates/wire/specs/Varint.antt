@@ -1,6 +1,6 @@
 -- Varints (Protocol Buffers encoding guide, "Base 128 Varints"): a number of at most 64 bits in
 -- groups of seven bits, the low group first.
-use Rattle.std.specs.Prelude.{◌≡◌, ℕ, zero, suc, ◌+◌, ◌-◌, ◌*◌, ◌/◌, ◌%◌, ◌<◌, ◌≤◌, nat_lt, ◌==◌, List, [], ◌∷◌, ◌++◌, length, Result, Ok, Err, if◌then◌else◌}
+use Rattle.std.specs.Prelude.{◌≡◌, ℕ, zero, suc, ◌+◌, ◌-◌, ◌*◌, ◌/◌, ◌%◌, ◌<◌, ◌≤◌, Bool, true, false, nat_lt, ◌==◌, ◌&&◌, List, [], ◌∷◌, ◌++◌, length, Result, Ok, Err, if◌then◌else◌}
 use Rattle.std.specs.List.{AllByRecursion}
 use Rattle.wire.specs.declared.error.WireError.{WireError}
 use Rattle.wire.specs.declared.error.WireError.TheVariants.{Truncated, VarintTooLong, NotMinimal, BadWireType, BadNumber}
@@ -37,15 +37,22 @@ pub record IsShortest (n : ℕ) (bytes : List ℕ) : Type 0 where
 -- ---- reading
 
 -- A number and the bytes after it, or the first fault: the groups behind a first one, of which at
--- most count and one come.
-unfoldable pub groups_at : ℕ → List ℕ → Result (ℕ × List ℕ) WireError
-groups_at count [] = Err Truncated
-groups_at zero (b ∷ bytes) = if nat_lt 1 b then Err VarintTooLong else (if b == 0 then Err NotMinimal else Ok (b, bytes))
-groups_at (suc count) (b ∷ bytes) = if nat_lt b 128 then (if b == 0 then Err NotMinimal else Ok (b, bytes)) else (groups_at count bytes >>= λ high. Ok (b - 128 + 128 * high.0, high.1))
+-- most count and one come. The last is not nought where the shortest form is asked for.
+unfoldable pub groups_by : Bool → ℕ → List ℕ → Result (ℕ × List ℕ) WireError
+groups_by shortest count [] = Err Truncated
+groups_by shortest zero (b ∷ bytes) = if nat_lt 1 b then Err VarintTooLong else (if shortest && (b == 0) then Err NotMinimal else Ok (b, bytes))
+groups_by shortest (suc count) (b ∷ bytes) = if nat_lt b 128 then (if shortest && (b == 0) then Err NotMinimal else Ok (b, bytes)) else (groups_by shortest count bytes >>= λ high. Ok (b - 128 + 128 * high.0, high.1))
 
-unfoldable pub varint_at : List ℕ → Result (ℕ × List ℕ) WireError
-varint_at [] = Err Truncated
-varint_at (b ∷ bytes) = if nat_lt b 128 then Ok (b, bytes) else (groups_at 8 bytes >>= λ high. Ok (b - 128 + 128 * high.0, high.1))
+unfoldable pub varint_by : Bool → List ℕ → Result (ℕ × List ℕ) WireError
+varint_by shortest [] = Err Truncated
+varint_by shortest (b ∷ bytes) = if nat_lt b 128 then Ok (b, bytes) else (groups_by shortest 8 bytes >>= λ high. Ok (b - 128 + 128 * high.0, high.1))
+
+-- in the shortest form, and in any
+abbrev pub varint_at : List ℕ → Result (ℕ × List ℕ) WireError
+varint_at bytes = varint_by true bytes
+
+abbrev pub any_varint_at : List ℕ → Result (ℕ × List ℕ) WireError
+any_varint_at bytes = varint_by false bytes
 
 -- ---- the faults, of which no bytes have two
 

@@ -1,6 +1,6 @@
 -- Each beginning of the path's text is searched for.
 use Rattle.std.proofs.Common.{◌≡◌, ◌+◌, take, map, refl, sym, ap, subst, ◌∙◌, arith}
-use Rattle.actions.proofs.Searches.{texts_in}
+use Rattle.action_messages.proofs.Searches.{texts_in}
 use Rattle.actions.proofs.PathLookups.{Passed, slashes, past, over_front, over_whole, over_none, passed_slash, passed_other}
 use Rattle.actions.proofs.looking_up.find_over.Goals.{then-byte-eq47+in_default, else-byte-eq47}
 use Rattle.actions.proofs.looking_up.find_over.Goals as goal

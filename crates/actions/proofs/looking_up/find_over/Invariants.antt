@@ -1,4 +1,4 @@
-use Rattle.actions.proofs.Searches.{texts_in}
+use Rattle.action_messages.proofs.Searches.{texts_in}
 use Rattle.actions.proofs.PathLookups.{Passed}
 use Rattle.actions.proofs.looking_up.find_over.Given as goal
 

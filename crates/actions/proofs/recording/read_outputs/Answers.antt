@@ -1,7 +1,7 @@
 -- What was read stays told while the next is read; its fault is the first.
 use Rattle.std.proofs.Common.{◌+◌, ◌∙◌}
 use Rattle.std.proofs.lemmas.Result.{err_from_is_err_and}
-use Rattle.tree.proofs.Asking.{ok_no_error}
+use Rattle.blob_source.proofs.Asking.{ok_no_error}
 use Rattle.actions.proofs.Reading.{asks_next, asks_all, reads_next, fault_next}
 use Rattle.actions.proofs.recording.read_outputs.Goals as goal
 

@@ -1,7 +1,8 @@
 use Rattle.std.proofs.Common.{◌≡◌, length}
-use Rattle.tree.specs.Source.{Asks}
+use Rattle.blob_source.specs.Source.{Asks}
 use Rattle.actions.specs.Outcome.{outputs_in}
-use Rattle.actions.specs.Recorded.{StandForAll, directories_among}
+use Rattle.action_messages.specs.Outputs.{directories_among}
+use Rattle.actions.specs.Recorded.{StandForAll}
 use Rattle.actions.proofs.Reading.{read_so_far}
 use Rattle.actions.proofs.recording.read_outputs.Given as goal
 

@@ -2,9 +2,9 @@ use Rattle.std.proofs.Common.{sym, subst, ◌∙◌}
 use Rattle.std.specs.Prelude.{FitsSigned}
 use Rattle.std.specs.Int.{w32}
 use Rattle.std.proofs.lemmas.Int.{to_z-of_z}
-use Rattle.actions.specs.Recorded.{recorded_values}
+use Rattle.action_messages.specs.Outputs.{recorded_values}
 use Rattle.actions.specs.Outcome.{outputs_in}
-use Rattle.tree.proofs.Asking.{ok_no_error}
+use Rattle.blob_source.proofs.Asking.{ok_no_error}
 use Rattle.actions.proofs.Outcomes.{lawful_outcome, recorded_outcome}
 use Rattle.actions.proofs.recording.recorded.Goals as goal
 

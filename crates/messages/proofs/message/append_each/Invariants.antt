@@ -6,6 +6,6 @@ use Rattle.messages.proofs.message.append_each.Given as goal
 
 abbrev pub invariant-loop-message : goal.invariant-loop-message
 invariant-loop-message g l = record {
-  rest : l.out.items ++ spelling (element_fields l.number (map g.M.Message.spells (drop l.message-index l.messages))) ≡ l.fn.out.items ++ spelling (element_fields l.number (map g.M.Message.spells l.messages));
+  rest : l.out.items ++ spelling (element_fields l.number (map g.M.Encode.spells (drop l.message-index l.messages))) ≡ l.fn.out.items ++ spelling (element_fields l.number (map g.M.Encode.spells l.messages));
   front : Begins l.fn.out.items l.out.items;
 }

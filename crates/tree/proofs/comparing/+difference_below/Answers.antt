@@ -5,7 +5,8 @@ use Rattle.tree.specs.Lookup.{names_in}
 use Rattle.tree.specs.Unfolding.{ExplainsChild}
 use Rattle.tree.specs.Difference.{Finds, child_of, differing, ExplainsDifference}
 use Rattle.tree.specs.Comparing.{encodings_in, IsUnlike}
-use Rattle.tree.proofs.Asking.{asks_first, asks_both, asks_below, leaves_then, ok_no_error}
+use Rattle.blob_source.proofs.Asking.{asks_first, asks_both, asks_below, ok_no_error}
+use Rattle.tree.proofs.Leaving.{leaves_then}
 use Rattle.tree.proofs.OwnDirectories.{ok_more, err_more}
 use Rattle.tree.proofs.DifferenceSteps.{ReadsBoth, reads_still, reads_both, finds_recorded, finds_grafted, finds_others, finds_last, finds_below, recorded_fault, grafted_fault, child_fault, explains_below}
 use Rattle.tree.proofs.comparing.+difference_below.Goals as goal

@@ -1,11 +1,11 @@
 -- The Directory is read where its digest first stands, and else fetched.
 use Rattle.std.proofs.Common.{ap, sym, ◌∙◌, subst, inl, inr}
-use Rattle.tree.specs.Told.{TellsDirectory, FailsDirectory}
+use Rattle.blob_source.specs.Told.{TellsDirectory, FailsDirectory}
 use Rattle.tree.specs.Comparing.{encodings_in}
 use Rattle.tree.specs.Difference.{IsFirstOf, Reads, FailsToRead}
 use Rattle.tree.specs.TreeError.{Explains}
 use Rattle.tree.proofs.OwnDirectories.{none_of, first_of, encoding_at, ok_more, err_more, explains_more, no_refusal}
-use Rattle.tree.proofs.Asking.{leaves_none, leaves_at}
+use Rattle.tree.proofs.Leaving.{leaves_none, leaves_at}
 use Rattle.tree.proofs.comparing.read_directory.Goals as goal
 
 pub returns-in_default-clause-told : goal.returns-in_default-clause-told

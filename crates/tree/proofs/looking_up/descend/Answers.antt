@@ -3,7 +3,7 @@ use Rattle.std.proofs.Common.{ap, sym, ◌∙◌}
 use Rattle.std.specs.Prelude.{Some, None}
 use Rattle.std.proofs.lemmas.Result.{err_from_is_err_and}
 use Rattle.messages.specs.Node.{child}
-use Rattle.tree.proofs.Asking.{asks_more, asks_then, ok_no_error}
+use Rattle.blob_source.proofs.Asking.{asks_more, asks_then, ok_no_error}
 use Rattle.tree.proofs.Descent.{goes_dir, goes_child, goes_nowhere, goes_wrong}
 use Rattle.tree.proofs.looking_up.descend.Goals as goal
 

@@ -1,7 +1,7 @@
 use Rattle.std.proofs.Common.{◌≡◌, drop}
 use Rattle.std.specs.Prelude.{Some}
 use Rattle.tree.specs.Form.{node_value}
-use Rattle.tree.specs.Source.{Asks}
+use Rattle.blob_source.specs.Source.{Asks}
 use Rattle.tree.proofs.Descent.{GoesOn}
 use Rattle.tree.proofs.looking_up.descend.Given as goal
 

@@ -7,8 +7,9 @@ use Rattle.tree.specs.Form.{node_value}
 use Rattle.tree.specs.FlatTree.{flat_value}
 use Rattle.tree.specs.Lookup.{names_in}
 use Rattle.tree.specs.Unfolding.{child_values, AreChildren, ExplainsChild}
-use Rattle.tree.proofs.Asking.{ok_no_error}
-use Rattle.tree.proofs.UnfoldSteps.{Unfolds, fault_here, asks_one, asks_some_more, unfolds_first, unfolds_leaf, unfolds_folder, unfolds_end, child_too_deep, child_fault, flat_pushed, counts_leaf, counts_folder}
+use Rattle.blob_source.proofs.Asking.{ok_no_error}
+use Rattle.blob_source.proofs.Asking.{asks_one, asks_some_more}
+use Rattle.tree.proofs.UnfoldSteps.{Unfolds, fault_here, unfolds_first, unfolds_leaf, unfolds_folder, unfolds_end, child_too_deep, child_fault, flat_pushed, counts_leaf, counts_folder}
 use Rattle.tree.proofs.unfolding.+unfold_below.Goals as goal
 use Rattle.tree.proofs.unfolding.+unfold_below.Goals.{in-File+in_ok-push-in-File, in-Link+in_ok-push-in-Link, in-Dir+in_ok-push-in-Dir+in_ok-unfold_below-in-Dir+in-Some-1, in-Dir+in_ok-push-in-Dir+in_ok-unfold_below-in-Dir+in-None-1}
 

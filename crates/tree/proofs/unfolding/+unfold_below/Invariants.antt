@@ -1,5 +1,5 @@
 use Rattle.std.proofs.Common.{◌≡◌, ◌+◌, ◌-◌, ◌≤◌, length}
-use Rattle.tree.specs.Source.{AsksSome}
+use Rattle.blob_source.specs.Source.{AsksSome}
 use Rattle.tree.specs.FlatTree.{flat_value}
 use Rattle.tree.specs.Lookup.{names_in}
 use Rattle.tree.specs.Unfolded.{directories_in}

@@ -1,21 +1,100 @@
--- The recorded action, and what is behind that.
-use Rattle.actions.specs.Action.{IsAction, action_bytes}
-use Rattle.tree.proofs.UnfoldSteps.{asks_some_more, asks_one}
-use Rattle.verifier.specs.StepChecks.{passed, failed, ActionEnds, StepEnds}
-use Rattle.verifier.proofs.Checking.{oks, errs, told_next}
+-- The checks, one after another: each exit of a `?` stands on the checks that have passed.
+use Rattle.std.proofs.Common.{◌≡◌, sym, subst, rules}
+use Rattle.blob_source.proofs.Asking.{ok_no_error}
+use Rattle.tree.specs.Lines.{lines_of}
+use Rattle.verifier.specs.Faults.{FirstFault}
+use Rattle.verifier.specs.Stage.{Explains}
+use Rattle.blob_source.proofs.Calling.{called_none, called_no}
+use Rattle.verifier.proofs.Explained.{told_at, resolves_at}
+use Rattle.verifier.proofs.ChecksThen.{checks_none, checks_both, checks_then, checks_exit, stable_without, stable_message, stable_resolved, stable_grafted, stable_held}
+use Rattle.verifier.proofs.Targets.{apart_nodes}
 use Rattle.verifier.proofs.steps.check_step.Goals as goal
 
-pub returns-clause-passed : goal.returns-clause-passed
-returns-clause-passed g c =
-    let tells = g.S.BlobSource.tells c.check_action.new.source in
-    oks c.check_action.result (λ o. ActionEnds {A = g.row.A.Denot} tells.blobs tells.results c.args.check.now.sources.now c.args.check.now.outcomes.now c.args.check.now.step.now c.in_ok-action.action c.args.check.now.recorded.now (passed o)) (λ o. StepEnds {A = g.row.A.Denot} tells.blobs tells.results c.args.check.now.sources.now c.args.check.now.outcomes.now c.args.check.now.step.now c.args.check.now.recorded.now (passed o))
-    (λ o h. told_next IsAction action_bytes _ tells.blobs c.args.check.now.recorded.now c.in_ok-action.action (λ a. ActionEnds tells.blobs tells.results c.args.check.now.sources.now c.args.check.now.outcomes.now c.args.check.now.step.now a c.args.check.now.recorded.now (passed o)) (passed o) c.check_action.ensures.asked.asks.blobs c.in_ok-action.ensures.told h) c.check_action.ensures.passed
+pub returns-in_err-action : goal.returns-in_err-action
+returns-in_err-action g c =
+    checks_exit _ _ c.from_residual.ensures.1 c.in_err-action.ensures.checked c.in_err-action.ensures.called
 
-pub returns-clause-failed : goal.returns-clause-failed
-returns-clause-failed g c =
-    let tells = g.S.BlobSource.tells c.check_action.new.source in
-    errs c.check_action.result (λ e. ActionEnds tells.blobs tells.results c.args.check.now.sources.now c.args.check.now.outcomes.now c.args.check.now.step.now c.in_ok-action.action c.args.check.now.recorded.now (failed e)) (λ e. StepEnds tells.blobs tells.results c.args.check.now.sources.now c.args.check.now.outcomes.now c.args.check.now.step.now c.args.check.now.recorded.now (failed e))
-    (λ e h. told_next IsAction action_bytes _ tells.blobs c.args.check.now.recorded.now c.in_ok-action.action (λ a. ActionEnds tells.blobs tells.results c.args.check.now.sources.now c.args.check.now.outcomes.now c.args.check.now.step.now a c.args.check.now.recorded.now (failed e)) (failed e) c.check_action.ensures.asked.asks.blobs c.in_ok-action.ensures.told h) c.check_action.ensures.failed
+pub returns-in_err-check_cached : goal.returns-in_err-check_cached
+returns-in_err-check_cached g c =
+    checks_then _ stable_message (checks_both _ _ _ _ c.in_ok-action.ensures.checked c.in_ok-action.ensures.called)
+    (checks_exit _ _ c.from_residual-in_err-check_cached.ensures.1 c.in_err-check_cached.ensures.checked (called_none c.in_err-check_cached.ensures.fetch))
 
-pub returns-clause-asked : goal.returns-clause-asked
-returns-clause-asked g c = asks_some_more (asks_one c.told.ensures.asked) c.check_action.ensures.asked
+pub returns-in_err-command : goal.returns-in_err-command
+returns-in_err-command g c =
+    checks_then _ stable_message (checks_both _ _ _ _ c.in_ok-action.ensures.checked c.in_ok-action.ensures.called)
+    (checks_then _ stable_without (checks_none _ _ _ c.in_ok-check_cached.ensures.checked ok_no_error)
+    (checks_exit _ _ c.from_residual-in_err-command.ensures.1 (rw (sym c.command_digest.ensures.value) c.in_err-command.ensures.checked) c.in_err-command.ensures.called))
+
+pub returns-in_err-check_frame : goal.returns-in_err-check_frame
+returns-in_err-check_frame g c =
+    checks_then _ stable_message (checks_both _ _ _ _ c.in_ok-action.ensures.checked c.in_ok-action.ensures.called)
+    (checks_then _ stable_without (checks_none _ _ _ c.in_ok-check_cached.ensures.checked ok_no_error)
+    (checks_then _ stable_message (checks_both _ _ _ _ (told_at c.command_digest.ensures.value c.in_ok-command.ensures.checked) c.in_ok-command.ensures.called)
+    (checks_exit _ _ c.from_residual-in_err-check_frame.ensures.1 c.in_err-check_frame.ensures.checked (called_none c.in_err-check_frame.ensures.fetch))))
+
+pub returns-in_err-nodes : goal.returns-in_err-nodes
+returns-in_err-nodes g c =
+    let same : c.deref.result.now ≡ c.args.step.now.lines = search rules in
+    let tells = g.S.BlobSource.tells c.resolve.new.source in
+    let why = subst (λ ls. Explains (FirstFault tells.blobs c.args.sources.now c.args.outcomes.now ls) c.in_err-nodes.field-0.0) same c.in_err-nodes.ensures.faulty in
+    checks_then _ stable_message (checks_both _ _ _ _ c.in_ok-action.ensures.checked c.in_ok-action.ensures.called)
+    (checks_then _ stable_without (checks_none _ _ _ c.in_ok-check_cached.ensures.checked ok_no_error)
+    (checks_then _ stable_message (checks_both _ _ _ _ (told_at c.command_digest.ensures.value c.in_ok-command.ensures.checked) c.in_ok-command.ensures.called)
+    (checks_then _ stable_without (checks_none _ _ _ c.in_ok-check_frame.ensures.checked ok_no_error)
+    (checks_exit _ _ c.from_residual-in_err-nodes.ensures.1 why c.in_err-nodes.ensures.called))))
+
+pub returns-in_err-check_input : goal.returns-in_err-check_input
+returns-in_err-check_input g c =
+    let same : c.deref.result.now ≡ c.args.step.now.lines = search rules in
+    let origins = resolves_at (g.S.BlobSource.tells c.resolve.new.source).blobs c.args.sources.now c.args.outcomes.now _ _ _ _ same (sym c.deref-2.ensures.value) c.in_ok-nodes.ensures.told in
+    checks_then _ stable_message (checks_both _ _ _ _ c.in_ok-action.ensures.checked c.in_ok-action.ensures.called)
+    (checks_then _ stable_without (checks_none _ _ _ c.in_ok-check_cached.ensures.checked ok_no_error)
+    (checks_then _ stable_message (checks_both _ _ _ _ (told_at c.command_digest.ensures.value c.in_ok-command.ensures.checked) c.in_ok-command.ensures.called)
+    (checks_then _ stable_without (checks_none _ _ _ c.in_ok-check_frame.ensures.checked ok_no_error)
+    (checks_then _ (stable_resolved _ _ _) (checks_both _ _ _ _ origins (called_no ok_no_error ok_no_error c.in_ok-nodes.ensures.called))
+    (checks_exit _ _ c.from_residual-in_err-check_input.ensures.1 c.in_err-check_input.ensures.checked c.in_err-check_input.ensures.called)))))
+
+pub returns-in_err-made : goal.returns-in_err-made
+returns-in_err-made g c =
+    let same : c.deref.result.now ≡ c.args.step.now.lines = search rules in
+    let origins = resolves_at (g.S.BlobSource.tells c.resolve.new.source).blobs c.args.sources.now c.args.outcomes.now _ _ _ _ same (sym c.deref-2.ensures.value) c.in_ok-nodes.ensures.told in
+    checks_then _ stable_message (checks_both _ _ _ _ c.in_ok-action.ensures.checked c.in_ok-action.ensures.called)
+    (checks_then _ stable_without (checks_none _ _ _ c.in_ok-check_cached.ensures.checked ok_no_error)
+    (checks_then _ stable_message (checks_both _ _ _ _ (told_at c.command_digest.ensures.value c.in_ok-command.ensures.checked) c.in_ok-command.ensures.called)
+    (checks_then _ stable_without (checks_none _ _ _ c.in_ok-check_frame.ensures.checked ok_no_error)
+    (checks_then _ (stable_resolved _ _ _) (checks_both _ _ _ _ origins (called_no ok_no_error ok_no_error c.in_ok-nodes.ensures.called))
+    (checks_then _ (stable_grafted c.in_ok-action.action (lines_of c.deref-2.result.now)) (checks_both _ _ _ _ c.in_ok-check_input.ensures.checked c.in_ok-check_input.ensures.called)
+    (checks_exit _ _ c.from_residual-in_err-made.ensures.1 c.in_err-made.ensures.checked c.in_err-made.ensures.called))))))
+
+pub returns-in_err-check_exit_code : goal.returns-in_err-check_exit_code
+returns-in_err-check_exit_code g c =
+    let same : c.deref.result.now ≡ c.args.step.now.lines = search rules in
+    let origins = resolves_at (g.S.BlobSource.tells c.resolve.new.source).blobs c.args.sources.now c.args.outcomes.now _ _ _ _ same (sym c.deref-2.ensures.value) c.in_ok-nodes.ensures.told in
+    checks_then _ stable_message (checks_both _ _ _ _ c.in_ok-action.ensures.checked c.in_ok-action.ensures.called)
+    (checks_then _ stable_without (checks_none _ _ _ c.in_ok-check_cached.ensures.checked ok_no_error)
+    (checks_then _ stable_message (checks_both _ _ _ _ (told_at c.command_digest.ensures.value c.in_ok-command.ensures.checked) c.in_ok-command.ensures.called)
+    (checks_then _ stable_without (checks_none _ _ _ c.in_ok-check_frame.ensures.checked ok_no_error)
+    (checks_then _ (stable_resolved _ _ _) (checks_both _ _ _ _ origins (called_no ok_no_error ok_no_error c.in_ok-nodes.ensures.called))
+    (checks_then _ (stable_grafted c.in_ok-action.action (lines_of c.deref-2.result.now)) (checks_both _ _ _ _ c.in_ok-check_input.ensures.checked c.in_ok-check_input.ensures.called)
+    (checks_then _ stable_held (checks_both _ _ _ _ c.in_ok-made.ensures.checked c.in_ok-made.ensures.called)
+    (checks_exit _ _ c.from_residual-in_err-check_exit_code.ensures.1 c.in_err-check_exit_code.ensures.checked (called_none c.in_err-check_exit_code.ensures.fetch))))))))
+
+pub returns : goal.returns
+returns g c =
+    let same : c.deref.result.now ≡ c.args.step.now.lines = search rules in
+    let origins = resolves_at (g.S.BlobSource.tells c.resolve.new.source).blobs c.args.sources.now c.args.outcomes.now _ _ _ _ same (sym c.deref-2.ensures.value) c.in_ok-nodes.ensures.told in
+    checks_then _ stable_message (checks_both _ _ _ _ c.in_ok-action.ensures.checked c.in_ok-action.ensures.called)
+    (checks_then _ stable_without (checks_none _ _ _ c.in_ok-check_cached.ensures.checked ok_no_error)
+    (checks_then _ stable_message (checks_both _ _ _ _ (told_at c.command_digest.ensures.value c.in_ok-command.ensures.checked) c.in_ok-command.ensures.called)
+    (checks_then _ stable_without (checks_none _ _ _ c.in_ok-check_frame.ensures.checked ok_no_error)
+    (checks_then _ (stable_resolved _ _ _) (checks_both _ _ _ _ origins (called_no ok_no_error ok_no_error c.in_ok-nodes.ensures.called))
+    (checks_then _ (stable_grafted c.in_ok-action.action (lines_of c.deref-2.result.now)) (checks_both _ _ _ _ c.in_ok-check_input.ensures.checked c.in_ok-check_input.ensures.called)
+    (checks_then _ stable_held (checks_both _ _ _ _ c.in_ok-made.ensures.checked c.in_ok-made.ensures.called)
+    (checks_then _ stable_without (checks_none _ _ _ c.in_ok-check_exit_code.ensures.checked ok_no_error)
+    (checks_both _ _ _ _ c.read_outcome.ensures.checked c.read_outcome.ensures.called))))))))
+
+pub check_input-requires : goal.check_input-requires
+check_input-requires g c =
+    let same : c.deref.result.now ≡ c.args.step.now.lines = search rules in
+    let origins = resolves_at (g.S.BlobSource.tells c.resolve.new.source).blobs c.args.sources.now c.args.outcomes.now c.deref.result.now c.args.step.now.lines c.in_ok-nodes.nodes.items c.deref-2.result.now same (sym c.deref-2.ensures.value) c.in_ok-nodes.ensures.told in
+    apart_nodes _ c.args.sources.now c.args.outcomes.now c.args.step.now.lines (lines_of c.deref-2.result.now) origins c.requires.apart

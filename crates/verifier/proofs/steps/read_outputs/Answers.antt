@@ -3,29 +3,20 @@ use Rattle.std.proofs.Common.{◌≡◌, ◌+◌, ◌∷◌, [], ◌++◌, refl,
 use Rattle.std.proofs.lemmas.List.{map-append}
 use Rattle.std.proofs.lemmas.Result.{err_from_is_err_and}
 use Rattle.actions.specs.Outcome.{output_value, outputs_in}
-use Rattle.actions.specs.Recorded.{recorded_value, recorded_values}
-use Rattle.tree.proofs.Asking.{ok_no_error}
-use Rattle.tree.proofs.UnfoldSteps.{asks_some_more}
-use Rattle.verifier.specs.StepChecks.{IsRefused, OutputFault}
+use Rattle.action_messages.specs.Outputs.{recorded_value, recorded_values}
+use Rattle.blob_source.proofs.Asking.{ok_no_error}
+use Rattle.verifier.specs.StepChecks.{IsRefusedOutput, OutputFault}
+use Rattle.blob_source.proofs.Calling.{called_none, called_no, called_on, called_exit}
 use Rattle.verifier.proofs.Explained.{explains_map}
-use Rattle.verifier.proofs.Checking.{OutputsGoOn, outputs_next, outputs_fault, outputs_end}
+use Rattle.verifier.proofs.Checking.{OutputsGoOn, outputs_first, outputs_next, outputs_fault, outputs_end}
 use Rattle.verifier.proofs.steps.read_outputs.Goals as goal
 
 pub returns-in_err-read-clause-refused : goal.returns-in_err-read-clause-refused
 returns-in_err-read-clause-refused g c =
     let p = err_from_is_err_and c.from_residual.result c.from_residual.ensures.1 in
     let B = (g.S.BlobSource.tells c.read_output.new.source).blobs in
-    rw (p.1, p.2) (explains_map (IsRefused B c.args.command.now (recorded_value c.output-item.result)) (OutputFault B c.args.command.now (recorded_values c.args.recorded.now)) c.in_err-read.field-0.0
-    (λ cause h. outputs_fault _ B c.args.command.now (recorded_values c.args.recorded.now) _ c.args.recorded.now c.loop-output.output-index c.output-item.result cause c.loop-output-test.true c.output-item.is c.loop-output.invariant.goes c.read_output.ensures.asked.asks.blobs h) c.in_err-read.ensures.refused)
-
-pub returns-in_err-read-clause-asked : goal.returns-in_err-read-clause-asked
-returns-in_err-read-clause-asked g c = asks_some_more c.loop-output.invariant.asked c.read_output.ensures.asked
-
-pub returns-in_err-copy_of-clause-asked : goal.returns-in_err-copy_of-clause-asked
-returns-in_err-copy_of-clause-asked g c = asks_some_more c.loop-output.invariant.asked c.read_output.ensures.asked
-
-pub returns-in_err-push-clause-asked : goal.returns-in_err-push-clause-asked
-returns-in_err-push-clause-asked g c = asks_some_more c.loop-output.invariant.asked c.read_output.ensures.asked
+    rw (p.1, p.2) (explains_map (IsRefusedOutput B c.args.command.now (recorded_value c.output-item.result)) (OutputFault B c.args.command.now (recorded_values c.args.recorded.now)) c.in_err-read.field-0.0
+    (λ cause h. outputs_fault _ B c.args.command.now (recorded_values c.args.recorded.now) _ c.args.recorded.now c.loop-output.output-index c.output-item.result cause c.loop-output-test.true c.output-item.is c.loop-output.invariant.goes c.read_output.ensures.called.asked.asks.blobs h) c.in_err-read.ensures.refused)
 
 pub loop-output-preserved : goal.loop-output-preserved
 loop-output-preserved g c =
@@ -35,12 +26,29 @@ loop-output-preserved g c =
     let pushed : c.push.new.self.items ≡ c.loop-output.outputs.items ++ (path, read) ∷ [] = search rules in
     let values : outputs_in c.push.new.self.items ≡ outputs_in c.loop-output.outputs.items ++ (path, output_value read) ∷ [] = ap outputs_in pushed ∙ map-append (λ e. (e.0, output_value e.1)) c.loop-output.outputs.items ((path, read) ∷ []) in
     record {
-      asked = asks_some_more c.loop-output.invariant.asked c.read_output.ensures.asked;
-      unfailed = c.in_ok-read.ensures.unfailed ok_no_error ∙ c.loop-output.invariant.unfailed;
+      called = called_on c.loop-output.invariant.called (called_no ok_no_error (λ n. n) c.in_ok-read.ensures.called);
       goes = subst (λ es. OutputsGoOn g.row.A.Denot B c.args.command.now (recorded_values c.args.recorded.now) es (recorded_values (drop (c.loop-output.output-index + 1) c.args.recorded.now))) (sym values)
           (outputs_next _ B c.args.command.now (recorded_values c.args.recorded.now) (outputs_in c.loop-output.outputs.items) c.args.recorded.now c.loop-output.output-index c.output-item.result path (output_value read) c.loop-output-test.true c.output-item.is c.loop-output.invariant.goes
-          c.read_output.ensures.asked.asks.blobs ((c.in_ok-copy_of.ensures {u = tt}) ∙ c.path.ensures) (c.in_ok-read.ensures.listed refl) c.in_ok-read.ensures.read);
+          c.read_output.ensures.called.asked.asks.blobs ((c.in_ok-copy_of.ensures {u = tt}) ∙ c.path.ensures) (c.in_ok-read.ensures.listed refl) c.in_ok-read.ensures.read);
     }
 
 pub returns-clause-read : goal.returns-clause-read
 returns-clause-read g c = outputs_end {A = g.row.A.Denot} _ c.args.command.now (recorded_values c.args.recorded.now) (outputs_in c.loop-output.outputs.items) c.args.recorded.now c.loop-output.output-index c.loop-output-test.false c.loop-output.invariant.goes
+
+pub returns-in_err-read-clause-called : goal.returns-in_err-read-clause-called
+returns-in_err-read-clause-called g c = called_on c.loop-output.invariant.called (called_exit c.from_residual.ensures.1 c.in_err-read.ensures.called)
+
+pub returns-in_err-copy_of-clause-called : goal.returns-in_err-copy_of-clause-called
+returns-in_err-copy_of-clause-called g c = called_on c.loop-output.invariant.called (called_no ok_no_error (search rules) c.in_ok-read.ensures.called)
+
+pub returns-in_err-push-clause-called : goal.returns-in_err-push-clause-called
+returns-in_err-push-clause-called g c = called_on c.loop-output.invariant.called (called_no ok_no_error (search rules) c.in_ok-read.ensures.called)
+
+pub returns-clause-called : goal.returns-clause-called
+returns-clause-called g c = called_no (λ n. n) ok_no_error c.loop-output.invariant.called
+
+pub loop-output-init : goal.loop-output-init
+loop-output-init g c = record {
+  called = called_none (λ n. n);
+  goes = subst (λ es. OutputsGoOn g.row.A.Denot (g.S.BlobSource.tells c.args.source.now).blobs c.args.command.now (recorded_values c.args.recorded.now) (outputs_in es) (recorded_values c.args.recorded.now)) (sym c.new-outputs.ensures.items) (outputs_first _ _ _);
+}

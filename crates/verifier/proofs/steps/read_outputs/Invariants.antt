@@ -1,7 +1,7 @@
-use Rattle.std.proofs.Common.{◌≡◌, drop}
+use Rattle.std.proofs.Common.{drop}
 use Rattle.actions.specs.Outcome.{outputs_in}
-use Rattle.actions.specs.Recorded.{recorded_values}
-use Rattle.tree.specs.Source.{AsksSome}
+use Rattle.action_messages.specs.Outputs.{recorded_values}
+use Rattle.blob_source.specs.Called.{Called}
 use Rattle.verifier.proofs.Checking.{OutputsGoOn}
 use Rattle.verifier.proofs.steps.read_outputs.Given as goal
 
@@ -9,7 +9,6 @@ abbrev pub invariant-loop-output : goal.invariant-loop-output
 invariant-loop-output g l =
     let tells = g.S.BlobSource.tells in
     record {
-      asked : AsksSome (tells l.fn.source) (tells l.source);
-      unfailed : (tells l.source).failures ≡ (tells l.fn.source).failures;
+      called : Called (tells l.fn.source) (tells l.source) ⊥;
       goes : OutputsGoOn g.row.A.Denot (tells l.source).blobs l.command (recorded_values l.recorded) (outputs_in l.outputs.items) (recorded_values (drop l.output-index l.recorded));
     }

@@ -1,5 +1,5 @@
 use Rattle.std.proofs.Common.{◌≡◌, drop, length}
-use Rattle.tree.specs.Source.{AsksSome}
+use Rattle.blob_source.specs.Called.{Called}
 use Rattle.verifier.proofs.CheckingSteps.{StepsGoOn}
 use Rattle.verifier.proofs.verifying.check_steps.Given as goal
 
@@ -7,8 +7,7 @@ abbrev pub invariant-loop-index : goal.invariant-loop-index
 invariant-loop-index g l =
     let tells = g.S.BlobSource.tells in
     record {
-      asked : AsksSome (tells l.fn.source) (tells l.source);
+      called : Called (tells l.fn.source) (tells l.source) ⊥;
       count : length l.outcomes.items ≡ l.index;
-      unfailed : (tells l.source).failures ≡ (tells l.fn.source).failures;
-      goes : StepsGoOn g.row.A.Denot (tells l.source).blobs (tells l.source).results l.sources l.steps l.recorded l.outcomes.items (drop l.index l.steps) (drop l.index l.recorded);
+      goes : StepsGoOn g.row.A.Denot (tells l.source) l.sources l.steps l.recorded l.outcomes.items (drop l.index l.steps) (drop l.index l.recorded);
     }

@@ -1,63 +1,78 @@
 -- The steps, and then the root.
-use Rattle.std.proofs.Common.{◌≡◌, [], length, ap, sym, subst, ◌∙◌, arith}
-use Rattle.std.specs.Prelude.{IfOk}
+use Rattle.std.proofs.Common.{◌≡◌, [], length, ap, subst, sym, refl, arith, rules}
 use Rattle.std.specs.List.{AllByRecursion}
+use Rattle.std.specs.Prelude.{Err, IsErrOf}
+use Rattle.verifier.specs.declared.verdict.Place.TheVariants.{Step}
 use Rattle.plan.specs.Values.{IsLine}
 use Rattle.plan.specs.Plan as plans
-use Rattle.tree.proofs.Asking.{ok_no_error}
-use Rattle.tree.proofs.UnfoldSteps.{asks_some_more}
-use Rattle.verifier.specs.declared.verdict.Verdict.TheVariants.{No}
-use Rattle.verifier.specs.declared.verdict.Place.TheVariants.{Step}
-use Rattle.verifier.specs.Answers.{IsChecked, StepsPass}
-use Rattle.verifier.specs.Verdict.{RootVerdict, IsVerdict, VerdictFrom}
-use Rattle.verifier.proofs.Checking.{oks}
-use Rattle.verifier.proofs.CheckingSteps.{passes_count, passes_then, fails_then}
+use Rattle.blob_source.proofs.Asking.{ok_no_error}
+use Rattle.blob_source.proofs.Calling.{err_injective, called_as, called_no, called_ok, called_exit}
+use Rattle.verifier.specs.declared.error.VerifyError.TheVariants as errors
+use Rattle.verifier.specs.declared.verdict.Cause.{Cause}
+use Rattle.verifier.specs.Answers.{IsChecked}
+use Rattle.verifier.specs.Stage.{Explains}
+use Rattle.verifier.specs.Verdict.{root_check, steps_check}
+use Rattle.verifier.proofs.CheckingSteps.{passes_count, steps_decide, root_decides, all_pass_decides}
 use Rattle.verifier.proofs.Targets.{plan_targets}
 use Rattle.verifier.proofs.verifying.decide.Goals as goal
 
-pub judge_root-requires-clause-lawful : goal.judge_root-requires-clause-lawful
-judge_root-requires-clause-lawful g c =
+pub returns-in-First-clause-verdict : goal.returns-in-First-clause-verdict
+returns-in-First-clause-verdict g c =
     let told = g.S.BlobSource.tells c.check_steps.new.source in
-    let checked = subst (IsChecked told.blobs told.results c.args.sources.now c.steps.result.now c.args.recorded.now) c.in-Outcomes.is (c.in_ok-name.ensures {u = tt}).checked in
+    let checked = subst (IsChecked told c.args.sources.now c.steps.result.now c.args.recorded.now) c.in-First.is (c.in_ok-name.ensures {u = tt}).checked in
+    steps_decide g.row.A.Denot told c.args.sources.now c.args.plan.now c.args.recorded.now c.args.claim.now c.in-First.name c.in-First.cause
+    (subst (λ steps. (steps_check told c.args.sources.now [] steps c.args.recorded.now).fails (Step c.in-First.name, c.in-First.cause)) c.steps.ensures.value checked)
+
+pub check_root-requires-clause-lawful : goal.check_root-requires-clause-lawful
+check_root-requires-clause-lawful g c =
+    let told = g.S.BlobSource.tells c.check_steps.new.source in
+    let checked = subst (IsChecked told c.args.sources.now c.steps.result.now c.args.recorded.now) c.in-Outcomes.is (c.in_ok-name.ensures {u = tt}).checked in
     let count : length c.args.plan.now.steps ≡ length c.deref.result.now =
-    (let all = passes_count g.row.A.Denot told.blobs told.results c.args.sources.now [] c.steps.result.now c.args.recorded.now c.in-Outcomes.outcomes.items checked in
+    (let all = passes_count g.row.A.Denot told c.args.sources.now [] c.steps.result.now c.args.recorded.now c.in-Outcomes.outcomes.items checked in
     let steps = ap length c.steps.ensures.value in
     let items = ap length c.deref.ensures.value in
     omega (arith, all, steps, items)) in
     subst (λ lines. AllByRecursion (IsLine (length c.deref.result.now)) lines) (sym c.root.ensures.value) (subst (λ n. AllByRecursion (IsLine n) c.args.plan.now.root_lines) count c.root.ensures.lawful.root_lines.each)
 
-pub judge_root-requires-clause-apart : goal.judge_root-requires-clause-apart
-judge_root-requires-clause-apart g c =
+pub check_root-requires-clause-apart : goal.check_root-requires-clause-apart
+check_root-requires-clause-apart g c =
     let lines = c.root.ensures.lawful.root_lines in
     plan_targets (length c.args.plan.now.steps) c.root.result.now (subst (AllByRecursion (IsLine (length c.args.plan.now.steps))) (sym c.root.ensures.value) lines.each) (subst plans.HaveApartTargets (sym c.root.ensures.value) lines.apart)
 
-pub returns-in-First-clause-verdict : goal.returns-in-First-clause-verdict
-returns-in-First-clause-verdict g c =
+pub returns-in-Err-clause-verdict : goal.returns-in-Err-clause-verdict
+returns-in-Err-clause-verdict g c =
     let told = g.S.BlobSource.tells c.check_steps.new.source in
-    let checked = subst (IsChecked told.blobs told.results c.args.sources.now c.steps.result.now c.args.recorded.now) c.in-First.is (c.in_ok-name.ensures {u = tt}).checked in
-    subst (λ steps. VerdictFrom told.blobs told.results c.args.sources.now c.args.plan.now.root_lines c.args.claim.now [] steps c.args.recorded.now (No (Step c.in-First.name) c.in-First.cause)) c.steps.ensures.value
-    (fails_then told.blobs told.results c.args.sources.now c.args.plan.now.root_lines c.args.claim.now [] c.steps.result.now c.args.recorded.now c.in-First.name c.in-First.cause checked)
+    let later = g.S.BlobSource.tells c.check_root.new.source in
+    let asked = c.check_root.ensures.called.asked.asks in
+    let checked = subst (IsChecked told c.args.sources.now c.steps.result.now c.args.recorded.now) c.in-Outcomes.is (c.in_ok-name.ensures {u = tt}).checked in
+    let passes = subst (λ steps. (steps_check {A = g.row.A.Denot} told c.args.sources.now [] steps c.args.recorded.now).passes c.in-Outcomes.outcomes.items) c.steps.ensures.value checked in
+    let check = root_check {A = g.row.A.Denot} later c.args.sources.now c.deref.result.now c.root.result.now c.args.claim.now in
+    let why = subst (Explains check.fails) ((c.in_ok-cause_in-in-Err.ensures {u = tt}).cause) (c.in-Err.ensures {u = tt}).checked in
+    let fails = subst (λ os. (root_check later c.args.sources.now os c.args.plan.now.root_lines c.args.claim.now).fails c.in_ok-cause_in-in-Err.field-0) c.deref.ensures.value
+    (subst (λ ls. (root_check later c.args.sources.now c.deref.result.now ls c.args.claim.now).fails c.in_ok-cause_in-in-Err.field-0) c.root.ensures.value why) in
+    root_decides g.row.A.Denot told c.args.sources.now c.args.plan.now c.args.recorded.now c.args.claim.now later asked.blobs asked.results c.in-Outcomes.outcomes.items passes c.in_ok-cause_in-in-Err.field-0 fails
 
-pub returns-in-Outcomes-clause-verdict : goal.returns-in-Outcomes-clause-verdict
-returns-in-Outcomes-clause-verdict g c =
+pub returns-clause-verdict : goal.returns-clause-verdict
+returns-clause-verdict g c =
     let told = g.S.BlobSource.tells c.check_steps.new.source in
-    let checked = subst (IsChecked told.blobs told.results c.args.sources.now c.steps.result.now c.args.recorded.now) c.in-Outcomes.is (c.in_ok-name.ensures {u = tt}).checked in
-    let tells = g.S.BlobSource.tells c.judge_root.new.source in
-    let asked = c.judge_root.ensures.asked.asks in
-    let passes = subst (λ steps. StepsPass g.row.A.Denot told.blobs told.results c.args.sources.now [] steps c.args.recorded.now c.in-Outcomes.outcomes.items) c.steps.ensures.value checked in
-    let rooted = subst (λ os. IfOk c.judge_root.result (RootVerdict tells.blobs c.args.sources.now os c.args.plan.now.root_lines c.args.claim.now)) c.deref.ensures.value
-    (subst (λ lines. IfOk c.judge_root.result (RootVerdict tells.blobs c.args.sources.now c.deref.result.now lines c.args.claim.now)) c.root.ensures.value c.judge_root.ensures.verdict) in
-    oks c.judge_root.result (RootVerdict tells.blobs c.args.sources.now c.in-Outcomes.outcomes.items c.args.plan.now.root_lines c.args.claim.now) (IsVerdict tells.blobs tells.results c.args.sources.now c.args.plan.now c.args.recorded.now c.args.claim.now)
-    (λ v h. passes_then told.blobs told.results tells.blobs tells.results c.args.sources.now c.args.plan.now.root_lines c.args.claim.now [] c.args.plan.now.steps c.args.recorded.now c.in-Outcomes.outcomes.items v asked.blobs asked.results passes h) rooted
+    let later = g.S.BlobSource.tells c.check_root.new.source in
+    let asked = c.check_root.ensures.called.asked.asks in
+    let checked = subst (IsChecked told c.args.sources.now c.steps.result.now c.args.recorded.now) c.in-Outcomes.is (c.in_ok-name.ensures {u = tt}).checked in
+    let passes = subst (λ steps. (steps_check {A = g.row.A.Denot} told c.args.sources.now [] steps c.args.recorded.now).passes c.in-Outcomes.outcomes.items) c.steps.ensures.value checked in
+    let root = subst (λ os. (root_check {A = g.row.A.Denot} later c.args.sources.now os c.args.plan.now.root_lines c.args.claim.now).passes tt) c.deref.ensures.value
+    (subst (λ ls. (root_check {A = g.row.A.Denot} later c.args.sources.now c.deref.result.now ls c.args.claim.now).passes tt) c.root.ensures.value (c.in-Ok.ensures {u = tt}).checked) in
+    all_pass_decides g.row.A.Denot told c.args.sources.now c.args.plan.now c.args.recorded.now c.args.claim.now later asked.blobs asked.results c.in-Outcomes.outcomes.items passes _ _ refl (search rules) root
 
-pub returns-in-Outcomes-clause-asked : goal.returns-in-Outcomes-clause-asked
-returns-in-Outcomes-clause-asked g c = asks_some_more c.check_steps.ensures.asked c.judge_root.ensures.asked
+pub returns-in_err-cause_in-in-Err-clause-called : goal.returns-in_err-cause_in-in-Err-clause-called
+returns-in_err-cause_in-in-Err-clause-called g c =
+    let fault = c.in_err-cause_in-in-Err.ensures {u = tt} in
+    called_ok (c.in_ok-name.ensures {u = tt}).called (called_exit c.from_residual-in_err-cause_in-in-Err.ensures.1
+    (called_as {fails' = IsErrOf {T = Cause g.row.A.Denot} (Err c.in_err-cause_in-in-Err.field-0.0) errors.Fetch} (λ e. ap Err (fault.failed e)) (λ e. fault.told (err_injective c.in-Err.fault _ e)) (c.in-Err.ensures {u = tt}).called))
 
-pub returns-in-Outcomes-clause-failed : goal.returns-in-Outcomes-clause-failed
-returns-in-Outcomes-clause-failed g c = λ e.
-    let later = c.judge_root.ensures.failed e in
-    let before = c.check_steps.ensures.asked.asks.failures in
-    omega (arith, later, before)
+pub returns-in-Err-clause-called : goal.returns-in-Err-clause-called
+returns-in-Err-clause-called g c =
+    called_ok (c.in_ok-name.ensures {u = tt}).called
+    (called_no (λ e. ok_no_error ((c.in_ok-cause_in-in-Err.ensures {u = tt}).told (err_injective c.in-Err.fault _ e))) ok_no_error (c.in-Err.ensures {u = tt}).called)
 
-pub returns-in-Outcomes-clause-unfailed : goal.returns-in-Outcomes-clause-unfailed
-returns-in-Outcomes-clause-unfailed g c = λ other. c.judge_root.ensures.unfailed other ∙ (c.in_ok-name.ensures {u = tt}).unfailed ok_no_error
+pub returns-clause-called : goal.returns-clause-called
+returns-clause-called g c = called_ok (c.in_ok-name.ensures {u = tt}).called (called_no ok_no_error ok_no_error (c.in-Ok.ensures {u = tt}).called)

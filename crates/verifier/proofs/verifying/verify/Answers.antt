@@ -7,11 +7,11 @@ use Rattle.verifier.proofs.verifying.verify.Goals as goal
 pub returns-clause-holds : goal.returns-clause-holds
 returns-clause-holds g c =
     let tells = g.S.BlobSource.tells c.decide.new.source in
-    let verdict = subst (λ digests. IfOk c.decide.result (IsVerdict tells.blobs tells.results c.args.sources.now c.args.plan.now digests c.args.claim.now)) c.digests.ensures.value c.decide.ensures.verdict in
-    answers_hold tells.blobs tells.results c.args.sources.now c.args.plan.now c.args.record.now.digests c.args.claim.now c.decide.result verdict
+    let verdict = subst (λ digests. IfOk c.decide.result (IsVerdict tells c.args.sources.now c.args.plan.now digests c.args.claim.now)) c.digests.ensures.value c.decide.ensures.verdict in
+    answers_hold tells c.args.sources.now c.args.plan.now c.args.record.now.digests c.args.claim.now c.decide.result verdict
 
 pub returns-clause-unstuck : goal.returns-clause-unstuck
 returns-clause-unstuck g c =
     let tells = g.S.BlobSource.tells c.decide.new.source in
-    let verdict = subst (λ digests. IfOk c.decide.result (IsVerdict tells.blobs tells.results c.args.sources.now c.args.plan.now digests c.args.claim.now)) c.digests.ensures.value c.decide.ensures.verdict in
-    answers_unstuck tells.blobs tells.results c.args.sources.now c.args.plan.now c.args.record.now.digests c.args.claim.now c.decide.result verdict
+    let verdict = subst (λ digests. IfOk c.decide.result (IsVerdict tells c.args.sources.now c.args.plan.now digests c.args.claim.now)) c.digests.ensures.value c.decide.ensures.verdict in
+    answers_unstuck tells c.args.sources.now c.args.plan.now c.args.record.now.digests c.args.claim.now c.decide.result verdict

@@ -1,6 +1,6 @@
 use Rattle.std.proofs.Common.{◌≡◌, Some, None, refl, ap, subst}
 use Rattle.std.specs.List.{insert}
-use Rattle.actions.specs.Overlaps.{ArePathsApart}
+use Rattle.action_messages.specs.Overlaps.{ArePathsApart}
 use Rattle.actions.specs.Outcome.{OutcomeValue, HasRoom, outputs_in}
 use Rattle.actions.proofs.OutcomeLookups.{paths_in, ascending, lawful, paths_of}
 use Rattle.actions.proofs.Added.{lawful_added, is_added, full}

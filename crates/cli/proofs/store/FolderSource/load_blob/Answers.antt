@@ -1,4 +1,4 @@
-use Rattle.tree.specs.Memory.{telling_of}
+use Rattle.blob_source.specs.Memory.{telling_of}
 use Rattle.cli.proofs.Folders.{loads_nothing_blob}
 use Rattle.cli.proofs.store.FolderSource.load_blob.Goals as goal
 

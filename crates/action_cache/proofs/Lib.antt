@@ -1,0 +1,16 @@
+pub mod Agreeing
+pub mod Counting
+pub mod Pins
+pub mod Changes
+pub mod Entered
+pub mod Mirrors
+pub mod Unpinning
+pub mod Pinning
+pub mod Getting
+pub mod Replacing
+pub mod Said
+pub mod Learned
+pub mod Once
+pub mod Costs
+pub mod Refusing
+pub mod Fetching

@@ -1,0 +1,17 @@
+-- What is refused below is refused by the machine.
+use Rattle.std.proofs.Common.{◌≡◌, ℕ, List, None, sym, subst, ◌⊎◌, inl, inr}
+use Rattle.blob_store.specs.declared.error.BlobError.{BlobError}
+use Rattle.blob_store.specs.declared.error.BlobError.TheVariants as blob
+use Rattle.action_cache.specs.declared.error.CacheError.{CacheError}
+use Rattle.action_cache.specs.Reading.{outputs_in}
+use Rattle.action_cache.specs.Machine.{CacheState, Answer, refused, bad_result}
+use Rattle.action_cache.specs.CacheError.{IsRefused, IsUnread, of_blob}
+
+pub unread_refused : (st : CacheState) (out : Answer × CacheState) (bytes : List ℕ) (e : CacheError) → IsUnread e bytes → (outputs_in bytes ≡ None → out ≡ (refused bad_result, st)) → IsRefused st out e
+unread_refused st out bytes e (inl memory) bad = subst (IsRefused st out) (sym memory) tt
+unread_refused st out bytes e (inr (d, same, why, none)) bad = subst (IsRefused st out) (sym same) (bad none)
+
+-- what can only want memory
+pub only_memory : (st : CacheState) (out : Answer × CacheState) (e f : BlobError) → (e ≡ f) ⊎ (e ≡ blob.Memory) → (e ≡ f → ⊥) → IsRefused st out (of_blob e)
+only_memory st out e f (inl same) not = absurd (not same)
+only_memory st out e f (inr memory) not = subst (λ x. IsRefused st out (of_blob x)) (sym memory) tt

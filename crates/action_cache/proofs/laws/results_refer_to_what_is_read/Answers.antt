@@ -1,0 +1,8 @@
+use Rattle.action_cache.proofs.Said.{outputs_read, outputs_refused}
+use Rattle.action_cache.proofs.laws.results_refer_to_what_is_read.Goals as goal
+
+pub returns-clause-read : goal.returns-clause-read
+returns-clause-read c = λ r bytes fits reads. outputs_read r bytes fits reads
+
+pub returns-clause-refused : goal.returns-clause-refused
+returns-clause-refused c = λ e bytes fits refused. outputs_refused bytes e fits refused

@@ -1,0 +1,61 @@
+-- What a walk over a result's references tells.
+use Rattle.std.specs.Prelude.{◌≡◌, ℕ, true, false, List, bytes_eq, Option, Some, None, is_some, option_map, IfSome, Bool}
+use Rattle.std.specs.List.{IsDistinct, list_any, AllByRecursion}
+use Rattle.std.specs.Option.{option_and_then}
+use Rattle.std.specs.BTreeMap.{BTreeMap, get}
+use Rattle.std.specs.declared.vec.Vec.{Vec}
+use Rattle.blob_digest.specs.Digest.{digest_cmp}
+use Rattle.blob_digest.specs.DigestValue.{DigestValue}
+use Rattle.eviction.specs.Pinning.{is_among}
+use Rattle.blob_store.specs.Blobs.{hashes_of, all_held}
+use Rattle.action_cache.specs.References.{Reference, Reader, names_hash, is_held, files_of, references, outputs_of, first_fault}
+use Rattle.action_cache.specs.Reading.{by_messages}
+use Rattle.action_cache.specs.declared.survey.Survey.{Survey}
+
+-- all of them are held, each with its length
+abbrev pub AreHeld : (List ℕ → Option (List ℕ)) → List DigestValue → Type 0
+AreHeld found ds = AllByRecursion (λ d. is_held found d ≡ true) ds
+
+-- The digests each once: no two have one hash, they name the same hashes, and where all of the first
+-- are held so are all of these.
+pub record AreOnce (ds once : List DigestValue) : Type 0 where
+  pub distinct : IsDistinct bytes_eq (hashes_of once)
+  pub named : (h : List ℕ) → is_among bytes_eq (hashes_of once) h ≡ list_any (names_hash h) ds
+  pub held : (found : List ℕ → Option (List ℕ)) → AreHeld found ds → all_held found once ≡ true
+
+-- the references in order, each once, and the first fault
+pub record Surveys {A : Type 0} (reader : Reader) (found : List ℕ → Option (List ℕ))
+    (bytes : List ℕ) (s : Survey A) : Type 0 where
+  pub reads : is_some (reader.outputs bytes) ≡ true
+  pub in_order : s.references.items ≡ references found reader (outputs_of reader bytes)
+  pub once : AreOnce (references found reader (outputs_of reader bytes)) s.once.items
+  pub fault : s.fault ≡ first_fault found reader (outputs_of reader bytes)
+
+-- no survey just where the bytes are no result
+abbrev pub IsSurvey : {A : Type 0} → Reader → (List ℕ → Option (List ℕ)) → List ℕ → Option (Survey A) → Type 0
+IsSurvey reader found bytes None = is_some (reader.outputs bytes) ≡ false
+IsSurvey reader found bytes (Some s) = Surveys reader found bytes s
+
+-- ---- Trees that were read
+
+-- the digests of a Tree's files, as a list
+abbrev pub listed : {A : Type 0} → Option (Vec DigestValue A) → Option (List DigestValue)
+listed files = option_map (λ v. v.items) files
+
+module _ {A : Type 0} (trees : BTreeMap DigestValue (Option (Vec DigestValue A))) where
+  abbrev pub is_read : DigestValue → Bool
+  is_read d = is_some (get digest_cmp trees d)
+
+  -- what was read under a digest
+  abbrev pub known : DigestValue → Option (List DigestValue)
+  known d = option_and_then listed (get digest_cmp trees d)
+
+  -- what was read is what is found
+  abbrev pub AreRight : (List ℕ → Option (List ℕ)) → Type 0
+  AreRight found = (d : DigestValue) →
+      IfSome (get digest_cmp trees d) (λ files. listed files ≡ files_of found by_messages d)
+
+  -- each Tree of the references was read
+  abbrev pub AreKnown : (List ℕ → Option (List ℕ)) → List Reference → Type 0
+  AreKnown found rs = AllByRecursion
+      (λ r. r.is_tree ≡ true → known r.digest ≡ files_of found by_messages r.digest) rs

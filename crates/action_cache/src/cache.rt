@@ -1,0 +1,255 @@
+ghost use Rattle.std.specs.Prelude.{◌≡◌, ℕ, ◌+◌, ◌<◌, ◌≤◌, ◌^◌, List, [], length, IfOk, IfErr, OnOk, OnErr, Err, option_map, option_copied, bytes_eq};
+ghost use Rattle.std.specs.Borrow.{sem};
+ghost use Rattle.eviction.specs.Kept.{bytes_under, total};
+ghost use Rattle.eviction.specs.Pinning.{pins_of};
+ghost use Rattle.blob_store.specs.Storing.{used};
+ghost use Rattle.messages.specs.declared.error.MessageError.{MessageError};
+ghost use Rattle.action_messages.specs.Refused.{IsRefused as IsRefusedAs};
+ghost use Rattle.action_cache.specs.State.{touched_each, answer_of, is_other, bytes_given};
+ghost use Rattle.action_cache.specs.Reading.{by_messages};
+ghost use Rattle.action_cache.specs.Machine.{CacheState, done, put_blob as blob_put, get_blob as blob_got, unpin as take_off, pin as put_on, get_result as result_got, put_result as result_put};
+ghost use Rattle.action_cache.specs.CacheError.{IsRefused};
+
+use crate::error::CacheError;
+use crate::reference::read_result;
+use crate::survey::walk;
+use blob_digest::{Digest, Sealed};
+use blob_store::BlobStore;
+use eviction::Bounded;
+use std::alloc::{AllocError, Allocator};
+use std::hash::RandomState;
+use std::marker::Model;
+
+/// Blobs and results, each most recently used first. Clauses see them without counts of pins: a
+/// result has a mark, and a blob is pinned where a marked result refers to it.
+#[derive(Drop)]
+pub struct ActionCache<A: Allocator> {
+    blobs: BlobStore<A>,
+    results: Bounded<[u8; 32], A>,
+}
+
+impl<A: Allocator> Model for ActionCache<A> {
+    ghost use Rattle.std.specs.Prelude.{◌≡◌};
+    ghost use Rattle.action_cache.specs.Machine.{CacheState};
+    ghost use Rattle.action_cache.specs.Reading.{by_messages};
+    ghost use Rattle.action_cache.specs.State.{state_of};
+    ghost use Rattle.action_cache.specs.Tied.{IsTied};
+
+    ghost Value = { CacheState };
+
+    ghost view = { λ c.
+        state_of c.blobs.limit c.results.limit c.blobs.entries c.results.entries };
+
+    ghost invariant = { λ c. IsTied by_messages c.blobs.entries c.results.entries
+        × (c.blobs.overhead ≡ 0)
+        × (c.results.overhead ≡ 64) };
+}
+
+/// Whether the result under the hash is pinned, and has other bytes.
+fn differs<A: Allocator + Copy>(
+    results: &Bounded<[u8; 32], A>,
+    hash: &[u8; 32],
+    bytes: &[u8],
+) -> bool
+    ensures { result ≡ is_other bytes.now (bytes_under bytes_eq results.now.entries hash.now)
+        (pins_of bytes_eq results.now.entries hash.now) }
+{
+    match results.peek(hash) {
+        Some(held) => results.pins(hash) > 0 && held != bytes,
+        None => false,
+    }
+}
+
+/// Moves the blobs of the digests to the front, one after another.
+fn touch_each<A: Allocator + Copy>(blobs: &mut BlobStore<A>, digests: &[Digest])
+    ensures { blobs.new ≡ touched_each blobs.old digests.now }
+{
+    for digest in digests {
+        let _held = blobs.touch(&digest.hash());
+    }
+}
+
+/// Moves the blob under the hash to the front, unless it is that of no bytes.
+fn use_blob<A: Allocator + Copy>(blobs: &mut BlobStore<A>, hash: &[u8; 32])
+    ensures { blobs.new ≡ used blobs.old hash.now }
+{
+    let _lent = blobs.get(hash);
+}
+
+impl<A: Allocator + Copy> ActionCache<A> {
+    ghost use Rattle.action_cache.specs.Lending.{Ends};
+
+    /// A cache that holds nothing. Hashes are hashed with the state's secret.
+    pub fn new(
+        alloc: A,
+        state: RandomState,
+        limit: u64,
+        result_limit: u64,
+    ) -> Result<Self, AllocError>
+        requires blobs { limit < 2 ^ 63 }
+        requires results { result_limit < 2 ^ 63 }
+        ensures { IfOk result (λ c. c ≡ record {
+          blobs = [];
+          results = [];
+          limit = limit;
+          result_limit = result_limit;
+        }) }
+    {
+        let blobs = BlobStore::new(alloc, state, limit)?;
+        let results = Bounded::new(alloc, state, result_limit, 64)?;
+        Ok(ActionCache { blobs, results })
+    }
+
+    /// How many bytes the blobs have together.
+    pub fn held_bytes(&self) -> u64
+        ensures { result ≡ total (λ b. length b.1) self.now.blobs }
+    {
+        self.blobs.held_bytes()
+    }
+
+    /// Puts a blob under its hash.
+    pub fn put_blob(&mut self, hash: [u8; 32], bytes: Vec<u8, A>) -> Result<(), CacheError>
+        ensures ok { OnOk result (blob_put by_messages self.old hash bytes.items
+            ≡ (done, self.new)) }
+        ensures refused { IfErr result
+            (IsRefused self.old (blob_put by_messages self.old hash bytes.items)) }
+        ensures err { OnErr result (self.new ≡ self.old) }
+    {
+        let _held = self.blobs.held_bytes();
+        self.blobs.put(hash, bytes)?;
+        Ok(())
+    }
+
+    /// Puts a blob whose digest is known already, as `put_blob` does. It hashes nothing again.
+    pub fn put_sealed(&mut self, hash: [u8; 32], sealed: Sealed<A>) -> Result<(), CacheError>
+        ensures ok { OnOk result (blob_put by_messages self.old hash sealed ≡ (done, self.new)) }
+        ensures refused { IfErr result
+            (IsRefused self.old (blob_put by_messages self.old hash sealed)) }
+        ensures err { OnErr result (self.new ≡ self.old) }
+    {
+        let _held = self.blobs.held_bytes();
+        self.blobs.put_sealed(hash, sealed)?;
+        Ok(())
+    }
+
+    /// The blob under the hash, if it is held. It moves to the front, unless it has no bytes.
+    pub fn get_blob(&mut self, hash: &[u8; 32]) -> Option<&[u8]>
+        ensures* moves { sem 𝓛 (Ends A.row A.Allocator self.entry
+            (λ s. s ≡ (blob_got by_messages self.old hash.now).1)) }
+        ensures value { option_copied result
+            ≡ bytes_given (blob_got by_messages self.old hash.now).0 }
+    {
+        use_blob(&mut self.blobs, hash);
+        let bytes = self.blobs.peek(hash)?;
+        Some(bytes)
+    }
+
+    /// Puts a result under its hash. One that is pinned takes no other bytes.
+    pub fn put_result(
+        &mut self,
+        alloc: A,
+        hash: [u8; 32],
+        bytes: Vec<u8, A>,
+    ) -> Result<(), CacheError>
+        ensures ok { OnOk result (result_put by_messages self.old hash bytes.items
+            ≡ (done, self.new)) }
+        ensures refused { IfErr result
+            (IsRefused self.old (result_put by_messages self.old hash bytes.items)) }
+        ensures bad { (e : MessageError) → result ≡ Err (CacheError.BadResult e)
+            → IsRefusedAs e bytes.items }
+        ensures err { OnErr result (self.new ≡ self.old) }
+    {
+        let _held = self.results.held_bytes();
+        read_result(alloc, &bytes)?;
+        if differs(&self.results, &hash, &bytes) {
+            return Err(CacheError::PinnedDiffers);
+        }
+        self.results.put(hash, bytes)?;
+        Ok(())
+    }
+
+    /// A result that is held and complete. It moves to the front, and then each blob to which it
+    /// refers, in order. Where there is none nothing moves. It reads the result, decodes each Tree
+    /// once and looks up each reference: n log n steps for n references.
+    pub fn get_result(
+        &mut self,
+        alloc: A,
+        hash: &[u8; 32],
+    ) -> Result<Option<Vec<u8, A>>, AllocError>
+        ensures ok { IfOk result (λ found. result_got by_messages self.old hash.now
+            ≡ (answer_of (option_map (λ v. v.items) found), self.new)) }
+        ensures err { OnErr result (self.new ≡ self.old) }
+    {
+        let copy = match self.results.peek(hash) {
+            Some(bytes) => Vec::from_slice(alloc, bytes)?,
+            None => return Ok(None),
+        };
+        let survey = match walk(alloc, &self.blobs, &copy)? {
+            Some(survey) => survey,
+            None => return Ok(None),
+        };
+        match survey.fault {
+            Some(_) => return Ok(None),
+            None => (),
+        }
+        let _held = self.results.touch(hash);
+        touch_each(&mut self.blobs, &survey.references);
+        Ok(Some(copy))
+    }
+
+    /// Pins a result that is held and complete, and once more each blob to which it refers. One that
+    /// is pinned already isn't pinned again.
+    pub fn pin(&mut self, alloc: A, hash: &[u8; 32]) -> Result<(), CacheError>
+        ensures ok { OnOk result (put_on by_messages self.old hash.now ≡ (done, self.new)) }
+        ensures refused { IfErr result
+            (IsRefused self.old (put_on by_messages self.old hash.now)) }
+        ensures err { OnErr result (self.new ≡ self.old) }
+    {
+        let _held = self.results.held_bytes();
+        let survey = match self.results.peek(hash) {
+            Some(bytes) => walk(alloc, &self.blobs, bytes)?,
+            None => return Err(CacheError::NotHeld),
+        };
+        let survey = match survey {
+            Some(survey) => survey,
+            None => return Err(CacheError::NotHeld),
+        };
+        match survey.fault {
+            Some(digest) => return Err(CacheError::Incomplete(digest)),
+            None => (),
+        }
+        if self.results.pins(hash) > 0 {
+            return Ok(());
+        }
+        self.blobs.pin_all(alloc, &survey.once)?;
+        // It isn't refused: the result is held.
+        let _pinned = self.results.pin_all(&[*hash]);
+        Ok(())
+    }
+
+    /// Takes the pin off a result. Each blob to which it refers is pinned once less, and stays
+    /// pinned where another pinned result refers to it.
+    pub fn unpin(&mut self, alloc: A, hash: &[u8; 32]) -> Result<(), CacheError>
+        ensures ok { OnOk result (take_off by_messages self.old hash.now ≡ (done, self.new)) }
+        ensures refused { IfErr result
+            (IsRefused self.old (take_off by_messages self.old hash.now)) }
+        ensures err { OnErr result (self.new ≡ self.old) }
+    {
+        let _held = self.results.held_bytes();
+        if self.results.pins(hash) == 0 {
+            return Err(CacheError::NotPinned);
+        }
+        let survey = match self.results.peek(hash) {
+            Some(bytes) => walk(alloc, &self.blobs, bytes)?,
+            None => return Err(CacheError::NotPinned),
+        };
+        let survey = match survey {
+            Some(survey) => survey,
+            None => return Err(CacheError::NotPinned),
+        };
+        self.blobs.unpin(alloc, &survey.once)?;
+        // It isn't refused: the result is pinned.
+        let _unpinned = self.results.unpin(&[*hash]);
+        Ok(())
+    }
+}

@@ -1,0 +1,17 @@
+//! Results of actions and their blobs, in bounded stores. A result is answered where all to which it
+//! refers is held, through the Trees of its directories; what a pinned result refers to stays.
+#![tactic(auto)]
+
+mod cache;
+mod error;
+mod laws;
+mod reference;
+mod survey;
+mod trees;
+
+pub use cache::ActionCache;
+pub use error::CacheError;
+pub use laws::results_refer_to_what_is_read;
+
+#[cfg(test)]
+mod tests;

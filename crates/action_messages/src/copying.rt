@@ -1,0 +1,61 @@
+ghost use Rattle.std.specs.Prelude.{◌≡◌, IfOk, map};
+ghost use Rattle.std.specs.String.{string_bytes};
+
+use crate::setting::Setting;
+use messages::Path;
+use std::alloc::{AllocError, Allocator};
+
+/// The same texts, over another allocator.
+pub(crate) fn copy_texts<A: Allocator + Copy, B: Allocator>(
+    alloc: A,
+    texts: &[String<B>],
+) -> Result<Vec<String<A>, A>, AllocError>
+    ensures { IfOk result (λ copies. map string_bytes copies.items ≡ map string_bytes texts.now) }
+{
+    let mut copies = Vec::new(alloc);
+    for text in texts {
+        copies.push(String::from_str(alloc, text.as_str())?)?;
+    }
+    Ok(copies)
+}
+
+/// The same settings, over another allocator.
+pub(crate) fn copy_settings<A: Allocator + Copy, B: Allocator>(
+    alloc: A,
+    settings: &[Setting<B>],
+) -> Result<Vec<Setting<A>, A>, AllocError>
+    ensures { IfOk result (λ copies. copies.items ≡ settings.now) }
+{
+    let mut copies = Vec::new(alloc);
+    for setting in settings {
+        copies.push(Setting::copy_of(alloc, setting)?)?;
+    }
+    Ok(copies)
+}
+
+/// The same paths, over another allocator.
+pub(crate) fn copy_paths<A: Allocator + Copy, B: Allocator>(
+    alloc: A,
+    paths: &[Path<B>],
+) -> Result<Vec<Path<A>, A>, AllocError>
+    ensures { IfOk result (λ copies. copies.items ≡ paths.now) }
+{
+    let mut copies = Vec::new(alloc);
+    for path in paths {
+        copies.push(Path::copy_of(alloc, path)?)?;
+    }
+    Ok(copies)
+}
+
+/// The same path, if there is one, over another allocator.
+pub(crate) fn copy_directory<A: Allocator, B: Allocator>(
+    alloc: A,
+    path: &Option<Path<B>>,
+) -> Result<Option<Path<A>>, AllocError>
+    ensures { IfOk result (λ copy. copy ≡ path.now) }
+{
+    match path {
+        Some(path) => Ok(Some(Path::copy_of(alloc, path)?)),
+        None => Ok(None),
+    }
+}

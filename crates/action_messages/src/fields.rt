@@ -1,0 +1,99 @@
+ghost use Rattle.std.specs.Prelude.{◌≡◌, ◌≤◌, ◌++◌, OnOk, map};
+ghost use Rattle.std.specs.String.{string_bytes};
+ghost use Rattle.wire.specs.Spelling.{spelling};
+ghost use Rattle.wire.specs.Steps.{Gives};
+ghost use Rattle.canonical.specs.Fields.{element_fields};
+ghost use Rattle.canonical.specs.Told.{each};
+ghost use Rattle.canonical.specs.View.{slices};
+ghost use Rattle.messages.specs.Gives.{GivesUnlessMemory};
+ghost use Rattle.messages.specs.Path.{path_of};
+ghost use Rattle.action_messages.specs.Fields.{string_of, required};
+ghost use Rattle.action_messages.specs.Overlaps.{texts_of};
+
+use canonical::{CanonError, write_element};
+use messages::{MessageError, Path};
+use std::alloc::{AllocError, Allocator};
+
+/// The value of the field of this number, which has to be there.
+pub fn required<T>(number: u32, value: Option<T>) -> Result<T, MessageError>
+    ensures { Gives (λ x. x) result (required number value) }
+{
+    match value {
+        Some(value) => Ok(value),
+        None => Err(MessageError::MissingField(number)),
+    }
+}
+
+fn copy_text<A: Allocator>(alloc: A, bytes: &[u8]) -> Result<String<A>, MessageError>
+    ensures { GivesUnlessMemory (λ t. string_bytes t) result (string_of bytes.now) }
+{
+    match str::from_utf8(bytes) {
+        Ok(text) => Ok(String::from_str(alloc, text)?),
+        Err(_) => Err(MessageError::Wire(CanonError::BadUtf8)),
+    }
+}
+
+/// The strings of the elements, in order.
+pub fn read_strings<A: Allocator + Copy>(
+    alloc: A,
+    elements: &[&[u8]],
+) -> Result<Vec<String<A>, A>, MessageError>
+    ensures { GivesUnlessMemory (λ v. map string_bytes v.items) result
+        (each string_of (slices elements.now)) }
+{
+    let mut strings = Vec::new(alloc);
+    for bytes in elements {
+        strings.push(copy_text(alloc, bytes)?)?;
+    }
+    Ok(strings)
+}
+
+/// The paths of the elements, in order.
+pub fn read_paths<A: Allocator + Copy>(
+    alloc: A,
+    elements: &[&[u8]],
+) -> Result<Vec<Path<A>, A>, MessageError>
+    ensures { GivesUnlessMemory (λ v. v.items) result (each path_of (slices elements.now)) }
+{
+    let mut paths = Vec::new(alloc);
+    for bytes in elements {
+        paths.push(Path::new(alloc, bytes)?)?;
+    }
+    Ok(paths)
+}
+
+/// Writes the strings as the elements of a field, in order.
+pub fn write_strings<A: Allocator>(
+    out: &mut Vec<u8, A>,
+    number: u32,
+    strings: &[String<A>],
+) -> Result<(), AllocError>
+    requires at_least { 1 ≤ number }
+    requires at_most { number ≤ 536870911 }
+    ensures { OnOk result
+        (out.new.items
+        ≡ out.old.items ++ spelling (element_fields number (map string_bytes strings.now))) }
+{
+    for string in strings {
+        write_element(out, number, string.as_bytes())?;
+    }
+    Ok(())
+}
+
+/// Writes the texts of the paths as the elements of a field, in order.
+pub fn write_paths<A: Allocator>(
+    out: &mut Vec<u8, A>,
+    number: u32,
+    paths: &[Path<A>],
+) -> Result<(), AllocError>
+    requires at_least { 1 ≤ number }
+    requires at_most { number ≤ 536870911 }
+    ensures { OnOk result
+        (out.new.items
+        ≡ out.old.items ++ spelling (element_fields number (texts_of paths.now))) }
+{
+    for path in paths {
+        write_element(out, number, path.as_bytes())?;
+    }
+    Ok(())
+}

@@ -1,9 +1,0 @@
-use Rattle.std.proofs.Common.{◌≡◌, drop}
-use Rattle.canonical.specs.View.{slices}
-use Rattle.canonical.specs.Told.{each}
-use Rattle.messages.specs.Path.{path_of}
-use Rattle.messages.proofs.Each.{with_front}
-use Rattle.actions.proofs.fields.read_paths.Given as goal
-
-abbrev pub invariant-loop-bytes : goal.invariant-loop-bytes
-invariant-loop-bytes g l = with_front l.paths.items (each path_of (slices (drop l.bytes-index l.elements))) ≡ each path_of (slices l.elements)

@@ -1,7 +1,0 @@
-use Rattle.std.proofs.Common.{◌∙◌}
-use Rattle.actions.proofs.Searches.{texts_in}
-use Rattle.actions.proofs.Places.{place_test}
-use Rattle.actions.proofs.listed.has_text.Goals as goal
-
-pub returns : goal.returns
-returns g c = c.is_ok.ensures.value ∙ place_test (texts_in g.L.Listed.path_in c.args.items.now) c.args.text.now c.place_of.result c.place_of.ensures

@@ -1,7 +1,0 @@
-use Rattle.std.proofs.Common.{◌≡◌, drop}
-use Rattle.messages.specs.Order.{share_name}
-use Rattle.actions.proofs.Searches.{texts_in}
-use Rattle.actions.proofs.listed.some_shared.Given as goal
-
-abbrev pub invariant-loop-item : goal.invariant-loop-item
-invariant-loop-item g l = share_name (texts_in g.L.Listed.path_in (drop l.item-index l.items)) (texts_in g.M.Listed.path_in l.others) ≡ share_name (texts_in g.L.Listed.path_in l.items) (texts_in g.M.Listed.path_in l.others)

@@ -1,0 +1,3 @@
+mod Digests
+pub mod Asking
+pub mod Calling

@@ -1,0 +1,6 @@
+pub mod Source
+pub mod Called
+pub mod Told
+pub mod Fetched
+pub mod MessageFetchError
+pub mod Memory

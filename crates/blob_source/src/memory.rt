@@ -1,0 +1,76 @@
+ghost use Rattle.std.specs.Prelude.{◌≡◌, OnOk, OnErr};
+ghost use Rattle.blob_source.specs.Memory.{telling_of, HoldsBlob, HoldsResult, IsUnchanged, TellsNothing};
+
+use crate::source::{BlobSource, FetchError};
+use blob_digest::Digest;
+use std::alloc::{AllocError, Allocator};
+use std::collections::BTreeMap;
+
+/// A source over two tables in memory, which its owner fills, with right bytes or wrong ones.
+/// It never fails.
+#[derive(Drop)]
+pub struct MemorySource<A: Allocator> {
+    blobs: BTreeMap<Digest, Vec<u8, A>, A>,
+    results: BTreeMap<Digest, Vec<u8, A>, A>,
+    calls: u64,
+}
+
+impl<A: Allocator + Copy> MemorySource<A> {
+    /// A source that has nothing.
+    pub fn new(alloc: A) -> MemorySource<A>
+        ensures { TellsNothing (telling_of result) }
+    {
+        MemorySource {
+            blobs: BTreeMap::new(alloc),
+            results: BTreeMap::new(alloc),
+            calls: 0,
+        }
+    }
+
+    /// Holds these bytes as the blob under the digest, in place of others. They aren't hashed.
+    pub fn hold_blob(&mut self, digest: Digest, bytes: Vec<u8, A>) -> Result<(), AllocError>
+        ensures ok { OnOk result (HoldsBlob (telling_of self.old) (telling_of self.new) digest bytes.items) }
+        ensures err { OnErr result (IsUnchanged (telling_of self.old) (telling_of self.new)) }
+    {
+        self.blobs.insert(digest, bytes)?;
+        Ok(())
+    }
+
+    /// Holds these bytes as the result of the action with the digest, in place of others.
+    pub fn hold_result(&mut self, digest: Digest, bytes: Vec<u8, A>) -> Result<(), AllocError>
+        ensures ok { OnOk result (HoldsResult (telling_of self.old) (telling_of self.new) digest bytes.items) }
+        ensures err { OnErr result (IsUnchanged (telling_of self.old) (telling_of self.new)) }
+    {
+        self.results.insert(digest, bytes)?;
+        Ok(())
+    }
+
+    /// How often it was called.
+    pub fn calls(&self) -> u64
+        ensures { result ≡ (telling_of self.now).calls }
+    {
+        self.calls
+    }
+}
+
+impl<A: Allocator + Copy> BlobSource<A> for MemorySource<A> {
+    ghost use Rattle.blob_source.specs.Memory.{telling_of};
+
+    ghost tells = { telling_of };
+
+    fn fetch(&mut self, alloc: A, digest: &Digest) -> Result<Option<Vec<u8, A>>, FetchError> {
+        self.calls = self.calls.saturating_add(1);
+        match self.blobs.get(digest) {
+            None => Ok(None),
+            Some(bytes) => Ok(Some(Vec::from_slice(alloc, bytes)?)),
+        }
+    }
+
+    fn result(&mut self, alloc: A, digest: &Digest) -> Result<Option<Vec<u8, A>>, FetchError> {
+        self.calls = self.calls.saturating_add(1);
+        match self.results.get(digest) {
+            None => Ok(None),
+            Some(bytes) => Ok(Some(Vec::from_slice(alloc, bytes)?)),
+        }
+    }
+}

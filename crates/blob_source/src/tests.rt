@@ -1,0 +1,132 @@
+use crate::{
+    BlobSource, FetchError, Fetched, MemorySource, MessageFetchError, fetch_blob, fetch_message,
+};
+use blob_digest::Digest;
+use messages::Directory;
+use refusing::Refusing;
+use std::alloc::Allocator;
+
+/// What a fetch found: a blob of so many bytes, wrong bytes or none.
+#[derive(Clone, Copy, Debug, PartialEq, Eq)]
+enum Found {
+    Missing,
+    Wrong,
+    Right(usize),
+}
+
+fn fetched<A: Allocator + Copy, S: BlobSource<A>>(
+    alloc: A,
+    source: &mut S,
+    digest: &Digest,
+) -> Result<Found, FetchError> {
+    Ok(match fetch_blob(alloc, source, digest)? {
+        Fetched::Missing => Found::Missing,
+        Fetched::Wrong => Found::Wrong,
+        Fetched::Right(bytes) => Found::Right(bytes.len()),
+    })
+}
+
+fn copied<A: Allocator + Copy>(alloc: A, bytes: &[u8]) -> Result<Vec<u8, A>, FetchError> {
+    Ok(Vec::from_slice(alloc, bytes)?)
+}
+
+/// A source with a right blob, one under a wrong length and a result, asked for each and more.
+fn asked<A: Allocator + Copy>(alloc: A) -> Result<([Found; 5], Option<usize>, u64), FetchError> {
+    let nine = Digest::of(b"123456789");
+    let eight = Digest::new(nine.hash(), 8);
+    let mut source = MemorySource::new(alloc);
+    source.hold_blob(nine, copied(alloc, b"123456789")?)?;
+    source.hold_blob(eight, copied(alloc, b"123456789")?)?;
+    source.hold_blob(Digest::empty(), copied(alloc, b"x")?)?;
+    source.hold_result(eight, copied(alloc, b"r")?)?;
+    let found = [
+        fetched(alloc, &mut source, &nine)?,
+        fetched(alloc, &mut source, &eight)?,
+        fetched(alloc, &mut source, &Digest::of(b"\n"))?,
+        fetched(alloc, &mut source, &Digest::empty())?,
+        fetched(alloc, &mut source, &nine)?,
+    ];
+    let result = source.result(alloc, &eight)?.map(|bytes| bytes.len());
+    let none = source.result(alloc, &nine)?;
+    Ok((found, result.filter(|_len| none.is_none()), source.calls()))
+}
+
+#[test]
+fn each_request_for_memory_refused(rt: HostRuntime) {
+    let expected = [
+        Found::Right(9),
+        Found::Wrong,
+        Found::Missing,
+        // The empty blob is there whatever the source has, and isn't asked for.
+        Found::Right(0),
+        Found::Right(9),
+    ];
+    let mut refused = 0u64;
+    for number in 1..1000u64 {
+        let heap = Refusing::new(rt.alloc(), number);
+        let answer = asked(&heap);
+        if !heap.has_refused() {
+            assert_eq!(rt; answer, Ok((expected, Some(1), 6)));
+            break;
+        }
+        assert_eq!(rt; answer, Err(FetchError::Memory), "request {number}");
+        refused = refused.saturating_add(1);
+    }
+    assert!(rt; refused >= 8);
+}
+
+/// The encoding of a Directory with the file `a` of the nine bytes `123456789`.
+const ONE_FILE: &[u8] =
+    b"\x0a\x49\x0a\x01a\x12\x44\x0a\x4015e2b0d3c33891ebb0f1ef609ec419420c20e320ce94c65fbc8c3312448eb225\x10\x09";
+
+fn holding<A: Allocator + Copy>(
+    alloc: A,
+    digest: Digest,
+    held: Option<&[u8]>,
+) -> Result<MemorySource<A>, FetchError> {
+    let mut source = MemorySource::new(alloc);
+    if let Some(bytes) = held {
+        source.hold_blob(digest, copied(alloc, bytes)?)?;
+    }
+    Ok(source)
+}
+
+/// How many files the Directory with a digest has, where a source holds these bytes under it.
+fn files<A: Allocator + Copy>(
+    alloc: A,
+    digest: Digest,
+    held: Option<&[u8]>,
+) -> Result<usize, MessageFetchError> {
+    let mut source = holding(alloc, digest, held)?;
+    let directory: Directory<A> = fetch_message(alloc, &mut source, &digest)?;
+    Ok(directory.files().len())
+}
+
+#[test]
+fn messages_by_digest(rt: HostRuntime) {
+    let one = Digest::of(ONE_FILE);
+    let other = Digest::of(b"x");
+    let rows = [
+        (Digest::empty(), None, Ok(0)),
+        (one, Some(ONE_FILE), Ok(1)),
+        (one, None, Err(MessageFetchError::Missing(one))),
+        (other, Some(ONE_FILE), Err(MessageFetchError::Wrong(other))),
+        (
+            other,
+            Some(b"x".as_slice()),
+            Err(MessageFetchError::Malformed(other)),
+        ),
+    ];
+    for (digest, held, expected) in rows {
+        assert_eq!(rt; files(rt.alloc(), digest, held), expected);
+    }
+    for number in 1..1000u64 {
+        let heap = Refusing::new(rt.alloc(), number);
+        let answer = files(&heap, one, Some(ONE_FILE));
+        if !heap.has_refused() {
+            assert_eq!(rt; answer, Ok(1));
+            break;
+        }
+        assert_eq!(rt; answer, Err(MessageFetchError::Memory), "request {number}");
+    }
+}

@@ -1,0 +1,20 @@
+use Rattle.std.proofs.Common.{◌≡◌, ◌<◌, arith, sym, ap, ◌∙◌, length, bytes_eq}
+use Rattle.std.proofs.lemmas.Bool.Decides.{nat_tests}
+use Rattle.std.proofs.lemmas.Slice.Eq.{bytes_eq-Decides}
+use Rattle.sha2.specs.Sha256.{sha256}
+use Rattle.eviction.specs.Entering.{entered}
+use Rattle.eviction.proofs.Entered.{entered_is}
+use Rattle.blob_store.proofs.BlobLemmas.{touched_blobs, entered_blobs}
+use Rattle.blob_store.proofs.store.BlobStore.put_sealed.Goals as goal
+
+pub invariant_of-self : goal.invariant_of-self
+invariant_of-self g c = rw c.touch-held.ensures.moves (touched_blobs c.args.hash c.self.inside.blobs.entries c.self.invariant.0, c.self.invariant.1, c.self.invariant.2)
+
+pub invariant_of-self-2 : goal.invariant_of-self-2
+invariant_of-self-2 g c =
+    let s = c.self.inside.blobs in
+    let b = c.args.sealed in
+    let some : 0 < length b = let e = c.is_empty.ensures in let f = c.if-is_empty.false in let t = ap length c.as_slice-2.ensures in grind (arith, nat_tests) in
+    let hash : c.args.hash ≡ sha256 b = sym ((bytes_eq-Decides (sha256 b) c.args.hash).0 (sym c.has_hash.ensures ∙ c.if-not-has_hash.false)) in
+    let put = ap (λ l. entered bytes_eq s c.args.hash l) (sym c.into_bytes.ensures) ∙ c.in_ok-put.ensures.ok in
+    (entered_blobs s c.put.new.self c.args.hash b put hash some c.self.invariant.0, (entered_is bytes_eq s c.put.new.self c.args.hash b put).overhead ∙ c.self.invariant.1, c.self.invariant.2)

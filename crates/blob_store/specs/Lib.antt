@@ -1,0 +1,4 @@
+pub mod Blobs
+pub mod Storing
+pub mod BlobError
+pub mod Lending

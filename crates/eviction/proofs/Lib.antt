@@ -1,0 +1,10 @@
+pub mod Filters
+pub mod Distinct
+pub mod Looks
+pub mod Costs
+pub mod Choices
+pub mod Repins
+pub mod Mapped
+pub mod Kept
+pub mod Entered
+pub mod Single

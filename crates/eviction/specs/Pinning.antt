@@ -1,0 +1,56 @@
+-- How counts of pins change.
+use Rattle.std.specs.Prelude.{◌≡◌, ℕ, ◌+◌, ◌-◌, ◌<◌, ◌^◌, Bool, true, List, map, is_some, nat_lt, if◌then◌else◌}
+use Rattle.std.specs.List.{list_any, list_all}
+use Rattle.std.specs.Map.{lookup}
+use Rattle.std.specs.Option.{option_map_or}
+use Rattle.eviction.specs.Kept.{Held, Kept}
+
+module _ {K : Type 0} where
+  -- each entry with another count of pins, by its key and its count
+  abbrev pub repinned : (K → ℕ → ℕ) → List (K × Held) → List (K × Held)
+  repinned count es =
+      map (λ e. (e.0, record { bytes = e.1.bytes; pins = count e.0 e.1.pins })) es
+
+  module _ (eq : K → K → Bool) where
+    -- the key is one of the keys
+    abbrev pub is_among : List K → K → Bool
+    is_among ks k = list_any (λ x. eq x k) ks
+
+    abbrev pub is_held : List (K × Held) → K → Bool
+    is_held es k = is_some (lookup (eq k) es)
+
+    -- how often a key is pinned
+    abbrev pub pins_of : List (K × Held) → K → ℕ
+    pins_of es k = option_map_or (λ h. h.pins) (lookup (eq k) es) 0
+
+    abbrev pub all_held : List (K × Held) → List K → Bool
+    all_held es ks = list_all (is_held es) ks
+
+    abbrev pub all_pinned : List (K × Held) → List K → Bool
+    all_pinned es ks = list_all (λ k. nat_lt 0 (pins_of es k)) ks
+
+    -- no count of one of the keys is at its greatest
+    abbrev pub CanPinMore : List (K × Held) → List K → Type 0
+    CanPinMore es ks = (k : K) → is_among ks k ≡ true → pins_of es k + 1 < 2 ^ 64
+
+    abbrev pub one_more : List K → K → ℕ → ℕ
+    one_more ks k n = if is_among ks k then n + 1 else n
+
+    abbrev pub one_less : List K → K → ℕ → ℕ
+    one_less ks k n = if is_among ks k then n - 1 else n
+
+    -- each of the keys is pinned once more
+    abbrev pub pinned_all : Kept K → List K → Kept K
+    pinned_all s ks = record {
+      entries = repinned (one_more ks) s.entries;
+      limit = s.limit;
+      overhead = s.overhead;
+    }
+
+    -- each of the keys is pinned once less
+    abbrev pub unpinned_all : Kept K → List K → Kept K
+    unpinned_all s ks = record {
+      entries = repinned (one_less ks) s.entries;
+      limit = s.limit;
+      overhead = s.overhead;
+    }

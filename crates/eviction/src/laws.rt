@@ -1,0 +1,22 @@
+ghost use Rattle.std.specs.Prelude.{◌≡◌, ℕ, List, ◌∷◌, Some, true};
+ghost use Rattle.std.specs.List.{filter};
+ghost use Rattle.eviction.specs.Kept.{Kept, is_pinned, others};
+ghost use Rattle.eviction.specs.Entering.{entered, can_enter, given_up, new_entry, FitsWithout, IsLeast};
+
+use std::hash::Hash;
+
+/// Where an entry enters, it gives up the least number of the last unpinned others without which
+/// the costs fit. A law: it does nothing.
+pub fn entering_gives_up_the_fewest<K: Copy + Eq + Hash>()
+    ensures { (s : Kept K) (k : K) (bytes : List ℕ)
+        → can_enter K.eq s k bytes ≡ true
+        → IsLeast (FitsWithout K.eq s k bytes) (given_up K.eq s k bytes) }
+{}
+
+/// Where an entry enters, all pinned others stay, in their order. A law: it does nothing.
+pub fn entering_keeps_what_is_pinned<K: Copy + Eq + Hash>()
+    ensures { (s t : Kept K) (k : K) (bytes : List ℕ)
+        → entered K.eq s k bytes ≡ Some t
+        → filter is_pinned t.entries
+        ≡ filter is_pinned (new_entry K.eq s k bytes ∷ others K.eq k s.entries) }
+{}

@@ -1,0 +1,17 @@
+//! Bounded stores of bytes under keys. The least recently used entries that are not pinned are
+//! given up for new ones.
+#![tactic(auto)]
+
+mod bounded;
+mod entry;
+mod error;
+mod evicting;
+mod laws;
+mod pinning;
+
+pub use bounded::Bounded;
+pub use error::BoundedError;
+pub use laws::{entering_gives_up_the_fewest, entering_keeps_what_is_pinned};
+
+#[cfg(test)]
+mod tests;

@@ -1,0 +1,11 @@
+pub mod Lists
+pub mod Fields
+pub mod Blocks
+pub mod Judged
+pub mod Fitting
+pub mod Cutting
+pub mod Standing
+pub mod Steps
+pub mod Pieces
+pub mod Feeding
+pub mod Lengths

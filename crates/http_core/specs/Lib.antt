@@ -1,0 +1,12 @@
+pub mod Block
+pub mod Names
+pub mod Connection
+pub mod Event
+pub mod Head
+pub mod Judging
+pub mod Prefix
+pub mod Reply
+pub mod Rules
+pub mod Session
+pub mod Laws
+pub mod Stream

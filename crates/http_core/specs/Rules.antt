@@ -1,0 +1,132 @@
+-- The rules of heads, in their order (RFC 9112, sections 3, 6 and 9; RFC 9110, sections 9 and 10).
+use Rattle.std.specs.Prelude.{◌≡◌, ℕ, ◌==◌, ◌&&◌, ◌||◌, not, nat_lt, nat_le, ◌⊎◌, Bool, true, false, List, [], ◌∷◌, ◌++◌, length, map, count_by, codes, if◌then◌else◌, Option, Some, None}
+use Rattle.std.specs.Str.{bytes_eq}
+use Rattle.std.specs.Str.Parse.{digits_value}
+use Rattle.std.specs.Char.{is_ascii_digit}
+use Rattle.std.specs.List.{list_all, filter}
+use Rattle.hex.specs.Hex.{encode_lower}
+use Rattle.blob_digest.specs.Body.{greatest_blob}
+use Rattle.blob_digest.specs.DigestValue.{IsHash}
+use Rattle.http_core.specs.Names.{same_name}
+use Rattle.http_core.specs.Head.{Parts}
+use Rattle.http_core.specs.Connection.{closes_of}
+use Rattle.http_core.specs.declared.event.Area.{Area}
+use Rattle.http_core.specs.declared.event.Area.TheVariants.{Ac, Cas, Pin, Unpin}
+use Rattle.http_core.specs.declared.judging.Judgement.{Judgement}
+use Rattle.http_core.specs.declared.judging.Judgement.TheVariants as judgements
+use Rattle.http_core.specs.declared.rules.Length.{Length}
+use Rattle.http_core.specs.declared.rules.Length.TheVariants.{Absent, Bad, Is}
+
+-- how many fields have the name
+abbrev pub count_of : List ℕ → List (List ℕ × List ℕ) → ℕ
+count_of name fields = count_by (λ f. same_name f.0 name) fields
+
+-- 1 to 19 decimal digits
+abbrev pub is_length : List ℕ → Bool
+is_length text = nat_lt 0 (length text) && nat_le (length text) 19 && list_all is_ascii_digit text
+
+unfoldable pub read_length : List ℕ → Length
+read_length text = if is_length text then Is (digits_value 10 text) else Bad
+
+-- the values of the fields with the name
+abbrev pub values_of : List ℕ → List (List ℕ × List ℕ) → List (List ℕ)
+values_of name fields = map (λ f. f.1) (filter (λ f. same_name f.0 name) fields)
+
+-- what the values of `Content-Length` fields say: more than one are bad, also if they agree
+abbrev pub length_among : List (List ℕ) → Length
+length_among [] = Absent
+length_among (text ∷ []) = read_length text
+length_among (text ∷ other ∷ more) = Bad
+
+abbrev pub length_of : List (List ℕ × List ℕ) → Length
+length_of fields = length_among (values_of (codes "content-length") fields)
+
+abbrev pub is_bad : Length → Bool
+is_bad Bad = true
+is_bad Absent = false
+is_bad (Is size) = false
+
+abbrev pub is_absent : Length → Bool
+is_absent Absent = true
+is_absent Bad = false
+is_absent (Is size) = false
+
+-- how many bytes a body has of which this is said: without a word, none
+abbrev pub size_of : Length → ℕ
+size_of (Is size) = size
+size_of Absent = 0
+size_of Bad = 0
+
+abbrev pub is_get : List ℕ → Bool
+is_get method = bytes_eq method (codes "GET")
+
+abbrev pub is_put : List ℕ → Bool
+is_put method = bytes_eq method (codes "PUT")
+
+-- the status of the first rule that applies
+abbrev pub first_status : List (Bool × ℕ) → Option ℕ
+first_status [] = None
+first_status ((applies, status) ∷ rules) = if applies then Some status else first_status rules
+
+-- the rules in their order, but for the target's: whether each applies, and its status
+abbrev pub rules_of : ℕ → List ℕ → List (List ℕ × List ℕ) → List (Bool × ℕ)
+rules_of minor method fields =
+    (minor == 0, 505)
+    ∷ (not (count_of (codes "host") fields == 1), 400)
+    ∷ (nat_lt 0 (count_of (codes "transfer-encoding") fields), 501)
+    ∷ (is_bad (length_of fields), 400)
+    ∷ (nat_lt 0 (count_of (codes "expect") fields), 417)
+    ∷ (not (is_get method) && not (is_put method), 405)
+    ∷ (is_put method && is_absent (length_of fields), 411)
+    ∷ (nat_lt greatest_blob (size_of (length_of fields)), 413)
+    ∷ (is_get method && nat_lt 0 (size_of (length_of fields)), 400)
+    ∷ []
+
+unfoldable pub refusal_of : ℕ → List ℕ → List (List ℕ × List ℕ) → Option ℕ
+refusal_of minor method fields = first_status (rules_of minor method fields)
+
+abbrev pub area_text : Area → List ℕ
+area_text Ac = codes "/ac/"
+area_text Cas = codes "/cas/"
+area_text Pin = codes "/pin/"
+area_text Unpin = codes "/unpin/"
+
+-- only a PUT pins
+abbrev pub is_served : Bool → Area → Bool
+is_served put Ac = true
+is_served put Cas = true
+is_served put Pin = put
+is_served put Unpin = put
+
+abbrev pub target_text : List ℕ → Area → List ℕ → List ℕ
+target_text prefix area hash = prefix ++ (area_text area ++ encode_lower hash)
+
+-- the target is that of the hash in the area, which such a request may name
+pub record Names
+    (prefix : List ℕ) (put : Bool) (target : List ℕ) (area : Area) (hash : List ℕ) : Type 0 where
+  pub is_hash : IsHash hash
+  pub served : is_served put area ≡ true
+  pub text : target ≡ target_text prefix area hash
+
+-- what a PUT or a GET with this target asks for
+abbrev pub asked : Bool → ℕ → Bool → Area → List ℕ → Judgement
+asked true size close area hash = judgements.Put area hash size close
+asked false size close area hash = judgements.Get area hash close
+
+-- The judgement of the target: what it asks for, or 404. Behind a PUT whose body isn't read the
+-- session closes in any case.
+abbrev pub Targets : List ℕ → Bool → Bool → List ℕ → ℕ → Judgement → Type 0
+Targets prefix put close target size j =
+    ((area : Area) × (hash : List ℕ) × Names prefix put target area hash
+    × (j ≡ asked put size close area hash))
+    ⊎ (((area : Area) (hash : List ℕ) → Names prefix put target area hash → ⊥)
+    × (j ≡ judgements.Refuse 404 (put || close)))
+
+-- the judgement of a head with these parts, which the rules refuse or not
+abbrev pub Judged : List ℕ → Parts → Option ℕ → Judgement → Type 0
+Judged prefix p (Some status) j = j ≡ judgements.Refuse status true
+Judged prefix p None j =
+    Targets prefix (is_put p.method) (closes_of p.fields) p.target (size_of (length_of p.fields)) j
+
+abbrev pub JudgesParts : List ℕ → Parts → Judgement → Type 0
+JudgesParts prefix p j = Judged prefix p (refusal_of p.minor p.method p.fields) j

@@ -1,0 +1,132 @@
+-- What a session keeps of a stream.
+use Rattle.std.specs.Prelude.{◌≡◌, ◌≢◌, ℕ, ◌<◌, ◌≤◌, ◌==◌, Bool, true, false, List, [], ◌∷◌, ◌++◌, length, take, Option, Some, None, ⊤, if◌then◌else◌}
+use Rattle.http_core.specs.declared.event.Area.{Area}
+use Rattle.http_core.specs.declared.judging.Judgement.{Judgement}
+use Rattle.http_core.specs.declared.judging.Judgement.TheVariants as judgements
+use Rattle.http_core.specs.declared.session.Stage.{Stage}
+use Rattle.http_core.specs.declared.session.Stage.TheVariants as stages
+use Rattle.std.specs.List.{AllByRecursion}
+use Rattle.blob_digest.specs.Body.{greatest_blob}
+use Rattle.http_core.specs.Block.{HasNoBlock, IsBlock}
+use Rattle.http_core.specs.Event.{Get, Put, EventValue, Asked, Refused, closes, IsServed, IsLawful, IsLawfulIfAny}
+use Rattle.http_core.specs.Judging.{Judges}
+use Rattle.http_core.specs.Stream.{Completes, Cuts}
+
+-- the bytes of a block so far, or the body so far of a PUT whose head has come
+pub data State : Type 0 where
+  Reading : List ℕ → State
+  Taking : Area → List ℕ → ℕ → Bool → List ℕ → State
+  Closed : State
+
+pub record SessionValue : Type 0 where
+  pub prefix : List ℕ
+  pub state : State
+
+-- with these bytes of a block, or these of a body
+abbrev pub state_of : Stage → List ℕ → List ℕ → State
+state_of stages.Block block body = Reading block
+state_of (stages.Body area hash size close) block body = Taking area hash size close body
+state_of stages.Closed block body = Closed
+
+abbrev pub IsClosed : SessionValue → Type 0
+IsClosed s = s.state ≡ Closed
+
+abbrev pub IsOpen : SessionValue → Type 0
+IsOpen s = s.state ≢ Closed
+
+-- where a body comes it isn't whole, and it will not be too large
+abbrev pub IsWanting : Stage → List ℕ → Type 0
+IsWanting stages.Block body = ⊤
+IsWanting (stages.Body area hash size close) body = (length body < size) × (size ≤ greatest_blob)
+IsWanting stages.Closed body = ⊤
+
+-- the state behind these bytes of a request that isn't whole
+abbrev pub Holds : List ℕ → State → List ℕ → Type 0
+Holds prefix (Reading bytes) rest = (rest ≡ bytes) × HasNoBlock bytes × (length bytes < 16384)
+Holds prefix (Taking area hash size close body) rest =
+    (block : List ℕ) × (rest ≡ block ++ body) × IsBlock block × (length block ≤ 16384)
+    × Judges prefix block (judgements.Put area hash size close) × (length body < size)
+Holds prefix Closed rest = ⊥
+
+-- the state is that of what a cut leaves
+abbrev pub Leaves : List ℕ → State → Option (List ℕ) → Type 0
+Leaves prefix state None = state ≡ Closed
+Leaves prefix state (Some rest) = Holds prefix state rest
+
+-- the session stands where this stream leaves it, which was cut into these events
+unfoldable pub Stands : SessionValue → List ℕ → List EventValue → Type 0
+Stands s stream events =
+    (left : Option (List ℕ)) × Cuts s.prefix stream events left × Leaves s.prefix s.state left
+
+-- the state behind a request
+abbrev pub ended : Bool → State
+ended true = Closed
+ended false = Reading []
+
+-- the state behind these bytes of a request, which make the event if there is one
+abbrev pub Follows : List ℕ → List ℕ → Option EventValue → State → Type 0
+Follows prefix bytes None state = Holds prefix state bytes
+Follows prefix bytes (Some event) state =
+    Completes prefix bytes event × (state ≡ ended (closes event))
+
+-- from the one state, these bytes lead to the other
+abbrev pub Moves : SessionValue → List ℕ → Option EventValue → SessionValue → Type 0
+Moves old bytes event new =
+    (rest : List ℕ) → Holds old.prefix old.state rest
+    → Follows old.prefix (rest ++ bytes) event new.state
+
+-- a session takes a front of the piece, at most to the end of a request
+pub record Takes
+    (old : SessionValue) (piece : List ℕ) (taken : ℕ) (event : Option EventValue) (new : SessionValue)
+    : Type 0 where
+  pub some : 0 < taken
+  pub within : taken ≤ length piece
+  pub moves : Moves old (take taken piece) event new
+  pub lawful : IsLawfulIfAny event
+
+-- what a judgement lets a request ask
+abbrev pub IsAllowed : Judgement → Type 0
+IsAllowed (judgements.Refuse status close) = ⊤
+IsAllowed (judgements.Get area hash close) = IsServed (Get area hash)
+IsAllowed (judgements.Put area hash size close) = size ≤ greatest_blob
+
+-- the event that a block with this judgement makes at once, and the state behind it
+abbrev pub first_event : Judgement → Option EventValue
+first_event (judgements.Refuse status close) = Some (Refused status close)
+first_event (judgements.Get area hash close) = Some (Asked (Get area hash) close)
+first_event (judgements.Put area hash size close) =
+    if size == 0 then Some (Asked (Put area hash []) close) else None
+
+abbrev pub first_state : Judgement → State
+first_state (judgements.Refuse status close) = ended close
+first_state (judgements.Get area hash close) = ended close
+first_state (judgements.Put area hash size close) =
+    if size == 0 then ended close else Taking area hash size close []
+
+abbrev pub IsReading : State → Type 0
+IsReading (Reading bytes) = Unit {0}
+IsReading (Taking area hash size close body) = ⊥
+IsReading Closed = ⊥
+
+abbrev pub IsTaking : State → Type 0
+IsTaking (Reading bytes) = ⊥
+IsTaking (Taking area hash size close body) = Unit {0}
+IsTaking Closed = ⊥
+
+-- The session took the piece, and answered the events which the cut of its stream has with it and
+-- didn't have before. A closed one answers nothing and stays closed.
+pub record Feeds
+    (old : SessionValue) (piece : List ℕ) (events : List EventValue) (new : SessionValue)
+    : Type 0 where
+  pub stands : (stream : List ℕ) (before : List EventValue)
+      → Stands old stream before → Stands new (stream ++ piece) (before ++ events)
+  pub closed : IsClosed old → IsClosed new × (events ≡ [])
+  pub lawful : AllByRecursion IsLawful events
+  pub prefix : new.prefix ≡ old.prefix
+
+-- the session took the pieces one after another, and answered these events together
+abbrev pub FeedsAll : SessionValue → List (List ℕ) → List EventValue → SessionValue → Type 0
+FeedsAll old [] events new = (events ≡ []) × (new ≡ old)
+FeedsAll old (piece ∷ pieces) events new =
+    (first : List EventValue) × (mid : SessionValue) × (others : List EventValue)
+    × Feeds old piece first mid × FeedsAll mid pieces others new × (events ≡ first ++ others)

@@ -1,0 +1,25 @@
+ghost use Rattle.std.specs.Prelude.{◌≡◌, ◌≤◌, ◌<◌, ◌⊎◌, ◌↔◌, length, take, IsTrue};
+ghost use Rattle.http_core.specs.Block.{EndsBlock, IsLine};
+
+/// The bytes up to the first line feed and with it: at most so many, but at least one.
+pub(crate) fn first_line(bytes: &[u8], most: usize) -> &[u8]
+    requires { 0 < length bytes.now }
+    ensures line { IsLine result.now }
+    ensures most { (length result.now ≤ most) ⊎ (length result.now ≡ 1) }
+    ensures front { result.now ≡ take (length result.now) bytes.now }
+    ensures within { length result.now ≤ length bytes.now }
+{
+    let mut last = 0;
+    while last + 1 < bytes.len() && last + 1 < most && bytes[last] != b'\n' {
+        last += 1;
+    }
+    let (line, _) = bytes.split_at(last + 1);
+    line
+}
+
+/// Whether the bytes end in an empty line behind a line.
+pub(crate) fn ends_block(bytes: &[u8]) -> bool
+    ensures { IsTrue result ↔ EndsBlock bytes.now }
+{
+    bytes.ends_with(b"\r\n\r\n")
+}

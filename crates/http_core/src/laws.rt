@@ -1,0 +1,18 @@
+ghost use Rattle.http_core.specs.Laws.{IsCutInOneWay, CutsGoOn, PiecesGiveTheWhole, PiecesMakeNoDifference};
+
+/// A stream is cut into one list of events, with one rest. A law: it does nothing.
+pub fn a_stream_is_cut_in_one_way()
+    ensures { IsCutInOneWay }
+{}
+
+/// A longer stream has the events of a shorter one, and then others. A law: it does nothing.
+pub fn cuts_go_on()
+    ensures { CutsGoOn }
+{}
+
+/// Fed in any pieces, a session answers the events of the whole stream, and is left as by any other
+/// pieces. A law: it does nothing.
+pub fn pieces_make_no_difference()
+    ensures whole { PiecesGiveTheWhole }
+    ensures same { PiecesMakeNoDifference }
+{}

@@ -1,0 +1,21 @@
+//! Requests of HTTP/1.1 cut out of a stream that comes in pieces.
+#![tactic(auto)]
+
+mod block;
+mod connection;
+mod event;
+mod judging;
+mod laws;
+mod prefix;
+mod reply;
+mod rules;
+mod session;
+
+pub use event::{Area, Ask, Event};
+pub use laws::{a_stream_is_cut_in_one_way, cuts_go_on, pieces_make_no_difference};
+pub use prefix::Prefix;
+pub use reply::{Reply, append_head, write_reply};
+pub use session::Session;
+
+#[cfg(test)]
+mod tests;

@@ -1,0 +1,217 @@
+ghost use Rattle.std.specs.Prelude.{◌≡◌, ◌↔◌, ℕ, ◌<◌, ◌≤◌, ◌++◌, ◌∷◌, List, [], length, take, IsTrue, IfOk, OnErr, OnOk, Option};
+ghost use Rattle.http_core.specs.Event.{EventValue, events_of, option_event};
+ghost use Rattle.http_core.specs.Session.{SessionValue, Stands, Feeds, IsOpen, IsClosed, Holds, Takes, IsAllowed, IsReading, IsTaking, first_event, first_state, ended};
+
+use crate::block::{ends_block, first_line};
+use crate::event::{Area, Ask, Event};
+use crate::judging::{Judgement, judge};
+use crate::prefix::Prefix;
+use blob_digest::Body;
+use std::alloc::{AllocError, Allocator};
+use std::marker::Model;
+use std::mem;
+
+/// The greatest length of a block.
+const MAX_BLOCK: usize = 16384;
+
+/// What comes next: a byte of a block, or of the body that a PUT has, of which the area, the hash,
+/// the length and whether it closes are known.
+#[derive(Clone, Copy, Debug)]
+enum Stage {
+    Block,
+    Body(Area, [u8; 32], usize, bool),
+    Closed,
+}
+
+/// The stream of one connection, cut into requests as its bytes arrive in pieces of any lengths.
+#[derive(Drop)]
+pub struct Session<A: Allocator> {
+    prefix: Prefix<A>,
+    stage: Stage,
+    block: Vec<u8, A>,
+    body: Body<A>,
+}
+
+impl<A: Allocator> Model for Session<A> {
+    ghost use Rattle.http_core.specs.Session.{SessionValue, IsWanting, state_of};
+
+    ghost Value = { SessionValue };
+
+    ghost view = { λ s. record {
+      prefix = s.prefix;
+      state = state_of s.stage s.block.items s.body;
+    } };
+
+    ghost invariant = { λ s. IsWanting s.stage s.body };
+}
+
+impl<A: Allocator> Session<A> {
+    /// Whether further bytes can give events.
+    pub fn is_open(&self) -> bool
+        ensures { IsTrue result ↔ IsOpen self.now }
+    {
+        match self.stage {
+            Stage::Closed => false,
+            _ => true,
+        }
+    }
+}
+
+impl<A: Allocator + Copy> Session<A> {
+    /// A session to which no byte has come.
+    pub fn new(alloc: A, prefix: &Prefix<A>) -> Result<Session<A>, AllocError>
+        ensures stands { IfOk result (λ s. Stands s [] []) }
+        ensures prefix { IfOk result (λ s. s.prefix ≡ prefix.now) }
+    {
+        Ok(Session {
+            prefix: prefix.copied(alloc)?,
+            stage: Stage::Block,
+            block: Vec::new(alloc),
+            body: Body::new(alloc),
+        })
+    }
+
+    /// Takes the next piece of the stream, and answers the events that it completes. After an `Err`
+    /// the session is closed.
+    pub fn feed(&mut self, alloc: A, piece: &[u8]) -> Result<Vec<Event<A>, A>, AllocError>
+        ensures ok { IfOk result
+            (λ events. Feeds self.old piece.now (events_of events.items) self.new) }
+        ensures err { OnErr result (IsClosed self.new) }
+        ensures prefix { self.new.prefix ≡ self.old.prefix }
+    {
+        match self.cut(alloc, piece) {
+            Ok(events) => Ok(events),
+            Err(error) => {
+                self.close(alloc);
+                Err(error)
+            }
+        }
+    }
+
+    /// Closes the session. The bytes of a body that isn't whole are given up.
+    pub fn close(&mut self, alloc: A)
+        ensures state { IsClosed self.new }
+        ensures prefix { self.new.prefix ≡ self.old.prefix }
+    {
+        self.block.clear();
+        self.body = Body::new(alloc);
+        self.stage = Stage::Closed;
+    }
+
+    /// Takes the piece. After an `Err` the session is in the middle of it.
+    fn cut(&mut self, alloc: A, piece: &[u8]) -> Result<Vec<Event<A>, A>, AllocError>
+        ensures ok { IfOk result
+            (λ events. Feeds self.old piece.now (events_of events.items) self.new) }
+        ensures prefix { self.new.prefix ≡ self.old.prefix }
+    {
+        let mut events = Vec::new(alloc);
+        let mut at = 0;
+        while at < piece.len() && self.is_open() {
+            let (_, rest) = piece.split_at(at);
+            let (taken, event) = self.advance(alloc, rest)?;
+            at += taken;
+            if let Some(event) = event {
+                events.push(event)?;
+            }
+        }
+        Ok(events)
+    }
+
+    /// Takes a front of the piece, at most to the end of a request.
+    fn advance(&mut self, alloc: A, piece: &[u8]) -> Result<(usize, Option<Event<A>>), AllocError>
+        requires some { 0 < length piece.now }
+        requires open { IsOpen self.old }
+        ensures takes { IfOk result
+            (λ x. Takes self.old piece.now x.0 (option_event x.1) self.new) }
+        ensures prefix { self.new.prefix ≡ self.old.prefix }
+    {
+        match self.stage {
+            Stage::Block => self.read_line(alloc, piece),
+            Stage::Body(..) => self.take_body(alloc, piece),
+            Stage::Closed => Ok((piece.len(), None)),
+        }
+    }
+
+    /// Takes bytes of a block, at most to the end of a line.
+    fn read_line(&mut self, alloc: A, piece: &[u8]) -> Result<(usize, Option<Event<A>>), AllocError>
+        requires some { 0 < length piece.now }
+        requires reading { IsReading self.old.state }
+        ensures takes { IfOk result
+            (λ x. Takes self.old piece.now x.0 (option_event x.1) self.new) }
+        ensures prefix { self.new.prefix ≡ self.old.prefix }
+    {
+        let line = first_line(piece, MAX_BLOCK.saturating_sub(self.block.len()));
+        self.block.extend_from_slice(line)?;
+        if ends_block(self.block.as_slice()) {
+            let judgement = judge(self.prefix.as_bytes(), self.block.as_slice());
+            return Ok((line.len(), self.follow(alloc, judgement)));
+        }
+        if self.block.len() < MAX_BLOCK {
+            return Ok((line.len(), None));
+        }
+        self.end(true);
+        Ok((line.len(), Some(Event::Refuse(431, true))))
+    }
+
+    /// Goes on behind a block.
+    fn follow(&mut self, alloc: A, judgement: Judgement) -> Option<Event<A>>
+        requires { IsAllowed judgement }
+        ensures event { option_event result ≡ first_event judgement }
+        ensures state { self.new.state ≡ first_state judgement }
+        ensures prefix { self.new.prefix ≡ self.old.prefix }
+    {
+        match judgement {
+            Judgement::Refuse(status, close) => {
+                self.end(close);
+                Some(Event::Refuse(status, close))
+            }
+            Judgement::Get(area, hash, close) => {
+                self.end(close);
+                Some(Event::Ask(Ask::Get(area, hash), close))
+            }
+            Judgement::Put(area, hash, length, close) => {
+                if length == 0 {
+                    self.end(close);
+                    let body = Body::new(alloc).seal();
+                    return Some(Event::Ask(Ask::Put(area, hash, body), close));
+                }
+                self.block.clear();
+                self.body = Body::new(alloc);
+                self.stage = Stage::Body(area, hash, length, close);
+                None
+            }
+        }
+    }
+
+    /// Takes bytes of a body.
+    fn take_body(&mut self, alloc: A, piece: &[u8]) -> Result<(usize, Option<Event<A>>), AllocError>
+        requires some { 0 < length piece.now }
+        requires taking { IsTaking self.old.state }
+        ensures takes { IfOk result
+            (λ x. Takes self.old piece.now x.0 (option_event x.1) self.new) }
+        ensures prefix { self.new.prefix ≡ self.old.prefix }
+    {
+        let Stage::Body(area, hash, length, close) = self.stage else {
+            return Ok((piece.len(), None));
+        };
+        let missing = length - self.body.len();
+        if piece.len() < missing {
+            self.body.push(piece)?;
+            return Ok((piece.len(), None));
+        }
+        let (front, _) = piece.split_at(missing);
+        self.body.push(front)?;
+        let body = mem::replace(&mut self.body, Body::new(alloc)).seal();
+        self.end(close);
+        Ok((missing, Some(Event::Ask(Ask::Put(area, hash, body), close))))
+    }
+
+    /// Ends the request at hand.
+    fn end(&mut self, close: bool)
+        ensures prefix { self.new.prefix ≡ self.old.prefix }
+        ensures state { self.new.state ≡ ended close }
+    {
+        self.block.clear();
+        self.stage = if close { Stage::Closed } else { Stage::Block };
+    }
+}

@@ -1,0 +1,5 @@
+mod build_steps;
+mod directories;
+mod outcomes;
+mod plans;
+mod trees;

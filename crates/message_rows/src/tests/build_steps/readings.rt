@@ -1,0 +1,242 @@
+use super::results::*;
+use super::{NINE, Reading, joined};
+use action_messages::ActionResult;
+use blob_digest::DigestError;
+use canonical::CanonError;
+use messages::MessageError;
+use refusing::Refusing;
+use std::alloc::{AllocError, Allocator};
+use std::test::Fail;
+use wire::WireError;
+
+const FILE: &[u8] = b"\x12I\x0a\x01f\x12D\x0a@";
+
+const TREE: &[u8] = b"\x1aK\x0a\x03out\x1aD\x0a@";
+
+/// The hash of the Tree whose root has the file `a` of nine bytes.
+const ROOT: &[u8] = b"b702720dfa91251d7827a7c362e98aec2fbb92800b4cd6d796eb0b8b84a40cb7";
+
+const MINUS_ONE: &[u8] = b"\x20\xff\xff\xff\xff\xff\xff\xff\xff\xff\x01";
+
+const READ: [Reading; 16] = [
+    (&[b"\x20\x05\x20\x07"], Ok(&[b"\x20\x07"])),
+    (&[b"\x20\x00"], Ok(&[])),
+    (&[b"\x20\x85\x00"], Ok(&[b"\x20\x05"])),
+    (&[b"\x20\x80\x80\x80\x80\x10"], Ok(&[])),
+    (&[b"\xa0\x80\x00\x87\x80\x00"], Ok(&[b"\x20\x07"])),
+    (
+        &[MINUS_ONE, FILE, NINE, b"\x10\x09"],
+        Ok(&[FILE, NINE, b"\x10\x09", MINUS_ONE]),
+    ),
+    (
+        &[FILE, NINE, b"\x10\x09\x4a\x02\x08\x01"],
+        Ok(&[FILE, NINE, b"\x10\x09"]),
+    ),
+    (
+        &[b"\x4a\x02\x08\x01\x48\x01", FILE, NINE, b"\x10\x09"],
+        Ok(&[FILE, NINE, b"\x10\x09"]),
+    ),
+    (
+        &[b"\x12K\x0a\x01f\x12B\x0a@", NINE, b"\x12\x02\x10\x09"],
+        Ok(&[FILE, NINE, b"\x10\x09"]),
+    ),
+    (
+        &[b"\x1aM\x0a\x03out\x1aD\x0a@", ROOT, b"\x10M\x20\x01"],
+        Ok(&[TREE, ROOT, b"\x10M"]),
+    ),
+    (
+        &[
+            b"\x12I\x0a\x01g\x12D\x0a@",
+            NINE,
+            b"\x10\x09",
+            FILE,
+            NINE,
+            b"\x10\x09",
+        ],
+        Ok(&[
+            FILE,
+            NINE,
+            b"\x10\x09",
+            b"\x12I\x0a\x01g\x12D\x0a@",
+            NINE,
+            b"\x10\x09",
+        ]),
+    ),
+    (
+        &[b"\x12K\x0a\x01f\x20\x02\x12D\x0a@", NINE, b"\x10\x09"],
+        Ok(&[b"\x12K\x0a\x01f\x12D\x0a@", NINE, b"\x10\x09\x20\x01"]),
+    ),
+    (
+        &[b"\x32\x42\x0a@", NINE, b"\x2a\x01a\x32\x02\x10\x09\x2a\x00"],
+        Ok(&[b"\x32D\x0a@", NINE, b"\x10\x09"]),
+    ),
+    (&[], Ok(&[])),
+    (&[b"\x2a\x00"], Ok(&[])),
+    (&[b"\x48\x07\x4d\x01\x02\x03\x04"], Ok(&[])),
+];
+
+const REFUSED: [Reading; 15] = [
+    (&[b"\x52\x00"], Err(MessageError::Unsupported(10))),
+    (
+        &[FILE, NINE, b"\x10\x09", FILE, NINE, b"\x10\x09"],
+        Err(MessageError::SameName),
+    ),
+    // The first message of the bytes decides.
+    (&[b"\x12\x00\x62\x00"], Err(MessageError::MissingField(2))),
+    (&[b"\x62\x00\x12\x00"], Err(MessageError::BadPath)),
+    (
+        &[b"\x42\x00\x1a\x00"],
+        Err(MessageError::BadDigest(DigestError::BadHex)),
+    ),
+    (&[b"\x1a\x00\x42\x00"], Err(MessageError::MissingField(3))),
+    // A single message stands where its first record does.
+    (
+        &[b"\x32\x42\x0a@", NINE, b"\x12\x00\x32\x02\x18\x01"],
+        Err(MessageError::Unsupported(3)),
+    ),
+    // The records come before what is in them.
+    (&[b"\x12\x00\x52\x00"], Err(MessageError::Unsupported(10))),
+    (
+        &[b"\x25\x00\x00\x00\x00"],
+        Err(MessageError::Wire(CanonError::Wire(WireError::BadWireType))),
+    ),
+    (
+        &[b"\x4b"],
+        Err(MessageError::Wire(CanonError::Wire(WireError::BadWireType))),
+    ),
+    // Each occurrence is cut by itself.
+    (
+        &[b"\x32\x02\x0a@\x32@", NINE],
+        Err(MessageError::Wire(CanonError::Wire(WireError::Truncated))),
+    ),
+    // Each occurrence of a string counts.
+    (
+        &[b"\x62\x06\x0a\x01\xff\x0a\x01a"],
+        Err(MessageError::Wire(CanonError::BadUtf8)),
+    ),
+    (&[b"\x12\x02\x50\x00"], Err(MessageError::Unsupported(10))),
+    (
+        &[b"\x20\xff\xff\xff\xff\xff\xff\xff\xff\xff\x02"],
+        Err(MessageError::Wire(CanonError::Wire(WireError::VarintTooLong))),
+    ),
+    (
+        &[b"\x62\x08\x0a\x03a/b\x12\x01t\x62\x06\x0a\x01a\x12\x01t"],
+        Err(MessageError::SameName),
+    ),
+];
+
+fn read<A: Allocator + Copy>(alloc: A, bytes: &[u8]) -> Result<Vec<u8, A>, MessageError> {
+    Ok(ActionResult::decode(alloc, bytes)?.encode(alloc)?)
+}
+
+/// Whether a row is answered as it says where no request for memory is refused, and else as it says
+/// or with want of memory.
+fn holds<A: Allocator + Copy>(alloc: A, row: Reading) -> Result<bool, AllocError> {
+    let bytes = joined(alloc, row.0)?;
+    let expected = match row.1 {
+        Ok(pieces) => Ok(joined(alloc, pieces)?),
+        Err(error) => Err(error),
+    };
+    for number in 1..1000u64 {
+        let heap = Refusing::new(alloc, number);
+        let same = match (read(&heap, &bytes), &expected) {
+            (Ok(text), Ok(wanted)) => text.as_slice() == wanted.as_slice(),
+            (Err(MessageError::Memory), _) => heap.has_refused(),
+            (Err(error), Err(wanted)) => error == *wanted,
+            _ => false,
+        };
+        if !same {
+            return Ok(false);
+        }
+        if !heap.has_refused() {
+            return Ok(true);
+        }
+    }
+    Ok(false)
+}
+
+#[test]
+fn read_tolerantly(rt: HostRuntime) -> Result<(), Fail> {
+    for row in READ {
+        assert!(rt; holds(rt.alloc(), row)?, "{row:?}");
+    }
+    Ok(())
+}
+
+#[test]
+fn refused_tolerantly(rt: HostRuntime) -> Result<(), Fail> {
+    for row in REFUSED {
+        assert!(rt; holds(rt.alloc(), row)?, "{row:?}");
+    }
+    Ok(())
+}
+
+#[test]
+fn result_1(rt: HostRuntime) -> Result<(), Fail> {
+    for row in RESULT_1 {
+        assert!(rt; holds(rt.alloc(), row)?, "{row:?}");
+    }
+    Ok(())
+}
+
+#[test]
+fn result_2(rt: HostRuntime) -> Result<(), Fail> {
+    for row in RESULT_2 {
+        assert!(rt; holds(rt.alloc(), row)?, "{row:?}");
+    }
+    Ok(())
+}
+
+#[test]
+fn result_3(rt: HostRuntime) -> Result<(), Fail> {
+    for row in RESULT_3 {
+        assert!(rt; holds(rt.alloc(), row)?, "{row:?}");
+    }
+    Ok(())
+}
+
+#[test]
+fn result_4(rt: HostRuntime) -> Result<(), Fail> {
+    for row in RESULT_4 {
+        assert!(rt; holds(rt.alloc(), row)?, "{row:?}");
+    }
+    Ok(())
+}
+
+/// So many outputs of a kind: each has these pieces, with three digits of its number in between.
+fn many<A: Allocator + Copy>(
+    alloc: A,
+    count: u32,
+    front: &[u8],
+    behind: &[&[u8]],
+) -> Result<Vec<u8, A>, AllocError> {
+    let mut out = Vec::new(alloc);
+    for number in 0..count {
+        out.extend_from_slice(front)?;
+        for place in [100, 10, 1] {
+            out.push(b'0' + (number / place % 10) as u8)?;
+        }
+        for piece in behind {
+            out.extend_from_slice(piece)?;
+        }
+    }
+    Ok(out)
+}
+
+/// What comes before and behind the path of an output of each kind.
+const LONG: [(&[u8], &[&[u8]]); 3] = [
+    (b"\x12K\x0a\x03", &[b"\x12D\x0a@", NINE, b"\x10\x09"]),
+    (b"\x1aK\x0a\x03", &[b"\x1aD\x0a@", NINE, b"\x10\x09"]),
+    (b"b\x08\x0a\x03", &[b"\x12\x01t"]),
+];
+
+/// No length is told as want of memory.
+#[test]
+fn long_results(rt: HostRuntime) -> Result<(), Fail> {
+    for (front, behind) in LONG {
+        let bytes = many(rt.alloc(), 1000, front, behind)?;
+        let text = read(rt.alloc(), &bytes)?;
+        assert!(rt; text.as_slice() == bytes.as_slice());
+    }
+    Ok(())
+}

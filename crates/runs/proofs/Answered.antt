@@ -1,0 +1,391 @@
+-- A complete run that an engine mirrors is answered yes, where blobs and results serve it: each step is as recorded, and the
+-- root is accepted.
+use Rattle.std.proofs.Common.{◌≡◌, ℕ, zero, suc, ◌+◌, ◌<◌, List, [], ◌∷◌, ◌++◌, map, length, Option, Some, None, refl, ap, sym, ◌∙◌, subst, arith, inl, inr}
+use Rattle.std.specs.Prelude.{◌⊎◌, option_map, option_and_then, slice_get, Contains, IsSomeAnd}
+use Rattle.std.specs.List.{AllByRecursion}
+use Rattle.std.proofs.lemmas.Option.{slice_get_within}
+use Rattle.blob_digest.specs.Digest.{DigestValue, NoClash}
+use Rattle.messages.specs.declared.node.Node.TheVariants.{Dir}
+use Rattle.messages.specs.Tree.{TreeValue, IsTree, tree_bytes}
+use Rattle.action_messages.specs.Action.{with_input, action_bytes}
+use Rattle.action_messages.specs.ActionResult.{ActionResultValue}
+use Rattle.actions.specs.Outcome.{OutputValue, OutcomeValue, outputs_form, output_paths}
+use Rattle.action_messages.specs.OutputDirectory.{OutputDirectoryValue}
+use Rattle.action_messages.specs.Outputs.{RecordedValue, file, directory, link, directories_among}
+use Rattle.actions.specs.Recorded.{StandForAll, IsRecorded}
+use Rattle.actions.proofs.RecordedAt.{recorded_at}
+use Rattle.actions.proofs.TreeLookups.{behind}
+use Rattle.actions.proofs.TreeBytes.{tree_bytes_some}
+use Rattle.plan.specs.Plan.{IsPlan, AreSteps}
+use Rattle.plan.specs.Values.{OriginValue, source, output, LineValue, StepValue, IsLine, IsOrigin}
+use Rattle.tree.specs.Tree.{Name, Tree, Leaf, Entry, whole}
+use Rattle.tree.specs.Form.{NodeValue, entry_node, form, top, root}
+use Rattle.tree.specs.Graft.{graft, expand}
+use Rattle.blob_source.specs.Source.{Blobs, Grows, IsUnder, IsBlobUnder}
+use Rattle.blob_source.specs.Told.{IsTold, TellsDirectory, FailsDirectory}
+use Rattle.tree.specs.Lookup.{found, LooksFrom, IsValue}
+use Rattle.tree.proofs.GraftRoots.{root-graft}
+use Rattle.tree.proofs.TreeDigests.{IsDigest-digest_of}
+use Rattle.verifier.specs.Accepted.{LooksAt, Resolves}
+use Rattle.verifier.specs.AsRecorded.{IsAsRecorded, AreAsRecorded, IsPlanAsRecorded}
+use Rattle.verifier.specs.Build.{Meaning, ActionMeaning, action_digest, Outcome, output_at, Event, State, origin_at, origins, graft_of, action_of}
+use Rattle.verifier.specs.Headline.{IsBlobOfAction, IsBlobOfOutcome, IsConcerned}
+use Rattle.verifier.specs.Holding.{HoldsResult}
+use Rattle.verifier.specs.Recorded.{IsRecordedAs, Agrees}
+use Rattle.verifier.proofs.OutputLookups.{HoldsTree, HoldsOutput}
+use Rattle.verifier.proofs.Passing.{recorded_verdict}
+use Rattle.runs.specs.Engine.{FinishedValue, EngineValue, IsEngine, finished_in}
+use Rattle.runs.specs.Calls.{HaveOneForm, kept_digests}
+use Rattle.runs.specs.Mirrors.{IsFormOf, IsConcernedIn, IsMirrored}
+use Rattle.runs.specs.Served.{TellsWay, Serves, IsServedYes}
+use Rattle.runs.specs.Ties.{IsRootOf}
+use Rattle.verifier.proofs.FreshRuns.{one_answer}
+use Rattle.runs.proofs.Places.{has_one}
+use Rattle.runs.proofs.Steady.{Steady, made_of}
+use Rattle.runs.proofs.Lost.{steady_of}
+use Rattle.runs.proofs.Noted.{outcome_there, kept_count, kept_each}
+use Rattle.runs.proofs.Resolved.{nodes_of}
+use Rattle.runs.proofs.Found.{way_found, outputs_found}
+
+-- ---- lists
+
+-- what stands in a list with one more stood there before, or is the new one
+pushed_at : {X : Type 0} (xs : List X) (x y : X) (j : ℕ) → slice_get (xs ++ x ∷ []) j ≡ Some y → (slice_get xs j ≡ Some y) ⊎ ((j ≡ length xs) × (x ≡ y))
+pushed_at [] x y zero h = inr (refl, cc)
+pushed_at [] x y (suc j) h = absurd cc
+pushed_at (z ∷ xs) x y zero h = inl h
+pushed_at (z ∷ xs) x y (suc j) h = by (pushed_at xs x y j h)
+  where
+    by : (slice_get xs j ≡ Some y) ⊎ ((j ≡ length xs) × (x ≡ y)) → (slice_get xs j ≡ Some y) ⊎ ((suc j ≡ suc (length xs)) × (x ≡ y))
+    by (inl k) = inl k
+    by (inr k) = inr (ap suc k.0, k.1)
+
+pushed_length : {X : Type 0} (xs : List X) (x : X) → length (xs ++ x ∷ []) ≡ suc (length xs)
+pushed_length [] x = refl
+pushed_length (z ∷ xs) x = ap suc (pushed_length xs x)
+
+-- a partner for each element
+pub record Partners {Y Z : Type 0} (P : Y → Z → Type 0) (ys : List Y) : Type 0 where
+  pub zs : List Z
+  pub count : length zs ≡ length ys
+  pub each : (i : ℕ) (y : Y) (z : Z) → slice_get ys i ≡ Some y → slice_get zs i ≡ Some z → P y z
+  pub from : (z : Z) → Contains zs z → (y : Y) × P y z
+
+partners : {Y Z : Type 0} (P : Y → Z → Type 0) (ys : List Y) → ((i : ℕ) (y : Y) → slice_get ys i ≡ Some y → (z : Z) × P y z) → Partners P ys
+partners P [] h = record { zs = []; count = refl; each = λ i y z at to. absurd (none i y at); from = λ z c. absurd (let lt = c.1 in omega (arith, lt)) }
+  where
+    none : {Y : Type 0} (i : ℕ) (y : Y) → slice_get [] i ≡ Some y → ⊥
+    none i y h = cc
+partners {Y} {Z} P (y ∷ ys) h =
+    let z = h 0 y refl in
+    let rest = partners P ys (λ i x at. h (suc i) x at) in
+    record { zs = z.0 ∷ rest.zs; count = ap suc rest.count; each = λ i x w at to. each i x w z.0 z.1 rest.zs rest.each at to; from = λ w c. from w z.0 z.1 rest.zs rest.from c }
+  where
+    each : (i : ℕ) (x : Y) (w z : Z) → P y z → (zs : List Z) → ((i : ℕ) (x : Y) (w : Z) → slice_get ys i ≡ Some x → slice_get zs i ≡ Some w → P x w) → slice_get (y ∷ ys) i ≡ Some x → slice_get (z ∷ zs) i ≡ Some w → P x w
+    each zero x w z p zs rest at to = let one : y ≡ x = cc in let two : z ≡ w = cc in subst (λ v. P v w) one (subst (P y) two p)
+    each (suc i) x w z p zs rest at to = rest i x w at to
+
+    from : (w z : Z) → P y z → (zs : List Z) → ((w : Z) → Contains zs w → (x : Y) × P x w) → Contains (z ∷ zs) w → (x : Y) × P x w
+    from w z p zs rest (zero, lt, is) = (y, subst (P y) is p)
+    from w z p zs rest (suc k, lt, is) = rest w (k, omega (arith, lt), is)
+
+-- ---- forms
+
+form_through : (v w : OutcomeValue) (o : Outcome) → HaveOneForm v w → IsFormOf w o → IsFormOf v o
+form_through v w o h k = record {
+  exit_code = h.exit_code ∙ k.exit_code;
+  outputs = λ p x. (λ c. (k.outputs p x).0 (subst (λ os. Contains os (p, x)) h.outputs c), λ c. subst (λ os. Contains os (p, x)) (sym h.outputs) ((k.outputs p x).1 c));
+}
+
+form_paths : (es : List (List Name × OutputValue)) → map (λ (e : List Name × NodeValue). e.0) (outputs_form es) ≡ output_paths es
+form_paths [] = refl
+form_paths (e ∷ es) = ap (λ ps. e.0 ∷ ps) (form_paths es)
+
+-- what the graft of lines is made of
+graft_parts : (t : Tree Leaf) (s : State) (ls : List LineValue) (g : Tree Leaf) → graft_of t s ls ≡ Some g → (os : List (List Name × Entry Leaf)) × (origins t s ls ≡ Some os) × (expand (graft os) ≡ g)
+graft_parts t s ls g is = by (origins t s ls) refl is
+  where
+    by : (q : Option (List (List Name × Entry Leaf))) → origins t s ls ≡ q → option_map (λ es. expand (graft es)) q ≡ Some g → (os : List (List Name × Entry Leaf)) × (origins t s ls ≡ Some os) × (expand (graft os) ≡ g)
+    by None at is = absurd cc
+    by (Some os) at is = (os, at, cc)
+
+there_and : {X : Type 0} (P : X → Type 0) (o : Option X) → IsSomeAnd o P → (x : X) × (o ≡ Some x) × P x
+there_and P None h = elim h [ ]
+there_and P (Some x) h = (x, refl, h)
+
+-- ---- the steps
+
+module _ (B C : Blobs) (e : EngineValue) (t : Tree Leaf) (meaning : Meaning) (X : List (ActionMeaning × Outcome)) (es : List Event) (s : State) (engine : IsEngine e) (k : IsMirrored B e t meaning X es s) (serves : Serves B C e t meaning s) where
+  abbrev S : List ℕ → Type 0
+  S = IsConcernedIn B e meaning t es
+
+  steady : Steady e.plan meaning t X k.table S s
+  steady = steady_of e t meaning X s B es k
+
+  -- the Trees of a recorded outcome
+  holds_told : (d : DigestValue) (u : TreeValue) → IsTold IsTree tree_bytes B d u → HoldsTree S k.apart u
+  holds_told d u told = record { lawful = told.lawful; held = λ m inside. inl (inl (inr (u, told.lawful, by told.blob.held, m, inside, refl))) }
+    where
+      by : IsUnder B d (Some (tree_bytes u)) → IsValue B (tree_bytes u)
+      by (inl h) = absurd (tree_bytes_some u (let both : ◌≡◌ {A = Option (List ℕ)} (Some (tree_bytes u)) (Some []) = h.1 in cc))
+      by (inr h) = (d, sym h.1)
+
+  holds_outputs : (xs : List RecordedValue) (ys : List (List Name × OutputValue)) → StandForAll B xs ys → (y : List Name × OutputValue) → Contains ys y → HoldsOutput S k.apart y.1
+  holds_outputs [] ys h y (j, lt, is) = let none : length ys ≡ 0 = ap length h in absurd (omega (arith, none))
+  holds_outputs (x ∷ xs) [] h y c = elim h [ ]
+  holds_outputs (file f ∷ xs) (z ∷ ys) h y (zero, lt, is) = subst (λ (z : List Name × OutputValue). HoldsOutput S k.apart z.1) is (subst (HoldsOutput S k.apart) (sym h.1) tt)
+  holds_outputs (link l ∷ xs) (z ∷ ys) h y (zero, lt, is) = subst (λ (z : List Name × OutputValue). HoldsOutput S k.apart z.1) is (subst (HoldsOutput S k.apart) (sym h.1) tt)
+  holds_outputs (directory d ∷ xs) (z ∷ ys) h y (zero, lt, is) = subst (λ (z : List Name × OutputValue). HoldsOutput S k.apart z.1) is (subst (HoldsOutput S k.apart) (sym h.1.2) (holds_told d.tree h.1.0 h.1.1))
+  holds_outputs (x ∷ xs) (z ∷ ys) h y (suc j, lt, is) = holds_outputs xs ys h.2 y (j, omega (arith, lt), is)
+
+  -- an outcome that was recorded of a step that has finished
+  record IsServed (i : ℕ) (v : OutcomeValue) : Type 0 where
+    finished : FinishedValue
+    is : finished_in i e ≡ Some finished
+    result : ActionResultValue
+    held : HoldsResult C finished.action result
+    stands : IsRecorded B result v
+    form : HaveOneForm v finished.outcome
+
+  abbrev AreServed : List OutcomeValue → Type 0
+  AreServed before = (j : ℕ) (v : OutcomeValue) → slice_get before j ≡ Some v → IsServed j v
+
+  served_next : (before : List OutcomeValue) (v : OutcomeValue) → AreServed before → IsServed (length before) v → AreServed (before ++ v ∷ [])
+  served_next before v all one j w at = by (pushed_at before v w j at)
+    where
+      by : (slice_get before j ≡ Some w) ⊎ ((j ≡ length before) × (v ≡ w)) → IsServed j w
+      by (inl h) = all j w h
+      by (inr h) = subst (IsServed j) h.1 (subst (λ n. IsServed n v) (sym h.0) one)
+
+  -- a line
+  origin_found : (before : List OutcomeValue) → AreServed before → (o : OriginValue) (y : Entry Leaf) → IsOrigin (length before) o → ((p : List Name) → o ≡ source p → TellsWay B t p)
+      → origin_at t s o ≡ Some y → LooksAt B e.sources before o (found (entry_node y))
+  origin_found before all (source p) y lawful tells is =
+      subst (λ d. LooksFrom (TellsDirectory B) (FailsDirectory B) p (Some (Dir d)) (found (entry_node y))) k.mirrors.sources
+      (way_found B p (Some (whole t)) y k.ordered (tells p refl) is)
+  origin_found before all (output j p) y lawful tells is =
+      let v = has_one before j lawful.0 in
+      let one = all j v.0 v.1 in
+      let o = outcome_there e t meaning s k.mirrors j one.finished one.is in
+      let at : output_at o.0.outputs p ≡ Some y = sym (ap (option_and_then (λ (o : Outcome). output_at o.outputs p)) o.1) ∙ is in
+      let settled = steady.done j o.0 o.1 in
+      let ruled = (k.table.actions settled.action o.0 settled.in_table).1 in
+      (v.0, v.1, outputs_found S k.apart o.0 v.0 ruled settled.own (holds_outputs one.stands.recorded v.0.outputs one.stands.outputs) (form_through v.0 one.finished.outcome o.0 one.form o.2) p y at)
+
+  -- lines
+  lines_found : (before : List OutcomeValue) → AreServed before → (ls : List LineValue) (os : List (List Name × Entry Leaf)) → AllByRecursion (IsLine (length before)) ls
+      → ((l : LineValue) → Contains ls l → (p : List Name) → l.origin ≡ source p → TellsWay B t p) → origins t s ls ≡ Some os → Resolves B e.sources before ls (nodes_of os)
+  lines_found before all [] os lawful tells is = let same : [] ≡ os = cc in ap nodes_of (sym same)
+  lines_found before all (l ∷ ls) os lawful tells is =
+      by (origin_at t s l.origin) (origins t s ls) refl refl is (lines_found before all ls)
+    where
+      by : (o : Option (Entry Leaf)) (q : Option (List (List Name × Entry Leaf))) → origin_at t s l.origin ≡ o → origins t s ls ≡ q
+          → option_and_then (λ e. option_map (λ es. (l.target, e) ∷ es) q) o ≡ Some os
+          → ((os : List (List Name × Entry Leaf)) → AllByRecursion (IsLine (length before)) ls → ((l : LineValue) → Contains ls l → (p : List Name) → l.origin ≡ source p → TellsWay B t p) → origins t s ls ≡ Some os → Resolves B e.sources before ls (nodes_of os))
+          → Resolves B e.sources before (l ∷ ls) (nodes_of os)
+      by None q at those is rest = absurd cc
+      by (Some y) None at those is rest = absurd cc
+      by (Some y) (Some others) at those is rest =
+          let same : (l.target, y) ∷ others ≡ os = cc in (
+            entry_node y,
+            origin_found before all l.origin y lawful.0.origin (tells l (0, omega arith, refl)) at,
+            nodes_of others,
+            rest others lawful.1 (λ m c. tells m (behind l ls m c)) those,
+            ap nodes_of (sym same),
+          )
+
+  -- a step
+  served_in : (i : ℕ) (f : FinishedValue) → finished_in i e ≡ Some f → (v : OutcomeValue) × IsServed i v
+  served_in i f is = let r = serves.results i f is in (r.2, record { finished = f; is = is; result = r.0; held = r.1; stands = r.3; form = r.4 })
+
+  step_recorded : (before : List OutcomeValue) → AreServed before → (i : ℕ) (step : StepValue) → slice_get e.plan.steps i ≡ Some step → AllByRecursion (IsLine (length before)) step.lines
+      → (v : OutcomeValue) (one : IsServed i v) → IsAsRecorded B C e.sources before step one.finished.action v
+  step_recorded before all i step at lawful v one =
+      let kept = k.mirrors.actions i one.finished one.is in
+      let a = kept.0 in
+      let made = made_of e.plan meaning t s i a kept.1 in
+      let same : made.step ≡ step = one_answer (slice_get e.plan.steps i) made.step step made.at at in
+      let parts = graft_parts t s step.lines a.input (subst (λ (x : StepValue). graft_of t s x.lines ≡ Some a.input) same made.input) in
+      let frame = k.mirrors.frames i step at ∙ made.frame in
+      let command = k.mirrors.commands i step at ∙ made.command in
+      let stands = engine.stand.each i step a.frame a.command at frame command in
+      let told = serves.actions i a kept.1 in
+      let taken = engine.taken i one.finished a.command one.is command in
+      let paths : output_paths one.finished.outcome.outputs ≡ output_paths v.outputs =
+      sym (form_paths one.finished.outcome.outputs) ∙ ap (map (λ (x : List Name × NodeValue). x.0)) (sym one.form.outputs) ∙ form_paths v.outputs in
+      record {
+        action = with_input a.frame (root (form a.input));
+        command = a.command;
+        nodes = nodes_of parts.0;
+        result = one.result;
+        action_told = record {
+          lawful = record { frame = stands.0.frame_lawful; input = IsDigest-digest_of (top (form a.input)) };
+          blob = subst (λ d. IsBlobUnder B d (action_bytes (with_input a.frame (root (form a.input))))) (sym kept.2) told.0;
+        };
+        may_be_cached = stands.1;
+        frame = stands.0.frame_digest;
+        command_told = record { lawful = stands.0.command_lawful; blob = told.1 };
+        resolved = lines_found before all step.lines parts.0 lawful (λ l c p is. serves.sources l (inl (i, step, at, c)) p is) parts.1;
+        input = sym (root-graft parts.0) ∙ ap (λ g. root (form g)) parts.2;
+        held = one.held;
+        exit_code = sym one.stands.exit_code ∙ one.form.exit_code ∙ taken.exit_code;
+        recorded = one.stands;
+        listed = subst (AllByRecursion (Contains a.command.output_paths)) paths taken.listed;
+      }
+
+  -- the steps that are left, behind those before them
+  record Rest (n : ℕ) (ss : List StepValue) (ds : List DigestValue) : Type 0 where
+    steps : (j : ℕ) (step : StepValue) → slice_get ss j ≡ Some step → slice_get e.plan.steps (n + j) ≡ Some step
+    digests : (j : ℕ) (step : StepValue) → slice_get ss j ≡ Some step → (f : FinishedValue) × (finished_in (n + j) e ≡ Some f) × (slice_get ds j ≡ Some f.action)
+
+  rest_next : (n : ℕ) (x : StepValue) (ss : List StepValue) (d : DigestValue) (ds : List DigestValue) → Rest n (x ∷ ss) (d ∷ ds) → Rest (suc n) ss ds
+  rest_next n x ss d ds h = record {
+    steps = λ j step at. subst (λ m. slice_get e.plan.steps m ≡ Some step) (next j) (h.steps (suc j) step at);
+    digests = λ j step at. let f = h.digests (suc j) step at in (f.0, subst (λ m. finished_in m e ≡ Some f.0) (next j) f.1, f.2);
+  }
+    where
+      next : (j : ℕ) → n + suc j ≡ suc n + j
+      next j = omega arith
+
+  abbrev Ended : List OutcomeValue → List StepValue → List DigestValue → Type 0
+  Ended before ss ds = (outcomes : List OutcomeValue) × AreAsRecorded B C e.sources before ss ds outcomes × AreServed outcomes × (length outcomes ≡ length before + length ss)
+
+  steps_recorded : (earlier ss : List StepValue) (before : List OutcomeValue) (ds : List DigestValue) → AreSteps earlier ss → length earlier ≡ length before → AreServed before → Rest (length before) ss ds → Ended before ss ds
+  unfolding served_in
+  steps_recorded earlier [] before ds lawful count all rest = (before, refl, all, omega arith)
+  steps_recorded earlier (x ∷ ss) before [] lawful count all rest = let f = rest.digests 0 x refl in absurd (none f.0.action f.2)
+    where
+      none : (d : DigestValue) → slice_get [] 0 ≡ Some d → ⊥
+      none d h = cc
+  steps_recorded earlier (x ∷ ss) before (d ∷ ds) lawful count all rest =
+      let f = rest.digests 0 x refl in
+      let here : length before + 0 ≡ length before = omega arith in
+      let v = served_in (length before) f.0 (subst (λ m. finished_in m e ≡ Some f.0) here f.1) in
+      let at : slice_get e.plan.steps (length before) ≡ Some x = subst (λ m. slice_get e.plan.steps m ≡ Some x) here (rest.steps 0 x refl) in
+      let digest : f.0.action ≡ d = (let both : ◌≡◌ {A = Option DigestValue} (Some d) (Some f.0.action) = f.2 in cc) in
+      let lines = subst (λ m. AllByRecursion (IsLine m) x.lines) count lawful.0.lines.each in
+      let one = step_recorded before all (length before) x at lines v.0 v.1 in
+      let grown = pushed_length before v.0 in
+      let more = steps_recorded (earlier ++ x ∷ []) ss (before ++ v.0 ∷ []) ds lawful.1 (pushed_length earlier x ∙ ap suc count ∙ sym grown) (served_next before v.0 all v.1)
+      (subst (λ m. Rest m ss ds) (sym grown) (rest_next (length before) x ss d ds rest)) in
+      (more.0, (v.0, subst (λ q. IsAsRecorded B C e.sources before x q v.0) digest one, more.1), more.2, more.3 ∙ counted (length before) (length ss) grown)
+    where
+      counted : {m : ℕ} (n r : ℕ) → m ≡ suc n → m + r ≡ n + suc r
+      counted h = omega (arith, h)
+
+  -- the whole plan
+  pub plan_recorded : (ds : List DigestValue) (d : DigestValue) → IsPlan e.plan → kept_digests e.finished ≡ Some ds → IsSomeAnd (graft_of t s e.plan.root_lines) (λ g. root (form g) ≡ d) → IsPlanAsRecorded B C e.sources e.plan ds d
+  plan_recorded ds d plan kept ends =
+      let all = steps_recorded [] e.plan.steps [] ds plan.steps refl (λ j v at. absurd cc) (record {
+        steps = λ j step at. subst (λ m. slice_get e.plan.steps m ≡ Some step) (first j) at;
+        digests = λ j step at. let f = kept_each e.finished ds j kept (subst (λ m. j < m) (sym engine.count) (slice_get_within e.plan.steps j step at)) in (f.0, subst (λ m. finished_in m e ≡ Some f.0) (first j) f.1, f.2);
+      }) in
+      let g = there_and (λ g. root (form g) ≡ d) (graft_of t s e.plan.root_lines) ends in
+      let parts = graft_parts t s e.plan.root_lines g.0 g.1 in
+      let lines = subst (λ m. AllByRecursion (IsLine m) e.plan.root_lines) (first (length e.plan.steps) ∙ sym all.3) plan.root_lines.each in
+      record {
+        outcomes = all.0;
+        steps = all.1;
+        root = record {
+          nodes = nodes_of parts.0;
+          resolved = lines_found all.0 all.2 e.plan.root_lines parts.0 lines (λ l c p is. serves.sources l (inr c) p is) parts.1;
+          same = sym (root-graft parts.0) ∙ ap (λ g. root (form g)) parts.2 ∙ g.2;
+        };
+      }
+    where
+      first : (j : ℕ) → j ≡ 0 + j
+      first j = omega arith
+
+  -- ---- the table agrees with the record
+
+  trees_told : (xs : List RecordedValue) (ys : List (List Name × OutputValue)) → StandForAll B xs ys → AllByRecursion (λ (d : OutputDirectoryValue). (u : TreeValue) × IsTold IsTree tree_bytes B d.tree u) (directories_among xs)
+  trees_told [] ys h = tt
+  trees_told (x ∷ xs) [] h = elim h [ ]
+  trees_told (file f ∷ xs) (y ∷ ys) h = trees_told xs ys h.2
+  trees_told (link l ∷ xs) (y ∷ ys) h = trees_told xs ys h.2
+  trees_told (directory d ∷ xs) (y ∷ ys) h = ((h.1.0, h.1.1), trees_told xs ys h.2)
+
+  -- a chosen pair for a recorded digest, all of whose blobs are concerned
+  record IsChosen (d : DigestValue) (pair : ActionMeaning × Outcome) : Type 0 where
+    inside : Contains X pair
+    digest : action_digest pair.0 ≡ d
+    recorded : IsRecordedAs B C d pair.1
+    blobs : (b : List ℕ) → IsBlobOfAction pair.0 b ⊎ IsBlobOfOutcome pair.1 b → S b
+
+  chosen_for : (i : ℕ) (f : FinishedValue) → finished_in i e ≡ Some f → (pair : ActionMeaning × Outcome) × IsChosen f.action pair
+  chosen_for i f is =
+      let v = served_in i f is in
+      let r = serves.results i f is in
+      let o = outcome_there e t meaning s k.mirrors i f is in
+      let settled = steady.done i o.0 o.1 in
+      let kept = k.mirrors.actions i f is in
+      let same : settled.action ≡ kept.0 = one_answer (action_of e.plan meaning t s i) settled.action kept.0 settled.is kept.1 in
+      let form = form_through r.2 f.outcome o.0 r.4 o.2 in (
+        (settled.action, o.0),
+        record {
+          inside = settled.in_table;
+          digest = ap action_digest same ∙ sym kept.2;
+          recorded = record {
+            result = r.0;
+            held = r.1;
+            exit_code = sym form.exit_code ∙ r.3.exit_code;
+            trees = subst (AllByRecursion (λ (d : OutputDirectoryValue). (u : TreeValue) × IsTold IsTree tree_bytes B d.tree u)) r.3.ordered.directories (trees_told r.3.recorded r.2.outputs r.3.outputs);
+            outputs = λ p x. let among = recorded_at B r.0 r.2 p x r.3 in (λ c. among.0 ((form.outputs p x).1 c), λ c. (form.outputs p x).0 (among.1 c));
+          };
+          blobs = λ b h. both settled.blobs settled.own b h;
+        },
+      )
+    where
+      both : {P Q : List ℕ → Type 0} → ((b : List ℕ) → P b → S b) → ((b : List ℕ) → Q b → S b) → (b : List ℕ) → P b ⊎ Q b → S b
+      both p q b (inl h) = p b h
+      both p q b (inr h) = q b h
+
+  chosen_at : (ds : List DigestValue) → kept_digests e.finished ≡ Some ds → (i : ℕ) (d : DigestValue) → slice_get ds i ≡ Some d → (pair : ActionMeaning × Outcome) × IsChosen d pair
+  chosen_at ds kept i d at =
+      let f = kept_each e.finished ds i kept (subst (λ n. i < n) (kept_count e.finished ds kept) (slice_get_within ds i d at)) in
+      let c = chosen_for i f.0 f.1 in
+      let digest : f.0.action ≡ d = one_answer (slice_get ds i) f.0.action d f.2 at in
+      (c.0, subst (λ q. IsChosen q c.0) digest c.1)
+
+  pub record_agrees : (ds : List DigestValue) → kept_digests e.finished ≡ Some ds → (chosen : List (ActionMeaning × Outcome)) × Agrees B C X chosen ds × NoClash (IsConcerned B e.plan meaning t chosen es)
+  record_agrees ds kept =
+      let all = partners IsChosen ds (chosen_at ds kept) in (
+        all.zs,
+        record { each = all.count; pairs = λ i d pair at to. let c = all.each i d pair at to in (c.inside, c.digest, c.recorded) },
+        λ b c p q same. k.apart b c (within all b p) (within all c q) same,
+      )
+    where
+      within : (all : Partners IsChosen ds) (b : List ℕ) → IsConcerned B e.plan meaning t all.zs es b → S b
+      within all b (inl h) = inl (inl h)
+      within all b (inr (inl h)) = inl (inr (inl h))
+      within all b (inr (inr (inl h))) = (all.from h.0 h.1).1.blobs b h.2
+      within all b (inr (inr (inr h))) = inl (inr (inr (inr h)))
+
+-- a run that is mirrored with a source is mirrored with each that has less
+mirrored_less : (B told : Blobs) (e : EngineValue) (t : Tree Leaf) (meaning : Meaning) (X : List (ActionMeaning × Outcome)) (es : List Event) (s : State) → Grows told B → IsMirrored B e t meaning X es s → IsMirrored told e t meaning X es s
+mirrored_less B told e t meaning X es s grows k = record {
+  ordered = k.ordered;
+  fits = k.fits;
+  table = k.table;
+  run = k.run;
+  mirrors = k.mirrors;
+  apart = λ b c p q same. k.apart b c (more b p) (more c q) same;
+}
+  where
+    value : (b : List ℕ) → IsValue told b → IsValue B b
+    value b h = (h.0, grows h.0 b h.1)
+
+    more : (b : List ℕ) → IsConcernedIn told e meaning t es b → IsConcernedIn B e meaning t es b
+    more b (inl (inl (inl h))) = inl (inl (inl (value b h)))
+    more b (inl (inl (inr h))) = inl (inl (inr (h.0, h.1, value (tree_bytes h.0) h.2, h.3, h.4, h.5)))
+    more b (inl (inr h)) = inl (inr h)
+    more b (inr h) = inr h
+
+pub served_yes : (A : Type 0) (told : Blobs) (e : EngineValue) (d : DigestValue) → IsPlan e.plan → IsEngine e → IsRootOf told e d → IsServedYes A told e d
+served_yes A told e d plan engine ends = record {
+  of_run = λ tells t meaning X es s ds before k kept serves.
+      recorded_verdict A tells e.sources e.plan ds d (plan_recorded tells.blobs tells.results e t meaning X es s engine k serves ds d plan kept (ends.of_run t meaning X es s before));
+  of_grown = λ tells t meaning X es s ds grows k kept serves.
+      recorded_verdict A tells e.sources e.plan ds d (plan_recorded tells.blobs tells.results e t meaning X es s engine k serves ds d plan kept (ends.of_run t meaning X es s (mirrored_less tells.blobs told e t meaning X es s grows k)));
+  agrees = λ B C t meaning X es s ds k kept serves. record_agrees B C e t meaning X es s engine k serves ds kept;
+}

@@ -1,0 +1,106 @@
+-- Look-ups of origins in an engine, and the lines one after another while the source tells more and more.
+use Rattle.std.proofs.Common.{◌≡◌, ℕ, zero, suc, ◌+◌, ◌<◌, ◌≤◌, List, [], ◌∷◌, ◌++◌, length, drop, get_or, Some, refl, ap, sym, subst, inl, inr, arith, add-one, drop-cons, append_assoc}
+use Rattle.std.proofs.lemmas.List.{drop_all}
+use Rattle.actions.specs.OutcomeLookup.{LooksIn}
+use Rattle.plan.specs.Values.{OriginValue, source, output, LineValue}
+use Rattle.tree.specs.Tree.{Name}
+use Rattle.tree.specs.Form.{NodeValue}
+use Rattle.blob_source.specs.Source.{Blobs, Grows}
+use Rattle.blob_source.specs.Told.{missing, wrong, malformed}
+use Rattle.tree.specs.Lookup.{Looked, fault, nothing, found, Looks}
+use Rattle.tree.specs.TreeError.{ExplainsLookup}
+use Rattle.tree.specs.declared.error.TreeError.{TreeError}
+use Rattle.tree.specs.declared.error.TreeError.TheVariants as tree
+use Rattle.verifier.proofs.Lines.{found_still}
+use Rattle.runs.specs.declared.error.RunsError.{RunsError}
+use Rattle.runs.specs.declared.error.RunsError.TheVariants as errors
+use Rattle.runs.specs.Engine.{FinishedValue, EngineValue, finished_in}
+use Rattle.runs.specs.Looking.{IsThere, AreThere, LooksAt, Resolves, Refuses, LineFault, FirstFault, Explains, IsRefusalOf}
+
+module _ {A : Type 0} where
+  pub source_explained : (B : Blobs) (e : EngineValue) (l : LineValue) (p : List Name) (error : TreeError A) (why : RunsError A) → l.origin ≡ source p → ExplainsLookup B e.sources p error → IsRefusalOf error why → Explains (LineFault B e l) why
+  source_explained B e l p error why from h is = by error h is
+    where
+      P : RunsError A → Type 0
+      P = Explains (LineFault B e l)
+
+      stands : (r : Looked) (w : RunsError A) → Looks B e.sources p r → Refuses (source p) r w → LineFault B e l w
+      stands r w look gives = (r, subst (λ o. LooksAt B e o r) (sym from) look, subst (λ o. Refuses o r w) (sym from) gives)
+
+      by : (error : TreeError A) → ExplainsLookup B e.sources p error → IsRefusalOf error why → Explains (LineFault B e l) why
+      by (tree.Absent q) h is = subst P (sym is) (stands nothing (errors.Origin q) h.1 (ap (λ q. errors.Origin q) h.0))
+      by (tree.BlobMissing d) h is = subst P (sym is) (stands (fault (missing d)) (errors.Source (tree.BlobMissing d)) h refl)
+      by (tree.BlobWrong d) h is = subst P (sym is) (stands (fault (wrong d)) (errors.Source (tree.BlobWrong d)) h refl)
+      by (tree.BlobMalformed d) h is = subst P (sym is) (stands (fault (malformed d)) (errors.Source (tree.BlobMalformed d)) h refl)
+      by (tree.TooDeep q) h is = elim is [ ]
+      by tree.Fetch h is = subst P (sym is) tt
+      by tree.Memory h is = subst P (sym is) tt
+
+  pub explains_map : (P Q : RunsError A → Type 0) (f : RunsError A) → ((w : RunsError A) → P w → Q w) → Explains P f → Explains Q f
+  explains_map P Q errors.NotReady by h = h
+  explains_map P Q errors.NoSuchJob by h = h
+  explains_map P Q (errors.ExitCode n) by h = h
+  explains_map P Q errors.Disagrees by h = h
+  explains_map P Q (errors.Unlisted p) by h = h
+  explains_map P Q (errors.Origin p) by h = by (errors.Origin p) h
+  explains_map P Q (errors.Source (tree.Absent q)) by h = by (errors.Source (tree.Absent q)) h
+  explains_map P Q (errors.Source (tree.BlobMissing d)) by h = by (errors.Source (tree.BlobMissing d)) h
+  explains_map P Q (errors.Source (tree.BlobWrong d)) by h = by (errors.Source (tree.BlobWrong d)) h
+  explains_map P Q (errors.Source (tree.BlobMalformed d)) by h = by (errors.Source (tree.BlobMalformed d)) h
+  explains_map P Q (errors.Source (tree.TooDeep q)) by h = by (errors.Source (tree.TooDeep q)) h
+  explains_map P Q (errors.Source tree.Fetch) by h = h
+  explains_map P Q (errors.Source tree.Memory) by h = by (errors.Source tree.Memory) h
+  explains_map P Q errors.Full by h = h
+  explains_map P Q errors.Memory by h = h
+
+  pub output_missing : (B : Blobs) (e : EngineValue) (l : LineValue) (j : ℕ) (p q : List Name) (f : FinishedValue) → l.origin ≡ output j p → finished_in j e ≡ Some f → LooksIn f.outcome p nothing → q ≡ p → LineFault {A = A} B e l (errors.Origin q)
+  output_missing B e l j p q f from is look same = (nothing, subst (λ o. LooksAt B e o nothing) (sym from) (f, is, look), subst (λ o. Refuses {A = A} o nothing (errors.Origin q)) (sym from) (ap (λ q. errors.Origin q) same))
+
+pub output_found : (B : Blobs) (e : EngineValue) (l : LineValue) (j : ℕ) (p : List Name) (f : FinishedValue) (x : NodeValue) → l.origin ≡ output j p → finished_in j e ≡ Some f → LooksIn f.outcome p (found x) → LooksAt B e l.origin (found x)
+output_found B e l j p f x from is look = subst (λ o. LooksAt B e o (found x)) (sym from) (f, is, look)
+
+-- ---- one after another
+
+still : (B C : Blobs) (e : EngineValue) (o : OriginValue) (x : NodeValue) → Grows B C → LooksAt B e o (found x) → LooksAt C e o (found x)
+still B C e (source p) x g h = found_still B C e.sources [] (source p) x g h
+still B C e (output j p) x g h = h
+
+pub record LinesGoOn (A : Type 0) (B : Blobs) (e : EngineValue) (ls : List LineValue) (xs : List (List Name × NodeValue)) (rest : List LineValue) : Type 0 where
+  pub resolves : (later : Blobs) → Grows B later → (ys : List (List Name × NodeValue)) → Resolves later e rest ys → Resolves later e ls (xs ++ ys)
+  pub faults : (later : Blobs) → Grows B later → (w : RunsError A) → FirstFault later e rest w → FirstFault later e ls w
+
+module _ {A : Type 0} where
+  pub lines_first : (B : Blobs) (e : EngineValue) (ls : List LineValue) → LinesGoOn A B e ls [] ls
+  lines_first B e ls = record { resolves = λ later g ys h. h; faults = λ later g w h. h }
+
+  pub lines_next : (B C : Blobs) (e : EngineValue) (ls : List LineValue) (xs : List (List Name × NodeValue)) (i : ℕ) (l : LineValue) (x : NodeValue) → i < length ls → l ≡ get_or ls i l
+      → LinesGoOn A B e ls xs (drop i ls) → Grows B C → LooksAt C e l.origin (found x) → LinesGoOn A C e ls (xs ++ (l.target, x) ∷ []) (drop (i + 1) ls)
+  lines_next B C e ls xs i l x lt is goes grows look =
+      let split : drop i ls ≡ l ∷ drop (i + 1) ls = rw (add-one, drop-cons ls i l lt) (ap (λ k. k ∷ drop (suc i) ls) (sym is)) in
+      let holds : (later : Blobs) → Grows C later → LooksAt later e l.origin (found x) = λ later g. still C later e l.origin x g look in
+      let both : (later : Blobs) → Grows C later → Grows B later = λ later g d b q. g d b (grows d b q) in
+      record {
+        resolves = λ later g ys h. rw append_assoc (goes.resolves later (both later g) ((l.target, x) ∷ ys) (subst (λ q. Resolves later e q ((l.target, x) ∷ ys)) (sym split) (x, holds later g, ys, h, refl)));
+        faults = λ later g w h. goes.faults later (both later g) w (subst (λ q. FirstFault later e q w) (sym split) (inr (x, holds later g, h)));
+      }
+
+  pub lines_end : (B : Blobs) (e : EngineValue) (ls : List LineValue) (xs : List (List Name × NodeValue)) (i : ℕ) → length ls ≤ i → LinesGoOn A B e ls xs (drop i ls) → Resolves B e ls xs
+  lines_end B e ls xs i le goes =
+      let none = drop_all i ls le in
+      let all = goes.resolves B (λ d b h. h) [] (subst (λ q. Resolves B e q []) (sym none) refl) in
+      subst (Resolves B e ls) (none_more xs) all
+    where
+      none_more : (ys : List (List Name × NodeValue)) → ys ++ [] ≡ ys
+      none_more [] = refl
+      none_more (y ∷ ys) = ap (λ q. y ∷ q) (none_more ys)
+
+  pub lines_fault : (B C : Blobs) (e : EngineValue) (ls : List LineValue) (xs : List (List Name × NodeValue)) (i : ℕ) (l : LineValue) (w : RunsError A) → i < length ls → l ≡ get_or ls i l
+      → LinesGoOn A B e ls xs (drop i ls) → Grows B C → LineFault C e l w → FirstFault C e ls w
+  lines_fault B C e ls xs i l w lt is goes grows h =
+      let split : drop i ls ≡ l ∷ drop (i + 1) ls = rw (add-one, drop-cons ls i l lt) (ap (λ k. k ∷ drop (suc i) ls) (sym is)) in
+      goes.faults C grows w (subst (λ q. FirstFault C e q w) (sym split) (inl h))
+
+pub there_at : (e : EngineValue) (ls : List LineValue) (i : ℕ) (l : LineValue) → i < length ls → l ≡ get_or ls i l → AreThere e ls → IsThere e l.origin
+there_at e [] i l lt is h = absurd (omega arith)
+there_at e (k ∷ ls) zero l lt is h = subst (λ (l : LineValue). IsThere e l.origin) (sym is) h.0
+there_at e (k ∷ ls) (suc i) l lt is h = there_at e ls i l (omega arith) is h.1

@@ -1,0 +1,51 @@
+-- The nodes so far, and the line's.
+use Rattle.std.proofs.Common.{◌≡◌, ◌+◌, ◌∷◌, [], ◌++◌, ap, sym, subst, ◌∙◌, drop, rules}
+use Rattle.std.proofs.lemmas.List.{map-append}
+use Rattle.std.proofs.lemmas.Result.{err_from_is_err_and}
+use Rattle.runs.specs.Looking.{LineFault, FirstFault}
+use Rattle.tree.specs.Form.{node_value}
+use Rattle.tree.specs.Lines.{lines_of}
+use Rattle.blob_source.proofs.Asking.{ok_no_error}
+use Rattle.blob_source.proofs.Calling.{called_none, called_no, called_on, called_exit}
+use Rattle.runs.proofs.Fetching.{fetching_on, fetching_memory}
+use Rattle.runs.proofs.Looks.{explains_map, LinesGoOn, lines_first, lines_next, lines_end, lines_fault, there_at}
+use Rattle.runs.proofs.engine.Engine.resolve.Goals as goal
+
+pub find_origin-requires : goal.find_origin-requires
+find_origin-requires g c = there_at c.args.self.now c.args.lines.now c.loop-line.line-index c.line-item.result c.loop-line-test.true c.line-item.is c.requires
+
+pub loop-line-init : goal.loop-line-init
+loop-line-init g c = record { called = called_none (λ n. n); goes = subst (λ ns. LinesGoOn g.row.A.Denot (g.S.BlobSource.tells c.args.source.now).blobs c.args.self.now c.args.lines.now (lines_of ns) c.args.lines.now) (sym c.new-nodes.ensures.items) (lines_first _ _ _) }
+
+pub returns-in_err-node-clause-faulty : goal.returns-in_err-node-clause-faulty
+returns-in_err-node-clause-faulty g c =
+    let p = err_from_is_err_and c.from_residual.result c.from_residual.ensures.1 in
+    let tells = g.S.BlobSource.tells c.find_origin.new.source in
+    rw (p.1, p.2) (explains_map (LineFault tells.blobs c.args.self.now c.line-item.result) (FirstFault tells.blobs c.args.self.now c.args.lines.now) c.in_err-node.field-0.0
+    (λ cause h. lines_fault _ _ c.args.self.now c.args.lines.now _ c.loop-line.line-index c.line-item.result cause c.loop-line-test.true c.line-item.is c.loop-line.invariant.goes c.find_origin.ensures.called.asked.asks.blobs h) c.in_err-node.ensures.faulty)
+
+pub returns-in_err-node-clause-called : goal.returns-in_err-node-clause-called
+returns-in_err-node-clause-called g c = called_on c.loop-line.invariant.called (called_exit c.from_residual.ensures.1 c.in_err-node.ensures.called)
+
+pub returns-in_err-copy_of-clause-called : goal.returns-in_err-copy_of-clause-called
+returns-in_err-copy_of-clause-called g c = fetching_memory c.from_residual-in_err-copy_of.ensures.1 (λ n. n) (fetching_on c.loop-line.invariant.called c.in_ok-node.ensures.called)
+
+pub returns-in_err-push-clause-called : goal.returns-in_err-push-clause-called
+returns-in_err-push-clause-called g c = fetching_memory c.from_residual-in_err-push.ensures.1 (λ n. n) (fetching_on c.loop-line.invariant.called c.in_ok-node.ensures.called)
+
+pub returns-clause-called : goal.returns-clause-called
+returns-clause-called g c = called_no (λ n. n) ok_no_error c.loop-line.invariant.called
+
+pub loop-line-preserved : goal.loop-line-preserved
+loop-line-preserved g c =
+    let line = c.line-item.result in
+    let pushed : c.push.new.self.items ≡ c.loop-line.nodes.items ++ (line.target, c.in_ok-node.node) ∷ [] = search rules in
+    let values : lines_of c.push.new.self.items ≡ lines_of c.loop-line.nodes.items ++ (line.target, node_value c.in_ok-node.node) ∷ [] = ap lines_of pushed ∙ map-append (λ l. (l.0, node_value l.1)) c.loop-line.nodes.items ((line.target, c.in_ok-node.node) ∷ []) in
+    record {
+      called = fetching_on c.loop-line.invariant.called c.in_ok-node.ensures.called;
+      goes = subst (λ xs. LinesGoOn g.row.A.Denot (g.S.BlobSource.tells c.find_origin.new.source).blobs c.args.self.now c.args.lines.now xs (drop (c.loop-line.line-index + 1) c.args.lines.now)) (sym values)
+          (lines_next _ _ c.args.self.now c.args.lines.now (lines_of c.loop-line.nodes.items) c.loop-line.line-index line (node_value c.in_ok-node.node) c.loop-line-test.true c.line-item.is c.loop-line.invariant.goes c.find_origin.ensures.called.asked.asks.blobs (c.in_ok-node.ensures {u = tt}).told);
+    }
+
+pub returns-clause-told : goal.returns-clause-told
+returns-clause-told g c = lines_end {A = g.row.A.Denot} _ c.args.self.now c.args.lines.now (lines_of c.loop-line.nodes.items) c.loop-line.line-index c.loop-line-test.false c.loop-line.invariant.goes

@@ -1,0 +1,13 @@
+use Rattle.std.proofs.Common.{drop}
+use Rattle.tree.specs.Lines.{lines_of}
+use Rattle.blob_source.specs.Called.{Called}
+use Rattle.runs.proofs.Looks.{LinesGoOn}
+use Rattle.runs.proofs.engine.Engine.resolve.Given as goal
+
+abbrev pub invariant-loop-line : goal.invariant-loop-line
+invariant-loop-line g l =
+    let tells = g.S.BlobSource.tells in
+    record {
+      called : Called (tells l.fn.source) (tells l.source) ⊥;
+      goes : LinesGoOn g.row.A.Denot (tells l.source).blobs l.self l.lines (lines_of l.nodes.items) (drop l.line-index l.lines);
+    }

@@ -1,0 +1,34 @@
+use Rattle.std.proofs.Common.{subst, inr, rules}
+use Rattle.std.proofs.lemmas.Result.{err_from_is_err_and}
+use Rattle.action_messages.specs.Command.{IsCommand, command_bytes}
+use Rattle.action_messages.specs.Frame.{IsFrame, frame_bytes}
+use Rattle.plan.specs.Values.{StepValue}
+use Rattle.blob_source.specs.Told.{IsTold, IsFault}
+use Rattle.runs.proofs.Meanings.{frame_still}
+use Rattle.blob_source.proofs.Asking.{ok_no_error}
+use Rattle.blob_source.proofs.Calling.{called_no}
+use Rattle.runs.proofs.Fetching.{opening_ok, opening_exit}
+use Rattle.runs.specs.Calls.{IsUnread}
+use Rattle.runs.proofs.opening.read_step.Goals as goal
+
+pub returns-in_err-command-clause-faulty : goal.returns-in_err-command-clause-faulty
+returns-in_err-command-clause-faulty g c =
+    let p = err_from_is_err_and c.from_residual-in_err-command.result c.from_residual-in_err-command.ensures.1 in
+    let tells = g.S.BlobSource.tells c.read_message-2.new.source in
+    rw (p.1, p.2) (inr (
+      c.in_ok-frame.frame,
+      frame_still (g.S.BlobSource.tells c.read_message.new.source).blobs (g.S.BlobSource.tells c.read_message-2.new.source).blobs c.args.step.now.frame c.in_ok-frame.frame c.read_message-2.ensures.called.asked.asks.blobs (subst (λ (s : StepValue). IsTold IsFrame frame_bytes (g.S.BlobSource.tells c.read_message.new.source).blobs s.frame c.in_ok-frame.frame) c.step.view_is c.in_ok-frame.ensures.told),
+      inr (search rules, subst (λ d. IsUnread c.args.number (IsFault IsCommand command_bytes tells.blobs d) c.in_err-command.field-0.0) c.command_digest.ensures.value c.in_err-command.ensures.faulty),
+    ))
+
+pub returns-in_err-command-clause-called : goal.returns-in_err-command-clause-called
+returns-in_err-command-clause-called g c = opening_ok c.in_ok-frame.ensures.called (opening_exit c.from_residual-in_err-command.ensures.1 c.in_err-command.ensures.called)
+
+pub returns-clause-told : goal.returns-clause-told
+returns-clause-told g c = record {
+  frame = frame_still (g.S.BlobSource.tells c.read_message.new.source).blobs (g.S.BlobSource.tells c.read_message-2.new.source).blobs c.args.step.now.frame c.in_ok-frame.frame c.read_message-2.ensures.called.asked.asks.blobs (subst (λ (s : StepValue). IsTold IsFrame frame_bytes (g.S.BlobSource.tells c.read_message.new.source).blobs s.frame c.in_ok-frame.frame) c.step.view_is c.in_ok-frame.ensures.told);
+  command = subst (λ d. IsTold IsCommand command_bytes (g.S.BlobSource.tells c.read_message-2.new.source).blobs d c.in_ok-command.command) c.command_digest.ensures.value c.in_ok-command.ensures.told;
+}
+
+pub returns-clause-called : goal.returns-clause-called
+returns-clause-called g c = opening_ok c.in_ok-frame.ensures.called (called_no (λ f. ok_no_error f.1) (λ f. ok_no_error f.1) c.in_ok-command.ensures.called)

@@ -1,0 +1,11 @@
+use Rattle.blob_source.specs.Called.{Called}
+use Rattle.runs.proofs.Meanings.{ToldSoFar}
+use Rattle.runs.proofs.opening.read_steps.Given as goal
+
+abbrev pub invariant-loop-number : goal.invariant-loop-number
+invariant-loop-number g l =
+    let tells = g.S.BlobSource.tells in
+    record {
+      called : Called (tells l.fn.source) (tells l.source) ⊥;
+      told : ToldSoFar (tells l.source).blobs l.steps l.number l.frames.items l.commands.items;
+    }

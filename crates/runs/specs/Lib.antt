@@ -1,0 +1,9 @@
+pub mod Engine
+pub mod Looking
+pub mod Mirrors
+pub mod Calls
+pub mod Ties
+pub mod Served
+pub mod OneAction
+pub mod Results
+pub mod TwoSteps

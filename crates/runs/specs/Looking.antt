@@ -1,0 +1,98 @@
+-- Where the lines of a step find their origins in an engine, and why one has none.
+use Rattle.std.specs.Prelude.{◌≡◌, ◌⊎◌, List, [], ◌∷◌, Option, Some}
+use Rattle.std.specs.List.{AllByRecursion}
+use Rattle.actions.specs.OutcomeLookup.{LooksIn}
+use Rattle.plan.specs.Values.{OriginValue, source, output, LineValue}
+use Rattle.tree.specs.Tree.{Name}
+use Rattle.tree.specs.Form.{NodeValue}
+use Rattle.blob_source.specs.Source.{Blobs}
+use Rattle.blob_source.specs.Told.{Fault, missing, wrong, malformed, FailsDirectory}
+use Rattle.tree.specs.Lookup.{Looked, fault, nothing, found, Looks}
+use Rattle.tree.specs.declared.error.TreeError.{TreeError}
+use Rattle.tree.specs.declared.error.TreeError.TheVariants as tree
+use Rattle.verifier.specs.Faults.{path_of}
+use Rattle.runs.specs.declared.error.RunsError.{RunsError}
+use Rattle.runs.specs.declared.error.RunsError.TheVariants as errors
+use Rattle.runs.specs.Engine.{FinishedValue, EngineValue, at_number, finished_in}
+
+-- the step that an origin reads has finished, where steps came to these
+abbrev pub IsThereIn : List (Option FinishedValue) → OriginValue → Type 0
+IsThereIn fs (source p) = Unit {0}
+IsThereIn fs (output j p) = (f : FinishedValue) × (at_number fs j ≡ Some f)
+
+abbrev pub IsThere : EngineValue → OriginValue → Type 0
+IsThere e o = IsThereIn e.finished o
+
+-- so has each that lines read
+abbrev pub AreThere : EngineValue → List LineValue → Type 0
+AreThere e lines = AllByRecursion (λ (l : LineValue). IsThere e l.origin) lines
+
+-- what a look-up of an origin comes to: in the source tree, or in what a step came to
+abbrev pub LooksAt : Blobs → EngineValue → OriginValue → Looked → Type 0
+LooksAt B e (source p) r = Looks B e.sources p r
+LooksAt B e (output j p) r = (f : FinishedValue) × (finished_in j e ≡ Some f)
+    × LooksIn f.outcome p r
+
+-- each line's node, by look-up
+abbrev pub Resolves : Blobs → EngineValue → List LineValue → List (List Name × NodeValue) → Type 0
+Resolves B e [] xs = xs ≡ []
+Resolves B e (l ∷ ls) xs =
+    (x : NodeValue) × LooksAt B e l.origin (found x) × (rest : List (List Name × NodeValue))
+    × Resolves B e ls rest × (xs ≡ (l.target, x) ∷ rest)
+
+-- ---- faults
+
+-- the error that tells of a fault
+abbrev pub error_of : {A : Type 0} → Fault → TreeError A
+error_of (missing d) = tree.BlobMissing d
+error_of (wrong d) = tree.BlobWrong d
+error_of (malformed d) = tree.BlobMalformed d
+
+-- the refusal of a look-up that finds no node: the fault on the way, or that nothing is there
+abbrev pub Refuses : {A : Type 0} → OriginValue → Looked → RunsError A → Type 0
+Refuses o (fault f) e = e ≡ errors.Source (error_of f)
+Refuses o nothing e = e ≡ errors.Origin (path_of o)
+Refuses o (found x) e = ⊥
+
+-- why a line has no origin
+abbrev pub LineFault : {A : Type 0} → Blobs → EngineValue → LineValue → RunsError A → Type 0
+LineFault B e l why = (r : Looked) × LooksAt B e l.origin r × Refuses l.origin r why
+
+-- the fault of the first line that has no origin
+abbrev pub FirstFault : {A : Type 0} → Blobs → EngineValue → List LineValue → RunsError A → Type 0
+FirstFault B e [] why = ⊥
+FirstFault B e (l ∷ ls) why = LineFault B e l why
+    ⊎ ((x : NodeValue) × LooksAt B e l.origin (found x) × FirstFault B e ls why)
+
+-- A refusal is explained by a fault, unless the source failed or memory ran out.
+abbrev pub Explains : {A : Type 0} → (RunsError A → Type 0) → RunsError A → Type 0
+Explains P errors.NotReady = ⊥
+Explains P errors.NoSuchJob = ⊥
+Explains P (errors.ExitCode code) = ⊥
+Explains P errors.Disagrees = ⊥
+Explains P (errors.Unlisted path) = ⊥
+Explains P (errors.Origin path) = P (errors.Origin path)
+Explains P (errors.Source tree.Fetch) = Unit {0}
+Explains P (errors.Source why) = P (errors.Source why)
+Explains P errors.Full = ⊥
+Explains P errors.Memory = Unit {0}
+
+-- A refusal that tells of a Directory is a fault that stands under the digest it names, unless the
+-- source failed.
+abbrev pub StandsIn : {A : Type 0} → Blobs → RunsError A → Type 0
+StandsIn B (errors.Source (tree.BlobMissing d)) = FailsDirectory B d (missing d)
+StandsIn B (errors.Source (tree.BlobWrong d)) = FailsDirectory B d (wrong d)
+StandsIn B (errors.Source (tree.BlobMalformed d)) = FailsDirectory B d (malformed d)
+StandsIn B (errors.Source tree.Fetch) = Unit {0}
+StandsIn B (errors.Source why) = ⊥
+StandsIn B why = Unit {0}
+
+-- the refusal that an error of a look-up is
+abbrev pub IsRefusalOf : {A : Type 0} → TreeError A → RunsError A → Type 0
+IsRefusalOf (tree.Absent path) e = e ≡ errors.Origin path
+IsRefusalOf (tree.BlobMissing d) e = e ≡ errors.Source (tree.BlobMissing d)
+IsRefusalOf (tree.BlobWrong d) e = e ≡ errors.Source (tree.BlobWrong d)
+IsRefusalOf (tree.BlobMalformed d) e = e ≡ errors.Source (tree.BlobMalformed d)
+IsRefusalOf (tree.TooDeep path) e = ⊥
+IsRefusalOf tree.Fetch e = e ≡ errors.Source tree.Fetch
+IsRefusalOf tree.Memory e = e ≡ errors.Memory

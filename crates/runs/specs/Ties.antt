@@ -1,0 +1,122 @@
+-- How the calls of an engine are tied to runs.
+use Rattle.std.specs.Prelude.{◌≡◌, ◌↔◌, ◌⊎◌, ℕ, ◌+◌, ◌==◌, if◌then◌else◌, Bool, List, [], ◌∷◌, Option, Some, None, IsSome, IsTrue, IsSomeAnd, slice_get, Contains}
+use Rattle.std.specs.List.{AllByRecursion}
+use Rattle.plan.specs.Record.{RecordValue}
+use Rattle.plan.specs.Values.{LineValue, StepValue}
+use Rattle.blob_digest.specs.Digest.{DigestValue, NoClash}
+use Rattle.actions.specs.Outcome.{OutcomeValue}
+use Rattle.tree.specs.Tree.{Name, Tree, Leaf}
+use Rattle.tree.specs.Form.{form, root}
+use Rattle.tree.specs.Lookup.{IsValue}
+use Rattle.blob_source.specs.Source.{Blobs}
+use Rattle.verifier.specs.Build.{Meaning, ActionMeaning, action_digest, Outcome, Event, start, finish, State, opening, outcome_of, happens, action_of, origin_at, graft_of, MeaningFits, Obeys, HasFinishedAll}
+use Rattle.verifier.specs.Headline.{IsBlobOfMeaning, HasFinished}
+use Rattle.verifier.specs.Faults.{path_of}
+use Rattle.runs.specs.declared.error.RunsError.{RunsError}
+use Rattle.runs.specs.declared.error.RunsError.TheVariants as errors
+use Rattle.runs.specs.Engine.{EngineValue}
+use Rattle.runs.specs.Mirrors.{Mirrors, IsMirrored, IsFormOf, nothing_told}
+
+-- An engine mirrors the opening state, for every tree with the digest of its sources and every
+-- meaning that fits its plan, if no two different blobs that the source has and that are the
+-- meaning's share a digest.
+pub record IsOpening (B : Blobs) (e : EngineValue) : Type 0 where
+  pub mirrors : (t : Tree Leaf) (meaning : Meaning) → root (form t) ≡ e.sources
+      → MeaningFits e.plan meaning → NoClash (λ b. IsValue B b ⊎ IsBlobOfMeaning meaning b)
+      → Mirrors e t meaning opening
+
+-- A call is an event: whatever run the engine mirrors, the event can happen after it, and then the
+-- engine mirrors the state that it leads to.
+pub record IsEvent (B : Blobs) (old : EngineValue) (event : Event)
+    (new : EngineValue) : Type 0 where
+  pub of_run : (t : Tree Leaf) (meaning : Meaning) (X : List (ActionMeaning × Outcome))
+      (es : List Event) (s : State) → IsMirrored B old t meaning X es s
+      → (next : State) × (happens old.plan meaning t s event ≡ Some next)
+      × Mirrors new t meaning next
+
+-- ---- questions about the state
+
+-- what is answered about a step is whether it has finished in each state that is mirrored
+pub record TellsFinished (e : EngineValue) (i : ℕ) (answer : Bool) : Type 0 where
+  pub of_state : (t : Tree Leaf) (meaning : Meaning) (s : State) → Mirrors e t meaning s
+      → IsTrue answer ↔ ((o : Outcome) × (outcome_of i s ≡ Some o))
+
+-- whether it may start: each step that its lines read has finished
+pub record TellsReady (e : EngineValue) (i : ℕ) (answer : Bool) : Type 0 where
+  pub of_state : (t : Tree Leaf) (meaning : Meaning) (s : State) → Mirrors e t meaning s
+      → (step : StepValue) → slice_get e.plan.steps i ≡ Some step
+      → IsTrue answer ↔ AllByRecursion (λ (l : LineValue). HasFinished s l.origin) step.lines
+
+-- how many of the jobs of a state are of a step
+abbrev pub jobs_running : ℕ → List (ℕ × (ℕ × ActionMeaning)) → ℕ
+jobs_running i [] = 0
+jobs_running i (job ∷ jobs) = (if job.1.0 == i then 1 else 0) + jobs_running i jobs
+
+-- how many of its jobs run
+pub record TellsRunning (e : EngineValue) (i : ℕ) (answer : ℕ) : Type 0 where
+  pub of_run : (t : Tree Leaf) (meaning : Meaning) (X : List (ActionMeaning × Outcome))
+      (es : List Event) (s : State) → IsMirrored nothing_told e t meaning X es s
+      → answer ≡ jobs_running i s.jobs
+
+-- there is a record exactly where each step has finished, and it has the digests of the actions of
+-- the steps
+pub record IsRecordOf (e : EngineValue) (answer : Option RecordValue) : Type 0 where
+  pub complete : (t : Tree Leaf) (meaning : Meaning) (s : State) → Mirrors e t meaning s
+      → IsSome answer ↔ HasFinishedAll e.plan s
+  pub digests : (t : Tree Leaf) (meaning : Meaning) (s : State) → Mirrors e t meaning s
+      → (noted : RecordValue) → answer ≡ Some noted → (i : ℕ) (d : DigestValue)
+      → slice_get noted.digests i ≡ Some d
+      → (a : ActionMeaning) × (action_of e.plan meaning t s i ≡ Some a) × (d ≡ action_digest a)
+
+-- ---- finishing
+
+-- Whatever run the engine mirrors, and whatever the table has for the job's action, if the outcome
+-- is its form: the finish can happen after the run, and then the engine mirrors the state that it
+-- leads to.
+pub record IsFinish (old : EngineValue) (w : ℕ) (v : OutcomeValue)
+    (new : EngineValue) : Type 0 where
+  pub of_run : (t : Tree Leaf) (meaning : Meaning) (X : List (ActionMeaning × Outcome))
+      (es : List Event) (s : State) → IsMirrored nothing_told old t meaning X es s
+      → (o : Outcome) → Obeys X s (finish w o) → IsFormOf v o → (next : State)
+      × (happens old.plan meaning t s (finish w o) ≡ Some next) × Mirrors new t meaning next
+
+-- no outcome that the table has for the job's action has this form
+pub record IsForeign (old : EngineValue) (w : ℕ) (v : OutcomeValue) : Type 0 where
+  pub of_run : (t : Tree Leaf) (meaning : Meaning) (X : List (ActionMeaning × Outcome))
+      (es : List Event) (s : State) → IsMirrored nothing_told old t meaning X es s
+      → (o : Outcome) → Obeys X s (finish w o) → IsFormOf v o → ⊥
+
+-- ---- starting, and the root
+
+-- Whatever run the engine mirrors, the start of the step as this job can happen after it, with the
+-- action of this digest, and then the engine mirrors the state that it leads to.
+pub record IsStart (B : Blobs) (old : EngineValue) (i id : ℕ) (digest : DigestValue)
+    (new : EngineValue) : Type 0 where
+  pub of_run : (t : Tree Leaf) (meaning : Meaning) (X : List (ActionMeaning × Outcome))
+      (es : List Event) (s : State) → IsMirrored B old t meaning X es s
+      → (a : ActionMeaning) × (action_of old.plan meaning t s i ≡ Some a)
+      × (digest ≡ action_digest a) × (next : State)
+      × (happens old.plan meaning t s (start i id) ≡ Some next) × Mirrors new t meaning next
+
+-- whatever run the engine mirrors, the graft of the root's lines is there after it, with this
+-- digest
+pub record IsRootOf (B : Blobs) (e : EngineValue) (d : DigestValue) : Type 0 where
+  pub of_run : (t : Tree Leaf) (meaning : Meaning) (X : List (ActionMeaning × Outcome))
+      (es : List Event) (s : State) → IsMirrored B e t meaning X es s
+      → IsSomeAnd (graft_of t s e.plan.root_lines) (λ g. root (form g) ≡ d)
+
+-- whatever run the engine mirrors, one of the lines has no origin after it, and this is the
+-- origin's path
+pub record IsMissing (B : Blobs) (e : EngineValue) (lines : List LineValue)
+    (named : List Name) : Type 0 where
+  pub line : LineValue
+  pub inside : Contains lines line
+  pub path : named ≡ path_of line.origin
+  pub of_run : (t : Tree Leaf) (meaning : Meaning) (X : List (ActionMeaning × Outcome))
+      (es : List Event) (s : State) → IsMirrored B e t meaning X es s
+      → origin_at t s line.origin ≡ None
+
+-- a refusal that nothing stands at an origin is so in each run that the engine mirrors
+abbrev pub TellsMissing : {A : Type 0} → Blobs → EngineValue → List LineValue → RunsError A → Type 0
+TellsMissing B e lines (errors.Origin path) = IsMissing B e lines path
+TellsMissing B e lines why = Unit {0}

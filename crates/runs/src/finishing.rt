@@ -1,0 +1,236 @@
+ghost use Rattle.std.specs.Prelude.{◌≡◌, ◌↔◌, ◌⊎◌, ◌<◌, ℕ, IsTrue, IsErrOf, IfOk, IfErr, OnOk, OnErr, length};
+ghost use Rattle.std.specs.List.{AllByRecursion, Contains};
+ghost use Rattle.messages.specs.Directory.{directory_bytes};
+ghost use Rattle.blob_digest.specs.Digest.{digest_of};
+ghost use Rattle.actions.specs.Outcome.{output_value, output_node, outputs_in, outputs_form, output_paths};
+ghost use Rattle.runs.specs.Engine.{IsTaken, IsLawfulOutput, AreLawful, at_number};
+ghost use Rattle.runs.specs.Calls.{HaveOneForm, IsOther, Disagrees, first_kept, IsUnlisted, IsOutcomeFault, IsFinished, IsFinishFault};
+ghost use Rattle.runs.specs.Ties.{IsFinish, IsForeign};
+
+use crate::engine::{Engine, Finished, job_at};
+use crate::error::RunsError;
+use actions::{Command, Outcome, Output};
+use blob_digest::Digest;
+use messages::{Path, Tree};
+use std::alloc::{AllocError, Allocator};
+
+/// The digest of the root of a tree.
+fn root_of<A: Allocator + Copy>(alloc: A, tree: &Tree<A>) -> Result<Digest, AllocError>
+    ensures { IfOk result (λ d. d ≡ digest_of (directory_bytes tree.now.root)) }
+{
+    Ok(Digest::of(&tree.root().encode(alloc)?))
+}
+
+/// Whether two outputs are one node.
+fn same_output<A: Allocator + Copy>(
+    alloc: A,
+    one: &Output<A>,
+    other: &Output<A>,
+) -> Result<bool, AllocError>
+    ensures { IfOk result (λ same. IsTrue same
+        ↔ (output_node (output_value one.now) ≡ output_node (output_value other.now))) }
+{
+    match (one, other) {
+        (
+            Output::File { digest, executable },
+            Output::File {
+                digest: other_digest,
+                executable: other_executable,
+            },
+        ) => Ok(*digest == *other_digest && *executable == *other_executable),
+        (Output::Link { target }, Output::Link { target: other }) => Ok(*target == *other),
+        (Output::Tree(tree), Output::Tree(other)) => {
+            Ok(root_of(alloc, tree)? == root_of(alloc, other)?)
+        }
+        _ => Ok(false),
+    }
+}
+
+/// Whether two outputs have one path and are one node.
+fn same_entry<A: Allocator + Copy>(
+    alloc: A,
+    one: &(Path<A>, Output<A>),
+    other: &(Path<A>, Output<A>),
+) -> Result<bool, AllocError>
+    ensures { IfOk result (λ same. IsTrue same
+        ↔ ((one.now.0 ≡ other.now.0)
+        × (output_node (output_value one.now.1) ≡ output_node (output_value other.now.1)))) }
+{
+    if one.0.as_bytes() != other.0.as_bytes() {
+        return Ok(false);
+    }
+    same_output(alloc, &one.1, &other.1)
+}
+
+/// Whether the outputs have the same paths, with one node at each.
+fn same_outputs<A: Allocator + Copy>(
+    alloc: A,
+    ones: &[(Path<A>, Output<A>)],
+    others: &[(Path<A>, Output<A>)],
+) -> Result<bool, AllocError>
+    ensures { IfOk result (λ same. IsTrue same
+        ↔ (outputs_form (outputs_in ones.now) ≡ outputs_form (outputs_in others.now))) }
+{
+    if ones.len() != others.len() {
+        return Ok(false);
+    }
+    for (index, one) in ones.iter().enumerate() {
+        if !same_entry(alloc, one, &others[index])? {
+            return Ok(false);
+        }
+    }
+    Ok(true)
+}
+
+/// Whether two outcomes have one form.
+fn same_form<A: Allocator + Copy>(
+    alloc: A,
+    one: &Outcome<A>,
+    other: &Outcome<A>,
+) -> Result<bool, AllocError>
+    ensures { IfOk result (λ same. IsTrue same ↔ HaveOneForm one.now other.now) }
+{
+    if one.exit_code() != other.exit_code() {
+        return Ok(false);
+    }
+    same_outputs(alloc, one.outputs(), other.outputs())
+}
+
+/// Whether what a step came to is another outcome than that of a step with this number and action.
+fn is_other<A: Allocator + Copy>(
+    alloc: A,
+    finished: &Option<Finished<A>>,
+    is_step: bool,
+    action: &Digest,
+    outcome: &Outcome<A>,
+) -> Result<bool, AllocError>
+    ensures { (k i : ℕ) → IsTrue is_step ↔ (k ≡ i)
+        → IfOk result (λ other. IsTrue other ↔ IsOther finished.now k i action.now outcome.now) }
+{
+    let Some(finished) = finished else {
+        return Ok(false);
+    };
+    if !is_concerned(is_step, &finished.action, action) {
+        return Ok(false);
+    }
+    Ok(!same_form(alloc, &finished.outcome, outcome)?)
+}
+
+/// Whether it is the step, or one with the same action.
+fn is_concerned(is_step: bool, one: &Digest, other: &Digest) -> bool
+    ensures { IsTrue result ↔ (IsTrue is_step ⊎ (one.now ≡ other.now)) }
+{
+    if is_step {
+        return true;
+    }
+    *one == *other
+}
+
+/// Whether the step, or one that finished with the same action, has another outcome.
+fn disagrees<A: Allocator + Copy>(
+    alloc: A,
+    finished: &[Option<Finished<A>>],
+    step: usize,
+    action: &Digest,
+    outcome: &Outcome<A>,
+) -> Result<bool, AllocError>
+    ensures { IfOk result (λ other. IsTrue other
+        ↔ Disagrees finished.now step action.now outcome.now) }
+{
+    for (number, item) in finished.iter().enumerate() {
+        if is_other(alloc, item, number == step, action, outcome)? {
+            return Ok(true);
+        }
+    }
+    Ok(false)
+}
+
+/// Keeps what a step came to, unless it has finished before.
+fn keep_first<A: Allocator>(
+    finished: &mut Vec<Option<Finished<A>>, A>,
+    step: usize,
+    value: Finished<A>,
+)
+    requires { step < length finished.old.items }
+    ensures { finished.new.items
+        ≡ first_kept (at_number finished.old.items step) finished.old.items step value }
+{
+    if finished[step].is_none() {
+        finished[step] = Some(value);
+    }
+}
+
+/// Whether the outcome is taken: its exit code is 0, and the command lists each output. Refusals
+/// 103 and 105.
+fn check_outcome<A: Allocator + Copy>(
+    alloc: A,
+    command: &Command<A>,
+    outcome: &Outcome<A>,
+) -> Result<(), RunsError<A>>
+    ensures taken { OnOk result (IsTaken command.now outcome.now) }
+    ensures refused { IfErr result (IsOutcomeFault command.now outcome.now) }
+{
+    let exit_code = outcome.exit_code();
+    if exit_code != 0 {
+        return Err(RunsError::ExitCode(exit_code));
+    }
+    check_listed(alloc, command, outcome.outputs())
+}
+
+/// What is known of an output by its type. It does nothing.
+fn check_output<A: Allocator>(output: &Output<A>)
+    ensures { IsLawfulOutput (output_value output.now) }
+{
+    if let Output::Tree(tree) = output {
+        let _ = tree.root();
+    }
+}
+
+fn check_listed<A: Allocator + Copy>(
+    alloc: A,
+    command: &Command<A>,
+    outputs: &[(Path<A>, Output<A>)],
+) -> Result<(), RunsError<A>>
+    ensures listed { OnOk result (AllByRecursion (Contains command.now.output_paths)
+        (output_paths (outputs_in outputs.now))) }
+    ensures lawful { OnOk result (AreLawful (outputs_in outputs.now)) }
+    ensures refused { IfErr result
+        (IsUnlisted command.now (output_paths (outputs_in outputs.now))) }
+{
+    for output in outputs {
+        check_output(&output.1);
+        if !command.lists(&output.0) {
+            return Err(RunsError::Unlisted(Path::copy_of(alloc, &output.0)?));
+        }
+    }
+    Ok(())
+}
+
+impl<A: Allocator + Copy> Engine<A> {
+    /// Ends a job that came to an outcome. The first refusal is that of the first of: no job with
+    /// the number (102), an exit code that isn't 0 (103), an output that the command doesn't list
+    /// (105), and that the step, or one that finished with the same action, has another outcome
+    /// (104). What a step came to stays what it was at its first finish.
+    pub fn finish(&mut self, alloc: A, id: u64, outcome: Outcome<A>) -> Result<(), RunsError<A>>
+        ensures finished { OnOk result (IsFinished id outcome self.old self.new) }
+        ensures refused { IfErr result (IsFinishFault self.old id outcome) }
+        ensures unchanged { OnErr result (self.new ≡ self.old) }
+        // It is the event that the job finishes, if the outcome is the form of one that the job's
+        // action comes to.
+        ensures event { OnOk result (IsFinish self.old id outcome self.new) }
+        ensures foreign { IsErrOf result RunsError.Disagrees → IsForeign self.old id outcome }
+    {
+        let Some(job) = job_at(&self.jobs, id) else {
+            return Err(RunsError::NoSuchJob);
+        };
+        let step = job.step;
+        let action = job.action;
+        check_outcome(alloc, &self.commands[step], &outcome)?;
+        if disagrees(alloc, &self.finished, step, &action, &outcome)? {
+            return Err(RunsError::Disagrees);
+        }
+        keep_first(&mut self.finished, step, Finished { action, outcome });
+        self.jobs[id as usize] = None;
+        Ok(())
+    }
+}

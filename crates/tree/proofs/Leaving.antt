@@ -1,0 +1,29 @@
+-- What is told under the digests of some encodings stays as it was.
+use Rattle.std.proofs.Common.{◌≡◌, List, [], ◌∷◌, ℕ, refl, ◌∙◌}
+use Rattle.std.specs.List.{AllByRecursion}
+use Rattle.blob_digest.specs.Digest.{DigestValue, digest_of}
+use Rattle.blob_source.specs.Source.{Blobs, GrowsAt}
+use Rattle.tree.specs.Difference.{IsNoneOf, LeavesOwn}
+
+same_none : (own : List (List ℕ)) (B : Blobs) → AllByRecursion (λ b. B (digest_of b) ≡ B (digest_of b)) own
+same_none [] B = tt
+same_none (b ∷ own) B = (refl, same_none own B)
+
+same_then : (own : List (List ℕ)) (old mid new : Blobs) → AllByRecursion (λ b. mid (digest_of b) ≡ old (digest_of b)) own → AllByRecursion (λ b. new (digest_of b) ≡ mid (digest_of b)) own
+    → AllByRecursion (λ b. new (digest_of b) ≡ old (digest_of b)) own
+same_then [] old mid new h k = tt
+same_then (b ∷ own) old mid new h k = (k.0 ∙ h.0, same_then own old mid new h.1 k.1)
+
+same_at : (own : List (List ℕ)) (d : DigestValue) (old new : Blobs) → IsNoneOf own d → GrowsAt d old new → AllByRecursion (λ b. new (digest_of b) ≡ old (digest_of b)) own
+same_at [] d old new none h = tt
+same_at (b ∷ own) d old new none h = (h.others (digest_of b) none.0, same_at own d old new none.1 h)
+
+pub leaves_none : {own : List (List ℕ)} {B : Blobs} → LeavesOwn own B B
+leaves_none {own} {B} = record { same = same_none own B }
+
+pub leaves_then : {own : List (List ℕ)} {old mid new : Blobs} → LeavesOwn own old mid → LeavesOwn own mid new → LeavesOwn own old new
+leaves_then {own} {old} {mid} {new} h k = record { same = same_then own old mid new h.same k.same }
+
+-- a fetch of another digest
+pub leaves_at : {own : List (List ℕ)} {d : DigestValue} {old new : Blobs} → IsNoneOf own d → GrowsAt d old new → LeavesOwn own old new
+leaves_at {own} {d} {old} {new} none h = record { same = same_at own d old new none h }

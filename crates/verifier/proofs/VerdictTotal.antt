@@ -1,0 +1,165 @@
+-- There is a verdict on every lawful plan with as many recorded digests. That there is one is said as: it can't be that there
+-- is none.
+use Rattle.std.proofs.Common.{◌≡◌, ◌≢◌, ℕ, zero, suc, ◌+◌, arith, List, [], ◌∷◌, ◌++◌, length, refl, ap, sym, ◌∙◌, subst, inl, inr}
+use Rattle.std.specs.Prelude.{Option, Some, slice_get}
+use Rattle.std.specs.List.{AllByRecursion}
+use Rattle.std.proofs.lemmas.List.{length-append}
+use Rattle.blob_digest.specs.Digest.{DigestValue}
+use Rattle.blob_digest.specs.DigestValue.{IsDigest}
+use Rattle.action_messages.specs.Action.{ActionValue, IsAction, action_bytes}
+use Rattle.action_messages.specs.ActionResult.{ActionResultValue, IsActionResult}
+use Rattle.action_messages.specs.Command.{IsCommand, command_bytes}
+use Rattle.actions.specs.Outcome.{OutputValue, OutcomeValue}
+use Rattle.actions.specs.declared.outcome.Output.TheVariants.{File, Link, Tree}
+use Rattle.actions.specs.OutcomeLookup.{IsFirstChild, NoFault, LooksBelow, LooksIn}
+use Rattle.action_messages.specs.OutputFile.{IsOutputFile}
+use Rattle.action_messages.specs.OutputSymlink.{IsOutputSymlink}
+use Rattle.action_messages.specs.Outputs.{RecordedValue, file, directory, link, files_among, links_among}
+use Rattle.actions.specs.Recorded.{StandForAll, IsRecorded}
+use Rattle.actions.proofs.TreeLookups.{all_at, first_there}
+use Rattle.messages.specs.DirectoryRules.{IsDirectory}
+use Rattle.messages.specs.Node.{child}
+use Rattle.plan.specs.Values.{OriginValue, source, output, LineValue, StepValue, PlanValue, IsLine}
+use Rattle.plan.specs.Plan.{AreSteps, IsPlan}
+use Rattle.tree.specs.Tree.{Name}
+use Rattle.tree.specs.Folded.{IsNode, first_visits}
+use Rattle.tree.specs.Form.{NodeValue, root}
+use Rattle.tree.specs.Graft.{graft}
+use Rattle.tree.specs.Lines as lines
+use Rattle.tree.specs.Lookup.{found}
+use Rattle.blob_source.specs.Source.{Blobs, Telling}
+use Rattle.blob_source.specs.Told.{TellsDirectory, FailsDirectory}
+use Rattle.tree.proofs.FirstDifferences.{finds_first_total}
+use Rattle.tree.proofs.LawfulTrees.{lawful_visits}
+use Rattle.tree.proofs.Totals.{looks_lawful, child_lawful}
+use Rattle.tree.proofs.TreeDigests.{IsDigest-digest_of}
+use Rattle.verifier.specs.declared.verdict.Verdict.{Verdict}
+use Rattle.verifier.specs.declared.verdict.Verdict.TheVariants.{Yes, No}
+use Rattle.verifier.specs.Accepted.{LooksAt, Resolves}
+use Rattle.verifier.specs.Stage.{◌and_then◌}
+use Rattle.verifier.specs.StepChecks.{difference_cause, grafted, step_check}
+use Rattle.verifier.specs.Verdict.{root_check, steps_check, plan_check, IsVerdict}
+use Rattle.verifier.proofs.StageTotals.{IsTotal, total_then, total_demands, total_comes_to, total_located}
+use Rattle.verifier.proofs.StepLaws.{recorded_from}
+use Rattle.verifier.proofs.Totals.{IsLawfulOutput, AreLawfulOutputs, total_message, total_resolved, total_held, total_read}
+
+-- ---- nodes that are found keep their rules
+
+below_lawful : (x : OutputValue) → IsLawfulOutput x → (names : List Name) (y : NodeValue) → LooksBelow x names (found y) → IsNode y
+below_lawful (Tree t) h [] y e = subst IsNode (sym (found_is e)) (IsDigest-digest_of _)
+  where
+    found_is : {a b : NodeValue} → found a ≡ found b → a ≡ b
+    found_is e = cc
+below_lawful (Tree t) h (n ∷ names) y e =
+    looks_lawful (IsFirstChild t) NoFault (λ d m first. all_at IsDirectory (t.root ∷ t.children) m (h.root, h.children) (first_there t d m first)) names (child n t.root) (child_lawful t.root h.root n) y e
+below_lawful (File d b) h [] y e = subst IsNode (sym (found_is e)) h
+  where
+    found_is : {a b : NodeValue} → found a ≡ found b → a ≡ b
+    found_is e = cc
+below_lawful (File d b) h (n ∷ names) y e = absurd cc
+below_lawful (Link l) h [] y e = subst IsNode (sym (found_is e)) h
+  where
+    found_is : {a b : NodeValue} → found a ≡ found b → a ≡ b
+    found_is e = cc
+below_lawful (Link l) h (n ∷ names) y e = absurd cc
+
+in_lawful : (o : OutcomeValue) → AreLawfulOutputs o → (path : List Name) (y : NodeValue) → LooksIn o path (found y) → IsNode y
+in_lawful o h path y (inl k) = below_lawful k.0.1 (all_at (λ (e : List Name × OutputValue). IsLawfulOutput e.1) o.outputs k.0 h k.1) k.2 y k.4
+in_lawful o h path y (inr k) = absurd (let e = k.1 in cc)
+
+lawful_at : (os : List OutcomeValue) (i : ℕ) (o : OutcomeValue) → AllByRecursion AreLawfulOutputs os → slice_get os i ≡ Some o → AreLawfulOutputs o
+lawful_at [] i o h e = absurd cc
+lawful_at (x ∷ os) zero o h e = let same : x ≡ o = cc in subst AreLawfulOutputs same h.0
+lawful_at (x ∷ os) (suc i) o h e = lawful_at os i o h.1 e
+
+module _ (B : Blobs) (sources : DigestValue) (is : IsDigest sources) (os : List OutcomeValue) (lawful : AllByRecursion AreLawfulOutputs os) where
+  at_lawful : (o : OriginValue) (y : NodeValue) → LooksAt B sources os o (found y) → IsNode y
+  at_lawful (source p) y h = looks_lawful (TellsDirectory B) (FailsDirectory B) (λ d m told. told.lawful) p _ (λ x e. subst IsNode (some_is e) is) y h
+    where
+      some_is : {a b : NodeValue} → ◌≡◌ {A = Option NodeValue} (Some a) (Some b) → a ≡ b
+      some_is e = cc
+  at_lawful (output i p) y h = in_lawful h.0 (lawful_at os i h.0 lawful h.1) p y h.2
+
+  -- the lines that a graft is made of
+  lawful_lines : (ls : List LineValue) (xs : List (List Name × NodeValue)) → AllByRecursion (IsLine (length os)) ls → Resolves B sources os ls xs → AllByRecursion lines.IsLine xs
+  lawful_lines [] xs all h = subst (AllByRecursion lines.IsLine) (sym h) tt
+  lawful_lines (l ∷ ls) xs all h = subst (AllByRecursion lines.IsLine) (sym h.4) ((all.0.target.each, at_lawful l.origin h.0 h.1), lawful_lines ls h.2 all.1 h.3)
+
+-- ---- outcomes that a step passes with keep their rules
+
+stand_lawful : (B : Blobs) (xs : List RecordedValue) (es : List (List Name × OutputValue)) → AllByRecursion IsOutputFile (files_among xs) → AllByRecursion IsOutputSymlink (links_among xs) → StandForAll B xs es
+    → AllByRecursion (λ (e : List Name × OutputValue). IsLawfulOutput e.1) es
+stand_lawful B [] es f l h = subst (AllByRecursion (λ (e : List Name × OutputValue). IsLawfulOutput e.1)) (sym h) tt
+stand_lawful B (x ∷ xs) [] f l h = elim h [ ]
+stand_lawful B (file x ∷ xs) (e ∷ es) f l h = (subst IsLawfulOutput (sym h.1) f.0.digest, stand_lawful B xs es f.1 l h.2)
+stand_lawful B (directory x ∷ xs) (e ∷ es) f l h = (subst IsLawfulOutput (sym h.1.2) h.1.1.lawful, stand_lawful B xs es f l h.2)
+stand_lawful B (link x ∷ xs) (e ∷ es) f l h = (subst IsLawfulOutput (sym h.1) l.0.target, stand_lawful B xs es f l.1 h.2)
+
+recorded_lawful : (B : Blobs) (r : ActionResultValue) (o : OutcomeValue) → IsActionResult r → IsRecorded B r o → AreLawfulOutputs o
+recorded_lawful B r o lawful h =
+    stand_lawful B h.recorded o.outputs (subst (AllByRecursion IsOutputFile) (sym h.ordered.files) lawful.files) (subst (AllByRecursion IsOutputSymlink) (sym h.ordered.symlinks) lawful.symlinks) h.outputs
+
+module _ (A : Type 0) (t : Telling) (sources : DigestValue) (is : IsDigest sources) where
+  passed_lawful : (os : List OutcomeValue) (s : StepValue) (d : DigestValue) (o : OutcomeValue) → (step_check {A = A} t sources os s d).passes o → AreLawfulOutputs o
+  passed_lawful os s d o h =
+      let like = recorded_from A t sources os s d o h in
+      recorded_lawful t.blobs like.result o like.held.2.2.lawful like.recorded
+
+  -- ---- the checks
+
+  total_grafted : (a : ActionValue) (xs : List (List Name × NodeValue)) → AllByRecursion lines.IsLine xs → IsTotal (grafted {A = A} t.blobs a xs)
+  total_grafted a xs lawful = record {
+    ends = λ passes fails.
+        let other : root (graft xs) ≢ a.input = λ e. passes tt e in
+        finds_first_total (first_visits (graft xs)) t.blobs (lawful_visits xs lawful) (root (graft xs)) a.input other (λ x h. fails (difference_cause x) (other, x, h, refl));
+  }
+
+  total_step : (os : List OutcomeValue) (s : StepValue) (d : DigestValue) → AllByRecursion AreLawfulOutputs os → AllByRecursion (IsLine (length os)) s.lines → IsTotal (step_check {A = A} t sources os s d)
+  total_step os s d lawful all =
+      total_then _ _ (total_message IsAction action_bytes t.blobs d) (λ a _.
+      total_then _ _ (total_demands _ _) (λ _ _.
+      total_then _ _ (total_message IsCommand command_bytes t.blobs a.frame.command) (λ m _.
+      total_then _ _ (total_demands _ _) (λ _ _.
+      total_then _ _ (total_resolved t.blobs sources os lawful s.lines all) (λ xs h.
+      total_then _ _ (total_grafted a xs (lawful_lines t.blobs sources is os lawful s.lines xs all h)) (λ _ _.
+      total_then _ _ (total_held t.results d) (λ r kept.
+      total_then _ _ (total_demands _ _) (λ _ _.
+      total_read t.blobs m r kept.2.2.lawful))))))))
+
+  total_root : (os : List OutcomeValue) (ls : List LineValue) (claim : DigestValue) → AllByRecursion AreLawfulOutputs os → AllByRecursion (IsLine (length os)) ls → IsTotal (root_check {A = A} t sources os ls claim)
+  total_root os ls claim lawful all = total_then _ _ (total_resolved t.blobs sources os lawful ls all) (λ xs h. total_demands _ _)
+
+  one_more : (os : List OutcomeValue) (o : OutcomeValue) → AllByRecursion AreLawfulOutputs os → AreLawfulOutputs o → AllByRecursion AreLawfulOutputs (os ++ o ∷ [])
+  one_more [] o h k = (k, tt)
+  one_more (x ∷ os) o h k = (h.0, one_more os o h.1 k)
+
+  total_steps : (before : List StepValue) (os : List OutcomeValue) (ss : List StepValue) (ds : List DigestValue) → length os ≡ length before → AllByRecursion AreLawfulOutputs os → AreSteps before ss → length ds ≡ length ss
+      → IsTotal (steps_check {A = A} t sources os ss ds)
+  total_steps before os [] ds count lawful steps each = total_comes_to os
+  total_steps before os (s ∷ ss) [] count lawful steps each = absurd (omega (arith, each))
+  total_steps before os (s ∷ ss) (d ∷ ds) count lawful steps each =
+      total_then _ _ (total_located _ _ (total_step os s d lawful (subst (λ n. AllByRecursion (IsLine n) s.lines) (sym count) steps.0.lines.each)))
+      (λ o h. total_steps (before ++ s ∷ []) (os ++ o ∷ []) ss ds
+      (let one = length-append os (o ∷ []) in let other = length-append before (s ∷ []) in omega (arith, one, other, count))
+      (one_more os o lawful (passed_lawful os s d o h)) steps.1 (omega (arith, each)))
+
+  -- what the steps come to
+  steps_lawful : (os : List OutcomeValue) (ss : List StepValue) (ds : List DigestValue) (all : List OutcomeValue) → AllByRecursion AreLawfulOutputs os → (steps_check {A = A} t sources os ss ds).passes all
+      → AllByRecursion AreLawfulOutputs all × (length all ≡ length os + length ss)
+  unfolding ◌and_then◌
+  steps_lawful os [] ds all lawful h = (subst (AllByRecursion AreLawfulOutputs) (sym h) lawful, (let same = ap length h in omega (arith, same)))
+  steps_lawful os (s ∷ ss) [] all lawful h = elim h [ ]
+  steps_lawful os (s ∷ ss) (d ∷ ds) all lawful h =
+      let rest = steps_lawful (os ++ h.0 ∷ []) ss ds all (one_more os h.0 lawful (passed_lawful os s d h.0 h.1)) h.2 in
+      (rest.0, (let one = length-append os (h.0 ∷ []) in let count = rest.1 in omega (arith, one, count)))
+
+  total_plan : (plan : PlanValue) (recorded : List DigestValue) (claim : DigestValue) → IsPlan plan → length recorded ≡ length plan.steps → IsTotal (plan_check {A = A} t sources plan recorded claim)
+  total_plan plan recorded claim lawful each =
+      total_then _ _ (total_steps [] [] plan.steps recorded refl tt lawful.steps each) (λ os h.
+      let outcomes = steps_lawful [] plan.steps recorded os tt h in
+      let none : length {A = OutcomeValue} [] + length plan.steps ≡ length plan.steps = omega arith in
+      total_located _ _ (total_root os plan.root_lines claim outcomes.0 (subst (λ n. AllByRecursion (IsLine n) plan.root_lines) (sym (outcomes.1 ∙ none)) lawful.root_lines.each)))
+
+  pub verdict_total : (plan : PlanValue) (recorded : List DigestValue) (claim : DigestValue) → IsPlan plan → length recorded ≡ length plan.steps → ((v : Verdict A) → IsVerdict t sources plan recorded claim v → ⊥) → ⊥
+  verdict_total plan recorded claim lawful each none =
+      (total_plan plan recorded claim lawful each).ends (λ u h. none (Yes claim (length plan.steps)) (refl, refl, h)) (λ why h. none (No why.0 why.1) h)

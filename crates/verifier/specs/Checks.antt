@@ -1,0 +1,14 @@
+-- What a check of a source comes to, and what it did to the source.
+use Rattle.std.specs.Prelude.{Result, IsErrOf}
+use Rattle.blob_source.specs.Called.{Called}
+use Rattle.blob_source.specs.Source.{Telling}
+use Rattle.verifier.specs.declared.fault.Fault.{Fault}
+use Rattle.verifier.specs.declared.fault.Fault.TheVariants as faults
+use Rattle.verifier.specs.declared.verdict.Cause.{Cause}
+use Rattle.verifier.specs.Stage.{Stage, Answers}
+
+-- It answers by all that is told in the end.
+pub record Checks {A V : Type 0} (check : Telling → Stage (Cause A) V) (old new : Telling)
+    (r : Result V (Fault A)) : Type 0 where
+  pub checked : Answers (check new) r
+  pub called : Called old new (IsErrOf r faults.Fetch)

@@ -1,0 +1,3 @@
+#!/bin/sh
+# Two pages were counted.
+[ "$(cat pages/counts.txt)" -eq 2 ]

@@ -1,0 +1,63 @@
+#!/usr/bin/env bash
+# Builds the workspace examples/bazel with a real Bazel, in a folder of its own, and asks `verify` about it: what was
+# built (yes), what was changed before it is shipped (no), and a store that has another output than was made (no). Then
+# its tests, and a generated workspace of 1,100 steps. With the variable BUILDCACHE it asks that program instead of
+# ./buildcache; BAZEL is how Bazel is called.
+set -euo pipefail
+top=$(cd "$(dirname "${BASH_SOURCE[0]}")/.." && pwd)
+program=${BUILDCACHE:-$top/buildcache}
+work=$(mktemp -d)
+bazel() { (cd "$work/$1" && command ${BAZEL:-bazel} --output_user_root="$work/bazel" "${@:2}"); }
+finish() {
+  bazel ws shutdown || true
+  bazel many shutdown || true
+  chmod -R u+w "$work" && rm -rf "$work"
+}
+trap finish EXIT
+mkdir "$work/many"
+cp -r "$top/examples/bazel" "$work/ws"
+
+built() { bazel "$1" "$2" --jobs=1 --execution_log_json_file="$work/log.json" "${@:3}" >"$work/out" 2>&1 || { cat "$work/out"; exit 1; }; }
+turn() { rm -rf "$work/asked" && "$top/tools/bazel_plan.py" "$work/log.json" "$work/asked" "$@"; }
+judge() {
+  "$program" verify --store "$work/asked/store" --sources "$(cat "$work/asked/sources")" --plan "$work/asked/plan" \
+    --record "$work/asked/record" --claim "$(cat "$work/asked/claim")" || true
+}
+expect() {
+  local line
+  line=$(judge)
+  echo "$line"
+  [[ $line == $1 ]] || { echo "bazel_roundtrip: expected $1" >&2; exit 1; }
+}
+
+echo "== what was built"
+built ws build //pages:release
+cp -r "$work/ws/bazel-bin/pages/release" "$work/shipped"
+shipped=(--below bazel-out/k8-fastbuild/bin/pages/release --artifact "$work/shipped")
+turn "${shipped[@]}"
+expect "yes * steps 11"
+
+echo "== another output in the store"
+card=$work/asked/store/ac/$(sed -n 's|^step genrule-pages-card-txt \(.*\)/.*|\1|p' "$work/asked/record")
+sed -i "s/[0-9a-f]\{64\}/$(printf 'Hello, Mallory!' | sha256sum | cut -c1-64)/" "$card"
+expect "no step pages-pages-site cause input-differs *card.txt"
+
+echo "== another file in the artifact"
+chmod -R u+w "$work/shipped"
+echo more >>"$work/shipped/list.txt"
+turn "${shipped[@]}"
+expect "no root cause root-differs *"
+
+echo "== with its tests"
+bazel ws clean 2>"$work/out"
+built ws test //...
+turn --drop-timeouts
+expect "yes * steps 19"
+
+echo "== 1,100 steps"
+"$top/tools/tests/many_steps.py" "$work/many" 1100
+built many build //...
+begun=$(date +%s%N)
+turn
+echo "turned in $((($(date +%s%N) - begun) / 1000000)) ms"
+expect "yes * steps 1100"

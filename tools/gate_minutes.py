@@ -1,0 +1,68 @@
+#!/usr/bin/env python3
+"""Runs the gate (.ci/run) and tells what it took, as the table of docs/GATE.md: gate_minutes.py [LOG].
+
+For each crate: the processor minutes of its proof, of its tests' proof and of its must-fail edits, and the most memory
+that one of these processes held. It looks at the processes of the toolchain twice a second, so what lives shorter isn't
+seen. The gate's own output goes to LOG (gate.log), each line after the minutes since the start.
+"""
+import collections
+import os
+import subprocess
+import sys
+import threading
+import time
+
+TICKS = os.sysconf("SC_CLK_TCK")
+
+
+def processes():
+    """Each process of the toolchain that is at work: its number and start, its words, and the folder that it runs in."""
+    for pid in filter(str.isdigit, os.listdir("/proc")):
+        try:
+            with open(f"/proc/{pid}/cmdline", "rb") as it:
+                words = it.read().decode(errors="replace").split("\0")
+            if not words[0].endswith("/rattle") or "--crate-name" not in words:
+                continue
+            with open(f"/proc/{pid}/stat") as it:
+                fields = it.read().rpartition(")")[2].split()
+            with open(f"/proc/{pid}/status") as it:
+                peak = next((int(line.split()[1]) for line in it if line.startswith("VmHWM")), 0)
+            yield (pid, fields[19]), words, os.readlink(f"/proc/{pid}/cwd"), (int(fields[11]) + int(fields[12])) / TICKS, peak
+        except (OSError, IndexError):
+            continue
+
+
+def watch(seen, stopped):
+    while not stopped.wait(0.5):
+        for key, words, folder, seconds, peak in processes():
+            kind = "edits" if "/rt-edit-" in folder else "tests" if "--test" in words else "proof"
+            seen[key] = words[words.index("--crate-name") + 1], kind, seconds, peak
+
+
+def main(words):
+    top = os.path.dirname(os.path.dirname(os.path.realpath(__file__)))
+    seen, stopped, began = {}, threading.Event(), time.time()
+    watcher = threading.Thread(target=watch, args=(seen, stopped))
+    watcher.start()
+    gate = subprocess.Popen([f"{top}/.ci/run"], cwd=top, stdout=subprocess.PIPE, stderr=subprocess.STDOUT, text=True, errors="replace")
+    with open(words[0] if words else "gate.log", "w", encoding="utf-8") as log:
+        for line in gate.stdout:
+            print(f"{(time.time() - began) / 60:6.1f} {line}", end="", file=log, flush=True)
+            last = line.strip()
+    status = gate.wait()
+    stopped.set()
+    watcher.join()
+    minutes, peaks = collections.Counter(), collections.Counter()
+    for crate, kind, seconds, peak in seen.values():
+        minutes[crate, kind] += seconds / 60
+        peaks[crate] = max(peaks[crate], peak)
+    print("| Crate | Proof | Tests | Edits | Peak memory |\n|---|---|---|---|---|")
+    for crate in sorted(peaks, key=lambda it: -sum(minutes[it, kind] for kind in ("proof", "tests", "edits"))):
+        row = [f"{minutes[crate, kind]:.1f}" for kind in ("proof", "tests", "edits")]
+        print(f"| `{crate}` | {' | '.join(row)} | {peaks[crate] / 1e6:.1f} GB |")
+    print(f"\n{(time.time() - began) / 60:.1f} minutes; {sum(minutes.values()):.0f} processor minutes; {last}")
+    return status
+
+
+if __name__ == "__main__":
+    sys.exit(main(sys.argv[1:]))

@@ -1,0 +1,537 @@
+#!/usr/bin/env python3
+"""Tests of tools/bazel_plan.py: python3 -m unittest discover tools/tests
+
+Each rule and each refusal of docs/VERIFY_BAZEL.md has a small log here. The bytes of messages are those of Python's
+protobuf (3.21.12, over the fields of remote_execution.proto). Where the program `buildcache` is built, or BUILDCACHE
+names it, what is made is also judged by it.
+"""
+
+import contextlib
+import hashlib
+import io
+import json
+import os
+import shutil
+import subprocess
+import sys
+import tempfile
+import unittest
+
+HERE = os.path.dirname(os.path.realpath(__file__))
+TOP = os.path.dirname(os.path.dirname(HERE))
+sys.path.insert(0, os.path.join(TOP, "tools"))
+
+import bazel_plan  # noqa: E402
+
+PROGRAM = os.environ.get("BUILDCACHE", os.path.join(TOP, "crates", "buildcache", "out", "buildcache"))
+
+
+def named(content):
+    return {
+        "hash": hashlib.sha256(content.encode()).hexdigest(),
+        "sizeBytes": str(len(content.encode())),
+        "hashFunctionName": "SHA-256",
+    }
+
+
+def files(contents):
+    return [{"path": path, "digest": named(content)} for path, content in contents.items()]
+
+
+def spawn(inputs, listed, made=None, **other):
+    """A spawn as Bazel writes it; without `made` each listed output has its path as its content."""
+    made = {path: path for path in listed} if made is None else made
+    value = {
+        "commandArgs": ["/bin/make", *listed],
+        "environmentVariables": [],
+        "platform": {"properties": []},
+        "inputs": files(inputs),
+        "listedOutputs": listed,
+        "remotable": True,
+        "cacheable": True,
+        "timeoutMillis": "0",
+        "progressMessage": f"Making {' '.join(listed)}",
+        "mnemonic": "Make",
+        "actualOutputs": files(made),
+        "runner": "linux-sandbox",
+        "remoteCacheHit": False,
+        "status": "",
+        "exitCode": 0,
+        "remoteCacheable": True,
+    }
+    value.update(other)
+    return value
+
+
+def log(*spawns):
+    return "".join(json.dumps(it, indent=2) for it in spawns)
+
+
+class Case(unittest.TestCase):
+    def setUp(self):
+        self.folder = tempfile.mkdtemp()
+        self.addCleanup(shutil.rmtree, self.folder)
+
+    def at(self, *names):
+        return os.path.join(self.folder, *names)
+
+    def call(self, text, *words):
+        """Status, standard output and standard error of the tool on a log."""
+        with open(self.at("log"), "w", encoding="utf-8") as out:
+            out.write(text)
+        out, err = io.StringIO(), io.StringIO()
+        with contextlib.redirect_stdout(out), contextlib.redirect_stderr(err):
+            status = bazel_plan.main([self.at("log"), self.at("asked"), *words])
+        return status, out.getvalue(), err.getvalue()
+
+    def lines(self, name):
+        with open(self.at("asked", name), encoding="utf-8") as it:
+            return it.read().splitlines()
+
+    def turn(self, text, *words):
+        """The plan's lines."""
+        status, _, err = self.call(text, *words)
+        self.assertEqual((status, err), (0, ""))
+        return self.lines("plan")
+
+    def refuse(self, reason, text, *words):
+        status, out, err = self.call(text, *words)
+        self.assertEqual((status, out), (2, ""))
+        self.assertEqual(err.count("\n"), 1)
+        self.assertTrue(err.startswith("error: "), err)
+        self.assertIn(reason, err)
+        self.assertFalse(os.path.exists(self.at("asked")))
+
+    def judge(self, line, end=""):
+        """What `verify` says begins and ends so."""
+        if not os.path.exists(PROGRAM):
+            return
+        words = [PROGRAM, "verify", "--store", self.at("asked", "store"), "--sources", self.lines("sources")[0]]
+        words += ["--plan", self.at("asked", "plan"), "--record", self.at("asked", "record")]
+        done = subprocess.run([*words, "--claim", self.lines("claim")[0]], capture_output=True, text=True)
+        self.assertTrue(done.stdout.startswith(line) and done.stdout.endswith(end), f"{done.stdout!r} {done.stderr!r}")
+        self.assertEqual(done.returncode, 0 if line.startswith("yes") else 1)
+
+    def stored(self, part, digest):
+        with open(self.at("asked", "store", part, digest.partition("/")[0]), "rb") as it:
+            return it.read()
+
+
+# One spawn with everything that an action and a result have, and its messages as protobuf encodes them.
+WHOLE = spawn(
+    {"x/e": "", "a b": "a\n"},
+    ["out/l", "out/f", "out/d"],
+    {"out/f": "bb\n", "out/d/g": "a\n", "out/d/t/g": "bb\n", "out/d/s/g": "bb\n"},
+    commandArgs=["/bin/sh", "-c", ""],
+    environmentVariables=[{"name": "b", "value": "é"}, {"name": "B", "value": ""}, {"name": "A", "value": "1"}],
+    platform={"properties": [{"name": "pool", "value": "b"}, {"name": "os", "value": "linux"}, {"name": "pool", "value": "a"}]},
+    cacheable=False,
+    exitCode=-1,
+    status="NON_ZERO_EXIT",
+)
+WHOLE["inputs"].append({"path": "l", "symlinkTargetPath": "../x"})
+WHOLE["actualOutputs"].append({"path": "out/l", "symlinkTargetPath": "f"})
+COMMAND = (
+    "0a072f62696e2f73680a022d630a0012060a014112013112030a014212070a01621202c3a93a056f75742f643a056f75742f663a056f7574"
+    "2f6c"
+)
+INPUT = (
+    "0a4d0a0361206212440a40383734323866633532323830336433313036356537626365336366303366653437353039363633316535653037"
+    "626264376130666465363063346366323563371002200112490a017812440a40613437396134663937393137336464373439363938383062"
+    "66633465353435316136333833316330393036336430376334636361316238313461666565613432104b1a090a016c12042e2e2f78"
+)
+FRAME = (
+    "0a440a4034633335613264646366383132343430313534396561353461386561653866363665326532316339616332633433303236626266"
+    "393964666163643235363033103a380152230a0b0a026f7312056c696e75780a090a04706f6f6c1201610a090a04706f6f6c120162"
+)
+ACTION = (
+    "0a440a4034633335613264646366383132343430313534396561353461386561653866363665326532316339616332633433303236626266"
+    "393964666163643235363033103a12450a403165376665343263396361616531636565353964383537333931636366656137383963353561"
+    "643939623032383538373731353837643362643839356435373110a501380152230a0b0a026f7312056c696e75780a090a04706f6f6c1201"
+    "610a090a04706f6f6c120162"
+)
+TREE = (
+    "0ae3010a4b0a016712440a403837343238666335323238303364333130363565376263653363663033666534373530393636333165356530"
+    "37626264376130666465363063346366323563371002200112490a017312440a403637663935363362646639396233643064613164623034"
+    "3463643961316432653830643835643233366335663966373964663862363337636566333762343430104d12490a017412440a4036376639"
+    "3536336264663939623364306461316462303434636439613164326538306438356432333663356639663739646638623633376365663337"
+    "62343430104d124d0a4b0a016712440a40613831633331616336323632306239323135613134666630303534346362303761353562373635"
+    "3539346633616233626537376537303932336165323763663110032001"
+)
+RESULT = (
+    "124f0a056f75742f6612440a4061383163333161633632363230623932313561313466663030353434636230376135356237363535393466"
+    "336162336265373765373039323361653237636631100320011a4e0a056f75742f641a450a40373763343430613333376336663039373961"
+    "3661323836356330633336333066633133666166373864613636666432626234636537373833616338346134376410b50220ffffffffffff"
+    "ffffff01620a0a056f75742f6c120166"
+)
+
+
+class Messages(Case):
+    def test_as_protobuf_encodes_them(self):
+        plan = self.turn(log(WHOLE))
+        record = self.lines("record")
+        frame, action = (bazel_plan.Digest.of(bytes.fromhex(it)).text() for it in (FRAME, ACTION))
+        self.assertEqual(plan[1], f"step make-out-d {frame}")
+        self.assertEqual(record, ["buildrecord 1", f"step make-out-d {action}"])
+        self.assertEqual(self.stored("ac", action).hex(), RESULT)
+        for message in (COMMAND, INPUT, ACTION, TREE):
+            digest = bazel_plan.Digest.of(bytes.fromhex(message))
+            self.assertEqual(self.stored("cas", digest.hash).hex(), message)
+        self.judge("no step make-out-d cause do-not-cache\n")
+
+    def test_lines(self):
+        self.assertEqual(
+            self.turn(log(WHOLE))[2:],
+            [
+                "in a%20b src a%20b",
+                "in l src l",
+                "in x/e src x/e",
+                "root",
+                "in out/d out make-out-d out/d",
+                "in out/f out make-out-d out/f",
+                "in out/l out make-out-d out/l",
+            ],
+        )
+
+
+class Rules(Case):
+    def test_an_input_that_an_output_made_is_out_and_every_other_src(self):
+        plan = self.turn(log(spawn({"a": "1"}, ["b"]), spawn({"a": "1", "b": "b"}, ["c"])))
+        self.assertEqual([it for it in plan if it.startswith("in")][:3], ["in a src a", "in a src a", "in b out make-b b"])
+        self.judge("yes ")
+
+    def test_an_input_unlike_what_was_made_is_a_no_that_names_the_step(self):
+        self.turn(log(spawn({}, ["b"]), spawn({"b": "other"}, ["c"])))
+        self.judge("no step make-c cause input-differs b\n")
+
+    def test_a_source_that_is_read_in_two_ways_is_a_no(self):
+        self.turn(log(spawn({"d/a": "1"}, ["b"]), spawn({"d/a": "2"}, ["c"])))
+        self.judge("no step make-c cause input-differs d/a\n")
+
+    def test_the_log_may_stand_in_any_order(self):
+        plan = self.turn(log(spawn({"b": "b"}, ["c"]), spawn({}, ["z"]), spawn({"z": "z"}, ["b"])))
+        self.assertEqual([it.split()[1] for it in plan if it.startswith("step")], ["make-z", "make-b", "make-c"])
+        self.judge("yes ")
+
+    def test_the_order_of_variables_properties_inputs_and_outputs_is_nothing(self):
+        turned = dict(WHOLE, **{key: WHOLE[key][::-1] for key in ("environmentVariables", "inputs", "listedOutputs", "actualOutputs")})
+        turned["platform"] = {"properties": WHOLE["platform"]["properties"][::-1]}
+        texts = [(self.turn(it), self.lines("record"), self.lines("claim")) for it in (log(WHOLE), log(turned))]
+        self.assertEqual(texts[0], texts[1])
+
+    def test_a_spawn_that_ran_twice_is_one_step(self):
+        plan = self.turn(log(spawn({}, ["a"]), spawn({"a": "a"}, ["b"]), spawn({}, ["a"], runner="remote")))
+        self.assertEqual(sum(it.startswith("step") for it in plan), 2)
+        self.judge("yes ")
+
+    def test_a_spawn_that_failed_and_ran_again_is_one_step(self):
+        self.turn(log(spawn({}, ["a"], {}, exitCode=1, status="NON_ZERO_EXIT"), spawn({}, ["a"])))
+        self.judge("yes ")
+
+    def test_a_spawn_that_failed_is_a_no(self):
+        self.turn(log(spawn({}, ["b"]), spawn({}, ["a"], {}, exitCode=7, status="NON_ZERO_EXIT")))
+        self.judge("no step make-a cause exit-code 7\n")
+
+    def test_a_failed_test_that_ran_again_counts_by_its_last_run(self):
+        def attempt(code):
+            test = spawn({"t": "t"}, ["logs/xml", "logs/more"], {}, commandArgs=["t"], exitCode=code, timeoutMillis="60000")
+            tell = spawn({"logs/log": "l"}, ["logs/xml"], {"logs/xml": f"x{code}"}, commandArgs=["xml", str(code)])
+            return [dict(it, mnemonic="TestRunner", progressMessage="Testing //:t") for it in (test, tell)]
+
+        plan = self.turn(log(*attempt(1), *attempt(2), *attempt(0)), "--drop-timeouts")
+        self.assertEqual(sum(it.startswith("step") for it in plan), 2)
+        claim = bazel_plan.directory_message({"logs": {"xml": bazel_plan.File(bazel_plan.Digest.of(b"x0"))}}, bazel_plan.Digest.of)
+        self.assertEqual(self.lines("claim"), [bazel_plan.Digest.of(claim).text()])
+        self.judge("yes ")
+
+    def test_a_failed_test_that_ran_again_as_bazel_logs_it(self):
+        with open(os.path.join(HERE, "data", "rerun.json"), encoding="utf-8") as it:
+            text = it.read()
+        self.assertEqual([it["exitCode"] for _, it in bazel_plan.objects(text)], [1, 0, 0, 0])
+        plan = self.turn(text, "--drop-timeouts")
+        self.assertEqual(sum(it.startswith("step") for it in plan), 2)
+        self.judge("yes ")
+
+    def test_spawns_without_outputs_are_steps(self):
+        nothing = spawn({"a": "1"}, [], commandArgs=["/bin/look"], progressMessage="Looking", mnemonic="Look")
+        plan = self.turn(log(nothing, spawn({}, ["b", "never"], {"b": "b"})))
+        self.assertEqual([it.split()[1] for it in plan if it.startswith("step")], ["look", "make-b"])
+        self.judge("yes ")
+
+    def test_a_listed_directory_is_one_output_and_each_file_that_is_read_a_line(self):
+        plan = self.turn(log(spawn({}, ["t"], {"t/x/é": "1", "t/y": "2"}), spawn({"t/x/é": "1", "t/y": "2"}, ["b"])))
+        self.assertIn("in t/x/%C3%A9 out make-t t/x/%C3%A9", plan)
+        self.assertIn("in t out make-t t", plan)
+        self.judge("yes ")
+
+    def test_an_empty_directory_is_an_output_that_was_not_made(self):
+        plan = self.turn(log(spawn({}, ["t"], {}), spawn({}, ["b"])))
+        self.assertEqual(plan[-2:], ["root", "in b out make-b b"])
+        self.judge("yes ")
+
+    def test_steps_are_named_by_mnemonic_and_output(self):
+        long = "bazel-out/k8-opt/bin/" + "long/" * 20 + "End.TXT"
+        plan = self.turn(log(*(spawn({}, [it], mnemonic="CppLink") for it in ("a+b", "A_B", "a/b", "bazel-out/host/bin/a/b", long))))
+        names = [it.split()[1] for it in plan if it.startswith("step")]
+        self.assertEqual(names[:4], ["cpplink-a-b", "cpplink-a_b", "cpplink-a-b-2", "cpplink-a-b-3"])
+        self.assertTrue(names[4].endswith("-long-end-txt") and len(names[4]) <= 64, names[4])
+        self.judge("yes ")
+
+    def test_a_spawn_that_is_not_to_be_cached_is_a_no(self):
+        self.turn(log(spawn({}, ["a"], cacheable=False)))
+        self.judge("no step make-a cause do-not-cache\n")
+
+    def test_an_output_that_is_not_listed_is_a_no(self):
+        self.turn(log(spawn({}, ["a"], {"a": "a", "b": "b"})))
+        self.judge("no step make-a cause output-unlisted b\n")
+
+    def test_sources_below_bazel_out_are_told(self):
+        self.turn(log(spawn({"bazel-out/a b": "1", "c": "2"}, ["d"])))
+        self.assertEqual(self.lines("taken"), ["bazel-out/a%20b"])
+
+    def test_two_spawns_may_list_an_output_that_one_made(self):
+        self.turn(log(spawn({}, ["a", "x"], {"a": "a"}), spawn({}, ["x"])))
+        self.judge("yes ")
+
+    def test_a_timeout_may_be_dropped(self):
+        self.turn(log(spawn({}, ["a"], timeoutMillis="1000")), "--drop-timeouts")
+        self.judge("yes ")
+
+
+class Artifacts(Case):
+    BUILD = log(spawn({}, ["bin/t"], {"bin/t/x": "1", "bin/t/y": "2"}), spawn({}, ["bin/a"]), spawn({}, ["lib/b"]))
+
+    def root(self, *words):
+        plan = self.turn(self.BUILD, *words)
+        return [it.split()[1] for it in plan[plan.index("root") + 1:]]
+
+    def ship(self, contents):
+        for path, content in contents.items():
+            os.makedirs(os.path.dirname(self.at("shipped", path)), exist_ok=True)
+            with open(self.at("shipped", path), "w", encoding="utf-8") as out:
+                out.write(content)
+            os.chmod(self.at("shipped", path), 0o555)
+
+    def test_patterns_choose_the_outputs(self):
+        self.assertEqual(self.root(), ["bin/a", "bin/t", "lib/b"])
+        self.assertEqual(self.root("--outputs", "bin/*"), ["bin/a", "bin/t"])
+        self.assertEqual(self.root("--outputs", "bin/t/[x]", "lib/?"), ["bin/t/x", "lib/b"])
+        self.assertEqual(self.root("--below", "bin"), ["a", "t"])
+        self.assertEqual(self.root("--outputs", "*/t", "--below", "bin/"), ["t"])
+        self.judge("yes ")
+
+    def test_a_folder_on_disk_is_claimed(self):
+        self.ship({"a": "bin/a", "t/x": "1"})
+        self.assertEqual(self.root("--below", "bin", "--artifact", self.at("shipped")), ["a", "t/x"])
+        self.judge("yes ")
+        self.ship({"t/y": "2"})
+        self.assertEqual(self.root("--outputs", "bin/*", "--below", "bin", "--artifact", self.at("shipped")), ["a", "t"])
+        self.judge("yes ")
+
+    def test_a_folder_that_is_unlike_the_build_is_a_no(self):
+        self.ship({"bin/a": "other"})
+        self.assertEqual(self.root("--artifact", self.at("shipped")), ["bin/a"])
+        self.judge("no root cause root-differs ")
+
+    def test_a_file_that_may_not_be_run_is_another(self):
+        self.ship({"bin/a": "bin/a"})
+        os.chmod(self.at("shipped", "bin/a"), 0o444)
+        self.root("--artifact", self.at("shipped"))
+        self.judge("no root cause root-differs ")
+
+    def test_what_no_spawn_made_is_refused(self):
+        self.ship({"bin/new": "1"})
+        self.refuse('"bin/new" in the build, and no spawn of the log made it', self.BUILD, "--artifact", self.at("shipped"))
+
+    def test_empty_folders_are_refused(self):
+        self.ship({"bin/a": "bin/a"})
+        os.mkdir(self.at("shipped", "bin", "none"))
+        self.refuse('the folder "bin/none/" of the artifact is empty', self.BUILD, "--artifact", self.at("shipped"))
+
+    def test_links_on_disk_are_links(self):
+        os.makedirs(self.at("shipped", "bin"))
+        os.symlink("elsewhere", self.at("shipped", "bin", "a"))
+        self.root("--artifact", self.at("shipped"))
+        self.judge("no root cause root-differs ")
+
+    def test_names_and_targets_without_utf8_are_refused(self):
+        self.ship({"bin/a": "bin/a"})
+        os.symlink(b"\xff", os.fsencode(self.at("shipped", "bin", "link")))
+        self.refuse('"bin/link" of the artifact is a link whose target', self.BUILD, "--artifact", self.at("shipped"))
+        os.remove(self.at("shipped", "bin", "link"))
+        os.rename(self.at("shipped", "bin", "a"), os.fsencode(self.at("shipped", "bin")) + b"/\xff")
+        self.refuse("which is no UTF-8, or too long", self.BUILD, "--artifact", self.at("shipped"))
+
+    def test_what_is_no_file_is_refused(self):
+        os.mkdir(self.at("shipped"))
+        os.mkfifo(self.at("shipped", "pipe"))
+        self.refuse('"pipe" of the artifact is no file, folder or link', self.BUILD, "--artifact", self.at("shipped"))
+
+    def test_patterns_without_outputs_are_refused(self):
+        self.refuse('no output of the log has the pattern "x*"', self.BUILD, "--outputs", "x*", "bin/*")
+        self.refuse("no output of the log is in the artifact", self.BUILD, "--below", "none")
+        self.refuse('the output "lib/b" doesn\'t lie below "bin"', self.BUILD, "--outputs", "*/b", "--below", "bin")
+        self.refuse("'../x' is no path below", self.BUILD, "--below", "../x")
+
+
+def readers_of(spawns, path):
+    return [it for it in spawns if any(file["path"] == path for file in it["inputs"])]
+
+
+def contents(folder):
+    """What stands at each path of a folder."""
+    found = {}
+    for above, _, names in os.walk(folder):
+        for path in (os.path.join(above, name) for name in names):
+            with open(path, "rb") as it:
+                found[os.path.relpath(path, folder)] = it.read()
+    return found
+
+
+class KeptLog(Case):
+    """A log of Bazel 4.2.3 for //pages:counts of examples/bazel, and what was made of it (see docs/VERIFY_BAZEL.md)."""
+
+    WORDS = ["--outputs", "*/counts.txt", "*/site", "--below", "bazel-out/k8-fastbuild/bin/pages"]
+
+    def test_it_is_turned_into_the_kept_files(self):
+        with open(os.path.join(HERE, "data", "counts.json"), encoding="utf-8") as it:
+            self.turn(it.read(), *self.WORDS)
+        self.assertEqual(contents(self.at("asked")), contents(os.path.join(HERE, "data", "counts")))
+        self.judge("yes 433064578c7792a6a4efc4b6f20749fb2d32ec50b442ef364fadd095453fd7df/165 steps 7\n")
+
+    def spawns(self):
+        with open(os.path.join(HERE, "data", "counts.json"), encoding="utf-8") as it:
+            return [value for _, value in bazel_plan.objects(it.read())]
+
+    def test_each_input_changed_in_turn(self):
+        made = {file["path"] for it in self.spawns() for file in it["actualOutputs"]}
+        for index, spawn_read in enumerate(self.spawns()):
+            for path in {file["path"] for file in spawn_read["inputs"]}:
+                spawns = self.spawns()
+                for file in spawns[index]["inputs"]:
+                    if file["path"] == path:
+                        file["digest"] = named("changed")
+                self.turn(log(*spawns), *self.WORDS)
+                if path not in made and len(readers_of(spawns, path)) == 1:
+                    self.judge("yes ")
+                else:
+                    self.judge("no step ", f" cause input-differs {bazel_plan.escaped(path)}\n")
+                shutil.rmtree(self.at("asked"))
+
+    def test_each_output_changed_in_turn(self):
+        for index, spawn_made in enumerate(self.spawns()):
+            for place, file in enumerate(spawn_made["actualOutputs"]):
+                spawns, path = self.spawns(), file["path"]
+                spawns[index]["actualOutputs"][place]["digest"] = named("changed")
+                self.turn(log(*spawns), *self.WORDS)
+                if readers_of(spawns, path):
+                    self.judge("no step ", f" cause input-differs {bazel_plan.escaped(path)}\n")
+                else:
+                    self.judge("yes ")
+                    self.assertEqual(self.lines("claim")[0].startswith("433064"), not path.endswith("/counts.txt"))
+                shutil.rmtree(self.at("asked"))
+
+
+class Refusals(Case):
+    def test_the_line_and_the_spawn_are_named(self):
+        text = log(spawn({}, ["a"])) + "\n"
+        line = text.count("\n") + 1
+        self.refuse(f'log": line {line}: spawn "Making b": it has a timeout of 5 ms', text + log(spawn({}, ["b"], timeoutMillis="5")))
+
+    def test_spawns(self):
+        rows = [
+            ("it has no program to run", dict(commandArgs=[])),
+            ("it has no program to run", dict(commandArgs=["", "a"])),
+            ("its argument 'a\\x00' has a NUL", dict(commandArgs=["a\0"])),
+            ("its argument '\\ud800' has a NUL, or is no UTF-8", dict(commandArgs=["\ud800"])),
+            ("its variable 'A=' is without a name", dict(environmentVariables=[{"name": "A=", "value": "1"}])),
+            ('its variable "A" is set twice', dict(environmentVariables=[{"name": "A", "value": "1"}, {"name": "A", "value": "2"}])),
+            ('the property "p" twice', dict(platform={"properties": [{"name": "p", "value": "1"}] * 2})),
+            ("property 'p' has a NUL", dict(platform={"properties": [{"name": "p", "value": "\0"}]})),
+            ("it lists the output '/a'", dict(listedOutputs=["/a"])),
+            ("it lists the output 'a/../b'", dict(listedOutputs=["a/../b"])),
+            ('"a/b", which lies under "a"', dict(listedOutputs=["a", "a/b"])),
+            ('its input "a\\nb" has no digest', dict(inputs=[{"path": "a\nb"}])),
+            ("its exit code 2147483648 has more than 32 bits", dict(exitCode=2**31)),
+            ('its status is "TIMEOUT", and its exit code 0', dict(status="TIMEOUT")),
+            ('it has a field "extra"', dict(extra=1)),
+            ("not as Bazel writes a spawn", dict(commandArgs=7)),
+            ("not as Bazel writes a spawn", dict(timeoutMillis="soon")),
+            ("not as Bazel writes a spawn", dict(exitCode=0.5)),
+            ("not as Bazel writes a spawn", dict(cacheable="yes")),
+            ("it has the input 'a//b'", dict(inputs=files({"a//b": ""}))),
+            ("it has the input '" + "n/" * 64 + "n'", dict(inputs=files({"n/" * 64 + "n": ""}))),
+            ('it has the input "a" twice, and not the same', dict(inputs=files({"a": "1"}) + files({"a": "2"}))),
+            ('its input "a/b" lies under another one, or above it', dict(inputs=files({"a": "1", "a/b": "2"}))),
+            ('its input "a" has no digest', dict(inputs=[{"path": "a"}])),
+            ('its output "a" has no digest', dict(actualOutputs=[{"path": "a", "digest": {"hash": "A" * 64}}])),
+            ('its input "a" has a digest of BLAKE3', dict(inputs=[{"path": "a", "digest": {"hashFunctionName": "BLAKE3"}}])),
+            ('its input "a" has a field "mode"', dict(inputs=[{"path": "a", "mode": 1}])),
+            ('its output "a" is a link whose target', dict(actualOutputs=[{"path": "a", "symlinkTargetPath": "x" * 4097}])),
+            ('it made "a/b", and line', dict(actualOutputs=files({"a": "1", "a/b": "2"}))),
+        ]
+        for reason, other in rows:
+            with self.subTest(reason):
+                self.refuse(reason, log(spawn({}, ["ok"]), dict(spawn({}, ["a"]), **other)))
+
+    def test_texts_that_are_no_log(self):
+        self.refuse("line 2: no JSON object begins here that ends", "\n{")
+        self.refuse("line 1: this is no spawn, but another JSON value", "[]")
+        self.refuse("no output of the log is in the artifact", "")
+
+    def test_an_output_that_two_spawns_made(self):
+        self.refuse('it made the output "a", and so did line 1: spawn "Making a"', log(spawn({}, ["a"]), spawn({"x": ""}, ["a"])))
+
+    def test_a_test_that_did_not_fail_has_one_run(self):
+        runs = [spawn({}, ["a"], {"a": it}, commandArgs=[it], mnemonic="TestRunner") for it in "12"]
+        self.refuse('it made the output "a", and so did', log(*runs))
+
+    def test_a_spawn_that_ran_twice_and_came_to_two_outcomes(self):
+        self.refuse("the same command with the same inputs made other outputs than at line 1", log(spawn({}, ["a"]), spawn({}, ["a"], {"a": "2"})))
+        self.refuse("failed, and at line 1 it didn't", log(spawn({}, ["a"]), spawn({}, ["a"], exitCode=1)))
+
+    def test_a_store_that_has_another_result(self):
+        self.turn(log(spawn({}, ["a"])), "--store", self.at("store"))
+        self.turn(log(spawn({}, ["a"]), spawn({}, ["b"])), "--store", self.at("store"))
+        shutil.rmtree(self.at("asked"))
+        text = log(spawn({}, ["c"]), spawn({}, ["a"], {"a": "other"}))
+        self.refuse('spawn "Making a": the store has another result of its action', text, "--store", self.at("store"))
+
+    def test_an_output_that_is_read_and_was_not_made(self):
+        self.refuse('it reads "t/x", which line 1: spawn "Making t" lists and, by the log, didn\'t make', log(spawn({}, ["t"], {}), spawn({"t/x": ""}, ["b"])))
+
+    def test_a_circle(self):
+        self.refuse("it reads what it makes itself", log(spawn({"b": "b"}, ["a"]), spawn({"a": "a"}, ["b"])))
+        self.refuse("it reads what it makes itself", log(spawn({"a": "a"}, ["a"])))
+
+    def test_sources_that_overlap(self):
+        for first, then in (("a", "a/b"), ("a/b", "a")):
+            self.refuse(f'its input "{then}" lies under or above one', log(spawn({first: "1"}, ["x"]), spawn({then: "1"}, ["y"])))
+
+    def test_a_directory_that_two_spawns_made(self):
+        text = log(spawn({}, ["t"], {"t/a": "1"}), spawn({"x": ""}, ["t"], {"t/b": "1"}))
+        self.refuse('it made files in the output "t", and so did line 1: spawn "Making t"', text)
+
+    def test_outputs_of_two_spawns_that_overlap(self):
+        self.refuse('it made "a/b", and line 1: spawn "Making a" made "a"', log(spawn({}, ["a"]), spawn({}, ["a/b"])))
+        self.refuse('"a/b" of the artifact lies under "a", another output', log(spawn({}, ["a"], {"a/x": "1"}), spawn({}, ["a/b"])))
+
+    def test_limits(self):
+        steps = log(*(spawn({}, [f"o{it}"]) for it in range(bazel_plan.MOST_STEPS + 1)))
+        self.refuse('spawn "Making o4096": 4096 steps stand before it', steps)
+        inputs = {f"i{it}": "" for it in range(bazel_plan.MOST_LINES + 1)}
+        self.refuse("it has 65537 inputs, and a step has 65536 lines at most", log(spawn(inputs, ["a"])))
+        whole = spawn({}, ["a"], {f"a/{it}": "" for it in range(bazel_plan.MOST_LINES + 1)})
+        self.refuse("put together from 65537 outputs", log(whole), "--outputs", "a/*")
+        self.refuse("bytes, and `verify` reads 16777216 at most", log(spawn({}, ["a"], commandArgs=["x" * bazel_plan.MOST_BYTES])))
+
+    def test_files_that_cannot_be_read(self):
+        for words in (["none", "asked"], [__file__, "asked", "--artifact", "none"]):
+            err = io.StringIO()
+            with contextlib.redirect_stderr(err):
+                self.assertEqual(bazel_plan.main([self.at(words[0]), *words[1:2], *words[2:]]), 3)
+            self.assertIn("error: ", err.getvalue())
+
+
+if __name__ == "__main__":
+    unittest.main()

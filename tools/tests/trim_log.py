@@ -1,0 +1,23 @@
+#!/usr/bin/env python3
+"""Writes Bazel's execution log without what a plan doesn't need, a spawn a line: trim_log.py LOG OUTPUT_BASE.
+
+OUTPUT_BASE is what `bazel info output_base` says; /bazel is written in its place."""
+
+import json
+import os
+import sys
+
+sys.path.insert(0, os.path.join(os.path.dirname(os.path.realpath(__file__)), ".."))
+
+import bazel_plan  # noqa: E402
+
+
+def main(log, base):
+    with open(log, encoding="utf-8") as it:
+        text = it.read().replace(base, "/bazel")
+    for _, value in bazel_plan.objects(text):
+        print(json.dumps({key: it for key, it in value.items() if key in bazel_plan.SPAWN_FIELDS}))
+
+
+if __name__ == "__main__":
+    main(*sys.argv[1:])
