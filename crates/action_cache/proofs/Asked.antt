@@ -1,12 +1,12 @@
 -- What a list of asks leaves.
-use Rattle.std.proofs.Common.{◌≡◌, ℕ, ◌≤◌, Bool, true, false, cond, not, ◌&&◌, List, [], ◌∷◌, ◌++◌, bytes_eq, Option, Some, None, is_some, is_none, unwrap_or, refl, ap, sym, ◌∙◌, subst, arith}
-use Rattle.std.specs.List.{find, list_any, fold, AllByRecursion, IsDistinct}
+use Rattle.std.proofs.Common.{◌≡◌, ℕ, true, false, cond, not, List, [], ◌∷◌, ◌++◌, Option, Some, None, is_some, is_none, refl, sym, ◌∙◌, subst, arith}
+use Rattle.std.specs.List.{find, AllByRecursion, IsDistinct}
 use Rattle.blob_digest.specs.DigestValue.{DigestValue}
 use Rattle.action_cache.specs.References.{Reference, Reader, is_held, files_of, fault_of, fault_in_tree, first_of, refers, is_complete, outputs_of, first_fault}
 use Rattle.action_cache.specs.Machine.{CacheState, Answer, Marked, given, nothing, opened, under, found, result_used, got_result, get_result}
-use Rattle.action_cache.specs.Asking.{CacheAsk, Unpin, after_ask, after, IsWhole, AreWhole, StaysPinned, IsWithin}
-use Rattle.action_cache.proofs.Keeping.{both_true, all_under, same_complete, same_refers_to, wanted_under, is_wanted}
-use Rattle.action_cache.proofs.Leading.{IsSound, Leads, leads_ask, stays_ask, used_found}
+use Rattle.action_cache.specs.Asking.{CacheAsk, Unpin, after_ask, after, IsWhole, AreWhole, StaysPinned}
+use Rattle.action_cache.proofs.Keeping.{both_true, all_under, same_complete, same_refers_to, wanted_under}
+use Rattle.action_cache.proofs.Leading.{IsSound, leads_ask, stays_ask, used_found}
 
 module _ (reader : Reader) where
   -- ---- complete results, in words
@@ -92,9 +92,9 @@ module _ (reader : Reader) where
       by None e = absurd cc
       by (Some r) e = (elim (is_complete (found reader s) reader r.bytes) as (λ y. is_complete (found reader s) reader r.bytes ≡ y
           → (cond {A = Answer × CacheState} y (given r.bytes, result_used reader s h r.bytes) (nothing, s)).0 ≡ given bytes → AreWhole reader (cond {A = Answer × CacheState} y (given r.bytes, result_used reader s h r.bytes) (nothing, s)).1 bytes) [
-        | true ↦ λ c g.
-            let same : r.bytes ≡ bytes = cc in
-            let t = result_used reader s h r.bytes in
-            subst (AreWhole reader t) same (complete_whole t r.bytes (same_complete reader (found reader s) (found reader t) r.bytes (λ b w. used_found reader s k h r.bytes b) ∙ c))
-        | false ↦ λ c g. absurd cc
-      ]) refl e
+            | true ↦ λ c g.
+                let same : r.bytes ≡ bytes = cc in
+                let t = result_used reader s h r.bytes in
+                subst (AreWhole reader t) same (complete_whole t r.bytes (same_complete reader (found reader s) (found reader t) r.bytes (λ b w. used_found reader s k h r.bytes b) ∙ c))
+            | false ↦ λ c g. absurd cc
+          ]) refl e

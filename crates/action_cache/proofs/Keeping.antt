@@ -1,24 +1,22 @@
 -- Each ask keeps pinned results, and what they refer to.
-use Rattle.std.proofs.Common.{◌≡◌, ℕ, ◌+◌, ◌≤◌, Bool, true, false, cond, not, ◌&&◌, ◌||◌, List, [], ◌∷◌, ◌++◌, map, length, bytes_eq, Option, Some, None, is_some, is_none, option_map, refl, ap, sym, ◌∙◌, subst, arith}
-use Rattle.std.specs.List.{filter, list_any, fold, AllByRecursion, IsDistinct}
-use Rattle.std.specs.Map.{keys_of, lookup}
-use Rattle.std.specs.Option.{option_map_or}
+use Rattle.std.proofs.Common.{◌≡◌, ℕ, Bool, true, false, cond, not, ◌&&◌, ◌||◌, List, [], ◌∷◌, ◌++◌, bytes_eq, Option, Some, None, is_some, is_none, refl, ap, sym, ◌∙◌, subst}
+use Rattle.std.specs.List.{filter, list_any, AllByRecursion, IsDistinct}
+use Rattle.std.specs.Map.{keys_of}
 use Rattle.std.specs.Cmp.Lexicographic.{nat_list_eq_equiv}
 use Rattle.std.proofs.lemmas.Slice.Eq.{bytes_eq-Decides}
 use Rattle.std.proofs.lemmas.Map.{NonePasses}
 use Rattle.std.proofs.lemmas.Map.Keys.{IsDistinct-head, IsDistinct-tail, IsDistinct-cons}
 use Rattle.std.proofs.lemmas.Map.Entries.{none_past_head, lookup-filter-keys}
-use Rattle.blob_digest.specs.DigestValue.{DigestValue}
 use Rattle.eviction.specs.Kept.{total}
 use Rattle.eviction.specs.Entering.{spared_last}
 use Rattle.eviction.proofs.Distinct.{filter_distinct}
 use Rattle.eviction.proofs.Looks.{option_or, lookup-append}
 use Rattle.blob_store.proofs.BlobLemmas.{all_filter, all_both}
 use Rattle.action_cache.specs.References.{Reader, names_hash, refers, is_complete, references, outputs_of, first_fault}
-use Rattle.action_cache.specs.Machine.{CacheState, Marked, Answer, under, others_than, fronted, found, blob_is_pinned, with_blobs, with_results, blobs_entered, results_entered, marked}
+use Rattle.action_cache.specs.Machine.{Marked, under, others_than, fronted}
 use Rattle.action_cache.proofs.Agreeing.{agrees, same_first_fault, same_references}
 use Rattle.action_cache.proofs.Pinning.{complete_held}
-use Rattle.action_cache.proofs.Thinning.{total-append, total_parts, filter_shorter, Enters, enters, thins_last, thins_all, thins_distinct, thins_keys, pinned_found, all_found}
+use Rattle.action_cache.proofs.Thinning.{total-append, total_parts, thins_last, thins_distinct, thins_keys}
 
 -- ---- tests
 
@@ -158,9 +156,10 @@ module _ (reader : Reader) (f g : List ℕ → Option (List ℕ)) where
   -- blobs that pinned results want stay: so the results stay whole
   pub still_whole : (rs : List (List ℕ × Marked)) → ((b : List ℕ) → is_wanted reader f rs b ≡ true → g b ≡ f b) → ArePinnedWhole reader f rs → ArePinnedWhole reader g rs
   still_whole [] on a = tt
-  still_whole (r ∷ rs) on a =
-      (λ p. same_complete r.1.bytes (λ b t. on b (or_left (r.1.pinned && refers f reader r.1.bytes b) (is_wanted reader f rs b) (and_true r.1.pinned (refers f reader r.1.bytes b) p t))) ∙ a.0 p,
-      still_whole rs (λ b t. on b (or_right (r.1.pinned && refers f reader r.1.bytes b) (is_wanted reader f rs b) t)) a.1)
+  still_whole (r ∷ rs) on a = (
+    λ p. same_complete r.1.bytes (λ b t. on b (or_left (r.1.pinned && refers f reader r.1.bytes b) (is_wanted reader f rs b) (and_true r.1.pinned (refers f reader r.1.bytes b) p t))) ∙ a.0 p,
+    still_whole rs (λ b t. on b (or_right (r.1.pinned && refers f reader r.1.bytes b) (is_wanted reader f rs b) t)) a.1,
+  )
 
 module _ (reader : Reader) (f : List ℕ → Option (List ℕ)) where
   pub wanted_under : (h : List ℕ) (r : Marked) (b : List ℕ) (rs : List (List ℕ × Marked)) → under h rs ≡ Some r → r.pinned ≡ true → refers f reader r.bytes b ≡ true → is_wanted reader f rs b ≡ true

@@ -1,9 +1,8 @@
 -- From state to state by one ask, and by a list of them.
-use Rattle.std.proofs.Common.{◌≡◌, ℕ, ◌+◌, ◌≤◌, Bool, true, false, cond, not, ◌&&◌, ◌||◌, nat_lt, List, [], ◌∷◌, ◌++◌, map, length, bytes_eq, Option, Some, None, is_some, is_none, option_map, unwrap_or, refl, ap, sym, ◌∙◌, subst, arith}
-use Rattle.std.specs.List.{filter, find, list_any, fold, AllByRecursion, IsDistinct}
-use Rattle.std.specs.Map.{keys_of, lookup}
+use Rattle.std.proofs.Common.{◌≡◌, ℕ, ◌+◌, ◌≤◌, Bool, true, false, cond, not, ◌&&◌, nat_lt, List, [], ◌∷◌, map, length, bytes_eq, Option, Some, None, is_some, option_map, refl, ap, sym, ◌∙◌, subst}
+use Rattle.std.specs.List.{fold, AllByRecursion, IsDistinct}
+use Rattle.std.specs.Map.{keys_of}
 use Rattle.std.specs.Option.{option_map_or}
-use Rattle.std.specs.Cmp.Lexicographic.{nat_list_eq_equiv}
 use Rattle.std.proofs.lemmas.Slice.Eq.{bytes_eq-Decides}
 use Rattle.sha2.specs.Sha256.{sha256}
 use Rattle.blob_digest.specs.DigestValue.{DigestValue}
@@ -11,11 +10,11 @@ use Rattle.blob_digest.specs.Body.{greatest_blob}
 use Rattle.eviction.specs.Kept.{total}
 use Rattle.eviction.specs.Entering.{spared_last}
 use Rattle.blob_store.proofs.BlobLemmas.{all_filter}
-use Rattle.action_cache.specs.References.{Reference, Reader, is_held, files_of, digests_of, fault_of, fault_in_tree, first_of, refers, is_complete, references, outputs_of, first_fault}
-use Rattle.action_cache.specs.Machine.{CacheState, Marked, Answer, done, given, nothing, refused, too_large, hash_differs, pinned_differs, bad_result, not_pinned, full, why_incomplete, opened, under, others_than, fronted, found, blob_is_pinned, with_blobs, with_results, blobs_entered, results_entered, or_full, blob_stored, put_blob, got_blob, get_blob, result_used, got_result, get_result, differs_pinned, put_result, marked, pinned_now, pin, unpinned_now, unpin}
-use Rattle.action_cache.specs.Asking.{CacheAsk, PutBlob, GetBlob, PutResult, GetResult, Pin, Unpin, after_ask, after, IsWhole, AreWhole, StaysPinned, IsWithin}
+use Rattle.action_cache.specs.References.{Reader, is_complete, references, outputs_of}
+use Rattle.action_cache.specs.Machine.{CacheState, Marked, Answer, done, given, nothing, refused, too_large, hash_differs, pinned_differs, bad_result, not_pinned, why_incomplete, under, others_than, fronted, found, blob_is_pinned, with_blobs, with_results, blobs_entered, results_entered, or_full, blob_stored, put_blob, got_blob, get_blob, result_used, got_result, get_result, differs_pinned, put_result, marked, pinned_now, pin, unpinned_now, unpin}
+use Rattle.action_cache.specs.Asking.{CacheAsk, PutBlob, GetBlob, PutResult, GetResult, Pin, Unpin, after_ask, IsWithin}
 use Rattle.action_cache.proofs.Thinning.{filter_shorter, Enters, enters, thins_last, thins_all, pinned_found, all_found}
-use Rattle.action_cache.proofs.Keeping.{both_true, under_fronted, under_others, all_under, each_under, fronted_distinct, fronted_all, fronted_total, entered_distinct, is_wanted, ArePinnedWhole, same_complete, same_refers_to, still_whole, wanted_under, wanted_held}
+use Rattle.action_cache.proofs.Keeping.{under_fronted, under_others, all_under, each_under, fronted_distinct, fronted_all, fronted_total, entered_distinct, is_wanted, ArePinnedWhole, still_whole, wanted_held}
 
 module _ (reader : Reader) where
   -- what holds of each state that a cache comes to
@@ -132,7 +131,7 @@ module _ (reader : Reader) where
         got None = λ r u p. u
         got (Some b) = λ r u p. u
 
-  -- ---- results
+    -- ---- results
 
     results_change : (rs : List (List ℕ × Marked)) → IsDistinct bytes_eq (keys_of rs) → ArePinnedWhole reader (found reader s) rs
         → total (λ r. length r.1.bytes + 64) rs ≤ s.result_limit → Leads s (with_results reader s rs)
@@ -269,9 +268,9 @@ module _ (reader : Reader) where
     under_marked on h q [] r e = absurd cc
     under_marked on h q (x ∷ rs) r e = (elim (bytes_eq q x.0) as (λ y. bytes_eq q x.0 ≡ y → cond y (Some x.1) (under q rs) ≡ Some r
         → cond y (Some (let m : Marked = record { bytes = x.1.bytes; pinned = cond (bytes_eq h x.0) on x.1.pinned } in m)) (under q (map (λ (z : List ℕ × Marked). (z.0, let m : Marked = record { bytes = z.1.bytes; pinned = cond (bytes_eq h z.0) on z.1.pinned } in m)) rs)) ≡ Some (record { bytes = r.bytes; pinned = cond (bytes_eq h q) on r.pinned })) [
-      | true ↦ λ t u. let same : x.1 ≡ r = cc in λ i. Some (let m : Marked = record { bytes = (same i).bytes; pinned = cond (bytes_eq h (sym ((bytes_eq-Decides q x.0).0 t) i)) on (same i).pinned } in m)
-      | false ↦ λ t u. under_marked on h q rs r u
-    ]) refl e
+          | true ↦ λ t u. let same : x.1 ≡ r = cc in λ i. Some (let m : Marked = record { bytes = (same i).bytes; pinned = cond (bytes_eq h (sym ((bytes_eq-Decides q x.0).0 t) i)) on (same i).pinned } in m)
+          | false ↦ λ t u. under_marked on h q rs r u
+        ]) refl e
 
     leads_marked : (on : Bool) (h : List ℕ) → ArePinnedWhole reader (found reader s) (marked reader s on h) → Leads s (with_results reader s (marked reader s on h))
     leads_marked on h w = results_change (marked reader s on h) (subst (IsDistinct bytes_eq) (sym (marked_keys on h s.results)) k.distinct) w (subst (λ n. n ≤ s.result_limit) (sym (marked_total on h s.results)) k.within.results)

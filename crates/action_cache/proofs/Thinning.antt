@@ -1,16 +1,13 @@
 -- To give up entries that are not pinned thins a list, and leaves each pinned one found.
-use Rattle.std.proofs.Common.{◌≡◌, ℕ, zero, suc, ◌+◌, ◌≤◌, Bool, true, false, cond, not, List, [], ◌∷◌, ◌++◌, reverse, length, bytes_eq, Option, Some, None, refl, ap, sym, ◌∙◌, subst, arith, ◌⊎◌, inl, inr}
+use Rattle.std.proofs.Common.{◌≡◌, ℕ, zero, suc, ◌+◌, ◌≤◌, Bool, true, false, cond, not, List, [], ◌∷◌, ◌++◌, reverse, length, bytes_eq, Some, None, refl, ap, sym, ◌∙◌, subst, arith, ◌⊎◌, inl, inr}
 use Rattle.std.specs.List.{filter, AllByRecursion, IsDistinct}
 use Rattle.std.specs.Map.{keys_of, lookup}
-use Rattle.std.specs.Cmp.Lexicographic.{nat_list_eq_equiv}
 use Rattle.std.proofs.lemmas.List.{length-reverse, reverse-reverse}
 use Rattle.std.proofs.lemmas.Map.Keys.{IsDistinct-head, IsDistinct-tail, IsDistinct-cons}
-use Rattle.std.proofs.lemmas.Map.{NonePasses, lookup-none}
-use Rattle.std.proofs.lemmas.Map.Entries.{none_past_head}
 use mathlib.Core.List.{reverse_aux}
 use Rattle.eviction.specs.Kept.{total}
-use Rattle.eviction.specs.Entering.{least, spared, spared_last, has_room, fits, given_up_for, enter}
-use Rattle.eviction.proofs.Choices.{least_passes, le_is, is_le}
+use Rattle.eviction.specs.Entering.{spared, spared_last, has_room, fits, given_up_for, enter}
+use Rattle.eviction.proofs.Choices.{least_passes, is_le}
 use Rattle.eviction.proofs.Filters.{filter-reverse}
 
 -- ---- costs

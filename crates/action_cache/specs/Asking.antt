@@ -1,5 +1,5 @@
 -- What is asked of a cache, one ask after another, and what holds however long that goes on.
-use Rattle.std.specs.Prelude.{◌≡◌, ℕ, ◌+◌, ◌≤◌, true, List, [], length, Some, None}
+use Rattle.std.specs.Prelude.{◌≡◌, ℕ, ◌+◌, ◌≤◌, true, List, length, Some}
 use Rattle.std.specs.List.{fold, AllByRecursion}
 use Rattle.eviction.specs.Kept.{total}
 use Rattle.blob_digest.specs.DigestValue.{DigestValue}

@@ -30,13 +30,13 @@ pub fn caches_keep_what_is_pinned()
         → r.pinned ≡ true
         → AllByRecursion (λ ask. ask ≡ Unpin h → ⊥) later
         → StaysPinned reader (after reader (opened limit result_limit) before)
-            (after reader (opened limit result_limit) (before ++ later)) h r }
+        (after reader (opened limit result_limit) (before ++ later)) h r }
     // All to which an answered result refers is held when it is answered.
     ensures whole { (reader : Reader) (limit result_limit : ℕ) (asks : List CacheAsk)
         (h bytes : List ℕ)
         → (get_result reader (after reader (opened limit result_limit) asks) h).0 ≡ given bytes
         → AreWhole reader (get_result reader (after reader (opened limit result_limit) asks) h).1
-            bytes }
+        bytes }
     // Costs stay within the limits.
     ensures within { (reader : Reader) (limit result_limit : ℕ) (asks : List CacheAsk)
         → IsWithin (after reader (opened limit result_limit) asks) }
