@@ -1,5 +1,5 @@
 -- A run over one connection.
-use Rattle.std.proofs.Common.{◌≡◌, ◌≢◌, ℕ, ◌⊎◌, inl, inr, Option, Some, None, List, [], ◌∷◌, ◌++◌, take, drop, refl, sym, ◌∙◌, ap, subst, append_assoc, take-append-drop, arith}
+use Rattle.std.proofs.Common.{◌≡◌, ℕ, inl, inr, Option, Some, None, List, [], ◌++◌, take, refl, sym, ◌∙◌, ap, subst, append_assoc}
 use Rattle.std.proofs.lemmas.List.{append-nil}
 use Rattle.std.specs.Io.KnownBytes.{Appends, Consumes, Keeps, IsAtEnd}
 use Rattle.std.proofs.KnownBytes.{Appends-nil, Appends-trans, Consumes-nil, Consumes-trans, Consumes-kept}
@@ -10,7 +10,7 @@ use Rattle.http_core.proofs.Cutting.{cut_within, HasMore, empty_partial}
 use Rattle.cache_server.specs.Cache.{CacheValue}
 use Rattle.cache_server.specs.Serving.{Serves}
 use Rattle.cache_server.specs.Writing.{TellsAll, TellsSome}
-use Rattle.cache_server.specs.Connection.{IsAnswered, Runs, RunsSome, Exchanges, ExchangesSome}
+use Rattle.cache_server.specs.Connection.{Runs, RunsSome, Exchanges, ExchangesSome}
 use Rattle.cache_server.proofs.Serving.{serves_none, serves_join}
 use Rattle.cache_server.proofs.Telling.{appends_kept}
 
@@ -32,9 +32,17 @@ pub unfed : (session : SessionValue) (stream : List ℕ) (before : List EventVal
 unfed session stream before cache written piece s =
     let c : (left : Option (List ℕ)) × Cuts session.prefix stream before left = stands_cut session stream before s in
     record {
-      front = []; rest = piece; done = []; told = []; lost = []; left = c.0; whole = refl;
+      front = [];
+      rest = piece;
+      done = [];
+      told = [];
+      lost = [];
+      left = c.0;
+      whole = refl;
       cut = subst (λ z. Cuts session.prefix z (before ++ []) c.0) (sym (append-nil stream)) (subst (λ z. Cuts session.prefix stream z c.0) (sym (append-nil before)) c.1);
-      served = serves_none cache; appends = Appends-nil written }
+      served = serves_none cache;
+      appends = Appends-nil written;
+    }
 
 -- a piece in whose answers memory ran out, or that can't be answered
 pub unanswered : (old new : SessionValue) (stream : List ℕ) (before events : List EventValue) (cache after : CacheValue) (written more : Option (List ℕ)) (piece : List ℕ)
@@ -46,8 +54,17 @@ unanswered old new stream before events cache after written more piece same s t 
     let e : Cuts old.prefix (stream ++ piece) (before ++ (some.done ++ some.others)) d.0 = subst (λ z. Cuts old.prefix (stream ++ piece) (before ++ z) d.0) some.whole (subst (λ z. Cuts z (stream ++ piece) (before ++ events) d.0) same d.1) in
     let h : HasMore old.prefix stream piece (before ++ some.done) = cut_within old.prefix stream piece before some.done some.others c.0 d.0 c.1 e in
     record {
-      front = h.front; rest = h.rest; done = some.done; told = some.told; lost = some.lost; left = h.left; whole = h.whole; cut = h.cut;
-      served = some.served; appends = some.appends }
+      front = h.front;
+      rest = h.rest;
+      done = some.done;
+      told = some.told;
+      lost = some.lost;
+      left = h.left;
+      whole = h.whole;
+      cut = h.cut;
+      served = some.served;
+      appends = some.appends;
+    }
 
 -- a piece whose answers can't be flushed
 pub unflushed : (old new : SessionValue) (stream : List ℕ) (before events : List EventValue) (cache after : CacheValue) (written mid more : Option (List ℕ)) (piece : List ℕ)
@@ -56,17 +73,30 @@ pub unflushed : (old new : SessionValue) (stream : List ℕ) (before events : Li
 unflushed old new stream before events cache after written mid more piece same t all k =
     let d : (left : Option (List ℕ)) × Cuts new.prefix (stream ++ piece) (before ++ events) left = stands_cut new (stream ++ piece) (before ++ events) t in
     record {
-      front = piece; rest = []; done = events; told = all.text; lost = []; left = d.0; whole = sym (append-nil piece);
+      front = piece;
+      rest = [];
+      done = events;
+      told = all.text;
+      lost = [];
+      left = d.0;
+      whole = sym (append-nil piece);
       cut = subst (λ z. Cuts z (stream ++ piece) (before ++ events) d.0) same d.1;
       served = subst (λ z. Serves cache events z after) (sym (append-nil all.text)) all.served;
-      appends = appends_kept written mid more all.text all.appends k }
+      appends = appends_kept written mid more all.text all.appends k;
+    }
 
 -- a piece that is answered
 pub exchanged : (old new : SessionValue) (events : List EventValue) (cache after : CacheValue) (written mid more : Option (List ℕ)) (piece : List ℕ)
     → Feeds old piece events new → TellsAll cache events written mid after → Keeps mid more
     → Exchanges old cache written piece new after more
 exchanged old new events cache after written mid more piece feeds all k = record {
-    events = events; text = all.text; kept = feeds.prefix; stands = feeds.stands; served = all.served; appends = appends_kept written mid more all.text all.appends k }
+  events = events;
+  text = all.text;
+  kept = feeds.prefix;
+  stands = feeds.stands;
+  served = all.served;
+  appends = appends_kept written mid more all.text all.appends k;
+}
 
 -- so far
 pub record RunsOn (prefix : List ℕ) (old : CacheValue) (input input_left written_before written : Option (List ℕ)) (session : SessionValue) (now : CacheValue) : Type 0 where
@@ -86,9 +116,15 @@ pub runs_more : (prefix : List ℕ) (old : CacheValue) (input left more written_
     → RunsOn prefix old input left written_before written session now → Consumes left more piece → Exchanges session now written piece new after written_more
     → RunsOn prefix old input more written_before written_more new after
 runs_more prefix old input left more written_before written written_more session new now after piece r c x = record {
-    read = r.read ++ piece; text = r.text ++ x.text; before = r.before ++ x.events; same = x.kept ∙ r.same;
-    consumes = Consumes-trans input left more r.read piece r.consumes c; appends = Appends-trans written_before written written_more r.text x.text r.appends x.appends;
-    stands = x.stands r.read r.before r.stands; served = serves_join old now after r.before x.events r.text x.text r.served x.served }
+  read = r.read ++ piece;
+  text = r.text ++ x.text;
+  before = r.before ++ x.events;
+  same = x.kept ∙ r.same;
+  consumes = Consumes-trans input left more r.read piece r.consumes c;
+  appends = Appends-trans written_before written written_more r.text x.text r.appends x.appends;
+  stands = x.stands r.read r.before r.stands;
+  served = serves_join old now after r.before x.events r.text x.text r.served x.served;
+}
 
 pub runs_ended : (prefix : List ℕ) (old : CacheValue) (input left more written_before written : Option (List ℕ)) (session : SessionValue) (now : CacheValue) (count : ℕ) (buffer : List ℕ)
     → RunsOn prefix old input left written_before written session now → count ≡ 0 → Consumes left more (take count buffer) → IsAtEnd more → Runs prefix old input more written_before written now
@@ -96,8 +132,14 @@ runs_ended prefix old input left more written_before written session now count b
     let d : (rest : Option (List ℕ)) × Cuts session.prefix r.read r.before rest = stands_cut session r.read r.before r.stands in
     let e : Consumes left more [] = subst (λ n. Consumes left more (take n buffer)) zero_is c in
     record {
-      read = r.read; text = r.text; left = d.0; consumes = subst (Consumes input more) (append-nil r.read) (Consumes-trans input left more r.read [] r.consumes e); appends = r.appends;
-      answered = record { events = r.before; cut = subst (λ z. Cuts z r.read r.before d.0) r.same d.1; served = r.served }; stops = inl end }
+      read = r.read;
+      text = r.text;
+      left = d.0;
+      consumes = subst (Consumes input more) (append-nil r.read) (Consumes-trans input left more r.read [] r.consumes e);
+      appends = r.appends;
+      answered = record { events = r.before; cut = subst (λ z. Cuts z r.read r.before d.0) r.same d.1; served = r.served };
+      stops = inl end;
+    }
 
 pub runs_closed : (prefix : List ℕ) (old : CacheValue) (input left written_before written : Option (List ℕ)) (session : SessionValue) (now : CacheValue)
     → RunsOn prefix old input left written_before written session now → session.state ≡ Closed → Runs prefix old input left written_before written now
@@ -111,27 +153,47 @@ pub runs_stopped : (prefix : List ℕ) (old : CacheValue) (input left more writt
 runs_stopped prefix old input left more written_before written session now r kept =
     let c : (rest : Option (List ℕ)) × Cuts session.prefix r.read r.before rest = stands_cut session r.read r.before r.stands in
     record {
-      front = r.read; rest = []; told = r.text; lost = []; left = c.0;
-      consumes = subst (Consumes input more) (sym (append-nil r.read)) (Consumes-kept input left more r.read r.consumes kept); appends = r.appends;
-      answered = record { events = r.before; cut = subst (λ z. Cuts z r.read r.before c.0) r.same c.1; served = subst (λ z. Serves old r.before z now) (sym (append-nil r.text)) r.served } }
+      front = r.read;
+      rest = [];
+      told = r.text;
+      lost = [];
+      left = c.0;
+      consumes = subst (Consumes input more) (sym (append-nil r.read)) (Consumes-kept input left more r.read r.consumes kept);
+      appends = r.appends;
+      answered = record { events = r.before; cut = subst (λ z. Cuts z r.read r.before c.0) r.same c.1; served = subst (λ z. Serves old r.before z now) (sym (append-nil r.text)) r.served };
+    }
 
 -- given up within a piece
 pub runs_broken : (prefix : List ℕ) (old : CacheValue) (input left more written_before written written_more : Option (List ℕ)) (session : SessionValue) (now after : CacheValue) (piece : List ℕ)
     → (r : RunsOn prefix old input left written_before written session now) → Consumes left more piece → ExchangesSome session.prefix r.read r.before now written piece after written_more
     → RunsSome prefix old input more written_before written_more after
 runs_broken prefix old input left more written_before written written_more session now after piece r c x = record {
-    front = r.read ++ x.front; rest = x.rest; told = r.text ++ x.told; lost = x.lost; left = x.left;
-    consumes = subst (Consumes input more) (ap (λ z. r.read ++ z) x.whole ∙ sym (append_assoc r.read x.front x.rest)) (Consumes-trans input left more r.read piece r.consumes c);
-    appends = Appends-trans written_before written written_more r.text x.told r.appends x.appends;
-    answered = record {
-      events = r.before ++ x.done; cut = subst (λ z. Cuts z (r.read ++ x.front) (r.before ++ x.done) x.left) r.same x.cut;
-      served = subst (λ z. Serves old (r.before ++ x.done) z after) (sym (append_assoc r.text x.told x.lost)) (serves_join old now after r.before x.done r.text (x.told ++ x.lost) r.served x.served) } }
+  front = r.read ++ x.front;
+  rest = x.rest;
+  told = r.text ++ x.told;
+  lost = x.lost;
+  left = x.left;
+  consumes = subst (Consumes input more) (ap (λ z. r.read ++ z) x.whole ∙ sym (append_assoc r.read x.front x.rest)) (Consumes-trans input left more r.read piece r.consumes c);
+  appends = Appends-trans written_before written written_more r.text x.told r.appends x.appends;
+  answered = record {
+    events = r.before ++ x.done;
+    cut = subst (λ z. Cuts z (r.read ++ x.front) (r.before ++ x.done) x.left) r.same x.cut;
+    served = subst (λ z. Serves old (r.before ++ x.done) z after) (sym (append_assoc r.text x.told x.lost)) (serves_join old now after r.before x.done r.text (x.told ++ x.lost) r.served x.served);
+  };
+}
 
 -- given up before the first piece
 pub runs_none : (prefix : List ℕ) (old : CacheValue) (input written : Option (List ℕ)) → Cuts prefix [] [] (Some []) → RunsSome prefix old input input written written old
 runs_none prefix old input written c = record {
-    front = []; rest = []; told = []; lost = []; left = Some []; consumes = Consumes-nil input; appends = Appends-nil written;
-    answered = record { events = []; cut = c; served = serves_none old } }
+  front = [];
+  rest = [];
+  told = [];
+  lost = [];
+  left = Some [];
+  consumes = Consumes-nil input;
+  appends = Appends-nil written;
+  answered = record { events = []; cut = c; served = serves_none old };
+}
 
 pub nothing_cut : (prefix : List ℕ) → Cuts prefix [] [] (Some [])
 unfolding Cuts

@@ -1,5 +1,5 @@
 -- What an entry adds to a history.
-use Rattle.std.proofs.Common.{◌≡◌, ℕ, ◌==◌, Bool, true, false, Option, Some, None, List, [], ◌∷◌, ◌++◌, if◌then◌else◌, refl, sym, ◌∙◌, ap, subst, append_assoc, nat_eq, arith}
+use Rattle.std.proofs.Common.{◌≡◌, ℕ, ◌==◌, Bool, true, false, Option, List, [], ◌∷◌, ◌++◌, if◌then◌else◌, refl, sym, ◌∙◌, ap, subst, append_assoc, arith}
 use Rattle.std.proofs.lemmas.List.{append-nil, append_cancel_left}
 use Rattle.http_core.specs.Event.{EventValue}
 use Rattle.http_core.specs.Stream.{Cuts}
@@ -7,8 +7,8 @@ use Rattle.http_core.proofs.Cutting.{cut_once, cut_within, HasMore}
 use Rattle.cache_server.specs.Cache.{CacheValue}
 use Rattle.cache_server.specs.Serving.{Serves}
 use Rattle.cache_server.specs.History.{Entry, Piece, Fail, End, is_end, is_fail, bytes_of, stream_of, has_failed, Gains, Completes, CompletesAll, CacheAfter, Answers}
-use Rattle.cache_server.proofs.Histories.{stream_more, stream_aside, failed_more, failed_now, stream_ended, failed_ended}
-use Rattle.cache_server.proofs.Serving.{serves_join, serves_none}
+use Rattle.cache_server.proofs.Histories.{stream_more}
+use Rattle.cache_server.proofs.Serving.{serves_join}
 
 pub completes_more : (prefix : List ℕ) (before history : List Entry) (entry : Entry) (events first : List EventValue)
     → CompletesAll prefix before history events → Completes prefix (before ++ history) entry first → CompletesAll prefix before (history ++ entry ∷ []) (events ++ first)

@@ -1,9 +1,8 @@
 -- A history is answered in one way.
-use Rattle.std.proofs.Common.{◌≡◌, ℕ, Bool, Option, List, [], ◌∷◌, ◌++◌, refl, sym, ◌∙◌, ap, subst}
+use Rattle.std.proofs.Common.{◌≡◌, ℕ, Bool, List, [], ◌∷◌, ◌++◌, refl, sym, ◌∙◌, ap, subst}
 use Rattle.std.proofs.lemmas.List.{append_cancel_left}
 use Rattle.http_core.specs.Event.{EventValue, Asked, Refused}
 use Rattle.http_core.specs.Reply.{ReplyValue, reply_text}
-use Rattle.http_core.specs.Stream.{Cuts}
 use Rattle.http_core.proofs.Cutting.{cut_once}
 use Rattle.cache_server.specs.Cache.{CacheValue}
 use Rattle.cache_server.specs.Serving.{Serves, ServesOne, Replies}

@@ -1,19 +1,17 @@
 -- A server with one entry more.
-use Rattle.std.proofs.Common.{◌≡◌, ℕ, ◌==◌, ◌⊎◌, inl, inr, Bool, true, false, Option, Some, None, List, [], ◌∷◌, ◌++◌, if◌then◌else◌, refl, sym, ◌∙◌, ap, subst, append_assoc, arith}
-use Rattle.std.proofs.lemmas.List.{append-nil}
+use Rattle.std.proofs.Common.{◌≡◌, ℕ, ◌⊎◌, inl, inr, Bool, true, false, Option, Some, None, List, [], ◌∷◌, ◌++◌, refl, sym, ◌∙◌, ap, subst, append_assoc}
 use Rattle.std.proofs.Math.Dec.{eqb}
 use Rattle.std.proofs.lemmas.Bool.Decides.{eqb_tells}
 use Rattle.http_core.specs.Event.{EventValue}
 use Rattle.http_core.specs.Stream.{Cuts}
 use Rattle.http_core.specs.Session.{SessionValue, IsClosed, Leaves}
 use Rattle.http_core.specs.Session as sessions
-use Rattle.http_core.proofs.Cutting.{empty_partial}
 use Rattle.cache_server.specs.Cache.{CacheValue}
 use Rattle.cache_server.specs.Serving.{Serves, ServesSome}
-use Rattle.cache_server.specs.History.{Entry, Piece, Fail, End, is_end, is_fail, bytes_of, since_end, until_fail, stream_of, has_failed, Gains, Completes, CompletesAll, CacheAfter, Answers}
+use Rattle.cache_server.specs.History.{Entry, Piece, Fail, End, is_end, is_fail, bytes_of, since_end, until_fail, stream_of, has_failed, Gains, CompletesAll, CacheAfter, Answers}
 use Rattle.cache_server.specs.Server.{ServerValue, session_at, StandsSo, Keeps, Stands, StandsOrFails}
-use Rattle.cache_server.specs.Sessions.{KeepsOthers, IsFresh, IsHeld, FeedsAt, IsClosedAt, ClosesAt}
-use Rattle.cache_server.proofs.Histories.{stream_more, stream_aside, failed_more, failed_now, stream_ended, failed_ended}
+use Rattle.cache_server.specs.Sessions.{KeepsOthers, IsHeld, FeedsAt, IsClosedAt, ClosesAt}
+use Rattle.cache_server.proofs.Histories.{stream_aside, failed_more, failed_now, stream_ended, failed_ended}
 use Rattle.cache_server.proofs.Serving.{serves_none}
 use Rattle.cache_server.proofs.Gaining.{cache_more, answers_are, own_bytes, other_bytes, own_fail, other_fail, own_end, other_end, stream_open, stream_shut, gains_open, gains_none, GainsFirst, gains_first}
 
@@ -56,7 +54,8 @@ fed_open prefix k history piece earlier events before after open_ same stands ta
     let f : has_failed k (history ++ Piece k piece ∷ []) ≡ false = failed_more k history (Piece k piece) refl refl ∙ open_ in
     record {
       gains = gains_open prefix k history piece earlier events x.0 y.0 open_ (subst (λ z. Cuts z (stream_of k history) earlier x.0) same x.1) (subst (λ z. Cuts z (stream_of k history ++ piece) (earlier ++ events) y.0) p y.1);
-      keeps = (p, subst (λ b. StandsSo b after (stream_of k (history ++ Piece k piece ∷ []))) (sym f) (earlier ++ events, subst (λ z. sessions.Stands after z (earlier ++ events)) (sym (stream_open k history piece open_)) s)) }
+      keeps = (p, subst (λ b. StandsSo b after (stream_of k (history ++ Piece k piece ∷ []))) (sym f) (earlier ++ events, subst (λ z. sessions.Stands after z (earlier ++ events)) (sym (stream_open k history piece open_)) s));
+    }
 
 fed_shut : (prefix : List ℕ) (k : ℕ) (history : List Entry) (piece : List ℕ) (events : List EventValue) (before after : SessionValue)
     → has_failed k history ≡ true → before.prefix ≡ prefix → StandsSo true before (stream_of k history) → sessions.Feeds before piece events after → IsFed prefix k history piece events after
@@ -67,8 +66,12 @@ fed_shut prefix k history piece events before after shut same (closed, (earlier,
     let c : Cuts prefix (stream_of k history) earlier left = subst (λ z. Cuts z (stream_of k history) earlier left) same cut in
     record {
       gains = subst (Gains prefix k history (Piece k piece)) (sym t.1) (gains_none prefix k history piece earlier left (stream_shut k history piece shut) c);
-      keeps = (p, subst (λ b. StandsSo b after (stream_of k (history ++ Piece k piece ∷ []))) (sym f)
-        (t.0, (earlier, left, subst (λ z. Cuts z (stream_of k (history ++ Piece k piece ∷ [])) earlier left) (sym p) (subst (λ z. Cuts prefix z earlier left) (sym (stream_shut k history piece shut)) c)))) }
+      keeps = (
+        p,
+        subst (λ b. StandsSo b after (stream_of k (history ++ Piece k piece ∷ []))) (sym f)
+            (t.0, (earlier, left, subst (λ z. Cuts z (stream_of k (history ++ Piece k piece ∷ [])) earlier left) (sym p) (subst (λ z. Cuts prefix z earlier left) (sym (stream_shut k history piece shut)) c))),
+      );
+    }
 
 fed_by : (prefix : List ℕ) (k : ℕ) (history : List Entry) (piece : List ℕ) (events : List EventValue) (before after : SessionValue) (b : Bool)
     → has_failed k history ≡ b → before.prefix ≡ prefix → StandsSo b before (stream_of k history) → sessions.Feeds before piece events after → IsFed prefix k history piece events after
@@ -106,8 +109,9 @@ stands_fed opening old mid new k history piece events text feeds serves p m stan
     record {
       cache = subst (λ z. CacheAfter z opening (history ++ Piece k piece ∷ []) new.cache) (sym q) c;
       sessions = λ j. subst (λ z. Keeps z (session_at new j) j (history ++ Piece k piece ∷ [])) (sym q)
-        (sessions_with old.prefix old new k feeds.after history (Piece k piece) (λ i n. ap (λ z. session_at (record { cache = new.cache; prefix = new.prefix; sessions = z }) i) m ∙ feeds.kept.others i n)
-          (λ i n. (refl, other_bytes i k piece n, refl)) stands.sessions own j) }
+          (sessions_with old.prefix old new k feeds.after history (Piece k piece) (λ i n. ap (λ z. session_at (record { cache = new.cache; prefix = new.prefix; sessions = z }) i) m ∙ feeds.kept.others i n)
+          (λ i n. (refl, other_bytes i k piece n, refl)) stands.sessions own j);
+    }
 
 pub answers_fed : (opening : CacheValue) (old mid : ServerValue) (after : CacheValue) (k : ℕ) (history : List Entry) (piece : List ℕ) (events : List EventValue) (text : List ℕ)
     → FeedsAt old k piece events mid → Serves mid.cache events text after
@@ -124,14 +128,16 @@ stands_ended opening old new k history gone kept stands =
     record {
       cache = subst (λ z. CacheAfter z opening (history ++ End k ∷ []) new.cache) (sym kept.prefix) (subst (CacheAfter old.prefix opening (history ++ End k ∷ [])) (sym kept.cache) c);
       sessions = λ j. subst (λ z. Keeps z (session_at new j) j (history ++ End k ∷ [])) (sym kept.prefix)
-        (sessions_with old.prefix old new k (record { prefix = []; state = sessions.Closed }) history (End k) kept.others (λ i n. (other_end i k n, refl, refl)) stands.sessions own j) }
+          (sessions_with old.prefix old new k (record { prefix = []; state = sessions.Closed }) history (End k) kept.others (λ i n. (other_end i k n, refl, refl)) stands.sessions own j);
+    }
 
 -- a connection without a session stays one
 pub stands_unknown : (opening : CacheValue) (old new : ServerValue) (k : ℕ) (history : List Entry)
     → session_at old k ≡ None → session_at new k ≡ None → KeepsOthers old k new → Stands opening old history → Stands opening new history
 stands_unknown opening old new k history was gone kept stands = record {
-    cache = subst (λ z. CacheAfter z opening history new.cache) (sym kept.prefix) (subst (CacheAfter old.prefix opening history) (sym kept.cache) stands.cache);
-    sessions = λ j. subst (λ z. Keeps z (session_at new j) j history) (sym kept.prefix) (by_test j (eqb_tells j k)) }
+  cache = subst (λ z. CacheAfter z opening history new.cache) (sym kept.prefix) (subst (CacheAfter old.prefix opening history) (sym kept.cache) stands.cache);
+  sessions = λ j. subst (λ z. Keeps z (session_at new j) j history) (sym kept.prefix) (by_test j (eqb_tells j k));
+}
   where
     by_test : (j : ℕ) → ((eqb j k ≡ true) × (j ≡ k)) ⊎ ((eqb j k ≡ false) × (j ≡ k → ⊥)) → Keeps old.prefix (session_at new j) j history
     by_test j (inl (t, e)) = subst (λ i. Keeps old.prefix (session_at new i) i history) (sym e) (subst (λ z. Keeps old.prefix z k history) (was ∙ sym gone) (stands.sessions k))
@@ -160,14 +166,15 @@ stands_failed opening old new k history front done text after gains serves p oth
     let e : longer ++ Fail k ∷ [] ≡ history ++ (Piece k front ∷ Fail k ∷ []) = append_assoc history (Piece k front ∷ []) (Fail k ∷ []) in
     record {
       cache = subst (λ z. CacheAfter z opening (history ++ (Piece k front ∷ Fail k ∷ [])) new.cache) (sym p) (subst (λ z. CacheAfter old.prefix opening z new.cache) e d);
-      sessions = λ j. subst (λ z. Keeps z (session_at new j) j (history ++ (Piece k front ∷ Fail k ∷ []))) (sym p) (subst (Keeps old.prefix (session_at new j) j) e (by_test j (eqb_tells j k) own)) }
+      sessions = λ j. subst (λ z. Keeps z (session_at new j) j (history ++ (Piece k front ∷ Fail k ∷ []))) (sym p) (subst (Keeps old.prefix (session_at new j) j) e (by_test j (eqb_tells j k) own));
+    }
   where
     by_test : (j : ℕ) → ((eqb j k ≡ true) × (j ≡ k)) ⊎ ((eqb j k ≡ false) × (j ≡ k → ⊥)) → Keeps old.prefix (session_at new k) k ((history ++ Piece k front ∷ []) ++ Fail k ∷ [])
         → Keeps old.prefix (session_at new j) j ((history ++ Piece k front ∷ []) ++ Fail k ∷ [])
     by_test j (inl (t, e)) own = subst (λ i. Keeps old.prefix (session_at new i) i ((history ++ Piece k front ∷ []) ++ Fail k ∷ [])) (sym e) own
     by_test j (inr (f, n)) own = subst (λ z. Keeps old.prefix z j ((history ++ Piece k front ∷ []) ++ Fail k ∷ [])) (sym (others j n))
         (keeps_aside old.prefix (session_at old j) j (history ++ Piece k front ∷ []) (Fail k) refl refl (other_fail j k n)
-          (keeps_aside old.prefix (session_at old j) j history (Piece k front) refl (other_bytes j k front n) refl (stands.sessions j)))
+        (keeps_aside old.prefix (session_at old j) j history (Piece k front) refl (other_bytes j k front n) refl (stands.sessions j)))
 
 -- want of memory before the piece was cut
 closes_by : (opening : CacheValue) (old new : ServerValue) (k : ℕ) (piece : List ℕ) (history : List Entry) (held : Option SessionValue)
@@ -176,8 +183,13 @@ closes_by opening old new k piece history None is gone kept keeps stands = inl (
 closes_by opening old new k piece history (Some session) is (after, at, same, closed) kept keeps stands =
     let c : IsCut old.prefix (stream_of k history) = keeps_cut old.prefix session k history keeps in
     let quiet : stream_of k (history ++ Piece k [] ∷ []) ≡ stream_of k history = stream_aside k history (Piece k []) refl (own_bytes k []) in
-    inr ([], piece, refl, stands_failed opening old new k history [] [] [] after (gains_none old.prefix k history [] c.events c.left quiet c.cut)
-      (subst (Serves old.cache [] []) (sym kept.cache) (serves_none old.cache)) kept.prefix kept.others at (same ∙ keeps.0) closed stands)
+    inr (
+      [],
+      piece,
+      refl,
+      stands_failed opening old new k history [] [] [] after (gains_none old.prefix k history [] c.events c.left quiet c.cut)
+          (subst (Serves old.cache [] []) (sym kept.cache) (serves_none old.cache)) kept.prefix kept.others at (same ∙ keeps.0) closed stands,
+    )
 
 pub stands_closed : (opening : CacheValue) (old new : ServerValue) (k : ℕ) (piece : List ℕ) (history : List Entry) → ClosesAt old k new → Stands opening old history → StandsOrFails opening old k piece new history
 stands_closed opening old new k piece history closes stands = closes_by opening old new k piece history (session_at old k) refl closes.at closes.kept (stands.sessions k) stands
@@ -203,5 +215,6 @@ stands_answering opening old mid served new k piece history events feeds some p 
 pub stands_first : (opening : CacheValue) (new : ServerValue) → new.cache ≡ opening → new.sessions ≡ [] → Stands opening new []
 unfolding CacheAfter CompletesAll stream_of has_failed until_fail since_end
 stands_first opening new c e = record {
-    cache = ([], [], refl, subst (Serves opening [] []) (sym c) (serves_none opening));
-    sessions = λ k. subst (λ z. Keeps new.prefix z k []) (sym (ap (λ z. session_at (record { cache = new.cache; prefix = new.prefix; sessions = z }) k) e)) (refl, refl) }
+  cache = ([], [], refl, subst (Serves opening [] []) (sym c) (serves_none opening));
+  sessions = λ k. subst (λ z. Keeps new.prefix z k []) (sym (ap (λ z. session_at (record { cache = new.cache; prefix = new.prefix; sessions = z }) k) e)) (refl, refl);
+}

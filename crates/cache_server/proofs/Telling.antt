@@ -1,11 +1,11 @@
 -- Events answered on a writer.
-use Rattle.std.proofs.Common.{◌≡◌, ℕ, ◌≤◌, ◌⊎◌, inl, inr, Option, Some, None, List, [], ◌∷◌, ◌++◌, take, drop, length, refl, sym, ◌∙◌, ap, subst, append_assoc, take-append-drop, arith}
+use Rattle.std.proofs.Common.{◌≡◌, ℕ, inl, inr, Option, Some, None, List, [], ◌∷◌, ◌++◌, refl, sym, ◌∙◌, ap, subst, append_assoc}
 use Rattle.std.proofs.lemmas.List.{append-nil}
 use Rattle.std.specs.Io.KnownBytes.{Appends, Keeps}
 use Rattle.std.proofs.KnownBytes.{Appends-nil, Appends-trans}
 use Rattle.http_core.specs.Event.{EventValue}
 use Rattle.cache_server.specs.Cache.{CacheValue}
-use Rattle.cache_server.specs.Serving.{Serves, ServesOne, ServesSome}
+use Rattle.cache_server.specs.Serving.{Serves, ServesSome}
 use Rattle.cache_server.specs.Writing.{WritesSome, Tells, MayTell, TellsAll, TellsSome}
 use Rattle.cache_server.proofs.Serving.{serves_none, serves_more}
 
@@ -66,14 +66,14 @@ module _ (old now new : CacheValue) (events left : List EventValue) (event : Eve
 
 pub told_all : (old new : CacheValue) (events : List EventValue) (before now : Option (List ℕ)) → TellsOn old events [] before now new → TellsAll old events before now new
 told_all old new events before now t = record {
-    text = t.text;
-    served = subst (λ z. Serves old z t.text new) (sym (t.whole ∙ append-nil t.done)) t.served;
-    appends = t.appends;
-  }
+  text = t.text;
+  served = subst (λ z. Serves old z t.text new) (sym (t.whole ∙ append-nil t.done)) t.served;
+  appends = t.appends;
+}
 
 pub some_served : (old new : CacheValue) (events : List EventValue) (before after : Option (List ℕ)) → TellsSome old events before after new → ServesSome old events new
 some_served old new events before after t = record { done = t.done; others = t.others; text = t.told ++ t.lost; whole = t.whole; served = t.served }
 
 -- the writer was empty, and its bytes are known
-pub all_served : (old new : CacheValue) (events : List EventValue) (bytes : List ℕ) → TellsAll old events (Some []) (Some bytes) new → Serves old events bytes new
-all_served old new events bytes t = subst (λ z. Serves old events z new) (sym t.appends) t.served
+pub all_served : (old new : CacheValue) (events : List EventValue) (none bytes : List ℕ) → none ≡ [] → TellsAll old events (Some none) (Some bytes) new → Serves old events bytes new
+all_served old new events none bytes e t = subst (λ z. Serves old events z new) (sym (t.appends ∙ ap (λ z. z ++ t.text) e)) t.served

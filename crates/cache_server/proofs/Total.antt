@@ -1,12 +1,10 @@
 -- Any events are answered.
-use Rattle.std.proofs.Common.{◌≡◌, ℕ, List, [], ◌∷◌, ◌++◌, Option, refl, sym, ◌∙◌, ap, subst, append_assoc}
+use Rattle.std.proofs.Common.{◌≡◌, ℕ, List, [], ◌∷◌, ◌++◌, refl, sym, subst, append_assoc}
 use Rattle.http_core.specs.Event.{EventValue, Asked, Refused}
 use Rattle.http_core.specs.Reply.{reply_text}
-use Rattle.http_core.specs.Stream.{Cuts}
 use Rattle.http_core.proofs.Cutting.{cut_further}
 use Rattle.cache_server.specs.Cache.{CacheValue, step, bare}
 use Rattle.cache_server.specs.Serving.{Serves, ServesOne}
-use Rattle.cache_server.specs.Connection.{IsAnswered}
 use Rattle.cache_server.specs.Laws.{AnswersAny, BeginsTheAnswers}
 use Rattle.cache_server.proofs.Serving.{serves_join}
 
@@ -26,9 +24,12 @@ pub begins_the_answers : BeginsTheAnswers
 begins_the_answers prefix old new front rest told lost left whole_left events answered cut =
     let x : (others : List EventValue) × (events ≡ answered.events ++ others) = cut_further prefix front rest answered.events events left whole_left answered.cut cut in
     let y : (text : List ℕ) × (last : CacheValue) × Serves new x.0 text last = serves_any new x.0 in
-    let s : Serves old (answered.events ++ x.0) ((told ++ lost) ++ y.0) y.1 = serves_join old new y.1 answered.events x.0 (told ++ lost) y.0 answered.served y.2 in
-    (lost ++ y.0, y.1, record {
-      events = events;
-      cut = cut;
-      served = subst (λ z. Serves old z (told ++ (lost ++ y.0)) y.1) (sym x.1) (subst (λ z. Serves old (answered.events ++ x.0) z y.1) (append_assoc told lost y.0) s);
-    })
+    let s : Serves old (answered.events ++ x.0) ((told ++ lost) ++ y.0) y.1 = serves_join old new y.1 answered.events x.0 (told ++ lost) y.0 answered.served y.2 in (
+      lost ++ y.0,
+      y.1,
+      record {
+        events = events;
+        cut = cut;
+        served = subst (λ z. Serves old z (told ++ (lost ++ y.0)) y.1) (sym x.1) (subst (λ z. Serves old (answered.events ++ x.0) z y.1) (append_assoc told lost y.0) s);
+      },
+    )

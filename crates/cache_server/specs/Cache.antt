@@ -1,6 +1,5 @@
 -- What a cache does with a request, and what it replies: a step of the machine of blobs and results.
-use Rattle.std.specs.Prelude.{◌≡◌, ℕ, List, [], ◌∷◌}
-use Rattle.http_core.specs.declared.event.Area.{Area}
+use Rattle.std.specs.Prelude.{◌≡◌, ℕ, List, [], ◌∷◌, Option, Some, None}
 use Rattle.http_core.specs.declared.event.Area.TheVariants.{Ac, Cas, Pin, Unpin}
 use Rattle.http_core.specs.Event.{AskValue, Get, Put}
 use Rattle.http_core.specs.Reply.{ReplyValue}
@@ -16,11 +15,16 @@ CacheValue = CacheState
 abbrev pub bare : ℕ → ReplyValue
 bare status = record { status = status; body = [] }
 
+-- the reply to a look-up that found these bytes, or none
+abbrev pub found_reply : Option (List ℕ) → ReplyValue
+found_reply None = bare 404
+found_reply (Some bytes) = record { status = 200; body = bytes }
+
 -- the reply to what the machine answers
 abbrev pub reply_to : Answer → ReplyValue
 reply_to done = bare 200
-reply_to (given bytes) = record { status = 200; body = bytes }
-reply_to nothing = bare 404
+reply_to (given bytes) = found_reply (Some bytes)
+reply_to nothing = found_reply None
 reply_to (refused why) = bare (status_of why)
 
 -- the reply, and the state after it

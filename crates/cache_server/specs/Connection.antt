@@ -1,5 +1,5 @@
 -- What a run over one connection reads, writes and does.
-use Rattle.std.specs.Prelude.{◌≡◌, ℕ, ◌⊎◌, List, [], ◌++◌, Option, Some, None}
+use Rattle.std.specs.Prelude.{◌≡◌, ℕ, ◌⊎◌, List, ◌++◌, Option, None}
 use Rattle.std.specs.Io.KnownBytes.{Appends, Consumes, IsAtEnd}
 use Rattle.http_core.specs.Event.{EventValue}
 use Rattle.http_core.specs.Session.{SessionValue, Stands}

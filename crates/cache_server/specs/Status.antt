@@ -1,5 +1,5 @@
 -- Of which status each refusal is told (RFC 9110, section 15.5).
-use Rattle.std.specs.Prelude.{◌≡◌, ℕ, Option, Some, Result, Ok, Err, option_map}
+use Rattle.std.specs.Prelude.{◌≡◌, ℕ, Some, Result, Ok, Err, option_map}
 use Rattle.action_cache.specs.declared.error.CacheError.{CacheError}
 use Rattle.action_cache.specs.declared.error.CacheError.TheVariants.{Memory}
 use Rattle.action_cache.specs.CacheError.{refusal_of}

@@ -1,5 +1,5 @@
 -- Replies on a writer: what it had, and what it has then.
-use Rattle.std.specs.Prelude.{◌≡◌, ℕ, ◌⊎◌, Bool, List, [], ◌++◌, Option}
+use Rattle.std.specs.Prelude.{◌≡◌, ℕ, ◌⊎◌, Bool, List, ◌++◌, Option}
 use Rattle.std.specs.Io.KnownBytes.{Appends, Keeps}
 use Rattle.http_core.specs.Event.{AskValue, EventValue}
 use Rattle.http_core.specs.Reply.{ReplyValue, reply_text}

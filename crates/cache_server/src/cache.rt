@@ -1,13 +1,15 @@
-ghost use Rattle.std.specs.Prelude.{◌≡◌, ◌<◌, ◌^◌, ℕ, [], length, IfOk, IfErr, OnOk, OnErr, option_copied, option_map};
+ghost use Rattle.std.specs.Prelude.{◌≡◌, ◌<◌, ◌^◌, [], length, IfOk, IfErr, OnOk, OnErr, option_copied, option_map};
 ghost use Rattle.eviction.specs.Kept.{total};
 ghost use Rattle.http_core.specs.Event.{Get, Put, ask_of};
 ghost use Rattle.http_core.specs.declared.event.Area.TheVariants.{Ac, Cas};
-ghost use Rattle.cache_server.specs.Cache.{Step, bare, step};
+ghost use Rattle.action_cache.specs.Machine.{get_blob as blob_got};
+ghost use Rattle.action_cache.specs.Reading.{by_messages};
+ghost use Rattle.cache_server.specs.Cache.{Step, bare, found_reply};
 ghost use Rattle.cache_server.specs.Status.{IsToldBy, IsWanting};
 ghost use Rattle.cache_server.specs.Writing.{AnswersAsk, FailsAsk};
 
 use crate::error::ConnError;
-use crate::writing::write_answer;
+use crate::writing::{write_answer, write_found};
 use action_cache::{ActionCache, CacheError};
 use blob_digest::Sealed;
 use http_core::{Area, Ask, Reply};
@@ -49,6 +51,35 @@ fn status_of(changed: Result<(), CacheError>) -> Result<u16, AllocError>
     }
 }
 
+/// The reply to a look-up, with a copy of what was found.
+fn copy_found<A: Allocator>(alloc: A, found: Option<&[u8]>) -> Result<Reply<A>, AllocError>
+    ensures { IfOk result (λ reply. reply ≡ found_reply (option_copied found.entry)) }
+{
+    match found {
+        Some(bytes) => Ok(Reply {
+            status: 200,
+            body: Vec::from_slice(alloc, bytes)?,
+        }),
+        None => Ok(Reply {
+            status: 404,
+            body: Vec::new(alloc),
+        }),
+    }
+}
+
+/// The reply to a look-up, with what was found.
+fn reply_with<A: Allocator>(alloc: A, found: Option<Vec<u8, A>>) -> Reply<A>
+    ensures { result ≡ found_reply (option_map (λ v. v.items) found) }
+{
+    match found {
+        Some(body) => Reply { status: 200, body },
+        None => Reply {
+            status: 404,
+            body: Vec::new(alloc),
+        },
+    }
+}
+
 impl<A: Allocator + Copy> Cache<A> {
     /// A cache that holds nothing, with a limit on the bytes of its blobs and one on its results,
     /// each of which costs 64 bytes more than it has. Hashes are hashed with the state's secret.
@@ -84,12 +115,13 @@ impl<A: Allocator + Copy> Cache<A> {
         ensures err { OnErr result (self.new ≡ self.old) }
     {
         match ask {
-            Ask::Get(Area::Cas, hash) => self.copy_blob(alloc, &hash),
-            Ask::Get(Area::Ac, hash) => self.copy_result(alloc, &hash),
-            Ask::Get(_, _) => Ok(Reply { status: 404, body: Vec::new(alloc) }),
+            Ask::Get(area, hash) => self.copy(alloc, area, &hash),
             Ask::Put(area, hash, body) => {
                 let status = self.put(alloc, area, hash, body)?;
-                Ok(Reply { status, body: Vec::new(alloc) })
+                Ok(Reply {
+                    status,
+                    body: Vec::new(alloc),
+                })
             }
         }
     }
@@ -110,19 +142,44 @@ impl<A: Allocator + Copy> Cache<A> {
             (W.contents writer.old) (W.contents writer.new) self.new) }
     {
         match ask {
-            Ask::Get(Area::Cas, hash) => self.write_blob(&hash, close, writer),
-            Ask::Get(Area::Ac, hash) => {
-                let found = self.store.get_result(alloc, &hash)?;
-                match found {
-                    Some(bytes) => write_answer(writer, 200, &bytes, close),
-                    None => write_answer(writer, 404, &[], close),
-                }
-            }
-            Ask::Get(_, _) => write_answer(writer, 404, &[], close),
+            Ask::Get(area, hash) => self.write(alloc, area, &hash, close, writer),
             Ask::Put(area, hash, body) => {
                 let status = self.put(alloc, area, hash, body)?;
                 write_answer(writer, status, &[], close)
             }
+        }
+    }
+
+    /// What is looked up, copied, or 404.
+    fn copy(&mut self, alloc: A, area: Area, hash: &[u8; 32]) -> Result<Reply<A>, AllocError>
+        ensures ok { IfOk result (λ reply. Step self.old (Get area hash.now) reply self.new) }
+        ensures err { OnErr result (self.new ≡ self.old) }
+    {
+        match area {
+            Area::Cas => self.copy_blob(alloc, hash),
+            Area::Ac => self.copy_result(alloc, hash),
+            Area::Pin | Area::Unpin => Ok(reply_with(alloc, None)),
+        }
+    }
+
+    /// Writes what is looked up, or 404.
+    fn write<W: Write>(
+        &mut self,
+        alloc: A,
+        area: Area,
+        hash: &[u8; 32],
+        close: bool,
+        writer: &mut W,
+    ) -> Result<(), ConnError>
+        ensures ok { OnOk result (AnswersAsk self.old (Get area hash.now) close
+            (W.contents writer.old) (W.contents writer.new) self.new) }
+        ensures err { IfErr result (λ e. FailsAsk e self.old (Get area hash.now) close
+            (W.contents writer.old) (W.contents writer.new) self.new) }
+    {
+        match area {
+            Area::Cas => self.write_blob(hash, close, writer),
+            Area::Ac => self.write_result(alloc, hash, close, writer),
+            Area::Pin | Area::Unpin => write_found(writer, None, close),
         }
     }
 
@@ -131,10 +188,7 @@ impl<A: Allocator + Copy> Cache<A> {
         ensures ok { IfOk result (λ reply. Step self.old (Get Cas hash.now) reply self.new) }
         ensures err { OnErr result (self.new ≡ self.old) }
     {
-        let reply = match self.store.peek_blob(hash) {
-            Some(bytes) => Reply { status: 200, body: Vec::from_slice(alloc, bytes)? },
-            None => Reply { status: 404, body: Vec::new(alloc) },
-        };
+        let reply = copy_found(alloc, self.store.peek_blob(hash))?;
         self.use_blob(hash);
         Ok(reply)
     }
@@ -151,17 +205,14 @@ impl<A: Allocator + Copy> Cache<A> {
         ensures err { IfErr result (λ e. FailsAsk e self.old (Get Cas hash.now) close
             (W.contents writer.old) (W.contents writer.new) self.new) }
     {
-        let written = match self.store.peek_blob(hash) {
-            Some(bytes) => write_answer(writer, 200, bytes, close),
-            None => write_answer(writer, 404, &[], close),
-        };
+        let written = write_found(writer, self.store.peek_blob(hash), close);
         self.use_blob(hash);
         written
     }
 
     /// Moves the blob under the hash to the front.
     fn use_blob(&mut self, hash: &[u8; 32])
-        ensures { self.new ≡ (step self.old (Get Cas hash.now)).1 }
+        ensures { self.new ≡ (blob_got by_messages self.old hash.now).1 }
     {
         let _lent = self.store.get_blob(hash);
     }
@@ -171,10 +222,27 @@ impl<A: Allocator + Copy> Cache<A> {
         ensures ok { IfOk result (λ reply. Step self.old (Get Ac hash.now) reply self.new) }
         ensures err { OnErr result (self.new ≡ self.old) }
     {
-        match self.store.get_result(alloc, hash)? {
-            Some(body) => Ok(Reply { status: 200, body }),
-            None => Ok(Reply { status: 404, body: Vec::new(alloc) }),
-        }
+        let found = self.store.get_result(alloc, hash)?;
+        Ok(reply_with(alloc, found))
+    }
+
+    /// Writes the result under the hash, or 404.
+    fn write_result<W: Write>(
+        &mut self,
+        alloc: A,
+        hash: &[u8; 32],
+        close: bool,
+        writer: &mut W,
+    ) -> Result<(), ConnError>
+        ensures ok { OnOk result (AnswersAsk self.old (Get Ac hash.now) close
+            (W.contents writer.old) (W.contents writer.new) self.new) }
+        ensures err { IfErr result (λ e. FailsAsk e self.old (Get Ac hash.now) close
+            (W.contents writer.old) (W.contents writer.new) self.new) }
+    {
+        let Some(bytes) = self.store.get_result(alloc, hash)? else {
+            return write_found(writer, None, close);
+        };
+        write_found(writer, Some(bytes.as_slice()), close)
     }
 
     /// Puts, pins or unpins, and gives the status of the reply, which has no body.

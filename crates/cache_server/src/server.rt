@@ -27,9 +27,9 @@ impl<A: Allocator> Model for Server<A> {
     ghost Value = { ServerValue };
 
     ghost view = { λ s. record {
-        cache = s.cache;
-        prefix = s.prefix;
-        sessions = s.sessions.entries;
+      cache = s.cache;
+      prefix = s.prefix;
+      sessions = s.sessions.entries;
     } };
 }
 

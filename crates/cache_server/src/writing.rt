@@ -1,6 +1,7 @@
-ghost use Rattle.std.specs.Prelude.{◌≡◌, OnErr, OnOk, IfErr};
+ghost use Rattle.std.specs.Prelude.{◌≡◌, OnErr, OnOk, IfErr, option_copied};
 ghost use Rattle.std.specs.Io.KnownBytes.{Appends};
 ghost use Rattle.http_core.specs.Reply.{reply_text};
+ghost use Rattle.cache_server.specs.Cache.{found_reply};
 ghost use Rattle.cache_server.specs.Writing.{WritesSome};
 
 use crate::error::ConnError;
@@ -49,4 +50,22 @@ pub(crate) fn write_answer<W: Write>(
     let head = HeadText::new(status, body.len(), close);
     write_out(writer, head.as_bytes())?;
     write_out(writer, body)
+}
+
+/// Writes the answer to a look-up: what was found, or 404.
+pub(crate) fn write_found<W: Write>(
+    writer: &mut W,
+    found: Option<&[u8]>,
+    close: bool,
+) -> Result<(), ConnError>
+    ensures ok { OnOk result (Appends (W.contents writer.old) (W.contents writer.new)
+        (reply_text (found_reply (option_copied found.entry)) close)) }
+    ensures err { OnErr result (WritesSome (W.contents writer.old) (W.contents writer.new)
+        (reply_text (found_reply (option_copied found.entry)) close)) }
+    ensures fault { IfErr result (λ e. e ≡ ConnError.WriteFault) }
+{
+    match found {
+        Some(bytes) => write_answer(writer, 200, bytes, close),
+        None => write_answer(writer, 404, &[], close),
+    }
 }
