@@ -1,4 +1,5 @@
--- What a cache does with a request, and what it replies: a step of the machine of blobs and results.
+-- What a cache does with a request, and what it replies: a step of the machine of blobs and
+-- results.
 use Rattle.std.specs.Prelude.{◌≡◌, ℕ, List, [], ◌∷◌, Option, Some, None}
 use Rattle.http_core.specs.declared.event.Area.TheVariants.{Ac, Cas, Pin, Unpin}
 use Rattle.http_core.specs.Event.{AskValue, Get, Put}

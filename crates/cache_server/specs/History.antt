@@ -6,8 +6,8 @@ use Rattle.http_core.specs.Stream.{Cuts}
 use Rattle.cache_server.specs.Cache.{CacheValue}
 use Rattle.cache_server.specs.Serving.{Serves}
 
--- A piece of the stream of a connection, want of memory while a piece of it was at hand, or its end.
--- In a history the first stands in front.
+-- A piece of the stream of a connection, want of memory while a piece of it was at hand, or its
+-- end. In a history the first stands in front.
 pub data Entry : Type 0 where
   Piece : ℕ → List ℕ → Entry
   Fail : ℕ → Entry
@@ -70,7 +70,8 @@ CompletesAll prefix before (entry ∷ history) events =
     × Completes prefix before entry first
     × CompletesAll prefix (before ++ entry ∷ []) history others × (events ≡ first ++ others)
 
--- the cache after the history: it did what the requests asked, in the order in which they were whole
+-- the cache after the history: it did what the requests asked, in the order in which they became
+-- whole
 unfoldable pub CacheAfter : List ℕ → CacheValue → List Entry → CacheValue → Type 0
 CacheAfter prefix opening history cache =
     (events : List EventValue) × (text : List ℕ)

@@ -126,9 +126,9 @@ impl<A: Allocator + Copy> Cache<A> {
         }
     }
 
-    /// Does what is asked, and writes the reply: its head, and then its body, which is lent. Without
-    /// memory nothing is done, and nothing is written. After a write that failed the cache is as
-    /// what was asked left it.
+    /// Does what is asked, and writes the reply: its head, and then its body, which is lent.
+    /// Without memory nothing is done, and nothing is written. After a write that failed the cache
+    /// is as what was asked left it.
     pub fn answer<W: Write>(
         &mut self,
         alloc: A,

@@ -13,8 +13,8 @@ use std::io::{Read, Write};
 /// The most bytes that are read at once.
 const PIECE: usize = 65536;
 
-/// Answers the requests that the reader gives, until it ends or one of them closes. The answers to a
-/// piece are written, and flushed, before the next piece is read. Refusals 85 and 86 where the
+/// Answers the requests that the reader gives, until it ends or one of them closes. The answers to
+/// a piece are written, and flushed, before the next piece is read. Refusals 85 and 86 where the
 /// reader or the writer failed, and `Memory`: the cache is as the requests up to then left it.
 pub fn run<A: Allocator + Copy, R: Read, W: Write>(
     alloc: A,
@@ -60,8 +60,8 @@ fn exchange<A: Allocator + Copy, W: Write>(
         session.new cache.new (W.contents writer.new)) }
     ensures err { OnErr result ((stream : List ℕ) (earlier : List EventValue)
         → Stands session.old stream earlier
-        → ExchangesSome session.old.prefix stream earlier cache.old (W.contents writer.old) piece.now
-        cache.new (W.contents writer.new)) }
+        → ExchangesSome session.old.prefix stream earlier cache.old (W.contents writer.old)
+        piece.now cache.new (W.contents writer.new)) }
 {
     let events = session.feed(alloc, piece)?;
     answer_all(alloc, cache, events, writer)?;

@@ -46,9 +46,9 @@ impl<A: Allocator + Copy> Server<A> {
         }
     }
 
-    /// The answers to the next piece on the connection, which is a new one where none has the number.
-    /// After an `Err` the connection is closed, or still unknown where it was a new one, the answers
-    /// are lost, and the cache is as some of the requests left it, from the first on.
+    /// The answers to the next piece on the connection, which is a new one where none has the
+    /// number. After an `Err` the connection is closed, or still unknown where it was a new one, the
+    /// answers are lost, and the cache is as some of the requests left it, from the first on.
     pub fn event(
         &mut self,
         alloc: A,
