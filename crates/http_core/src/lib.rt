@@ -4,6 +4,7 @@
 mod block;
 mod connection;
 mod event;
+mod head_text;
 mod judging;
 mod laws;
 mod prefix;
@@ -12,6 +13,7 @@ mod rules;
 mod session;
 
 pub use event::{Area, Ask, Event};
+pub use head_text::HeadText;
 pub use laws::{a_stream_is_cut_in_one_way, cuts_go_on, pieces_make_no_difference};
 pub use prefix::Prefix;
 pub use reply::{Reply, append_head, write_reply};
