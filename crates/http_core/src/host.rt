@@ -70,7 +70,7 @@ impl<A: Allocator + Copy> Host<A> {
         ensures { IfOk result (λ host. host ≡ self.now) }
     {
         Ok(Host {
-            text: String::from_str(alloc, self.text.as_str())?,
+            text: String::from_str(alloc, &self.text)?,
         })
     }
 }

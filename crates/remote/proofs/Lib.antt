@@ -1,0 +1,4 @@
+pub mod Flows
+pub mod Endings
+pub mod Replies
+pub mod Lines

@@ -1,0 +1,76 @@
+-- What a remote tells, and how it asks its server.
+use Rattle.std.specs.Prelude.{◌≡◌, List, [], ℕ, false, Option, None, Some, Result, IfOk, IfErr, OnOk}
+use Rattle.std.specs.declared.vec.Vec.{Vec}
+use Rattle.blob_digest.specs.Digest.{DigestValue}
+use Rattle.http_core.specs.declared.event.Area.{Area}
+use Rattle.blob_source.specs.Source.{Telling, bytes_of}
+use Rattle.blob_source.specs.declared.source.FetchError.{FetchError}
+use Rattle.remote.specs.declared.remote.Remote.{Remote}
+use Rattle.remote.specs.declared.table.Table.{Table}
+use Rattle.remote.specs.Flow.{Flow}
+use Rattle.remote.specs.Line.{LineValue, Gets, Puts, Refuses, Starves, get, put, line_of}
+use Rattle.remote.specs.Table.{IsKept, Keeps, KeepsAll, told_by}
+
+-- what it kept, how often it failed and was called, and the list of results put
+abbrev pub telling_of : {S A : Type 0} → Remote S A → Telling
+telling_of r = record {
+  blobs = told_by r.blobs;
+  results = told_by r.results;
+  failures = r.line.failures;
+  calls = r.calls;
+  puts = r.puts.items;
+}
+
+-- its connection
+abbrev pub connection_of : {S A : Type 0} → (S → Flow) → Remote S A → LineValue
+connection_of flow r = line_of flow r.line
+
+-- an answer to the call is kept, be it that nothing is there
+abbrev pub KeepsBlob : {S A : Type 0} → Remote S A → DigestValue → Type 0
+KeepsBlob r d = IsKept r.blobs d
+
+abbrev pub KeepsResult : {S A : Type 0} → Remote S A → DigestValue → Type 0
+KeepsResult r d = IsKept r.results d
+
+-- nothing was asked so far
+pub record IsFresh {S A : Type 0} (flow : S → Flow) (stream : S) (host prefix : List ℕ) (r : Remote S A)
+    : Type 0 where
+  pub stream_is : (connection_of flow r).flow ≡ flow stream
+  pub host_is : (connection_of flow r).host ≡ host
+  pub prefix_is : (connection_of flow r).prefix ≡ prefix
+  pub unbroken : (connection_of flow r).broken ≡ false
+  pub failures : (connection_of flow r).failures ≡ 0
+  pub fault : (connection_of flow r).fault ≡ None
+  pub blobs : (d : DigestValue) → KeepsBlob r d → ⊥
+  pub results : (d : DigestValue) → KeepsResult r d → ⊥
+  pub calls : (telling_of r).calls ≡ 0
+  pub puts : (telling_of r).puts ≡ []
+
+-- A call that asked for the hash in the area, where an answer to it was kept before, and is after.
+-- What is kept isn't asked again, also where memory is wanting; what isn't is the server's answer.
+pub record LooksUp {A : Type 0}
+    (was is : Type 0) (area : Area) (hash : List ℕ) (old new : LineValue)
+    (result : Result (Option (Vec ℕ A)) FetchError) : Type 0 where
+  pub held : IfOk result (λ answer. is)
+  pub silent : was → new.flow ≡ old.flow
+  pub kept : was → IfOk result (λ answer. new ≡ old)
+  pub answered : (was → ⊥) → IfOk result (λ answer. Gets old new area hash (bytes_of answer))
+  pub refused : IfErr result (Refuses old new (get area hash))
+
+-- a call that put the bytes under the hash in the area
+pub record Stores {T : Type 0}
+    (area : Area) (hash bytes : List ℕ) (old new : LineValue) (result : Result T FetchError)
+    : Type 0 where
+  pub taken : OnOk result (Puts old new area hash bytes)
+  pub refused : IfErr result (Refuses old new (put area hash bytes))
+
+-- the bytes are kept, and the connection is as it was
+pub record KeepsBytes {A : Type 0} (old new : Table A) (from to : LineValue) (d : DigestValue) (bytes : List ℕ)
+    : Type 0 where
+  pub keeps : Keeps old new d (Some bytes)
+  pub connection : to ≡ from
+
+-- memory was wanting, and nothing more is kept
+pub record KeepsNothing {A : Type 0} (old new : Table A) (from to : LineValue) (e : FetchError) : Type 0 where
+  pub keeps : KeepsAll old new
+  pub starves : Starves from to e
