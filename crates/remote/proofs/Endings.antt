@@ -1,7 +1,7 @@
 -- How far bytes are from the end of a block, and blocks as they are read.
 use Rattle.std.proofs.Common.{◌≡◌, ℕ, suc, ◌+◌, ◌<◌, ◌≤◌, inl, inr, List, [], ◌∷◌, ◌++◌, length, length-append, append_assoc, refl, sym, ◌∙◌, ap, subst, arith}
 use Rattle.std.proofs.lemmas.List.{append-nil}
-use Rattle.http_core.specs.Block.{empty_line, EndsBlock, IsBlock}
+use Rattle.http_core.specs.Block.{empty_line, EndsBlock, HasNoBlock, IsBlock}
 use Rattle.http_core.proofs.Lists.{IsShorter, compare_fronts, same_fronts}
 use Rattle.remote.specs.Ending.{IsWanting}
 
@@ -88,3 +88,11 @@ pub block_ended : (bytes : List ℕ) (count : ℕ) → EndsLast bytes → IsWant
 block_ended bytes count last wants zero =
     let none : wants.more ≡ [] = is_empty wants.more (wants.many ∙ zero) in
     record { ends = subst EndsBlock (ap (λ z. bytes ++ z) none ∙ append-nil bytes) wants.ends; first = last }
+
+-- some byte is missing
+pub none_ended : (bytes : List ℕ) (count : ℕ) → EndsLast bytes → IsWanting bytes count → 0 < count → HasNoBlock bytes
+none_ended bytes count last wants some front rest e h =
+    let none : rest ≡ [] = last front rest e h in
+    let same : bytes ≡ front = e ∙ ap (λ z. front ++ z) none ∙ append-nil front in
+    let n : count ≤ length {A = ℕ} [] = wants.fewest [] (subst EndsBlock (sym (append-nil bytes ∙ same)) h) in
+    omega (arith, n, some)

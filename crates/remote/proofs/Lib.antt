@@ -2,3 +2,4 @@ pub mod Flows
 pub mod Endings
 pub mod Replies
 pub mod Lines
+pub mod Storing

@@ -1,5 +1,5 @@
 -- What a stream of both directions gives and takes.
-use Rattle.std.specs.Prelude.{◌≡◌, ℕ, List, [], Option, Some}
+use Rattle.std.specs.Prelude.{◌≡◌, ℕ, List, [], ◌++◌, Option, Some}
 use Rattle.std.specs.Io.Cursor.{cursor_remaining}
 use Rattle.std.specs.Io.KnownBytes.{Appends, Consumes}
 use Rattle.remote.specs.declared.stream.MemoryStream.{MemoryStream}
@@ -13,6 +13,13 @@ pub record Flow : Type 0 where
 pub record Sends (old new : Flow) (bytes : List ℕ) : Type 0 where
   pub sent : Appends old.sent new.sent bytes
   pub coming : new.coming ≡ old.coming
+
+-- what was sent is a beginning of the bytes
+pub record SendsFront (old new : Flow) (bytes : List ℕ) : Type 0 where
+  pub front : List ℕ
+  pub rest : List ℕ
+  pub whole : bytes ≡ front ++ rest
+  pub sent : Appends old.sent new.sent front
 
 -- these bytes came, and nothing was sent
 pub record Receives (old new : Flow) (bytes : List ℕ) : Type 0 where

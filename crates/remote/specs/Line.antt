@@ -8,8 +8,8 @@ use Rattle.blob_source.specs.declared.source.FetchError.TheVariants.{Failed, Mem
 use Rattle.remote.specs.declared.fault.Fault.{Fault}
 use Rattle.remote.specs.declared.fault.Fault.TheVariants.{Io, BadReply, Status, Broken}
 use Rattle.remote.specs.declared.line.Line.{Line}
-use Rattle.remote.specs.Flow.{Flow}
-use Rattle.remote.specs.Reply.{ReplyValue, Exchanges}
+use Rattle.remote.specs.Flow.{Flow, SendsFront}
+use Rattle.remote.specs.Reply.{ReplyValue, Exchanges, ExchangesForNone}
 
 -- a connection, where its stream stands as this tells
 pub record LineValue : Type 0 where
@@ -83,10 +83,15 @@ pub record ComesStatus (old new : LineValue) (request : Request) (status : ℕ) 
   pub is : reply.status ≡ status
   pub refused : is_answer request.body status ≡ false
 
+-- what begins no reply came to the one request
+pub record ComesBadly (old new : LineValue) (request : Request) : Type 0 where
+  pub unbroken : old.broken ≡ false
+  pub exchanges : ExchangesForNone old.flow new.flow (text_of old request)
+
 -- The fault is Broken just where the connection was broken before the request.
 abbrev pub IsFault : LineValue → LineValue → Request → Fault → Type 0
 IsFault old new request Io = old.broken ≡ false
-IsFault old new request BadReply = old.broken ≡ false
+IsFault old new request BadReply = ComesBadly old new request
 IsFault old new request (Status status) = ComesStatus old new request status
 IsFault old new request Broken = old.broken ≡ true
 
@@ -102,13 +107,15 @@ pub record IsUncounted (old new : LineValue) : Type 0 where
   pub count : new.failures ≡ old.failures
   pub fault : new.fault ≡ old.fault
 
--- The refusal leaves the connection broken. A broken one sends and reads nothing.
+-- The refusal leaves the connection broken. A broken one sends and reads nothing, and another no
+-- more than the one request.
 pub record Refuses (old new : LineValue) (request : Request) (e : FetchError) : Type 0 where
   pub broken : new.broken ≡ true
   pub failed : e ≡ Failed → IsCounted old new request
   pub unfailed : (e ≡ Failed → ⊥) → IsUncounted old new
   pub bounded : new.failures ≤ greatest_count
   pub still : old.broken ≡ true → new.flow ≡ old.flow
+  pub sent : SendsFront old.flow new.flow (text_of old request)
   pub server : IsSameServer old new
 
 -- the answer of a reply: its body with status 200, and none with status 404

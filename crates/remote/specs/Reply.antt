@@ -1,9 +1,12 @@
 -- Replies in a stream (RFC 9112, sections 6 and 9.3).
-use Rattle.std.specs.Prelude.{◌≡◌, ℕ, ◌<◌, ◌≤◌, Bool, List, ◌++◌, length}
-use Rattle.http_core.specs.Block.{IsBlock}
+use Rattle.std.specs.Prelude.{◌≡◌, ℕ, ◌<◌, ◌≤◌, ◌⊎◌, Bool, List, ◌++◌, length}
+use Rattle.http_core.specs.Block.{HasNoBlock, IsBlock}
 use Rattle.http_core.specs.ReplyHead.{IsReplyHead}
+use Rattle.http_core.specs.declared.reply_head.ReplyHead.{ReplyHead}
+use Rattle.remote.specs.declared.fault.Refusal.{Refusal}
+use Rattle.remote.specs.declared.fault.Refusal.TheVariants.{Io, BadReply}
 use Rattle.remote.specs.declared.reply.Reply.{Reply}
-use Rattle.remote.specs.Flow.{Flow, Sends, Receives}
+use Rattle.remote.specs.Flow.{Flow, Sends, SendsFront, Receives}
 
 pub record ReplyValue : Type 0 where
   pub status : ℕ
@@ -34,6 +37,44 @@ pub record Exchanges (old new : Flow) (request : List ℕ) (reply : ReplyValue) 
   pub between : Flow
   pub asks : Sends old between request
   pub answers : NextReply between new reply
+
+-- no reply begins so: a block without a lawful head, or 16,384 bytes in which no block ends
+abbrev pub BeginsNoReply : List ℕ → Type 0
+BeginsNoReply bytes =
+    (IsBlock bytes × ((head : ReplyHead) → IsReplyHead bytes head → ⊥))
+    ⊎ ((length bytes ≡ 16384) × HasNoBlock bytes)
+
+-- what was read begins no reply
+pub record NextIsNoReply (old new : Flow) : Type 0 where
+  pub text : List ℕ
+  pub bad : BeginsNoReply text
+  pub read : Receives old new text
+
+-- the one request was sent, and then what begins no reply was read
+pub record ExchangesForNone (old new : Flow) (request : List ℕ) : Type 0 where
+  pub between : Flow
+  pub asks : Sends old between request
+  pub answers : NextIsNoReply between new
+
+-- the stream failed, or memory was wanting
+pub record Interrupts (old new : Flow) (e : Refusal) : Type 0 where
+  pub other : e ≡ BadReply → ⊥
+  pub sent : new.sent ≡ old.sent
+
+-- no reply was read
+pub record ReadsNone (old new : Flow) (e : Refusal) : Type 0 where
+  pub bad : e ≡ BadReply → NextIsNoReply old new
+  pub sent : new.sent ≡ old.sent
+
+-- no reply came to the request
+pub record ComesNone (old new : Flow) (request : List ℕ) (e : Refusal) : Type 0 where
+  pub bad : e ≡ BadReply → ExchangesForNone old new request
+  pub sent : SendsFront old new request
+
+-- the stream took a front of the bytes, and then failed
+pub record SendsNoMore (old new : Flow) (bytes : List ℕ) (e : Refusal) : Type 0 where
+  pub is : e ≡ Io
+  pub sent : SendsFront old new bytes
 
 -- at the front of a stream stands one reply at most
 abbrev pub NextIsOne : Type 0

@@ -1,7 +1,7 @@
-ghost use Rattle.std.specs.Prelude.{◌≡◌, ℕ, ◌<◌, ◌≤◌, List, length, IfOk, OnOk};
+ghost use Rattle.std.specs.Prelude.{◌≡◌, ℕ, ◌<◌, ◌≤◌, List, length, IfOk, IfErr, OnOk};
 ghost use Rattle.http_core.specs.Block.{IsBlock};
 ghost use Rattle.remote.specs.Flow.{Sends, Receives};
-ghost use Rattle.remote.specs.Reply.{Adds, Exchanges, NextReply, reply_value};
+ghost use Rattle.remote.specs.Reply.{Adds, ComesNone, Exchanges, Interrupts, NextReply, ReadsNone, SendsNoMore, reply_value};
 
 use crate::block::wanting;
 use crate::fault::Refusal;
@@ -29,8 +29,9 @@ pub(crate) fn exchange<S: Stream, A: Allocator + Copy>(
     stream: &mut S,
     request: &[u8],
 ) -> Result<Reply<A>, Refusal>
-    ensures { IfOk result (λ reply. Exchanges (S.flow stream.old) (S.flow stream.new) request.now
-        (reply_value reply)) }
+    ensures ok { IfOk result (λ reply. Exchanges (S.flow stream.old) (S.flow stream.new)
+        request.now (reply_value reply)) }
+    ensures err { IfErr result (ComesNone (S.flow stream.old) (S.flow stream.new) request.now) }
 {
     send_all(stream, request)?;
     read_reply(alloc, stream)
@@ -38,7 +39,8 @@ pub(crate) fn exchange<S: Stream, A: Allocator + Copy>(
 
 /// Sends the bytes. A stream that takes none has failed.
 fn send_all<S: Stream>(stream: &mut S, bytes: &[u8]) -> Result<(), Refusal>
-    ensures { OnOk result (Sends (S.flow stream.old) (S.flow stream.new) bytes.now) }
+    ensures ok { OnOk result (Sends (S.flow stream.old) (S.flow stream.new) bytes.now) }
+    ensures err { IfErr result (SendsNoMore (S.flow stream.old) (S.flow stream.new) bytes.now) }
 {
     let mut rest = bytes;
     while !rest.is_empty() {
@@ -56,8 +58,9 @@ fn send_all<S: Stream>(stream: &mut S, bytes: &[u8]) -> Result<(), Refusal>
 
 /// Reads the next reply.
 fn read_reply<S: Stream, A: Allocator + Copy>(alloc: A, stream: &mut S) -> Result<Reply<A>, Refusal>
-    ensures { IfOk result (λ reply. NextReply (S.flow stream.old) (S.flow stream.new)
+    ensures ok { IfOk result (λ reply. NextReply (S.flow stream.old) (S.flow stream.new)
         (reply_value reply)) }
+    ensures err { IfErr result (ReadsNone (S.flow stream.old) (S.flow stream.new)) }
 {
     let block = read_block(alloc, stream)?;
     let Some(head) = read_reply_head(&block) else {
@@ -81,6 +84,7 @@ fn read_block<S: Stream, A: Allocator + Copy>(
     ensures fits { IfOk result (λ block. length block.items ≤ 16384) }
     ensures read { IfOk result (λ block. Receives (S.flow stream.old)
         (S.flow stream.new) block.items) }
+    ensures err { IfErr result (ReadsNone (S.flow stream.old) (S.flow stream.new)) }
 {
     let mut block = Vec::new(alloc);
     let mut missing = wanting(&block);
@@ -104,6 +108,7 @@ fn read_body<S: Stream, A: Allocator + Copy>(
     ensures body { IfOk result (λ body. length body.items ≡ size) }
     ensures read { IfOk result (λ body. Receives (S.flow stream.old)
         (S.flow stream.new) body.items) }
+    ensures err { IfErr result (Interrupts (S.flow stream.old) (S.flow stream.new)) }
 {
     let mut body = Vec::new(alloc);
     while body.len() < size {
@@ -120,8 +125,9 @@ fn receive_piece<S: Stream, A: Allocator + Copy>(
     most: usize,
 ) -> Result<(), Refusal>
     requires { 0 < most }
-    ensures { OnOk result (Adds (S.flow stream.old)
+    ensures ok { OnOk result (Adds (S.flow stream.old)
         (S.flow stream.new) most bytes.old.items bytes.new.items) }
+    ensures err { IfErr result (Interrupts (S.flow stream.old) (S.flow stream.new)) }
 {
     let mut buffer = [0; PIECE];
     let (room, _) = buffer.split_at_mut(most.min(PIECE));

@@ -1,7 +1,7 @@
-use Rattle.std.proofs.Common.{◌≡◌, ◌+◌, ◌≤◌, length, length-append, rules, arith, sym, ap, subst, ◌∙◌}
+use Rattle.std.proofs.Common.{◌≡◌, ◌+◌, length, length-append, arith, sym, ap, subst, ◌∙◌}
 use Rattle.remote.specs.Ending.{IsWanting}
 use Rattle.remote.specs.Flow.{Receives}
-use Rattle.remote.proofs.Endings.{ends_last_empty, ends_last_more, block_ended}
+use Rattle.remote.proofs.Endings.{ends_last_more}
 use Rattle.remote.proofs.Flows.{receives_then}
 use Rattle.remote.proofs.reply.read_block.Goals as goal
 
@@ -10,7 +10,7 @@ loop-missing-preserved g c =
     let flow = g.S.Stream.flow in
     let before = c.loop-missing.block.items in
     let after = c.receive_piece.new.bytes.items in
-    let adds = c.in_ok-receive_piece.ensures in
+    let adds = c.in_ok-receive_piece.ensures.ok in
     let size : length after ≡ length before + length adds.bytes = ap length adds.is ∙ length-append before adds.bytes in
     record {
       read = subst (Receives (flow c.args.stream.now) (flow c.receive_piece.new.stream)) (sym adds.is)
