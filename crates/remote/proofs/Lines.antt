@@ -3,10 +3,10 @@ use Rattle.std.proofs.Common.{◌≡◌, ℕ, ◌+◌, Bool, true, false, sym, a
 use Rattle.blob_source.specs.declared.source.FetchError.{FetchError}
 use Rattle.blob_source.specs.declared.source.FetchError.TheVariants.{Failed, Memory}
 use Rattle.remote.specs.declared.fault.Fault.{Fault}
-use Rattle.remote.specs.declared.fault.Fault.TheVariants.{Status, Broken}
+use Rattle.remote.specs.declared.fault.Fault.TheVariants.{Status}
 use Rattle.remote.specs.Line.{LineValue, Request, IsSameServer, IsUncounted, Asks, IsFault, Refuses, Fails, Starves, is_answer, text_of}
 use Rattle.remote.specs.Flow.{SendsFront}
-use Rattle.remote.proofs.Flows.{fronts_all, fronts_none, fronts_then}
+use Rattle.remote.proofs.Flows.{fronts_all, fronts_then}
 use Rattle.remote.specs.Reply.{ReplyValue, Exchanges}
 
 pub memory_failed : Memory ≡ Failed → ⊥
@@ -21,19 +21,7 @@ same_server h k = record { host = k.host ∙ h.host; prefix = k.prefix ∙ h.pre
 uncounted : {a b c : LineValue} → IsUncounted a b → IsUncounted b c → IsUncounted a c
 uncounted h k = record { count = k.count ∙ h.count; fault = k.fault ∙ h.fault }
 
--- a connection that was broken fails so
-pub refuses_broken : (old new : LineValue) (request : Request) (e : FetchError) → old.broken ≡ true → Fails old new Broken e → Refuses old new request e
-refuses_broken old new request e shut h = record {
-  broken = h.broken;
-  failed = λ f. record { count = (h.failed f).0; fault = Broken; kept = (h.failed f).1; is = shut };
-  unfailed = h.unfailed;
-  bounded = h.bounded;
-  still = λ is. h.flow;
-  sent = fronts_none old.flow new.flow (text_of old request) (ap (λ z. z.sent) h.flow);
-  server = h.server;
-}
-
--- one that wasn't fails with another fault
+-- a connection that wasn't broken fails
 pub refuses_fault : (old mid new : LineValue) (request : Request) (fault : Fault) (e : FetchError) → old.broken ≡ false → IsUncounted old mid → IsSameServer old mid
     → SendsFront old.flow mid.flow (text_of old request) → IsFault old new request fault → Fails mid new fault e → Refuses old new request e
 refuses_fault old mid new request fault e open_ none server sent is h = record {

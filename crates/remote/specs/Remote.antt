@@ -1,5 +1,5 @@
 -- What a remote tells, and how it asks its server.
-use Rattle.std.specs.Prelude.{◌≡◌, List, [], ℕ, false, Option, None, Some, Result, IfOk, IfErr, OnOk}
+use Rattle.std.specs.Prelude.{◌≡◌, List, [], ℕ, false, Option, None, Some, Result, IfOk, IfErr, OnErr, OnOk}
 use Rattle.std.specs.declared.vec.Vec.{Vec}
 use Rattle.blob_digest.specs.Digest.{DigestValue}
 use Rattle.http_core.specs.declared.event.Area.{Area}
@@ -9,7 +9,7 @@ use Rattle.remote.specs.declared.remote.Remote.{Remote}
 use Rattle.remote.specs.declared.table.Table.{Table}
 use Rattle.remote.specs.Flow.{Flow}
 use Rattle.remote.specs.Line.{LineValue, Gets, Puts, Refuses, Starves, get, put, line_of}
-use Rattle.remote.specs.Table.{IsKept, Keeps, KeepsAll, told_by}
+use Rattle.remote.specs.Table.{IsKept, IsSameBut, Keeps, KeepsAll, told_by}
 
 -- what it kept, how often it failed and was called, and the list of results put
 abbrev pub telling_of : {S A : Type 0} → Remote S A → Telling
@@ -25,12 +25,12 @@ telling_of r = record {
 abbrev pub connection_of : {S A : Type 0} → (S → Flow) → Remote S A → LineValue
 connection_of flow r = line_of flow r.line
 
--- an answer to the call is kept, be it that nothing is there
-abbrev pub KeepsBlob : {S A : Type 0} → Remote S A → DigestValue → Type 0
-KeepsBlob r d = IsKept r.blobs d
+-- the blobs and the results that it keeps
+abbrev pub blobs_of : {S A : Type 0} → Remote S A → Table A
+blobs_of r = r.blobs
 
-abbrev pub KeepsResult : {S A : Type 0} → Remote S A → DigestValue → Type 0
-KeepsResult r d = IsKept r.results d
+abbrev pub results_of : {S A : Type 0} → Remote S A → Table A
+results_of r = r.results
 
 -- nothing was asked so far
 pub record IsFresh {S A : Type 0} (flow : S → Flow) (stream : S) (host prefix : List ℕ) (r : Remote S A)
@@ -41,28 +41,35 @@ pub record IsFresh {S A : Type 0} (flow : S → Flow) (stream : S) (host prefix 
   pub unbroken : (connection_of flow r).broken ≡ false
   pub failures : (connection_of flow r).failures ≡ 0
   pub fault : (connection_of flow r).fault ≡ None
-  pub blobs : (d : DigestValue) → KeepsBlob r d → ⊥
-  pub results : (d : DigestValue) → KeepsResult r d → ⊥
+  pub blobs : (d : DigestValue) → IsKept (blobs_of r) d → ⊥
+  pub results : (d : DigestValue) → IsKept (results_of r) d → ⊥
   pub calls : (telling_of r).calls ≡ 0
   pub puts : (telling_of r).puts ≡ []
 
--- A call that asked for the hash in the area, where an answer to it was kept before, and is after.
--- What is kept isn't asked again, also where memory is wanting; what isn't is the server's answer.
+-- A call that asked for what stands under the digest in the area. What is kept isn't asked again,
+-- also where memory is wanting; what isn't is the server's answer, and that alone is kept.
 pub record LooksUp {A : Type 0}
-    (was is : Type 0) (area : Area) (hash : List ℕ) (old new : LineValue)
+    (area : Area) (d : DigestValue) (old new : LineValue) (before after : Table A)
     (result : Result (Option (Vec ℕ A)) FetchError) : Type 0 where
-  pub held : IfOk result (λ answer. is)
-  pub silent : was → new.flow ≡ old.flow
-  pub kept : was → IfOk result (λ answer. new ≡ old)
-  pub answered : (was → ⊥) → IfOk result (λ answer. Gets old new area hash (bytes_of answer))
-  pub refused : IfErr result (Refuses old new (get area hash))
+  pub silent : IsKept before d → new.flow ≡ old.flow
+  pub kept : IsKept before d → IfOk result (λ answer. new ≡ old)
+  pub same : IsKept before d → KeepsAll before after
+  pub answered : (IsKept before d → ⊥)
+      → IfOk result (λ answer. Gets old new area d.hash (bytes_of answer))
+  pub refused : IfErr result (Refuses old new (get area d.hash))
+  pub held : IfOk result (λ answer. IsKept after d)
+  pub unheld : OnErr result (KeepsAll before after)
+  pub others : IsSameBut d before after
 
--- a call that put the bytes under the hash in the area
-pub record Stores {T : Type 0}
-    (area : Area) (hash bytes : List ℕ) (old new : LineValue) (result : Result T FetchError)
-    : Type 0 where
-  pub taken : OnOk result (Puts old new area hash bytes)
-  pub refused : IfErr result (Refuses old new (put area hash bytes))
+-- a call that put the bytes under the digest in the area, and kept that
+pub record Stores {A T : Type 0}
+    (area : Area) (d : DigestValue) (bytes : List ℕ) (old new : LineValue) (before after : Table A)
+    (result : Result T FetchError) : Type 0 where
+  pub taken : OnOk result (Puts old new area d.hash bytes)
+  pub refused : IfErr result (Refuses old new (put area d.hash bytes))
+  pub held : OnOk result (IsKept after d)
+  pub unheld : OnErr result (KeepsAll before after)
+  pub others : IsSameBut d before after
 
 -- the bytes are kept, and the connection is as it was
 pub record KeepsBytes {A : Type 0} (old new : Table A) (from to : LineValue) (d : DigestValue) (bytes : List ℕ)

@@ -23,11 +23,15 @@ told_by t d = joined (answers t d)
 abbrev pub IsKept : {A : Type 0} → Table A → DigestValue → Type 0
 IsKept t d = answers t d ≢ None
 
+-- under the other digests is kept what was
+abbrev pub IsSameBut : {A : Type 0} → DigestValue → Table A → Table A → Type 0
+IsSameBut d old new = (e : DigestValue) → e ≢ d → answers new e ≡ answers old e
+
 -- this answer is kept under the digest, and under the others what was
 pub record Keeps {A : Type 0} (old new : Table A) (d : DigestValue) (answer : Option (List ℕ)) : Type 0 where
   pub kept : IsKept new d
   pub held : told_by new d ≡ answer
-  pub others : (e : DigestValue) → e ≢ d → answers new e ≡ answers old e
+  pub others : IsSameBut d old new
 
 -- the same is kept
 pub record KeepsAll {A : Type 0} (old new : Table A) : Type 0 where

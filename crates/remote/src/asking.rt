@@ -1,9 +1,8 @@
 ghost use Rattle.std.specs.Prelude.{◌≡◌, ◌≤◌, IfOk, IfErr, OnErr, OnOk};
-ghost use Rattle.blob_digest.specs.Digest.{DigestValue};
 ghost use Rattle.blob_source.specs.Source.{GrowsAt, bytes_of, greatest_count};
 ghost use Rattle.remote.specs.Line.{Gets, Refuses, get, line_of};
 ghost use Rattle.remote.specs.Remote.{KeepsBytes, KeepsNothing};
-ghost use Rattle.remote.specs.Table.{IsKept, Keeps, KeepsAll, told_by};
+ghost use Rattle.remote.specs.Table.{IsKept, IsSameBut, Keeps, KeepsAll, told_by};
 
 use crate::line::Line;
 use crate::stream::Stream;
@@ -32,6 +31,9 @@ pub(crate) fn look_up<S: Stream + Drop, A: Allocator + Copy>(
         (line_of S.flow line.new) area digest.now.hash (bytes_of answer)) }
     ensures refused { IfErr result (Refuses (line_of S.flow line.old) (line_of S.flow line.new)
         (get area digest.now.hash)) }
+    ensures same { IsKept table.old digest.now → KeepsAll table.old table.new }
+    ensures unheld { OnErr result (KeepsAll table.old table.new) }
+    ensures others { IsSameBut digest.now table.old table.new }
     ensures risen { line.old.failures ≤ line.new.failures }
     ensures bounded { line.new.failures ≤ greatest_count }
 {

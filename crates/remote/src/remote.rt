@@ -3,7 +3,7 @@ ghost use Rattle.blob_digest.specs.Digest.{digest_of};
 ghost use Rattle.blob_source.specs.Called.{Calls};
 ghost use Rattle.blob_source.specs.Sink.{PutsBlob, PutsResult, IsPut};
 ghost use Rattle.blob_source.specs.Source.{AsksBlob, AsksResult, bytes_of};
-ghost use Rattle.remote.specs.Remote.{IsFresh, KeepsBlob, KeepsResult, LooksUp, Stores, connection_of, telling_of};
+ghost use Rattle.remote.specs.Remote.{IsFresh, LooksUp, Stores, blobs_of, connection_of, results_of, telling_of};
 
 use crate::asking::{keep_bytes, look_up};
 use crate::fault::Fault;
@@ -75,9 +75,10 @@ impl<S: Stream + Drop, A: Allocator + Copy> BlobSource<A> for Remote<S, A> {
             (λ answer. bytes_of answer ≡ (telling_of self.new).blobs digest.now) }
         ensures called { Calls (AsksBlob digest.now) (telling_of self.old) (telling_of self.new)
             (IsErrOf result FetchError.Failed) }
-        ensures asked { LooksUp (KeepsBlob self.old digest.now) (KeepsBlob self.new digest.now)
-            Area.Cas digest.now.hash (connection_of S.flow self.old) (connection_of S.flow self.new)
-            result }
+        ensures asked { LooksUp Area.Cas digest.now
+            (connection_of S.flow self.old) (connection_of S.flow self.new)
+            (blobs_of self.old) (blobs_of self.new) result }
+        ensures untouched { results_of self.new ≡ results_of self.old }
     {
         self.calls = self.calls.saturating_add(1);
         look_up(alloc, &mut self.line, &mut self.blobs, Area::Cas, digest)
@@ -88,9 +89,10 @@ impl<S: Stream + Drop, A: Allocator + Copy> BlobSource<A> for Remote<S, A> {
             (λ answer. bytes_of answer ≡ (telling_of self.new).results digest.now) }
         ensures called { Calls (AsksResult digest.now) (telling_of self.old) (telling_of self.new)
             (IsErrOf result FetchError.Failed) }
-        ensures asked { LooksUp (KeepsResult self.old digest.now) (KeepsResult self.new digest.now)
-            Area.Ac digest.now.hash (connection_of S.flow self.old) (connection_of S.flow self.new)
-            result }
+        ensures asked { LooksUp Area.Ac digest.now
+            (connection_of S.flow self.old) (connection_of S.flow self.new)
+            (results_of self.old) (results_of self.new) result }
+        ensures untouched { blobs_of self.new ≡ blobs_of self.old }
     {
         self.calls = self.calls.saturating_add(1);
         look_up(alloc, &mut self.line, &mut self.results, Area::Ac, digest)
@@ -104,8 +106,10 @@ impl<S: Stream + Drop, A: Allocator + Copy> BlobSink<A> for Remote<S, A> {
             (telling_of self.old).blobs (telling_of self.new).blobs) }
         ensures called { Calls (PutsBlob bytes.now) (telling_of self.old) (telling_of self.new)
             (IsErrOf result FetchError.Failed) }
-        ensures stored { Stores Area.Cas (digest_of bytes.now).hash bytes.now
-            (connection_of S.flow self.old) (connection_of S.flow self.new) result }
+        ensures stored { Stores Area.Cas (digest_of bytes.now) bytes.now
+            (connection_of S.flow self.old) (connection_of S.flow self.new)
+            (blobs_of self.old) (blobs_of self.new) result }
+        ensures untouched { results_of self.new ≡ results_of self.old }
     {
         let _count = self.line.failures;
         self.calls = self.calls.saturating_add(1);
@@ -125,8 +129,10 @@ impl<S: Stream + Drop, A: Allocator + Copy> BlobSink<A> for Remote<S, A> {
         ensures unlisted { OnErr result ((telling_of self.new).puts ≡ (telling_of self.old).puts) }
         ensures called { Calls (PutsResult digest.now bytes.now)
             (telling_of self.old) (telling_of self.new) (IsErrOf result FetchError.Failed) }
-        ensures stored { Stores Area.Ac digest.now.hash bytes.now
-            (connection_of S.flow self.old) (connection_of S.flow self.new) result }
+        ensures stored { Stores Area.Ac digest.now bytes.now
+            (connection_of S.flow self.old) (connection_of S.flow self.new)
+            (results_of self.old) (results_of self.new) result }
+        ensures untouched { blobs_of self.new ≡ blobs_of self.old }
     {
         let _count = self.line.failures;
         self.calls = self.calls.saturating_add(1);

@@ -14,9 +14,9 @@ returns-in_err-keep_bytes-clause-stored g c =
     let bytes = c.args.bytes.now in
     let old : LineValue = line_of flow c.args.self.now.line in
     let new : LineValue = line_of flow c.keep_bytes.new.line in
-    subst (λ d. Stores Cas d.hash bytes old new c.from_residual-in_err-keep_bytes.result) c.of-digest.ensures
-    (stores_unkept Cas c.of-digest.result.hash bytes old (line_of flow c.put.new.self) new
-    c.from_residual-in_err-keep_bytes.result c.in_err-keep_bytes.field-0.0 c.in_ok-put.ensures.asked c.in_err-keep_bytes.ensures.err.starves c.from_residual-in_err-keep_bytes.ensures.1)
+    subst (λ d. Stores Cas d bytes old new c.args.self.now.blobs c.keep_bytes.new.table c.from_residual-in_err-keep_bytes.result) c.of-digest.ensures
+    (stores_unkept Cas c.of-digest.result bytes old (line_of flow c.put.new.self) new c.args.self.now.blobs c.keep_bytes.new.table
+    c.from_residual-in_err-keep_bytes.result c.in_err-keep_bytes.field-0.0 c.in_ok-put.ensures.asked c.in_err-keep_bytes.ensures.err c.from_residual-in_err-keep_bytes.ensures.1)
 
 pub returns-clause-called : goal.returns-clause-called
 returns-clause-called g c =

@@ -6,5 +6,5 @@ use Rattle.remote.proofs.remote.RemoteBlobSink.put_result.Goals as goal
 pub returns-in_err-keep_bytes-clause-stored : goal.returns-in_err-keep_bytes-clause-stored
 returns-in_err-keep_bytes-clause-stored g c =
     let flow = g.S.Stream.flow in
-    stores_unkept Ac c.args.digest.now.hash c.args.bytes.now (line_of flow c.args.self.now.line) (line_of flow c.put.new.self) (line_of flow c.keep_bytes.new.line)
-    c.from_residual-in_err-keep_bytes.result c.in_err-keep_bytes.field-0.0 c.in_ok-put.ensures.asked c.in_err-keep_bytes.ensures.err.starves c.from_residual-in_err-keep_bytes.ensures.1
+    stores_unkept Ac c.args.digest.now c.args.bytes.now (line_of flow c.args.self.now.line) (line_of flow c.put.new.self) (line_of flow c.keep_bytes.new.line) c.args.self.now.results c.keep_bytes.new.table
+    c.from_residual-in_err-keep_bytes.result c.in_err-keep_bytes.field-0.0 c.in_ok-put.ensures.asked c.in_err-keep_bytes.ensures.err c.from_residual-in_err-keep_bytes.ensures.1

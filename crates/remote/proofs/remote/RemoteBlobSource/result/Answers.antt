@@ -4,6 +4,9 @@ use Rattle.remote.proofs.remote.RemoteBlobSource.result.Goals as goal
 pub returns-clause-asked : goal.returns-clause-asked
 returns-clause-asked g c = record {
   held = c.look_up.ensures.held;
+  unheld = c.look_up.ensures.unheld;
+  same = c.look_up.ensures.same;
+  others = c.look_up.ensures.others;
   silent = c.look_up.ensures.silent;
   kept = c.look_up.ensures.kept;
   answered = c.look_up.ensures.asked;
