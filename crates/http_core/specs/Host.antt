@@ -1,5 +1,5 @@
--- The value of a `Host` field: a host, and perhaps a port (RFC 9110, section 7.2), made of the bytes
--- that these have (RFC 3986, sections 3.2.2 and 3.2.3).
+-- The value of a `Host` field: a host, and perhaps a port (RFC 9110, section 7.2), made of the
+-- bytes that these have (RFC 3986, sections 3.2.2 and 3.2.3).
 use Rattle.std.specs.Prelude.{ℕ, ◌==◌, ◌&&◌, ◌||◌, nat_lt, Bool, List, length}
 use Rattle.std.specs.List.{list_all}
 use Rattle.http_core.specs.Prefix.{is_unreserved}

@@ -1,4 +1,5 @@
--- The head of a reply, as a client reads it (RFC 9112, sections 4, 6.3 and 9; RFC 9110, section 8.6).
+-- The head of a reply, as a client reads it (RFC 9112, sections 4, 6.3 and 9; RFC 9110, section
+-- 8.6).
 use Rattle.std.specs.Prelude.{◌≡◌, ℕ, ◌==◌, ◌≤◌, nat_lt, Bool, List, [], length, map, take, codes, Option, Some, None, if◌then◌else◌}
 use Rattle.httparse.specs.Grammar.{ResponseHead, ReadsResponse, status_code}
 use Rattle.httparse.specs.Spans.{IsResponseWithin, header_bytes, name_and_value}
@@ -57,4 +58,5 @@ pub record ShowsResponse (block : List ℕ) (x : Response) : Type 0 where
   pub within : IsResponseWithin block x.headers x.spans
   pub version : x.spans.version ≡ response.minor
   pub code : x.spans.code ≡ status_code response
-  pub fields : map (header_bytes block) (take x.spans.headers x.headers) ≡ map name_and_value response.fields
+  pub fields : map (header_bytes block) (take x.spans.headers x.headers)
+      ≡ map name_and_value response.fields

@@ -3,7 +3,7 @@ use Rattle.std.proofs.Common.{◌≡◌, ℕ, suc, ◌+◌, ◌<◌, ◌≤◌, 
 use Rattle.std.proofs.lemmas.List.{append-nil}
 use Rattle.http_core.specs.Block.{empty_line, EndsBlock, HasNoBlock, IsBlock}
 use Rattle.http_core.proofs.Lists.{IsShorter, compare_fronts, same_fronts}
-use Rattle.remote.specs.Ending.{IsWanting}
+use Rattle.remote.specs.Steps.{IsWanting}
 
 -- the bytes don't end so
 abbrev pub IsNoTail : List ℕ → List ℕ → Type 0

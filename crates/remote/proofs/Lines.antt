@@ -4,10 +4,11 @@ use Rattle.blob_source.specs.declared.source.FetchError.{FetchError}
 use Rattle.blob_source.specs.declared.source.FetchError.TheVariants.{Failed, Memory}
 use Rattle.remote.specs.declared.fault.Fault.{Fault}
 use Rattle.remote.specs.declared.fault.Fault.TheVariants.{Status}
-use Rattle.remote.specs.Line.{LineValue, Request, IsSameServer, IsUncounted, Asks, IsFault, Refuses, Fails, Starves, is_answer, text_of}
+use Rattle.remote.specs.Line.{LineValue, Request, IsSameServer, IsUncounted, Asks, IsFault, Refuses, is_answer, text_of}
 use Rattle.remote.specs.Flow.{SendsFront}
 use Rattle.remote.proofs.Flows.{fronts_all, fronts_then}
 use Rattle.remote.specs.Reply.{ReplyValue, Exchanges}
+use Rattle.remote.specs.Steps.{Fails, Starves}
 
 pub memory_failed : Memory ≡ Failed → ⊥
 memory_failed h = cc

@@ -9,9 +9,10 @@ use Rattle.blob_source.specs.Sink.{PutsAt}
 use Rattle.blob_source.specs.declared.source.FetchError.{FetchError}
 use Rattle.remote.specs.declared.table.Table.{Table}
 use Rattle.remote.specs.Line.{LineValue, Puts, Refuses, put}
-use Rattle.remote.specs.Remote.{KeepsNothing, Stores}
-use Rattle.remote.specs.Table.{Keeps, joined, told_by}
+use Rattle.remote.specs.Remote.{Stores}
+use Rattle.remote.specs.Table.{joined, told_by}
 use Rattle.remote.proofs.Lines.{refuses_unkept}
+use Rattle.remote.specs.Steps.{Keeps, KeepsNothing}
 
 -- the bytes were taken, and memory to keep them was wanting
 pub stores_unkept : {A T : Type 0} (area : Area) (d : DigestValue) (bytes : List ℕ) (old mid new : LineValue) (before after : Table A) (r : Result T FetchError) (e : FetchError)

@@ -4,7 +4,7 @@ use Rattle.http_core.specs.declared.event.Area.{Area}
 use Rattle.http_core.specs.Request.{request_text}
 use Rattle.blob_source.specs.Source.{greatest_count}
 use Rattle.blob_source.specs.declared.source.FetchError.{FetchError}
-use Rattle.blob_source.specs.declared.source.FetchError.TheVariants.{Failed, Memory}
+use Rattle.blob_source.specs.declared.source.FetchError.TheVariants.{Failed}
 use Rattle.remote.specs.declared.fault.Fault.{Fault}
 use Rattle.remote.specs.declared.fault.Fault.TheVariants.{Io, BadReply, Status, Broken}
 use Rattle.remote.specs.declared.line.Line.{Line}
@@ -136,21 +136,3 @@ pub record Puts (old new : LineValue) (area : Area) (hash body : List ℕ) : Typ
   pub reply : ReplyValue
   pub asks : Asks old new (put area hash body) reply
   pub is : is_put reply.status ≡ true
-
--- the fault is counted and told, unless the count is full
-pub record Fails (old new : LineValue) (fault : Fault) (e : FetchError) : Type 0 where
-  pub flow : new.flow ≡ old.flow
-  pub broken : new.broken ≡ true
-  pub failed : e ≡ Failed → (new.failures ≡ old.failures + 1) × (new.fault ≡ Some fault)
-  pub unfailed : (e ≡ Failed → ⊥) → IsUncounted old new
-  pub bounded : new.failures ≤ greatest_count
-  pub server : IsSameServer old new
-
--- memory is wanting, which is no failure
-pub record Starves (old new : LineValue) (e : FetchError) : Type 0 where
-  pub is : e ≡ Memory
-  pub flow : new.flow ≡ old.flow
-  pub broken : new.broken ≡ true
-  pub uncounted : IsUncounted old new
-  pub bounded : new.failures ≤ greatest_count
-  pub server : IsSameServer old new

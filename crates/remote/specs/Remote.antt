@@ -1,5 +1,5 @@
 -- What a remote tells, and how it asks its server.
-use Rattle.std.specs.Prelude.{◌≡◌, List, [], ℕ, false, Option, None, Some, Result, IfOk, IfErr, OnErr, OnOk}
+use Rattle.std.specs.Prelude.{◌≡◌, List, [], ℕ, false, Option, None, Result, IfOk, IfErr, OnErr, OnOk}
 use Rattle.std.specs.declared.vec.Vec.{Vec}
 use Rattle.blob_digest.specs.Digest.{DigestValue}
 use Rattle.http_core.specs.declared.event.Area.{Area}
@@ -8,8 +8,8 @@ use Rattle.blob_source.specs.declared.source.FetchError.{FetchError}
 use Rattle.remote.specs.declared.remote.Remote.{Remote}
 use Rattle.remote.specs.declared.table.Table.{Table}
 use Rattle.remote.specs.Flow.{Flow}
-use Rattle.remote.specs.Line.{LineValue, Gets, Puts, Refuses, Starves, get, put, line_of}
-use Rattle.remote.specs.Table.{IsKept, IsSameBut, Keeps, KeepsAll, told_by}
+use Rattle.remote.specs.Line.{LineValue, Gets, Puts, Refuses, get, put, line_of}
+use Rattle.remote.specs.Table.{IsKept, IsSameBut, KeepsAll, told_by}
 
 -- what it kept, how often it failed and was called, and the list of results put
 abbrev pub telling_of : {S A : Type 0} → Remote S A → Telling
@@ -33,8 +33,8 @@ abbrev pub results_of : {S A : Type 0} → Remote S A → Table A
 results_of r = r.results
 
 -- nothing was asked so far
-pub record IsFresh {S A : Type 0} (flow : S → Flow) (stream : S) (host prefix : List ℕ) (r : Remote S A)
-    : Type 0 where
+pub record IsFresh {S A : Type 0}
+    (flow : S → Flow) (stream : S) (host prefix : List ℕ) (r : Remote S A) : Type 0 where
   pub stream_is : (connection_of flow r).flow ≡ flow stream
   pub host_is : (connection_of flow r).host ≡ host
   pub prefix_is : (connection_of flow r).prefix ≡ prefix
@@ -70,14 +70,3 @@ pub record Stores {A T : Type 0}
   pub held : OnOk result (IsKept after d)
   pub unheld : OnErr result (KeepsAll before after)
   pub others : IsSameBut d before after
-
--- the bytes are kept, and the connection is as it was
-pub record KeepsBytes {A : Type 0} (old new : Table A) (from to : LineValue) (d : DigestValue) (bytes : List ℕ)
-    : Type 0 where
-  pub keeps : Keeps old new d (Some bytes)
-  pub connection : to ≡ from
-
--- memory was wanting, and nothing more is kept
-pub record KeepsNothing {A : Type 0} (old new : Table A) (from to : LineValue) (e : FetchError) : Type 0 where
-  pub keeps : KeepsAll old new
-  pub starves : Starves from to e

@@ -1,12 +1,10 @@
 -- Replies in a stream (RFC 9112, sections 6 and 9.3).
-use Rattle.std.specs.Prelude.{◌≡◌, ℕ, ◌<◌, ◌≤◌, ◌⊎◌, Bool, List, ◌++◌, length}
+use Rattle.std.specs.Prelude.{◌≡◌, ℕ, ◌≤◌, ◌⊎◌, Bool, List, ◌++◌, length}
 use Rattle.http_core.specs.Block.{HasNoBlock, IsBlock}
 use Rattle.http_core.specs.ReplyHead.{IsReplyHead}
 use Rattle.http_core.specs.declared.reply_head.ReplyHead.{ReplyHead}
-use Rattle.remote.specs.declared.fault.Refusal.{Refusal}
-use Rattle.remote.specs.declared.fault.Refusal.TheVariants.{Io, BadReply}
 use Rattle.remote.specs.declared.reply.Reply.{Reply}
-use Rattle.remote.specs.Flow.{Flow, Sends, SendsFront, Receives}
+use Rattle.remote.specs.Flow.{Flow, Sends, Receives}
 
 pub record ReplyValue : Type 0 where
   pub status : ℕ
@@ -56,36 +54,8 @@ pub record ExchangesForNone (old new : Flow) (request : List ℕ) : Type 0 where
   pub asks : Sends old between request
   pub answers : NextIsNoReply between new
 
--- the stream failed, or memory was wanting
-pub record Interrupts (old new : Flow) (e : Refusal) : Type 0 where
-  pub other : e ≡ BadReply → ⊥
-  pub sent : new.sent ≡ old.sent
-
--- no reply was read
-pub record ReadsNone (old new : Flow) (e : Refusal) : Type 0 where
-  pub bad : e ≡ BadReply → NextIsNoReply old new
-  pub sent : new.sent ≡ old.sent
-
--- no reply came to the request
-pub record ComesNone (old new : Flow) (request : List ℕ) (e : Refusal) : Type 0 where
-  pub bad : e ≡ BadReply → ExchangesForNone old new request
-  pub sent : SendsFront old new request
-
--- the stream took a front of the bytes, and then failed
-pub record SendsNoMore (old new : Flow) (bytes : List ℕ) (e : Refusal) : Type 0 where
-  pub is : e ≡ Io
-  pub sent : SendsFront old new bytes
-
 -- at the front of a stream stands one reply at most
 abbrev pub NextIsOne : Type 0
 NextIsOne =
     (a x b y : List ℕ) (r s : ReplyValue) → IsReply a r → IsReply b s → a ++ x ≡ b ++ y
     → (a ≡ b) × (r ≡ s)
-
--- some bytes came, at most so many, and stand behind the others
-pub record Adds (old new : Flow) (most : ℕ) (before after : List ℕ) : Type 0 where
-  pub bytes : List ℕ
-  pub some : 0 < length bytes
-  pub few : length bytes ≤ most
-  pub read : Receives old new bytes
-  pub is : after ≡ before ++ bytes

@@ -27,12 +27,6 @@ IsKept t d = answers t d ≢ None
 abbrev pub IsSameBut : {A : Type 0} → DigestValue → Table A → Table A → Type 0
 IsSameBut d old new = (e : DigestValue) → e ≢ d → answers new e ≡ answers old e
 
--- this answer is kept under the digest, and under the others what was
-pub record Keeps {A : Type 0} (old new : Table A) (d : DigestValue) (answer : Option (List ℕ)) : Type 0 where
-  pub kept : IsKept new d
-  pub held : told_by new d ≡ answer
-  pub others : IsSameBut d old new
-
 -- the same is kept
 pub record KeepsAll {A : Type 0} (old new : Table A) : Type 0 where
   pub same : (e : DigestValue) → answers new e ≡ answers old e

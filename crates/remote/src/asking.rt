@@ -1,8 +1,8 @@
 ghost use Rattle.std.specs.Prelude.{◌≡◌, ◌≤◌, IfOk, IfErr, OnErr, OnOk};
 ghost use Rattle.blob_source.specs.Source.{GrowsAt, bytes_of, greatest_count};
 ghost use Rattle.remote.specs.Line.{Gets, Refuses, get, line_of};
-ghost use Rattle.remote.specs.Remote.{KeepsBytes, KeepsNothing};
-ghost use Rattle.remote.specs.Table.{IsKept, IsSameBut, Keeps, KeepsAll, told_by};
+ghost use Rattle.remote.specs.Table.{IsKept, IsSameBut, KeepsAll, told_by};
+ghost use Rattle.remote.specs.Steps.{Keeps, KeepsBytes, KeepsNothing};
 
 use crate::line::Line;
 use crate::stream::Stream;

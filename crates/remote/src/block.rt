@@ -1,4 +1,4 @@
-ghost use Rattle.remote.specs.Ending.{IsWanting};
+ghost use Rattle.remote.specs.Steps.{IsWanting};
 
 /// How many bytes are missing at least until a block ends: none, where one does.
 pub(crate) fn wanting(block: &[u8]) -> usize

@@ -1,7 +1,8 @@
 ghost use Rattle.std.specs.Prelude.{◌≡◌, IfOk, IfErr, OnOk, option_map};
 ghost use Rattle.blob_source.specs.Source.{bytes_of};
-ghost use Rattle.remote.specs.Line.{Asks, Fails, Gets, Puts, Refuses, Starves, get, is_put, line_of, put, request};
+ghost use Rattle.remote.specs.Line.{Asks, Gets, Puts, Refuses, get, is_put, line_of, put, request};
 ghost use Rattle.remote.specs.Reply.{reply_value};
+ghost use Rattle.remote.specs.Steps.{Fails, Starves};
 
 use crate::fault::{Fault, Refusal};
 use crate::reply::{Reply, exchange};

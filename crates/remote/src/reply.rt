@@ -1,7 +1,8 @@
 ghost use Rattle.std.specs.Prelude.{◌≡◌, ℕ, ◌<◌, ◌≤◌, List, length, IfOk, IfErr, OnOk};
 ghost use Rattle.http_core.specs.Block.{IsBlock};
 ghost use Rattle.remote.specs.Flow.{Sends, Receives};
-ghost use Rattle.remote.specs.Reply.{Adds, ComesNone, Exchanges, Interrupts, NextReply, ReadsNone, SendsNoMore, reply_value};
+ghost use Rattle.remote.specs.Reply.{Exchanges, NextReply, reply_value};
+ghost use Rattle.remote.specs.Steps.{Adds, ComesNone, Interrupts, ReadsNone, SendsNoMore};
 
 use crate::block::wanting;
 use crate::fault::Refusal;
@@ -74,8 +75,8 @@ fn read_reply<S: Stream, A: Allocator + Copy>(alloc: A, stream: &mut S) -> Resul
     })
 }
 
-/// Reads the next block. What follows it isn't to be read with it, so at most as many bytes are read
-/// at once as are missing in any case.
+/// Reads the next block. What follows it isn't to be read with it, so at most as many bytes are
+/// read at once as are missing in any case.
 fn read_block<S: Stream, A: Allocator + Copy>(
     alloc: A,
     stream: &mut S,

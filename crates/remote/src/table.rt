@@ -2,7 +2,8 @@ ghost use Rattle.std.specs.Prelude.{◌≡◌, ◌↔◌, IsTrue, IfOk, OnOk, On
 ghost use Rattle.blob_source.specs.Sink.{HasRight};
 ghost use Rattle.blob_source.specs.Source.{bytes_of};
 ghost use Rattle.blob_digest.specs.Digest.{DigestValue};
-ghost use Rattle.remote.specs.Table.{IsKept, Keeps, KeepsAll, told_by};
+ghost use Rattle.remote.specs.Table.{IsKept, KeepsAll, told_by};
+ghost use Rattle.remote.specs.Steps.{Keeps};
 
 use blob_digest::Digest;
 use std::alloc::{AllocError, Allocator};

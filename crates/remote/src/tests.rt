@@ -49,8 +49,8 @@ impl Stream for Failing {
     }
 }
 
-/// A remote to which these bytes are to come, in pieces of at most so many, and of which the stream's
-/// call of this number fails.
+/// A remote to which these bytes are to come, in pieces of at most so many; the stream's call of
+/// this number fails.
 fn remote<A: Allocator + Copy>(
     heap: Global,
     alloc: A,

@@ -1,9 +1,9 @@
 use Rattle.std.proofs.Common.{◌≡◌, ◌+◌, length, length-append, arith, sym, ap, subst, ◌∙◌}
-use Rattle.remote.specs.Ending.{IsWanting}
 use Rattle.remote.specs.Flow.{Receives}
 use Rattle.remote.proofs.Endings.{ends_last_more}
 use Rattle.remote.proofs.Flows.{receives_then}
 use Rattle.remote.proofs.reply.read_block.Goals as goal
+use Rattle.remote.specs.Steps.{IsWanting}
 
 pub loop-missing-preserved : goal.loop-missing-preserved
 loop-missing-preserved g c =

@@ -1,8 +1,8 @@
 use Rattle.std.proofs.Common.{◌≤◌, ◌-◌, length}
-use Rattle.remote.specs.Ending.{IsWanting}
 use Rattle.remote.specs.Flow.{Receives}
 use Rattle.remote.proofs.Endings.{EndsLast}
 use Rattle.remote.proofs.reply.read_block.Given as goal
+use Rattle.remote.specs.Steps.{IsWanting}
 
 abbrev pub invariant-loop-missing : goal.invariant-loop-missing
 invariant-loop-missing g l = record {
