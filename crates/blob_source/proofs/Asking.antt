@@ -4,25 +4,34 @@ use Rattle.std.specs.Prelude.{Result, Ok, Err}
 use Rattle.blob_digest.specs.Digest.{DigestValue}
 use Rattle.blob_source.specs.Source.{Blobs, Telling, GrowsAt, AsksBlob, AsksResult, Asks, AsksSome}
 
-pub asks_none : (t : Telling) → Asks 1 t t
-asks_none t = record { blobs = λ e b h. h; results = λ e b h. h; failures = omega arith; risen = omega arith; most_calls = omega arith }
+pub asks_none : {most : ℕ} (t : Telling) → Asks most t t
+asks_none t = record {
+  blobs = λ e b h. h;
+  results = λ e b h. h;
+  failures = omega arith;
+  risen = omega arith;
+  most_calls = omega arith;
+  puts = refl;
+}
 
-pub asks_blob : {old new : Telling} {d : DigestValue} → AsksBlob old new d → Asks 1 old new
+pub asks_blob : {old new : Telling} {d : DigestValue} → AsksBlob d old new → Asks 1 old new
 asks_blob {old} {new} h = record {
   blobs = h.blobs.kept;
   results = λ e b q. ap (λ R. R e) h.results ∙ q;
   failures = h.counts.failures;
   risen = h.counts.risen;
   most_calls = omega (arith, h.counts.calls);
+  puts = h.puts;
 }
 
-pub asks_result : {old new : Telling} {d : DigestValue} → AsksResult old new d → Asks 1 old new
+pub asks_result : {old new : Telling} {d : DigestValue} → AsksResult d old new → Asks 1 old new
 asks_result {old} {new} h = record {
   blobs = λ e b q. ap (λ B. B e) h.blobs ∙ q;
   results = h.results.kept;
   failures = h.counts.failures;
   risen = h.counts.risen;
   most_calls = omega (arith, h.counts.calls);
+  puts = h.puts;
 }
 
 pub asks_then : {a b : ℕ} {old mid new : Telling} → Asks a old mid → Asks b mid new → Asks (a + b) old new
@@ -32,6 +41,7 @@ asks_then {a} {b} {old} {mid} {new} h k = record {
   failures = omega (arith, h.failures, k.failures);
   risen = omega (arith, h.risen, k.risen);
   most_calls = omega (arith, h.most_calls, k.most_calls);
+  puts = k.puts ∙ h.puts;
 }
 
 pub asks_within : {a b : ℕ} {old new : Telling} → a ≤ b → Asks a old new → Asks b old new
@@ -41,10 +51,8 @@ asks_within {a} {b} {old} {new} le h = record {
   failures = h.failures;
   risen = h.risen;
   most_calls = omega (arith, h.most_calls, le);
+  puts = h.puts;
 }
-
-pub asks_nothing : (t : Telling) → Asks 0 t t
-asks_nothing t = record { blobs = λ e b h. h; results = λ e b h. h; failures = omega arith; risen = omega arith; most_calls = omega arith }
 
 -- one call more, of so many
 pub asks_more : {i n : ℕ} {old mid new : Telling} → i < n → Asks i old mid → Asks 1 mid new → Asks n old new
