@@ -1,5 +1,5 @@
 -- Calls of a source, one after another.
-use Rattle.std.proofs.Common.{◌≡◌, ℕ, ◌+◌, ◌-◌, ◌*◌, ◌<◌, ◌≤◌, refl, ap, ◌∙◌, arith}
+use Rattle.std.proofs.Common.{◌≡◌, ℕ, ◌+◌, ◌<◌, ◌≤◌, refl, ap, ◌∙◌, arith}
 use Rattle.std.specs.Prelude.{Result, Ok, Err}
 use Rattle.blob_digest.specs.Digest.{DigestValue}
 use Rattle.blob_source.specs.Source.{Blobs, Telling, GrowsAt, AsksBlob, AsksResult, Asks, AsksSome}
@@ -62,20 +62,6 @@ asks_more {i} {n} lt h k = asks_within {a = i + 1} {b = n} (omega (arith, lt)) (
 
 pub asks_some_more : {old mid new : Telling} → AsksSome old mid → AsksSome mid new → AsksSome old new
 asks_some_more {old} {mid} {new} h k = record { most = h.most + k.most; asks = asks_then h.asks k.asks }
-
-pub asks_one : {old new : Telling} → Asks 1 old new → AsksSome old new
-asks_one {old} {new} h = record { most = 1; asks = h }
-
--- ---- two calls for each of so many names
-
-pub asks_first : {deeper : ℕ} {old new : Telling} → 0 < deeper → Asks 1 old new → Asks (2 * deeper) old new
-asks_first {deeper} some h = asks_within {a = 1} {b = 2 * deeper} (omega (arith, some)) h
-
-pub asks_both : {deeper : ℕ} {old mid new : Telling} → 0 < deeper → Asks 1 old mid → Asks 1 mid new → Asks (2 * deeper) old new
-asks_both {deeper} some h k = asks_within {a = 1 + 1} {b = 2 * deeper} (omega (arith, some)) (asks_then h k)
-
-pub asks_below : {deeper : ℕ} {old mid late new : Telling} → 0 < deeper → Asks 1 old mid → Asks 1 mid late → Asks (2 * (deeper - 1)) late new → Asks (2 * deeper) old new
-asks_below {deeper} some h k l = asks_within {a = 1 + 1 + 2 * (deeper - 1)} {b = 2 * deeper} (omega (arith, some)) (asks_then (asks_then h k) l)
 
 -- an answer is no error
 pub ok_no_error : {T E : Type 0} {x : T} {e : E} → ◌≡◌ {A = Result T E} (Ok x) (Err e) → ⊥

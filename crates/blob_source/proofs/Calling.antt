@@ -1,10 +1,10 @@
 -- What some calls of a source did, put together.
-use Rattle.std.proofs.Common.{◌≡◌, ◌<◌, ℕ, ◌+◌, ◌∙◌, ap, sym, subst, arith}
+use Rattle.std.proofs.Common.{◌≡◌, ℕ, ◌∙◌, ap, sym, subst, arith}
 use Rattle.std.specs.Prelude.{Result, Ok, Err, IsErrOf}
 use Rattle.std.specs.Result.{IsErrAnd}
 use Rattle.std.proofs.lemmas.Result.{err_from_is_err_and}
 use Rattle.blob_digest.specs.Digest.{DigestValue}
-use Rattle.blob_source.specs.Source.{Telling, Asks, AsksBlob, AsksResult, AsksSome}
+use Rattle.blob_source.specs.Source.{Telling, Asks, AsksBlob, AsksResult}
 use Rattle.blob_source.specs.Called.{Calls, Called}
 use Rattle.blob_source.proofs.Asking.{asks_none, asks_blob, asks_result, ok_no_error}
 use Rattle.blob_source.proofs.Asking.{asks_some_more}
