@@ -139,6 +139,14 @@ impl<A: Allocator + Copy> ActionCache<A> {
         Some(bytes)
     }
 
+    /// The blob under the hash, if it is held. Nothing moves.
+    pub fn peek_blob(&self, hash: &[u8; 32]) -> Option<&[u8]>
+        ensures { option_copied result
+            ≡ bytes_given (blob_got by_messages self.now hash.now).0 }
+    {
+        self.blobs.peek(hash)
+    }
+
     /// Puts a result under its hash. One that is pinned takes no other bytes.
     pub fn put_result(
         &mut self,

@@ -1,6 +1,7 @@
-ghost use Rattle.std.specs.Prelude.{◌≡◌, ◌++◌, IfOk, OnOk};
-ghost use Rattle.http_core.specs.Reply.{allow_line, connection_line, head_text, reply_text, reason};
+ghost use Rattle.std.specs.Prelude.{◌≡◌, ◌++◌, IfOk, OnErr, OnOk};
+ghost use Rattle.http_core.specs.Reply.{head_text, reply_text};
 
+use crate::head_text::HeadText;
 use std::alloc::{AllocError, Allocator};
 use std::marker::Model;
 
@@ -29,69 +30,21 @@ pub fn write_reply<A: Allocator + Copy>(
     ensures { IfOk result (λ text. text.items ≡ reply_text reply.now close) }
 {
     let mut text = Vec::new(alloc);
-    append_head(alloc, &mut text, reply.status, reply.body.len(), close)?;
+    append_head(&mut text, reply.status, reply.body.len(), close)?;
     text.extend_from_slice(reply.body.as_slice())?;
     Ok(text)
 }
 
-/// Adds the head of an answer whose body has so many bytes. After an `Err` a part of it may have
-/// been added.
-pub fn append_head<A: Allocator + Copy>(
-    alloc: A,
+/// Adds the head of an answer whose body has so many bytes. An `Err` adds nothing.
+pub fn append_head<A: Allocator>(
     out: &mut Vec<u8, A>,
     status: u16,
     length: usize,
     close: bool,
 ) -> Result<(), AllocError>
-    ensures { OnOk result (out.new.items ≡ out.old.items ++ head_text status length close) }
+    ensures ok { OnOk result (out.new.items ≡ out.old.items ++ head_text status length close) }
+    ensures err { OnErr result (out.new.items ≡ out.old.items) }
 {
-    out.extend_from_slice(b"HTTP/1.1 ")?;
-    out.extend_from_slice(status.to_string(alloc)?.as_bytes())?;
-    out.extend_from_slice(b" ")?;
-    out.extend_from_slice(reason_of(status))?;
-    out.extend_from_slice(b"\r\nContent-Length: ")?;
-    out.extend_from_slice(length.to_string(alloc)?.as_bytes())?;
-    out.extend_from_slice(b"\r\n")?;
-    out.extend_from_slice(allow_of(status))?;
-    out.extend_from_slice(connection_of(close))?;
-    out.extend_from_slice(b"\r\n")?;
-    Ok(())
-}
-
-/// The reason phrase of a status.
-#[tactic(auto, unfolding(crate::specs::Reply::reason))]
-fn reason_of(status: u16) -> &'static [u8]
-    ensures { result.now ≡ reason status }
-{
-    match status {
-        200 => b"OK",
-        400 => b"Bad Request",
-        404 => b"Not Found",
-        405 => b"Method Not Allowed",
-        409 => b"Conflict",
-        411 => b"Length Required",
-        413 => b"Content Too Large",
-        417 => b"Expectation Failed",
-        431 => b"Request Header Fields Too Large",
-        501 => b"Not Implemented",
-        505 => b"HTTP Version Not Supported",
-        507 => b"Insufficient Storage",
-        _ => b"",
-    }
-}
-
-fn allow_of(status: u16) -> &'static [u8]
-    ensures { result.now ≡ allow_line status }
-{
-    if status == 405 {
-        b"Allow: GET, PUT\r\n"
-    } else {
-        b""
-    }
-}
-
-fn connection_of(close: bool) -> &'static [u8]
-    ensures { result.now ≡ connection_line close }
-{
-    if close { b"Connection: close\r\n" } else { b"" }
+    let head = HeadText::new(status, length, close);
+    out.extend_from_slice(head.as_bytes())
 }

@@ -1,0 +1,11 @@
+pub mod Serving
+pub mod Written
+pub mod Telling
+pub mod Replying
+pub mod Histories
+pub mod Gaining
+pub mod Standing
+pub mod Connections
+pub mod StepOnce
+pub mod Once
+pub mod Total

@@ -1,0 +1,53 @@
+-- What a cache does with a request, and what it replies: a step of the machine of blobs and
+-- results.
+use Rattle.std.specs.Prelude.{◌≡◌, ℕ, List, [], ◌∷◌, Option, Some, None}
+use Rattle.http_core.specs.declared.event.Area.TheVariants.{Ac, Cas, Pin, Unpin}
+use Rattle.http_core.specs.Event.{AskValue, Get, Put}
+use Rattle.http_core.specs.Reply.{ReplyValue}
+use Rattle.action_cache.specs.Machine.{CacheState, Answer, done, given, nothing, refused}
+use Rattle.action_cache.specs.Machine as machine
+use Rattle.action_cache.specs.Reading.{by_messages}
+use Rattle.cache_server.specs.Status.{status_of}
+
+abbrev pub CacheValue : Type 0
+CacheValue = CacheState
+
+-- a status without a body
+abbrev pub bare : ℕ → ReplyValue
+bare status = record { status = status; body = [] }
+
+-- the reply to a look-up that found these bytes, or none
+abbrev pub found_reply : Option (List ℕ) → ReplyValue
+found_reply None = bare 404
+found_reply (Some bytes) = record { status = 200; body = bytes }
+
+-- the reply to what the machine answers
+abbrev pub reply_to : Answer → ReplyValue
+reply_to done = bare 200
+reply_to (given bytes) = found_reply (Some bytes)
+reply_to nothing = found_reply None
+reply_to (refused why) = bare (status_of why)
+
+-- the reply, and the state after it
+abbrev pub replied : Answer × CacheState → ReplyValue × CacheState
+replied out = (reply_to out.0, out.1)
+
+-- a request to pin or to unpin has no body
+abbrev pub without_body : CacheState → List ℕ → Answer × CacheState → ReplyValue × CacheState
+without_body s [] out = replied out
+without_body s (b ∷ body) out = (bare 400, s)
+
+-- The reply to a request, and the state after it. A session asks to get blobs and results alone.
+unfoldable pub step : CacheState → AskValue → ReplyValue × CacheState
+step s (Get Ac hash) = replied (machine.get_result by_messages s hash)
+step s (Get Cas hash) = replied (machine.get_blob by_messages s hash)
+step s (Get Pin hash) = (bare 404, s)
+step s (Get Unpin hash) = (bare 404, s)
+step s (Put Ac hash body) = replied (machine.put_result by_messages s hash body)
+step s (Put Cas hash body) = replied (machine.put_blob by_messages s hash body)
+step s (Put Pin hash body) = without_body s body (machine.pin by_messages s hash)
+step s (Put Unpin hash body) = without_body s body (machine.unpin by_messages s hash)
+
+-- from the one state, the request gets this reply and leads to the other
+abbrev pub Step : CacheState → AskValue → ReplyValue → CacheState → Type 0
+Step old ask reply new = step old ask ≡ (reply, new)

@@ -1,0 +1,36 @@
+-- What holds of every history and every run.
+use Rattle.std.specs.Prelude.{◌≡◌, ℕ, List, ◌++◌, Option}
+use Rattle.http_core.specs.Event.{EventValue}
+use Rattle.http_core.specs.Stream.{Cuts}
+use Rattle.cache_server.specs.Cache.{CacheValue}
+use Rattle.cache_server.specs.Serving.{Serves}
+use Rattle.cache_server.specs.History.{Entry, CacheAfter, Answers}
+use Rattle.cache_server.specs.Connection.{IsAnswered}
+
+-- a history leads to one cache
+abbrev pub LeadsToOneCache : Type 0
+LeadsToOneCache =
+    (prefix : List ℕ) (opening : CacheValue) (history : List Entry) (a b : CacheValue)
+    → CacheAfter prefix opening history a → CacheAfter prefix opening history b → a ≡ b
+
+-- an entry after a history has one text of answers
+abbrev pub HasOneAnswer : Type 0
+HasOneAnswer =
+    (prefix : List ℕ) (opening : CacheValue) (history : List Entry) (entry : Entry) (x y : List ℕ)
+    → Answers prefix opening history entry x → Answers prefix opening history entry y → x ≡ y
+
+-- whatever the cache, any events are answered
+abbrev pub AnswersAny : Type 0
+AnswersAny =
+    (old : CacheValue) (events : List EventValue)
+    → (text : List ℕ) × (new : CacheValue) × Serves old events text new
+
+-- what a beginning of a stream is answered begins the answers to the whole stream
+abbrev pub BeginsTheAnswers : Type 0
+BeginsTheAnswers =
+    (prefix : List ℕ) (old new : CacheValue) (front rest told lost : List ℕ)
+    (left whole_left : Option (List ℕ)) (events : List EventValue)
+    → IsAnswered prefix old front (told ++ lost) left new
+    → Cuts prefix (front ++ rest) events whole_left
+    → (others : List ℕ) × (last : CacheValue)
+    × IsAnswered prefix old (front ++ rest) (told ++ others) whole_left last

@@ -1,0 +1,9 @@
+pub mod Status
+pub mod Cache
+pub mod Serving
+pub mod Writing
+pub mod History
+pub mod Server
+pub mod Sessions
+pub mod Connection
+pub mod Laws

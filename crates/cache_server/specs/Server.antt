@@ -1,0 +1,49 @@
+-- Where a server stands after a history.
+use Rattle.std.specs.Prelude.{◌≡◌, ℕ, ◌⊎◌, Bool, true, false, List, [], ◌∷◌, ◌++◌, Option, Some, None}
+use Rattle.std.specs.Ordering.{nat_cmp}
+use Rattle.std.specs.BTreeMap.{is_at}
+use Rattle.std.specs.Map.{lookup}
+use Rattle.http_core.specs.Event.{EventValue}
+use Rattle.http_core.specs.Session.{SessionValue, IsClosed}
+use Rattle.http_core.specs.Session as sessions
+use Rattle.http_core.specs.Stream.{Cuts}
+use Rattle.cache_server.specs.Cache.{CacheValue}
+use Rattle.cache_server.specs.History.{Entry, Piece, Fail, stream_of, has_failed, CacheAfter}
+
+-- the sessions stand under the numbers of their connections
+pub record ServerValue : Type 0 where
+  pub cache : CacheValue
+  pub prefix : List ℕ
+  pub sessions : List (ℕ × SessionValue)
+
+abbrev pub session_at : ServerValue → ℕ → Option SessionValue
+session_at s k = lookup (is_at (nat_cmp k)) s.sessions
+
+-- the session stands where the stream leaves it, or is closed after a failure
+abbrev pub StandsSo : Bool → SessionValue → List ℕ → Type 0
+StandsSo false session stream =
+    (events : List EventValue) × sessions.Stands session stream events
+StandsSo true session stream =
+    IsClosed session
+    × ((events : List EventValue) × (left : Option (List ℕ))
+    × Cuts session.prefix stream events left)
+
+-- what the server keeps for the connection
+abbrev pub Keeps : List ℕ → Option SessionValue → ℕ → List Entry → Type 0
+Keeps prefix None k history = (stream_of k history ≡ []) × (has_failed k history ≡ false)
+Keeps prefix (Some session) k history =
+    (session.prefix ≡ prefix) × StandsSo (has_failed k history) session (stream_of k history)
+
+-- the server stands where the history leaves it, which began with this cache
+pub record Stands (opening : CacheValue) (s : ServerValue) (history : List Entry) : Type 0 where
+  pub cache : CacheAfter s.prefix opening history s.cache
+  pub sessions : (k : ℕ) → Keeps s.prefix (session_at s k) k history
+
+-- After want of memory: nothing was kept of a connection without a session. Else the requests in a
+-- beginning of the piece were served, and the connection failed.
+abbrev pub StandsOrFails :
+    CacheValue → ServerValue → ℕ → List ℕ → ServerValue → List Entry → Type 0
+StandsOrFails opening old k piece new history =
+    ((session_at old k ≡ None) × Stands opening new history)
+    ⊎ ((front : List ℕ) × (rest : List ℕ) × (piece ≡ front ++ rest)
+    × Stands opening new (history ++ (Piece k front ∷ Fail k ∷ [])))

@@ -1,0 +1,48 @@
+-- What a step of a server does to the session of one connection.
+use Rattle.std.specs.Prelude.{◌≡◌, ℕ, List, [], Option, Some, None}
+use Rattle.http_core.specs.Event.{EventValue}
+use Rattle.http_core.specs.Session.{SessionValue, IsClosed}
+use Rattle.http_core.specs.Session as sessions
+use Rattle.cache_server.specs.Server.{ServerValue, session_at}
+
+-- all but the session of the connection is as it was
+pub record KeepsOthers (old : ServerValue) (k : ℕ) (new : ServerValue) : Type 0 where
+  pub cache : new.cache ≡ old.cache
+  pub prefix : new.prefix ≡ old.prefix
+  pub others : (j : ℕ) → (j ≡ k → ⊥) → session_at new j ≡ session_at old j
+
+-- a session for a new connection
+pub record IsFresh (prefix : List ℕ) (session : SessionValue) : Type 0 where
+  pub prefixed : session.prefix ≡ prefix
+  pub stands : sessions.Stands session [] []
+
+abbrev pub IsHeld : List ℕ → Option SessionValue → SessionValue → Type 0
+IsHeld prefix None session = IsFresh prefix session
+IsHeld prefix (Some held) session = session ≡ held
+
+-- the session of the connection, or a fresh one, took the piece
+pub record FeedsAt
+    (old : ServerValue) (k : ℕ) (piece : List ℕ) (events : List EventValue) (new : ServerValue)
+    : Type 0 where
+  pub before : SessionValue
+  pub after : SessionValue
+  pub held : IsHeld old.prefix (session_at old k) before
+  pub feeds : sessions.Feeds before piece events after
+  pub at : session_at new k ≡ Some after
+  pub kept : KeepsOthers old k new
+
+abbrev pub IsClosedAt : Option SessionValue → Option SessionValue → Type 0
+IsClosedAt None now = now ≡ None
+IsClosedAt (Some held) now =
+    (after : SessionValue) × (now ≡ Some after) × (after.prefix ≡ held.prefix) × IsClosed after
+
+-- the session of the connection is closed, if it has one
+pub record ClosesAt (old : ServerValue) (k : ℕ) (new : ServerValue) : Type 0 where
+  pub at : IsClosedAt (session_at old k) (session_at new k)
+  pub kept : KeepsOthers old k new
+
+abbrev pub ForgetsAt : ServerValue → ℕ → ServerValue → Type 0
+ForgetsAt old k new = (session_at new k ≡ None) × KeepsOthers old k new
+
+abbrev pub HoldsAt : ServerValue → ℕ → SessionValue → ServerValue → Type 0
+HoldsAt old k session new = (session_at new k ≡ Some session) × KeepsOthers old k new

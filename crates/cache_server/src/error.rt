@@ -1,0 +1,27 @@
+use std::alloc::AllocError;
+use thiserror::Error;
+
+/// Why a connection is given up.
+#[derive(Clone, Copy, Debug, PartialEq, Eq, Error)]
+pub enum ConnError {
+    /// Refusal 85: the reader failed.
+    #[error("the reader failed")]
+    ReadFault,
+    /// Refusal 86: the writer failed.
+    #[error("the writer failed")]
+    WriteFault,
+    /// No memory was left.
+    #[error("out of memory")]
+    Memory,
+}
+
+impl From<AllocError> for ConnError {
+    ghost use Rattle.std.specs.Prelude.{◌≡◌};
+    ghost use Rattle.cache_server.specs.declared.error.ConnError.TheVariants.{Memory};
+
+    ghost from_gives = { λ _ e. e ≡ Memory };
+
+    fn from(_: AllocError) -> ConnError {
+        ConnError::Memory
+    }
+}

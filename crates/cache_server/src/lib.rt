@@ -1,0 +1,20 @@
+//! A cache over HTTP: what the requests of one connection, or of many, do to it, and what they are
+//! answered, to the byte.
+#![tactic(auto)]
+
+mod answering;
+mod cache;
+mod error;
+mod laws;
+mod running;
+mod server;
+mod writing;
+
+pub use cache::Cache;
+pub use error::ConnError;
+pub use laws::{answers_begin_the_answers_to_the_whole, histories_are_answered_in_one_way};
+pub use running::run;
+pub use server::Server;
+
+#[cfg(test)]
+mod tests;

@@ -1,0 +1,72 @@
+ghost use Rattle.std.specs.Prelude.{ℕ, List, OnErr, OnOk};
+ghost use Rattle.http_core.specs.Event.{EventValue};
+ghost use Rattle.http_core.specs.Session.{Stands};
+ghost use Rattle.cache_server.specs.Connection.{Exchanges, ExchangesSome, Runs, RunsSome};
+
+use crate::answering::answer_all;
+use crate::cache::Cache;
+use crate::error::ConnError;
+use http_core::{Prefix, Session};
+use std::alloc::Allocator;
+use std::io::{Read, Write};
+
+/// The most bytes that are read at once.
+const PIECE: usize = 65536;
+
+/// Answers the requests that the reader gives, until it ends or one of them closes. The answers to
+/// a piece are written, and flushed, before the next piece is read. Refusals 85 and 86 where the
+/// reader or the writer failed, and `Memory`: the cache is as the requests up to then left it.
+pub fn run<A: Allocator + Copy, R: Read, W: Write>(
+    alloc: A,
+    reader: &mut R,
+    writer: &mut W,
+    cache: &mut Cache<A>,
+    prefix: &Prefix<A>,
+) -> Result<(), ConnError>
+    ensures ok { OnOk result (Runs prefix.now cache.old
+        (R.remaining reader.old) (R.remaining reader.new)
+        (W.contents writer.old) (W.contents writer.new) cache.new) }
+    ensures err { OnErr result (RunsSome prefix.now cache.old
+        (R.remaining reader.old) (R.remaining reader.new)
+        (W.contents writer.old) (W.contents writer.new) cache.new) }
+{
+    let mut session = Session::new(alloc, prefix)?;
+    let mut buffer = [0; PIECE];
+    for _ in 0..u64::MAX {
+        let Ok(count) = reader.read(&mut buffer) else {
+            return Err(ConnError::ReadFault);
+        };
+        let (piece, _) = buffer.split_at(count);
+        if count == 0 {
+            return Ok(());
+        }
+        exchange(alloc, &mut session, cache, writer, piece)?;
+        if !session.is_open() {
+            return Ok(());
+        }
+    }
+    Err(ConnError::Memory)
+}
+
+/// Answers a piece.
+fn exchange<A: Allocator + Copy, W: Write>(
+    alloc: A,
+    session: &mut Session<A>,
+    cache: &mut Cache<A>,
+    writer: &mut W,
+    piece: &[u8],
+) -> Result<(), ConnError>
+    ensures ok { OnOk result (Exchanges session.old cache.old (W.contents writer.old) piece.now
+        session.new cache.new (W.contents writer.new)) }
+    ensures err { OnErr result ((stream : List ℕ) (earlier : List EventValue)
+        → Stands session.old stream earlier
+        → ExchangesSome session.old.prefix stream earlier cache.old (W.contents writer.old)
+        piece.now cache.new (W.contents writer.new)) }
+{
+    let events = session.feed(alloc, piece)?;
+    answer_all(alloc, cache, events, writer)?;
+    match writer.flush() {
+        Ok(()) => Ok(()),
+        Err(_) => Err(ConnError::WriteFault),
+    }
+}
