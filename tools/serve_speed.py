@@ -136,7 +136,7 @@ def hashing(size):
     return done / (time.perf_counter() - begun)
 
 
-def measure(clients, seconds):
+def measure(clients, seconds, store):
     for size in SIZES:
         blobs, best = Blobs(size), {}
         held = blobs.next()
@@ -149,6 +149,8 @@ def measure(clients, seconds):
                     best[name, kind] = max(rate, best.get((name, kind), 0))
                     client.ask(put_text(held), (200, 201, 204))
         yield size, best, hashing(size)
+        for name in os.listdir(f"{store}/cas"):
+            os.remove(f"{store}/cas/{name}")
 
 
 def main(words):
@@ -162,9 +164,10 @@ def main(words):
         processes.append(serve)
         nginx, other = start_nginx(folder)
         processes.append(nginx)
+        seconds = float(words[1]) if len(words) > 1 else 2.0
         clients = {"serve": Client(port), "nginx": Client(other)}
         print("| Bytes | GET, serve | GET, nginx | PUT, serve | PUT, nginx | SHA-256 (OpenSSL) |\n|---|---|---|---|---|---|")
-        for size, best, hashed in measure(clients, float(words[1]) if len(words) > 1 else 2.0):
+        for size, best, hashed in measure(clients, seconds, f"{folder}/store"):
             cells = [best["serve", "GET"], best["nginx", "GET"], best["serve", "PUT"], best["nginx", "PUT"], hashed]
             print(f"| {size:,} |" + "|".join(f" {it:,.0f} " for it in cells) + "|", flush=True)
     finally:
