@@ -1,7 +1,6 @@
 -- A block has one reply head.
 use Rattle.std.proofs.Common.{◌≡◌, ℕ, List, [], Option, Some, None, map, take, sym, ◌∙◌, ap}
 use Rattle.std.specs.Prelude.{IfNone}
-use Rattle.httparse.specs.Grammar.{ResponseHead}
 use Rattle.httparse.specs.Spans.{header_bytes}
 use Rattle.httparse.proofs.GrammarLemmas.{response_unique}
 use Rattle.http_core.specs.declared.reply_head.ReplyHead.{ReplyHead}

@@ -1,11 +1,12 @@
-ghost use Rattle.std.specs.Prelude.{◌≡◌, Some};
+ghost use Rattle.std.specs.Prelude.{◌≡◌, Some, IfErr, IfOk, IsOk, length};
 ghost use Rattle.std.specs.Io.{ReadsAtMost, WritesAtMost};
 ghost use Rattle.std.specs.Io.KnownBytes.{ReadConsumes, WriteAppends};
+ghost use Rattle.std.specs.IoError.{error_kind};
 ghost use Rattle.remote.specs.Flow.{Flow, flow_of, gives};
 
 use std::alloc::Allocator;
 use std::io;
-use std::io::{Cursor, Read, Write};
+use std::io::{Cursor, ErrorKind, Read, Write};
 use std::net::TcpStream;
 
 /// What gives and takes bytes, each direction apart from the other.
@@ -70,11 +71,26 @@ impl<A: Allocator + Copy> MemoryStream<A> {
 impl<A: Allocator + Copy> Stream for MemoryStream<A> {
     ghost flow = { flow_of };
 
-    fn receive(&mut self, buf: &mut [u8]) -> io::Result<usize> {
+    // It never fails.
+    fn receive(&mut self, buf: &mut [u8]) -> io::Result<usize>
+        ensures bound { ReadsAtMost result buf.new }
+        ensures bytes { ReadConsumes (flow_of self.old).coming (flow_of self.new).coming
+            result buf.new }
+        ensures kept { (flow_of self.new).sent ≡ (flow_of self.old).sent }
+        ensures ok { IsOk result }
+    {
         self.input.read(buf)
     }
 
-    fn send(&mut self, buf: &[u8]) -> io::Result<usize> {
+    // It takes all, unless memory is wanting.
+    fn send(&mut self, buf: &[u8]) -> io::Result<usize>
+        ensures bound { WritesAtMost result buf.now }
+        ensures bytes { WriteAppends (flow_of self.old).sent (flow_of self.new).sent
+            result buf.now }
+        ensures kept { (flow_of self.new).coming ≡ (flow_of self.old).coming }
+        ensures whole { IfOk result (λ count. count ≡ length buf.now) }
+        ensures err { IfErr result (λ error. error_kind error ≡ ErrorKind.OutOfMemory) }
+    {
         self.output.extend_from_slice(buf)?;
         Ok(buf.len())
     }
