@@ -4,16 +4,16 @@ use thiserror::Error;
 /// Why a server gave no answer.
 #[derive(Clone, Copy, Debug, PartialEq, Eq, Error)]
 pub enum Fault {
-    /// Refusal 81: the stream ended or failed within a request or a reply.
+    /// The stream ended or failed within a request or a reply.
     #[error("the connection failed")]
     Io,
-    /// Refusal 82: what came is no lawful reply.
+    /// What came is no lawful reply.
     #[error("the server's reply is none of HTTP/1.1")]
     BadReply,
-    /// Refusal 83: the reply has another status than those that answer.
+    /// The reply has another status than those that answer.
     #[error("the server answered with status {0}")]
     Status(u16),
-    /// Refusal 84: an earlier call was refused, or the server closed the connection.
+    /// An earlier call was refused, or the server closed the connection.
     #[error("the connection is closed")]
     Broken,
 }
