@@ -1,11 +1,11 @@
 -- What a call of `verify` came to, said of the words.
 use Rattle.std.proofs.Common.{◌≡◌, ◌∙◌, ap, subst, Bool, true, false, ℕ, List, []}
-use Rattle.std.specs.Prelude.{◌↔◌, IsTrue, Option, Some, None, option_map, unwrap_or}
+use Rattle.std.specs.Prelude.{codes, ◌↔◌, IsTrue, Option, Some, None, option_map, unwrap_or}
 use Rattle.std.specs.Option.{option_map_or}
 use Rattle.std.proofs.lemmas.Bool.{iff_false}
 use Rattle.clap.specs.Words.{Row, Text}
 use Rattle.verifier.specs.Verdict.{IsYes}
-use Rattle.cli.specs.CommandLine.{CallsVerify, options_of}
+use Rattle.cli.specs.CommandLine.{Calls, options_of}
 use Rattle.cli.specs.Printed.{PrintsVerdict, PrintsYes, PrintsNo}
 
 -- the rows of the subcommand that was found are those of the one that the words call
@@ -23,8 +23,8 @@ IsAnswer rows old new positive = (prints : PrintsVerdict rows old new) × (IsTru
 said : (words : List Text) {rows : List Row} {old new : Option (List ℕ)} {positive : Bool} → rows ≡ options_of words → IsAnswer rows old new positive → IsAnswer (options_of words) old new positive
 said words {rows} {old} {new} {positive} is h = subst (λ (options : List Row). IsAnswer options old new positive) is h
 
-pub yes_printed : (words : List Text) {rows : List Row} {old new : Option (List ℕ)} {positive : Bool} → CallsVerify words → rows ≡ options_of words → IsAnswer rows old new positive → positive ≡ true → PrintsYes words old new
+pub yes_printed : (words : List Text) {rows : List Row} {old new : Option (List ℕ)} {positive : Bool} → Calls words (codes "verify") → rows ≡ options_of words → IsAnswer rows old new positive → positive ≡ true → PrintsYes words old new
 yes_printed words called is h true_is = let s = said words is h in record { called = called; prints = s.0; positive = s.1.0 true_is }
 
-pub no_printed : (words : List Text) {rows : List Row} {old new : Option (List ℕ)} {positive : Bool} → CallsVerify words → rows ≡ options_of words → IsAnswer rows old new positive → positive ≡ false → PrintsNo words old new
+pub no_printed : (words : List Text) {rows : List Row} {old new : Option (List ℕ)} {positive : Bool} → Calls words (codes "verify") → rows ≡ options_of words → IsAnswer rows old new positive → positive ≡ false → PrintsNo words old new
 no_printed words called is h false_is = let s = said words is h in record { called = called; prints = s.0; negative = iff_false s.1 false_is }

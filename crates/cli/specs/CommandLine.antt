@@ -6,33 +6,67 @@ use Rattle.clap.specs.Words.{App, IsAmong, Row, Rule, Text, fault_of, first_of, 
 use Rattle.clap.specs.declared.builder.action.ArgAction.TheVariants.{Set}
 use Rattle.clap.specs.declared.error.kind.ErrorKind.TheVariants.{DisplayHelp, DisplayVersion}
 
--- an option `--NAME VALUE` that a command cannot do without
+-- an option `--NAME VALUE`, and one that a command cannot do without
+abbrev pub optional_option : Text → Rule
+optional_option name = record (new_rule name) { long = Some name; value_names = 1; action = Some Set }
+
 abbrev pub required_option : Text → Rule
 required_option name =
     record (new_rule name) { long = Some name; value_names = 1; action = Some Set; required = true }
 
--- the command with one more such option
-abbrev pub with_option : App → Text → App
-with_option app name = with_rule app (required_option name)
+-- a word on its own, that a command cannot do without
+abbrev pub required_word : Text → Rule
+required_word name = record (new_rule name) { value_names = 1; action = Some Set; required = true }
+
+-- the command with one more of these
+abbrev pub may_have : App → Text → App
+may_have app name = with_rule app (optional_option name)
+
+abbrev pub must_have : App → Text → App
+must_have app name = with_rule app (required_option name)
+
+abbrev pub takes_word : App → Text → App
+takes_word app name = with_rule app (required_word name)
+
+-- a command that is a client of a server
+abbrev pub client_line : Text → App
+client_line name =
+    may_have (may_have (must_have (new_app name) (codes "server")) (codes "prefix")) (codes "timeout")
 
 -- `verify` and its options
 abbrev pub verify_line : App
 verify_line =
-    with_option (with_option (with_option (with_option (with_option (new_app (codes "verify")) (codes "store")) (codes "sources")) (codes "plan")) (codes "record")) (codes "claim")
+    must_have (must_have (must_have (must_have
+    (may_have (may_have (may_have (may_have (new_app (codes "verify")) (codes "server")) (codes "store")) (codes "prefix")) (codes "timeout"))
+    (codes "sources")) (codes "plan")) (codes "record")) (codes "claim")
+
+-- `serve` and its options
+abbrev pub serve_line : App
+serve_line =
+    may_have (may_have
+    (must_have (must_have (must_have (must_have (new_app (codes "serve")) (codes "listen")) (codes "connections")) (codes "limit")) (codes "result-limit"))
+    (codes "prefix")) (codes "idle")
+
+-- `put` with a file or a folder, and `get` with a digest
+abbrev pub put_line : App
+put_line = takes_word (client_line (codes "put")) (codes "path")
+
+abbrev pub get_line : App
+get_line = takes_word (client_line (codes "get")) (codes "digest")
 
 -- the program: it has a version, and wants a command as its first word
 abbrev pub program_line : App
 program_line =
-    with_subcommand
+    with_subcommand (with_subcommand (with_subcommand (with_subcommand
     (on_top (λ s. record s { has_version = true; no_binary_name = true; subcommand_required = true; disable_help_subcommand = true }) (new_app (codes "buildcache")))
-    verify_line.top
+    serve_line.top) verify_line.top) put_line.top) get_line.top
 
 -- ---- what the words ask for
 
--- the words are not at fault, and call `verify`
-pub record CallsVerify (words : List Text) : Type 0 where
+-- the words are not at fault, and call this command
+pub record Calls (words : List Text) (command : Text) : Type 0 where
   pub faultless : fault_of program_line words ≡ []
-  pub command : option_map (λ p. p.0) (subcommand_of program_line words) ≡ Some (codes "verify")
+  pub command_is : option_map (λ p. p.0) (subcommand_of program_line words) ≡ Some command
 
 -- what the words say of each option of the command that they call
 abbrev pub options_of : List Text → List Row
@@ -55,7 +89,7 @@ verify_words store sources plan noted claim =
 
 -- the words call `verify` with these texts for its options
 pub record AsksVerify (words : List Text) (store sources plan noted claim : Text) : Type 0 where
-  pub called : CallsVerify words
+  pub called : Calls words (codes "verify")
   pub store_is : option_text (options_of words) (codes "store") ≡ store
   pub sources_are : option_text (options_of words) (codes "sources") ≡ sources
   pub plan_is : option_text (options_of words) (codes "plan") ≡ plan

@@ -13,7 +13,7 @@ use Rattle.blob_source.specs.Source.{Telling}
 use Rattle.verifier.specs.declared.verdict.Verdict.{Verdict}
 use Rattle.verifier.specs.Headline.{EveryRunEndsIn, NoRunIsStuck}
 use Rattle.verifier.specs.Verdict.{IsVerdict, IsYes}
-use Rattle.cli.specs.CommandLine.{CallsVerify, AsksForHelp, option_text, options_of}
+use Rattle.cli.specs.CommandLine.{Calls, AsksForHelp, option_text, options_of}
 
 -- the text spells the digest
 pub record Spells (text : Text) (digest : DigestValue) : Type 0 where
@@ -47,13 +47,13 @@ pub record PrintsVerdict (options : List Row) (old new : Option (List ℕ)) : Ty
 
 -- the words call `verify`, and the line of its yes was printed
 pub record PrintsYes (words : List Text) (old new : Option (List ℕ)) : Type 0 where
-  pub called : CallsVerify words
+  pub called : Calls words (codes "verify")
   pub prints : PrintsVerdict (options_of words) old new
   pub positive : IsYes prints.verdict
 
 -- the words call `verify`, and the line of its no was printed
 pub record PrintsNo (words : List Text) (old new : Option (List ℕ)) : Type 0 where
-  pub called : CallsVerify words
+  pub called : Calls words (codes "verify")
   pub prints : PrintsVerdict (options_of words) old new
   pub negative : ¬ IsYes prints.verdict
 

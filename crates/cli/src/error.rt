@@ -3,6 +3,7 @@ ghost use Rattle.cli.specs.Status.{status_of};
 
 use blob_digest::DigestError;
 use plan::PlanError;
+use remote::Fault;
 use std::alloc::{AllocError, AllocFailed};
 use std::io;
 use thiserror::Error;
@@ -36,6 +37,34 @@ pub(crate) enum CliError {
     TooLarge {
         path: String,
     },
+    #[error("--{option}: {wanted} is wanted, not {text:?}")]
+    Unlike {
+        option: &'static str,
+        wanted: &'static str,
+        text: String,
+    },
+    #[error("{path:?}: {fault}")]
+    Entry {
+        path: String,
+        fault: &'static str,
+    },
+    #[error("{server}: {fault}")]
+    Connection {
+        server: String,
+        fault: io::Error,
+    },
+    #[error("{server}: {asked} {digest}: {fault}")]
+    Server {
+        server: String,
+        asked: &'static str,
+        digest: String,
+        fault: Fault,
+    },
+    #[error("{server}: get of blob {digest}: other bytes came")]
+    WrongBytes {
+        server: String,
+        digest: String,
+    },
     #[error("standard output: {0}")]
     Output(io::Error),
     #[error("out of memory")]
@@ -49,9 +78,14 @@ impl CliError {
     {
         match self {
             CliError::Words(_) | CliError::Digest { .. } | CliError::Text { .. } => 2,
+            CliError::Unlike { .. } => 2,
             CliError::File { .. }
             | CliError::NotAFile { .. }
             | CliError::TooLarge { .. }
+            | CliError::Entry { .. }
+            | CliError::Connection { .. }
+            | CliError::Server { .. }
+            | CliError::WrongBytes { .. }
             | CliError::Output(_)
             | CliError::Memory => 3,
         }

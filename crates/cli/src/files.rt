@@ -39,7 +39,12 @@ pub(crate) fn read_file<R: Files + AllocGlobal>(rt: &R, path: &str) -> Result<Ve
     Ok(bytes)
 }
 
-fn file_error<R: AllocGlobal>(rt: &R, path: &str, fault: io::Error) -> Result<CliError, CliError>
+/// The error of a file.
+pub(crate) fn file_error<R: AllocGlobal>(
+    rt: &R,
+    path: &str,
+    fault: io::Error,
+) -> Result<CliError, CliError>
     ensures fault { MatchResult result (IsFileFault path.now) (IsFileFault path.now) }
     ensures memory { error_kind fault ≡ ErrorKind.OutOfMemory → result ≡ Ok CliError.Memory }
     ensures other { error_kind fault ≢ ErrorKind.OutOfMemory → IfOk result (λ told. told ≢ CliError.Memory) }

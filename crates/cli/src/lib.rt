@@ -2,9 +2,13 @@
 //! Nothing here ends the process or prints behind its caller's back.
 #![tactic(auto)]
 
+mod connecting;
 mod error;
 mod files;
+mod get_command;
 mod laws;
+mod options;
+mod put_command;
 mod running;
 mod store;
 mod verify_command;

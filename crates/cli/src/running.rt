@@ -5,11 +5,14 @@ ghost use Rattle.cli.specs.Printed.{IsDone, PrintsNo};
 ghost use Rattle.cli.specs.Status.{status_of};
 
 use crate::error::CliError;
+use crate::get_command::run_get;
+use crate::put_command::run_put;
 use crate::verify_command::run_verify;
 use crate::words::parse;
 use clap::error::{Error, ErrorKind};
 use std::alloc::{AllocError, Global};
 use std::io::Write;
+use std::net::{Net, TcpStream};
 use std::rt::Files;
 
 /// What a command came to.
@@ -23,7 +26,7 @@ enum Ended {
 /// texts that they name are at fault, 3 where a file, the output or memory is.
 pub fn run_words<R, O: Write, E: Write>(rt: &R, words: &[String], out: &mut O, err: &mut E) -> u8
 where
-    R: AllocGlobal + Files,
+    R: AllocGlobal + Files + Net<Stream = TcpStream>,
     ensures status { result < 4 }
     // With status 0, the words ask for help, or the line of their yes went to standard output, and nothing else.
     ensures done { result ≡ 0 → IsDone (map string_bytes words.now) (O.contents out.old) (O.contents out.new) }
@@ -47,7 +50,7 @@ where
 
 fn run<R, O: Write>(rt: &R, words: &[String], out: &mut O) -> Result<Ended, CliError>
 where
-    R: AllocGlobal + Files,
+    R: AllocGlobal + Files + Net<Stream = TcpStream>,
     ensures done { IfOk result (λ ended. ended ≡ Ended.Done → IsDone (map string_bytes words.now) (O.contents out.old) (O.contents out.new)) }
     ensures no { IfOk result (λ ended. ended ≡ Ended.No → PrintsNo (map string_bytes words.now) (O.contents out.old) (O.contents out.new)) }
     ensures unprinted { IfErr result (λ fault. status_of fault ≡ 2 → O.contents out.new ≡ O.contents out.old) }
@@ -59,6 +62,17 @@ where
     match matches.subcommand() {
         Some(("verify", inner)) => {
             if run_verify(rt, inner, out)? {
+                Ok(Ended::Done)
+            } else {
+                Ok(Ended::No)
+            }
+        }
+        Some(("put", inner)) => {
+            run_put(rt, inner, out)?;
+            Ok(Ended::Done)
+        }
+        Some(("get", inner)) => {
+            if run_get(rt, inner, out)? {
                 Ok(Ended::Done)
             } else {
                 Ok(Ended::No)

@@ -1,17 +1,18 @@
 ghost use Rattle.std.specs.Prelude.{◌≡◌, ◌↔◌, IfErr, IfOk, IsTrue, OnOk, codes};
 ghost use Rattle.std.specs.Io.KnownBytes.{Appends};
 ghost use Rattle.clap.specs.Words.{found_of, rows_of};
-ghost use Rattle.cli.specs.CommandLine.{option_text};
-ghost use Rattle.cli.specs.Faults.{IsDigestFault, IsOfFile, IsTextFault};
-ghost use Rattle.cli.specs.Printed.{IsJudged, PrintsVerdict, Spells};
+ghost use Rattle.cli.specs.Faults.{IsOfFile, IsTextFault};
+ghost use Rattle.cli.specs.Printed.{IsJudged, PrintsVerdict};
 ghost use Rattle.cli.specs.Status.{status_of};
 ghost use Rattle.plan.specs.Plan.{IsPlan};
 ghost use Rattle.plan.specs.Record.{IsRecord, Fits};
 ghost use Rattle.report.specs.Line.{report_line};
 ghost use Rattle.verifier.specs.Verdict.{IsYes};
 
+use crate::connecting::{Server, open, read_server};
 use crate::error::CliError;
 use crate::files::read_file;
+use crate::options::{option_of, read_digest, text_of};
 use crate::store::FolderSource;
 use blob_digest::Digest;
 use clap::ArgMatches;
@@ -19,33 +20,16 @@ use plan::{Plan, ReadError, Record};
 use report::{is_yes, report};
 use std::alloc::{AllocError, Global};
 use std::io::Write;
+use std::net::{Net, TcpStream};
 use std::rt::Files;
+use tree::FetchError;
 use verifier::{Verdict, VerifyError, verify};
 
-/// The text of an option that clap has found to be there.
-fn text_of<'a>(matches: &ArgMatches<'a>, option: &'static str) -> &'a str
-    ensures { result.now ≡ option_text (rows_of (found_of matches.now)) option.now }
-{
-    matches.get_str(option).unwrap_or("")
-}
-
-fn read_digest(
-    alloc: Global,
-    matches: &ArgMatches<'_>,
-    option: &'static str,
-) -> Result<Digest, CliError>
-    ensures found { IfOk result (Spells (option_text (rows_of (found_of matches.now)) option.now)) }
-    ensures fault { IfErr result (IsDigestFault option.now (option_text (rows_of (found_of matches.now)) option.now)) }
-{
-    let text = text_of(matches, option);
-    match Digest::read_text(text.as_bytes()) {
-        Ok(digest) => Ok(digest),
-        Err(fault) => Err(CliError::Digest {
-            option,
-            text: String::from_str(alloc, text)?,
-            fault,
-        }),
-    }
+/// Where the recorded build is.
+#[derive(Drop)]
+enum Place<'a> {
+    Folder(&'a str),
+    Server(Server<'a>),
 }
 
 /// The error of a text that can't be read.
@@ -86,10 +70,34 @@ fn read_record<R: Files + AllocGlobal>(
     }
 }
 
+/// Where the words say that the recorded build is: a store folder or a server, and not both.
+fn read_place<'a>(alloc: Global, matches: &ArgMatches<'a>) -> Result<Place<'a>, CliError> {
+    let fault = match (option_of(matches, "store"), option_of(matches, "server")) {
+        (Some(folder), None) => match remote_option(matches) {
+            None => return Ok(Place::Folder(folder)),
+            Some(option) => format!(in alloc; "--{option} goes with --server alone")?,
+        },
+        (None, Some(address)) => {
+            return Ok(Place::Server(read_server(alloc, matches, address)?));
+        }
+        (Some(_), Some(_)) => String::from_str(alloc, "--store and --server exclude each other")?,
+        (None, None) => String::from_str(alloc, "--store or --server is wanted")?,
+    };
+    Err(CliError::Words(fault))
+}
+
+/// An option that says something of a server.
+fn remote_option(matches: &ArgMatches<'_>) -> Option<&'static str> {
+    if option_of(matches, "prefix").is_some() {
+        return Some("prefix");
+    }
+    option_of(matches, "timeout").map(|_| "timeout")
+}
+
 /// The verdict over the store folder.
-fn judge<R: Files + AllocGlobal>(
+fn judge_folder<R: Files + AllocGlobal>(
     rt: &R,
-    matches: &ArgMatches<'_>,
+    folder: &str,
     sources: &Digest,
     plan: &Plan<Global>,
     noted: &Record<Global>,
@@ -98,12 +106,32 @@ fn judge<R: Files + AllocGlobal>(
     requires { Fits noted.now plan.now }
     ensures judged { IfOk result (IsJudged sources.now plan.now noted.now.digests claim.now) }
 {
-    let folder = String::from_str(rt.alloc(), text_of(matches, "store"))?;
+    let folder = String::from_str(rt.alloc(), folder)?;
     let mut source = FolderSource::new(rt, folder);
     match verify(rt.alloc(), sources, plan, noted, claim, &mut source) {
         Ok(verdict) => Ok(verdict),
         Err(VerifyError::Memory) => Err(CliError::Memory),
         Err(VerifyError::Fetch) => Err(source.into_fault().unwrap_or(CliError::Memory)),
+    }
+}
+
+/// The verdict over the server.
+fn judge_server<R: AllocGlobal + Net<Stream = TcpStream>>(
+    rt: &R,
+    server: &Server<'_>,
+    sources: &Digest,
+    plan: &Plan<Global>,
+    noted: &Record<Global>,
+    claim: &Digest,
+) -> Result<Verdict<Global>, CliError>
+    requires { Fits noted.now plan.now }
+    ensures judged { IfOk result (IsJudged sources.now plan.now noted.now.digests claim.now) }
+{
+    let mut source = open(rt, server)?;
+    match verify(rt.alloc(), sources, plan, noted, claim, &mut source) {
+        Ok(verdict) => Ok(verdict),
+        Err(VerifyError::Memory) => Err(CliError::Memory),
+        Err(VerifyError::Fetch) => Err(source.error(rt.alloc(), FetchError::Failed)?),
     }
 }
 
@@ -123,22 +151,28 @@ fn print_verdict<O: Write>(
 }
 
 /// Prints the verdict's line, and answers whether it is yes. The digests are read first, then the
-/// plan's file and its text, then the record's.
-pub(crate) fn run_verify<R: Files + AllocGlobal, O: Write>(
+/// plan's file and its text, then the record's; then the store or the server is asked.
+pub(crate) fn run_verify<R, O: Write>(
     rt: &R,
     matches: &ArgMatches<'_>,
     out: &mut O,
 ) -> Result<bool, CliError>
+where
+    R: AllocGlobal + Files + Net<Stream = TcpStream>,
     ensures printed { IfOk result (λ positive.
         (prints : PrintsVerdict (rows_of (found_of matches.now)) (O.contents out.old) (O.contents out.new))
         × (IsTrue positive ↔ IsYes prints.verdict)) }
     ensures unprinted { IfErr result (λ fault. status_of fault ≡ 2 → O.contents out.new ≡ O.contents out.old) }
 {
+    let place = read_place(rt.alloc(), matches)?;
     let sources = read_digest(rt.alloc(), matches, "sources")?;
     let claim = read_digest(rt.alloc(), matches, "claim")?;
     let plan = read_plan(rt, text_of(matches, "plan"))?;
     let noted = read_record(rt, text_of(matches, "record"), &plan)?;
-    let verdict = judge(rt, matches, &sources, &plan, &noted, &claim)?;
+    let verdict = match place {
+        Place::Folder(folder) => judge_folder(rt, folder, &sources, &plan, &noted, &claim)?,
+        Place::Server(server) => judge_server(rt, &server, &sources, &plan, &noted, &claim)?,
+    };
     print_verdict(rt.alloc(), &verdict, out)?;
     Ok(is_yes(&verdict))
 }

@@ -6,7 +6,7 @@ pub returns : goal.returns
 unfolding clap_on_literals
 returns c = record {
   options = λ store sources plan noted claim. record {
-    called = record { faultless = refl; command = refl };
+    called = record { faultless = refl; command_is = refl };
     store_is = refl;
     sources_are = refl;
     plan_is = refl;

@@ -11,7 +11,6 @@ third_holds a b x rest h = grind arith
 
 pub returns : goal.returns
 returns c =
-    let inner = c.in_ok-verify_command.ensures in
     let named : app_of c.in_ok-bin_name.field-0 ≡ new_app (codes "buildcache") = ap app_of_fields c.in_ok-bin_name.ensures.0 ∙ c.new.ensures.app in
     let versioned : app_of c.version.result ≡ on_top (λ s. record s { has_version = true }) (new_app (codes "buildcache")) =
     ap app_of_fields c.version.ensures ∙ ap (on_top (λ s. record s { has_version = true })) named in
@@ -20,5 +19,8 @@ returns c =
     let wanting : app_of c.subcommand_required.result ≡ on_top (λ s. record s { has_version = true; no_binary_name = true; subcommand_required = true }) (new_app (codes "buildcache")) =
     ap app_of_fields c.subcommand_required.ensures ∙ ap (on_top (λ s. record s { subcommand_required = true })) told in
     let above = ap app_of_fields c.disable_help_subcommand.ensures ∙ ap (on_top (λ s. record s { disable_help_subcommand = true })) wanting in
-    IfOk-weaker c.subcommand.result _ _
-    (λ r h. h.shape (third_holds _ _ _ _ (ap (λ (a : App). a.top.is_plain) inner)) ∙ ap₂ with_subcommand above (ap (λ (a : App). a.top) inner)) c.subcommand.ensures
+    let serving = c.in_ok-subcommand.ensures.shape (third_holds _ _ _ _ (ap (λ (a : App). a.top.is_plain) c.in_ok-serve_command.ensures)) ∙ ap₂ with_subcommand above (ap (λ (a : App). a.top) c.in_ok-serve_command.ensures) in
+    let verifying = c.in_ok-subcommand-2.ensures.shape (third_holds _ _ _ _ (ap (λ (a : App). a.top.is_plain) c.in_ok-verify_command.ensures)) ∙ ap₂ with_subcommand serving (ap (λ (a : App). a.top) c.in_ok-verify_command.ensures) in
+    let putting = c.in_ok-subcommand-3.ensures.shape (third_holds _ _ _ _ (ap (λ (a : App). a.top.is_plain) c.in_ok-put_command.ensures)) ∙ ap₂ with_subcommand verifying (ap (λ (a : App). a.top) c.in_ok-put_command.ensures) in
+    IfOk-weaker c.subcommand-4.result _ _
+    (λ r h. h.shape (third_holds _ _ _ _ (ap (λ (a : App). a.top.is_plain) c.in_ok-get_command.ensures)) ∙ ap₂ with_subcommand putting (ap (λ (a : App). a.top) c.in_ok-get_command.ensures)) c.subcommand-4.ensures

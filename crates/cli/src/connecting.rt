@@ -1,0 +1,193 @@
+use crate::error::CliError;
+use crate::options::{option_of, text_of, unlike};
+use blob_digest::Digest;
+use blob_source::{BlobSink, BlobSource, FetchError};
+use clap::ArgMatches;
+use http_core::{Host, Prefix};
+use remote::{Remote, Stream};
+use std::alloc::{AllocError, Global};
+use std::io;
+use std::io::ErrorKind;
+use std::net::{Net, SocketAddr, TcpStream, ToSocketAddrs};
+use std::time::Duration;
+
+/// How many seconds a server may be silent where the words don't say it.
+const SILENT: u64 = 60;
+
+/// A server, as the words of a command name it.
+#[derive(Drop)]
+pub(crate) struct Server<'a> {
+    pub address: &'a str,
+    pub host: Host<Global>,
+    pub prefix: Prefix<Global>,
+    /// How long it may be silent; none: for ever.
+    pub timeout: Option<Duration>,
+}
+
+/// The number that some decimal digits spell.
+fn read_number(text: &str) -> Option<u64> {
+    if !text.bytes().all(|byte| byte.is_ascii_digit()) {
+        return None;
+    }
+    text.parse().ok()
+}
+
+/// Whether it is HOST:PORT.
+fn is_address(text: &str) -> bool {
+    match text.rsplit_once(':') {
+        None => false,
+        Some((host, port)) => !host.is_empty() && read_number(port).is_some_and(|n| n < 65_536),
+    }
+}
+
+fn read_host(alloc: Global, address: &str) -> Result<Host<Global>, CliError> {
+    let host = Host::read(alloc, address)?;
+    match host {
+        Some(host) if is_address(address) => Ok(host),
+        _ => Err(unlike(alloc, "server", "HOST:PORT", address)?),
+    }
+}
+
+fn read_timeout(alloc: Global, matches: &ArgMatches<'_>) -> Result<Option<Duration>, CliError> {
+    let Some(text) = option_of(matches, "timeout") else {
+        return Ok(Some(Duration::from_secs(SILENT)));
+    };
+    match read_number(text) {
+        Some(0) => Ok(None),
+        Some(seconds) => Ok(Some(Duration::from_secs(seconds))),
+        None => Err(unlike(alloc, "timeout", "a number of seconds", text)?),
+    }
+}
+
+fn read_prefix(alloc: Global, matches: &ArgMatches<'_>) -> Result<Prefix<Global>, CliError> {
+    let text = text_of(matches, "prefix");
+    match Prefix::read(alloc, text.as_bytes())? {
+        Some(prefix) => Ok(prefix),
+        None => Err(unlike(alloc, "prefix", "/SEGMENT or more of them", text)?),
+    }
+}
+
+/// The server at this address, with the timeout and the prefix that the words give.
+pub(crate) fn read_server<'a>(
+    alloc: Global,
+    matches: &ArgMatches<'_>,
+    address: &'a str,
+) -> Result<Server<'a>, CliError> {
+    let host = read_host(alloc, address)?;
+    let timeout = read_timeout(alloc, matches)?;
+    let prefix = read_prefix(alloc, matches)?;
+    Ok(Server {
+        address,
+        host,
+        prefix,
+        timeout,
+    })
+}
+
+/// An open connection to one of the addresses that the server's name has.
+fn connect<R: Net<Stream = TcpStream>>(rt: &R, server: &Server<'_>) -> io::Result<TcpStream> {
+    let mut fault = io::Error::from(ErrorKind::InvalidInput);
+    for address in server.address.to_socket_addrs(rt)? {
+        match connect_to(rt, address, server.timeout) {
+            Ok(stream) => return Ok(stream),
+            Err(last) => fault = last,
+        }
+    }
+    Err(fault)
+}
+
+fn connect_to<R: Net<Stream = TcpStream>>(
+    rt: &R,
+    address: SocketAddr,
+    timeout: Option<Duration>,
+) -> io::Result<TcpStream> {
+    let stream = match timeout {
+        Some(timeout) => rt.connect_timeout(address, timeout)?,
+        None => rt.connect(address)?,
+    };
+    stream.set_nodelay(true)?;
+    stream.set_read_timeout(timeout)?;
+    stream.set_write_timeout(timeout)?;
+    Ok(stream)
+}
+
+/// A remote that knows its server's name and what it was asked last.
+#[derive(Drop)]
+pub(crate) struct Client<'a, S: Drop> {
+    pub address: &'a str,
+    pub remote: Remote<S, Global>,
+    pub asked: &'static str,
+    pub digest: Digest,
+}
+
+impl<'a, S: Stream + Drop> Client<'a, S> {
+    /// A client of the server over an open stream.
+    pub(crate) fn new(
+        alloc: Global,
+        server: &Server<'a>,
+        stream: S,
+    ) -> Result<Client<'a, S>, AllocError> {
+        Ok(Client {
+            address: server.address,
+            remote: Remote::new(alloc, stream, &server.host, &server.prefix)?,
+            asked: "",
+            digest: Digest::empty(),
+        })
+    }
+
+    /// The error of a call that was refused.
+    pub(crate) fn error(&self, alloc: Global, refusal: FetchError) -> Result<CliError, AllocError> {
+        match self.remote.last_fault() {
+            Some(fault) if refusal == FetchError::Failed => Ok(CliError::Server {
+                server: String::from_str(alloc, self.address)?,
+                asked: self.asked,
+                digest: self.digest.write_text(alloc)?,
+                fault,
+            }),
+            _ => Ok(CliError::Memory),
+        }
+    }
+
+    /// Puts a blob.
+    pub(crate) fn put(&mut self, alloc: Global, bytes: &[u8]) -> Result<Digest, CliError> {
+        self.asked = "put of blob";
+        self.digest = Digest::of(bytes);
+        match self.remote.put_blob(alloc, bytes) {
+            Ok(digest) => Ok(digest),
+            Err(refusal) => Err(self.error(alloc, refusal)?),
+        }
+    }
+}
+
+impl<'a, S: Stream + Drop> BlobSource<Global> for Client<'a, S> {
+    ghost use Rattle.remote.specs.Remote.{telling_of};
+
+    ghost tells = { λ c. telling_of c.remote };
+
+    fn fetch(&mut self, alloc: Global, digest: &Digest) -> Result<Option<Vec<u8>>, FetchError> {
+        self.asked = "get of blob";
+        self.digest = *digest;
+        self.remote.fetch(alloc, digest)
+    }
+
+    fn result(&mut self, alloc: Global, digest: &Digest) -> Result<Option<Vec<u8>>, FetchError> {
+        self.asked = "get of result";
+        self.digest = *digest;
+        self.remote.result(alloc, digest)
+    }
+}
+
+/// A client that is connected to the server.
+pub(crate) fn open<'a, R: AllocGlobal + Net<Stream = TcpStream>>(
+    rt: &R,
+    server: &Server<'a>,
+) -> Result<Client<'a, TcpStream>, CliError> {
+    match connect(rt, server) {
+        Ok(stream) => Ok(Client::new(rt.alloc(), server, stream)?),
+        Err(fault) if fault.kind() == ErrorKind::OutOfMemory => Err(CliError::Memory),
+        Err(fault) => Err(CliError::Connection {
+            server: String::from_str(rt.alloc(), server.address)?,
+            fault,
+        }),
+    }
+}

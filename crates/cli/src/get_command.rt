@@ -1,0 +1,47 @@
+use crate::connecting::{Client, open, read_server};
+use crate::error::CliError;
+use crate::options::{read_digest, text_of};
+use blob_digest::Digest;
+use blob_source::{Fetched, fetch_blob};
+use clap::ArgMatches;
+use remote::Stream;
+use std::alloc::Global;
+use std::io::Write;
+use std::net::{Net, TcpStream};
+
+/// Writes the blob of the digest, and answers whether the server has it.
+fn write_blob<S: Stream + Drop, O: Write>(
+    alloc: Global,
+    client: &mut Client<'_, S>,
+    digest: &Digest,
+    out: &mut O,
+) -> Result<bool, CliError> {
+    match fetch_blob(alloc, client, digest) {
+        Ok(Fetched::Missing) => Ok(false),
+        Ok(Fetched::Wrong) => Err(CliError::WrongBytes {
+            server: String::from_str(alloc, client.address)?,
+            digest: digest.write_text(alloc)?,
+        }),
+        Ok(Fetched::Right(bytes)) => {
+            out.write_all(&bytes).map_err(CliError::Output)?;
+            out.flush().map_err(CliError::Output)?;
+            Ok(true)
+        }
+        Err(refusal) => Err(client.error(alloc, refusal)?),
+    }
+}
+
+/// Writes the bytes of the blob whose digest the words spell, and answers whether the server has it.
+pub(crate) fn run_get<R, O: Write>(
+    rt: &R,
+    matches: &ArgMatches<'_>,
+    out: &mut O,
+) -> Result<bool, CliError>
+where
+    R: AllocGlobal + Net<Stream = TcpStream>,
+{
+    let server = read_server(rt.alloc(), matches, text_of(matches, "server"))?;
+    let digest = read_digest(rt.alloc(), matches, "digest")?;
+    let mut client = open(rt, &server)?;
+    write_blob(rt.alloc(), &mut client, &digest, out)
+}
