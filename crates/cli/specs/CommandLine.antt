@@ -11,7 +11,16 @@ abbrev pub required_option : Text → Rule
 required_option name =
     record (new_rule name) { long = Some name; value_names = 1; action = Some Set; required = true }
 
--- the command with one more such option
+-- an option `--NAME VALUE` that a command can do without
+abbrev pub optional_option : Text → Rule
+optional_option name =
+    record (new_rule name) { long = Some name; value_names = 1; action = Some Set }
+
+-- the command with one more option that it can do without
+abbrev pub with_choice : App → Text → App
+with_choice app name = with_rule app (optional_option name)
+
+-- the command with one more option that it cannot do without
 abbrev pub with_option : App → Text → App
 with_option app name = with_rule app (required_option name)
 
@@ -20,19 +29,32 @@ abbrev pub verify_line : App
 verify_line =
     with_option (with_option (with_option (with_option (with_option (new_app (codes "verify")) (codes "store")) (codes "sources")) (codes "plan")) (codes "record")) (codes "claim")
 
+-- `serve` and its options
+abbrev pub serve_line : App
+serve_line =
+    with_choice (with_choice (with_option (with_option (with_option (with_option (new_app (codes "serve")) (codes "listen")) (codes "connections")) (codes "limit")) (codes "result-limit")) (codes "prefix")) (codes "idle")
+
 -- the program: it has a version, and wants a command as its first word
 abbrev pub program_line : App
 program_line =
     with_subcommand
+    (with_subcommand
     (on_top (λ s. record s { has_version = true; no_binary_name = true; subcommand_required = true; disable_help_subcommand = true }) (new_app (codes "buildcache")))
-    verify_line.top
+    verify_line.top)
+    serve_line.top
 
 -- ---- what the words ask for
 
--- the words are not at fault, and call `verify`
-pub record CallsVerify (words : List Text) : Type 0 where
+-- the words are not at fault, and call the command
+pub record Calls (name : Text) (words : List Text) : Type 0 where
   pub faultless : fault_of program_line words ≡ []
-  pub command : option_map (λ p. p.0) (subcommand_of program_line words) ≡ Some (codes "verify")
+  pub command : option_map (λ p. p.0) (subcommand_of program_line words) ≡ Some name
+
+abbrev pub CallsVerify : List Text → Type 0
+CallsVerify words = Calls (codes "verify") words
+
+abbrev pub CallsServe : List Text → Type 0
+CallsServe words = Calls (codes "serve") words
 
 -- what the words say of each option of the command that they call
 abbrev pub options_of : List Text → List Row

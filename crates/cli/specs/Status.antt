@@ -1,15 +1,20 @@
 -- The statuses of a command that ends without its answer.
 use Rattle.std.specs.Prelude.{ℕ}
 use Rattle.cli.specs.declared.error.CliError.{CliError}
-use Rattle.cli.specs.declared.error.CliError.TheVariants.{Words, Digest, Text, File, NotAFile, TooLarge, Output, Memory}
+use Rattle.cli.specs.declared.error.CliError.TheVariants.{Words, Digest, Number, Prefix, Text, File, NotAFile, TooLarge, Address, Random, Output, Memory}
 
--- 2 where the words or the texts that they name are at fault, and 3 where a file, the output or memory is
+-- 2 where the words or the texts that they name are at fault, and 3 where a file, a socket, the
+-- output or memory is
 abbrev pub status_of : CliError → ℕ
 status_of (Words text) = 2
 status_of (Digest option text fault) = 2
+status_of (Number option text) = 2
+status_of (Prefix text) = 2
 status_of (Text path fault) = 2
 status_of (File path fault) = 3
 status_of (NotAFile path) = 3
 status_of (TooLarge path) = 3
+status_of (Address text fault) = 3
+status_of (Random fault) = 3
 status_of (Output fault) = 3
 status_of Memory = 3

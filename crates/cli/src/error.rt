@@ -18,6 +18,15 @@ pub(crate) enum CliError {
         text: String,
         fault: DigestError,
     },
+    #[error("--{option}: a number of 1 to 19 digits, at most 9223372036854775807, not {text:?}")]
+    Number {
+        option: &'static str,
+        text: String,
+    },
+    #[error("--prefix: segments of a path, each behind a slash, not {text:?}")]
+    Prefix {
+        text: String,
+    },
     #[error("{path:?}: {fault}")]
     Text {
         path: String,
@@ -36,6 +45,13 @@ pub(crate) enum CliError {
     TooLarge {
         path: String,
     },
+    #[error("{address:?}: {fault}")]
+    Address {
+        address: String,
+        fault: io::Error,
+    },
+    #[error("random bytes: {0}")]
+    Random(io::Error),
     #[error("standard output: {0}")]
     Output(io::Error),
     #[error("out of memory")]
@@ -48,10 +64,16 @@ impl CliError {
         ensures { result ≡ status_of self.now }
     {
         match self {
-            CliError::Words(_) | CliError::Digest { .. } | CliError::Text { .. } => 2,
+            CliError::Words(_)
+            | CliError::Digest { .. }
+            | CliError::Number { .. }
+            | CliError::Prefix { .. }
+            | CliError::Text { .. } => 2,
             CliError::File { .. }
             | CliError::NotAFile { .. }
             | CliError::TooLarge { .. }
+            | CliError::Address { .. }
+            | CliError::Random(_)
             | CliError::Output(_)
             | CliError::Memory => 3,
         }

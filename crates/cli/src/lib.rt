@@ -6,6 +6,7 @@ mod error;
 mod files;
 mod laws;
 mod running;
+mod serve_command;
 mod store;
 mod verify_command;
 mod words;

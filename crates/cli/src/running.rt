@@ -5,12 +5,17 @@ ghost use Rattle.cli.specs.Printed.{IsDone, PrintsNo};
 ghost use Rattle.cli.specs.Status.{status_of};
 
 use crate::error::CliError;
+use crate::serve_command::run_serve;
 use crate::verify_command::run_verify;
 use crate::words::parse;
 use clap::error::{Error, ErrorKind};
 use std::alloc::{AllocError, Global};
 use std::io::Write;
+use log::Log;
+use std::net::{Net, TcpListener, TcpStream};
+use std::random::RandomSource;
 use std::rt::Files;
+use std::time::Clock;
 
 /// What a command came to.
 enum Ended {
@@ -23,9 +28,10 @@ enum Ended {
 /// texts that they name are at fault, 3 where a file, the output or memory is.
 pub fn run_words<R, O: Write, E: Write>(rt: &R, words: &[String], out: &mut O, err: &mut E) -> u8
 where
-    R: AllocGlobal + Files,
+    R: AllocGlobal + Clock + Files + Log + Net<Listener = TcpListener, Stream = TcpStream> + RandomSource,
     ensures status { result < 4 }
-    // With status 0, the words ask for help, or the line of their yes went to standard output, and nothing else.
+    // With status 0, the words ask for help, or the line of their yes went to standard output, or
+    // the address that was served, and nothing else.
     ensures done { result ≡ 0 → IsDone (map string_bytes words.now) (O.contents out.old) (O.contents out.new) }
     // With status 1, the line of their no.
     ensures no { result ≡ 1 → PrintsNo (map string_bytes words.now) (O.contents out.old) (O.contents out.new) }
@@ -47,7 +53,7 @@ where
 
 fn run<R, O: Write>(rt: &R, words: &[String], out: &mut O) -> Result<Ended, CliError>
 where
-    R: AllocGlobal + Files,
+    R: AllocGlobal + Clock + Files + Log + Net<Listener = TcpListener, Stream = TcpStream> + RandomSource,
     ensures done { IfOk result (λ ended. ended ≡ Ended.Done → IsDone (map string_bytes words.now) (O.contents out.old) (O.contents out.new)) }
     ensures no { IfOk result (λ ended. ended ≡ Ended.No → PrintsNo (map string_bytes words.now) (O.contents out.old) (O.contents out.new)) }
     ensures unprinted { IfErr result (λ fault. status_of fault ≡ 2 → O.contents out.new ≡ O.contents out.old) }
@@ -63,6 +69,10 @@ where
             } else {
                 Ok(Ended::No)
             }
+        }
+        Some(("serve", inner)) => {
+            run_serve(rt, inner, out)?;
+            Ok(Ended::Done)
         }
         _ => {
             let text = String::from_str(rt.alloc(), "no such command")?;

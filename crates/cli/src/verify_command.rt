@@ -23,7 +23,7 @@ use std::rt::Files;
 use verifier::{Verdict, VerifyError, verify};
 
 /// The text of an option that clap has found to be there.
-fn text_of<'a>(matches: &ArgMatches<'a>, option: &'static str) -> &'a str
+pub(crate) fn text_of<'a>(matches: &ArgMatches<'a>, option: &'static str) -> &'a str
     ensures { result.now ≡ option_text (rows_of (found_of matches.now)) option.now }
 {
     matches.get_str(option).unwrap_or("")
