@@ -11,17 +11,20 @@ that Bazel ran). FOLDER gets these files:
     plan, record      the build as docs/FORMATS.md has it
     sources, claim    the digest of the source tree, and that of the tree that is claimed
     taken             the sources below bazel-out, which no spawn of the log made; one escaped path a line
-    store/            cas/HASH and ac/HASH: commands, actions, directories, trees and results, not the contents of files
+    store/            cas/HASH and ac/HASH: commands, actions, directories, trees and results, not the contents of files;
+                      with --store in another folder, with --server in a cache over HTTP
 
 The rules are those of docs/VERIFY_BAZEL.md. What a plan can't say is refused with status 2 and one line, which names
 the file, the line of the log at which the spawn begins, and the spawn; then none of the files is written.
 """
 
 import argparse
+import contextlib
 import fnmatch
 import functools
 import hashlib
 import heapq
+import http.client
 import json
 import os
 import re
@@ -47,6 +50,10 @@ FILE_FIELDS = {"path", "digest", "symlinkTargetPath", "isTool"}
 
 class Refused(Exception):
     """Why there is no plan: where, and what is wrong there."""
+
+
+class NotAnswered(Exception):
+    """What a server did in place of an answer."""
 
 
 # Messages, in the one encoding that docs/FORMATS.md has for each: fields by number, defaults left out.
@@ -702,28 +709,102 @@ def digest_of_file(path):
 # Files.
 
 
+class FolderStore:
+    """A store folder, of files cas/HASH and ac/HASH."""
+
+    def __init__(self, folder):
+        self.folder = folder
+
+    def place(self, part, name):
+        return os.path.join(self.folder, part, name)
+
+    def get(self, part, name):
+        """The bytes under a name, or None."""
+        if not os.path.exists(self.place(part, name)):
+            return None
+        with open(self.place(part, name), "rb") as it:
+            return it.read()
+
+    def put(self, part, name, content):
+        os.makedirs(os.path.join(self.folder, part), exist_ok=True)
+        write_file(self.place(part, name), content)
+
+    def close(self):
+        pass
+
+
+class ServerStore:
+    """A cache over HTTP, of PREFIX/cas/HASH and PREFIX/ac/HASH: one request after another on one connection."""
+
+    def __init__(self, address, prefix):
+        self.address, self.prefix = address, prefix
+        try:
+            self.connection = http.client.HTTPConnection(address, timeout=60)
+        except http.client.InvalidURL as fault:
+            raise Refused(f"{address!r} is no server's address, HOST:PORT ({fault})") from None
+
+    def place(self, part, name):
+        return f"http://{self.address}{self.prefix}/{part}/{name}"
+
+    def ask(self, method, part, name, content=None):
+        """The status and the body of the answer."""
+        try:
+            self.connection.request(method, f"{self.prefix}/{part}/{name}", content)
+            answer = self.connection.getresponse()
+            return answer.status, answer.read()
+        except (OSError, http.client.HTTPException) as fault:
+            raise NotAnswered(f"{method} {self.place(part, name)}: {fault or type(fault).__name__}") from None
+
+    def get(self, part, name):
+        """The bytes under a name, or None."""
+        status, content = self.ask("GET", part, name)
+        if status not in (200, 404):
+            raise NotAnswered(f"GET {self.place(part, name)}: the server answers {status}")
+        return content if status == 200 else None
+
+    def put(self, part, name, content):
+        status, _ = self.ask("PUT", part, name, content)
+        if status not in (200, 201, 204):
+            raise NotAnswered(f"PUT {self.place(part, name)}: the server answers {status}")
+
+    def close(self):
+        self.connection.close()
+
+
 def check_store(build, store):
     """Refuses a store that has another result of an action: the same action came to two outcomes."""
     for spawn in build.spawns:
-        path = os.path.join(store, "ac", spawn.action.hash)
-        if os.path.exists(path):
-            with open(path, "rb") as it:
-                if it.read() != build.store.results[spawn.action]:
-                    spawn.refuse(f'the store has another result of its action, "{path}"')
+        held = store.get("ac", spawn.action.hash)
+        if held is not None and held != build.store.results[spawn.action]:
+            spawn.refuse(f'the store has another result of its action, "{store.place("ac", spawn.action.hash)}"')
 
 
 def write(build, folder, store):
-    for part in ("cas", "ac"):
-        os.makedirs(os.path.join(store, part), exist_ok=True)
-    os.makedirs(folder, exist_ok=True)
+    """Writes all: the blobs before the results that refer to them, and the files of FOLDER last."""
     for digest, blob in build.store.blobs.items():
-        write_file(os.path.join(store, "cas", digest.hash), blob)
+        store.put("cas", digest.hash, blob)
     for action, result in build.store.results.items():
-        write_file(os.path.join(store, "ac", action.hash), result)
+        store.put("ac", action.hash, result)
     texts = {"plan": build.plan, "record": build.record, "taken": build.taken}
     texts.update(sources=[build.sources.text()], claim=[build.claim.text()])
+    os.makedirs(folder, exist_ok=True)
     for name, lines in texts.items():
         write_file(os.path.join(folder, name), "".join(f"{line}\n" for line in lines).encode())
+
+
+def is_prefix(text):
+    """Whether a text may stand before /cas and /ac: nothing, or segments of plain characters, 256 bytes at most."""
+    return len(text) <= 256 and re.fullmatch("(/[A-Za-z0-9._~-]+)*", text) is not None
+
+
+def store_of(options):
+    if options.server is None:
+        if options.prefix:
+            raise Refused("--prefix is for --server")
+        return FolderStore(options.store or os.path.join(options.folder, "store"))
+    if not is_prefix(options.prefix):
+        raise Refused(f"{options.prefix!r} is no prefix, as /cache/main")
+    return ServerStore(options.server, options.prefix)
 
 
 def check_sizes(build):
@@ -752,9 +833,14 @@ def parse(words):
     parser.add_argument(
         "folder", metavar="FOLDER", help="where the files are written; it is made if it isn't there"
     )
-    parser.add_argument(
+    stores = parser.add_mutually_exclusive_group()
+    stores.add_argument(
         "--store", metavar="STORE", help="the store folder, in place of FOLDER/store; it may hold other builds"
     )
+    stores.add_argument(
+        "--server", metavar="HOST:PORT", help="a cache over HTTP in place of a folder; PUT and GET of /cas/HASH and /ac/HASH"
+    )
+    parser.add_argument("--prefix", metavar="PREFIX", default="", help="what stands before these paths on the server")
     parser.add_argument(
         "--outputs", metavar="PATTERN", nargs="+", default=[],
         help="what the artifact has: each output whose path has a PATTERN, in which * (also for /), ? and [..] are as in a "
@@ -774,26 +860,33 @@ def parse(words):
     return parser.parse_args(words)
 
 
+def make(options, store):
+    """Makes the build of the log and writes it, where nothing of it is refused."""
+    below = options.below.rstrip("/")
+    if below and not is_path(below):
+        raise Refused(f"{below!r} is no path below the execution root")
+    artifact = read_artifact(options.artifact) if options.artifact else None
+    with open(options.log, encoding="utf-8") as it:
+        text = it.read()
+    try:
+        build = turn(text, options.outputs, below, artifact, options.drop_timeouts)
+        check_sizes(build)
+        check_store(build, store)
+    except Refused as fault:
+        raise Refused(f'"{options.log}": {fault}') from None
+    write(build, options.folder, store)
+    return build
+
+
 def main(words):
     options = parse(words)
     try:
-        below, store = options.below.rstrip("/"), options.store or os.path.join(options.folder, "store")
-        if below and not is_path(below):
-            raise Refused(f"{below!r} is no path below the execution root")
-        artifact = read_artifact(options.artifact) if options.artifact else None
-        with open(options.log, encoding="utf-8") as it:
-            text = it.read()
-        try:
-            build = turn(text, options.outputs, below, artifact, options.drop_timeouts)
-            check_sizes(build)
-            check_store(build, store)
-        except Refused as fault:
-            raise Refused(f'"{options.log}": {fault}') from None
-        write(build, options.folder, store)
+        with contextlib.closing(store_of(options)) as store:
+            build = make(options, store)
     except Refused as fault:
         print("error:", str(fault).replace("\n", "\\n"), file=sys.stderr)
         return 2
-    except (OSError, UnicodeDecodeError) as fault:
+    except (NotAnswered, OSError, UnicodeDecodeError) as fault:
         print(f"error: {fault}", file=sys.stderr)
         return 3
     print(f"sources {build.sources.text()}")

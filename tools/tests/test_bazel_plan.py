@@ -8,6 +8,7 @@ names it, what is made is also judged by it.
 
 import contextlib
 import hashlib
+import http.server
 import io
 import json
 import os
@@ -15,6 +16,7 @@ import shutil
 import subprocess
 import sys
 import tempfile
+import threading
 import unittest
 
 HERE = os.path.dirname(os.path.realpath(__file__))
@@ -23,6 +25,7 @@ sys.path.insert(0, os.path.join(TOP, "tools"))
 
 import bazel_plan  # noqa: E402
 
+KEPT = os.path.join(TOP, "crates", "counts_run", "data")
 PROGRAM = os.environ.get("BUILDCACHE", os.path.join(TOP, "crates", "buildcache", "out", "buildcache"))
 
 
@@ -389,14 +392,22 @@ def contents(folder):
 
 
 class KeptLog(Case):
-    """A log of Bazel 4.2.3 for //pages:counts of examples/bazel, and what was made of it (see docs/VERIFY_BAZEL.md)."""
+    """A log of Bazel 4.2.3 for //pages:counts of examples/bazel, and what was made of it, which the gate has judged
+    by the program `counts_run` (see docs/VERIFY_BAZEL.md)."""
 
     WORDS = ["--outputs", "*/counts.txt", "*/site", "--below", "bazel-out/k8-fastbuild/bin/pages"]
 
     def test_it_is_turned_into_the_kept_files(self):
         with open(os.path.join(HERE, "data", "counts.json"), encoding="utf-8") as it:
             self.turn(it.read(), *self.WORDS)
-        self.assertEqual(contents(self.at("asked")), contents(os.path.join(HERE, "data", "counts")))
+        kept = contents(KEPT)
+        for name in ("plan", "record", "taken", *(it for it in kept if it.startswith("store/"))):
+            self.assertEqual(contents(self.at("asked"))[name], kept[name], name)
+        self.assertEqual(contents(self.at("asked")).keys(), kept.keys() | {"sources", "claim"})
+        with open(os.path.join(os.path.dirname(KEPT), "args"), encoding="utf-8") as it:
+            words = it.read().splitlines()
+        self.assertEqual(self.lines("sources"), [words[words.index("--sources") + 1]])
+        self.assertEqual(self.lines("claim"), [words[words.index("--claim") + 1]])
         self.judge("yes 433064578c7792a6a4efc4b6f20749fb2d32ec50b442ef364fadd095453fd7df/165 steps 7\n")
 
     def spawns(self):
@@ -430,6 +441,82 @@ class KeptLog(Case):
                     self.judge("yes ")
                     self.assertEqual(self.lines("claim")[0].startswith("433064"), not path.endswith("/counts.txt"))
                 shutil.rmtree(self.at("asked"))
+
+
+class Cache(http.server.BaseHTTPRequestHandler):
+    """A cache over HTTP that keeps what is put, in its server's dictionary; `refused` are the paths that it refuses."""
+
+    protocol_version = "HTTP/1.1"
+
+    def do_GET(self):
+        content = self.server.held.get(self.path)
+        self.answer(404 if content is None else 200, content or b"")
+
+    def do_PUT(self):
+        content = self.rfile.read(int(self.headers["Content-Length"]))
+        refused = self.path in self.server.refused
+        if not refused:
+            self.server.held[self.path] = content
+        self.answer(507 if refused else 201, b"")
+
+    def answer(self, status, content):
+        self.send_response(status)
+        self.send_header("Content-Length", str(len(content)))
+        self.end_headers()
+        self.wfile.write(content)
+
+    def log_message(self, *words):
+        pass
+
+
+class Servers(Case):
+    def setUp(self):
+        super().setUp()
+        self.server = http.server.ThreadingHTTPServer(("127.0.0.1", 0), Cache)
+        self.server.held, self.server.refused = {}, set()
+        threading.Thread(target=self.server.serve_forever, daemon=True).start()
+        self.addCleanup(self.server.server_close)
+        self.addCleanup(self.server.shutdown)
+        self.words = ["--server", f"127.0.0.1:{self.server.server_address[1]}"]
+
+    def fail_to_write(self, reason, *words):
+        status, out, err = self.call(log(spawn({}, ["a"])), *words)
+        self.assertEqual((status, out, err.count("\n")), (3, "", 1))
+        self.assertTrue(err.startswith("error: ") and reason in err, err)
+        self.assertFalse(os.path.exists(self.at("asked")))
+
+    def test_a_server_gets_what_a_folder_gets(self):
+        text = log(spawn({"x": "1"}, ["a"]), spawn({"a": "a"}, ["b"]))
+        self.turn(text, "--store", self.at("store"))
+        plan = self.turn(text, *self.words, "--prefix", "/cache/main")
+        self.assertEqual(plan[0], "buildplan 1")
+        put = {path.removeprefix("/cache/main/"): content for path, content in self.server.held.items()}
+        self.assertEqual(put, contents(self.at("store")))
+
+    def test_another_result_on_the_server(self):
+        text = log(spawn({}, ["a"]))
+        self.turn(text, *self.words)
+        self.turn(text, *self.words)
+        path = next(it for it in self.server.held if it.startswith("/ac/"))
+        self.server.held[path] += b"\x32\x00"
+        shutil.rmtree(self.at("asked"))
+        self.refuse('spawn "Making a": the store has another result of its action', text, *self.words)
+
+    def test_a_server_that_refuses(self):
+        self.turn(log(spawn({}, ["a"])), *self.words)
+        path = next(it for it in self.server.held if it.startswith("/cas/"))
+        shutil.rmtree(self.at("asked"))
+        self.server.refused.add(path)
+        self.fail_to_write(f"{path}: the server answers 507", *self.words)
+
+    def test_a_server_that_is_not_there(self):
+        self.fail_to_write("GET http://127.0.0.1:1/ac/", "--server", "127.0.0.1:1")
+
+    def test_words_of_servers(self):
+        text = log(spawn({}, ["a"]))
+        self.refuse("'127.0.0.1:x' is no server's address", text, "--server", "127.0.0.1:x")
+        self.refuse("'cache/' is no prefix", text, *self.words, "--prefix", "cache/")
+        self.refuse("--prefix is for --server", text, "--prefix", "/cache")
 
 
 class Refusals(Case):

@@ -14,3 +14,7 @@ pub mod Once
 pub mod Costs
 pub mod Refusing
 pub mod Fetching
+pub mod Thinning
+pub mod Keeping
+pub mod Leading
+pub mod Asked

@@ -6,3 +6,4 @@ pub mod State
 pub mod Survey
 pub mod CacheError
 pub mod Lending
+pub mod Asking

@@ -21,6 +21,15 @@ pub record CacheState : Type 0 where
   pub limit : ℕ
   pub result_limit : ℕ
 
+-- a cache that holds nothing
+abbrev pub opened : ℕ → ℕ → CacheState
+opened limit result_limit = record {
+  blobs = [];
+  results = [];
+  limit = limit;
+  result_limit = result_limit;
+}
+
 -- why a call is refused
 pub data Refusal : Type 0 where
   too_large : Refusal

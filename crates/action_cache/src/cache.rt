@@ -7,7 +7,7 @@ ghost use Rattle.messages.specs.declared.error.MessageError.{MessageError};
 ghost use Rattle.action_messages.specs.Refused.{IsRefused as IsRefusedAs};
 ghost use Rattle.action_cache.specs.State.{touched_each, answer_of, is_other, bytes_given};
 ghost use Rattle.action_cache.specs.Reading.{by_messages};
-ghost use Rattle.action_cache.specs.Machine.{CacheState, done, put_blob as blob_put, get_blob as blob_got, unpin as take_off, pin as put_on, get_result as result_got, put_result as result_put};
+ghost use Rattle.action_cache.specs.Machine.{CacheState, opened, done, put_blob as blob_put, get_blob as blob_got, unpin as take_off, pin as put_on, get_result as result_got, put_result as result_put};
 ghost use Rattle.action_cache.specs.CacheError.{IsRefused};
 
 use crate::error::CacheError;
@@ -88,12 +88,7 @@ impl<A: Allocator + Copy> ActionCache<A> {
     ) -> Result<Self, AllocError>
         requires blobs { limit < 2 ^ 63 }
         requires results { result_limit < 2 ^ 63 }
-        ensures { IfOk result (λ c. c ≡ record {
-          blobs = [];
-          results = [];
-          limit = limit;
-          result_limit = result_limit;
-        }) }
+        ensures { IfOk result (λ c. c ≡ opened limit result_limit) }
     {
         let blobs = BlobStore::new(alloc, state, limit)?;
         let results = Bounded::new(alloc, state, result_limit, 64)?;

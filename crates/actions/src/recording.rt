@@ -1,9 +1,12 @@
-ghost use Rattle.std.specs.Prelude.{◌≡◌, ◌<◌, length, IfOk, IfErr, IsErrOf};
+ghost use Rattle.std.specs.Prelude.{◌≡◌, length, IfOk, IfErr, IsErrOf};
 ghost use Rattle.blob_source.specs.Source.{Asks};
+ghost use Rattle.blob_source.specs.Called.{Calls};
 ghost use Rattle.tree.specs.TreeError.{Explains};
-ghost use Rattle.action_messages.specs.Outputs.{directories_among, recorded_value, recorded_values};
+ghost use Rattle.action_messages.specs.Outputs.{directories_among, recorded_value};
+ghost use Rattle.action_messages.specs.Outputs.{recorded_values};
 ghost use Rattle.actions.specs.Outcome.{output_value, outputs_in};
-ghost use Rattle.actions.specs.Recorded.{IsRecorded, IsFirstFault, IsOutputFault, IsWithoutTree, StandsFor, StandForAll};
+ghost use Rattle.actions.specs.Recorded.{IsRecorded, StandsFor, StandForAll};
+ghost use Rattle.actions.specs.Recorded.{IsFirstFault, IsOutputFault, IsWithoutTree};
 
 use crate::outcome::{Outcome, Output};
 use action_messages::{ActionResult, RecordedOutput};
@@ -19,12 +22,14 @@ impl<A: Allocator + Copy> Output<A> {
         recorded: &RecordedOutput<'_, A>,
         source: &mut S,
     ) -> Result<Output<A>, TreeError<A>>
-        ensures found { IfOk result (λ x. StandsFor (S.tells source.new).blobs (recorded_value recorded.now) (output_value x)) }
-        ensures faulty { IfErr result (λ e. Explains (IsOutputFault (S.tells source.new).blobs (recorded_value recorded.now)) e) }
-        ensures asked { Asks 1 (S.tells source.old) (S.tells source.new) }
-        ensures unasked { IsWithoutTree (recorded_value recorded.now) → S.tells source.new ≡ S.tells source.old }
-        ensures failed { IsErrOf result TreeError.Fetch → (S.tells source.old).failures < (S.tells source.new).failures }
-        ensures unfailed { (IsErrOf result TreeError.Fetch → ⊥) → (S.tells source.new).failures ≡ (S.tells source.old).failures }
+        ensures found { IfOk result (λ x.
+            StandsFor (S.tells source.new).blobs (recorded_value recorded.now) (output_value x)) }
+        ensures faulty { IfErr result (Explains
+            (IsOutputFault (S.tells source.new).blobs (recorded_value recorded.now))) }
+        ensures called { Calls (Asks 1) (S.tells source.old) (S.tells source.new)
+            (IsErrOf result TreeError.Fetch) }
+        ensures unasked { IsWithoutTree (recorded_value recorded.now)
+            → S.tells source.new ≡ S.tells source.old }
     {
         match recorded {
             RecordedOutput::File(file) => Ok(Output::File {
@@ -49,11 +54,12 @@ fn read_outputs<A: Allocator + Copy, S: BlobSource<A>>(
     recorded: &[RecordedOutput<'_, A>],
     source: &mut S,
 ) -> Result<Vec<(Path<A>, Output<A>), A>, TreeError<A>>
-    ensures found { IfOk result (λ v. StandForAll (S.tells source.new).blobs (recorded_values recorded.now) (outputs_in v.items)) }
-    ensures faulty { IfErr result (λ e. Explains (IsFirstFault (S.tells source.new).blobs (directories_among (recorded_values recorded.now))) e) }
-    ensures asked { Asks (length (directories_among (recorded_values recorded.now))) (S.tells source.old) (S.tells source.new) }
-    ensures failed { IsErrOf result TreeError.Fetch → (S.tells source.old).failures < (S.tells source.new).failures }
-    ensures unfailed { (IsErrOf result TreeError.Fetch → ⊥) → (S.tells source.new).failures ≡ (S.tells source.old).failures }
+    ensures found { IfOk result (λ v. StandForAll (S.tells source.new).blobs
+        (recorded_values recorded.now) (outputs_in v.items)) }
+    ensures faulty { IfErr result (Explains (IsFirstFault (S.tells source.new).blobs
+        (directories_among (recorded_values recorded.now)))) }
+    ensures called { Calls (Asks (length (directories_among (recorded_values recorded.now))))
+        (S.tells source.old) (S.tells source.new) (IsErrOf result TreeError.Fetch) }
 {
     let mut outputs = Vec::new(alloc);
     for output in recorded {
@@ -71,11 +77,11 @@ pub fn recorded<A: Allocator + Copy, S: BlobSource<A>>(
     source: &mut S,
 ) -> Result<Outcome<A>, TreeError<A>>
     // The outcome, or the fault of the first directory whose Tree isn't told.
-    ensures found { IfOk result (λ o. IsRecorded (S.tells source.new).blobs made.now o) }
-    ensures faulty { IfErr result (λ e. Explains (IsFirstFault (S.tells source.new).blobs made.now.directories) e) }
-    ensures asked { Asks (length made.now.directories) (S.tells source.old) (S.tells source.new) }
-    ensures failed { IsErrOf result TreeError.Fetch → (S.tells source.old).failures < (S.tells source.new).failures }
-    ensures unfailed { (IsErrOf result TreeError.Fetch → ⊥) → (S.tells source.new).failures ≡ (S.tells source.old).failures }
+    ensures found { IfOk result (IsRecorded (S.tells source.new).blobs made.now) }
+    ensures faulty { IfErr result (Explains
+        (IsFirstFault (S.tells source.new).blobs made.now.directories)) }
+    ensures called { Calls (Asks (length made.now.directories))
+        (S.tells source.old) (S.tells source.new) (IsErrOf result TreeError.Fetch) }
 {
     let recorded = made.outputs(alloc)?;
     let outputs = read_outputs(alloc, &recorded, source)?;

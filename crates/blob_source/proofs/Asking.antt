@@ -1,28 +1,37 @@
 -- Calls of a source, one after another.
-use Rattle.std.proofs.Common.{◌≡◌, ℕ, ◌+◌, ◌-◌, ◌*◌, ◌<◌, ◌≤◌, refl, ap, ◌∙◌, arith}
+use Rattle.std.proofs.Common.{◌≡◌, ℕ, ◌+◌, ◌<◌, ◌≤◌, refl, ap, ◌∙◌, arith}
 use Rattle.std.specs.Prelude.{Result, Ok, Err}
 use Rattle.blob_digest.specs.Digest.{DigestValue}
 use Rattle.blob_source.specs.Source.{Blobs, Telling, GrowsAt, AsksBlob, AsksResult, Asks, AsksSome}
 
-pub asks_none : (t : Telling) → Asks 1 t t
-asks_none t = record { blobs = λ e b h. h; results = λ e b h. h; failures = omega arith; risen = omega arith; most_calls = omega arith }
+pub asks_none : {most : ℕ} (t : Telling) → Asks most t t
+asks_none t = record {
+  blobs = λ e b h. h;
+  results = λ e b h. h;
+  failures = omega arith;
+  risen = omega arith;
+  most_calls = omega arith;
+  puts = refl;
+}
 
-pub asks_blob : {old new : Telling} {d : DigestValue} → AsksBlob old new d → Asks 1 old new
+pub asks_blob : {old new : Telling} {d : DigestValue} → AsksBlob d old new → Asks 1 old new
 asks_blob {old} {new} h = record {
   blobs = h.blobs.kept;
   results = λ e b q. ap (λ R. R e) h.results ∙ q;
   failures = h.counts.failures;
   risen = h.counts.risen;
   most_calls = omega (arith, h.counts.calls);
+  puts = h.puts;
 }
 
-pub asks_result : {old new : Telling} {d : DigestValue} → AsksResult old new d → Asks 1 old new
+pub asks_result : {old new : Telling} {d : DigestValue} → AsksResult d old new → Asks 1 old new
 asks_result {old} {new} h = record {
   blobs = λ e b q. ap (λ B. B e) h.blobs ∙ q;
   results = h.results.kept;
   failures = h.counts.failures;
   risen = h.counts.risen;
   most_calls = omega (arith, h.counts.calls);
+  puts = h.puts;
 }
 
 pub asks_then : {a b : ℕ} {old mid new : Telling} → Asks a old mid → Asks b mid new → Asks (a + b) old new
@@ -32,6 +41,7 @@ asks_then {a} {b} {old} {mid} {new} h k = record {
   failures = omega (arith, h.failures, k.failures);
   risen = omega (arith, h.risen, k.risen);
   most_calls = omega (arith, h.most_calls, k.most_calls);
+  puts = k.puts ∙ h.puts;
 }
 
 pub asks_within : {a b : ℕ} {old new : Telling} → a ≤ b → Asks a old new → Asks b old new
@@ -41,10 +51,8 @@ asks_within {a} {b} {old} {new} le h = record {
   failures = h.failures;
   risen = h.risen;
   most_calls = omega (arith, h.most_calls, le);
+  puts = h.puts;
 }
-
-pub asks_nothing : (t : Telling) → Asks 0 t t
-asks_nothing t = record { blobs = λ e b h. h; results = λ e b h. h; failures = omega arith; risen = omega arith; most_calls = omega arith }
 
 -- one call more, of so many
 pub asks_more : {i n : ℕ} {old mid new : Telling} → i < n → Asks i old mid → Asks 1 mid new → Asks n old new
@@ -54,20 +62,6 @@ asks_more {i} {n} lt h k = asks_within {a = i + 1} {b = n} (omega (arith, lt)) (
 
 pub asks_some_more : {old mid new : Telling} → AsksSome old mid → AsksSome mid new → AsksSome old new
 asks_some_more {old} {mid} {new} h k = record { most = h.most + k.most; asks = asks_then h.asks k.asks }
-
-pub asks_one : {old new : Telling} → Asks 1 old new → AsksSome old new
-asks_one {old} {new} h = record { most = 1; asks = h }
-
--- ---- two calls for each of so many names
-
-pub asks_first : {deeper : ℕ} {old new : Telling} → 0 < deeper → Asks 1 old new → Asks (2 * deeper) old new
-asks_first {deeper} some h = asks_within {a = 1} {b = 2 * deeper} (omega (arith, some)) h
-
-pub asks_both : {deeper : ℕ} {old mid new : Telling} → 0 < deeper → Asks 1 old mid → Asks 1 mid new → Asks (2 * deeper) old new
-asks_both {deeper} some h k = asks_within {a = 1 + 1} {b = 2 * deeper} (omega (arith, some)) (asks_then h k)
-
-pub asks_below : {deeper : ℕ} {old mid late new : Telling} → 0 < deeper → Asks 1 old mid → Asks 1 mid late → Asks (2 * (deeper - 1)) late new → Asks (2 * deeper) old new
-asks_below {deeper} some h k l = asks_within {a = 1 + 1 + 2 * (deeper - 1)} {b = 2 * deeper} (omega (arith, some)) (asks_then (asks_then h k) l)
 
 -- an answer is no error
 pub ok_no_error : {T E : Type 0} {x : T} {e : E} → ◌≡◌ {A = Result T E} (Ok x) (Err e) → ⊥

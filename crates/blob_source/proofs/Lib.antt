@@ -1,3 +1,4 @@
-mod Digests
+pub mod Digests
+mod Puts
 pub mod Asking
 pub mod Calling

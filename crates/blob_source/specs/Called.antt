@@ -2,9 +2,14 @@
 use Rattle.std.specs.Prelude.{◌≡◌, ◌<◌}
 use Rattle.blob_source.specs.Source.{Telling, AsksSome}
 
--- The source was asked, and told more; it counted a failure exactly where the answer says that it
--- failed.
-pub record Called (old new : Telling) (fails : Type 0) : Type 0 where
-  pub asked : AsksSome old new
+-- The calls did this to what the source tells, and the source counted a failure exactly where the
+-- answer says that it failed.
+pub record Calls (does : Telling → Telling → Type 0) (old new : Telling) (fails : Type 0)
+    : Type 0 where
+  pub asked : does old new
   pub failed : fails → old.failures < new.failures
   pub unfailed : (fails → ⊥) → new.failures ≡ old.failures
+
+-- the source was asked, by some calls, and told more
+abbrev pub Called : Telling → Telling → Type 0 → Type 0
+Called = Calls AsksSome

@@ -1,4 +1,5 @@
 pub mod Source
+pub mod Sink
 pub mod Called
 pub mod Told
 pub mod Fetched

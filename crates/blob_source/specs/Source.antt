@@ -12,12 +12,14 @@ abbrev pub greatest_count : ℕ
 greatest_count = 18446744073709551615
 
 -- All that contracts see of a source: blobs by their digests, results by the digests of their
--- actions, and how often it failed and was called.
+-- actions, how often it failed and was called, and which results were put into it.
 pub record Telling : Type 0 where
   pub blobs : Blobs
   pub results : Blobs
   pub failures : ℕ
   pub calls : ℕ
+  -- the digests under which results were put, the latest last
+  pub puts : List DigestValue
 
 -- ---- calls
 
@@ -38,15 +40,17 @@ pub record CountsCall (old new : Telling) : Type 0 where
   pub bounded : new.failures ≤ greatest_count
 
 -- one call, which asked for the blob under a digest
-pub record AsksBlob (old new : Telling) (d : DigestValue) : Type 0 where
+pub record AsksBlob (d : DigestValue) (old new : Telling) : Type 0 where
   pub blobs : GrowsAt d old.blobs new.blobs
   pub results : new.results ≡ old.results
+  pub puts : new.puts ≡ old.puts
   pub counts : CountsCall old new
 
 -- one call, which asked for the result under a digest
-pub record AsksResult (old new : Telling) (d : DigestValue) : Type 0 where
+pub record AsksResult (d : DigestValue) (old new : Telling) : Type 0 where
   pub results : GrowsAt d old.results new.results
   pub blobs : new.blobs ≡ old.blobs
+  pub puts : new.puts ≡ old.puts
   pub counts : CountsCall old new
 
 -- any calls, one after another, and at most so many
@@ -56,6 +60,7 @@ pub record Asks (most : ℕ) (old new : Telling) : Type 0 where
   pub failures : old.failures ≤ new.failures
   pub risen : old.calls ≤ new.calls
   pub most_calls : new.calls ≤ old.calls + most
+  pub puts : new.puts ≡ old.puts
 
 -- some calls, one after another
 pub record AsksSome (old new : Telling) : Type 0 where

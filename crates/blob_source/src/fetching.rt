@@ -1,6 +1,7 @@
-ghost use Rattle.std.specs.Prelude.{◌≡◌, ◌<◌, IfOk, IfErr, IsErrOf};
+ghost use Rattle.std.specs.Prelude.{◌≡◌, IfOk, IfErr, IsErrOf};
 ghost use Rattle.blob_digest.specs.Digest.{empty_digest};
 ghost use Rattle.blob_source.specs.Source.{Asks, GrowsAt};
+ghost use Rattle.blob_source.specs.Called.{Calls};
 ghost use Rattle.blob_source.specs.Fetched.{Fetches};
 ghost use Rattle.blob_source.specs.Told.{IsTold, IsFault};
 ghost use Rattle.blob_source.specs.MessageFetchError.{ExplainsFetch, of_call};
@@ -54,18 +55,17 @@ impl From<FetchError> for MessageFetchError {
 }
 
 /// Fetches a blob and hashes it. The empty blob is always there, and isn't asked for.
-#[tactic(auto, using(crate::proofs::Asking::asks_blob, crate::proofs::Asking::asks_none, crate::proofs::Asking::grows_none))]
+#[tactic(auto, using(crate::proofs::Calling::calls_blob, crate::proofs::Calling::calls_none, crate::proofs::Asking::grows_none))]
 pub fn fetch_blob<A: Allocator + Copy, S: BlobSource<A>>(
     alloc: A,
     source: &mut S,
     digest: &Digest,
 ) -> Result<Fetched<A>, FetchError>
-    ensures told { IfOk result (λ fetched. Fetches (S.tells source.new).blobs digest.now fetched) }
-    ensures asked { Asks 1 (S.tells source.old) (S.tells source.new) }
+    ensures told { IfOk result (Fetches (S.tells source.new).blobs digest.now) }
+    ensures called { Calls (Asks 1) (S.tells source.old) (S.tells source.new)
+        (IsErrOf result FetchError.Failed) }
     ensures only { GrowsAt digest.now (S.tells source.old).blobs (S.tells source.new).blobs }
     ensures unasked { digest.now ≡ empty_digest → S.tells source.new ≡ S.tells source.old }
-    ensures failed { IsErrOf result FetchError.Failed → (S.tells source.old).failures < (S.tells source.new).failures }
-    ensures unfailed { (IsErrOf result FetchError.Failed → ⊥) → (S.tells source.new).failures ≡ (S.tells source.old).failures }
 {
     if *digest == Digest::empty() {
         return Ok(Fetched::Right(Vec::new(alloc)));
@@ -88,13 +88,14 @@ pub fn fetch_message<A: Allocator + Copy, S: BlobSource<A>, M: Message<A>>(
     source: &mut S,
     digest: &Digest,
 ) -> Result<M, MessageFetchError>
-    ensures told { IfOk result (λ m. IsTold M.keeps M.spells (S.tells source.new).blobs digest.now m) }
-    ensures faulty { IfErr result (λ e. ExplainsFetch (IsFault M.keeps M.spells (S.tells source.new).blobs digest.now) e) }
-    ensures asked { Asks 1 (S.tells source.old) (S.tells source.new) }
+    ensures told { IfOk result
+        (IsTold M.keeps M.spells (S.tells source.new).blobs digest.now) }
+    ensures faulty { IfErr result (ExplainsFetch
+        (IsFault M.keeps M.spells (S.tells source.new).blobs digest.now)) }
+    ensures called { Calls (Asks 1) (S.tells source.old) (S.tells source.new)
+        (IsErrOf result MessageFetchError.Failed) }
     ensures only { GrowsAt digest.now (S.tells source.old).blobs (S.tells source.new).blobs }
     ensures unasked { digest.now ≡ empty_digest → S.tells source.new ≡ S.tells source.old }
-    ensures failed { IsErrOf result MessageFetchError.Failed → (S.tells source.old).failures < (S.tells source.new).failures }
-    ensures unfailed { (IsErrOf result MessageFetchError.Failed → ⊥) → (S.tells source.new).failures ≡ (S.tells source.old).failures }
 {
     match fetch_blob(alloc, source, digest)? {
         Fetched::Missing => Err(MessageFetchError::Missing(*digest)),

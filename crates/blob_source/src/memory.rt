@@ -1,7 +1,9 @@
-ghost use Rattle.std.specs.Prelude.{◌≡◌, OnOk, OnErr};
-ghost use Rattle.blob_source.specs.Memory.{telling_of, HoldsBlob, HoldsResult, IsUnchanged, TellsNothing};
+ghost use Rattle.std.specs.Prelude.{◌≡◌, ◌↔◌, IsTrue, OnOk, OnErr};
+ghost use Rattle.blob_source.specs.Memory.{telling_of, told_by};
+ghost use Rattle.blob_source.specs.Memory.{HoldsBlob, HoldsResult, IsUnchanged, TellsNothing};
+ghost use Rattle.blob_source.specs.Sink.{HasRight};
 
-use crate::source::{BlobSource, FetchError};
+use crate::source::{BlobSink, BlobSource, FetchError};
 use blob_digest::Digest;
 use std::alloc::{AllocError, Allocator};
 use std::collections::BTreeMap;
@@ -13,6 +15,7 @@ pub struct MemorySource<A: Allocator> {
     blobs: BTreeMap<Digest, Vec<u8, A>, A>,
     results: BTreeMap<Digest, Vec<u8, A>, A>,
     calls: u64,
+    puts: Vec<Digest, A>,
 }
 
 impl<A: Allocator + Copy> MemorySource<A> {
@@ -24,12 +27,14 @@ impl<A: Allocator + Copy> MemorySource<A> {
             blobs: BTreeMap::new(alloc),
             results: BTreeMap::new(alloc),
             calls: 0,
+            puts: Vec::new(alloc),
         }
     }
 
     /// Holds these bytes as the blob under the digest, in place of others. They aren't hashed.
     pub fn hold_blob(&mut self, digest: Digest, bytes: Vec<u8, A>) -> Result<(), AllocError>
-        ensures ok { OnOk result (HoldsBlob (telling_of self.old) (telling_of self.new) digest bytes.items) }
+        ensures ok { OnOk result
+            (HoldsBlob (telling_of self.old) (telling_of self.new) digest bytes.items) }
         ensures err { OnErr result (IsUnchanged (telling_of self.old) (telling_of self.new)) }
     {
         self.blobs.insert(digest, bytes)?;
@@ -38,7 +43,8 @@ impl<A: Allocator + Copy> MemorySource<A> {
 
     /// Holds these bytes as the result of the action with the digest, in place of others.
     pub fn hold_result(&mut self, digest: Digest, bytes: Vec<u8, A>) -> Result<(), AllocError>
-        ensures ok { OnOk result (HoldsResult (telling_of self.old) (telling_of self.new) digest bytes.items) }
+        ensures ok { OnOk result
+            (HoldsResult (telling_of self.old) (telling_of self.new) digest bytes.items) }
         ensures err { OnErr result (IsUnchanged (telling_of self.old) (telling_of self.new)) }
     {
         self.results.insert(digest, bytes)?;
@@ -50,6 +56,23 @@ impl<A: Allocator + Copy> MemorySource<A> {
         ensures { result ≡ (telling_of self.now).calls }
     {
         self.calls
+    }
+
+    /// The digests under which results were put, the latest last.
+    pub fn puts(&self) -> &[Digest]
+        ensures { result.now ≡ (telling_of self.now).puts }
+    {
+        &self.puts
+    }
+
+    /// Whether bytes with the digest stand under it.
+    fn has_blob(&self, digest: &Digest) -> bool
+        ensures { IsTrue result ↔ HasRight (told_by self.now.blobs) digest.now }
+    {
+        let Some(bytes) = self.blobs.get(digest) else {
+            return false;
+        };
+        Digest::of(bytes) == *digest
     }
 }
 
@@ -72,5 +95,26 @@ impl<A: Allocator + Copy> BlobSource<A> for MemorySource<A> {
             None => Ok(None),
             Some(bytes) => Ok(Some(Vec::from_slice(alloc, bytes)?)),
         }
+    }
+}
+
+impl<A: Allocator + Copy> BlobSink<A> for MemorySource<A> {
+    fn put_blob(&mut self, alloc: A, bytes: &[u8]) -> Result<Digest, FetchError> {
+        self.calls = self.calls.saturating_add(1);
+        let digest = Digest::of(bytes);
+        if self.has_blob(&digest) {
+            return Ok(digest);
+        }
+        self.blobs.insert(digest, Vec::from_slice(alloc, bytes)?)?;
+        Ok(digest)
+    }
+
+    fn put_result(&mut self, alloc: A, digest: &Digest, bytes: &[u8]) -> Result<(), FetchError> {
+        self.calls = self.calls.saturating_add(1);
+        self.puts.reserve(1)?;
+        self.results
+            .insert(*digest, Vec::from_slice(alloc, bytes)?)?;
+        self.puts.push(*digest).unwrap();
+        Ok(())
     }
 }

@@ -1,5 +1,6 @@
 use crate::{
-    BlobSource, FetchError, Fetched, MemorySource, MessageFetchError, fetch_blob, fetch_message,
+    BlobSink, BlobSource, FetchError, Fetched, MemorySource, MessageFetchError, fetch_blob,
+    fetch_message,
 };
 use blob_digest::Digest;
 use messages::Directory;
@@ -73,6 +74,48 @@ fn each_request_for_memory_refused(rt: HostRuntime) {
         refused = refused.saturating_add(1);
     }
     assert!(rt; refused >= 8);
+}
+
+/// What a sink has of a blob and a result that are put into it, the result twice.
+fn stored<A: Allocator + Copy, S: BlobSink<A>>(
+    alloc: A,
+    sink: &mut S,
+) -> Result<(Found, Option<usize>), FetchError> {
+    let nine = sink.put_blob(alloc, b"123456789")?;
+    sink.put_blob(alloc, b"123456789")?;
+    sink.put_result(alloc, &nine, b"r")?;
+    sink.put_result(alloc, &nine, b"rs")?;
+    let result = sink.result(alloc, &nine)?.map(|bytes| bytes.len());
+    Ok((fetched(alloc, sink, &nine)?, result))
+}
+
+/// A source with wrong bytes under the digest of the blob that is put.
+fn put<A: Allocator + Copy>(
+    alloc: A,
+) -> Result<((Found, Option<usize>), [bool; 2], u64), FetchError> {
+    let nine = Digest::of(b"123456789");
+    let mut source = MemorySource::new(alloc);
+    source.hold_blob(nine, copied(alloc, b"x")?)?;
+    let found = stored(alloc, &mut source)?;
+    let puts = source.puts();
+    Ok((
+        found,
+        [puts.len() == 2, puts.contains(&nine)],
+        source.calls(),
+    ))
+}
+
+#[test]
+fn puts_with_each_request_for_memory_refused(rt: HostRuntime) {
+    for number in 1..1000u64 {
+        let heap = Refusing::new(rt.alloc(), number);
+        let answer = put(&heap);
+        if !heap.has_refused() {
+            assert_eq!(rt; answer, Ok(((Found::Right(9), Some(2)), [true, true], 6)));
+            break;
+        }
+        assert_eq!(rt; answer, Err(FetchError::Memory), "request {number}");
+    }
 }
 
 /// The encoding of a Directory with the file `a` of the nine bytes `123456789`.

@@ -16,11 +16,11 @@ counts : {old new : Telling} {f : ℕ} → CountsCall old new → f ≤ greatest
 counts h le = record { calls = h.calls; risen = h.risen; failures = omega arith; bounded = le }
 
 -- the tables answered
-pub asks_kept_blob : {old new : Telling} {d : DigestValue} {f : ℕ} → AsksBlob old new d → f ≤ greatest_count → AsksBlob (record old { failures = f }) (record new { failures = f }) d
-asks_kept_blob h le = record { blobs = h.blobs; results = h.results; counts = counts h.counts le }
+pub asks_kept_blob : {old new : Telling} {d : DigestValue} {f : ℕ} → AsksBlob d old new → f ≤ greatest_count → AsksBlob d (record old { failures = f }) (record new { failures = f })
+asks_kept_blob h le = record { blobs = h.blobs; results = h.results; puts = h.puts; counts = counts h.counts le }
 
-pub asks_kept_result : {old new : Telling} {d : DigestValue} {f : ℕ} → AsksResult old new d → f ≤ greatest_count → AsksResult (record old { failures = f }) (record new { failures = f }) d
-asks_kept_result h le = record { results = h.results; blobs = h.blobs; counts = counts h.counts le }
+pub asks_kept_result : {old new : Telling} {d : DigestValue} {f : ℕ} → AsksResult d old new → f ≤ greatest_count → AsksResult d (record old { failures = f }) (record new { failures = f })
+asks_kept_result h le = record { results = h.results; blobs = h.blobs; puts = h.puts; counts = counts h.counts le }
 
 grows_then : {d : DigestValue} {a b c : Blobs} → GrowsAt d a b → GrowsAt d b c → GrowsAt d a c
 grows_then h k = record { kept = λ e x q. k.kept e x (h.kept e x q); others = λ e n. k.others e n ∙ h.others e n }
@@ -29,11 +29,11 @@ counts_then : {old mid new : Telling} → CountsCall old mid → new.calls ≡ m
 counts_then {old} {mid} {new} h calls failures bounded = record { calls = calls ∙ h.calls; risen = omega (arith, h.risen, calls); failures = omega (arith, h.failures, failures); bounded = bounded }
 
 -- and then a file
-pub asks_loaded_blob : {old mid new : Telling} {d : DigestValue} → AsksBlob old mid d → LoadsBlob mid new d → AsksBlob old new d
-asks_loaded_blob h k = record { blobs = grows_then h.blobs k.blobs; results = k.results ∙ h.results; counts = counts_then h.counts k.calls k.failures k.bounded }
+pub asks_loaded_blob : {old mid new : Telling} {d : DigestValue} → AsksBlob d old mid → LoadsBlob d mid new → AsksBlob d old new
+asks_loaded_blob h k = record { blobs = grows_then h.blobs k.blobs; results = k.results ∙ h.results; puts = k.puts ∙ h.puts; counts = counts_then h.counts k.calls k.failures k.bounded }
 
-pub asks_loaded_result : {old mid new : Telling} {d : DigestValue} → AsksResult old mid d → LoadsResult mid new d → AsksResult old new d
-asks_loaded_result h k = record { results = grows_then h.results k.results; blobs = k.blobs ∙ h.blobs; counts = counts_then h.counts k.calls k.failures k.bounded }
+pub asks_loaded_result : {old mid new : Telling} {d : DigestValue} → AsksResult d old mid → LoadsResult d mid new → AsksResult d old new
+asks_loaded_result h k = record { results = grows_then h.results k.results; blobs = k.blobs ∙ h.blobs; puts = k.puts ∙ h.puts; counts = counts_then h.counts k.calls k.failures k.bounded }
 
 same_or_other : (e d : DigestValue) → (e ≡ d) ⊎ (e ≢ d)
 same_or_other e d = by (pointwise nat_eq e.hash d.hash && nat_eq e.size d.size) refl
@@ -53,11 +53,11 @@ grows_from_none {d} {old} {new} none others = record { kept = λ e b q. by e b q
         never e = cc
     by e b q (inr n) = others e n ∙ q
 
-pub loads_held_blob : {old new : Telling} {d : DigestValue} {bytes : List ℕ} {f : ℕ} → old.blobs d ≡ None → HoldsBlob old new d bytes → f ≤ greatest_count → LoadsBlob (record old { failures = f }) (record new { failures = f }) d
-loads_held_blob none h le = record { blobs = grows_from_none none h.others; results = h.results; calls = h.calls; failures = omega arith; bounded = le }
+pub loads_held_blob : {old new : Telling} {d : DigestValue} {bytes : List ℕ} {f : ℕ} → old.blobs d ≡ None → HoldsBlob old new d bytes → f ≤ greatest_count → LoadsBlob d (record old { failures = f }) (record new { failures = f })
+loads_held_blob none h le = record { blobs = grows_from_none none h.others; results = h.results; calls = h.calls; puts = h.puts; failures = omega arith; bounded = le }
 
-pub loads_held_result : {old new : Telling} {d : DigestValue} {bytes : List ℕ} {f : ℕ} → old.results d ≡ None → HoldsResult old new d bytes → f ≤ greatest_count → LoadsResult (record old { failures = f }) (record new { failures = f }) d
-loads_held_result none h le = record { results = grows_from_none none h.others; blobs = h.blobs; calls = h.calls; failures = omega arith; bounded = le }
+pub loads_held_result : {old new : Telling} {d : DigestValue} {bytes : List ℕ} {f : ℕ} → old.results d ≡ None → HoldsResult old new d bytes → f ≤ greatest_count → LoadsResult d (record old { failures = f }) (record new { failures = f })
+loads_held_result none h le = record { results = grows_from_none none h.others; blobs = h.blobs; calls = h.calls; puts = h.puts; failures = omega arith; bounded = le }
 
 same_table : {a b : Blobs} → ((e : DigestValue) → b e ≡ a e) → b ≡ a
 same_table h = λ i e. h e i
@@ -65,15 +65,15 @@ same_table h = λ i e. h e i
 grows_same : {d : DigestValue} {a b : Blobs} → ((e : DigestValue) → b e ≡ a e) → GrowsAt d a b
 grows_same h = record { kept = λ e x q. h e ∙ q; others = λ e n. h e }
 
-pub loads_unchanged_blob : {old new : Telling} {d : DigestValue} {f : ℕ} → IsUnchanged old new → f ≤ greatest_count → LoadsBlob (record old { failures = f }) (record new { failures = f }) d
-loads_unchanged_blob h le = record { blobs = grows_same h.blobs; results = same_table h.results; calls = h.calls; failures = omega arith; bounded = le }
+pub loads_unchanged_blob : {old new : Telling} {d : DigestValue} {f : ℕ} → IsUnchanged old new → f ≤ greatest_count → LoadsBlob d (record old { failures = f }) (record new { failures = f })
+loads_unchanged_blob h le = record { blobs = grows_same h.blobs; results = same_table h.results; calls = h.calls; puts = h.puts; failures = omega arith; bounded = le }
 
-pub loads_unchanged_result : {old new : Telling} {d : DigestValue} {f : ℕ} → IsUnchanged old new → f ≤ greatest_count → LoadsResult (record old { failures = f }) (record new { failures = f }) d
-loads_unchanged_result h le = record { results = grows_same h.results; blobs = same_table h.blobs; calls = h.calls; failures = omega arith; bounded = le }
+pub loads_unchanged_result : {old new : Telling} {d : DigestValue} {f : ℕ} → IsUnchanged old new → f ≤ greatest_count → LoadsResult d (record old { failures = f }) (record new { failures = f })
+loads_unchanged_result h le = record { results = grows_same h.results; blobs = same_table h.blobs; calls = h.calls; puts = h.puts; failures = omega arith; bounded = le }
 
 -- nothing was read, and a failure may have been counted
-pub loads_nothing_blob : {old new : Telling} {d : DigestValue} {f g : ℕ} → new ≡ old → f ≤ g → g ≤ greatest_count → LoadsBlob (record old { failures = f }) (record new { failures = g }) d
-loads_nothing_blob is le bound = record { blobs = grows_same (λ e. ap (λ t. t.blobs e) is); results = ap (λ t. t.results) is; calls = ap (λ t. t.calls) is; failures = le; bounded = bound }
+pub loads_nothing_blob : {old new : Telling} {d : DigestValue} {f g : ℕ} → new ≡ old → f ≤ g → g ≤ greatest_count → LoadsBlob d (record old { failures = f }) (record new { failures = g })
+loads_nothing_blob is le bound = record { blobs = grows_same (λ e. ap (λ t. t.blobs e) is); results = ap (λ t. t.results) is; calls = ap (λ t. t.calls) is; puts = ap (λ t. t.puts) is; failures = le; bounded = bound }
 
-pub loads_nothing_result : {old new : Telling} {d : DigestValue} {f g : ℕ} → new ≡ old → f ≤ g → g ≤ greatest_count → LoadsResult (record old { failures = f }) (record new { failures = g }) d
-loads_nothing_result is le bound = record { results = grows_same (λ e. ap (λ t. t.results e) is); blobs = ap (λ t. t.blobs) is; calls = ap (λ t. t.calls) is; failures = le; bounded = bound }
+pub loads_nothing_result : {old new : Telling} {d : DigestValue} {f g : ℕ} → new ≡ old → f ≤ g → g ≤ greatest_count → LoadsResult d (record old { failures = f }) (record new { failures = g })
+loads_nothing_result is le bound = record { results = grows_same (λ e. ap (λ t. t.results e) is); blobs = ap (λ t. t.blobs) is; calls = ap (λ t. t.calls) is; puts = ap (λ t. t.puts) is; failures = le; bounded = bound }

@@ -1,8 +1,10 @@
-ghost use Rattle.std.specs.Prelude.{◌≡◌, ◌≤◌, ◌+◌, IfErr, IfOk, IfSome, IsErrOf, None, Some, ◌<◌, codes, string_bytes};
+ghost use Rattle.std.specs.Prelude.{◌≡◌, ◌≤◌, ◌+◌, IfErr, IfOk, IfSome, IsErrOf, None, Some};
+ghost use Rattle.std.specs.Prelude.{codes, string_bytes};
 ghost use Rattle.cli.specs.Faults.{IsFileFault};
 ghost use Rattle.cli.specs.Store.{entry_path, telling_of_folder, LoadsBlob, LoadsResult};
 ghost use Rattle.blob_source.specs.Source.{bytes_of, greatest_count};
 ghost use Rattle.blob_source.specs.Memory.{telling_of};
+ghost use Rattle.blob_source.specs.Called.{Calls};
 
 use crate::error::CliError;
 use crate::files::read_file;
@@ -95,11 +97,12 @@ impl<'r, R: Files + AllocGlobal> FolderSource<'r, R> {
     /// Reads a blob that wasn't read before.
     fn load_blob(&mut self, alloc: Global, digest: &Digest) -> Result<Option<Vec<u8>>, FetchError>
         requires { (telling_of_folder self.old).blobs digest.now ≡ None }
-        ensures told { IfOk result (λ answer. bytes_of answer ≡ (telling_of_folder self.new).blobs digest.now) }
-        ensures loaded { LoadsBlob (telling_of_folder self.old) (telling_of_folder self.new) digest.now }
-        ensures fault { IsErrOf result FetchError.Failed → IfSome self.new.fault (IsFileFault (entry_path (string_bytes self.old.folder) (codes "cas") digest.now)) }
-        ensures failed { IsErrOf result FetchError.Failed → self.old.failures < self.new.failures }
-        ensures unfailed { (IsErrOf result FetchError.Failed → ⊥) → self.new.failures ≡ self.old.failures }
+        ensures told { IfOk result (λ answer.
+            bytes_of answer ≡ (telling_of_folder self.new).blobs digest.now) }
+        ensures called { Calls (LoadsBlob digest.now) (telling_of_folder self.old)
+            (telling_of_folder self.new) (IsErrOf result FetchError.Failed) }
+        ensures fault { IsErrOf result FetchError.Failed → IfSome self.new.fault
+            (IsFileFault (entry_path (string_bytes self.old.folder) (codes "cas") digest.now)) }
     {
         let _count = self.failures;
         match read_entry(self.rt, self.folder.as_str(), "cas", digest) {
@@ -116,11 +119,12 @@ impl<'r, R: Files + AllocGlobal> FolderSource<'r, R> {
     /// Reads a result that wasn't read before.
     fn load_result(&mut self, alloc: Global, digest: &Digest) -> Result<Option<Vec<u8>>, FetchError>
         requires { (telling_of_folder self.old).results digest.now ≡ None }
-        ensures told { IfOk result (λ answer. bytes_of answer ≡ (telling_of_folder self.new).results digest.now) }
-        ensures loaded { LoadsResult (telling_of_folder self.old) (telling_of_folder self.new) digest.now }
-        ensures fault { IsErrOf result FetchError.Failed → IfSome self.new.fault (IsFileFault (entry_path (string_bytes self.old.folder) (codes "ac") digest.now)) }
-        ensures failed { IsErrOf result FetchError.Failed → self.old.failures < self.new.failures }
-        ensures unfailed { (IsErrOf result FetchError.Failed → ⊥) → self.new.failures ≡ self.old.failures }
+        ensures told { IfOk result (λ answer.
+            bytes_of answer ≡ (telling_of_folder self.new).results digest.now) }
+        ensures called { Calls (LoadsResult digest.now) (telling_of_folder self.old)
+            (telling_of_folder self.new) (IsErrOf result FetchError.Failed) }
+        ensures fault { IsErrOf result FetchError.Failed → IfSome self.new.fault
+            (IsFileFault (entry_path (string_bytes self.old.folder) (codes "ac") digest.now)) }
     {
         let _count = self.failures;
         match read_entry(self.rt, self.folder.as_str(), "ac", digest) {

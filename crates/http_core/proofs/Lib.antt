@@ -2,6 +2,7 @@ pub mod Lists
 pub mod Fields
 pub mod Blocks
 pub mod Judged
+pub mod Replies
 pub mod Fitting
 pub mod Cutting
 pub mod Standing

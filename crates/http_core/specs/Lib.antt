@@ -4,9 +4,12 @@ pub mod Connection
 pub mod Event
 pub mod Head
 pub mod Judging
+pub mod Host
 pub mod Prefix
 pub mod Reply
 pub mod Rules
+pub mod Request
+pub mod ReplyHead
 pub mod Session
 pub mod Laws
 pub mod Stream

@@ -26,7 +26,7 @@ impl<A: Allocator> Model for Prefix<A> {
 }
 
 /// Whether the byte stands for itself in a segment.
-fn is_unreserved(byte: &u8) -> bool
+pub(crate) fn is_unreserved(byte: &u8) -> bool
     ensures { result ≡ is_unreserved byte.now }
 {
     byte.is_ascii_alphanumeric() || matches!(*byte, b'-' | b'.' | b'_' | b'~')
@@ -82,7 +82,7 @@ impl<A: Allocator + Copy> Prefix<A> {
     }
 
     /// A copy.
-    pub(crate) fn copied(&self, alloc: A) -> Result<Prefix<A>, AllocError>
+    pub fn copied(&self, alloc: A) -> Result<Prefix<A>, AllocError>
         ensures { IfOk result (λ prefix. prefix ≡ self.now) }
     {
         Ok(Prefix {

@@ -53,7 +53,7 @@ pub(crate) fn is_named(block: &[u8], header: &HeaderSpan, name: &[u8]) -> bool
 }
 
 /// How many fields have this name, in any case.
-fn count_named(block: &[u8], headers: &[HeaderSpan], name: &[u8]) -> usize
+pub(crate) fn count_named(block: &[u8], headers: &[HeaderSpan], name: &[u8]) -> usize
     requires { All (IsHeaderWithin (length block.now)) headers.now }
     ensures { result ≡ count_of name.now (map (header_bytes block.now) headers.now) }
 {
@@ -97,7 +97,7 @@ fn length_in(text: &[u8]) -> Length
 
 /// What the fields say of the body's length.
 #[tactic(auto, using(crate::proofs::Fields::length_from_absent))]
-fn body_length(block: &[u8], headers: &[HeaderSpan]) -> Length
+pub(crate) fn body_length(block: &[u8], headers: &[HeaderSpan]) -> Length
     requires { All (IsHeaderWithin (length block.now)) headers.now }
     ensures { result ≡ length_of (map (header_bytes block.now) headers.now) }
 {
@@ -166,7 +166,7 @@ fn strip<'a>(front: &[u8], bytes: &'a [u8]) -> Option<&'a [u8]>
     bytes.strip_prefix(front)
 }
 
-fn text_of(area: Area) -> &'static [u8]
+pub(crate) fn text_of(area: Area) -> &'static [u8]
     ensures { result.now ≡ area_text area }
 {
     match area {

@@ -1,3 +1,4 @@
+mod client;
 mod rows;
 
 use crate::*;

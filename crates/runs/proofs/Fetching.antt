@@ -1,12 +1,12 @@
 -- What calls did to a source, where the answer names the failure of a fetch.
-use Rattle.std.proofs.Common.{◌≡◌, ◌<◌, ◌∙◌, refl, ap, sym, subst, ℕ}
+use Rattle.std.proofs.Common.{◌≡◌, ◌∙◌, refl, ap, sym, subst, ℕ}
 use Rattle.std.specs.Prelude.{Result, Ok, Err, IsErrOf}
 use Rattle.std.specs.Result.{IsErrAnd}
 use Rattle.std.proofs.lemmas.Result.{err_from_is_err_and}
 use Rattle.tree.specs.declared.error.TreeError.{TreeError}
 use Rattle.tree.specs.declared.error.TreeError.TheVariants as tree
 use Rattle.blob_source.specs.Called.{Called}
-use Rattle.blob_source.specs.Source.{Telling, Asks}
+use Rattle.blob_source.specs.Source.{Telling}
 use Rattle.blob_source.proofs.Asking.{ok_no_error}
 use Rattle.blob_source.proofs.Calling.{called_as, called_no, called_then, err_injective}
 use Rattle.runs.specs.declared.error.OpenError.{OpenError}
@@ -69,7 +69,3 @@ pub fetching_refused : {T U A : Type 0} (e : TreeError A) (r : RunsError A) {old
 fetching_refused {T} {U} {A} e r refusal h = called_as
     (λ is. ap Err (refused_fetch e r refusal (err_injective {T = U} r (errors.Source tree.Fetch) is)))
     (λ is. ap Err (subst (λ x. IsRefusalOf x r) (err_injective {T = T} e tree.Fetch is) refusal)) h
-
--- a look-up, by what its contract says
-pub looked : {fails : Type 0} {n : ℕ} {old new : Telling} → Asks n old new → (fails → old.failures < new.failures) → ((fails → ⊥) → new.failures ≡ old.failures) → Called old new fails
-looked {fails} {n} asked failed unfailed = record { asked = record { most = n; asks = asked }; failed = failed; unfailed = unfailed }

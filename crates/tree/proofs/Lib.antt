@@ -1,4 +1,5 @@
 pub mod Leaving
+mod TwoReads
 mod TreeLemmas
 mod SameTree
 mod SameMap

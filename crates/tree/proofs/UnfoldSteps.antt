@@ -1,5 +1,5 @@
 -- One child more of a directory that is being unfolded.
-use Rattle.std.proofs.Common.{◌≡◌, ◌≢◌, ℕ, ◌+◌, List, [], ◌∷◌, ◌++◌, refl, ap, sym, ◌∙◌, subst, append_assoc, arith, cond, length, inl}
+use Rattle.std.proofs.Common.{◌≡◌, ◌≢◌, ◌+◌, List, [], ◌∷◌, ◌++◌, refl, ap, sym, ◌∙◌, subst, append_assoc, arith, cond, length, inl}
 use Rattle.std.specs.Prelude.{Option, Some, None}
 use Rattle.std.specs.List.{AllByRecursion}
 use Rattle.std.specs.Ordering.{is_eq}
@@ -14,7 +14,7 @@ use Rattle.tree.specs.declared.error.TreeError.{TreeError}
 use Rattle.tree.specs.declared.error.TreeError.TheVariants.{Absent, BlobMissing, BlobWrong, BlobMalformed, TooDeep, Fetch, Memory}
 use Rattle.tree.specs.Tree.{Name, name_cmp, Tree, empty, leaf, folder, a_leaf, a_directory, IsBelowAll, IsOrdered}
 use Rattle.tree.specs.Form.{NodeValue, no_children, with_child, directory_of, root}
-use Rattle.blob_source.specs.Source.{Blobs, Grows, IsMissing, IsWrong, Telling, Asks, AsksSome}
+use Rattle.blob_source.specs.Source.{Blobs, Grows, IsMissing, IsWrong}
 use Rattle.blob_source.specs.Told.{IsMalformed, Fault, missing, wrong, malformed, TellsDirectory, FailsDirectory}
 use Rattle.tree.specs.TreeError.{Explains}
 use Rattle.tree.specs.Lookup.{Looked, found, LooksFrom, Looks, names_in}
@@ -23,7 +23,6 @@ use Rattle.tree.specs.declared.flat_tree.FlatEntry.{FlatEntry}
 use Rattle.tree.specs.FlatTree.{under, listed, FlatValue, IsFlatTree, entry_value, flat_value}
 use Rattle.tree.specs.Unfolded.{TellsBelow, IsUnfolded, IsFaultBelow, ExplainsUnfold, directories_at, directories_in}
 use Rattle.tree.specs.Unfolding.{leaves, AreChildren, IsFull, ExplainsChild, prefixed, Appends}
-use Rattle.blob_source.proofs.Asking.{asks_then}
 use Rattle.tree.proofs.Children.{child-with_child, child-below}
 use Rattle.tree.proofs.Descent.{told_still}
 use Rattle.tree.proofs.TreeLemmas.{name_itself, apart_cmp}
@@ -274,11 +273,6 @@ pub child_fault : {A : Type 0} (B C : Blobs) (d e : DigestValue) (above path : L
     → Unfolds B d above old new ((n, Dir e) ∷ rest) → path ≡ above ++ n ∷ [] → ExplainsUnfold C e path why → ExplainsUnfold C d above why
 child_fault B C d e above path old new n rest why g h is at =
     fault_below C d e h.read n above path why (told_still g h.read_told) (ap (child n) (sym h.directory) ∙ child_in h.done n (Dir e) (leaves rest) h.ordered) is at
-
--- ---- calls
-
-pub asks_some : {old mid new : Telling} {n : ℕ} → AsksSome old mid → Asks n mid new → AsksSome old new
-asks_some {old} {mid} {new} {n} h k = record { most = h.most + n; asks = asks_then h.asks k }
 
 -- ---- what the code keeps
 

@@ -1,11 +1,14 @@
-ghost use Rattle.std.specs.Prelude.{◌≡◌, ◌≢◌, ◌↔◌, ◌<◌, ◌≤◌, ◌+◌, ◌*◌, MatchOption, IsNone, IfOk, IfErr, IfSome, IsErrOf, length, map};
+ghost use Rattle.std.specs.Prelude.{◌≡◌, ◌≢◌, ◌↔◌, ◌<◌, ◌+◌, ◌*◌, length, map};
+ghost use Rattle.std.specs.Prelude.{MatchOption, IsNone, IfOk, IfErr, IfSome, IsErrOf};
 ghost use Rattle.std.specs.List.{AllWithin, HoldsAt};
 ghost use Rattle.blob_digest.specs.Digest.{digest_of};
 ghost use Rattle.tree.specs.Comparing.{encodings_in, AreOwn};
-ghost use Rattle.tree.specs.Difference.{Reads, FailsToRead, LeavesOwn, Finds, FindsFirst, made_by, differing, ExplainsDifference};
+ghost use Rattle.tree.specs.Difference.{Reads, FailsToRead, LeavesOwn, Finds, FindsFirst};
+ghost use Rattle.tree.specs.Difference.{made_by, differing, ExplainsDifference};
 ghost use Rattle.tree.specs.Folded.{IsFoldOfLawful};
 ghost use Rattle.tree.specs.Lookup.{names_in};
-ghost use Rattle.blob_source.specs.Source.{Asks, AsksSome};
+ghost use Rattle.blob_source.specs.Source.{Asks};
+ghost use Rattle.blob_source.specs.Called.{Calls};
 ghost use Rattle.tree.specs.TreeError.{Explains};
 
 use crate::difference::{Difference, FirstName, Unlike, first_name};
@@ -41,8 +44,10 @@ fn digests_of<A: Allocator>(
 
 /// Where the digest first stands.
 fn place_of(digests: &[Digest], digest: &Digest) -> Option<usize>
-    ensures { MatchOption result (AllWithin (λ d. d ≢ digest.now) digests.now 0 (length digests.now))
-        (λ i. (i < length digests.now) × HoldsAt (λ d. d ≡ digest.now) digests.now i × AllWithin (λ d. d ≢ digest.now) digests.now 0 i) }
+    ensures { MatchOption result
+        (AllWithin (λ d. d ≢ digest.now) digests.now 0 (length digests.now))
+        (λ i. (i < length digests.now) × HoldsAt (λ d. d ≡ digest.now) digests.now i
+        × AllWithin (λ d. d ≢ digest.now) digests.now 0 i) }
 {
     digests.iter().position(|other| other == digest)
 }
@@ -55,12 +60,14 @@ fn read_directory<A: Allocator + Copy, S: BlobSource<A>>(
     source: &mut S,
 ) -> Result<Directory<A>, TreeError<A>>
     requires { AreOwn own.now }
-    ensures told { IfOk result (λ m. Reads (encodings_in own.now) (S.tells source.new).blobs digest.now m) }
-    ensures faulty { IfErr result (λ e. Explains (FailsToRead (encodings_in own.now) (S.tells source.new).blobs digest.now) e) }
-    ensures asked { Asks 1 (S.tells source.old) (S.tells source.new) }
-    ensures unasked { LeavesOwn (encodings_in own.now) (S.tells source.old).blobs (S.tells source.new).blobs }
-    ensures failed { IsErrOf result TreeError.Fetch → (S.tells source.old).failures < (S.tells source.new).failures }
-    ensures unfailed { (IsErrOf result TreeError.Fetch → ⊥) → (S.tells source.new).failures ≡ (S.tells source.old).failures }
+    ensures told { IfOk result
+        (Reads (encodings_in own.now) (S.tells source.new).blobs digest.now) }
+    ensures faulty { IfErr result (Explains
+        (FailsToRead (encodings_in own.now) (S.tells source.new).blobs digest.now)) }
+    ensures called { Calls (Asks 1) (S.tells source.old) (S.tells source.new)
+        (IsErrOf result TreeError.Fetch) }
+    ensures unasked { LeavesOwn (encodings_in own.now)
+        (S.tells source.old).blobs (S.tells source.new).blobs }
 {
     let Some(place) = place_of(own.digests, digest) else {
         return fetch_message(alloc, source, digest);
@@ -88,12 +95,14 @@ fn difference_below<A: Allocator + Copy, S: BlobSource<A>>(
     requires some { 0 < deeper }
     requires depth { deeper + length (names_in above.now) ≡ 64 }
     requires other { grafted.now ≢ recorded.now }
-    ensures found { IfOk result (λ x. Finds (encodings_in own.now) (S.tells source.new).blobs deeper (names_in above.now) grafted.now recorded.now (differing x)) }
-    ensures refused { IfErr result (λ e. ExplainsDifference (Finds (encodings_in own.now) (S.tells source.new).blobs deeper (names_in above.now) grafted.now recorded.now) e) }
-    ensures asked { Asks (2 * deeper) (S.tells source.old) (S.tells source.new) }
-    ensures unasked { LeavesOwn (encodings_in own.now) (S.tells source.old).blobs (S.tells source.new).blobs }
-    ensures failed { IsErrOf result TreeError.Fetch → (S.tells source.old).failures < (S.tells source.new).failures }
-    ensures unfailed { (IsErrOf result TreeError.Fetch → ⊥) → (S.tells source.new).failures ≡ (S.tells source.old).failures }
+    ensures found { IfOk result (λ x. Finds (encodings_in own.now) (S.tells source.new).blobs
+        deeper (names_in above.now) grafted.now recorded.now (differing x)) }
+    ensures refused { IfErr result (ExplainsDifference (Finds (encodings_in own.now)
+        (S.tells source.new).blobs deeper (names_in above.now) grafted.now recorded.now)) }
+    ensures called { Calls (Asks (2 * deeper)) (S.tells source.old) (S.tells source.new)
+        (IsErrOf result TreeError.Fetch) }
+    ensures unasked { LeavesOwn (encodings_in own.now)
+        (S.tells source.old).blobs (S.tells source.new).blobs }
 {
     let there = read_directory(alloc, own, recorded, source)?;
     let here = read_directory(alloc, own, grafted, source)?;
@@ -125,14 +134,15 @@ pub fn first_difference<A: Allocator + Copy, S: BlobSource<A>>(
 ) -> Result<Option<Difference<A>>, TreeError<A>>
     requires { IsFoldOfLawful grafted.now }
     ensures same { IfOk result (λ o. IsNone o ↔ (recorded.now ≡ grafted.now.root)) }
-    ensures found { IfOk result (λ o. IfSome o (λ x. FindsFirst (made_by grafted.now) (S.tells source.new).blobs grafted.now.root recorded.now (differing x))) }
-    ensures refused { IfErr result (λ e. ExplainsDifference (FindsFirst (made_by grafted.now) (S.tells source.new).blobs grafted.now.root recorded.now) e) }
-    ensures asked { AsksSome (S.tells source.old) (S.tells source.new) }
-    ensures few { (S.tells source.new).calls ≤ (S.tells source.old).calls + 128 }
+    ensures found { IfOk result (λ o. IfSome o (λ x. FindsFirst (made_by grafted.now)
+        (S.tells source.new).blobs grafted.now.root recorded.now (differing x))) }
+    ensures refused { IfErr result (ExplainsDifference (FindsFirst (made_by grafted.now)
+        (S.tells source.new).blobs grafted.now.root recorded.now)) }
+    ensures called { Calls (Asks 128) (S.tells source.old) (S.tells source.new)
+        (IsErrOf result TreeError.Fetch) }
     ensures unasked { recorded.now ≡ grafted.now.root → S.tells source.new ≡ S.tells source.old }
-    ensures unasked_own { LeavesOwn (made_by grafted.now) (S.tells source.old).blobs (S.tells source.new).blobs }
-    ensures failed { IsErrOf result TreeError.Fetch → (S.tells source.old).failures < (S.tells source.new).failures }
-    ensures unfailed { (IsErrOf result TreeError.Fetch → ⊥) → (S.tells source.new).failures ≡ (S.tells source.old).failures }
+    ensures unasked_own { LeavesOwn (made_by grafted.now)
+        (S.tells source.old).blobs (S.tells source.new).blobs }
 {
     if *recorded == grafted.root {
         return Ok(None);

@@ -1,6 +1,7 @@
-ghost use Rattle.std.specs.Prelude.{◌≡◌, ◌<◌, IfOk, IfErr, IsErrOf};
+ghost use Rattle.std.specs.Prelude.{◌≡◌, IfOk, IfErr, IsErrOf};
 ghost use Rattle.blob_digest.specs.Digest.{empty_digest};
 ghost use Rattle.blob_source.specs.Source.{Asks, GrowsAt};
+ghost use Rattle.blob_source.specs.Called.{Calls};
 ghost use Rattle.blob_source.specs.Told.{IsTold, IsFault};
 ghost use Rattle.tree.specs.TreeError.{Explains};
 
@@ -17,13 +18,14 @@ pub fn fetch_message<A: Allocator + Copy, S: BlobSource<A>, M: Message<A>>(
     source: &mut S,
     digest: &Digest,
 ) -> Result<M, TreeError<A>>
-    ensures told { IfOk result (λ m. IsTold M.keeps M.spells (S.tells source.new).blobs digest.now m) }
-    ensures faulty { IfErr result (λ e. Explains (IsFault M.keeps M.spells (S.tells source.new).blobs digest.now) e) }
-    ensures asked { Asks 1 (S.tells source.old) (S.tells source.new) }
+    ensures told { IfOk result
+        (IsTold M.keeps M.spells (S.tells source.new).blobs digest.now) }
+    ensures faulty { IfErr result (Explains
+        (IsFault M.keeps M.spells (S.tells source.new).blobs digest.now)) }
+    ensures called { Calls (Asks 1) (S.tells source.old) (S.tells source.new)
+        (IsErrOf result TreeError.Fetch) }
     ensures only { GrowsAt digest.now (S.tells source.old).blobs (S.tells source.new).blobs }
     ensures unasked { digest.now ≡ empty_digest → S.tells source.new ≡ S.tells source.old }
-    ensures failed { IsErrOf result TreeError.Fetch → (S.tells source.old).failures < (S.tells source.new).failures }
-    ensures unfailed { (IsErrOf result TreeError.Fetch → ⊥) → (S.tells source.new).failures ≡ (S.tells source.old).failures }
 {
     Ok(blob_source::fetch_message(alloc, source, digest)?)
 }

@@ -15,7 +15,7 @@ mod unfolding;
 mod visiting;
 
 pub use blob_source::{
-    BlobSource, FetchError, Fetched, MemorySource, MessageFetchError, fetch_blob,
+    BlobSink, BlobSource, FetchError, Fetched, MemorySource, MessageFetchError, fetch_blob,
 };
 pub use comparing::first_difference;
 pub use difference::Difference;

@@ -1,5 +1,6 @@
-ghost use Rattle.std.specs.Prelude.{◌≡◌, ◌<◌, IfOk, IfErr, IsErrOf, OnOk, length, option_map};
+ghost use Rattle.std.specs.Prelude.{◌≡◌, IfOk, IfErr, IsErrOf, length, option_map};
 ghost use Rattle.blob_source.specs.Source.{Asks};
+ghost use Rattle.blob_source.specs.Called.{Calls};
 ghost use Rattle.tree.specs.Form.{node_value};
 ghost use Rattle.tree.specs.Lookup.{Looks, TellsOfTrees, found, nothing, names_in, looked};
 ghost use Rattle.tree.specs.TreeError.{ExplainsLookup, IsAbsent};
@@ -22,14 +23,17 @@ pub fn lookup<A: Allocator + Copy, S: BlobSource<A>>(
     source: &mut S,
 ) -> Result<Node<A>, TreeError<A>>
     // The node that is there, or why there is none.
-    ensures found { IfOk result (λ x. Looks (S.tells source.new).blobs root.now (names_in (option_map (λ p. p.now) path.entry)) (found (node_value x))) }
-    ensures refused { IfErr result (λ e. ExplainsLookup (S.tells source.new).blobs root.now (names_in (option_map (λ p. p.now) path.entry)) e) }
+    ensures found { IfOk result (λ x. Looks (S.tells source.new).blobs root.now
+        (names_in (option_map (λ p. p.now) path.entry)) (found (node_value x))) }
+    ensures refused { IfErr result (ExplainsLookup (S.tells source.new).blobs root.now
+        (names_in (option_map (λ p. p.now) path.entry))) }
     // What that says of every tree with this root.
-    ensures of_trees { IfOk result (λ x. TellsOfTrees (S.tells source.new).blobs root.now (names_in (option_map (λ p. p.now) path.entry)) (found (node_value x))) }
-    ensures absent { IfErr result (λ e. IsAbsent e → TellsOfTrees (S.tells source.new).blobs root.now (names_in (option_map (λ p. p.now) path.entry)) nothing) }
-    ensures asked { Asks (length (names_in (option_map (λ p. p.now) path.entry))) (S.tells source.old) (S.tells source.new) }
-    ensures failed { IsErrOf result TreeError.Fetch → (S.tells source.old).failures < (S.tells source.new).failures }
-    ensures unfailed { (IsErrOf result TreeError.Fetch → ⊥) → (S.tells source.new).failures ≡ (S.tells source.old).failures }
+    ensures of_trees { IfOk result (λ x. TellsOfTrees (S.tells source.new).blobs root.now
+        (names_in (option_map (λ p. p.now) path.entry)) (found (node_value x))) }
+    ensures absent { IfErr result (λ e. IsAbsent e → TellsOfTrees (S.tells source.new).blobs
+        root.now (names_in (option_map (λ p. p.now) path.entry)) nothing) }
+    ensures called { Calls (Asks (length (names_in (option_map (λ p. p.now) path.entry))))
+        (S.tells source.old) (S.tells source.new) (IsErrOf result TreeError.Fetch) }
 {
     match path {
         None => Ok(Node::Dir(*root)),
@@ -43,11 +47,12 @@ fn look_up<A: Allocator + Copy, S: BlobSource<A>>(
     path: &Path<A>,
     source: &mut S,
 ) -> Result<Node<A>, TreeError<A>>
-    ensures found { IfOk result (λ x. Looks (S.tells source.new).blobs root.now path.now (found (node_value x))) }
-    ensures refused { IfErr result (λ e. ExplainsLookup (S.tells source.new).blobs root.now path.now e) }
-    ensures asked { Asks (length path.now) (S.tells source.old) (S.tells source.new) }
-    ensures failed { IsErrOf result TreeError.Fetch → (S.tells source.old).failures < (S.tells source.new).failures }
-    ensures unfailed { (IsErrOf result TreeError.Fetch → ⊥) → (S.tells source.new).failures ≡ (S.tells source.old).failures }
+    ensures found { IfOk result (λ x. Looks (S.tells source.new).blobs root.now path.now
+        (found (node_value x))) }
+    ensures refused { IfErr result
+        (ExplainsLookup (S.tells source.new).blobs root.now path.now) }
+    ensures called { Calls (Asks (length path.now)) (S.tells source.old) (S.tells source.new)
+        (IsErrOf result TreeError.Fetch) }
 {
     let names = path.to_names(alloc)?;
     match descend(alloc, root, &names, source)? {
@@ -63,11 +68,12 @@ fn descend<A: Allocator + Copy, S: BlobSource<A>>(
     names: &[Name<A>],
     source: &mut S,
 ) -> Result<Option<Node<A>>, TreeError<A>>
-    ensures found { IfOk result (λ o. Looks (S.tells source.new).blobs root.now names.now (looked o)) }
-    ensures refused { IfErr result (λ e. ExplainsLookup (S.tells source.new).blobs root.now names.now e) }
-    ensures asked { Asks (length names.now) (S.tells source.old) (S.tells source.new) }
-    ensures failed { IsErrOf result TreeError.Fetch → (S.tells source.old).failures < (S.tells source.new).failures }
-    ensures unfailed { (IsErrOf result TreeError.Fetch → ⊥) → (S.tells source.new).failures ≡ (S.tells source.old).failures }
+    ensures found { IfOk result (λ o. Looks (S.tells source.new).blobs root.now names.now
+        (looked o)) }
+    ensures refused { IfErr result
+        (ExplainsLookup (S.tells source.new).blobs root.now names.now) }
+    ensures called { Calls (Asks (length names.now)) (S.tells source.old) (S.tells source.new)
+        (IsErrOf result TreeError.Fetch) }
 {
     let mut node = Node::Dir(*root);
     for name in names {

@@ -1,9 +1,11 @@
-ghost use Rattle.std.specs.Prelude.{◌≡◌, ◌+◌, ◌<◌, ◌≤◌, [], ◌∷◌, ◌++◌, IfOk, IfErr, IsErrOf, OnOk, length, option_map};
+ghost use Rattle.std.specs.Prelude.{◌≡◌, ◌+◌, ◌≤◌, [], ◌∷◌, ◌++◌, IfOk, IfErr, IsErrOf, OnOk};
+ghost use Rattle.std.specs.Prelude.{option_map};
 ghost use Rattle.std.specs.List.{AllByRecursion};
-ghost use Rattle.messages.specs.DirectoryRules.{directory_with, file_names, directory_names, symlink_names};
+ghost use Rattle.messages.specs.DirectoryRules.{directory_with};
+ghost use Rattle.messages.specs.DirectoryRules.{file_names, directory_names, symlink_names};
 ghost use Rattle.messages.specs.Order.{IsAscending, AreApart};
 ghost use Rattle.messages.specs.Path.{IsPath};
-ghost use Rattle.blob_source.specs.Source.{AsksSome};
+ghost use Rattle.blob_source.specs.Called.{Called};
 ghost use Rattle.tree.specs.FlatTree.{IsFlatTree, flat_value};
 ghost use Rattle.tree.specs.Lookup.{names_in};
 ghost use Rattle.tree.specs.Unfolded.{IsUnfolded, ExplainsUnfold, directories_in};
@@ -47,10 +49,13 @@ fn insert_directories<A: Allocator + Copy>(
     children: &mut ChildMap<A>,
     directories: &[DirectoryNode<A>],
 ) -> Result<(), AllocError>
-    requires none { made children.old.entries ≡ directory_with [] [] (made children.old.entries).symlinks }
+    requires none { made children.old.entries
+        ≡ directory_with [] [] (made children.old.entries).symlinks }
     requires ascend { IsAscending (directory_names directories.now) }
-    requires apart { AreApart (directory_names directories.now) (symlink_names (made children.old.entries).symlinks) }
-    ensures { OnOk result (made children.new.entries ≡ directory_with [] directories.now (made children.old.entries).symlinks) }
+    requires apart { AreApart (directory_names directories.now)
+        (symlink_names (made children.old.entries).symlinks) }
+    ensures { OnOk result (made children.new.entries
+        ≡ directory_with [] directories.now (made children.old.entries).symlinks) }
 {
     for directory in directories {
         children.insert(
@@ -68,9 +73,12 @@ fn insert_files<A: Allocator + Copy>(
 ) -> Result<(), AllocError>
     requires none { (made children.old.entries).files ≡ [] }
     requires ascend { IsAscending (file_names files.now) }
-    requires directories { AreApart (file_names files.now) (directory_names (made children.old.entries).directories) }
-    requires symlinks { AreApart (file_names files.now) (symlink_names (made children.old.entries).symlinks) }
-    ensures { OnOk result (made children.new.entries ≡ directory_with files.now (made children.old.entries).directories (made children.old.entries).symlinks) }
+    requires directories { AreApart (file_names files.now)
+        (directory_names (made children.old.entries).directories) }
+    requires symlinks { AreApart (file_names files.now)
+        (symlink_names (made children.old.entries).symlinks) }
+    ensures { OnOk result (made children.new.entries ≡ directory_with files.now
+        (made children.old.entries).directories (made children.old.entries).symlinks) }
 {
     for file in files {
         let node = Node::File {
@@ -103,7 +111,8 @@ pub(crate) fn child_path<A: Allocator + Copy>(
     above: Option<&Path<A>>,
     name: &Name<A>,
 ) -> Result<Path<A>, TreeError<A>>
-    ensures path { IfOk result (λ p. p ≡ names_in (option_map (λ x. x.now) above.entry) ++ name.now ∷ []) }
+    ensures path { IfOk result (λ p.
+        p ≡ names_in (option_map (λ x. x.now) above.entry) ++ name.now ∷ []) }
     ensures refused { IfErr result (λ e. ExplainsChild (option_map (λ x. x.now) above.entry) e) }
 {
     let Some(above) = above else {
@@ -124,12 +133,15 @@ fn unfold_below<A: Allocator + Copy, S: BlobSource<A>>(
     source: &mut S,
     entries: &mut Entries<A>,
 ) -> Result<(), TreeError<A>>
-    ensures told { OnOk result (Appends (S.tells source.new).blobs digest.now (names_in above.now) (flat_value entries.old.items) (flat_value entries.new.items)) }
-    ensures refused { IfErr result (λ e. ExplainsUnfold (S.tells source.new).blobs digest.now (names_in above.now) e) }
-    ensures asked { AsksSome (S.tells source.old) (S.tells source.new) }
-    ensures few { OnOk result ((S.tells source.new).calls + directories_in (flat_value entries.old.items) ≤ (S.tells source.old).calls + 1 + directories_in (flat_value entries.new.items)) }
-    ensures failed { IsErrOf result TreeError.Fetch → (S.tells source.old).failures < (S.tells source.new).failures }
-    ensures unfailed { (IsErrOf result TreeError.Fetch → ⊥) → (S.tells source.new).failures ≡ (S.tells source.old).failures }
+    ensures told { OnOk result (Appends (S.tells source.new).blobs digest.now (names_in above.now)
+        (flat_value entries.old.items) (flat_value entries.new.items)) }
+    ensures refused { IfErr result
+        (ExplainsUnfold (S.tells source.new).blobs digest.now (names_in above.now)) }
+    ensures called { Called (S.tells source.old) (S.tells source.new)
+        (IsErrOf result TreeError.Fetch) }
+    ensures few { OnOk result
+        ((S.tells source.new).calls + directories_in (flat_value entries.old.items)
+        ≤ (S.tells source.old).calls + 1 + directories_in (flat_value entries.new.items)) }
 {
     let directory: Directory<A> = fetch_message(alloc, source, digest)?;
     for (name, node) in children_by_name(alloc, &directory)? {
@@ -168,13 +180,13 @@ pub fn unfold<A: Allocator + Copy, S: BlobSource<A>>(
     root: &Digest,
     source: &mut S,
 ) -> Result<FlatTree<A>, TreeError<A>>
-    ensures told { IfOk result (λ tree. IsUnfolded (S.tells source.new).blobs root.now tree) }
-    ensures refused { IfErr result (λ e. ExplainsUnfold (S.tells source.new).blobs root.now [] e) }
-    ensures asked { AsksSome (S.tells source.old) (S.tells source.new) }
+    ensures told { IfOk result (IsUnfolded (S.tells source.new).blobs root.now) }
+    ensures refused { IfErr result (ExplainsUnfold (S.tells source.new).blobs root.now []) }
+    ensures called { Called (S.tells source.old) (S.tells source.new)
+        (IsErrOf result TreeError.Fetch) }
     // At most one call for the root and for each directory in it.
-    ensures few { IfOk result (λ tree. (S.tells source.new).calls ≤ (S.tells source.old).calls + 1 + directories_in tree) }
-    ensures failed { IsErrOf result TreeError.Fetch → (S.tells source.old).failures < (S.tells source.new).failures }
-    ensures unfailed { (IsErrOf result TreeError.Fetch → ⊥) → (S.tells source.new).failures ≡ (S.tells source.old).failures }
+    ensures few { IfOk result (λ tree.
+        (S.tells source.new).calls ≤ (S.tells source.old).calls + 1 + directories_in tree) }
 {
     let mut entries = Vec::new(alloc);
     unfold_below(alloc, root, &None, source, &mut entries)?;

@@ -1,5 +1,6 @@
-use Rattle.std.proofs.Common.{◌≡◌, length}
+use Rattle.std.proofs.Common.{length}
 use Rattle.blob_source.specs.Source.{Asks}
+use Rattle.blob_source.specs.Called.{Calls}
 use Rattle.actions.specs.Outcome.{outputs_in}
 use Rattle.action_messages.specs.Outputs.{directories_among}
 use Rattle.actions.specs.Recorded.{StandForAll}
@@ -11,6 +12,5 @@ invariant-loop-output g l =
     let tells = g.S.BlobSource.tells in
     record {
       read : StandForAll (tells l.source).blobs (read_so_far l.output-index l.recorded) (outputs_in l.outputs.items);
-      unfailed : (tells l.source).failures ≡ (tells l.fn.source).failures;
-      asked : Asks (length (directories_among (read_so_far l.output-index l.recorded))) (tells l.fn.source) (tells l.source);
+      called : Calls (Asks (length (directories_among (read_so_far l.output-index l.recorded)))) (tells l.fn.source) (tells l.source) ⊥;
     }

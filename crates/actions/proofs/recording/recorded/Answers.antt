@@ -1,10 +1,12 @@
-use Rattle.std.proofs.Common.{sym, subst, ◌∙◌}
+use Rattle.std.proofs.Common.{ap, length, sym, subst, ◌∙◌}
 use Rattle.std.specs.Prelude.{FitsSigned}
 use Rattle.std.specs.Int.{w32}
 use Rattle.std.proofs.lemmas.Int.{to_z-of_z}
-use Rattle.action_messages.specs.Outputs.{recorded_values}
+use Rattle.action_messages.specs.Outputs.{AreOutputs, recorded_values}
 use Rattle.actions.specs.Outcome.{outputs_in}
+use Rattle.blob_source.specs.Source.{Asks}
 use Rattle.blob_source.proofs.Asking.{ok_no_error}
+use Rattle.blob_source.proofs.Calling.{called_no, calls_more}
 use Rattle.actions.proofs.Outcomes.{lawful_outcome, recorded_outcome}
 use Rattle.actions.proofs.recording.recorded.Goals as goal
 
@@ -18,5 +20,9 @@ returns-clause-found g c =
     recorded_outcome _ c.args.made.now (recorded_values c.deref.result.now) (outputs_in c.in_ok-outputs.outputs.items) _ c.from_outputs.result c.exit_code.ensures.lawful (rw c.deref.ensures.value (c.in_ok-recorded.ensures {u = tt})) c.in_ok-outputs.ensures.found
     (to_z-of_z w32 c.exit_code.result fits ∙ c.exit_code.ensures.value) c.from_outputs.ensures
 
-pub returns-clause-unfailed : goal.returns-clause-unfailed
-returns-clause-unfailed g c = λ other. c.in_ok-outputs.ensures.unfailed ok_no_error
+-- as many calls as the result has directories
+pub returns-clause-called : goal.returns-clause-called
+returns-clause-called g c =
+    let found : AreOutputs c.args.made.now (recorded_values c.deref.result.now) = rw c.deref.ensures.value (c.in_ok-recorded.ensures {u = tt}) in
+    let tells = g.S.BlobSource.tells in
+    calls_more (subst (λ n. Asks n (tells c.args.source.now) (tells c.read_outputs.new.source)) (ap length found.directories)) (called_no ok_no_error ok_no_error c.in_ok-outputs.ensures.called)

@@ -1,11 +1,13 @@
 -- Two Directories are read, and their first name decides, or two directories of that name in turn.
-use Rattle.std.proofs.Common.{◌-◌, [], ◌∷◌, ◌++◌, ap, subst, ◌∙◌}
+use Rattle.std.proofs.Common.{◌-◌, [], ◌∷◌, ◌++◌, ap, subst, ◌∙◌, rules}
 use Rattle.std.proofs.lemmas.Result.{err_from_is_err_and}
 use Rattle.tree.specs.Lookup.{names_in}
 use Rattle.tree.specs.Unfolding.{ExplainsChild}
 use Rattle.tree.specs.Difference.{Finds, child_of, differing, ExplainsDifference}
 use Rattle.tree.specs.Comparing.{encodings_in, IsUnlike}
-use Rattle.blob_source.proofs.Asking.{asks_first, asks_both, asks_below, ok_no_error}
+use Rattle.blob_source.proofs.Asking.{ok_no_error}
+use Rattle.blob_source.proofs.Calling.{called_exit, calls_ok}
+use Rattle.tree.proofs.TwoReads.{asks_both, calls_both, calls_below}
 use Rattle.tree.proofs.Leaving.{leaves_then}
 use Rattle.tree.proofs.OwnDirectories.{ok_more, err_more}
 use Rattle.tree.proofs.DifferenceSteps.{ReadsBoth, reads_still, reads_both, finds_recorded, finds_grafted, finds_others, finds_last, finds_below, recorded_fault, grafted_fault, child_fault, explains_below}
@@ -16,35 +18,11 @@ returns-in_err-there-clause-refused g t c =
     let p = err_from_is_err_and c.from_residual.result c.from_residual.ensures.1 in
     rw (p.1, p.2) (recorded_fault _ _ (names_in c.args.above.now) c.args.grafted.now c.args.recorded.now c.args.deeper _ c.requires.some (c.in_err-there.ensures {u = tt}).faulty)
 
-pub returns-in_err-there-clause-asked : goal.returns-in_err-there-clause-asked
-returns-in_err-there-clause-asked g t c = asks_first c.requires.some c.read_directory.ensures.asked
-
 pub returns-in_err-here-clause-refused : goal.returns-in_err-here-clause-refused
 returns-in_err-here-clause-refused g t c =
     let p = err_from_is_err_and c.from_residual-in_err-here.result c.from_residual-in_err-here.ensures.1 in
-    let read = reads_still (encodings_in c.args.own.now) c.args.recorded.now c.in_ok-there.there c.read_directory-2.ensures.asked.blobs (c.in_ok-there.ensures {u = tt}).told in
+    let read = reads_still (encodings_in c.args.own.now) c.args.recorded.now c.in_ok-there.there c.read_directory-2.ensures.called.asked.blobs (c.in_ok-there.ensures {u = tt}).told in
     rw (p.1, p.2) (grafted_fault _ _ (names_in c.args.above.now) c.args.grafted.now c.args.recorded.now c.args.deeper c.in_ok-there.there _ c.requires.some read (c.in_err-here.ensures {u = tt}).faulty)
-
-pub returns-in_err-here-clause-asked : goal.returns-in_err-here-clause-asked
-returns-in_err-here-clause-asked g t c = asks_both c.requires.some c.read_directory.ensures.asked c.read_directory-2.ensures.asked
-
-pub returns-in_err-name-clause-asked : goal.returns-in_err-name-clause-asked
-returns-in_err-name-clause-asked g t c = asks_both c.requires.some c.read_directory.ensures.asked c.read_directory-2.ensures.asked
-
-pub returns-in_err-path-clause-asked : goal.returns-in_err-path-clause-asked
-returns-in_err-path-clause-asked g t c = asks_both c.requires.some c.read_directory.ensures.asked c.read_directory-2.ensures.asked
-
-pub returns-in-OnlyRecorded-clause-asked : goal.returns-in-OnlyRecorded-clause-asked
-returns-in-OnlyRecorded-clause-asked g t c = asks_both c.requires.some c.read_directory.ensures.asked c.read_directory-2.ensures.asked
-
-pub returns-in-OnlyGrafted-clause-asked : goal.returns-in-OnlyGrafted-clause-asked
-returns-in-OnlyGrafted-clause-asked g t c = asks_both c.requires.some c.read_directory.ensures.asked c.read_directory-2.ensures.asked
-
-pub returns-in-Others-clause-asked : goal.returns-in-Others-clause-asked
-returns-in-Others-clause-asked g t c = asks_both c.requires.some c.read_directory.ensures.asked c.read_directory-2.ensures.asked
-
-pub returns-then-deeper-eq1-clause-asked : goal.returns-then-deeper-eq1-clause-asked
-returns-then-deeper-eq1-clause-asked g t c = asks_both c.requires.some c.read_directory.ensures.asked c.read_directory-2.ensures.asked
 
 pub returns-in_err-path-clause-refused : goal.returns-in_err-path-clause-refused
 returns-in_err-path-clause-refused g t c =
@@ -60,7 +38,7 @@ returns-in-OnlyRecorded-clause-found g t c =
     let here = c.in_ok-here.here in
     let there = c.in_ok-there.there in
     let own = encodings_in c.args.own.now in
-    let read = reads_still own c.args.recorded.now there c.read_directory-2.ensures.asked.blobs (c.in_ok-there.ensures {u = tt}).told in
+    let read = reads_still own c.args.recorded.now there c.read_directory-2.ensures.called.asked.blobs (c.in_ok-there.ensures {u = tt}).told in
     let both : ReadsBoth own (g.S.BlobSource.tells c.read_directory-2.new.source).blobs c.args.grafted.now c.args.recorded.now name here there = record { recorded = read; grafted = (c.in_ok-here.ensures {u = tt}).told; first = first.name } in
     let path = c.in_ok-path.ensures.path ∙ ap (λ o. names_in o ++ name ∷ []) c.as_ref.ensures.value in
     finds_recorded own _ (names_in c.args.above.now) c.args.grafted.now c.args.recorded.now c.args.deeper c.in_ok-path.path name here there c.requires.some both path (subst (IsUnlike (child_of name here) (child_of name there)) c.in-OnlyRecorded.is first.unlike)
@@ -72,7 +50,7 @@ returns-in-OnlyGrafted-clause-found g t c =
     let here = c.in_ok-here.here in
     let there = c.in_ok-there.there in
     let own = encodings_in c.args.own.now in
-    let read = reads_still own c.args.recorded.now there c.read_directory-2.ensures.asked.blobs (c.in_ok-there.ensures {u = tt}).told in
+    let read = reads_still own c.args.recorded.now there c.read_directory-2.ensures.called.asked.blobs (c.in_ok-there.ensures {u = tt}).told in
     let both : ReadsBoth own (g.S.BlobSource.tells c.read_directory-2.new.source).blobs c.args.grafted.now c.args.recorded.now name here there = record { recorded = read; grafted = (c.in_ok-here.ensures {u = tt}).told; first = first.name } in
     let path = c.in_ok-path.ensures.path ∙ ap (λ o. names_in o ++ name ∷ []) c.as_ref.ensures.value in
     finds_grafted own _ (names_in c.args.above.now) c.args.grafted.now c.args.recorded.now c.args.deeper c.in_ok-path.path name here there c.requires.some both path (subst (IsUnlike (child_of name here) (child_of name there)) c.in-OnlyGrafted.is first.unlike)
@@ -84,7 +62,7 @@ returns-in-Others-clause-found g t c =
     let here = c.in_ok-here.here in
     let there = c.in_ok-there.there in
     let own = encodings_in c.args.own.now in
-    let read = reads_still own c.args.recorded.now there c.read_directory-2.ensures.asked.blobs (c.in_ok-there.ensures {u = tt}).told in
+    let read = reads_still own c.args.recorded.now there c.read_directory-2.ensures.called.asked.blobs (c.in_ok-there.ensures {u = tt}).told in
     let both : ReadsBoth own (g.S.BlobSource.tells c.read_directory-2.new.source).blobs c.args.grafted.now c.args.recorded.now name here there = record { recorded = read; grafted = (c.in_ok-here.ensures {u = tt}).told; first = first.name } in
     let path = c.in_ok-path.ensures.path ∙ ap (λ o. names_in o ++ name ∷ []) c.as_ref.ensures.value in
     finds_others own _ (names_in c.args.above.now) c.args.grafted.now c.args.recorded.now c.args.deeper c.in_ok-path.path name here there c.requires.some both path (subst (IsUnlike (child_of name here) (child_of name there)) c.in-Others.is first.unlike)
@@ -96,7 +74,7 @@ returns-then-deeper-eq1-clause-found g t c =
     let here = c.in_ok-here.here in
     let there = c.in_ok-there.there in
     let own = encodings_in c.args.own.now in
-    let read = reads_still own c.args.recorded.now there c.read_directory-2.ensures.asked.blobs (c.in_ok-there.ensures {u = tt}).told in
+    let read = reads_still own c.args.recorded.now there c.read_directory-2.ensures.called.asked.blobs (c.in_ok-there.ensures {u = tt}).told in
     let both : ReadsBoth own (g.S.BlobSource.tells c.read_directory-2.new.source).blobs c.args.grafted.now c.args.recorded.now name here there = record { recorded = read; grafted = (c.in_ok-here.ensures {u = tt}).told; first = first.name } in
     let path = c.in_ok-path.ensures.path ∙ ap (λ o. names_in o ++ name ∷ []) c.as_ref.ensures.value in
     finds_last own _ (names_in c.args.above.now) c.args.grafted.now c.args.recorded.now c.args.deeper c.in_ok-path.path name here there c.in-Directories.grafted c.in-Directories.recorded c.if-deeper-eq1.true both path (subst (IsUnlike (child_of name here) (child_of name there)) c.in-Directories.is first.unlike)
@@ -108,11 +86,11 @@ returns-clause-found g t c =
     let here = c.in_ok-here.here in
     let there = c.in_ok-there.there in
     let own = encodings_in c.args.own.now in
-    let read = reads_still own c.args.recorded.now there c.read_directory-2.ensures.asked.blobs (c.in_ok-there.ensures {u = tt}).told in
+    let read = reads_still own c.args.recorded.now there c.read_directory-2.ensures.called.asked.blobs (c.in_ok-there.ensures {u = tt}).told in
     let both : ReadsBoth own (g.S.BlobSource.tells c.read_directory-2.new.source).blobs c.args.grafted.now c.args.recorded.now name here there = record { recorded = read; grafted = (c.in_ok-here.ensures {u = tt}).told; first = first.name } in
     let path = c.in_ok-path.ensures.path ∙ ap (λ o. names_in o ++ name ∷ []) c.as_ref.ensures.value in
     let B = (g.S.BlobSource.tells c.difference_below.new.source).blobs in
-    let later = reads_both own c.args.grafted.now c.args.recorded.now name here there c.difference_below.ensures.asked.blobs both in
+    let later = reads_both own c.args.grafted.now c.args.recorded.now name here there c.difference_below.ensures.called.asked.blobs both in
     let unlike = subst (IsUnlike (child_of name here) (child_of name there)) c.in-Directories.is first.unlike in
     let below = Finds own B (c.args.deeper - 1) c.in_ok-path.path c.in-Directories.grafted c.in-Directories.recorded in
     let found = Finds own B c.args.deeper (names_in c.args.above.now) c.args.grafted.now c.args.recorded.now in
@@ -126,19 +104,16 @@ returns-clause-refused g t c =
     let here = c.in_ok-here.here in
     let there = c.in_ok-there.there in
     let own = encodings_in c.args.own.now in
-    let read = reads_still own c.args.recorded.now there c.read_directory-2.ensures.asked.blobs (c.in_ok-there.ensures {u = tt}).told in
+    let read = reads_still own c.args.recorded.now there c.read_directory-2.ensures.called.asked.blobs (c.in_ok-there.ensures {u = tt}).told in
     let both : ReadsBoth own (g.S.BlobSource.tells c.read_directory-2.new.source).blobs c.args.grafted.now c.args.recorded.now name here there = record { recorded = read; grafted = (c.in_ok-here.ensures {u = tt}).told; first = first.name } in
     let path = c.in_ok-path.ensures.path ∙ ap (λ o. names_in o ++ name ∷ []) c.as_ref.ensures.value in
     let B = (g.S.BlobSource.tells c.difference_below.new.source).blobs in
-    let later = reads_both own c.args.grafted.now c.args.recorded.now name here there c.difference_below.ensures.asked.blobs both in
+    let later = reads_both own c.args.grafted.now c.args.recorded.now name here there c.difference_below.ensures.called.asked.blobs both in
     let unlike = subst (IsUnlike (child_of name here) (child_of name there)) c.in-Directories.is first.unlike in
     let below = Finds own B (c.args.deeper - 1) c.in_ok-path.path c.in-Directories.grafted c.in-Directories.recorded in
     let found = Finds own B c.args.deeper (names_in c.args.above.now) c.args.grafted.now c.args.recorded.now in
     let up = finds_below own B (names_in c.args.above.now) c.args.grafted.now c.args.recorded.now c.args.deeper c.in_ok-path.path name here there c.in-Directories.grafted c.in-Directories.recorded in
     err_more (λ e. ExplainsDifference below e) (λ e. ExplainsDifference found e) c.difference_below.result (λ e h. explains_below below found e (λ x k. up x c.requires.some c.if-deeper-eq1.false later path unlike k) h) c.difference_below.ensures.refused
-
-pub returns-clause-asked : goal.returns-clause-asked
-returns-clause-asked g t c = asks_below c.requires.some c.read_directory.ensures.asked c.read_directory-2.ensures.asked c.difference_below.ensures.asked
 
 pub returns-in_err-here-clause-unasked : goal.returns-in_err-here-clause-unasked
 returns-in_err-here-clause-unasked g t c = leaves_then c.read_directory.ensures.unasked c.read_directory-2.ensures.unasked
@@ -165,6 +140,28 @@ pub returns-clause-unasked : goal.returns-clause-unasked
 returns-clause-unasked g t c =
     leaves_then c.read_directory.ensures.unasked (leaves_then c.read_directory-2.ensures.unasked c.difference_below.ensures.unasked)
 
-pub returns-clause-unfailed : goal.returns-clause-unfailed
-returns-clause-unfailed g t c = λ other.
-    c.difference_below.ensures.unfailed other ∙ (c.in_ok-here.ensures {u = tt}).unfailed ok_no_error ∙ (c.in_ok-there.ensures {u = tt}).unfailed ok_no_error
+pub returns-in_err-here-clause-called : goal.returns-in_err-here-clause-called
+returns-in_err-here-clause-called g t c =
+    calls_ok (asks_both c.requires.some) (c.in_ok-there.ensures {u = tt}).called (called_exit c.from_residual-in_err-here.ensures.1 (c.in_err-here.ensures {u = tt}).called)
+
+pub returns-in_err-name-clause-called : goal.returns-in_err-name-clause-called
+returns-in_err-name-clause-called g t c = calls_both c.requires.some (c.in_ok-there.ensures {u = tt}).called (c.in_ok-here.ensures {u = tt}).called (search rules)
+
+pub returns-in_err-path-clause-called : goal.returns-in_err-path-clause-called
+returns-in_err-path-clause-called g t c = calls_both c.requires.some (c.in_ok-there.ensures {u = tt}).called (c.in_ok-here.ensures {u = tt}).called (search rules)
+
+pub returns-in-OnlyRecorded-clause-called : goal.returns-in-OnlyRecorded-clause-called
+returns-in-OnlyRecorded-clause-called g t c = calls_both c.requires.some (c.in_ok-there.ensures {u = tt}).called (c.in_ok-here.ensures {u = tt}).called ok_no_error
+
+pub returns-in-OnlyGrafted-clause-called : goal.returns-in-OnlyGrafted-clause-called
+returns-in-OnlyGrafted-clause-called g t c = calls_both c.requires.some (c.in_ok-there.ensures {u = tt}).called (c.in_ok-here.ensures {u = tt}).called ok_no_error
+
+pub returns-in-Others-clause-called : goal.returns-in-Others-clause-called
+returns-in-Others-clause-called g t c = calls_both c.requires.some (c.in_ok-there.ensures {u = tt}).called (c.in_ok-here.ensures {u = tt}).called ok_no_error
+
+pub returns-then-deeper-eq1-clause-called : goal.returns-then-deeper-eq1-clause-called
+returns-then-deeper-eq1-clause-called g t c = calls_both c.requires.some (c.in_ok-there.ensures {u = tt}).called (c.in_ok-here.ensures {u = tt}).called ok_no_error
+
+pub returns-clause-called : goal.returns-clause-called
+returns-clause-called g t c =
+    calls_below c.requires.some (c.in_ok-there.ensures {u = tt}).called (c.in_ok-here.ensures {u = tt}).called c.difference_below.ensures.called

@@ -1,7 +1,8 @@
-use Rattle.std.proofs.Common.{◌≡◌, drop}
+use Rattle.std.proofs.Common.{drop}
 use Rattle.std.specs.Prelude.{Some}
 use Rattle.tree.specs.Form.{node_value}
 use Rattle.blob_source.specs.Source.{Asks}
+use Rattle.blob_source.specs.Called.{Calls}
 use Rattle.tree.proofs.Descent.{GoesOn}
 use Rattle.tree.proofs.looking_up.descend.Given as goal
 
@@ -9,7 +10,6 @@ abbrev pub invariant-loop-name : goal.invariant-loop-name
 invariant-loop-name g l =
     let tells = g.S.BlobSource.tells in
     record {
-      asked : Asks l.name-index (tells l.fn.source) (tells l.source);
-      unfailed : (tells l.source).failures ≡ (tells l.fn.source).failures;
+      called : Calls (Asks l.name-index) (tells l.fn.source) (tells l.source) ⊥;
       goes : GoesOn (tells l.source).blobs l.root l.names (Some (node_value l.node)) (drop l.name-index l.names);
     }

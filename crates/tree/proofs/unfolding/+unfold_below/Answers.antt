@@ -1,5 +1,5 @@
 -- The entries so far, and those of the next child.
-use Rattle.std.proofs.Common.{[], ◌∷◌, ◌++◌, length, ap, sym, subst, ◌∙◌, arith, length-append}
+use Rattle.std.proofs.Common.{[], ◌∷◌, ◌++◌, length, ap, sym, subst, ◌∙◌, arith, rules, length-append}
 use Rattle.std.proofs.lemmas.Result.{err_from_is_err_and}
 use Rattle.std.proofs.lemmas.Map.Iter.{rest_more, rest_all}
 use Rattle.messages.specs.declared.node.Node.TheVariants as nodes
@@ -8,7 +8,7 @@ use Rattle.tree.specs.FlatTree.{flat_value}
 use Rattle.tree.specs.Lookup.{names_in}
 use Rattle.tree.specs.Unfolding.{child_values, AreChildren, ExplainsChild}
 use Rattle.blob_source.proofs.Asking.{ok_no_error}
-use Rattle.blob_source.proofs.Asking.{asks_one, asks_some_more}
+use Rattle.blob_source.proofs.Calling.{called_exit, called_no, called_on, calls_some}
 use Rattle.tree.proofs.UnfoldSteps.{Unfolds, fault_here, unfolds_first, unfolds_leaf, unfolds_folder, unfolds_end, child_too_deep, child_fault, flat_pushed, counts_leaf, counts_folder}
 use Rattle.tree.proofs.unfolding.+unfold_below.Goals as goal
 use Rattle.tree.proofs.unfolding.+unfold_below.Goals.{in-File+in_ok-push-in-File, in-Link+in_ok-push-in-Link, in-Dir+in_ok-push-in-Dir+in_ok-unfold_below-in-Dir+in-Some-1, in-Dir+in_ok-push-in-Dir+in_ok-unfold_below-in-Dir+in-None-1}
@@ -22,9 +22,8 @@ pub loop-name-init : goal.loop-name-init
 loop-name-init g t c = record {
   next = tt;
   finite = tt;
-  asked = asks_one c.fetch_message.ensures.asked;
-  unfailed = c.in_ok-directory.ensures.unfailed ok_no_error;
-  few = omega (arith, c.fetch_message.ensures.asked.most_calls);
+  called = calls_some (called_no ok_no_error (λ n. n) c.in_ok-directory.ensures.called);
+  few = omega (arith, c.fetch_message.ensures.called.asked.most_calls);
   unfolds = unfolds_first _ c.args.digest.now c.in_ok-directory.directory (names_in c.args.above.now) _ _ c.in_ok-directory.ensures.told
       (subst (λ l. AreChildren (child_values l) c.in_ok-directory.directory) (sym c.into_iter-name-iterator.ensures.into_iter_gives.0) (c.in_ok-items.ensures {u = tt}));
 }
@@ -51,15 +50,23 @@ returns-in_err-unfold_below-in-Dir-clause-refused g t c =
     let unfolds = subst (λ l. Unfolds (g.S.BlobSource.tells c.loop-name.source).blobs c.args.digest.now (names_in c.args.above.now) (flat_value c.args.entries.now.items) (flat_value c.loop-name.entries.items) (child_values l)) steps c.loop-name.invariant.unfolds in
     let node = subst (λ x. Unfolds (g.S.BlobSource.tells c.loop-name.source).blobs c.args.digest.now (names_in c.args.above.now) (flat_value c.args.entries.now.items) (flat_value c.loop-name.entries.items) ((c.in-Some.name, node_value x) ∷ child_values c.next.new.self)) c.in-Dir.is unfolds in
     let path = c.in_ok-path.ensures.path ∙ ap (λ o. names_in o ++ c.in-Some.name ∷ []) c.as_ref.ensures.value in
-    rw (p.1, p.2) (child_fault _ _ c.args.digest.now c.in-Dir.digest (names_in c.args.above.now) c.in_ok-path.path _ _ c.in-Some.name (child_values c.next.new.self) _ c.unfold_below.ensures.asked.asks.blobs node path c.in_err-unfold_below-in-Dir.ensures.refused)
+    rw (p.1, p.2) (child_fault _ _ c.args.digest.now c.in-Dir.digest (names_in c.args.above.now) c.in_ok-path.path _ _ c.in-Some.name (child_values c.next.new.self) _ c.unfold_below.ensures.called.asked.asks.blobs node path c.in_err-unfold_below-in-Dir.ensures.refused)
 
-pub returns-in_err-unfold_below-in-Dir-clause-unfailed : goal.returns-in_err-unfold_below-in-Dir-clause-unfailed
-returns-in_err-unfold_below-in-Dir-clause-unfailed g t c =
-    let p = err_from_is_err_and c.from_residual-in_err-unfold_below-in-Dir.result c.from_residual-in_err-unfold_below-in-Dir.ensures.1 in
-    rw (p.1, p.2) (λ other. c.in_err-unfold_below-in-Dir.ensures.unfailed other ∙ c.loop-name.invariant.unfailed)
+pub returns-in_err-unfold_below-in-Dir-clause-called : goal.returns-in_err-unfold_below-in-Dir-clause-called
+returns-in_err-unfold_below-in-Dir-clause-called g t c =
+    called_on c.loop-name.invariant.called (called_exit c.from_residual-in_err-unfold_below-in-Dir.ensures.1 c.in_err-unfold_below-in-Dir.ensures.called)
 
-pub returns-in_err-unfold_below-in-Dir-clause-asked : goal.returns-in_err-unfold_below-in-Dir-clause-asked
-returns-in_err-unfold_below-in-Dir-clause-asked g t c = asks_some_more c.loop-name.invariant.asked c.unfold_below.ensures.asked
+pub returns-in_err-path-clause-called : goal.returns-in_err-path-clause-called
+returns-in_err-path-clause-called g t c = called_no (λ n. n) (search rules) c.loop-name.invariant.called
+
+pub returns-in_err-names-clause-called : goal.returns-in_err-names-clause-called
+returns-in_err-names-clause-called g t c = called_no (λ n. n) (search rules) c.loop-name.invariant.called
+
+pub returns-in_err-push-in-File-clause-called : goal.returns-in_err-push-in-File-clause-called
+returns-in_err-push-in-File-clause-called g t c = called_no (λ n. n) (search rules) c.loop-name.invariant.called
+
+pub returns-in_err-push-in-Dir-clause-called : goal.returns-in_err-push-in-Dir-clause-called
+returns-in_err-push-in-Dir-clause-called g t c = called_no (λ n. n) (search rules) c.loop-name.invariant.called
 
 pub loop-name-preserved : goal.loop-name-preserved
 loop-name-preserved g t c =
@@ -74,8 +81,7 @@ loop-name-preserved g t c =
           rw (w.source-is, w.entries-is) (record {
             next = tt;
             finite = tt;
-            asked = c.loop-name.invariant.asked;
-            unfailed = c.loop-name.invariant.unfailed;
+            called = c.loop-name.invariant.called;
             few = omega (arith, c.loop-name.invariant.few, counts_leaf _ _ c.in_ok-path.path _ pushed);
             unfolds = unfolds_leaf _ _ c.args.digest.now (names_in c.args.above.now) _ _ _ c.in-Some.name _ c.in_ok-path.path (child_values c.next.new.self) (λ e b h. h) (subst before w.in-File.is unfolds) path names.lawful pushed;
           })
@@ -84,8 +90,7 @@ loop-name-preserved g t c =
           rw (w.source-is, w.entries-is) (record {
             next = tt;
             finite = tt;
-            asked = c.loop-name.invariant.asked;
-            unfailed = c.loop-name.invariant.unfailed;
+            called = c.loop-name.invariant.called;
             few = omega (arith, c.loop-name.invariant.few, counts_leaf _ _ c.in_ok-path.path _ pushed);
             unfolds = unfolds_leaf _ _ c.args.digest.now (names_in c.args.above.now) _ _ _ c.in-Some.name _ c.in_ok-path.path (child_values c.next.new.self) (λ e b h. h) (subst before w.in-Link.is unfolds) path names.lawful pushed;
           })
@@ -94,20 +99,18 @@ loop-name-preserved g t c =
           rw (w.source-is, w.entries-is) (record {
             next = tt;
             finite = tt;
-            asked = asks_some_more c.loop-name.invariant.asked w.unfold_below.ensures.asked;
-            unfailed = (w.in_ok-unfold_below-in-Dir.ensures {u = tt}).unfailed ok_no_error ∙ c.loop-name.invariant.unfailed;
+            called = called_on c.loop-name.invariant.called (called_no ok_no_error (λ n. n) (w.in_ok-unfold_below-in-Dir.ensures {u = tt}).called);
             few = omega (arith, c.loop-name.invariant.few, counts_folder _ _ c.in_ok-path.path pushed, (w.in_ok-unfold_below-in-Dir.ensures {u = tt}).few);
-            unfolds = unfolds_folder _ _ c.args.digest.now (names_in c.args.above.now) _ _ _ _ c.in-Some.name w.in-Dir.digest c.in_ok-path.path (child_values c.next.new.self) w.unfold_below.ensures.asked.asks.blobs (subst before w.in-Dir.is unfolds) path names.lawful pushed (w.in_ok-unfold_below-in-Dir.ensures {u = tt}).told;
+            unfolds = unfolds_folder _ _ c.args.digest.now (names_in c.args.above.now) _ _ _ _ c.in-Some.name w.in-Dir.digest c.in_ok-path.path (child_values c.next.new.self) w.unfold_below.ensures.called.asked.asks.blobs (subst before w.in-Dir.is unfolds) path names.lawful pushed (w.in_ok-unfold_below-in-Dir.ensures {u = tt}).told;
           })
       | in-Dir+in_ok-push-in-Dir+in_ok-unfold_below-in-Dir+in-None-1 w ↦
           let pushed = flat_pushed c.loop-name.entries.items w.push-in-Dir.new.self.items c.in_ok-names.names _ c.in_ok-path.path names.value (w.in_ok-push-in-Dir.ensures {u = tt}).items in
           rw (w.source-is, w.entries-is) (record {
             next = tt;
             finite = tt;
-            asked = asks_some_more c.loop-name.invariant.asked w.unfold_below.ensures.asked;
-            unfailed = (w.in_ok-unfold_below-in-Dir.ensures {u = tt}).unfailed ok_no_error ∙ c.loop-name.invariant.unfailed;
+            called = called_on c.loop-name.invariant.called (called_no ok_no_error (λ n. n) (w.in_ok-unfold_below-in-Dir.ensures {u = tt}).called);
             few = omega (arith, c.loop-name.invariant.few, counts_folder _ _ c.in_ok-path.path pushed, (w.in_ok-unfold_below-in-Dir.ensures {u = tt}).few);
-            unfolds = unfolds_folder _ _ c.args.digest.now (names_in c.args.above.now) _ _ _ _ c.in-Some.name w.in-Dir.digest c.in_ok-path.path (child_values c.next.new.self) w.unfold_below.ensures.asked.asks.blobs (subst before w.in-Dir.is unfolds) path names.lawful pushed (w.in_ok-unfold_below-in-Dir.ensures {u = tt}).told;
+            unfolds = unfolds_folder _ _ c.args.digest.now (names_in c.args.above.now) _ _ _ _ c.in-Some.name w.in-Dir.digest c.in_ok-path.path (child_values c.next.new.self) w.unfold_below.ensures.called.asked.asks.blobs (subst before w.in-Dir.is unfolds) path names.lawful pushed (w.in_ok-unfold_below-in-Dir.ensures {u = tt}).told;
           })
     ]
 

@@ -1,5 +1,5 @@
-use Rattle.std.proofs.Common.{◌≡◌, ◌+◌, ◌-◌, ◌≤◌, length}
-use Rattle.blob_source.specs.Source.{AsksSome}
+use Rattle.std.proofs.Common.{◌+◌, ◌-◌, ◌≤◌, length}
+use Rattle.blob_source.specs.Called.{Called}
 use Rattle.tree.specs.FlatTree.{flat_value}
 use Rattle.tree.specs.Lookup.{names_in}
 use Rattle.tree.specs.Unfolded.{directories_in}
@@ -16,8 +16,7 @@ invariant-loop-name g l =
     record {
       next : (goal.iterator-loop-name g).can_next l.name-iterator;
       finite : (goal.iterator-loop-name g).is_finite l.name-iterator;
-      asked : AsksSome (tells l.fn.source) (tells l.source);
-      unfailed : (tells l.source).failures ≡ (tells l.fn.source).failures;
+      called : Called (tells l.fn.source) (tells l.source) ⊥;
       few : (tells l.source).calls + directories_in (flat_value l.fn.entries.items) ≤ (tells l.fn.source).calls + 1 + directories_in (flat_value l.entries.items);
       unfolds : Unfolds (tells l.source).blobs l.digest (names_in l.above) (flat_value l.fn.entries.items) (flat_value l.entries.items) (child_values l.name-iterator);
     }

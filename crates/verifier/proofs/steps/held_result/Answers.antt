@@ -8,8 +8,7 @@ use Rattle.verifier.proofs.steps.held_result.Goals as goal
 
 pub returns-in-Some-clause-called : goal.returns-in-Some-clause-called
 returns-in-Some-clause-called g c =
-    let asks = c.in_ok-result.ensures in
-    called_no ok_no_error c.decode_result.ensures.fetch (called_result asks.asked asks.failed asks.unfailed)
+    called_no ok_no_error c.decode_result.ensures.fetch (called_result c.in_ok-result.ensures.called)
 
 pub returns-in-Some-clause-checked : goal.returns-in-Some-clause-checked
 returns-in-Some-clause-checked g c =

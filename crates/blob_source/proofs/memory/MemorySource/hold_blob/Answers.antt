@@ -13,4 +13,5 @@ returns-clause-ok g c =
       results = refl;
       failures = refl;
       calls = refl;
+      puts = refl;
     }

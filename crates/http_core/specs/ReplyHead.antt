@@ -1,0 +1,62 @@
+-- The head of a reply, as a client reads it (RFC 9112, sections 4, 6.3 and 9; RFC 9110, section
+-- 8.6).
+use Rattle.std.specs.Prelude.{◌≡◌, ℕ, ◌==◌, ◌≤◌, nat_lt, Bool, List, [], length, map, take, codes, Option, Some, None, if◌then◌else◌}
+use Rattle.httparse.specs.Grammar.{ResponseHead, ReadsResponse, status_code}
+use Rattle.httparse.specs.Spans.{IsResponseWithin, header_bytes, name_and_value}
+use Rattle.blob_digest.specs.Body.{greatest_blob}
+use Rattle.http_core.specs.declared.reply_head.ReplyHead.{ReplyHead}
+use Rattle.http_core.specs.declared.reply_head.Response.{Response}
+use Rattle.http_core.specs.declared.rules.Length.{Length}
+use Rattle.http_core.specs.declared.rules.Length.TheVariants.{Absent, Bad, Is}
+use Rattle.http_core.specs.Connection.{closes_of}
+use Rattle.http_core.specs.Judging.{pairs}
+use Rattle.http_core.specs.Rules.{count_of, length_of}
+
+-- the block is the whole of this reply head, which has at most 64 fields
+abbrev pub IsResponseOf : List ℕ → ResponseHead → Type 0
+IsResponseOf block h = ReadsResponse block h [] × (length h.fields ≤ 64)
+
+-- the most bytes that the body of a reply with the status has: 204 has none
+abbrev pub most_body : ℕ → ℕ
+most_body status = if status == 204 then 0 else greatest_blob
+
+-- the length of the body of a reply with the status, if it is lawful: only 204 may leave it out
+abbrev pub reply_length : ℕ → Length → Option ℕ
+reply_length status Absent = if status == 204 then Some 0 else None
+reply_length status Bad = None
+reply_length status (Is size) = if nat_lt (most_body status) size then None else Some size
+
+-- the head, where the length is lawful
+abbrev pub with_length : ℕ → List (List ℕ × List ℕ) → Option ℕ → Option ReplyHead
+with_length status fields None = None
+with_length status fields (Some size) =
+    Some (record { status = status; length = size; close = closes_of fields })
+
+-- What a head of version 1.minor, with the status and the fields, says of the reply, if it is
+-- lawful: of version 1.1, with no coding of the body, and with one lawful length.
+unfoldable pub reply_of : ℕ → ℕ → List (List ℕ × List ℕ) → Option ReplyHead
+reply_of minor status fields =
+    if minor == 0 then None
+    else (if nat_lt 0 (count_of (codes "transfer-encoding") fields) then None
+    else with_length status fields (reply_length status (length_of fields)))
+
+-- what it says of the reply, if it is lawful
+abbrev pub said_by : ResponseHead → Option ReplyHead
+said_by h = reply_of h.minor (status_code h) (map name_and_value h.fields)
+
+-- the block is that of a reply with this head
+pub record IsReplyHead (block : List ℕ) (head : ReplyHead) : Type 0 where
+  pub few : pairs block ≤ 66
+  pub response : ResponseHead
+  pub reads : IsResponseOf block response
+  pub is : said_by response ≡ Some head
+
+-- the parts of the head lie there in the block
+pub record ShowsResponse (block : List ℕ) (x : Response) : Type 0 where
+  pub response : ResponseHead
+  pub reads : IsResponseOf block response
+  pub within : IsResponseWithin block x.headers x.spans
+  pub version : x.spans.version ≡ response.minor
+  pub code : x.spans.code ≡ status_code response
+  pub fields : map (header_bytes block) (take x.spans.headers x.headers)
+      ≡ map name_and_value response.fields

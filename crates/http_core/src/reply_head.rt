@@ -1,0 +1,108 @@
+ghost use Rattle.std.specs.Prelude.{◌≡◌, ℕ, IfSome, IfNone, map, take};
+ghost use Rattle.httparse.specs.Grammar.{ResponseHead};
+ghost use Rattle.httparse.specs.Spans.{IsResponseWithin, header_bytes};
+ghost use Rattle.http_core.specs.ReplyHead.{IsReplyHead, IsResponseOf, ShowsResponse, most_body, reply_length, reply_of};
+
+use crate::connection::closes;
+use crate::judging::{MAX_PAIRS, count_pairs};
+use crate::rules::{Length, body_length, count_named};
+use blob_digest::GREATEST_BLOB;
+use httparse::Status;
+use httparse::spans::{EMPTY_HEADER_SPAN, HeaderSpan, ResponseSpans, parse_response};
+
+/// What the head of a reply says: its status, how many bytes its body has, and whether the server
+/// closes the connection after it.
+#[derive(Clone, Copy, Debug, PartialEq, Eq)]
+pub struct ReplyHead {
+    pub status: u16,
+    pub length: u64,
+    pub close: bool,
+}
+
+/// Where the parts of a reply's head lie.
+#[derive(Drop)]
+pub(crate) struct Response {
+    pub spans: ResponseSpans,
+    pub headers: [HeaderSpan; 64],
+}
+
+/// Reads the head of a reply from its block, if it is lawful: of version 1.1, without
+/// `Transfer-Encoding`, with one `Content-Length` of at most 16,777,216; with status 204 it may be
+/// absent and is else 0.
+pub fn read_reply_head(block: &[u8]) -> Option<ReplyHead>
+    ensures some { IfSome result (λ head. IsReplyHead block.now head) }
+    ensures none { IfNone result ((head : ReplyHead) → IsReplyHead block.now head → ⊥) }
+{
+    if count_pairs(block) > MAX_PAIRS {
+        return None;
+    }
+    let response = read_response(block)?;
+    head_in(block, &response.spans, &response.headers)
+}
+
+/// The reply head that the whole block is.
+fn read_response(block: &[u8]) -> Option<Response>
+    ensures some { IfSome result (λ x. ShowsResponse block.now x) }
+    ensures none { IfNone result ((h : ResponseHead) → IsResponseOf block.now h → ⊥) }
+{
+    let mut headers = [EMPTY_HEADER_SPAN; 64];
+    match parse_response(block, &mut headers) {
+        Ok(Status::Complete(spans)) => {
+            if spans.len == block.len() {
+                Some(Response { spans, headers })
+            } else {
+                None
+            }
+        }
+        Ok(Status::Partial) => None,
+        Err(_) => None,
+    }
+}
+
+/// What the head says of its reply, if it is lawful.
+#[tactic(auto, unfolding(crate::specs::ReplyHead::reply_of))]
+fn head_in(block: &[u8], spans: &ResponseSpans, headers: &[HeaderSpan]) -> Option<ReplyHead>
+    requires { IsResponseWithin block.now headers.now spans.now }
+    ensures { result ≡ reply_of spans.now.version spans.now.code
+        (map (header_bytes block.now) (take spans.now.headers headers.now)) }
+{
+    let (fields, _) = headers.split_at(spans.headers);
+    if spans.version == 0 {
+        return None;
+    }
+    if count_named(block, fields, b"transfer-encoding") > 0 {
+        return None;
+    }
+    let length = reply_length(spans.code, body_length(block, fields))?;
+    Some(ReplyHead {
+        status: spans.code,
+        length,
+        close: closes(block, fields),
+    })
+}
+
+/// The most bytes that the body of a reply with this status has.
+fn most_body(status: u16) -> u64
+    ensures { result ≡ most_body status }
+{
+    if status == 204 {
+        0
+    } else {
+        GREATEST_BLOB as u64
+    }
+}
+
+/// The length of the body of a reply with this status, if it is lawful.
+fn reply_length(status: u16, length: Length) -> Option<u64>
+    ensures { result ≡ reply_length status length }
+{
+    match length {
+        Length::Absent => if status == 204 { Some(0) } else { None },
+        Length::Bad => None,
+        Length::Is(length) => if length > most_body(status) {
+            None
+        } else {
+            Some(length)
+        },
+    }
+}

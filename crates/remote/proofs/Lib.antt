@@ -1,0 +1,5 @@
+pub mod Flows
+pub mod Endings
+pub mod Replies
+pub mod Lines
+pub mod Storing

@@ -1,0 +1,38 @@
+-- What a stream of both directions gives and takes.
+use Rattle.std.specs.Prelude.{◌≡◌, ℕ, List, [], ◌++◌, Option, Some}
+use Rattle.std.specs.Io.Cursor.{cursor_remaining}
+use Rattle.std.specs.Io.KnownBytes.{Appends, Consumes}
+use Rattle.remote.specs.declared.stream.MemoryStream.{MemoryStream}
+
+-- Where a stream stands, so far as that is known: the bytes that are to come, and those sent.
+pub record Flow : Type 0 where
+  pub coming : Option (List ℕ)
+  pub sent : Option (List ℕ)
+
+-- these bytes were sent, and nothing was read
+pub record Sends (old new : Flow) (bytes : List ℕ) : Type 0 where
+  pub sent : Appends old.sent new.sent bytes
+  pub coming : new.coming ≡ old.coming
+
+-- what was sent is a beginning of the bytes
+pub record SendsFront (old new : Flow) (bytes : List ℕ) : Type 0 where
+  pub front : List ℕ
+  pub rest : List ℕ
+  pub whole : bytes ≡ front ++ rest
+  pub sent : Appends old.sent new.sent front
+
+-- these bytes came, and nothing was sent
+pub record Receives (old new : Flow) (bytes : List ℕ) : Type 0 where
+  pub coming : Consumes old.coming new.coming bytes
+  pub sent : new.sent ≡ old.sent
+
+-- these bytes are to come, and nothing was sent
+abbrev pub gives : List ℕ → Flow
+gives bytes = record { coming = Some bytes; sent = Some [] }
+
+-- where a stream in memory stands
+abbrev pub flow_of : {A : Type 0} → MemoryStream A → Flow
+flow_of s = record {
+  coming = cursor_remaining (λ bytes. Some bytes.items) s.input;
+  sent = Some s.output.items;
+}

@@ -1,0 +1,6 @@
+pub mod Flow
+pub mod Reply
+pub mod Table
+pub mod Line
+pub mod Remote
+pub mod Steps

@@ -1,0 +1,72 @@
+-- What a remote tells, and how it asks its server.
+use Rattle.std.specs.Prelude.{◌≡◌, List, [], ℕ, false, Option, None, Result, IfOk, IfErr, OnErr, OnOk}
+use Rattle.std.specs.declared.vec.Vec.{Vec}
+use Rattle.blob_digest.specs.Digest.{DigestValue}
+use Rattle.http_core.specs.declared.event.Area.{Area}
+use Rattle.blob_source.specs.Source.{Telling, bytes_of}
+use Rattle.blob_source.specs.declared.source.FetchError.{FetchError}
+use Rattle.remote.specs.declared.remote.Remote.{Remote}
+use Rattle.remote.specs.declared.table.Table.{Table}
+use Rattle.remote.specs.Flow.{Flow}
+use Rattle.remote.specs.Line.{LineValue, Gets, Puts, Refuses, get, put, line_of}
+use Rattle.remote.specs.Table.{IsKept, IsSameBut, KeepsAll, told_by}
+
+-- what it kept, how often it failed and was called, and the list of results put
+abbrev pub telling_of : {S A : Type 0} → Remote S A → Telling
+telling_of r = record {
+  blobs = told_by r.blobs;
+  results = told_by r.results;
+  failures = r.line.failures;
+  calls = r.calls;
+  puts = r.puts.items;
+}
+
+-- its connection
+abbrev pub connection_of : {S A : Type 0} → (S → Flow) → Remote S A → LineValue
+connection_of flow r = line_of flow r.line
+
+-- the blobs and the results that it keeps
+abbrev pub blobs_of : {S A : Type 0} → Remote S A → Table A
+blobs_of r = r.blobs
+
+abbrev pub results_of : {S A : Type 0} → Remote S A → Table A
+results_of r = r.results
+
+-- nothing was asked so far
+pub record IsFresh {S A : Type 0}
+    (flow : S → Flow) (stream : S) (host prefix : List ℕ) (r : Remote S A) : Type 0 where
+  pub stream_is : (connection_of flow r).flow ≡ flow stream
+  pub host_is : (connection_of flow r).host ≡ host
+  pub prefix_is : (connection_of flow r).prefix ≡ prefix
+  pub unbroken : (connection_of flow r).broken ≡ false
+  pub failures : (connection_of flow r).failures ≡ 0
+  pub fault : (connection_of flow r).fault ≡ None
+  pub blobs : (d : DigestValue) → IsKept (blobs_of r) d → ⊥
+  pub results : (d : DigestValue) → IsKept (results_of r) d → ⊥
+  pub calls : (telling_of r).calls ≡ 0
+  pub puts : (telling_of r).puts ≡ []
+
+-- A call that asked for what stands under the digest in the area. What is kept isn't asked again,
+-- also where memory is wanting; what isn't is the server's answer, and that alone is kept.
+pub record LooksUp {A : Type 0}
+    (area : Area) (d : DigestValue) (old new : LineValue) (before after : Table A)
+    (result : Result (Option (Vec ℕ A)) FetchError) : Type 0 where
+  pub silent : IsKept before d → new.flow ≡ old.flow
+  pub kept : IsKept before d → IfOk result (λ answer. new ≡ old)
+  pub same : IsKept before d → KeepsAll before after
+  pub answered : (IsKept before d → ⊥)
+      → IfOk result (λ answer. Gets old new area d.hash (bytes_of answer))
+  pub refused : IfErr result (Refuses old new (get area d.hash))
+  pub held : IfOk result (λ answer. IsKept after d)
+  pub unheld : OnErr result (KeepsAll before after)
+  pub others : IsSameBut d before after
+
+-- a call that put the bytes under the digest in the area, and kept that
+pub record Stores {A T : Type 0}
+    (area : Area) (d : DigestValue) (bytes : List ℕ) (old new : LineValue) (before after : Table A)
+    (result : Result T FetchError) : Type 0 where
+  pub taken : OnOk result (Puts old new area d.hash bytes)
+  pub refused : IfErr result (Refuses old new (put area d.hash bytes))
+  pub held : OnOk result (IsKept after d)
+  pub unheld : OnErr result (KeepsAll before after)
+  pub others : IsSameBut d before after

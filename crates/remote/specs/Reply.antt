@@ -1,0 +1,61 @@
+-- Replies in a stream (RFC 9112, sections 6 and 9.3).
+use Rattle.std.specs.Prelude.{◌≡◌, ℕ, ◌≤◌, ◌⊎◌, Bool, List, ◌++◌, length}
+use Rattle.http_core.specs.Block.{HasNoBlock, IsBlock}
+use Rattle.http_core.specs.ReplyHead.{IsReplyHead}
+use Rattle.http_core.specs.declared.reply_head.ReplyHead.{ReplyHead}
+use Rattle.remote.specs.declared.reply.Reply.{Reply}
+use Rattle.remote.specs.Flow.{Flow, Sends, Receives}
+
+pub record ReplyValue : Type 0 where
+  pub status : ℕ
+  pub body : List ℕ
+  pub close : Bool
+
+abbrev pub reply_value : {A : Type 0} → Reply A → ReplyValue
+reply_value r = record { status = r.status; body = r.body.items; close = r.close }
+
+-- These bytes, and none of them too many, are the reply: a block, whose head is lawful, and a body
+-- of the length that it says.
+pub record IsReply (bytes : List ℕ) (reply : ReplyValue) : Type 0 where
+  pub block : List ℕ
+  pub whole : bytes ≡ block ++ reply.body
+  pub ends : IsBlock block
+  pub fits : length block ≤ 16384
+  pub head : IsReplyHead block
+      (record { status = reply.status; length = length reply.body; close = reply.close })
+
+-- the next reply in the stream was read, and nothing else
+pub record NextReply (old new : Flow) (reply : ReplyValue) : Type 0 where
+  pub text : List ℕ
+  pub is : IsReply text reply
+  pub read : Receives old new text
+
+-- the one request was sent, and then the next reply in the stream was read
+pub record Exchanges (old new : Flow) (request : List ℕ) (reply : ReplyValue) : Type 0 where
+  pub between : Flow
+  pub asks : Sends old between request
+  pub answers : NextReply between new reply
+
+-- no reply begins so: a block without a lawful head, or 16,384 bytes in which no block ends
+abbrev pub BeginsNoReply : List ℕ → Type 0
+BeginsNoReply bytes =
+    (IsBlock bytes × ((head : ReplyHead) → IsReplyHead bytes head → ⊥))
+    ⊎ ((length bytes ≡ 16384) × HasNoBlock bytes)
+
+-- what was read begins no reply
+pub record NextIsNoReply (old new : Flow) : Type 0 where
+  pub text : List ℕ
+  pub bad : BeginsNoReply text
+  pub read : Receives old new text
+
+-- the one request was sent, and then what begins no reply was read
+pub record ExchangesForNone (old new : Flow) (request : List ℕ) : Type 0 where
+  pub between : Flow
+  pub asks : Sends old between request
+  pub answers : NextIsNoReply between new
+
+-- at the front of a stream stands one reply at most
+abbrev pub NextIsOne : Type 0
+NextIsOne =
+    (a x b y : List ℕ) (r s : ReplyValue) → IsReply a r → IsReply b s → a ++ x ≡ b ++ y
+    → (a ≡ b) × (r ≡ s)

@@ -1,0 +1,93 @@
+ghost use Rattle.std.specs.Prelude.{◌≡◌, ◌≤◌, IfOk, IfErr, OnErr, OnOk};
+ghost use Rattle.blob_source.specs.Source.{GrowsAt, bytes_of, greatest_count};
+ghost use Rattle.remote.specs.Line.{Gets, Refuses, get, line_of};
+ghost use Rattle.remote.specs.Table.{IsKept, IsSameBut, KeepsAll, told_by};
+ghost use Rattle.remote.specs.Steps.{Keeps, KeepsBytes, KeepsNothing};
+
+use crate::line::Line;
+use crate::stream::Stream;
+use crate::table::Table;
+use blob_digest::Digest;
+use blob_source::FetchError;
+use http_core::Area;
+use std::alloc::{AllocError, Allocator};
+
+/// Answers from the table, or else asks the server and keeps its answer.
+pub(crate) fn look_up<S: Stream + Drop, A: Allocator + Copy>(
+    alloc: A,
+    line: &mut Line<S, A>,
+    table: &mut Table<A>,
+    area: Area,
+    digest: &Digest,
+) -> Result<Option<Vec<u8, A>>, FetchError>
+    ensures told { IfOk result (λ answer. bytes_of answer ≡ told_by table.new digest.now) }
+    ensures grows { GrowsAt digest.now (told_by table.old) (told_by table.new) }
+    ensures held { IfOk result (λ _. IsKept table.new digest.now) }
+    ensures kept { IsKept table.old digest.now → IfOk result
+        (λ _. line_of S.flow line.new ≡ line_of S.flow line.old) }
+    ensures silent { IsKept table.old digest.now → S.flow line.new.stream ≡ S.flow line.old.stream }
+    ensures asked { (IsKept table.old digest.now → ⊥) → IfOk result (λ answer. Gets
+        (line_of S.flow line.old)
+        (line_of S.flow line.new) area digest.now.hash (bytes_of answer)) }
+    ensures refused { IfErr result (Refuses (line_of S.flow line.old) (line_of S.flow line.new)
+        (get area digest.now.hash)) }
+    ensures same { IsKept table.old digest.now → KeepsAll table.old table.new }
+    ensures unheld { OnErr result (KeepsAll table.old table.new) }
+    ensures others { IsSameBut digest.now table.old table.new }
+    ensures risen { line.old.failures ≤ line.new.failures }
+    ensures bounded { line.new.failures ≤ greatest_count }
+{
+    let _count = line.failures;
+    if table.has(digest) {
+        return match table.copied(alloc, digest) {
+            Ok(answer) => Ok(answer),
+            Err(_) => Err(line.starve()),
+        };
+    }
+    let answer = line.get(alloc, area, digest)?;
+    match keep_answer(alloc, table, digest, &answer) {
+        Ok(()) => Ok(answer),
+        Err(_) => Err(line.starve()),
+    }
+}
+
+/// Keeps a copy of an answer.
+fn keep_answer<A: Allocator + Copy>(
+    alloc: A,
+    table: &mut Table<A>,
+    digest: &Digest,
+    answer: &Option<Vec<u8, A>>,
+) -> Result<(), AllocError>
+    ensures ok { OnOk result (Keeps table.old table.new digest.now (bytes_of answer.now)) }
+    ensures err { OnErr result (KeepsAll table.old table.new) }
+{
+    match answer {
+        None => table.keep(digest, None),
+        Some(bytes) => {
+            let copy = Vec::from_slice(alloc, bytes)?;
+            table.keep(digest, Some(copy))
+        }
+    }
+}
+
+/// Keeps a copy of bytes that were put.
+pub(crate) fn keep_bytes<S: Stream + Drop, A: Allocator + Copy>(
+    alloc: A,
+    line: &mut Line<S, A>,
+    table: &mut Table<A>,
+    digest: &Digest,
+    bytes: &[u8],
+) -> Result<(), FetchError>
+    ensures ok { OnOk result (KeepsBytes table.old table.new (line_of S.flow line.old)
+        (line_of S.flow line.new) digest.now bytes.now) }
+    ensures err { IfErr result (KeepsNothing table.old table.new (line_of S.flow line.old)
+        (line_of S.flow line.new)) }
+{
+    let Ok(copy) = Vec::from_slice(alloc, bytes) else {
+        return Err(line.starve());
+    };
+    match table.keep(digest, Some(copy)) {
+        Ok(()) => Ok(()),
+        Err(_) => Err(line.starve()),
+    }
+}

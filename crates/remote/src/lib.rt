@@ -1,0 +1,21 @@
+//! Blobs and results of a server, over an open stream of both directions: a source and a sink that
+//! keeps every answer, so that nothing is asked twice, and that never goes on after a refusal.
+#![tactic(auto)]
+
+mod asking;
+mod block;
+mod fault;
+mod laws;
+mod line;
+mod remote;
+mod reply;
+mod stream;
+mod table;
+
+pub use fault::Fault;
+pub use laws::the_next_reply_is_one;
+pub use remote::Remote;
+pub use stream::{MemoryStream, Stream};
+
+#[cfg(test)]
+mod tests;

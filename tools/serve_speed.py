@@ -1,0 +1,179 @@
+#!/usr/bin/env python3
+"""Measures `buildcache serve` beside nginx: serve_speed.py PROGRAM [SECONDS]
+
+GET and PUT of blobs of four sizes over one keep-alive connection each, in turns of a tenth of SECONDS (2) for each
+size and kind, so that both meet the same machine. nginx serves WebDAV from memory (/dev/shm). Each PUT is of a blob
+that the server doesn't hold yet. It prints requests a second, the best turn of each. It needs nginx, and the program
+built (crates/buildcache/out/buildcache).
+"""
+
+import hashlib
+import os
+import shutil
+import socket
+import subprocess
+import sys
+import tempfile
+import time
+
+SIZES = [1 << 10, 64 << 10, 1 << 20, 16 << 20]
+TURNS = 10
+CONFIG = """
+daemon off;
+worker_processes 1;
+pid {folder}/pid;
+error_log {folder}/error.log;
+events {{}}
+http {{
+    access_log off;
+    client_max_body_size 16m;
+    client_body_buffer_size 16m;
+    client_body_temp_path {folder}/body;
+    keepalive_requests 100000000;
+    server {{
+        listen 127.0.0.1:{port};
+        root {folder}/store;
+        location / {{ dav_methods PUT; create_full_put_path on; }}
+    }}
+}}
+"""
+
+
+class Client:
+    """One connection, with requests one after another."""
+
+    def __init__(self, port):
+        self.socket = socket.create_connection(("127.0.0.1", port))
+        self.socket.setsockopt(socket.IPPROTO_TCP, socket.TCP_NODELAY, 1)
+        self.buffer = bytearray(1 << 20)
+
+    def ask(self, request, statuses):
+        """Sends a request, and reads its answer whole."""
+        self.socket.sendall(request)
+        head = b""
+        while b"\r\n\r\n" not in head:
+            piece = self.socket.recv(65536)
+            if not piece:
+                raise SystemExit("serve_speed: the server closed the connection")
+            head += piece
+        head, _, body = head.partition(b"\r\n\r\n")
+        if not any(head.startswith(b"HTTP/1.1 %d" % it) for it in statuses):
+            raise SystemExit(f"serve_speed: {head.decode()}")
+        left = int(next(it for it in head.lower().split(b"\r\n") if it.startswith(b"content-length:"))[15:]) - len(body)
+        while left:
+            left -= self.socket.recv_into(self.buffer, min(left, len(self.buffer)))
+
+
+def path(blob):
+    return "/cas/" + hashlib.sha256(blob).hexdigest()
+
+
+def get_text(blob):
+    return f"GET {path(blob)} HTTP/1.1\r\nHost: x\r\n\r\n".encode()
+
+
+def put_text(blob):
+    return f"PUT {path(blob)} HTTP/1.1\r\nHost: x\r\nContent-Length: {len(blob)}\r\n\r\n".encode() + blob
+
+
+class Blobs:
+    """Blobs of a size, each another one."""
+
+    def __init__(self, size):
+        self.body, self.count = os.urandom(size - 8), 0
+
+    def next(self):
+        self.count += 1
+        return self.body + self.count.to_bytes(8, "big")
+
+
+def turn(client, make, seconds, statuses):
+    """Requests a second over a turn. Texts are made before the clock runs, as many as a turn may need."""
+    texts, spent, done = [], 0.0, 0
+    while spent < seconds:
+        texts = [make() for _ in range(max(1, min(64, (16 << 20) // len(texts[0]))) if texts else 1)]
+        begun = time.perf_counter()
+        for text in texts:
+            client.ask(text, statuses)
+        spent += time.perf_counter() - begun
+        done += len(texts)
+    return done / spent
+
+
+def start_serve(program):
+    process = subprocess.Popen(
+        [program, "serve", "--listen", "127.0.0.1:0", "--connections", "1", "--limit", str(1 << 30), "--result-limit", "1000000"],
+        stdout=subprocess.PIPE, stderr=subprocess.DEVNULL, text=True,
+    )
+    return process, int(process.stdout.readline().rpartition(":")[2])
+
+
+def start_nginx(folder):
+    with socket.socket() as free:
+        free.bind(("127.0.0.1", 0))
+        port = free.getsockname()[1]
+    os.makedirs(f"{folder}/store")
+    os.chmod(folder, 0o777)
+    os.chmod(f"{folder}/store", 0o777)
+    with open(f"{folder}/conf", "w", encoding="utf-8") as out:
+        out.write(CONFIG.format(folder=folder, port=port))
+    process = subprocess.Popen(["nginx", "-c", f"{folder}/conf", "-e", f"{folder}/error.log"], stderr=subprocess.DEVNULL)
+    for _ in range(100):
+        try:
+            socket.create_connection(("127.0.0.1", port)).close()
+            return process, port
+        except ConnectionRefusedError:
+            time.sleep(0.05)
+    raise SystemExit("serve_speed: nginx doesn't listen")
+
+
+def hashing(size):
+    """How many blobs of a size Python's hashlib (OpenSSL) hashes a second, for comparison."""
+    blob, begun, done = os.urandom(size), time.perf_counter(), 0
+    while time.perf_counter() - begun < 0.3:
+        hashlib.sha256(blob).digest()
+        done += 1
+    return done / (time.perf_counter() - begun)
+
+
+def measure(clients, seconds):
+    for size in SIZES:
+        blobs, best = Blobs(size), {}
+        held = blobs.next()
+        for client in clients.values():
+            client.ask(put_text(held), (200, 201, 204))
+        for _ in range(TURNS):
+            for name, client in clients.items():
+                for kind, make in (("GET", lambda: get_text(held)), ("PUT", lambda: put_text(blobs.next()))):
+                    rate = turn(client, make, seconds / TURNS, (200, 201, 204))
+                    best[name, kind] = max(rate, best.get((name, kind), 0))
+                    client.ask(put_text(held), (200, 201, 204))
+        yield size, best, hashing(size)
+
+
+def main(words):
+    if not words or words[0] in ("-h", "--help"):
+        print(__doc__.strip())
+        return 0 if words else 2
+    folder = tempfile.mkdtemp(dir="/dev/shm")
+    processes = []
+    try:
+        serve, port = start_serve(words[0])
+        processes.append(serve)
+        nginx, other = start_nginx(folder)
+        processes.append(nginx)
+        clients = {"serve": Client(port), "nginx": Client(other)}
+        print("| Bytes | GET, serve | GET, nginx | PUT, serve | PUT, nginx | SHA-256 (OpenSSL) |\n|---|---|---|---|---|---|")
+        for size, best, hashed in measure(clients, float(words[1]) if len(words) > 1 else 2.0):
+            cells = [best["serve", "GET"], best["nginx", "GET"], best["serve", "PUT"], best["nginx", "PUT"], hashed]
+            print(f"| {size:,} |" + "|".join(f" {it:,.0f} " for it in cells) + "|", flush=True)
+    finally:
+        for process in processes:
+            process.terminate()
+            process.wait()
+        shutil.rmtree(folder)
+    return 0
+
+
+if __name__ == "__main__":
+    sys.exit(main(sys.argv[1:]))
