@@ -8,7 +8,7 @@ use Rattle.cli.specs.declared.error.CliError.TheVariants.{Words, Digest, Number,
 abbrev pub status_of : CliError → ℕ
 status_of (Words text) = 2
 status_of (Digest option text fault) = 2
-status_of (Number option text) = 2
+status_of (Number option greatest text) = 2
 status_of (Prefix text) = 2
 status_of (Text path fault) = 2
 status_of (File path fault) = 3

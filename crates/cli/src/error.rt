@@ -18,9 +18,10 @@ pub(crate) enum CliError {
         text: String,
         fault: DigestError,
     },
-    #[error("--{option}: a number of 1 to 19 digits, at most 9223372036854775807, not {text:?}")]
+    #[error("--{option}: a decimal number of at most {greatest}, not {text:?}")]
     Number {
         option: &'static str,
+        greatest: u64,
         text: String,
     },
     #[error("--prefix: segments of a path, each behind a slash, not {text:?}")]

@@ -16,8 +16,8 @@ use std::net::{Net, TcpListener, TcpStream};
 use std::random::RandomSource;
 use std::time::{Clock, Duration};
 
-/// The greatest number that an option has.
-const GREATEST_NUMBER: u64 = 9_223_372_036_854_775_807;
+/// The most bytes to which a store is limited.
+const GREATEST_LIMIT: u64 = 9_223_372_036_854_775_807;
 
 /// For how many seconds a connection may be silent, where nothing else is said.
 const IDLE_SECONDS: u64 = 60;
@@ -32,29 +32,28 @@ struct Asked {
     prefix: Prefix<Global>,
 }
 
-/// The number that 1 to 19 digits write.
+/// The number that digits write, and nothing but digits.
 fn number_in(text: &str) -> Option<u64> {
-    if text.len() > 19 || !text.bytes().all(|byte| byte.is_ascii_digit()) {
+    if !text.bytes().all(|byte| byte.is_ascii_digit()) {
         return None;
     }
-    match text.parse::<u64>() {
-        Ok(number) => Some(number),
-        Err(_) => None,
-    }
+    text.parse::<u64>().ok()
 }
 
 fn read_number(
     alloc: Global,
     matches: &ArgMatches<'_>,
     option: &'static str,
+    greatest: u64,
 ) -> Result<u64, CliError>
-    ensures few { IfOk result (λ number. number < 2 ^ 63) }
+    ensures few { IfOk result (λ number. number ≤ greatest) }
 {
     let text = text_of(matches, option);
     match number_in(text) {
-        Some(number) if number <= GREATEST_NUMBER => Ok(number),
+        Some(number) if number <= greatest => Ok(number),
         _ => Err(CliError::Number {
             option,
+            greatest,
             text: String::from_str(alloc, text)?,
         }),
     }
@@ -63,7 +62,7 @@ fn read_number(
 /// The number of seconds of `--idle`.
 fn read_idle(alloc: Global, matches: &ArgMatches<'_>) -> Result<u64, CliError> {
     match matches.get_str("idle") {
-        Some(_) => read_number(alloc, matches, "idle"),
+        Some(_) => read_number(alloc, matches, "idle", GREATEST_LIMIT),
         None => Ok(IDLE_SECONDS),
     }
 }
@@ -81,9 +80,9 @@ fn read_prefix(alloc: Global, matches: &ArgMatches<'_>) -> Result<Prefix<Global>
 fn read_asked(alloc: Global, matches: &ArgMatches<'_>) -> Result<Asked, CliError>
     ensures { IfOk result (λ asked. (asked.limit < 2 ^ 63) × (asked.result_limit < 2 ^ 63)) }
 {
-    let connections = read_number(alloc, matches, "connections")?;
-    let limit = read_number(alloc, matches, "limit")?;
-    let result_limit = read_number(alloc, matches, "result-limit")?;
+    let connections = read_number(alloc, matches, "connections", u64::MAX)?;
+    let limit = read_number(alloc, matches, "limit", GREATEST_LIMIT)?;
+    let result_limit = read_number(alloc, matches, "result-limit", GREATEST_LIMIT)?;
     let idle = read_idle(alloc, matches)?;
     let prefix = read_prefix(alloc, matches)?;
     Ok(Asked { connections, limit, result_limit, idle, prefix })
