@@ -100,26 +100,59 @@ fn beginnings_of_a_stream(rt: HostRuntime) -> Result<(), Fail> {
     Ok(())
 }
 
+/// Adds the answers to the next piece on a connection.
+fn tell(
+    heap: Global,
+    server: &mut Server<Global>,
+    connection: u64,
+    piece: &[u8],
+    answers: &mut Vec<u8>,
+) -> Result<(), AllocError> {
+    let text = server.event(heap, connection, piece)?;
+    answers.extend_from_slice(&text)
+}
+
+/// The bytes of a stream in turn on two connections, of which the second lacks the last; and the
+/// whole stream on the second, once it has ended.
+fn in_turn(
+    heap: Global,
+    state: RandomState,
+    stream: &[u8],
+    first: &mut Vec<u8>,
+    second: &mut Vec<u8>,
+) -> Result<(), AllocError> {
+    let cache = new_cache(heap, state, put_and_get())?;
+    let mut server: Server<Global> = Server::new(heap, cache, prefix_of(heap, put_and_get())?);
+    let (front, last) = stream.split_at(stream.len().saturating_sub(1));
+    for piece in front.chunks(1) {
+        tell(heap, &mut server, 1, piece, first)?;
+        tell(heap, &mut server, 2, piece, second)?;
+    }
+    tell(heap, &mut server, 1, last, first)?;
+    server.end(2);
+    tell(heap, &mut server, 2, stream, second)
+}
+
 #[test]
 fn two_connections_byte_by_byte(rt: HostRuntime) -> Result<(), Fail> {
     let heap = rt.alloc();
     let stream = expanded(heap, put_and_get().stream)?;
     let expected = expanded(heap, put_and_get().answers)?;
-    let cache = new_cache(heap, RandomState::new(&rt)?, put_and_get())?;
-    let mut server: Server<Global> = Server::new(heap, cache, prefix_of(heap, put_and_get())?);
     let mut first = Vec::new(heap);
     let mut second = Vec::new(heap);
-    for piece in stream.chunks(1) {
-        first.extend_from_slice(&server.event(heap, 1, piece)?)?;
-        if first.len() < expected.len() {
-            second.extend_from_slice(&server.event(heap, 2, piece)?)?;
-        }
-    }
+    in_turn(
+        heap,
+        RandomState::new(&rt)?,
+        &stream,
+        &mut first,
+        &mut second,
+    )?;
     assert_eq!(rt; first, expected);
-    assert_eq!(rt; second.len(), 38);
-    assert!(rt; expected.starts_with(&second));
-    server.end(2);
-    assert_eq!(rt; server.event(heap, 2, &stream)?, expected);
+    // The second has the first answer, and then both.
+    let mut told = expanded(heap, b"#o")?;
+    assert_eq!(rt; told.len(), 38);
+    told.extend_from_slice(&expected)?;
+    assert_eq!(rt; second, told);
     Ok(())
 }
 
@@ -225,8 +258,8 @@ fn a_read_or_a_write_that_fails(rt: HostRuntime) -> Result<(), Fail> {
     Ok(())
 }
 
-/// Two connections to one server: the first may want memory, and then it is closed; the second goes
-/// on. Answers whether the first wanted none.
+/// A stream on two connections to one server, of which the first may want memory; adds what the
+/// second is answered. Tells whether the first wanted none.
 fn shared<A: Allocator + Copy>(
     alloc: A,
     state: RandomState,
@@ -235,17 +268,10 @@ fn shared<A: Allocator + Copy>(
 ) -> Result<bool, AllocError> {
     let cache = new_cache(alloc, state, put_and_get())?;
     let mut server: Server<A> = Server::new(alloc, cache, prefix_of(alloc, put_and_get())?);
-    let begun = server.event(alloc, 1, b"GET ").is_ok();
-    let first = server.event(alloc, 1, b"/none HTTP/1.1\r\nHost: x\r\n\r\n");
-    let answered = match first {
-        Ok(text) => !text.is_empty(),
-        Err(_) => false,
-    };
-    if begun && !answered {
-        answers.extend_from_slice(&server.event(alloc, 1, stream)?)?;
-    }
-    answers.extend_from_slice(&server.event(alloc, 2, stream)?)?;
-    Ok(begun && answered)
+    let first = server.event(alloc, 1, stream).is_ok();
+    let text = server.event(alloc, 2, stream)?;
+    answers.extend_from_slice(&text)?;
+    Ok(first)
 }
 
 #[test]
@@ -263,15 +289,12 @@ fn other_connections_go_on_after_want_of_memory(rt: HostRuntime) -> Result<(), F
             assert_eq!(rt; end, Ok(true));
             break;
         }
-        match end {
-            Ok(_) => assert_eq!(rt; answers, expected, "request {number}"),
-            Err(_) => assert!(rt; expected.starts_with(&answers)),
-        }
-        if end != Ok(true) {
+        if end == Ok(false) {
+            assert_eq!(rt; answers, expected, "request {number}");
             refused = refused.saturating_add(1);
         }
     }
-    assert!(rt; refused >= 10);
+    assert!(rt; refused >= 5);
     Ok(())
 }
 

@@ -1,5 +1,5 @@
 -- What is printed of a verdict.
-use Rattle.std.specs.Prelude.{◌≡◌, ◌⊎◌, ℕ, List, Option, codes}
+use Rattle.std.specs.Prelude.{◌≡◌, ◌⊎◌, ℕ, List, ◌++◌, Option, codes}
 use Rattle.std.specs.Io.KnownBytes.{Appends}
 use Rattle.std.specs.declared.alloc.Global.{Global}
 use Rattle.blob_digest.specs.Digest.{DigestValue, IsDigest}
@@ -57,6 +57,18 @@ pub record PrintsNo (words : List Text) (old new : Option (List ℕ)) : Type 0 w
   pub prints : PrintsVerdict (options_of words) old new
   pub negative : ¬ IsYes prints.verdict
 
--- the line of a yes was printed, or nothing but help or the version was asked for
+-- an address was printed
+pub record PrintsAddress (old new : Option (List ℕ)) : Type 0 where
+  pub address : Text
+  pub printed : Appends old new (codes "listening " ++ address ++ codes "\n")
+
+-- the words call `serve`, and an address was printed
+pub record PrintsListening (words : List Text) (old new : Option (List ℕ)) : Type 0 where
+  pub called : Calls words (codes "serve")
+  pub prints : PrintsAddress old new
+
+-- the line of a yes was printed, or the address that was served, or nothing but help or the version
+-- was asked for
 abbrev pub IsDone : List Text → Option (List ℕ) → Option (List ℕ) → Type 0
-IsDone words old new = PrintsYes words old new ⊎ AsksForHelp words
+IsDone words old new =
+    PrintsYes words old new ⊎ PrintsListening words old new ⊎ AsksForHelp words

@@ -1,12 +1,14 @@
 -- The statuses of a command that ends without its answer.
 use Rattle.std.specs.Prelude.{ℕ}
 use Rattle.cli.specs.declared.error.CliError.{CliError}
-use Rattle.cli.specs.declared.error.CliError.TheVariants.{Words, Digest, Text, Unlike, File, NotAFile, TooLarge, Entry, Connection, Server, WrongBytes, Output, Memory}
+use Rattle.cli.specs.declared.error.CliError.TheVariants.{Words, Digest, Number, Text, Unlike, File, NotAFile, TooLarge, Entry, Connection, Server, WrongBytes, Address, Random, Output, Memory}
 
--- 2 where the words or the texts that they name are at fault, and 3 where a file, a server, the output or memory is
+-- 2 where the words or the texts that they name are at fault, and 3 where a file, a socket, a server,
+-- the output or memory is
 abbrev pub status_of : CliError → ℕ
 status_of (Words text) = 2
 status_of (Digest option text fault) = 2
+status_of (Number option greatest text) = 2
 status_of (Text path fault) = 2
 status_of (Unlike option wanted text) = 2
 status_of (File path fault) = 3
@@ -16,5 +18,7 @@ status_of (Entry path fault) = 3
 status_of (Connection server fault) = 3
 status_of (Server server asked digest fault) = 3
 status_of (WrongBytes server digest) = 3
+status_of (Address text fault) = 3
+status_of (Random fault) = 3
 status_of (Output fault) = 3
 status_of Memory = 3

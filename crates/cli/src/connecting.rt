@@ -25,7 +25,7 @@ pub(crate) struct Server<'a> {
 }
 
 /// The number that some decimal digits spell.
-fn read_number(text: &str) -> Option<u64> {
+pub(crate) fn number_in(text: &str) -> Option<u64> {
     if !text.bytes().all(|byte| byte.is_ascii_digit()) {
         return None;
     }
@@ -36,7 +36,7 @@ fn read_number(text: &str) -> Option<u64> {
 fn is_address(text: &str) -> bool {
     match text.rsplit_once(':') {
         None => false,
-        Some((host, port)) => !host.is_empty() && read_number(port).is_some_and(|n| n < 65_536),
+        Some((host, port)) => !host.is_empty() && number_in(port).is_some_and(|n| n < 65_536),
     }
 }
 
@@ -52,14 +52,15 @@ fn read_timeout(alloc: Global, matches: &ArgMatches<'_>) -> Result<Option<Durati
     let Some(text) = option_of(matches, "timeout") else {
         return Ok(Some(Duration::from_secs(SILENT)));
     };
-    match read_number(text) {
+    match number_in(text) {
         Some(0) => Ok(None),
         Some(seconds) => Ok(Some(Duration::from_secs(seconds))),
         None => Err(unlike(alloc, "timeout", "a number of seconds", text)?),
     }
 }
 
-fn read_prefix(alloc: Global, matches: &ArgMatches<'_>) -> Result<Prefix<Global>, CliError> {
+/// The prefix that the words give.
+pub(crate) fn read_prefix(alloc: Global, matches: &ArgMatches<'_>) -> Result<Prefix<Global>, CliError> {
     let text = text_of(matches, "prefix");
     match Prefix::read(alloc, text.as_bytes())? {
         Some(prefix) => Ok(prefix),

@@ -19,6 +19,12 @@ pub(crate) enum CliError {
         text: String,
         fault: DigestError,
     },
+    #[error("--{option}: a decimal number of at most {greatest}, not {text:?}")]
+    Number {
+        option: &'static str,
+        greatest: u64,
+        text: String,
+    },
     #[error("{path:?}: {fault}")]
     Text {
         path: String,
@@ -65,6 +71,13 @@ pub(crate) enum CliError {
         server: String,
         digest: String,
     },
+    #[error("{address:?}: {fault}")]
+    Address {
+        address: String,
+        fault: io::Error,
+    },
+    #[error("random bytes: {0}")]
+    Random(io::Error),
     #[error("standard output: {0}")]
     Output(io::Error),
     #[error("out of memory")]
@@ -77,8 +90,11 @@ impl CliError {
         ensures { result ≡ status_of self.now }
     {
         match self {
-            CliError::Words(_) | CliError::Digest { .. } | CliError::Text { .. } => 2,
-            CliError::Unlike { .. } => 2,
+            CliError::Words(_)
+            | CliError::Digest { .. }
+            | CliError::Number { .. }
+            | CliError::Unlike { .. }
+            | CliError::Text { .. } => 2,
             CliError::File { .. }
             | CliError::NotAFile { .. }
             | CliError::TooLarge { .. }
@@ -86,6 +102,8 @@ impl CliError {
             | CliError::Connection { .. }
             | CliError::Server { .. }
             | CliError::WrongBytes { .. }
+            | CliError::Address { .. }
+            | CliError::Random(_)
             | CliError::Output(_)
             | CliError::Memory => 3,
         }

@@ -10,6 +10,7 @@ mod laws;
 mod options;
 mod put_command;
 mod running;
+mod serve_command;
 mod store;
 mod verify_command;
 mod words;

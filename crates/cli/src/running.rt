@@ -7,13 +7,17 @@ ghost use Rattle.cli.specs.Status.{status_of};
 use crate::error::CliError;
 use crate::get_command::run_get;
 use crate::put_command::run_put;
+use crate::serve_command::run_serve;
 use crate::verify_command::run_verify;
 use crate::words::parse;
 use clap::error::{Error, ErrorKind};
 use std::alloc::{AllocError, Global};
 use std::io::Write;
-use std::net::{Net, TcpStream};
+use log::Log;
+use std::net::{Net, TcpListener, TcpStream};
+use std::random::RandomSource;
 use std::rt::Files;
+use std::time::Clock;
 
 /// What a command came to.
 enum Ended {
@@ -26,9 +30,11 @@ enum Ended {
 /// texts that they name are at fault, 3 where a file, the output or memory is.
 pub fn run_words<R, O: Write, E: Write>(rt: &R, words: &[String], out: &mut O, err: &mut E) -> u8
 where
-    R: AllocGlobal + Files + Net<Stream = TcpStream>,
+    R: AllocGlobal + Clock + Files + Log + RandomSource,
+    R: Net<Listener = TcpListener, Stream = TcpStream>,
     ensures status { result < 4 }
-    // With status 0, the words ask for help, or the line of their yes went to standard output, and nothing else.
+    // With status 0, the words ask for help, or the line of their yes went to standard output, or
+    // the address that was served, and nothing else.
     ensures done { result ≡ 0 → IsDone (map string_bytes words.now) (O.contents out.old) (O.contents out.new) }
     // With status 1, the line of their no.
     ensures no { result ≡ 1 → PrintsNo (map string_bytes words.now) (O.contents out.old) (O.contents out.new) }
@@ -50,7 +56,8 @@ where
 
 fn run<R, O: Write>(rt: &R, words: &[String], out: &mut O) -> Result<Ended, CliError>
 where
-    R: AllocGlobal + Files + Net<Stream = TcpStream>,
+    R: AllocGlobal + Clock + Files + Log + RandomSource,
+    R: Net<Listener = TcpListener, Stream = TcpStream>,
     ensures done { IfOk result (λ ended. ended ≡ Ended.Done → IsDone (map string_bytes words.now) (O.contents out.old) (O.contents out.new)) }
     ensures no { IfOk result (λ ended. ended ≡ Ended.No → PrintsNo (map string_bytes words.now) (O.contents out.old) (O.contents out.new)) }
     ensures unprinted { IfErr result (λ fault. status_of fault ≡ 2 → O.contents out.new ≡ O.contents out.old) }
@@ -77,6 +84,10 @@ where
             } else {
                 Ok(Ended::No)
             }
+        }
+        Some(("serve", inner)) => {
+            run_serve(rt, inner, out)?;
+            Ok(Ended::Done)
         }
         _ => {
             let text = String::from_str(rt.alloc(), "no such command")?;

@@ -1,0 +1,9 @@
+//! The cache over sockets: the connections of a listener are served one after another, none of them
+//! may be silent for too long, and each is told of in the log when it has ended.
+#![tactic(auto)]
+
+mod closing;
+mod metered;
+mod serving;
+
+pub use serving::serve;
