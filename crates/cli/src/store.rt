@@ -49,7 +49,8 @@ impl<'r, R: Files + AllocGlobal> FolderSource<'r, R> {
         ensures counted { result ≡ FetchError.Failed → self.new.failures ≡ self.old.failures + 1 }
         ensures risen { self.old.failures ≤ self.new.failures }
         ensures bounded { self.new.failures ≤ greatest_count }
-        ensures unfailed { (result ≡ FetchError.Failed → ⊥) → self.new.failures ≡ self.old.failures }
+        ensures unfailed { (result ≡ FetchError.Failed → ⊥)
+            → self.new.failures ≡ self.old.failures }
     {
         let _count = self.failures;
         if matches!(fault, CliError::Memory) || self.failures == u64::MAX {
