@@ -1,7 +1,7 @@
 ghost use Rattle.std.specs.Prelude.{◌≡◌, ◌⊎◌, ◌<◌, Err, IfErr, IfOk, map, string_bytes};
 ghost use Rattle.clap.specs.Words.{kind_of};
 ghost use Rattle.cli.specs.Faults.{IsShownFault};
-ghost use Rattle.cli.specs.Printed.{IsDone, PrintsNo};
+ghost use Rattle.cli.specs.Printed.{IsDone, IsNo};
 ghost use Rattle.cli.specs.Status.{status_of};
 
 use crate::error::CliError;
@@ -28,10 +28,11 @@ pub fn run_words<R, O: Write, E: Write>(rt: &R, words: &[String], out: &mut O, e
 where
     R: AllocGlobal + Files + Net<Stream = TcpStream>,
     ensures status { result < 4 }
-    // With status 0, the words ask for help, or the line of their yes went to standard output, and nothing else.
+    // With status 0, the words ask for help, or the line of their yes, the blob that they name or the
+    // digest of what they put went to standard output, and nothing else.
     ensures done { result ≡ 0 → IsDone (map string_bytes words.now) (O.contents out.old) (O.contents out.new) }
-    // With status 1, the line of their no.
-    ensures no { result ≡ 1 → PrintsNo (map string_bytes words.now) (O.contents out.old) (O.contents out.new) }
+    // With status 1, the line of their no, or the blob that they name isn't there.
+    ensures no { result ≡ 1 → IsNo (map string_bytes words.now) (O.contents out.old) (O.contents out.new) }
     // With status 2, nothing was printed.
     ensures unprinted { result ≡ 2 → O.contents out.new ≡ O.contents out.old }
     // With an answer, standard error stays as it was.
@@ -52,7 +53,7 @@ fn run<R, O: Write>(rt: &R, words: &[String], out: &mut O) -> Result<Ended, CliE
 where
     R: AllocGlobal + Files + Net<Stream = TcpStream>,
     ensures done { IfOk result (λ ended. ended ≡ Ended.Done → IsDone (map string_bytes words.now) (O.contents out.old) (O.contents out.new)) }
-    ensures no { IfOk result (λ ended. ended ≡ Ended.No → PrintsNo (map string_bytes words.now) (O.contents out.old) (O.contents out.new)) }
+    ensures no { IfOk result (λ ended. ended ≡ Ended.No → IsNo (map string_bytes words.now) (O.contents out.old) (O.contents out.new)) }
     ensures unprinted { IfErr result (λ fault. status_of fault ≡ 2 → O.contents out.new ≡ O.contents out.old) }
 {
     let matches = match parse(rt.alloc(), words) {
