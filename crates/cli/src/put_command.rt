@@ -109,7 +109,12 @@ fn put_entry<R: Files + AllocGlobal, S: Stream + Drop>(
             Err(fault) => return Err(file_error(rt, place, fault)?),
         };
         let target = Target::new(alloc, target.as_str().as_bytes());
-        let target = lawful(alloc, place, target, "a link to no text of at most 4096 bytes")?;
+        let target = lawful(
+            alloc,
+            place,
+            target,
+            "a link to no text of at most 4096 bytes",
+        )?;
         return Ok(FlatEntry::Link { target });
     }
     let digest = client.put(alloc, &read_file(rt, place)?)?;
