@@ -1,4 +1,4 @@
--- What a call of `verify` came to, said of the words.
+-- What a command came to, said of the words.
 use Rattle.std.proofs.Common.{◌≡◌, ◌∙◌, ap, subst, Bool, true, false, ℕ, List, []}
 use Rattle.std.specs.Prelude.{codes, ◌↔◌, IsTrue, Option, Some, None, option_map, unwrap_or}
 use Rattle.std.specs.Option.{option_map_or}
@@ -6,7 +6,7 @@ use Rattle.std.proofs.lemmas.Bool.{iff_false}
 use Rattle.clap.specs.Words.{Row, Text}
 use Rattle.verifier.specs.Verdict.{IsYes}
 use Rattle.cli.specs.CommandLine.{Calls, options_of}
-use Rattle.cli.specs.Printed.{PrintsVerdict, PrintsYes, PrintsNo}
+use Rattle.cli.specs.Printed.{Does, GetsBlob, LacksBlob, PrintsVerdict, PrintsYes, PrintsNo, WritesBlob}
 
 -- the rows of the subcommand that was found are those of the one that the words call
 pub options_found : (found called : Option (Text × List Row)) (rows : List Row) → found ≡ called → Some rows ≡ option_map (λ p. p.1) found → rows ≡ option_map_or (λ p. p.1) called []
@@ -28,3 +28,15 @@ yes_printed words called is h true_is = let s = said words is h in record { call
 
 pub no_printed : (words : List Text) {rows : List Row} {old new : Option (List ℕ)} {positive : Bool} → Calls words (codes "verify") → rows ≡ options_of words → IsAnswer rows old new positive → positive ≡ false → PrintsNo words old new
 no_printed words called is h false_is = let s = said words is h in record { called = called; prints = s.0; negative = iff_false s.1 false_is }
+
+pub did : (command : Text) (done : List Row → Option (List ℕ) → Option (List ℕ) → Type 0) (words : List Text) {rows : List Row} {old new : Option (List ℕ)} → Calls words command → rows ≡ options_of words → done rows old new → Does command done words old new
+did command done words {rows} {old} {new} called is h = record { called = called; is = subst (λ (options : List Row). done options old new) is h }
+
+got : (words : List Text) {rows : List Row} {old new : Option (List ℕ)} {found b : Bool} → rows ≡ options_of words → GetsBlob rows old new found → found ≡ b → GetsBlob (options_of words) old new b
+got words {rows} {old} {new} {found} is h found_is = subst (λ (b : Bool). GetsBlob (options_of words) old new b) found_is (subst (λ (options : List Row). GetsBlob options old new found) is h)
+
+pub blob_written : (words : List Text) {rows : List Row} {old new : Option (List ℕ)} {found : Bool} → Calls words (codes "get") → rows ≡ options_of words → GetsBlob rows old new found → found ≡ true → WritesBlob words old new
+blob_written words called is h true_is = record { called = called; is = got words is h true_is }
+
+pub blob_lacked : (words : List Text) {rows : List Row} {old new : Option (List ℕ)} {found : Bool} → Calls words (codes "get") → rows ≡ options_of words → GetsBlob rows old new found → found ≡ false → LacksBlob words old new
+blob_lacked words called is h false_is = record { called = called; is = got words is h false_is }

@@ -1,5 +1,7 @@
 pub mod CommandLine
 pub mod Faults
+pub mod Got
 pub mod Printed
+pub mod Put
 pub mod Status
 pub mod Store

@@ -1,18 +1,21 @@
--- What is printed of a verdict.
-use Rattle.std.specs.Prelude.{◌≡◌, ◌⊎◌, ℕ, List, ◌++◌, Option, codes}
+-- What a command prints, and what it was asked.
+use Rattle.std.specs.Prelude.{◌≡◌, ◌⊎◌, ℕ, true, Bool, false, List, [], ◌∷◌, ◌++◌, Option, None, IsSome, codes}
 use Rattle.std.specs.Io.KnownBytes.{Appends}
 use Rattle.std.specs.declared.alloc.Global.{Global}
 use Rattle.blob_digest.specs.Digest.{DigestValue, IsDigest}
 use Rattle.blob_digest.specs.Text.{digest_text}
-use Rattle.clap.specs.Words.{Row, Text}
+use Rattle.clap.specs.Words.{Row, Text, first_of}
+use Rattle.http_core.specs.Prefix.{is_prefix}
 use Rattle.plan.specs.Plan.{IsPlan}
 use Rattle.plan.specs.Record.{RecordValue, IsRecord, Fits}
 use Rattle.plan.specs.Values.{PlanValue}
 use Rattle.report.specs.Line.{report_line}
+use Rattle.blob_source.specs.Sink.{HasRight}
 use Rattle.blob_source.specs.Source.{Telling}
 use Rattle.verifier.specs.declared.verdict.Verdict.{Verdict}
 use Rattle.verifier.specs.Headline.{EveryRunEndsIn, NoRunIsStuck}
 use Rattle.verifier.specs.Verdict.{IsVerdict, IsYes}
+use Rattle.cli.specs.Got.{Writes}
 use Rattle.cli.specs.CommandLine.{Calls, AsksForHelp, option_text, options_of}
 
 -- the text spells the digest
@@ -29,6 +32,23 @@ pub record IsJudged (sources : DigestValue) (plan : PlanValue) (recorded : List 
   pub holds : IsYes v → EveryRunEndsIn told.blobs told.results sources plan recorded claim
   pub unstuck : IsYes v → NoRunIsStuck told.blobs told.results sources plan recorded
 
+-- the options name a store folder, and nothing of a server
+pub record NamesStore (options : List Row) : Type 0 where
+  pub store : IsSome (first_of (codes "store") options)
+  pub server : first_of (codes "server") options ≡ None
+  pub prefix : first_of (codes "prefix") options ≡ None
+  pub timeout : first_of (codes "timeout") options ≡ None
+
+-- the options name a server, with a lawful prefix, and no store folder
+pub record NamesServer (options : List Row) : Type 0 where
+  pub server : IsSome (first_of (codes "server") options)
+  pub store : first_of (codes "store") options ≡ None
+  pub prefix : is_prefix (option_text options (codes "prefix")) ≡ true
+
+-- the options name exactly one place where the recorded build is
+abbrev pub NamesPlace : List Row → Type 0
+NamesPlace options = NamesStore options ⊎ NamesServer options
+
 -- the line of a verdict was printed, of the one on the digests that the options spell, a plan, and
 -- a record of it
 pub record PrintsVerdict (options : List Row) (old new : Option (List ℕ)) : Type 0 where
@@ -37,6 +57,7 @@ pub record PrintsVerdict (options : List Row) (old new : Option (List ℕ)) : Ty
   pub plan : PlanValue
   pub noted : RecordValue
   pub verdict : Verdict Global
+  pub place : NamesPlace options
   pub sources_spelled : Spells (option_text options (codes "sources")) sources
   pub claim_spelled : Spells (option_text options (codes "claim")) claim
   pub plan_lawful : IsPlan plan
@@ -57,18 +78,54 @@ pub record PrintsNo (words : List Text) (old new : Option (List ℕ)) : Type 0 w
   pub prints : PrintsVerdict (options_of words) old new
   pub negative : ¬ IsYes prints.verdict
 
--- an address was printed
+-- the blob was written, or a server told that there is none, whose digest the options spell
+pub record GetsBlob (options : List Row) (old new : Option (List ℕ)) (found : Bool) : Type 0 where
+  pub digest : DigestValue
+  pub spelled : Spells (option_text options (codes "digest")) digest
+  pub writes : Writes digest old new found
+
+-- the words call this command, and this was done
+pub record Does (command : Text) (done : List Row → Option (List ℕ) → Option (List ℕ) → Type 0)
+    (words : List Text) (old new : Option (List ℕ)) : Type 0 where
+  pub called : Calls words command
+  pub is : done (options_of words) old new
+
+-- the words call `get`, and the bytes of the blob with the digest were written
+abbrev pub WritesBlob : List Text → Option (List ℕ) → Option (List ℕ) → Type 0
+WritesBlob = Does (codes "get") (λ options old new. GetsBlob options old new true)
+
+-- the words call `get`, a server told that it has no such blob, and nothing was written
+abbrev pub LacksBlob : List Text → Option (List ℕ) → Option (List ℕ) → Type 0
+LacksBlob = Does (codes "get") (λ options old new. GetsBlob options old new false)
+
+-- the line of a digest was printed, under which a server was then told to have the blob that has it
+pub record PrintsDigest (options : List Row) (old new : Option (List ℕ)) : Type 0 where
+  pub digest : DigestValue
+  pub told : Telling
+  pub held : HasRight told.blobs digest
+  pub printed : Appends old new (digest_text digest ++ 10 ∷ [])
+
+-- the words call `put`, and the line of the digest of what was put was printed
+abbrev pub PrintsPut : List Text → Option (List ℕ) → Option (List ℕ) → Type 0
+PrintsPut = Does (codes "put") PrintsDigest
+
+-- an address was printed, to listen on
 pub record PrintsAddress (old new : Option (List ℕ)) : Type 0 where
   pub address : Text
   pub printed : Appends old new (codes "listening " ++ address ++ codes "\n")
 
--- the words call `serve`, and an address was printed
-pub record PrintsListening (words : List Text) (old new : Option (List ℕ)) : Type 0 where
-  pub called : Calls words (codes "serve")
-  pub prints : PrintsAddress old new
+-- the words call `serve`, and the line of an address was printed
+abbrev pub PrintsListening : List Text → Option (List ℕ) → Option (List ℕ) → Type 0
+PrintsListening = Does (codes "serve") (λ options old new. PrintsAddress old new)
 
--- the line of a yes was printed, or the address that was served, or nothing but help or the version
--- was asked for
+-- the line of a yes was printed, or a blob was written, or the digest printed of one that was put,
+-- or the address that was served, or nothing but help or the version was asked for
 abbrev pub IsDone : List Text → Option (List ℕ) → Option (List ℕ) → Type 0
 IsDone words old new =
-    PrintsYes words old new ⊎ PrintsListening words old new ⊎ AsksForHelp words
+    PrintsYes words old new
+    ⊎ (WritesBlob words old new ⊎ (PrintsPut words old new
+    ⊎ (PrintsListening words old new ⊎ AsksForHelp words)))
+
+-- the line of a no was printed, or a server has no such blob
+abbrev pub IsNo : List Text → Option (List ℕ) → Option (List ℕ) → Type 0
+IsNo words old new = PrintsNo words old new ⊎ LacksBlob words old new

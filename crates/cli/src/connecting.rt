@@ -1,3 +1,11 @@
+ghost use Rattle.std.specs.Prelude.{◌≡◌, IfErr, IfOk, codes};
+ghost use Rattle.blob_digest.specs.Digest.{digest_of};
+ghost use Rattle.blob_source.specs.Sink.{HasRight};
+ghost use Rattle.clap.specs.Words.{found_of, rows_of};
+ghost use Rattle.cli.specs.CommandLine.{option_text};
+ghost use Rattle.cli.specs.Status.{status_of};
+ghost use Rattle.remote.specs.Remote.{IsFresh, telling_of};
+
 use crate::error::CliError;
 use crate::options::{option_of, text_of, unlike};
 use blob_digest::Digest;
@@ -40,7 +48,9 @@ fn is_address(text: &str) -> bool {
     }
 }
 
-fn read_host(alloc: Global, address: &str) -> Result<Host<Global>, CliError> {
+fn read_host(alloc: Global, address: &str) -> Result<Host<Global>, CliError>
+    ensures { IfOk result (λ host. host ≡ address.now) }
+{
     let host = Host::read(alloc, address)?;
     match host {
         Some(host) if is_address(address) => Ok(host),
@@ -60,7 +70,9 @@ fn read_timeout(alloc: Global, matches: &ArgMatches<'_>) -> Result<Option<Durati
 }
 
 /// The prefix that the words give.
-pub(crate) fn read_prefix(alloc: Global, matches: &ArgMatches<'_>) -> Result<Prefix<Global>, CliError> {
+pub(crate) fn read_prefix(alloc: Global, matches: &ArgMatches<'_>) -> Result<Prefix<Global>, CliError>
+    ensures { IfOk result (λ prefix. prefix ≡ option_text (rows_of (found_of matches.now)) (codes "prefix")) }
+{
     let text = text_of(matches, "prefix");
     match Prefix::read(alloc, text.as_bytes())? {
         Some(prefix) => Ok(prefix),
@@ -73,7 +85,10 @@ pub(crate) fn read_server<'a>(
     alloc: Global,
     matches: &ArgMatches<'_>,
     address: &'a str,
-) -> Result<Server<'a>, CliError> {
+) -> Result<Server<'a>, CliError>
+    ensures host { IfOk result (λ server. server.host ≡ address.now) }
+    ensures prefix { IfOk result (λ server. server.prefix ≡ option_text (rows_of (found_of matches.now)) (codes "prefix")) }
+{
     let host = read_host(alloc, address)?;
     let timeout = read_timeout(alloc, matches)?;
     let prefix = read_prefix(alloc, matches)?;
@@ -127,7 +142,9 @@ impl<'a, S: Stream + Drop> Client<'a, S> {
         alloc: Global,
         server: &Server<'a>,
         stream: S,
-    ) -> Result<Client<'a, S>, AllocError> {
+    ) -> Result<Client<'a, S>, AllocError>
+        ensures { IfOk result (λ client. IsFresh S.flow stream server.now.host server.now.prefix client.remote) }
+    {
         Ok(Client {
             address: server.address,
             remote: Remote::new(alloc, stream, &server.host, &server.prefix)?,
@@ -137,7 +154,9 @@ impl<'a, S: Stream + Drop> Client<'a, S> {
     }
 
     /// The error of a call that was refused.
-    pub(crate) fn error(&self, alloc: Global, refusal: FetchError) -> Result<CliError, AllocError> {
+    pub(crate) fn error(&self, alloc: Global, refusal: FetchError) -> Result<CliError, AllocError>
+        ensures { IfOk result (λ e. status_of e ≡ 3) }
+    {
         match self.remote.last_fault() {
             Some(fault) if refusal == FetchError::Failed => Ok(CliError::Server {
                 server: String::from_str(alloc, self.address)?,
@@ -150,7 +169,10 @@ impl<'a, S: Stream + Drop> Client<'a, S> {
     }
 
     /// Puts a blob.
-    pub(crate) fn put(&mut self, alloc: Global, bytes: &[u8]) -> Result<Digest, CliError> {
+    pub(crate) fn put(&mut self, alloc: Global, bytes: &[u8]) -> Result<Digest, CliError>
+        ensures named { IfOk result (λ digest. digest ≡ digest_of bytes.now) }
+        ensures held { IfOk result (HasRight (telling_of self.new.remote).blobs) }
+    {
         self.asked = "put of blob";
         self.digest = Digest::of(bytes);
         match self.remote.put_blob(alloc, bytes) {
@@ -182,7 +204,9 @@ impl<'a, S: Stream + Drop> BlobSource<Global> for Client<'a, S> {
 pub(crate) fn open<'a, R: AllocGlobal + Net<Stream = TcpStream>>(
     rt: &R,
     server: &Server<'a>,
-) -> Result<Client<'a, TcpStream>, CliError> {
+) -> Result<Client<'a, TcpStream>, CliError>
+    ensures { IfErr result (λ e. status_of e ≡ 3) }
+{
     match connect(rt, server) {
         Ok(stream) => Ok(Client::new(rt.alloc(), server, stream)?),
         Err(fault) if fault.kind() == ErrorKind::OutOfMemory => Err(CliError::Memory),

@@ -1,3 +1,9 @@
+ghost use Rattle.std.specs.Prelude.{◌≡◌, IfErr, IfOk, Some};
+ghost use Rattle.clap.specs.Words.{found_of, rows_of};
+ghost use Rattle.cli.specs.Got.{Writes};
+ghost use Rattle.cli.specs.Printed.{GetsBlob};
+ghost use Rattle.cli.specs.Status.{status_of};
+
 use crate::connecting::{Client, open, read_server};
 use crate::error::CliError;
 use crate::options::{read_digest, text_of};
@@ -15,7 +21,10 @@ fn write_blob<S: Stream + Drop, O: Write>(
     client: &mut Client<'_, S>,
     digest: &Digest,
     out: &mut O,
-) -> Result<bool, CliError> {
+) -> Result<bool, CliError>
+    ensures answered { IfOk result (Writes digest.now (O.contents out.old) (O.contents out.new)) }
+    ensures fault { IfErr result (λ e. status_of e ≡ 3) }
+{
     match fetch_blob(alloc, client, digest) {
         Ok(Fetched::Missing) => Ok(false),
         Ok(Fetched::Wrong) => Err(CliError::WrongBytes {
@@ -39,6 +48,8 @@ pub(crate) fn run_get<R, O: Write>(
 ) -> Result<bool, CliError>
 where
     R: AllocGlobal + Net<Stream = TcpStream>,
+    ensures answered { IfOk result (GetsBlob (rows_of (found_of matches.now)) (O.contents out.old) (O.contents out.new)) }
+    ensures unprinted { IfErr result (λ fault. status_of fault ≡ 2 → O.contents out.new ≡ O.contents out.old) }
 {
     let server = read_server(rt.alloc(), matches, text_of(matches, "server"))?;
     let digest = read_digest(rt.alloc(), matches, "digest")?;

@@ -1,3 +1,13 @@
+ghost use Rattle.std.specs.Prelude.{◌≡◌, ◌++◌, ◌∷◌, [], IfErr, IfOk, OnOk};
+ghost use Rattle.std.specs.Io.KnownBytes.{Appends};
+ghost use Rattle.blob_digest.specs.Text.{digest_text};
+ghost use Rattle.blob_source.specs.Sink.{HasRight};
+ghost use Rattle.clap.specs.Words.{found_of, rows_of};
+ghost use Rattle.cli.specs.Printed.{PrintsDigest};
+ghost use Rattle.cli.specs.Put.{IsRootOf};
+ghost use Rattle.cli.specs.Status.{status_of};
+ghost use Rattle.remote.specs.Remote.{telling_of};
+
 use crate::connecting::{Client, open, read_server};
 use crate::error::CliError;
 use crate::files::{file_error, read_file};
@@ -99,7 +109,12 @@ fn put_entry<R: Files + AllocGlobal, S: Stream + Drop>(
             Err(fault) => return Err(file_error(rt, place, fault)?),
         };
         let target = Target::new(alloc, target.as_str().as_bytes());
-        let target = lawful(alloc, place, target, "a link to no text of at most 4096 bytes")?;
+        let target = lawful(
+            alloc,
+            place,
+            target,
+            "a link to no text of at most 4096 bytes",
+        )?;
         return Ok(FlatEntry::Link { target });
     }
     let digest = client.put(alloc, &read_file(rt, place)?)?;
@@ -168,13 +183,20 @@ fn put_directories<S: Stream + Drop>(
     alloc: Global,
     client: &mut Client<'_, S>,
     tree: &FlatTree<Global>,
-) -> Result<Digest, CliError> {
+) -> Result<Digest, CliError>
+    ensures root { IfOk result (IsRootOf tree.now) }
+    ensures held { IfOk result (HasRight (telling_of client.new.remote).blobs) }
+{
     let folded = fold(alloc, tree)?;
-    let mut last = folded.root;
-    for directory in folded.directories.iter().rev() {
-        last = client.put(alloc, directory)?;
+    match folded.directories.split_first() {
+        None => Ok(folded.root),
+        Some((root, below)) => {
+            for directory in below.iter().rev() {
+                client.put(alloc, directory)?;
+            }
+            client.put(alloc, root)
+        }
     }
-    Ok(last)
 }
 
 /// Puts a file, or a folder with all below it; gives its digest.
@@ -182,7 +204,9 @@ fn put_path<R: Files + AllocGlobal, S: Stream + Drop>(
     rt: &R,
     client: &mut Client<'_, S>,
     place: &str,
-) -> Result<Digest, CliError> {
+) -> Result<Digest, CliError>
+    ensures held { IfOk result (HasRight (telling_of client.new.remote).blobs) }
+{
     let metadata = match fs::metadata(rt, place) {
         Ok(metadata) => metadata,
         Err(fault) => return Err(file_error(rt, place, fault)?),
@@ -196,7 +220,10 @@ fn put_path<R: Files + AllocGlobal, S: Stream + Drop>(
 }
 
 /// Prints the line of a digest.
-fn print_digest<O: Write>(alloc: Global, digest: &Digest, out: &mut O) -> Result<(), CliError> {
+fn print_digest<O: Write>(alloc: Global, digest: &Digest, out: &mut O) -> Result<(), CliError>
+    ensures printed { OnOk result (Appends (O.contents out.old) (O.contents out.new) (digest_text digest.now ++ 10 ∷ [])) }
+    ensures fault { IfErr result (λ e. status_of e ≡ 3) }
+{
     let mut line = digest.write_text(alloc)?;
     line.push('\n')?;
     out.write_all(line.as_bytes()).map_err(CliError::Output)?;
@@ -212,9 +239,12 @@ pub(crate) fn run_put<R, O: Write>(
 ) -> Result<(), CliError>
 where
     R: AllocGlobal + Files + Net<Stream = TcpStream>,
+    ensures printed { OnOk result (PrintsDigest (rows_of (found_of matches.now)) (O.contents out.old) (O.contents out.new)) }
+    ensures unprinted { IfErr result (λ fault. status_of fault ≡ 2 → O.contents out.new ≡ O.contents out.old) }
 {
     let server = read_server(rt.alloc(), matches, text_of(matches, "server"))?;
     let mut client = open(rt, &server)?;
     let digest = put_path(rt, &mut client, text_of(matches, "path"))?;
-    print_digest(rt.alloc(), &digest, out)
+    print_digest(rt.alloc(), &digest, out)?;
+    Ok(())
 }

@@ -1,7 +1,7 @@
 ghost use Rattle.std.specs.Prelude.{◌≡◌, ◌⊎◌, ◌<◌, Err, IfErr, IfOk, map, string_bytes};
 ghost use Rattle.clap.specs.Words.{kind_of};
 ghost use Rattle.cli.specs.Faults.{IsShownFault};
-ghost use Rattle.cli.specs.Printed.{IsDone, PrintsNo};
+ghost use Rattle.cli.specs.Printed.{IsDone, IsNo};
 ghost use Rattle.cli.specs.Status.{status_of};
 
 use crate::error::CliError;
@@ -33,11 +33,12 @@ where
     R: AllocGlobal + Clock + Files + Log + RandomSource,
     R: Net<Listener = TcpListener, Stream = TcpStream>,
     ensures status { result < 4 }
-    // With status 0, the words ask for help, or the line of their yes went to standard output, or
-    // the address that was served, and nothing else.
+    // With status 0, the words ask for help, or the line of their yes, the blob that they name, the
+    // digest of what they put or the address that was served went to standard output, and nothing
+    // else.
     ensures done { result ≡ 0 → IsDone (map string_bytes words.now) (O.contents out.old) (O.contents out.new) }
-    // With status 1, the line of their no.
-    ensures no { result ≡ 1 → PrintsNo (map string_bytes words.now) (O.contents out.old) (O.contents out.new) }
+    // With status 1, the line of their no, or the blob that they name isn't there.
+    ensures no { result ≡ 1 → IsNo (map string_bytes words.now) (O.contents out.old) (O.contents out.new) }
     // With status 2, nothing was printed.
     ensures unprinted { result ≡ 2 → O.contents out.new ≡ O.contents out.old }
     // With an answer, standard error stays as it was.
@@ -59,7 +60,7 @@ where
     R: AllocGlobal + Clock + Files + Log + RandomSource,
     R: Net<Listener = TcpListener, Stream = TcpStream>,
     ensures done { IfOk result (λ ended. ended ≡ Ended.Done → IsDone (map string_bytes words.now) (O.contents out.old) (O.contents out.new)) }
-    ensures no { IfOk result (λ ended. ended ≡ Ended.No → PrintsNo (map string_bytes words.now) (O.contents out.old) (O.contents out.new)) }
+    ensures no { IfOk result (λ ended. ended ≡ Ended.No → IsNo (map string_bytes words.now) (O.contents out.old) (O.contents out.new)) }
     ensures unprinted { IfErr result (λ fault. status_of fault ≡ 2 → O.contents out.new ≡ O.contents out.old) }
 {
     let matches = match parse(rt.alloc(), words) {

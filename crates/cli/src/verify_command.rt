@@ -1,8 +1,8 @@
-ghost use Rattle.std.specs.Prelude.{◌≡◌, ◌↔◌, IfErr, IfOk, IsTrue, OnOk, codes};
+ghost use Rattle.std.specs.Prelude.{◌≡◌, ◌↔◌, IfErr, IfNone, IfOk, IsTrue, None, OnOk, codes};
 ghost use Rattle.std.specs.Io.KnownBytes.{Appends};
-ghost use Rattle.clap.specs.Words.{found_of, rows_of};
+ghost use Rattle.clap.specs.Words.{found_of, first_of, rows_of};
 ghost use Rattle.cli.specs.Faults.{IsOfFile, IsTextFault};
-ghost use Rattle.cli.specs.Printed.{IsJudged, PrintsVerdict};
+ghost use Rattle.cli.specs.Printed.{IsJudged, NamesPlace, PrintsVerdict};
 ghost use Rattle.cli.specs.Status.{status_of};
 ghost use Rattle.plan.specs.Plan.{IsPlan};
 ghost use Rattle.plan.specs.Record.{IsRecord, Fits};
@@ -71,7 +71,9 @@ fn read_record<R: Files + AllocGlobal>(
 }
 
 /// Where the words say that the recorded build is: a store folder or a server, and not both.
-fn read_place<'a>(alloc: Global, matches: &ArgMatches<'a>) -> Result<Place<'a>, CliError> {
+fn read_place<'a>(alloc: Global, matches: &ArgMatches<'a>) -> Result<Place<'a>, CliError>
+    ensures { OnOk result (NamesPlace (rows_of (found_of matches.now))) }
+{
     let fault = match (option_of(matches, "store"), option_of(matches, "server")) {
         (Some(folder), None) => match remote_option(matches) {
             None => return Ok(Place::Folder(folder)),
@@ -87,7 +89,10 @@ fn read_place<'a>(alloc: Global, matches: &ArgMatches<'a>) -> Result<Place<'a>, 
 }
 
 /// An option that says something of a server.
-fn remote_option(matches: &ArgMatches<'_>) -> Option<&'static str> {
+fn remote_option(matches: &ArgMatches<'_>) -> Option<&'static str>
+    ensures prefix { IfNone result (first_of (codes "prefix") (rows_of (found_of matches.now)) ≡ None) }
+    ensures timeout { IfNone result (first_of (codes "timeout") (rows_of (found_of matches.now)) ≡ None) }
+{
     if option_of(matches, "prefix").is_some() {
         return Some("prefix");
     }
@@ -135,6 +140,24 @@ fn judge_server<R: AllocGlobal + Net<Stream = TcpStream>>(
     }
 }
 
+/// The verdict over the place where the recorded build is.
+fn judge<R: AllocGlobal + Files + Net<Stream = TcpStream>>(
+    rt: &R,
+    place: &Place<'_>,
+    sources: &Digest,
+    plan: &Plan<Global>,
+    noted: &Record<Global>,
+    claim: &Digest,
+) -> Result<Verdict<Global>, CliError>
+    requires { Fits noted.now plan.now }
+    ensures judged { IfOk result (IsJudged sources.now plan.now noted.now.digests claim.now) }
+{
+    match place {
+        Place::Folder(folder) => judge_folder(rt, folder, sources, plan, noted, claim),
+        Place::Server(server) => judge_server(rt, server, sources, plan, noted, claim),
+    }
+}
+
 /// Prints the verdict's line.
 fn print_verdict<O: Write>(
     alloc: Global,
@@ -169,10 +192,7 @@ where
     let claim = read_digest(rt.alloc(), matches, "claim")?;
     let plan = read_plan(rt, text_of(matches, "plan"))?;
     let noted = read_record(rt, text_of(matches, "record"), &plan)?;
-    let verdict = match place {
-        Place::Folder(folder) => judge_folder(rt, folder, &sources, &plan, &noted, &claim)?,
-        Place::Server(server) => judge_server(rt, &server, &sources, &plan, &noted, &claim)?,
-    };
+    let verdict = judge(rt, &place, &sources, &plan, &noted, &claim)?;
     print_verdict(rt.alloc(), &verdict, out)?;
     Ok(is_yes(&verdict))
 }

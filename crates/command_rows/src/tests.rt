@@ -26,7 +26,7 @@ fn run(rt: &HostRuntime, line: &str) -> Result<(u8, String, String), Fail> {
 }
 
 /// Command lines with the files of this test, and their status, output and error line.
-const ROWS: [(&str, u8, &str, &str); 18] = [
+const ROWS: [(&str, u8, &str, &str); 26] = [
     (
         "verify --store s --sources EMPTY --plan plan --record record --claim EMPTY",
         0,
@@ -52,16 +52,64 @@ const ROWS: [(&str, u8, &str, &str); 18] = [
         "error: unexpected argument 'word' found",
     ),
     (
-        "verify --server a:1 --sources EMPTY --plan plan --record record --claim EMPTY",
+        "verify --sources EMPTY --plan none --record none --claim x",
         2,
         "",
-        "error: unexpected argument '--server' found",
+        "error: --store or --server is wanted",
+    ),
+    (
+        "verify --server a --store s --sources EMPTY --plan none --record none --claim x",
+        2,
+        "",
+        "error: --store and --server exclude each other",
+    ),
+    (
+        "verify --store s --prefix /p --sources EMPTY --plan none --record none --claim x",
+        2,
+        "",
+        "error: --prefix goes with --server alone",
+    ),
+    (
+        "verify --store s --timeout 1 --sources EMPTY --plan none --record none --claim x",
+        2,
+        "",
+        "error: --timeout goes with --server alone",
+    ),
+    (
+        "get --server a --timeout x --prefix p x",
+        2,
+        "",
+        "error: --server: HOST:PORT is wanted, not \"a\"",
+    ),
+    (
+        "get --server a:1 --timeout +1 --prefix p x",
+        2,
+        "",
+        "error: --timeout: a number of seconds is wanted, not \"+1\"",
+    ),
+    (
+        "get --server a:1 --timeout 1 --prefix p x",
+        2,
+        "",
+        "error: --prefix: /SEGMENT or more of them is wanted, not \"p\"",
+    ),
+    (
+        "get --server a:1 --prefix /p x",
+        2,
+        "",
+        "error: --digest: a digest begins with 64 lower-case hex digits and a slash, not \"x\"",
+    ),
+    (
+        "put --server 127.0.0.1:1 plan",
+        3,
+        "",
+        "error: 127.0.0.1:1: Connection refused (os error 111)",
     ),
     (
         "serve --listen a:1",
         2,
         "",
-        "error: unrecognized subcommand 'serve'",
+        "error: the following required arguments were not provided: --connections <N> --limit <BYTES> --result-limit <BYTES>",
     ),
     (
         "verify --store s --sources x --plan none --record none --claim y",

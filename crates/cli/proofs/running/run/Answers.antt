@@ -16,4 +16,4 @@ returns-in-Some-verify-default-clause-no g c =
     let words = map string_bytes c.args.words.now in
     let called : Calls words (codes "verify") = record { faultless = c.in-Ok.ensures.fails; command_is = search rules } in
     let rows = options_found (subcommand_rows_of c.in-Ok.matches) (subcommand_of program_line words) _ c.in-Ok.ensures.called c.in-Some-verify-default.ensures.rows in
-    λ _. no_printed words called rows c.in_ok-run_verify-in-Some-verify-default.ensures.printed c.if-branch.false
+    λ _. inl (no_printed words called rows c.in_ok-run_verify-in-Some-verify-default.ensures.printed c.if-branch.false)

@@ -9,6 +9,7 @@ returns-clause-printed g c = (
     plan = c.in_ok-plan.plan;
     noted = c.in_ok-noted.noted;
     verdict = c.in_ok-verdict.verdict;
+    place = c.in_ok-place.ensures;
     sources_spelled = c.in_ok-sources.ensures.found;
     claim_spelled = c.in_ok-claim.ensures.found;
     plan_lawful = c.in_ok-plan.ensures.found;

@@ -1,0 +1,12 @@
+-- What the digest of a folder that was put is.
+use Rattle.std.specs.Prelude.{◌≡◌}
+use Rattle.blob_digest.specs.Digest.{DigestValue}
+use Rattle.tree.specs.FlatTree.{FlatValue, IsListOf}
+use Rattle.tree.specs.Form.{NodeValue, root}
+use Rattle.tree.specs.Tree.{Tree}
+
+-- the digest of the tree whose list the entries are
+pub record IsRootOf (entries : FlatValue) (digest : DigestValue) : Type 0 where
+  pub tree : Tree NodeValue
+  pub list : IsListOf entries tree
+  pub is : digest ≡ root tree
