@@ -9,9 +9,9 @@ use crate::serve_command::run_serve;
 use crate::verify_command::run_verify;
 use crate::words::parse;
 use clap::error::{Error, ErrorKind};
+use log::Log;
 use std::alloc::{AllocError, Global};
 use std::io::Write;
-use log::Log;
 use std::net::{Net, TcpListener, TcpStream};
 use std::random::RandomSource;
 use std::rt::Files;
@@ -28,7 +28,12 @@ enum Ended {
 /// texts that they name are at fault, 3 where a file, the output or memory is.
 pub fn run_words<R, O: Write, E: Write>(rt: &R, words: &[String], out: &mut O, err: &mut E) -> u8
 where
-    R: AllocGlobal + Clock + Files + Log + Net<Listener = TcpListener, Stream = TcpStream> + RandomSource,
+    R: AllocGlobal
+        + Clock
+        + Files
+        + Log
+        + Net<Listener = TcpListener, Stream = TcpStream>
+        + RandomSource,
     ensures status { result < 4 }
     // With status 0, the words ask for help, or the line of their yes went to standard output, or
     // the address that was served, and nothing else.
@@ -53,7 +58,12 @@ where
 
 fn run<R, O: Write>(rt: &R, words: &[String], out: &mut O) -> Result<Ended, CliError>
 where
-    R: AllocGlobal + Clock + Files + Log + Net<Listener = TcpListener, Stream = TcpStream> + RandomSource,
+    R: AllocGlobal
+        + Clock
+        + Files
+        + Log
+        + Net<Listener = TcpListener, Stream = TcpStream>
+        + RandomSource,
     ensures done { IfOk result (λ ended. ended ≡ Ended.Done → IsDone (map string_bytes words.now) (O.contents out.old) (O.contents out.new)) }
     ensures no { IfOk result (λ ended. ended ≡ Ended.No → PrintsNo (map string_bytes words.now) (O.contents out.old) (O.contents out.new)) }
     ensures unprinted { IfErr result (λ fault. status_of fault ≡ 2 → O.contents out.new ≡ O.contents out.old) }

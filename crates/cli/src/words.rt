@@ -86,14 +86,24 @@ fn serve_command<'a>(alloc: Global) -> Result<Command<'a>, AllocError>
             "N",
             "How many connections are served, one after another",
         ))?
-        .arg(required(alloc, "limit", "BYTES", "The most bytes of blobs that are held"))?
+        .arg(required(
+            alloc,
+            "limit",
+            "BYTES",
+            "The most bytes of blobs that are held",
+        ))?
         .arg(required(
             alloc,
             "result-limit",
             "BYTES",
             "The most bytes of results that are held, each counted with 64 more",
         ))?
-        .arg(optional(alloc, "prefix", "P", "What stands before each target, as /x"))?
+        .arg(optional(
+            alloc,
+            "prefix",
+            "P",
+            "What stands before each target, as /x",
+        ))?
         .arg(optional(
             alloc,
             "idle",

@@ -20,5 +20,7 @@ returns c =
     let wanting : app_of c.subcommand_required.result ≡ on_top (λ s. record s { has_version = true; no_binary_name = true; subcommand_required = true }) (new_app (codes "buildcache")) =
     ap app_of_fields c.subcommand_required.ensures ∙ ap (on_top (λ s. record s { subcommand_required = true })) told in
     let above = ap app_of_fields c.disable_help_subcommand.ensures ∙ ap (on_top (λ s. record s { disable_help_subcommand = true })) wanting in
-    IfOk-weaker c.subcommand.result _ _
-    (λ r h. h.shape (third_holds _ _ _ _ (ap (λ (a : App). a.top.is_plain) inner)) ∙ ap₂ with_subcommand above (ap (λ (a : App). a.top) inner)) c.subcommand.ensures
+    let one = c.in_ok-subcommand.ensures.shape (third_holds _ _ _ _ (ap (λ (a : App). a.top.is_plain) inner)) ∙ ap₂ with_subcommand above (ap (λ (a : App). a.top) inner) in
+    let other = c.in_ok-serve_command.ensures in
+    IfOk-weaker c.subcommand-2.result _ _
+    (λ r h. h.shape (third_holds _ _ _ _ (ap (λ (a : App). a.top.is_plain) other)) ∙ ap₂ with_subcommand one (ap (λ (a : App). a.top) other)) c.subcommand-2.ensures
