@@ -69,7 +69,13 @@ fn read_asked(alloc: Global, matches: &ArgMatches<'_>) -> Result<Asked, CliError
     let result_limit = read_number(alloc, matches, "result-limit", GREATEST_LIMIT)?;
     let idle = read_idle(alloc, matches)?;
     let prefix = read_prefix(alloc, matches)?;
-    Ok(Asked { connections, limit, result_limit, idle, prefix })
+    Ok(Asked {
+        connections,
+        limit,
+        result_limit,
+        idle,
+        prefix,
+    })
 }
 
 /// Listens at the address.
@@ -132,6 +138,13 @@ where
         0 => None,
         seconds => Some(Duration::from_secs(seconds)),
     };
-    serve(rt, &listener, asked.connections, idle, &mut cache, &asked.prefix);
+    serve(
+        rt,
+        &listener,
+        asked.connections,
+        idle,
+        &mut cache,
+        &asked.prefix,
+    );
     Ok(())
 }

@@ -1,5 +1,5 @@
 -- One stream more.
-use Rattle.std.proofs.Common.{◌≡◌, ℕ, ◌+◌, ◌≤◌, ◌⊎◌, inl, inr, List, [], ◌∷◌, ◌++◌, length, refl, sym, ◌∙◌, subst, arith}
+use Rattle.std.proofs.Common.{◌≡◌, ℕ, ◌+◌, ◌≤◌, inl, inr, List, [], ◌∷◌, ◌++◌, length, refl, sym, subst, arith}
 use Rattle.std.proofs.lemmas.List.{length-append}
 use Rattle.cache_server.specs.Cache.{CacheValue}
 use Rattle.service.specs.Streams.{ServesStream, ServesOne, ServesStreams, ServesUpTo}

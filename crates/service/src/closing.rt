@@ -7,6 +7,7 @@ const LAST_READS: u32 = 1024;
 
 /// How many seconds they last at most, and how many one of them waits.
 const LAST_SECONDS: u64 = 10;
+
 const LAST_WAIT: u64 = 2;
 
 /// Ends the writing side, and drops what still comes, for a while: a client that is still sending

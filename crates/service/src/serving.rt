@@ -65,12 +65,20 @@ fn serve_one<R: AllocGlobal + Clock>(
     let sender = Metered { stream, bytes: 0 };
     let mut writer = match BufWriter::with_capacity(rt.alloc(), GATHERED, sender) {
         Ok(writer) => writer,
-        Err(_) => return Ended { end: Err(ConnError::Memory), read: 0, written: 0 },
+        Err(_) => return Ended {
+            end: Err(ConnError::Memory),
+            read: 0,
+            written: 0,
+        },
     };
     let end = run(rt.alloc(), &mut reader, &mut writer, cache, prefix);
     let (sender, _unsent) = writer.into_parts();
     if end.is_ok() {
         close(rt, stream);
     }
-    Ended { end, read: reader.bytes, written: sender.bytes }
+    Ended {
+        end,
+        read: reader.bytes,
+        written: sender.bytes,
+    }
 }

@@ -1,4 +1,4 @@
-use Rattle.std.proofs.Common.{◌≡◌, ◌+◌, ◌⊎◌, inl, inr, subst, arith}
+use Rattle.std.proofs.Common.{◌≡◌, ◌+◌, inl, subst, arith}
 use Rattle.service.specs.Streams.{ServesOne}
 use Rattle.service.proofs.Streams.{up_to_more}
 use Rattle.service.proofs.serving.serve.Goals as goal
