@@ -1,0 +1,49 @@
+#!/usr/bin/env bash
+# Builds the workspace examples/bazel with a real Bazel against `serve`: once to fill the cache, and then from clean
+# output, where every cacheable action has to be a hit: over one connection straight, and with Bazel's own settings
+# behind nginx with deploy/nginx.conf. With the variable BUILDCACHE it runs that program instead of ./buildcache; BAZEL is
+# how Bazel is called. It uses the ports 8080 and 8081.
+set -euo pipefail
+top=$(cd "$(dirname "${BASH_SOURCE[0]}")/.." && pwd)
+program=${BUILDCACHE:-$top/buildcache}
+work=$(mktemp -d)
+server='' front=''
+finish() {
+  (cd "$work/ws" && command ${BAZEL:-bazel} --output_user_root="$work/bazel" shutdown) || true
+  [ -z "$front" ] || nginx -c "$top/deploy/nginx.conf" -s stop || true
+  [ -z "$server" ] || kill "$server" || true
+  chmod -R u+w "$work" && rm -rf "$work"
+}
+trap finish EXIT
+cp -r "$top/examples/bazel" "$work/ws"
+bazel() { (cd "$work/ws" && command ${BAZEL:-bazel} --output_user_root="$work/bazel" "$@"); }
+
+# Builds from clean output, and prints Bazel's line on what its processes were.
+build() {
+  bazel clean >"$work/out" 2>&1
+  bazel build "$@" //... >"$work/out" 2>&1 || { cat "$work/out"; exit 1; }
+  grep -o '[0-9]* processes: .*' "$work/out"
+}
+expect_hits() {
+  local line
+  line=$(build "$@")
+  echo "$line"
+  [[ $line =~ ^([0-9]+)\ processes:\ ([0-9]+)\ remote\ cache\ hit,\ ([0-9]+)\ internal\.$ ]] \
+    || { echo "bazel_cache: something was run again" >&2; exit 1; }
+}
+
+"$program" serve --listen 127.0.0.1:8080 --connections 9223372036854775807 --limit 1073741824 --result-limit 67108864 \
+  >"$work/listening" 2>"$work/log" &
+server=$!
+until [ -s "$work/listening" ]; do sleep 0.2; done
+
+echo "== over one connection"
+straight=(--remote_cache=http://127.0.0.1:8080 --remote_max_connections=1)
+build "${straight[@]}"
+expect_hits "${straight[@]}"
+
+echo "== behind nginx"
+nginx -c "$top/deploy/nginx.conf"
+front=1
+expect_hits --remote_cache=http://127.0.0.1:8081
+tail -n 1 "$work/log"
