@@ -58,10 +58,10 @@ const ROWS: [(&str, u8, &str, &str); 18] = [
         "error: unexpected argument '--server' found",
     ),
     (
-        "serve --listen a:1",
+        "get --server a:1",
         2,
         "",
-        "error: unrecognized subcommand 'serve'",
+        "error: unrecognized subcommand 'get'",
     ),
     (
         "verify --store s --sources x --plan none --record none --claim y",
