@@ -59,7 +59,8 @@ class Client:
         head, _, body = head.partition(b"\r\n\r\n")
         if not any(head.startswith(b"HTTP/1.1 %d" % it) for it in statuses):
             raise SystemExit(f"serve_speed: {head.decode()}")
-        left = int(next(it for it in head.lower().split(b"\r\n") if it.startswith(b"content-length:"))[15:]) - len(body)
+        lengths = [it[15:] for it in head.lower().split(b"\r\n") if it.startswith(b"content-length:")]
+        left = int(lengths[0] if lengths else 0) - len(body)
         while left:
             left -= self.socket.recv_into(self.buffer, min(left, len(self.buffer)))
 
