@@ -70,7 +70,10 @@ fn read_timeout(alloc: Global, matches: &ArgMatches<'_>) -> Result<Option<Durati
 }
 
 /// The prefix that the words give.
-pub(crate) fn read_prefix(alloc: Global, matches: &ArgMatches<'_>) -> Result<Prefix<Global>, CliError>
+pub(crate) fn read_prefix(
+    alloc: Global,
+    matches: &ArgMatches<'_>,
+) -> Result<Prefix<Global>, CliError>
     ensures { IfOk result (λ prefix. prefix ≡ option_text (rows_of (found_of matches.now)) (codes "prefix")) }
 {
     let text = text_of(matches, "prefix");
