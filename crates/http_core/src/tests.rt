@@ -292,6 +292,7 @@ fn texts_of_answers(rt: HostRuntime) -> Result<(), Fail> {
             refused = refused.saturating_add(1);
         }
     }
-    assert!(rt; refused >= 42, "{refused}");
+    // Each answer asks for memory.
+    assert!(rt; refused >= 14, "{refused}");
     Ok(())
 }
