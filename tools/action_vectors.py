@@ -359,10 +359,6 @@ def pieces(data):
     return ", ".join(found)
 
 
-# At most so many rows in a table: the checker's work grows faster than their number.
-MOST = 14
-
-
 def again(data):
     """What protobuf reads, written without the fields that are skipped, each list in order."""
     read = ActionResult.FromString(data)
@@ -384,12 +380,11 @@ def row(kind, message, refusal):
 
 
 kinds = sys.argv[1:]
-tables = [(kind, [row(*r) for r in ROWS if r[0] == kind]) for kind in kinds]
-text = "\n".join(line for _, rows in tables for line in rows)
+rows = [row(*r) for kind in kinds for r in ROWS if r[0] == kind]
+text = "\n".join(rows)
 names = [name for name in HASHES.values() if f" {name}" in text or f"[{name}" in text]
-types = {"Reading" if kind == "Result" else "Row" for kind in kinds}
-if "Row" in types:
-    types.add("Kind")
+table, row_type = ("RESULTS", "Reading") if kinds == ["Result"] else ("STEPS", "Row")
+types = [row_type] if row_type == "Reading" else [row_type, "Kind"]
 print(f"use super::{{{', '.join(sorted([*names, *types]))}}};")
 if "DigestError" in text:
     print("use blob_digest::DigestError;")
@@ -397,15 +392,11 @@ if "CanonError" in text:
     print("use canonical::CanonError;")
 print("use messages::MessageError;")
 print()
-if "Row" in types:
+if row_type == "Row":
     print("// The pieces of messages as protobuf encodes them, and their length or the refusal.")
 else:
     print("// The pieces of results, and those of what protobuf reads and writes again, or the refusal.")
 print("// tools/action_vectors.py prints this file.")
-for kind, rows in tables:
-    for number, start in enumerate(range(0, len(rows), MOST), 1):
-        table = rows[start : start + MOST]
-        row_type = "Reading" if kind == "Result" else "Row"
-        print(f"\npub const {kind.upper()}_{number}: [{row_type}; {len(table)}] = [")
-        print("\n".join(table))
-        print("];")
+print(f"\npub static {table}: [{row_type}; {len(rows)}] = [")
+print(text)
+print("];")

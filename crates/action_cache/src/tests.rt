@@ -20,9 +20,9 @@ const TREE: &[&[u8]] = &[
 ];
 
 /// Hashes under which results are put.
-const FIRST: [u8; 32] = [0; 32];
+static FIRST: [u8; 32] = [0; 32];
 
-const SECOND: [u8; 32] = [1; 32];
+static SECOND: [u8; 32] = [1; 32];
 
 fn joined<A: Allocator>(alloc: A, pieces: &[&[u8]]) -> Result<Vec<u8, A>, AllocError> {
     let mut out = Vec::new(alloc);

@@ -4,7 +4,7 @@ use std::alloc::{AllocError, Allocator};
 use std::test::Fail;
 
 /// The hashes of FIPS 180-4's examples and of three short blobs, as `sha256sum` prints them.
-const VECTORS: [(&[u8], &str); 5] = [
+static VECTORS: [(&[u8], &str); 5] = [
     (
         b"abc",
         "ba7816bf8f01cfea414140de5dae2223b00361a396177a9cb410ff61f20015ad/3",
@@ -28,7 +28,7 @@ const VECTORS: [(&[u8], &str); 5] = [
 ];
 
 /// What stands behind the hash of 123456789, and how the text is read.
-const TAILS: [(&str, Result<u64, DigestError>); 16] = [
+static TAILS: [(&str, Result<u64, DigestError>); 16] = [
     ("/9", Ok(9)),
     ("/0", Ok(0)),
     ("/10", Ok(10)),

@@ -26,7 +26,7 @@ fn run(rt: &HostRuntime, line: &str) -> Result<(u8, String, String), Fail> {
 }
 
 /// Command lines with the files of this test, and their status, output and error line.
-const ROWS: [(&str, u8, &str, &str); 26] = [
+static ROWS: [(&str, u8, &str, &str); 26] = [
     (
         "verify --store s --sources EMPTY --plan plan --record record --claim EMPTY",
         0,
@@ -260,7 +260,7 @@ const SOURCES: &str = "a8ad7cf07ab5ff95d41832e5f811cf591228eeb51d4886871a776a822
 const RENAMED: &str = "12a591c584381d21aef30a8f51dd0c0d9483a8a644eb6dd376286377983baee2";
 
 /// Plans with a store folder each, and their status, output and error line.
-const STORES: [(&str, &str, u8, &str, &str); 9] = [
+static STORES: [(&str, &str, u8, &str, &str); 9] = [
     ("store", "renames", 0, "yes RENAMED/75 steps 0\n", ""),
     (
         "store",

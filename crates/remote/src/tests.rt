@@ -97,7 +97,7 @@ fn ask_all<S: Stream + Drop, A: Allocator + Copy>(
     Ok([blob, same, none, none_again, put_blob, put_result])
 }
 
-const ANSWERS: [Option<usize>; 6] = [Some(9), Some(9), None, None, Some(1), Some(6)];
+static ANSWERS: [Option<usize>; 6] = [Some(9), Some(9), None, None, Some(1), Some(6)];
 
 /// Whether a further request is refused since the connection is closed.
 fn is_broken<S: Stream + Drop, A: Allocator + Copy>(alloc: A, remote: &mut Remote<S, A>) -> bool {
@@ -164,7 +164,7 @@ fn each_call_of_the_stream_fails(rt: HostRuntime) -> Result<(), Fail> {
 }
 
 /// What comes for two blobs that are fetched one after another: their lengths, or the faults.
-const FETCHES: [(
+static FETCHES: [(
     &[u8],
     Result<Option<usize>, Fault>,
     Result<Option<usize>, Fault>,
@@ -277,7 +277,7 @@ fn answers_and_faults_of_fetches(rt: HostRuntime) -> Result<(), Fail> {
 }
 
 /// What comes for a blob that is put, and the fault.
-const PUTS: [(&[u8], Option<Fault>); 8] = [
+static PUTS: [(&[u8], Option<Fault>); 8] = [
     (b"HTTP/1.1 200 OK\r\nContent-Length: 0\r\n\r\n", None),
     (b"HTTP/1.1 201 Created\r\nContent-Length: 0\r\n\r\n", None),
     (b"HTTP/1.1 202 Accepted\r\nContent-Length: 1\r\n\r\na", None),

@@ -11,7 +11,7 @@ use verifier::{Cause, Place, Verdict};
 const NINE: &str = "15e2b0d3c33891ebb0f1ef609ec419420c20e320ce94c65fbc8c3312448eb225/9";
 
 /// What is said of a step behind `no step gen-2_a cause `, as docs/FORMATS.md spells it.
-const CAUSES: [&str; 17] = [
+static CAUSES: [&str; 17] = [
     "blob-missing NINE",
     "blob-wrong NINE",
     "blob-malformed NINE",

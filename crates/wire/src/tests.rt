@@ -4,7 +4,7 @@ use std::alloc::{AllocError, Allocator};
 use std::test::*;
 
 /// The least and the greatest number of each length, as another encoder of the format writes them.
-const VARINTS: [(u64, &[u8]); 20] = [
+static VARINTS: [(u64, &[u8]); 20] = [
     (0, b"\x00"),
     (127, b"\x7f"),
     (128, b"\x80\x01"),

@@ -3,7 +3,7 @@ use std::fs;
 use std::test::Fail;
 
 /// Plans behind their first line, and the error line of each.
-const PLANS: [(&str, &str); 7] = [
+static PLANS: [(&str, &str); 7] = [
     (
         "step a EMPTY\nin x src y\nin x/z src y\nroot\n",
         "line 4: the target is an earlier line's target, or lies under or above it",

@@ -4,7 +4,7 @@ use std::fs;
 use std::test::Fail;
 
 /// What stands for the hash of each blob below, by Python's `hashlib`.
-const NAMES: [(&str, &str); 17] = [
+static NAMES: [(&str, &str); 17] = [
     (
         "NOTHING",
         "e3b0c44298fc1c149afbf4c8996fb92427ae41e4649b934ca495991b7852b855",
@@ -77,7 +77,7 @@ const NAMES: [(&str, &str); 17] = [
 
 /// The blobs of a build of two steps, the second of which reads what the first made, and of what
 /// the rows below change in it, as protobuf spells them.
-const BLOBS: [(&str, &str); 16] = [
+static BLOBS: [(&str, &str); 16] = [
     ("NINE", "123456789"),
     ("NEWLINE", "\x0a"),
     (
@@ -124,7 +124,7 @@ const BLOBS: [(&str, &str); 16] = [
 ];
 
 /// The results of its actions: a directory `out` with the file `a`, and a file `res`.
-const RESULTS: [(&str, &str); 3] = [
+static RESULTS: [(&str, &str); 3] = [
     (
         "GEN_ACTION",
         "\x1a\x4b\x0a\x03out\x1a\x44\x0a\x40TREE\x10\x4d",
@@ -163,7 +163,7 @@ enum Change {
 }
 
 /// Changes, and the status and the line of the build.
-const ROWS: [(Change, u8, &str); 21] = [
+static ROWS: [(Change, u8, &str); 21] = [
     (Change::Nothing, 0, "yes CLAIM/80 steps 2\n"),
     (
         Change::Holds(

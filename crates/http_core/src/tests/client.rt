@@ -6,7 +6,7 @@ use std::alloc::{AllocError, Allocator};
 use std::test::Fail;
 
 /// The prefix, area, body and host of a request for the hash of `123456789`, and its text.
-const REQUESTS: [(&[u8], Area, Option<&[u8]>, &str, &[u8]); 4] = [
+static REQUESTS: [(&[u8], Area, Option<&[u8]>, &str, &[u8]); 4] = [
     (
         b"",
         Area::Cas,
@@ -38,7 +38,7 @@ const REQUESTS: [(&[u8], Area, Option<&[u8]>, &str, &[u8]); 4] = [
 ];
 
 /// Whether a `Host` field may hold the text.
-const HOSTS: [(&str, bool); 12] = [
+static HOSTS: [(&str, bool); 12] = [
     ("cache.example:8080", true),
     ("127.0.0.1", true),
     ("[2001:db8::1]:80", true),
@@ -55,7 +55,7 @@ const HOSTS: [(&str, bool); 12] = [
 
 /// The block of a reply, and what its head says: the status, the length of the body and whether the
 /// connection closes.
-const HEADS: [(&[u8], Option<(u16, u64, bool)>); 29] = [
+static HEADS: [(&[u8], Option<(u16, u64, bool)>); 29] = [
     (
         b"HTTP/1.1 200 OK\r\nContent-Length: 9\r\n\r\n",
         Some((200, 9, false)),

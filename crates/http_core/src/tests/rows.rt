@@ -1,6 +1,6 @@
 /// A stream, where each `@` stands for a hash, and its events: what is asked and how many bytes are
 /// put, or the status.
-pub const ROWS: [(&[u8], &[u8]); 62] = [
+pub static ROWS: [(&[u8], &[u8]); 62] = [
     // Requests one behind another.
     (b"", b""),
     (
@@ -196,7 +196,7 @@ pub const ROWS: [(&[u8], &[u8]); 62] = [
 ];
 
 /// A prefix, and whether it is lawful.
-pub const PREFIXES: [(&[u8], bool); 12] = [
+pub static PREFIXES: [(&[u8], bool); 12] = [
     (b"", true),
     (b"/x", true),
     (b"/a/b", true),
@@ -212,7 +212,7 @@ pub const PREFIXES: [(&[u8], bool); 12] = [
 ];
 
 /// A status, a body, whether the session closes, and the text.
-pub const ANSWERS: [(u16, &[u8], bool, &[u8]); 14] = [
+pub static ANSWERS: [(u16, &[u8], bool, &[u8]); 14] = [
     (
         200,
         b"123456789",

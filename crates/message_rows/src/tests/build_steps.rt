@@ -8,7 +8,7 @@ use messages::{MessageError, Path, Target};
 use refusing::Refusing;
 use std::alloc::{AllocError, Allocator};
 use std::test::Fail;
-use steps::*;
+use steps::STEPS;
 
 /// The hashes of the bytes `123456789`, of one newline and of no bytes, as `sha256sum` prints them.
 pub const NINE: &[u8] = b"15e2b0d3c33891ebb0f1ef609ec419420c20e320ce94c65fbc8c3312448eb225";
@@ -76,40 +76,8 @@ fn requests_of<A: Allocator + Copy>(alloc: A, row: Row) -> Result<u64, MessageEr
 }
 
 #[test]
-fn platform_1(rt: HostRuntime) -> Result<(), Fail> {
-    for row in PLATFORM_1 {
-        assert!(rt; requests_of(rt.alloc(), row).is_ok(), "{row:?}");
-    }
-    Ok(())
-}
-
-#[test]
-fn command_1(rt: HostRuntime) -> Result<(), Fail> {
-    for row in COMMAND_1 {
-        assert!(rt; requests_of(rt.alloc(), row).is_ok(), "{row:?}");
-    }
-    Ok(())
-}
-
-#[test]
-fn command_2(rt: HostRuntime) -> Result<(), Fail> {
-    for row in COMMAND_2 {
-        assert!(rt; requests_of(rt.alloc(), row).is_ok(), "{row:?}");
-    }
-    Ok(())
-}
-
-#[test]
-fn frame_1(rt: HostRuntime) -> Result<(), Fail> {
-    for row in FRAME_1 {
-        assert!(rt; requests_of(rt.alloc(), row).is_ok(), "{row:?}");
-    }
-    Ok(())
-}
-
-#[test]
-fn action_1(rt: HostRuntime) -> Result<(), Fail> {
-    for row in ACTION_1 {
+fn messages_of_steps(rt: HostRuntime) -> Result<(), Fail> {
+    for row in STEPS {
         assert!(rt; requests_of(rt.alloc(), row).is_ok(), "{row:?}");
     }
     Ok(())
@@ -192,7 +160,7 @@ fn makes<A: Allocator + Copy>(alloc: A, made: Made, bytes: &[u8]) -> Result<usiz
     }
 }
 
-const MADE: [(Made, &[&[u8]]); 3] = [
+static MADE: [(Made, &[&[u8]]); 3] = [
     (
         Made::Command,
         &[b"\x0a\x09/bin/true\x12\x03\x0a\x01A\x32\x01w\x3a\x03out"],

@@ -27,7 +27,7 @@ enum Kind {
 type Row = (Kind, &'static [&'static [u8]], Result<usize, MessageError>);
 
 /// The pieces of a message, and its length or the refusal, as protoc encodes them.
-const ROWS: [Row; 33] = [
+static ROWS: [Row; 33] = [
     (Kind::Directory, &[], Ok(0)),
     (
         Kind::Directory,
@@ -321,7 +321,7 @@ fn has_child<A: Allocator + Copy>(alloc: A, name: &[u8]) -> Result<bool, Message
     Ok(is_child(name, &node))
 }
 
-const CHILDREN: [&[u8]; 4] = [b"f", b"d", b"l", b"x"];
+static CHILDREN: [&[u8]; 4] = [b"f", b"d", b"l", b"x"];
 
 #[test]
 fn children_by_name(rt: HostRuntime) -> Result<(), Fail> {

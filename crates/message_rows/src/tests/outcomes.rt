@@ -238,7 +238,7 @@ fn added<A: Allocator + Copy>(
     }
 }
 
-const ADDED: [(&[u8], u8); 9] = [
+static ADDED: [(&[u8], u8); 9] = [
     (b"a/b", 0),
     (b"a!x", 0),
     (b"a", 45),
@@ -251,7 +251,7 @@ const ADDED: [(&[u8], u8); 9] = [
 ];
 
 /// The paths in the order of their texts.
-const ORDER: [&[u8]; 5] = [b"a!x", b"a-b", b"a/b", b"a/c", b"b"];
+static ORDER: [&[u8]; 5] = [b"a!x", b"a-b", b"a/b", b"a/c", b"b"];
 
 fn filled<A: Allocator + Copy>(alloc: A) -> Result<Outcome<A>, Broken> {
     let mut outcome = Outcome::new(alloc, 0);

@@ -7,7 +7,7 @@ use std::alloc::Allocator;
 use std::test::Fail;
 
 /// Texts, and the line and the fault that refuse them.
-const PLANS: [(&str, Option<(u64, Fault)>); 45] = [
+static PLANS: [(&str, Option<(u64, Fault)>); 45] = [
     ("buildplan 1\nroot\n", None),
     ("buildplan 1\nroot\nin b src a\nin a src .\n", None),
     (
@@ -214,7 +214,7 @@ fn steps_by_number(rt: HostRuntime) -> Result<(), Fail> {
 }
 
 /// Texts, and whether they are names of steps.
-const NAMES: [(&str, bool); 8] = [
+static NAMES: [(&str, bool); 8] = [
     ("a", true),
     ("root", true),
     ("a-z_09", true),

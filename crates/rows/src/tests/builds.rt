@@ -12,7 +12,7 @@ use std::test::Fail;
 use tree::{BlobSource, MemorySource, TreeError};
 
 /// What stands for the hash of each blob below, by Python's `hashlib`.
-const NAMES: [(&str, &str); 14] = [
+static NAMES: [(&str, &str); 14] = [
     (
         "NOTHING",
         "e3b0c44298fc1c149afbf4c8996fb92427ae41e4649b934ca495991b7852b855",
@@ -73,7 +73,7 @@ const NAMES: [(&str, &str); 14] = [
 
 /// The frames and the commands of a build of two steps, the second of which reads what the first
 /// makes, a frame whose result isn't to be kept, and a blob that is no message.
-const BLOBS: [(&str, &str); 6] = [
+static BLOBS: [(&str, &str); 6] = [
     ("NINE/9", "123456789"),
     ("GEN_COMMAND/16", "\x0a\x09/bin/true\x3a\x03out"),
     ("USE_COMMAND/16", "\x0a\x09/bin/true\x3a\x03res"),

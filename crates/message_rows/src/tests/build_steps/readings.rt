@@ -1,4 +1,4 @@
-use super::results::*;
+use super::results::RESULTS;
 use super::{NINE, Reading, joined};
 use action_messages::ActionResult;
 use blob_digest::DigestError;
@@ -18,7 +18,7 @@ const ROOT: &[u8] = b"b702720dfa91251d7827a7c362e98aec2fbb92800b4cd6d796eb0b8b84
 
 const MINUS_ONE: &[u8] = b"\x20\xff\xff\xff\xff\xff\xff\xff\xff\xff\x01";
 
-const READ: [Reading; 16] = [
+static READ: [Reading; 16] = [
     (&[b"\x20\x05\x20\x07"], Ok(&[b"\x20\x07"])),
     (&[b"\x20\x00"], Ok(&[])),
     (&[b"\x20\x85\x00"], Ok(&[b"\x20\x05"])),
@@ -75,7 +75,7 @@ const READ: [Reading; 16] = [
     (&[b"\x48\x07\x4d\x01\x02\x03\x04"], Ok(&[])),
 ];
 
-const REFUSED: [Reading; 15] = [
+static REFUSED: [Reading; 15] = [
     (&[b"\x52\x00"], Err(MessageError::Unsupported(10))),
     (
         &[FILE, NINE, b"\x10\x09", FILE, NINE, b"\x10\x09"],
@@ -157,8 +157,8 @@ fn holds<A: Allocator + Copy>(alloc: A, row: Reading) -> Result<bool, AllocError
 
 #[test]
 fn read_tolerantly(rt: HostRuntime) -> Result<(), Fail> {
-    for row in READ {
-        assert!(rt; holds(rt.alloc(), row)?, "{row:?}");
+    for row in READ.iter().chain(&RESULTS) {
+        assert!(rt; holds(rt.alloc(), *row)?, "{row:?}");
     }
     Ok(())
 }
@@ -171,70 +171,38 @@ fn refused_tolerantly(rt: HostRuntime) -> Result<(), Fail> {
     Ok(())
 }
 
-#[test]
-fn result_1(rt: HostRuntime) -> Result<(), Fail> {
-    for row in RESULT_1 {
-        assert!(rt; holds(rt.alloc(), row)?, "{row:?}");
-    }
-    Ok(())
-}
-
-#[test]
-fn result_2(rt: HostRuntime) -> Result<(), Fail> {
-    for row in RESULT_2 {
-        assert!(rt; holds(rt.alloc(), row)?, "{row:?}");
-    }
-    Ok(())
-}
-
-#[test]
-fn result_3(rt: HostRuntime) -> Result<(), Fail> {
-    for row in RESULT_3 {
-        assert!(rt; holds(rt.alloc(), row)?, "{row:?}");
-    }
-    Ok(())
-}
-
-#[test]
-fn result_4(rt: HostRuntime) -> Result<(), Fail> {
-    for row in RESULT_4 {
-        assert!(rt; holds(rt.alloc(), row)?, "{row:?}");
-    }
-    Ok(())
-}
-
-/// So many outputs of a kind: each has these pieces, with three digits of its number in between.
+/// So many outputs of a kind: each has these pieces, with four digits of its number in between.
 fn many<A: Allocator + Copy>(
     alloc: A,
     count: u32,
     front: &[u8],
-    behind: &[&[u8]],
+    after: &[&[u8]],
 ) -> Result<Vec<u8, A>, AllocError> {
     let mut out = Vec::new(alloc);
     for number in 0..count {
         out.extend_from_slice(front)?;
-        for place in [100, 10, 1] {
+        for place in [1000, 100, 10, 1] {
             out.push(b'0' + (number / place % 10) as u8)?;
         }
-        for piece in behind {
+        for piece in after {
             out.extend_from_slice(piece)?;
         }
     }
     Ok(out)
 }
 
-/// What comes before and behind the path of an output of each kind.
-const LONG: [(&[u8], &[&[u8]]); 3] = [
-    (b"\x12K\x0a\x03", &[b"\x12D\x0a@", NINE, b"\x10\x09"]),
-    (b"\x1aK\x0a\x03", &[b"\x1aD\x0a@", NINE, b"\x10\x09"]),
-    (b"b\x08\x0a\x03", &[b"\x12\x01t"]),
+/// What comes before and after the path of an output of each kind.
+static LONG: [(&[u8], &[&[u8]]); 3] = [
+    (b"\x12L\x0a\x04", &[b"\x12D\x0a@", NINE, b"\x10\x09"]),
+    (b"\x1aL\x0a\x04", &[b"\x1aD\x0a@", NINE, b"\x10\x09"]),
+    (b"b\x09\x0a\x04", &[b"\x12\x01t"]),
 ];
 
 /// No length is told as want of memory.
 #[test]
 fn long_results(rt: HostRuntime) -> Result<(), Fail> {
-    for (front, behind) in LONG {
-        let bytes = many(rt.alloc(), 1000, front, behind)?;
+    for (front, after) in LONG {
+        let bytes = many(rt.alloc(), 10_000, front, after)?;
         let text = read(rt.alloc(), &bytes)?;
         assert!(rt; text.as_slice() == bytes.as_slice());
     }

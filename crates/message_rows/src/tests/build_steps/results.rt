@@ -5,7 +5,7 @@ use messages::MessageError;
 // The pieces of results, and those of what protobuf reads and writes again, or the refusal.
 // tools/action_vectors.py prints this file.
 
-pub const RESULT_1: [Reading; 14] = [
+pub static RESULTS: [Reading; 45] = [
     (&[], Ok(&[])),
     (
         &[b" \xff\xff\xff\xff\xff\xff\xff\xff\xff\x01"],
@@ -128,9 +128,6 @@ pub const RESULT_1: [Reading; 14] = [
         &[b"b\x06\x0a\x01a\x12\x01tb\x0a\x0a\x05a/b/c\x12\x01t"],
         Err(MessageError::SameName),
     ),
-];
-
-pub const RESULT_2: [Reading; 14] = [
     (
         &[
             b"\x12I\x0a\x01o\x12D\x0a@",
@@ -225,9 +222,6 @@ pub const RESULT_2: [Reading; 14] = [
     (&[b"\x1a\x03\x0a\x01d"], Err(MessageError::MissingField(3))),
     (&[b"b\x03\x0a\x01l"], Err(MessageError::BadPath)),
     (&[b"b\x03\x12\x01t"], Err(MessageError::BadPath)),
-];
-
-pub const RESULT_3: [Reading; 14] = [
     (
         &[b"\x12L\x0a\x01f\x12D\x0a@", NINE, b"\x10\x09*\x011"],
         Err(MessageError::Unsupported(5)),
@@ -311,9 +305,6 @@ pub const RESULT_3: [Reading; 14] = [
         &[b"b\x86\x80\x00\x12\x01t\x0a\x01l"],
         Ok(&[b"b\x06\x0a\x01l\x12\x01t"]),
     ),
-];
-
-pub const RESULT_4: [Reading; 3] = [
     (
         &[b" \x85\x80\x80\x80\x80\x80\x80\x80\x80\x00"],
         Ok(&[b" \x05"]),

@@ -6,7 +6,7 @@ use messages::MessageError;
 // The pieces of messages as protobuf encodes them, and their length or the refusal.
 // tools/action_vectors.py prints this file.
 
-pub const PLATFORM_1: [Row; 9] = [
+pub static STEPS: [Row; 57] = [
     (Kind::Platform, &[], Ok(0)),
     (
         Kind::Platform,
@@ -50,9 +50,6 @@ pub const PLATFORM_1: [Row; 9] = [
         &[b"\x0a\x03\x0a\x01\xff"],
         Err(MessageError::Wire(CanonError::BadUtf8)),
     ),
-];
-
-pub const COMMAND_1: [Row; 14] = [
     (Kind::Command, &[b"\x0a\x09/bin/true:\x03out"], Ok(16)),
     (
         Kind::Command,
@@ -113,9 +110,6 @@ pub const COMMAND_1: [Row; 14] = [
         &[b"\x0a\x09/bin/true\x12\x03\x12\x01x"],
         Err(MessageError::BadText(2)),
     ),
-];
-
-pub const COMMAND_2: [Row; 14] = [
     (
         Kind::Command,
         &[b"\x0a\x09/bin/true\x12\x05\x0a\x03a=b2\x01/"],
@@ -186,9 +180,6 @@ pub const COMMAND_2: [Row; 14] = [
         &[b"\x0a\x01a2\x01b2\x01b"],
         Err(MessageError::Wire(CanonError::Repeated)),
     ),
-];
-
-pub const FRAME_1: [Row; 11] = [
     (Kind::Frame, &[b"\x0aD\x0a@", LINE, b"\x10\x01"], Ok(70)),
     (
         Kind::Frame,
@@ -240,9 +231,6 @@ pub const FRAME_1: [Row; 11] = [
         &[b"J\x00"],
         Err(MessageError::Wire(CanonError::DefaultWritten)),
     ),
-];
-
-pub const ACTION_1: [Row; 9] = [
     (
         Kind::Action,
         &[b"\x0aD\x0a@", LINE, b"\x10\x01\x12B\x0a@", EMPTY],

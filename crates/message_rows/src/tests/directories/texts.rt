@@ -5,7 +5,7 @@ use std::cmp::Ordering;
 use std::test::Fail;
 
 /// A text, and whether it is a name, a target and a path.
-const TEXTS: [(&str, bool, bool, bool); 12] = [
+static TEXTS: [(&str, bool, bool, bool); 12] = [
     ("a", true, true, true),
     ("a-b", true, true, true),
     ("\u{e9}", true, true, true),
@@ -38,7 +38,7 @@ fn texts(rt: HostRuntime) -> Result<(), Fail> {
 }
 
 /// Two paths: whether the first lies under the second, whether they overlap, and their order as text.
-const PAIRS: [(&str, &str, bool, bool, Ordering); 6] = [
+static PAIRS: [(&str, &str, bool, bool, Ordering); 6] = [
     ("a/x", "a", true, true, Ordering::Greater),
     ("a", "a/x", false, true, Ordering::Less),
     ("a/x", "a/x", false, true, Ordering::Equal),

@@ -5,7 +5,7 @@ use std::alloc::{AllocError, Allocator};
 use std::test::Fail;
 
 /// Paths, and how RFC 3986 spells them.
-const SPELLED: [(&str, &str); 6] = [
+static SPELLED: [(&str, &str); 6] = [
     ("a b", "a%20b"),
     ("é", "%C3%A9"),
     ("a-b/c.d/~_0", "a-b/c.d/~_0"),
@@ -15,7 +15,7 @@ const SPELLED: [(&str, &str); 6] = [
 ];
 
 /// Texts that spell no path, or spell one otherwise.
-const REFUSED: [&str; 16] = [
+static REFUSED: [&str; 16] = [
     "a%2db", "%2E", "%41", "a%2Fb", "a%00", "a+b", "%c3%a9", "%C3", "%", "%4", "a b", "", "/",
     "a//b", "%2E%2E", ".",
 ];

@@ -6,7 +6,7 @@ use std::alloc::Allocator;
 use std::test::Fail;
 
 /// Texts, and the line and the fault that refuse them for the plan of two steps.
-const RECORDS: [(&str, Option<(u64, Fault)>); 19] = [
+static RECORDS: [(&str, Option<(u64, Fault)>); 19] = [
     (
         "buildrecord 1\nstep gen 0000000000000000000000000000000000000000000000000000000000000000/1\nstep use ffffffffffffffffffffffffffffffffffffffffffffffffffffffffffffffff/2\n",
         None,

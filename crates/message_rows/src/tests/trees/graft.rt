@@ -38,7 +38,7 @@ pub(super) fn node<A: Allocator + Copy>(alloc: A, put: Put) -> Result<Node<A>, B
 }
 
 /// The lines of the rows, by row.
-const LINES: [&[(&[u8], Put)]; 6] = [
+static LINES: [&[(&[u8], Put)]; 6] = [
     &[],
     &[(b"b", Put::Nine)],
     &[(b"d", Put::Empty)],

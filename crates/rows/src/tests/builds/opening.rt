@@ -1,7 +1,7 @@
 use super::*;
 
 /// A plan, the blob that isn't held, and why there is no engine.
-const REFUSED: [(&str, &str, &str); 5] = [
+static REFUSED: [(&str, &str, &str); 5] = [
     (PLAN, "GEN_FRAME/70", "107 0 missing GEN_FRAME/70"),
     (PLAN, "USE_COMMAND/16", "107 1 missing USE_COMMAND/16"),
     // The fault of the first step decides.

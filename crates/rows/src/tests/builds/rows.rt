@@ -55,7 +55,7 @@ struct Row {
     calls: &'static [(Call, &'static str)],
 }
 
-const ROWS: [Row; 10] = [
+static ROWS: [Row; 10] = [
     // Numbers of jobs.
     Row {
         plan: PLAN,

@@ -8,7 +8,7 @@ use tree::MemorySource;
 use verifier::{Cause, Place, Verdict};
 
 /// What stands for the hash of each blob below, by Python's `hashlib`.
-const NAMES: [(&str, &str); 21] = [
+static NAMES: [(&str, &str); 21] = [
     (
         "NOTHING",
         "e3b0c44298fc1c149afbf4c8996fb92427ae41e4649b934ca495991b7852b855",
@@ -99,7 +99,7 @@ const NAMES: [(&str, &str); 21] = [
 /// the rows below change in it, as protobuf spells them, each with its length. The frames, the root
 /// and what the files hold are never asked for; `NINE` is for rows that name it in place of a
 /// message.
-pub const BLOBS: [(&str, &str); 15] = [
+pub static BLOBS: [(&str, &str); 15] = [
     ("NINE/9", "123456789"),
     (
         "TREE/77",
@@ -154,7 +154,7 @@ pub const BLOBS: [(&str, &str); 15] = [
 ];
 
 /// The results of its actions: a directory `out` with the file `a`, and a file `res`.
-pub const RESULTS: [(&str, &str); 3] = [
+pub static RESULTS: [(&str, &str); 3] = [
     (
         "GEN_ACTION/138",
         "\x1a\x4b\x0a\x03out\x1a\x44\x0a\x40TREE\x10\x4d",
@@ -195,7 +195,7 @@ enum Change {
 }
 
 /// Changes, and the verdict: its place, the number of its cause, and what that names.
-const ROWS: [(&[Change], &str); 43] = [
+static ROWS: [(&[Change], &str); 43] = [
     (&[], "yes CLAIM/80 steps 2"),
     // The input from the sources, a file of them or the whole.
     (
