@@ -12,6 +12,3 @@ mod trees;
 pub use cache::ActionCache;
 pub use error::CacheError;
 pub use laws::{caches_keep_what_is_pinned, results_refer_to_what_is_read};
-
-#[cfg(test)]
-mod tests;

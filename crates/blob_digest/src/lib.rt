@@ -15,6 +15,3 @@ pub use error::DigestError;
 pub use hasher::Hasher;
 pub use laws::digests_compare_by_hash_then_size;
 pub use text::read_hash;
-
-#[cfg(test)]
-mod tests;

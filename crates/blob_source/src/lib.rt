@@ -9,6 +9,3 @@ mod source;
 pub use fetching::{Fetched, MessageFetchError, fetch_blob, fetch_message};
 pub use memory::MemorySource;
 pub use source::{BlobSink, BlobSource, FetchError};
-
-#[cfg(test)]
-mod tests;

@@ -8,6 +8,3 @@ mod store;
 pub use blob_digest::GREATEST_BLOB;
 pub use error::BlobError;
 pub use store::BlobStore;
-
-#[cfg(test)]
-mod tests;

@@ -15,6 +15,3 @@ pub use error::ConnError;
 pub use laws::{answers_begin_the_answers_to_the_whole, histories_are_answered_in_one_way};
 pub use running::run;
 pub use server::Server;
-
-#[cfg(test)]
-mod tests;

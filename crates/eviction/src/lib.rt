@@ -12,6 +12,3 @@ mod pinning;
 pub use bounded::Bounded;
 pub use error::BoundedError;
 pub use laws::{entering_gives_up_the_fewest, entering_keeps_what_is_pinned};
-
-#[cfg(test)]
-mod tests;

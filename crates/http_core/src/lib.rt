@@ -25,6 +25,3 @@ pub use reply::{Reply, append_head, write_reply};
 pub use reply_head::{ReplyHead, read_reply_head};
 pub use request::write_request;
 pub use session::Session;
-
-#[cfg(test)]
-mod tests;

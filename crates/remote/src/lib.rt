@@ -16,6 +16,3 @@ pub use fault::Fault;
 pub use laws::the_next_reply_is_one;
 pub use remote::Remote;
 pub use stream::{MemoryStream, Stream};
-
-#[cfg(test)]
-mod tests;

@@ -6,6 +6,3 @@ mod reporting;
 
 pub use cause::cause_text;
 pub use reporting::{is_yes, report};
-
-#[cfg(test)]
-mod tests;

@@ -1,2 +1,3 @@
 mod builds;
+mod reports;
 mod verdicts;

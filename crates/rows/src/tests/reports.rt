@@ -1,8 +1,8 @@
-use crate::{is_yes, report};
 use blob_digest::Digest;
 use messages::Path;
 use plan::StepName;
 use refusing::Refusing;
+use report::{is_yes, report};
 use std::alloc::{AllocError, Allocator, Global};
 use std::test::Fail;
 use verifier::{Cause, Place, Verdict};

@@ -1,7 +1,7 @@
 mod faulty;
 mod rows;
 
-use crate::*;
+use cache_server::*;
 use faulty::{FaultyReader, FaultyWriter};
 use http_core::{Area, Ask, Prefix};
 use refusing::Refusing;

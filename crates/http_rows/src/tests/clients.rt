@@ -1,9 +1,9 @@
 //! A remote over streams in memory.
-use crate::*;
 use blob_digest::Digest;
 use blob_source::{BlobSink, BlobSource, FetchError};
 use http_core::{Host, Prefix};
 use refusing::Refusing;
+use remote::*;
 use std::alloc::{AllocError, Allocator, Global};
 use std::io;
 use std::test::Fail;

@@ -1,4 +1,4 @@
-use crate::{Body, Digest, DigestError, Hasher, Sealed, read_hash};
+use blob_digest::{Body, Digest, DigestError, Hasher, Sealed, read_hash};
 use refusing::Refusing;
 use std::alloc::{AllocError, Allocator};
 use std::test::Fail;

@@ -1,4 +1,4 @@
-use super::*;
+use canonical::*;
 use refusing::Refusing;
 use std::alloc::Allocator;
 use std::test::*;

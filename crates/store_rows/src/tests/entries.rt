@@ -1,4 +1,4 @@
-use crate::{Bounded, BoundedError};
+use eviction::{Bounded, BoundedError};
 use refusing::Refusing;
 use std::alloc::{AllocError, Allocator, Global};
 use std::hash::RandomState;

@@ -1,8 +1,8 @@
 mod client;
 mod rows;
 
-use crate::*;
 use blob_digest::Digest;
+use http_core::*;
 use refusing::Refusing;
 use rows::{ANSWERS, PREFIXES, ROWS};
 use std::alloc::{AllocError, Allocator, Global};

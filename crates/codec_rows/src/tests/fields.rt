@@ -1,7 +1,7 @@
-use super::*;
 use refusing::Refusing;
 use std::alloc::{AllocError, Allocator};
 use std::test::*;
+use wire::*;
 
 /// The least and the greatest number of each length, as another encoder of the format writes them.
 static VARINTS: [(u64, &[u8]); 20] = [

@@ -1,6 +1,6 @@
 //! What a client writes, and how it reads heads of replies.
-use crate::*;
 use blob_digest::Digest;
+use http_core::*;
 use refusing::Refusing;
 use std::alloc::{AllocError, Allocator};
 use std::test::Fail;

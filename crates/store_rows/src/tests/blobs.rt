@@ -1,5 +1,5 @@
-use crate::{BlobError, BlobStore};
 use blob_digest::{Body, Digest, Sealed};
+use blob_store::{BlobError, BlobStore};
 use refusing::Refusing;
 use std::alloc::{AllocError, Allocator, Global};
 use std::hash::RandomState;

@@ -1,8 +1,8 @@
-use crate::{
+use blob_digest::Digest;
+use blob_source::{
     BlobSink, BlobSource, FetchError, Fetched, MemorySource, MessageFetchError, fetch_blob,
     fetch_message,
 };
-use blob_digest::Digest;
 use messages::Directory;
 use refusing::Refusing;
 use std::alloc::Allocator;

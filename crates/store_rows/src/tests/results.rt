@@ -1,4 +1,4 @@
-use crate::{ActionCache, CacheError};
+use action_cache::{ActionCache, CacheError};
 use blob_digest::{Digest, Sealed};
 use messages::MessageError;
 use refusing::Refusing;

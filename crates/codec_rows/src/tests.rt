@@ -1,0 +1,4 @@
+mod digests;
+mod fields;
+mod shapes;
+mod sources;

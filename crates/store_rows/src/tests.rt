@@ -1,0 +1,3 @@
+mod blobs;
+mod entries;
+mod results;
