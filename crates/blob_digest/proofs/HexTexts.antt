@@ -1,13 +1,14 @@
 -- Lower-case hex, both ways.
-use Rattle.std.proofs.Common.{◌≡◌, ℕ, suc, ◌+◌, ◌*◌, ◌/◌, ◌%◌, ◌<◌, ◌≤◌, ◌==◌, Bool, true, false, not, ◌||◌, List, [], ◌∷◌, ◌++◌, length, take, drop, slice_index, Some, None, Option, unwrap_or, Result, Ok, Err, refl, sym, ap, ◌∙◌, arith}
+use Rattle.std.proofs.Common.{◌≡◌, ℕ, zero, suc, ◌+◌, ◌*◌, ◌/◌, ◌%◌, ◌<◌, ◌≤◌, ◌==◌, Bool, true, false, not, ◌||◌, List, [], ◌∷◌, ◌++◌, length, take, drop, set, replicate, inl, inr, slice_index, Some, None, Option, unwrap_or, Result, Ok, Err, refl, sym, ap, ◌∙◌, arith}
 use Rattle.std.specs.List.{AllPass}
-use Rattle.std.proofs.lemmas.Bool.{agree_below_at, eqb-true}
-use Rattle.std.proofs.lemmas.List.Elements.{All-cons, All-head, All-nil, All-tail}
+use Rattle.std.proofs.lemmas.Bool.{agree_below_at, eqb-true, cases_lt}
+use Rattle.std.proofs.lemmas.List.Elements.{All-cons, All-head, All-nil, All-tail, All-get_or}
 use Rattle.std.specs.Prelude.{IsOk, IsSome, IfSome, ◌↔◌}
 use Rattle.std.specs.List.{slice_get}
 use Rattle.std.specs.Result.{result_ok}
 use Rattle.std.proofs.Math.Seq.{take-append_seam, drop-append_seam, get_or-append_seam}
-use Rattle.std.proofs.lemmas.List.{length-append}
+use Rattle.std.proofs.lemmas.List.{length-append, append_assoc, length-set, take_all, take_more, take_more_set, get_or-set_other}
+use Rattle.std.proofs.lemmas.Grind.{get_or-set_at}
 use Rattle.std.proofs.lemmas.Option.{slice_get-get_or}
 use Rattle.hex.specs.Hex.{IsBytes, decode_pairs, decode_of, decode_sized, digit_or_error, hex_digit_value, encode_lower, encode_with, is_hex_digit, lower_digits, pair_value, value_at, ◌>>=◌}
 use Rattle.hex.specs.declared.error.FromHexError.{FromHexError}
@@ -169,3 +170,82 @@ split_once g h r s ig ih e =
     let decoded : decode_sized (encode_lower g) 32 ≡ decode_sized (encode_lower h) 32 = ap (λ t. decode_sized t 32) front in
     let same : ◌≡◌ {A = Result (List ℕ) FromHexError} (Ok g) (Ok h) = sym (hash_given g ig) ∙ decoded ∙ hash_given h ih in
     (cc, cc)
+
+-- two digits are what their byte is written as
+pub byte_back : (h l a b : ℕ) → h < 16 → l < 16 → slice_index lower_digits h ≡ a → slice_index lower_digits l ≡ b
+    → encode_lower ((h * 16 + l) ∷ []) ≡ a ∷ b ∷ []
+unfolding encode_with
+byte_back h l a b hs ls ha lb =
+    let high : (h * 16 + l) / 16 ≡ h = omega arith in
+    let low : (h * 16 + l) % 16 ≡ l = omega arith in
+    rw (high, low, ha, lb) refl
+
+-- the first n bytes of a hash are written as the front of the text
+pub record HasSpelled (n : ℕ) (hash text : List ℕ) : Type 0 where
+  pub len : length hash ≡ 32
+  pub bytes : IsBytes hash
+  pub front : encode_lower (take n hash) ≡ take (2 * n) text
+
+encode_append : (xs ys : List ℕ) → encode_lower (xs ++ ys) ≡ encode_lower xs ++ encode_lower ys
+unfolding encode_with
+encode_append [] ys = refl
+encode_append (x ∷ xs) ys = rw (encode_append xs ys) refl
+
+two_more : (n : ℕ) (xs : List ℕ) → 2 * n + 1 < length xs
+    → take (2 * (n + 1)) xs ≡ take (2 * n) xs ++ (slice_index xs (2 * n) ∷ slice_index xs (2 * n + 1) ∷ [])
+two_more n xs lt =
+    let first = take_more xs (2 * n) 0 (omega arith) in
+    let second = take_more xs (2 * n + 1) 0 lt in
+    let even : 2 * n + 1 + 1 ≡ 2 * (n + 1) = omega arith in
+    let joined = append_assoc (take (2 * n) xs) (slice_index xs (2 * n) ∷ []) (slice_index xs (2 * n + 1) ∷ []) in
+    rw (← even) (second ∙ (rw first joined))
+
+byte_set : (xs : List ℕ) (n b : ℕ) → n < length xs → b < 256 → IsBytes xs → IsBytes (set xs n b)
+byte_set xs n b lt small are i =
+    elim (cases_lt i n) [
+      | inl less ↦ rw (get_or-set_other xs n i b 0 (λ e. omega (arith, e, less))) (are i)
+      | inr most ↦ elim (cases_lt n i) [
+        | inl more ↦ rw (get_or-set_other xs n i b 0 (λ e. omega (arith, e, more))) (are i)
+        | inr least ↦ rw (get_or-set_at xs n i b 0 (omega (arith, most, least)) lt) small
+      ]
+    ]
+
+pub spelled_on : (n b : ℕ) (hash text : List ℕ) → n < 32 → length text ≡ 64 → b < 256
+    → encode_lower (b ∷ []) ≡ slice_index text (2 * n) ∷ slice_index text (2 * n + 1) ∷ []
+    → HasSpelled n hash text → HasSpelled (n + 1) (set hash n b) text
+spelled_on n b hash text lt len small digits so_far =
+    let room : n < length hash = let l = so_far.len in omega arith in
+    let grown = take_more_set hash n b room in
+    record {
+      len = length-set hash n b ∙ so_far.len;
+      bytes = byte_set hash n b room small so_far.bytes;
+      front = rw grown (encode_append (take n hash) (b ∷ []) ∙ (rw (so_far.front, digits) (sym (two_more n text (omega arith)))));
+    }
+
+-- what 32 bytes spell is a whole text of 64
+pub spelled_all : (n : ℕ) (hash text : List ℕ) → n ≡ 32 → length text ≡ 64 → HasSpelled n hash text → IsHash hash × (text ≡ encode_lower hash)
+spelled_all n hash text e len read_all =
+    let all = rw e at read_all in
+    let whole = take_all 32 hash (let l = all.len in omega arith) in
+    let read = take_all 64 text (omega arith) in
+    (record { len = all.len; bytes = all.bytes }, sym read ∙ (sym all.front ∙ rw whole refl))
+
+-- one text is written of one hash
+pub one_hash : (hash other : List ℕ) → IsHash hash → IsHash other → encode_lower hash ≡ encode_lower other → hash ≡ other
+one_hash hash other h o e =
+    let back : Ok hash ≡ Ok other = sym (hash_given hash h) ∙ (rw e (hash_given other o)) in
+    cc back
+
+-- each digit of the text of a hash is one
+pub digit_at : (text : List ℕ) (i : ℕ) → i < 64 → IsHashText text → is_lower_hex (slice_index text i) ≡ true
+digit_at text i lt t = All-get_or is_lower text i 0 (let l = t.len in omega arith) t.digits
+
+zero_bytes : (n : ℕ) → IsBytes (replicate n 0)
+zero_bytes zero i = omega arith
+zero_bytes (suc n) zero = omega arith
+zero_bytes (suc n) (suc i) = zero_bytes n i
+
+-- nothing is read yet
+pub none_spelled : (text : List ℕ) → HasSpelled 0 (replicate 32 0) text
+unfolding encode_with
+none_spelled text = record { len = refl; bytes = zero_bytes 32; front = refl }

@@ -1,18 +1,31 @@
-ghost use Rattle.std.specs.Prelude.{◌≡◌, ◌≤◌, ◌↔◌, ℕ, List, ◌∷◌, ◌++◌, IsTrue, IsSome, IfSome, IfOk, Some, Ok, string_bytes, decimal};
+ghost use Rattle.std.specs.Prelude.{◌≡◌, ◌≤◌, ◌↔◌, ℕ, ◌<◌, List, [], ◌∷◌, ◌++◌, slice_index, IsTrue, IsSome, IfSome, IfOk, Some, Ok, string_bytes, decimal};
 ghost use Rattle.std.specs.List.{AllPass};
-ghost use Rattle.hex.specs.Hex.{encode_lower};
+ghost use Rattle.hex.specs.Hex.{encode_lower, lower_digits};
 ghost use Rattle.blob_digest.specs.DigestValue.{DigestValue, IsDigest, IsHash, greatest_size};
 ghost use Rattle.blob_digest.specs.Text.{digest_text, is_lower_hex, IsHashText, BeginsWithHash, IsDecimal};
 
 use crate::digest::{Digest, GREATEST_SIZE};
 use crate::error::DigestError;
-use hex::FromHex;
 use std::alloc::{AllocError, Allocator};
 
-fn are_lower_hex(text: &[u8]) -> bool
-    ensures { IsTrue result ↔ AllPass is_lower_hex text.now }
+/// What a lower-case hex digit stands for.
+fn read_digit(digit: u8) -> Option<u8>
+    ensures some { IsSome result ↔ IsTrue (is_lower_hex digit) }
+    ensures found { IfSome result (λ value. (value < 16) × (slice_index lower_digits value ≡ digit)) }
 {
-    text.iter().all(|b| matches!(*b, b'0'..=b'9' | b'a'..=b'f'))
+    match digit {
+        b'0'..=b'9' => Some(digit - b'0'),
+        b'a'..=b'f' => Some(digit - b'a' + 10),
+        _ => None,
+    }
+}
+
+/// The byte that two lower-case hex digits spell.
+fn read_byte(high: u8, low: u8) -> Option<u8>
+    ensures some { IsSome result ↔ (IsTrue (is_lower_hex high) × IsTrue (is_lower_hex low)) }
+    ensures found { IfSome result (λ byte. (byte < 256) × (encode_lower (byte ∷ []) ≡ high ∷ low ∷ [])) }
+{
+    Some(read_digit(high)? * 16 + read_digit(low)?)
 }
 
 /// The hash that the text spells: 64 lower-case hex digits, and nothing else.
@@ -21,10 +34,14 @@ pub fn read_hash(text: &[u8]) -> Option<[u8; 32]>
     ensures found { IfSome result (λ hash. IsHash hash × (text.now ≡ encode_lower hash)) }
     ensures only { (hash : List ℕ) → IsHash hash → text.now ≡ encode_lower hash → result ≡ Some hash }
 {
-    if !are_lower_hex(text) {
+    if text.len() != 64 {
         return None;
     }
-    <[u8; 32] as FromHex>::from_hex(text).ok()
+    let mut hash = [0; 32];
+    for place in 0..32 {
+        hash[place] = read_byte(text[2 * place], text[2 * place + 1])?;
+    }
+    Some(hash)
 }
 
 fn is_decimal(text: &[u8]) -> bool
