@@ -1,4 +1,4 @@
 pub mod Digests
-mod Puts
+pub mod Puts
 pub mod Asking
 pub mod Calling

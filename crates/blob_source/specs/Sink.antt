@@ -8,14 +8,20 @@ pub record PutsAt (d : DigestValue) (bytes : List ℕ) (old new : Blobs) : Type 
   pub there : (new d ≡ old d) ⊎ (new d ≡ Some bytes)
   pub others : (e : DigestValue) → e ≢ d → new e ≡ old e
 
--- one call, which put a blob or failed to
+-- bytes told under their own digest stay told
+abbrev pub KeepsRight : Blobs → Blobs → Type 0
+KeepsRight old new =
+    (d : DigestValue) (b : List ℕ) → old d ≡ Some b → digest_of b ≡ d → new d ≡ Some b
+
+-- One call, which put a blob or failed to. Right bytes stay in both cases.
 pub record PutsBlob (bytes : List ℕ) (old new : Telling) : Type 0 where
   pub blobs : PutsAt (digest_of bytes) bytes old.blobs new.blobs
+  pub right : KeepsRight old.blobs new.blobs
   pub results : new.results ≡ old.results
   pub puts : new.puts ≡ old.puts
   pub counts : CountsCall old new
 
--- one call, which put a result under a digest or failed to
+-- one call, which put a result under a digest or failed to, and left the blobs alone
 pub record PutsResult (d : DigestValue) (bytes : List ℕ) (old new : Telling) : Type 0 where
   pub results : PutsAt d bytes old.results new.results
   pub blobs : new.blobs ≡ old.blobs

@@ -1,7 +1,8 @@
 use Rattle.std.proofs.Common.{◌≡◌, refl, ap, subst, ◌∙◌, rules}
 use Rattle.http_core.specs.declared.event.Area.TheVariants.{Cas}
-use Rattle.blob_source.specs.Sink.{PutsAt}
+use Rattle.blob_source.specs.Sink.{HasRight, PutsAt}
 use Rattle.blob_source.proofs.Asking.{ok_no_error}
+use Rattle.blob_source.proofs.Puts.{right_put}
 use Rattle.remote.specs.Line.{LineValue, line_of}
 use Rattle.remote.specs.Remote.{Stores}
 use Rattle.remote.specs.Table.{told_by}
@@ -23,10 +24,13 @@ returns-clause-called g c =
     let old = c.args.self.now.blobs in
     let new = c.keep_bytes.new.table in
     let kept = c.in_ok-keep_bytes.ensures.ok in
+    let puts : PutsAt c.of-digest.result c.args.bytes.now (told_by old) (told_by new) = puts_kept old new c.of-digest.result c.args.bytes.now kept.keeps in
+    let none : HasRight (told_by old) c.of-digest.result → ⊥ = λ right. (let is = c.if-has_right.ensures.1 right in cc) in
     let same : c.keep_bytes.new.line.failures ≡ c.args.self.now.line.failures = ap (λ (z : LineValue). z.failures) kept.connection ∙ c.in_ok-put.ensures.asked.asks.failures in
     record {
       asked = record {
-        blobs = subst (λ d. PutsAt d c.args.bytes.now (told_by old) (told_by new)) c.of-digest.ensures (puts_kept old new c.of-digest.result c.args.bytes.now kept.keeps);
+        blobs = subst (λ d. PutsAt d c.args.bytes.now (told_by old) (told_by new)) c.of-digest.ensures puts;
+        right = right_put none puts;
         results = refl;
         puts = refl;
         counts = search (rules, same);
