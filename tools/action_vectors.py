@@ -1,12 +1,12 @@
 #!/usr/bin/python3
-"""Prints the tables of crates/action_messages/src/tests: messages of these kinds as Python's protobuf encodes them.
+"""Prints the tables of crates/message_rows/src/tests/build_steps: messages of these kinds as Python's protobuf encodes them.
 
 By hand, with Debian's protobuf-compiler and python3-protobuf (tried with 3.21.12):
 
     protoc --python_out=/tmp action_messages.proto
-    PYTHONPATH=/tmp ./action_vectors.py Platform Command Frame Action > ../crates/action_messages/src/tests/steps.rt
-    PYTHONPATH=/tmp ./action_vectors.py Result > ../crates/action_messages/src/tests/results.rt
-    cd ../crates/action_messages && rt fmt
+    PYTHONPATH=/tmp ./action_vectors.py Platform Command Frame Action > ../crates/message_rows/src/tests/build_steps/steps.rt
+    PYTHONPATH=/tmp ./action_vectors.py Result > ../crates/message_rows/src/tests/build_steps/results.rt
+    cd ../crates/message_rows && rt fmt
 
 The bytes are protobuf's. Which of them are refused, and how, is read from docs/FORMATS.md. A row
 that is accepted is told by its length; one of a result, which is read tolerantly, by what protobuf
