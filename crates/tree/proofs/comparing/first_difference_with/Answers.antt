@@ -8,12 +8,12 @@ use Rattle.tree.specs.Difference.{differing, FindsFirst, ExplainsDifference, Lea
 use Rattle.tree.specs.Comparing.{IsEncoding}
 use Rattle.tree.proofs.LawfulTrees.{lawful_own}
 use Rattle.tree.proofs.OwnDirectories.{digests_beside}
-use Rattle.tree.proofs.comparing.first_difference.Goals as goal
+use Rattle.tree.proofs.comparing.first_difference_with.Goals as goal
 
 pub difference_below-requires-clause-own : goal.difference_below-requires-clause-own
 difference_below-requires-clause-own g c = record {
   digests = c.deref-3.ensures.value ∙ c.in_ok-digests.ensures {u = tt} ∙ ap (map (λ e. digest_of e.items)) (c.deref.ensures.value ∙ sym c.deref-2.ensures.value) ∙ digests_beside c.deref-2.result.now;
-  lawful = subst (AllByRecursion IsEncoding) (sym (ap items_of c.deref-2.ensures.value)) (lawful_own c.args.grafted.now c.requires);
+  lawful = subst (AllByRecursion IsEncoding) (sym (ap items_of c.deref-2.ensures.value)) (lawful_own c.args.grafted.now c.requires.lawful);
 }
 
 pub returns-in_err-first-clause-refused : goal.returns-in_err-first-clause-refused
