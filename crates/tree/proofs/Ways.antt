@@ -8,29 +8,30 @@ use Rattle.messages.specs.DirectoryRules.{DirectoryValue}
 use Rattle.messages.specs.Node.{child}
 use Rattle.tree.specs.Tree.{Name}
 use Rattle.tree.specs.Form.{NodeValue, node_value}
-use Rattle.blob_source.specs.Source.{Blobs, Grows}
+use Rattle.blob_source.specs.Source.{Blobs, Telling, Grows}
 use Rattle.blob_source.specs.Told.{TellsDirectory}
 use Rattle.tree.specs.Difference.{Reads, child_of, IsFirstName}
 use Rattle.tree.specs.declared.difference.Unlike.TheVariants.{Directories}
 use Rattle.tree.specs.Comparing.{IsUnlike}
-use Rattle.tree.specs.Memo.{Asked, LooksAtBlob}
+use Rattle.tree.specs.Memo.{Asked, Known, LooksAtBlob, Learns}
 use Rattle.tree.specs.LooksAt.{OnWayFrom, OnWay, LooksAtOther, ComparesBoth, Compares}
 use Rattle.tree.proofs.Children.{child_value}
 use Rattle.tree.proofs.Descent.{told_still}
+use Rattle.tree.proofs.Learning.{learns_then}
 use Rattle.tree.proofs.DifferenceSteps.{ReadsBoth, reads_still}
 
 -- ---- look-ups
 
-way_still_from : {B C : Blobs} {a : Asked} (p : List Name) (o : Option NodeValue) → Grows B C → OnWayFrom B p o a → OnWayFrom C p o a
-way_still_from p None g h = h
-way_still_from [] (Some x) g h = h
-way_still_from (n ∷ p) (Some (File d e)) g h = h
-way_still_from (n ∷ p) (Some (Link t)) g h = h
-way_still_from (n ∷ p) (Some (Dir d)) g (inl h) = inl h
-way_still_from (n ∷ p) (Some (Dir d)) g (inr h) = inr (h.0, told_still g h.1, way_still_from p (child n h.0) g h.2)
+way_still_from : {B C : Blobs} (a : Asked) (p : List Name) (o : Option NodeValue) → Grows B C → OnWayFrom B p o a → OnWayFrom C p o a
+way_still_from a p None g h = h
+way_still_from a [] (Some x) g h = h
+way_still_from a (n ∷ p) (Some (File d e)) g h = h
+way_still_from a (n ∷ p) (Some (Link t)) g h = h
+way_still_from a (n ∷ p) (Some (Dir d)) g (inl h) = inl h
+way_still_from a (n ∷ p) (Some (Dir d)) g (inr h) = inr (h.0, told_still g h.1, way_still_from a p (child n h.0) g h.2)
 
 pub way_still : (B C : Blobs) (d : DigestValue) (p : List Name) (a : Asked) → Grows B C → OnWay B d p a → OnWay C d p a
-way_still B C d p a g h = way_still_from p (Some (Dir d)) g h
+way_still B C d p a g h = way_still_from a p (Some (Dir d)) g h
 
 -- whatever is told later, what the rest of the way looks at is on the way of the whole path
 pub record WayGoesOn (B : Blobs) (d : DigestValue) (p : List Name) (o : Option NodeValue) (rest : List Name) : Type 0 where
@@ -102,3 +103,9 @@ module _ (own : List (List ℕ)) (B : Blobs) (g r : DigestValue) (deeper : ℕ) 
   compares_below n k m d e h at below =
       subst (λ j. Compares own B j g r a) (sym less)
       (inr (m, h.recorded, inr (k, h.grafted, n, h.first, at_both (child_of n k) (child_of n m) d e (λ x y. Compares own B (deeper - 1) x y a) at.0 at.1 below)))
+
+-- two Directories that were read
+pub learns_both : {rejected refused : Type 0} {k0 k1 k2 : Known} {t0 t1 t2 : Telling} (own : List (List ℕ)) (g r : DigestValue) (deeper : ℕ) (m : DirectoryValue) → 0 < deeper → Reads own t2.blobs r m
+    → (rejected → ⊥) → Learns (LooksAtOther own r) rejected k0 k1 t0 t1 → Learns (LooksAtOther own g) refused k1 k2 t1 t2 → Learns (Compares own t2.blobs deeper g r) refused k0 k2 t0 t2
+learns_both {t2 = t2} own g r deeper m some read passed h k =
+    learns_then (λ a. compares_recorded own t2.blobs g r deeper some a) (λ a. compares_grafted own t2.blobs g r deeper some a m read) passed h k

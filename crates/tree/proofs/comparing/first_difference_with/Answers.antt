@@ -8,6 +8,8 @@ use Rattle.tree.specs.Difference.{differing, FindsFirst, ExplainsDifference, Lea
 use Rattle.tree.specs.Comparing.{IsEncoding}
 use Rattle.tree.proofs.LawfulTrees.{lawful_own}
 use Rattle.tree.proofs.OwnDirectories.{digests_beside}
+use Rattle.tree.specs.LooksAt.{Compares}
+use Rattle.tree.proofs.Learning.{learns_more, learns_refused, refused_exit}
 use Rattle.tree.proofs.comparing.first_difference_with.Goals as goal
 
 pub difference_below-requires-clause-own : goal.difference_below-requires-clause-own
@@ -34,3 +36,13 @@ returns-in_err-first-clause-unasked_own g c =
 pub returns-clause-unasked_own : goal.returns-clause-unasked_own
 returns-clause-unasked_own g c =
     subst (λ own. LeavesOwn own (g.S.BlobSource.tells c.args.source.now).blobs (g.S.BlobSource.tells c.difference_below.new.source).blobs) (ap items_of c.deref-2.ensures.value) c.difference_below.ensures.unasked
+
+pub returns-in_err-first-clause-learned : goal.returns-in_err-first-clause-learned
+returns-in_err-first-clause-learned g c =
+    let B = (g.S.BlobSource.tells c.difference_below.new.source).blobs in
+    learns_refused (λ a h. subst (λ own. Compares own B 64 c.args.grafted.now.root c.args.recorded.now a) (ap items_of c.deref-2.ensures.value) h) (refused_exit _ _ c.from_residual-in_err-first.ensures.1) (c.in_err-first.ensures {u = tt}).learned
+
+pub returns-clause-learned : goal.returns-clause-learned
+returns-clause-learned g c =
+    let B = (g.S.BlobSource.tells c.difference_below.new.source).blobs in
+    learns_more (λ a h. subst (λ own. Compares own B 64 c.args.grafted.now.root c.args.recorded.now a) (ap items_of c.deref-2.ensures.value) h) (λ n. n) (c.in_ok-first.ensures {u = tt}).learned

@@ -7,7 +7,7 @@ use Rattle.tree.specs.LooksAt.{OnWay}
 use Rattle.tree.specs.Memo.{Learns, known_by}
 use Rattle.tree.proofs.Descent.{GoesOn}
 use Rattle.tree.proofs.Ways.{WayGoesOn}
-use Rattle.tree.proofs.memo.looking_up.Memo.descend.Given as goal
+use Rattle.tree.proofs.memo.Memo.descend.Given as goal
 
 abbrev pub invariant-loop-name : goal.invariant-loop-name
 invariant-loop-name g l =
