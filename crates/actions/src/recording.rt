@@ -14,7 +14,7 @@ use crate::outcome::{Outcome, Output};
 use action_messages::{ActionResult, RecordedOutput};
 use messages::{Path, Target};
 use std::alloc::Allocator;
-use tree::{BlobSource, Memo, TreeError, fetch_message};
+use tree::{BlobSource, Memo, TreeError};
 
 impl<A: Allocator + Copy> Output<A> {
     /// What an output of a result stands for: a directory is the Tree with its digest, the one
@@ -33,20 +33,7 @@ impl<A: Allocator + Copy> Output<A> {
         ensures unasked { IsWithoutTree (recorded_value recorded.now)
             → S.tells source.new ≡ S.tells source.old }
     {
-        match recorded {
-            RecordedOutput::File(file) => Ok(Output::File {
-                digest: file.digest,
-                executable: file.executable,
-            }),
-            RecordedOutput::Directory(directory) => Ok(Output::Tree(fetch_message(
-                alloc,
-                source,
-                &directory.tree_digest,
-            )?)),
-            RecordedOutput::Link(link) => Ok(Output::Link {
-                target: Target::copy_of(alloc, &link.target)?,
-            }),
-        }
+        Output::read_with(alloc, recorded, &mut Memo::new(alloc), source)
     }
 
     /// What an output of a result stands for, as `read` answers it, over what was told before: a

@@ -5,7 +5,7 @@ use Rattle.std.specs.Result.{IsErrAnd}
 use Rattle.std.proofs.lemmas.Result.{err_from_is_err_and}
 use Rattle.blob_digest.specs.Digest.{DigestValue, empty_digest}
 use Rattle.blob_source.specs.Source.{Telling, Grows, IsBlobUnder, Asks}
-use Rattle.tree.specs.Memo.{Asked, blob, result, Known, IsKnownOf, KnowsToo, IsSame, one_if_none, unknown, Covers, Learns, IsRefused, IsWithout}
+use Rattle.tree.specs.Memo.{Asked, blob, result, Known, IsKnownOf, KnowsToo, IsSame, one_if_none, unknown, Covers, Learns, KnowsNothing, IsRefused, IsWithout}
 use Rattle.tree.proofs.Descent.{under_still}
 
 -- ---- lists of what is asked for
@@ -110,3 +110,21 @@ refused_exit (Err e) P exit = tt
 pub without_exit : {U E : Type 0} (r : Result (Option U) E) (P : E → Type 0) → IsErrAnd r P → IsWithout r
 without_exit (Ok x) P exit = elim exit [ ]
 without_exit (Err e) P exit = tt
+
+-- ---- nothing is known yet
+
+pub known_nothing : {known : Known} {t : Telling} → KnowsNothing known → IsKnownOf known t
+known_nothing {known} h = record {
+  blobs = λ d b is. absurd (never (h (blob d)) is);
+  results = λ d b is. absurd (never (h (result d)) is);
+}
+  where
+    never : {o : Option (List ℕ)} {b : List ℕ} → o ≡ None → o ≡ Some b → ⊥
+    never e f = cc
+
+pub nothing_known : {known : Known} → KnowsNothing known → (list : List Asked) → unknown known list ≡ length list
+nothing_known h [] = refl
+nothing_known {known} h (a ∷ list) =
+    let one : one_if_none (known a) ≡ 1 = ap one_if_none (h a) in
+    let rest = nothing_known h list in
+    omega (arith, one, rest)

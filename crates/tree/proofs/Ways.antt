@@ -17,7 +17,7 @@ use Rattle.tree.specs.Memo.{Asked, Known, LooksAtBlob, Learns}
 use Rattle.tree.specs.LooksAt.{OnWayFrom, OnWay, LooksAtOther, ComparesBoth, Compares}
 use Rattle.tree.proofs.Children.{child_value}
 use Rattle.tree.proofs.Descent.{told_still}
-use Rattle.tree.proofs.Learning.{learns_then}
+use Rattle.tree.proofs.Learning.{learns_then, learns_more}
 use Rattle.tree.proofs.DifferenceSteps.{ReadsBoth, reads_still}
 
 -- ---- look-ups
@@ -109,3 +109,7 @@ pub learns_both : {rejected refused : Type 0} {k0 k1 k2 : Known} {t0 t1 t2 : Tel
     → (rejected → ⊥) → Learns (LooksAtOther own r) rejected k0 k1 t0 t1 → Learns (LooksAtOther own g) refused k1 k2 t1 t2 → Learns (Compares own t2.blobs deeper g r) refused k0 k2 t0 t2
 learns_both {t2 = t2} own g r deeper m some read passed h k =
     learns_then (λ a. compares_recorded own t2.blobs g r deeper some a) (λ a. compares_grafted own t2.blobs g r deeper some a m read) passed h k
+
+-- the way of a path by another name
+pub looked_way : {refused : Type 0} {k0 k1 : Known} {t0 t1 : Telling} (d : DigestValue) (p q : List Name) → p ≡ q → Learns (OnWay t1.blobs d p) refused k0 k1 t0 t1 → Learns (OnWay t1.blobs d q) refused k0 k1 t0 t1
+looked_way {t1 = t1} d p q same h = learns_more (λ a at. subst (λ x. OnWay t1.blobs d x a) same at) (λ n. n) h

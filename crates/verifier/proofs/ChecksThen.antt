@@ -27,7 +27,9 @@ use Rattle.verifier.specs.declared.fault.Fault.{Fault}
 use Rattle.verifier.specs.declared.fault.Fault.TheVariants as faults
 use Rattle.verifier.specs.declared.verdict.Cause.{Cause}
 use Rattle.verifier.specs.declared.verdict.Place.{Place}
+use Rattle.verifier.specs.Answers.{IsStopped}
 use Rattle.verifier.specs.Checks.{Checks}
+use Rattle.verifier.specs.declared.verifying.Checked.{Checked}
 use Rattle.verifier.specs.Stage.{Stage, ◌and_then◌, Explains, Answers}
 use Rattle.verifier.specs.StepChecks.{message, resolved, grafted, held, read, step_check}
 use Rattle.verifier.specs.LooksAt.{looks, LooksAtNothing, LinesLookAt, InputLooksAt, ResultLooksAt, StepLooksAt, StepsLookAt}
@@ -135,6 +137,10 @@ looked_blob same h = learns_more (λ a k. subst (λ x. LooksAtBlob x a) same k) 
 
 pub looked_lines : {d : DigestValue} {os : List OutcomeValue} {ls ls' : List LineValue} {refused : Type 0} {k0 k1 : Known} {t0 t1 : Telling} → ls ≡ ls' → Learns (LinesLookAt t1.blobs d os ls) refused k0 k1 t0 t1 → Learns (LinesLookAt t1.blobs d os ls') refused k0 k1 t0 t1
 looked_lines {d} {os} {t1 = t1} same h = learns_more (λ a k. subst (λ x. LinesLookAt t1.blobs d os x a) same k) (λ n. n) h
+
+pub stopped_exit : {A E : Type 0} (r : Result (Checked A) E) (P : E → Type 0) → IsErrAnd r P → IsStopped r
+stopped_exit (Ok x) P exit = elim exit [ ]
+stopped_exit (Err e) P exit = tt
 
 -- ---- answers
 

@@ -93,10 +93,17 @@ StepsLookAt {A} tells sources outcomes (s ∷ ss) (d ∷ ds) a =
     (StepLooksAt {A = A} tells sources outcomes s d)
     (λ outcome. StepsLookAt {A = A} tells sources (outcomes ++ outcome ∷ []) ss ds) a
 
+-- the checks of the root
+abbrev pub RootLooksAt : {A : Type 0} → Telling → DigestValue → List OutcomeValue → List LineValue
+    → Asked → Type 0
+RootLooksAt {A} tells sources outcomes lines =
+    looks (resolved {A = A} tells.blobs sources outcomes lines)
+    (LinesLookAt tells.blobs sources outcomes lines) λ _. LooksAtNothing
+
 -- the checks of a plan: of its steps, and of its root
 abbrev pub PlanLooksAt : {A : Type 0} → Telling → DigestValue → PlanValue → List DigestValue
     → Asked → Type 0
 PlanLooksAt {A} tells sources plan recorded =
     looks (steps_check {A = A} tells sources [] plan.steps recorded)
     (StepsLookAt {A = A} tells sources [] plan.steps recorded) λ outcomes.
-    LinesLookAt tells.blobs sources outcomes plan.root_lines
+    RootLooksAt {A = A} tells sources outcomes plan.root_lines

@@ -10,7 +10,7 @@ ghost use Rattle.verifier.specs.Accepted.{targets};
 ghost use Rattle.verifier.specs.Answers.{IsChecked, IsStopped};
 ghost use Rattle.verifier.specs.Checks.{Checks};
 ghost use Rattle.verifier.specs.Headline.{EveryRunEndsIn, NoRunIsStuck};
-ghost use Rattle.verifier.specs.LooksAt.{LinesLookAt, PlanLooksAt, StepsLookAt};
+ghost use Rattle.verifier.specs.LooksAt.{PlanLooksAt, RootLooksAt, StepsLookAt};
 ghost use Rattle.verifier.specs.Verdict.{root_check, IsVerdict, IsYes};
 
 use crate::error::VerifyError;
@@ -93,7 +93,7 @@ fn check_root<A: Allocator + Copy, S: BlobSource<A>>(
     requires apart { HaveApartTargets (targets lines.now) }
     requires known { IsKnownOf (known_by memo.old) (S.tells source.old) }
     ensures { Checks (λ tells. root_check tells sources.now outcomes.now lines.now claim.now)
-        (λ tells. LinesLookAt tells.blobs sources.now outcomes.now lines.now)
+        (λ tells. RootLooksAt {A = A} tells sources.now outcomes.now lines.now)
         (known_by memo.old) (known_by memo.new) (S.tells source.old) (S.tells source.new) result }
 {
     let nodes = resolve(alloc, sources, outcomes, lines, memo, source)?;
