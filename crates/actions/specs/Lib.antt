@@ -1,3 +1,4 @@
 pub mod Outcome
 pub mod OutcomeLookup
 pub mod Recorded
+pub mod LooksAt

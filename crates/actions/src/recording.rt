@@ -1,18 +1,20 @@
 ghost use Rattle.std.specs.Prelude.{◌≡◌, length, IfOk, IfErr, IsErrOf};
 ghost use Rattle.blob_source.specs.Source.{Asks};
 ghost use Rattle.blob_source.specs.Called.{Calls};
+ghost use Rattle.tree.specs.Memo.{IsKnownOf, IsRefused, Learns, known_by};
 ghost use Rattle.tree.specs.TreeError.{Explains};
 ghost use Rattle.action_messages.specs.Outputs.{directories_among, recorded_value};
 ghost use Rattle.action_messages.specs.Outputs.{recorded_values};
 ghost use Rattle.actions.specs.Outcome.{output_value, outputs_in};
 ghost use Rattle.actions.specs.Recorded.{IsRecorded, StandsFor, StandForAll};
 ghost use Rattle.actions.specs.Recorded.{IsFirstFault, IsOutputFault, IsWithoutTree};
+ghost use Rattle.actions.specs.LooksAt.{OutputLooksAt};
 
 use crate::outcome::{Outcome, Output};
 use action_messages::{ActionResult, RecordedOutput};
 use messages::{Path, Target};
 use std::alloc::Allocator;
-use tree::{BlobSource, TreeError, fetch_message};
+use tree::{BlobSource, Memo, TreeError};
 
 impl<A: Allocator + Copy> Output<A> {
     /// What an output of a result stands for: a directory is the Tree with its digest, the one
@@ -31,12 +33,35 @@ impl<A: Allocator + Copy> Output<A> {
         ensures unasked { IsWithoutTree (recorded_value recorded.now)
             → S.tells source.new ≡ S.tells source.old }
     {
+        Output::read_with(alloc, recorded, &mut Memo::new(alloc), source)
+    }
+
+    /// What an output of a result stands for, as `read` answers it, over what was told before: a
+    /// Tree that is kept isn't asked for. Refusals 42 to 44.
+    pub fn read_with<S: BlobSource<A>>(
+        alloc: A,
+        recorded: &RecordedOutput<'_, A>,
+        memo: &mut Memo<A>,
+        source: &mut S,
+    ) -> Result<Output<A>, TreeError<A>>
+        requires { IsKnownOf (known_by memo.old) (S.tells source.old) }
+        ensures found { IfOk result (λ x.
+            StandsFor (S.tells source.new).blobs (recorded_value recorded.now) (output_value x)) }
+        ensures faulty { IfErr result (Explains
+            (IsOutputFault (S.tells source.new).blobs (recorded_value recorded.now))) }
+        ensures called { Calls (Asks 1) (S.tells source.old) (S.tells source.new)
+            (IsErrOf result TreeError.Fetch) }
+        ensures unasked { IsWithoutTree (recorded_value recorded.now)
+            → S.tells source.new ≡ S.tells source.old }
+        ensures learned { Learns (OutputLooksAt (recorded_value recorded.now)) (IsRefused result)
+            (known_by memo.old) (known_by memo.new) (S.tells source.old) (S.tells source.new) }
+    {
         match recorded {
             RecordedOutput::File(file) => Ok(Output::File {
                 digest: file.digest,
                 executable: file.executable,
             }),
-            RecordedOutput::Directory(directory) => Ok(Output::Tree(fetch_message(
+            RecordedOutput::Directory(directory) => Ok(Output::Tree(memo.message(
                 alloc,
                 source,
                 &directory.tree_digest,

@@ -13,7 +13,9 @@ pub mod TreeDigests
 pub mod Children
 pub mod LookupLemmas
 pub mod Descent
+pub mod Learning
 pub mod LookupOnce
+pub mod Memos
 pub mod GraftRoots
 pub mod SameRoot
 pub mod Sorted
@@ -31,6 +33,7 @@ pub mod LawfulTrees
 pub mod OwnDirectories
 pub mod FirstNames
 pub mod DifferenceSteps
+pub mod Ways
 pub mod DifferenceOnce
 pub mod Visits
 pub mod TreeBlobs

@@ -20,7 +20,7 @@ under_once B d x y (inl h) (inr k) = absurd (k.0 h.0)
 under_once B d x y (inr h) (inl k) = absurd (h.0 k.0)
 under_once B d x y (inr h) (inr k) = h.1 ∙ sym k.1
 
-bytes_once : (B : Blobs) (d : DigestValue) (x y : List ℕ) → IsUnder B d (Some x) → IsUnder B d (Some y) → x ≡ y
+pub bytes_once : (B : Blobs) (d : DigestValue) (x y : List ℕ) → IsUnder B d (Some x) → IsUnder B d (Some y) → x ≡ y
 bytes_once B d x y h k = let same : ◌≡◌ {A = Option (List ℕ)} (Some x) (Some y) = under_once B d (Some x) (Some y) h k in cc
 
 none_there : (B : Blobs) (d : DigestValue) (x : List ℕ) → IsUnder B d None → IsUnder B d (Some x) → ⊥

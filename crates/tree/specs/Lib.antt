@@ -3,6 +3,7 @@ pub mod Graft
 pub mod Form
 pub mod Lookup
 pub mod TreeError
+pub mod Memo
 pub mod Folded
 pub mod Lines
 pub mod Visiting
@@ -12,3 +13,4 @@ pub mod Unfolding
 pub mod Difference
 pub mod Comparing
 pub mod TrueDifference
+pub mod LooksAt

@@ -9,12 +9,14 @@ ghost use Rattle.tree.specs.Folded.{IsFoldOfLawful};
 ghost use Rattle.tree.specs.Lookup.{names_in};
 ghost use Rattle.blob_source.specs.Source.{Asks};
 ghost use Rattle.blob_source.specs.Called.{Calls};
+ghost use Rattle.tree.specs.LooksAt.{Compares, LooksAtOther};
+ghost use Rattle.tree.specs.Memo.{IsKnownOf, IsRefused, Learns, known_by};
 ghost use Rattle.tree.specs.TreeError.{Explains};
 
 use crate::difference::{Difference, FirstName, Unlike, first_name};
 use crate::error::TreeError;
-use crate::fetching::fetch_message;
 use crate::folding::Folded;
+use crate::memo::Memo;
 use crate::unfolding::child_path;
 use blob_digest::Digest;
 use blob_source::BlobSource;
@@ -57,9 +59,11 @@ fn read_directory<A: Allocator + Copy, S: BlobSource<A>>(
     alloc: A,
     own: &OwnDirectories<'_, A>,
     digest: &Digest,
+    memo: &mut Memo<A>,
     source: &mut S,
 ) -> Result<Directory<A>, TreeError<A>>
-    requires { AreOwn own.now }
+    requires own { AreOwn own.now }
+    requires known { IsKnownOf (known_by memo.old) (S.tells source.old) }
     ensures told { IfOk result
         (Reads (encodings_in own.now) (S.tells source.new).blobs digest.now) }
     ensures faulty { IfErr result (Explains
@@ -68,9 +72,11 @@ fn read_directory<A: Allocator + Copy, S: BlobSource<A>>(
         (IsErrOf result TreeError.Fetch) }
     ensures unasked { LeavesOwn (encodings_in own.now)
         (S.tells source.old).blobs (S.tells source.new).blobs }
+    ensures learned { Learns (LooksAtOther (encodings_in own.now) digest.now) (IsRefused result)
+        (known_by memo.old) (known_by memo.new) (S.tells source.old) (S.tells source.new) }
 {
     let Some(place) = place_of(own.digests, digest) else {
-        return fetch_message(alloc, source, digest);
+        return memo.message(alloc, source, digest);
     };
     match Directory::decode(alloc, &own.encodings[place]) {
         Ok(directory) => Ok(directory),
@@ -89,9 +95,11 @@ fn difference_below<A: Allocator + Copy, S: BlobSource<A>>(
     deeper: usize,
     grafted: &Digest,
     recorded: &Digest,
+    memo: &mut Memo<A>,
     source: &mut S,
 ) -> Result<Difference<A>, TreeError<A>>
     requires own { AreOwn own.now }
+    requires known { IsKnownOf (known_by memo.old) (S.tells source.old) }
     requires some { 0 < deeper }
     requires depth { deeper + length (names_in above.now) ≡ 64 }
     requires other { grafted.now ≢ recorded.now }
@@ -103,9 +111,12 @@ fn difference_below<A: Allocator + Copy, S: BlobSource<A>>(
         (IsErrOf result TreeError.Fetch) }
     ensures unasked { LeavesOwn (encodings_in own.now)
         (S.tells source.old).blobs (S.tells source.new).blobs }
+    ensures learned { Learns (Compares (encodings_in own.now) (S.tells source.new).blobs deeper
+        grafted.now recorded.now) (IsRefused result)
+        (known_by memo.old) (known_by memo.new) (S.tells source.old) (S.tells source.new) }
 {
-    let there = read_directory(alloc, own, recorded, source)?;
-    let here = read_directory(alloc, own, grafted, source)?;
+    let there = read_directory(alloc, own, recorded, memo, source)?;
+    let here = read_directory(alloc, own, grafted, memo, source)?;
     let FirstName { name, unlike } = first_name(alloc, &here, &there)?;
     let path = child_path(alloc, above.as_ref(), &name)?;
     match unlike {
@@ -117,9 +128,47 @@ fn difference_below<A: Allocator + Copy, S: BlobSource<A>>(
                 return Ok(Difference::Differs(path));
             }
             let above = Some(path);
-            difference_below(alloc, own, &above, deeper - 1, &grafted, &recorded, source)
+            difference_below(alloc, own, &above, deeper - 1, &grafted, &recorded, memo, source)
         }
     }
+}
+
+/// The first difference of a graft and the directory with a digest, as `first_difference` answers
+/// it, over what was told before: a Directory that is kept isn't asked for. Refusals 42 to 44.
+pub fn first_difference_with<A: Allocator + Copy, S: BlobSource<A>>(
+    alloc: A,
+    grafted: &Folded<A>,
+    recorded: &Digest,
+    memo: &mut Memo<A>,
+    source: &mut S,
+) -> Result<Option<Difference<A>>, TreeError<A>>
+    requires lawful { IsFoldOfLawful grafted.now }
+    requires known { IsKnownOf (known_by memo.old) (S.tells source.old) }
+    ensures same { IfOk result (λ o. IsNone o ↔ (recorded.now ≡ grafted.now.root)) }
+    ensures found { IfOk result (λ o. IfSome o (λ x. FindsFirst (made_by grafted.now)
+        (S.tells source.new).blobs grafted.now.root recorded.now (differing x))) }
+    ensures refused { IfErr result (ExplainsDifference (FindsFirst (made_by grafted.now)
+        (S.tells source.new).blobs grafted.now.root recorded.now)) }
+    ensures called { Calls (Asks 128) (S.tells source.old) (S.tells source.new)
+        (IsErrOf result TreeError.Fetch) }
+    ensures unasked { recorded.now ≡ grafted.now.root → S.tells source.new ≡ S.tells source.old }
+    ensures unasked_own { LeavesOwn (made_by grafted.now)
+        (S.tells source.old).blobs (S.tells source.new).blobs }
+    ensures learned { Learns (Compares (made_by grafted.now) (S.tells source.new).blobs 64
+        grafted.now.root recorded.now) (IsRefused result)
+        (known_by memo.old) (known_by memo.new) (S.tells source.old) (S.tells source.new) }
+{
+    if *recorded == grafted.root {
+        return Ok(None);
+    }
+    let digests = digests_of(alloc, &grafted.directories)?;
+    let own = OwnDirectories {
+        encodings: &grafted.directories,
+        digests: &digests,
+    };
+    let root = &grafted.root;
+    let first = difference_below(alloc, &own, &None, 64, root, recorded, memo, source)?;
+    Ok(Some(first))
 }
 
 /// The first difference of a graft and the directory with a digest, Directory by Directory, names
@@ -144,14 +193,5 @@ pub fn first_difference<A: Allocator + Copy, S: BlobSource<A>>(
     ensures unasked_own { LeavesOwn (made_by grafted.now)
         (S.tells source.old).blobs (S.tells source.new).blobs }
 {
-    if *recorded == grafted.root {
-        return Ok(None);
-    }
-    let digests = digests_of(alloc, &grafted.directories)?;
-    let own = OwnDirectories {
-        encodings: &grafted.directories,
-        digests: &digests,
-    };
-    let first = difference_below(alloc, &own, &None, 64, &grafted.root, recorded, source)?;
-    Ok(Some(first))
+    first_difference_with(alloc, grafted, recorded, &mut Memo::new(alloc), source)
 }

@@ -11,13 +11,14 @@ mod folding;
 mod grafting;
 mod laws;
 mod looking_up;
+mod memo;
 mod unfolding;
 mod visiting;
 
 pub use blob_source::{
     BlobSink, BlobSource, FetchError, Fetched, MemorySource, MessageFetchError, fetch_blob,
 };
-pub use comparing::first_difference;
+pub use comparing::{first_difference, first_difference_with};
 pub use difference::Difference;
 pub use error::{AddError, TreeError};
 pub use fetching::fetch_message;
@@ -30,5 +31,6 @@ pub use laws::{
     roots_name_trees, trees_are_maps,
 };
 pub use looking_up::lookup;
+pub use memo::Memo;
 pub use messages::Node;
 pub use unfolding::unfold;

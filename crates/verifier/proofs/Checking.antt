@@ -24,6 +24,9 @@ use Rattle.tree.specs.Graft.{graft}
 use Rattle.tree.specs.Folded.{IsFoldOf}
 use Rattle.tree.specs.declared.folding.Folded.{Folded}
 use Rattle.tree.specs.Difference.{FindsFirst, made_by}
+use Rattle.tree.specs.LooksAt.{Compares}
+use Rattle.tree.specs.Memo.{Asked}
+use Rattle.verifier.specs.LooksAt.{InputLooksAt}
 use Rattle.blob_source.specs.Source.{Blobs, Grows}
 use Rattle.verifier.specs.declared.verdict.Cause.{Cause}
 use Rattle.verifier.specs.declared.fault.Fault as faults_type
@@ -92,6 +95,14 @@ module _ {A : Type 0} where
       none_more (f ∷ fs) = ap (λ q. f ∷ q) (none_more fs)
 
 module _ {A : Type 0} where
+  -- the comparison with the recorded input looks at what the check of it does
+  pub input_looked : {A' : Type 0} (B : Blobs) (act : ActionValue) (xs : List (List Name × NodeValue)) (f : Folded A') (input : DigestValue) → IsFoldOf (graft xs) f → input ≡ act.input → f.root ≢ input
+      → (a : Asked) → Compares (made_by f) B 64 f.root input a → InputLooksAt B act xs a
+  input_looked B act xs f input fold is other a h = (
+    (λ same. other (fold.root ∙ same ∙ sym is)),
+    subst (λ own. Compares own B 64 (root (graft xs)) act.input a) fold.directories (subst (λ g. Compares (made_by f) B 64 g act.input a) fold.root (subst (λ r. Compares (made_by f) B 64 f.root r a) is h)),
+  )
+
   -- why the graft isn't the recorded input
   pub input_explained : {A' : Type 0} (B : Blobs) (a : ActionValue) (xs : List (List Name × NodeValue)) (f : Folded A') (input : DigestValue) (fault : faults_type.Fault A) → IsFoldOf (graft xs) f → input ≡ a.input → f.root ≢ input
       → Explains (IsDifference (made_by f) B f.root input) fault → Explains (grafted {A = A} B a xs).fails fault

@@ -12,8 +12,10 @@ use Rattle.verifier.specs.declared.verdict.Place.TheVariants.{Step, Root}
 use Rattle.verifier.specs.declared.verdict.Verdict.TheVariants.{Yes, No}
 use Rattle.verifier.specs.Stage.{◌and_then◌}
 use Rattle.verifier.specs.StepChecks.{step_check}
+use Rattle.tree.specs.Memo.{Asked}
+use Rattle.verifier.specs.LooksAt.{looks, StepLooksAt, StepsLookAt, RootLooksAt, PlanLooksAt}
 use Rattle.verifier.specs.Verdict.{root_check, steps_check, IsVerdict}
-use Rattle.verifier.proofs.ChecksThen.{stable_step, stable_steps}
+use Rattle.verifier.proofs.ChecksThen.{stable_step, stable_steps, steady_steps}
 
 -- whatever is told later, what the rest of the steps come to is what all steps come to
 pub record StepsGoOn (A : Type 0) (told : Telling) (src : DigestValue) (steps : List StepValue) (ds : List DigestValue) (os : List OutcomeValue) (rest : List StepValue) (left : List DigestValue) : Type 0 where
@@ -21,6 +23,8 @@ pub record StepsGoOn (A : Type 0) (told : Telling) (src : DigestValue) (steps : 
       → (steps_check {A = A} later src os rest left).passes outcomes → (steps_check {A = A} later src [] steps ds).passes outcomes
   pub fail : (later : Telling) → Grows told.blobs later.blobs → Grows told.results later.results → (why : Place A × Cause A)
       → (steps_check later src os rest left).fails why → (steps_check later src [] steps ds).fails why
+  pub look : (later : Telling) → Grows told.blobs later.blobs → Grows told.results later.results → (a : Asked)
+      → StepsLookAt {A = A} later src os rest left a → StepsLookAt {A = A} later src [] steps ds a
 
 split_at : {A : Type 0} (xs : List A) (i : ℕ) (x : A) → i < length xs → x ≡ get_or xs i x → drop i xs ≡ x ∷ drop (i + 1) xs
 split_at xs i x lt is = rw (add-one, drop-cons xs i x lt) (ap (λ k. k ∷ drop (suc i) xs) (sym is))
@@ -30,7 +34,7 @@ both_grow g k = λ e b h. k e b (g e b h)
 
 module _ {A : Type 0} where
   pub steps_first : (told : Telling) (src : DigestValue) (steps : List StepValue) (ds : List DigestValue) → StepsGoOn A told src steps ds [] steps ds
-  steps_first told src steps ds = record { pass = λ later g k outcomes h. h; fail = λ later g k why h. h }
+  steps_first told src steps ds = record { pass = λ later g k outcomes h. h; fail = λ later g k why h. h; look = λ later g k a h. h }
 
   module _ (old new : Telling) (src : DigestValue) (steps : List StepValue) (ds : List DigestValue) (os : List OutcomeValue) (i : ℕ) (s : StepValue) (d : DigestValue) (lt : i < length steps) (is : s ≡ get_or steps i s) (lt' : i < length ds)
       (is' : d ≡ get_or ds i d) (goes : StepsGoOn A old src steps ds os (drop i steps) (drop i ds)) (g : Grows old.blobs new.blobs) (k : Grows old.results new.results) where
@@ -47,11 +51,22 @@ module _ {A : Type 0} where
         goes.fail later (both_grow g m) (both_grow k n) why (subst (λ xs. (steps_check later src os xs (drop i ds)).fails why) (sym (split_at steps i s lt is))
         (subst (λ ys. (steps_check later src os (s ∷ drop (i + 1) steps) ys).fails why) (sym (split_at ds i d lt' is')) h))
 
+    all_look : (later : Telling) → Grows new.blobs later.blobs → Grows new.results later.results → (a : Asked)
+        → StepsLookAt {A = A} later src os (s ∷ drop (i + 1) steps) (d ∷ drop (i + 1) ds) a → StepsLookAt {A = A} later src [] steps ds a
+    all_look later m n a h =
+        goes.look later (both_grow g m) (both_grow k n) a (subst (λ xs. StepsLookAt {A = A} later src os xs (drop i ds) a) (sym (split_at steps i s lt is))
+        (subst (λ ys. StepsLookAt {A = A} later src os (s ∷ drop (i + 1) steps) ys a) (sym (split_at ds i d lt' is')) h))
+
+    pub steps_look_here : (a : Asked) → StepLooksAt {A = A} new src os s d a → StepsLookAt {A = A} new src [] steps ds a
+    unfolding looks
+    steps_look_here a h = all_look new (λ e b q. q) (λ e b q. q) a (inl h)
+
     pub steps_next : (o : OutcomeValue) → (step_check {A = A} new src os s d).passes o → StepsGoOn A new src steps ds (os ++ o ∷ []) (drop (i + 1) steps) (drop (i + 1) ds)
-    unfolding ◌and_then◌
+    unfolding ◌and_then◌, looks
     steps_next o h = record {
       pass = λ later m n outcomes rest. all_pass later m n outcomes (o, (stable_step {A = A} src os s d).still new later m n o h, rest);
       fail = λ later m n why rest. all_fail later m n why (inr (o, (stable_step {A = A} src os s d).still new later m n o h, rest));
+      look = λ later m n a rest. all_look later m n a (inr (o, (stable_step {A = A} src os s d).still new later m n o h, rest));
     }
 
     pub steps_fail : (name : List ℕ) (c : Cause A) → name ≡ s.name → (step_check new src os s d).fails c → (steps_check new src [] steps ds).fails (Step name, c)
@@ -111,3 +126,19 @@ module _ (A : Type 0) (told : Telling) (src : DigestValue) (plan : PlanValue) (d
         let all = passes_count A told src [] plan.steps ds os h in
         let none : length {A = OutcomeValue} [] + length plan.steps ≡ length plan.steps = omega arith in
         (is, count ∙ all ∙ none, (os, (stable_steps {A = A} src [] plan.steps ds).still told later g k os h, root))
+
+-- ---- what the checks of a plan look at
+
+module _ (A : Type 0) (told : Telling) (src : DigestValue) (plan : PlanValue) (ds : List DigestValue) where
+  pub plan_look_steps : (a : Asked) → StepsLookAt {A = A} told src [] plan.steps ds a → PlanLooksAt {A = A} told src plan ds a
+  unfolding looks
+  plan_look_steps a h = inl h
+
+  module _ (later : Telling) (g : Grows told.blobs later.blobs) (k : Grows told.results later.results) where
+    pub plan_look_still : (a : Asked) → StepsLookAt {A = A} told src [] plan.steps ds a → PlanLooksAt {A = A} later src plan ds a
+    unfolding looks
+    plan_look_still a h = inl ((steady_steps {A = A} src [] plan.steps ds).still told later g k a h)
+
+    pub plan_look_root : (os : List OutcomeValue) → (steps_check {A = A} told src [] plan.steps ds).passes os → (a : Asked) → RootLooksAt {A = A} later src os plan.root_lines a → PlanLooksAt {A = A} later src plan ds a
+    unfolding looks
+    plan_look_root os h a at = inr (os, (stable_steps {A = A} src [] plan.steps ds).still told later g k os h, at)

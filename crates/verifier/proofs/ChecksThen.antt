@@ -1,5 +1,5 @@
 -- Checks of a source, one after another, while it tells more and more.
-use Rattle.std.proofs.Common.{◌≡◌, ℕ, List, [], ◌∷◌, ◌++◌, ap, sym, subst, ◌∙◌}
+use Rattle.std.proofs.Common.{◌≡◌, ℕ, List, [], ◌∷◌, ◌++◌, ap, sym, subst, ◌∙◌, inl, inr}
 use Rattle.std.proofs.lemmas.Result.{err_from_is_err_and}
 use Rattle.std.specs.Prelude.{Result, Ok, Err, IsErrOf}
 use Rattle.std.specs.Result.{IsErrAnd}
@@ -15,16 +15,27 @@ use Rattle.tree.specs.Tree.{Name}
 use Rattle.tree.specs.Form.{NodeValue}
 use Rattle.blob_source.specs.Source.{Telling, Grows}
 use Rattle.blob_source.proofs.Calling.{called_none, called_ok, called_exit}
+use Rattle.tree.specs.LooksAt.{Compares}
+use Rattle.tree.specs.Memo.{Asked, Known, IsKnownOf, IsRefused, Learns, LooksAtBlob}
 use Rattle.tree.proofs.Descent.{told_still}
+use Rattle.tree.proofs.Learning.{learns_none, learns_then, learns_more, learns_refused, refused_exit}
+use Rattle.tree.proofs.Ways.{compares_still}
+use Rattle.tree.specs.Folded.{first_visits}
+use Rattle.tree.specs.Form.{root}
+use Rattle.tree.specs.Graft.{graft}
 use Rattle.verifier.specs.declared.fault.Fault.{Fault}
 use Rattle.verifier.specs.declared.fault.Fault.TheVariants as faults
 use Rattle.verifier.specs.declared.verdict.Cause.{Cause}
 use Rattle.verifier.specs.declared.verdict.Place.{Place}
+use Rattle.verifier.specs.Answers.{IsStopped}
 use Rattle.verifier.specs.Checks.{Checks}
+use Rattle.verifier.specs.declared.verifying.Checked.{Checked}
 use Rattle.verifier.specs.Stage.{Stage, ◌and_then◌, Explains, Answers}
 use Rattle.verifier.specs.StepChecks.{message, resolved, grafted, held, read, step_check}
+use Rattle.verifier.specs.LooksAt.{looks, LooksAtNothing, LinesLookAt, InputLooksAt, ResultLooksAt, StepLooksAt, StepsLookAt}
 use Rattle.verifier.specs.Verdict.{located, steps_check}
 use Rattle.verifier.proofs.Checking.{resolves_still}
+use Rattle.verifier.proofs.Looking.{lines_look_still, outputs_look_still}
 use Rattle.verifier.proofs.Stages.{fails_here, then_answers}
 
 -- ---- what passes still passes when more is told
@@ -75,38 +86,106 @@ module _ {A : Type 0} where
   stable_steps d os (s ∷ ss) [] = stable_without
   stable_steps d os (s ∷ ss) (recorded ∷ ds) = stable_then (stable_located (stable_step d os s recorded)) (λ o. stable_steps d (os ++ o ∷ []) ss ds)
 
+-- ---- what was looked at is looked at when more is told
+
+pub record IsSteady (look : Telling → Asked → Type 0) : Type 0 where
+  pub still : (old new : Telling) → Grows old.blobs new.blobs → Grows old.results new.results → (a : Asked) → look old a → look new a
+
+pub steady_without : {look : Asked → Type 0} → IsSteady (λ _. look)
+steady_without = record { still = λ old new g k a h. h }
+
+pub steady_looks : {E V : Type 0} {first : Telling → Stage E V} {here : Telling → Asked → Type 0} {next : Telling → V → Asked → Type 0} → IsStable first → IsSteady here → ((v : V) → IsSteady (λ t. next t v))
+    → IsSteady (λ t. looks (first t) (here t) (next t))
+unfolding looks
+steady_looks {first = first} {here = here} {next = next} stable steady rest = record { still = by }
+  where
+    by : (old new : Telling) → Grows old.blobs new.blobs → Grows old.results new.results → (a : Asked) → looks (first old) (here old) (next old) a → looks (first new) (here new) (next new) a
+    unfolding looks
+    by old new g k a (inl h) = inl (steady.still old new g k a h)
+    by old new g k a (inr h) = inr (h.0, stable.still old new g k h.0 h.1, (rest h.0).still old new g k a h.2)
+
+pub steady_lines : (d : DigestValue) (os : List OutcomeValue) (ls : List LineValue) → IsSteady (λ t. LinesLookAt t.blobs d os ls)
+steady_lines d os ls = record { still = λ old new g k a h. lines_look_still old.blobs new.blobs d os ls a g h }
+
+pub steady_input : (act : ActionValue) (xs : List (List Name × NodeValue)) → IsSteady (λ t. InputLooksAt t.blobs act xs)
+steady_input act xs = record { still = λ old new g k a h. (h.0, compares_still (first_visits (graft xs)) g a 64 (root (graft xs)) act.input h.1) }
+
+pub steady_result : (m : CommandValue) (r : ActionResultValue) → IsSteady (λ t. ResultLooksAt t.blobs m r)
+steady_result m r = record { still = λ old new g k a h. (h.0, h.1, outputs_look_still old.blobs new.blobs m h.0 a g h.2) }
+
+module _ {A : Type 0} where
+  pub steady_step : (d : DigestValue) (os : List OutcomeValue) (s : StepValue) (recorded : DigestValue) → IsSteady (λ t. StepLooksAt {A = A} t d os s recorded)
+  steady_step d os s recorded =
+      steady_looks (stable_message {A = A}) steady_without (λ a.
+      steady_looks stable_without steady_without (λ _.
+      steady_looks (stable_message {A = A}) steady_without (λ m.
+      steady_looks stable_without steady_without (λ _.
+      steady_looks (stable_resolved {A = A} d os s.lines) (steady_lines d os s.lines) (λ xs.
+      steady_looks (stable_grafted {A = A} a xs) (steady_input a xs) (λ _.
+      steady_looks (stable_held {A = A}) steady_without (λ r.
+      steady_looks stable_without steady_without (λ _.
+      steady_result m r))))))))
+
+  pub steady_steps : (d : DigestValue) (os : List OutcomeValue) (ss : List StepValue) (ds : List DigestValue) → IsSteady (λ t. StepsLookAt {A = A} t d os ss ds)
+  steady_steps d os [] ds = steady_without
+  steady_steps d os (s ∷ ss) [] = steady_without
+  steady_steps d os (s ∷ ss) (recorded ∷ ds) = steady_looks (stable_step {A = A} d os s recorded) (steady_step d os s recorded) (λ o. steady_steps d (os ++ o ∷ []) ss ds)
+
+-- what is looked at, said of the same by another name
+pub looked_blob : {d e : DigestValue} {refused : Type 0} {k0 k1 : Known} {t0 t1 : Telling} → d ≡ e → Learns (LooksAtBlob d) refused k0 k1 t0 t1 → Learns (LooksAtBlob e) refused k0 k1 t0 t1
+looked_blob same h = learns_more (λ a k. subst (λ x. LooksAtBlob x a) same k) (λ n. n) h
+
+pub looked_lines : {d : DigestValue} {os : List OutcomeValue} {ls ls' : List LineValue} {refused : Type 0} {k0 k1 : Known} {t0 t1 : Telling} → ls ≡ ls' → Learns (LinesLookAt t1.blobs d os ls) refused k0 k1 t0 t1 → Learns (LinesLookAt t1.blobs d os ls') refused k0 k1 t0 t1
+looked_lines {d} {os} {t1 = t1} same h = learns_more (λ a k. subst (λ x. LinesLookAt t1.blobs d os x a) same k) (λ n. n) h
+
+pub stopped_exit : {A E : Type 0} (r : Result (Checked A) E) (P : E → Type 0) → IsErrAnd r P → IsStopped r
+stopped_exit (Ok x) P exit = elim exit [ ]
+stopped_exit (Err e) P exit = tt
+
 -- ---- answers
 
 module _ {A V : Type 0} where
   -- a check that asks no source
-  pub checks_none : (stage : Telling → Stage (Cause A) V) (t : Telling) (r : Result V (Fault A)) → Answers (stage t) r → (IsErrOf r faults.Fetch → ⊥) → Checks stage t t r
-  checks_none stage t r h none = record { checked = h; called = called_none none }
+  pub checks_none : (stage : Telling → Stage (Cause A) V) {look : Telling → Asked → Type 0} {known : Known} (t : Telling) (r : Result V (Fault A)) → IsKnownOf known t → Answers (stage t) r → (IsErrOf r faults.Fetch → ⊥)
+      → Checks stage look known known t t r
+  checks_none stage t r is h none = record { checked = h; called = called_none none; learned = learns_none is }
 
   -- memory ran out before the source was asked, and a `?` hands that out
-  pub checks_memory : (stage : Telling → Stage (Cause A) V) (t : Telling) {r : Result V (Fault A)} → IsErrAnd r (λ e. e ≡ faults.Memory) → Checks stage t t r
-  checks_memory stage t {r} exit =
+  pub checks_memory : (stage : Telling → Stage (Cause A) V) {look : Telling → Asked → Type 0} {known : Known} (t : Telling) {r : Result V (Fault A)} → IsKnownOf known t → IsErrAnd r (λ e. e ≡ faults.Memory) → Checks stage look known known t t r
+  checks_memory stage {look} {known} t {r} is exit =
       let p = err_from_is_err_and r exit in
-      subst (Checks stage t t) (sym (p.1 ∙ ap Err p.2)) (record { checked = tt; called = called_none memory_no_fetch })
+      subst (Checks stage look known known t t) (sym (p.1 ∙ ap Err p.2)) (record { checked = tt; called = called_none memory_no_fetch; learned = learns_none is })
     where
       memory_no_fetch : IsErrOf {T = V} {E = Fault A} (Err faults.Memory) faults.Fetch → ⊥
       memory_no_fetch e = cc
 
-  pub checks_both : (stage : Telling → Stage (Cause A) V) (old new : Telling) (r : Result V (Fault A)) → Answers (stage new) r → Called old new (IsErrOf r faults.Fetch) → Checks stage old new r
-  checks_both stage old new r h k = record { checked = h; called = k }
+  pub checks_both : (stage : Telling → Stage (Cause A) V) {look : Telling → Asked → Type 0} {known later : Known} (old new : Telling) (r : Result V (Fault A)) → Answers (stage new) r → Called old new (IsErrOf r faults.Fetch)
+      → Learns (look new) (IsRefused r) known later old new → Checks stage look known later old new r
+  checks_both stage old new r h k l = record { checked = h; called = k; learned = l }
 
 module _ {A V W : Type 0} where
   -- the first check passed
-  pub checks_then : {first : Telling → Stage (Cause A) V} (next : Telling → V → Stage (Cause A) W) {old mid new : Telling} {v : V} {r : Result W (Fault A)}
-      → IsStable first → Checks first old mid (Ok v) → Checks (λ t. next t v) mid new r → Checks (λ t. first t and_then next t) old new r
-  checks_then {first} next {old} {mid} {new} {v} {r} stable h k = record {
-    checked = then_answers (first new) (next new) v r (stable.still mid new k.called.asked.asks.blobs k.called.asked.asks.results v h.checked) k.checked;
-    called = called_ok h.called k.called;
-  }
+  pub checks_then : {first : Telling → Stage (Cause A) V} (next : Telling → V → Stage (Cause A) W) {here : Telling → Asked → Type 0} {further : Telling → V → Asked → Type 0} {k0 k1 k2 : Known} {old mid new : Telling} {v : V}
+      {r : Result W (Fault A)} → IsStable first → IsSteady here → Checks first here k0 k1 old mid (Ok v) → Checks (λ t. next t v) (λ t. further t v) k1 k2 mid new r
+      → Checks (λ t. first t and_then next t) (λ t. looks (first t) (here t) (further t)) k0 k2 old new r
+  unfolding looks
+  checks_then {first} next {old = old} {mid = mid} {new = new} {v = v} {r = r} stable steady h k =
+      let blobs = k.called.asked.asks.blobs in
+      let results = k.called.asked.asks.results in
+      let passes = stable.still mid new blobs results v h.checked in
+      record {
+        checked = then_answers (first new) (next new) v r passes k.checked;
+        called = called_ok h.called k.called;
+        learned = learns_then {t1 = mid} (λ a at. inl (steady.still mid new blobs results a at)) (λ a at. inr (v, passes, at)) (λ n. n) h.learned k.learned;
+      }
 
   -- the first check failed, and a `?` hands its answer out
-  pub checks_exit : {T : Type 0} (first : Telling → Stage (Cause A) V) (next : Telling → V → Stage (Cause A) W) {old new : Telling} {f : Fault A} {r : Result W (Fault A)}
-      → IsErrAnd r (λ e. e ≡ f) → Explains (first new).fails f → Called old new (IsErrOf {T = T} (Err f) faults.Fetch) → Checks (λ t. first t and_then next t) old new r
-  checks_exit first next {old} {new} {f} {r} exit h k = record {
+  pub checks_exit : {T : Type 0} (first : Telling → Stage (Cause A) V) (next : Telling → V → Stage (Cause A) W) {here : Telling → Asked → Type 0} {further : Telling → V → Asked → Type 0} {k0 k1 : Known} {old new : Telling} {f : Fault A}
+      {r : Result W (Fault A)} {refused : Type 0} → IsErrAnd r (λ e. e ≡ f) → Explains (first new).fails f → Called old new (IsErrOf {T = T} (Err f) faults.Fetch) → Learns (here new) refused k0 k1 old new
+      → Checks (λ t. first t and_then next t) (λ t. looks (first t) (here t) (further t)) k0 k1 old new r
+  unfolding looks
+  checks_exit first next {old = old} {new = new} {f = f} {r = r} exit h k l = record {
     checked = fails_here (first new) (next new) f r exit h;
     called = called_exit exit k;
+    learned = learns_refused (λ a at. inl at) (refused_exit r (λ e. e ≡ f) exit) l;
   }

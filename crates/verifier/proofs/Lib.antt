@@ -16,6 +16,7 @@ pub mod FreshRuns
 pub mod Explained
 pub mod Checking
 pub mod Stages
+pub mod Looking
 pub mod ChecksThen
 pub mod StageLaws
 pub mod StepLaws

@@ -1,5 +1,5 @@
 -- What the private functions that check a plan answer.
-use Rattle.std.specs.Prelude.{◌≡◌, ℕ, List, []}
+use Rattle.std.specs.Prelude.{◌≡◌, ℕ, List, [], Result, Ok, Err}
 use Rattle.blob_digest.specs.Digest.{DigestValue}
 use Rattle.plan.specs.Values.{StepValue}
 use Rattle.blob_source.specs.Source.{Blobs, Telling}
@@ -58,3 +58,9 @@ IsChecked {A} tells sources steps ds (Outcomes outcomes) =
     (steps_check {A = A} tells sources [] steps ds).passes outcomes.items
 IsChecked tells sources steps ds (First name c) =
     (steps_check tells sources [] steps ds).fails (Step name, c)
+
+-- the steps weren't all checked
+abbrev pub IsStopped : {A E : Type 0} → Result (Checked A) E → Type 0
+IsStopped (Ok (Outcomes outcomes)) = ⊥
+IsStopped (Ok (First name c)) = Unit {0}
+IsStopped (Err e) = Unit {0}

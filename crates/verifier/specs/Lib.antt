@@ -5,6 +5,7 @@ pub mod Headline
 pub mod Accepted
 pub mod Faults
 pub mod Stage
+pub mod LooksAt
 pub mod StepChecks
 pub mod Checks
 pub mod Verdict

@@ -6,6 +6,8 @@ ghost use Rattle.tree.specs.Lines.{lines_of};
 ghost use Rattle.tree.specs.Lookup.{found};
 ghost use Rattle.verifier.specs.Accepted.{LooksAt, Resolves};
 ghost use Rattle.blob_source.specs.Called.{Called};
+ghost use Rattle.tree.specs.Memo.{IsKnownOf, IsRefused, Learns, known_by};
+ghost use Rattle.verifier.specs.LooksAt.{LinesLookAt, OriginLooksAt};
 ghost use Rattle.verifier.specs.Stage.{Explains};
 ghost use Rattle.verifier.specs.Faults.{LineFault, FirstFault};
 
@@ -16,7 +18,7 @@ use blob_digest::Digest;
 use messages::Path;
 use plan::{Line, Origin};
 use std::alloc::Allocator;
-use tree::{BlobSource, Node, lookup};
+use tree::{BlobSource, Memo, Node};
 
 /// What stands at the line's origin, in the sources or in the outcome of an earlier step.
 fn find_origin<A: Allocator + Copy, S: BlobSource<A>>(
@@ -24,17 +26,22 @@ fn find_origin<A: Allocator + Copy, S: BlobSource<A>>(
     sources: &Digest,
     outcomes: &[Outcome<A>],
     line: &Line<A>,
+    memo: &mut Memo<A>,
     source: &mut S,
 ) -> Result<Node<A>, Fault<A>>
-    requires { IsLine (length outcomes.now) line.now }
+    requires line { IsLine (length outcomes.now) line.now }
+    requires known { IsKnownOf (known_by memo.old) (S.tells source.old) }
     ensures told { IfOk result (λ node. LooksAt (S.tells source.new).blobs sources.now
         outcomes.now line.now.origin (found (node_value node))) }
     ensures faulty { IfErr result (Explains (LineFault (S.tells source.new).blobs sources.now
         outcomes.now line.now)) }
     ensures called { Called (S.tells source.old) (S.tells source.new) (IsErrOf result Fault.Fetch) }
+    ensures learned { Learns (OriginLooksAt (S.tells source.new).blobs sources.now line.now.origin)
+        (IsRefused result)
+        (known_by memo.old) (known_by memo.new) (S.tells source.old) (S.tells source.new) }
 {
     match &line.origin {
-        Origin::Source(path) => match lookup(alloc, sources, path.as_ref(), source) {
+        Origin::Source(path) => match memo.lookup(alloc, sources, path.as_ref(), source) {
             Ok(node) => Ok(node),
             Err(error) => Err(fault_of(error)),
         },
@@ -51,18 +58,23 @@ pub(crate) fn resolve<A: Allocator + Copy, S: BlobSource<A>>(
     sources: &Digest,
     outcomes: &[Outcome<A>],
     lines: &[Line<A>],
+    memo: &mut Memo<A>,
     source: &mut S,
 ) -> Result<Vec<(Path<A>, Node<A>), A>, Fault<A>>
-    requires { AllByRecursion (IsLine (length outcomes.now)) lines.now }
+    requires lines { AllByRecursion (IsLine (length outcomes.now)) lines.now }
+    requires known { IsKnownOf (known_by memo.old) (S.tells source.old) }
     ensures told { IfOk result (λ nodes. Resolves (S.tells source.new).blobs sources.now
         outcomes.now lines.now (lines_of nodes.items)) }
     ensures faulty { IfErr result (Explains (FirstFault (S.tells source.new).blobs sources.now
         outcomes.now lines.now)) }
     ensures called { Called (S.tells source.old) (S.tells source.new) (IsErrOf result Fault.Fetch) }
+    ensures learned { Learns (LinesLookAt (S.tells source.new).blobs sources.now outcomes.now
+        lines.now) (IsRefused result)
+        (known_by memo.old) (known_by memo.new) (S.tells source.old) (S.tells source.new) }
 {
     let mut nodes = Vec::new(alloc);
     for line in lines {
-        let node = find_origin(alloc, sources, outcomes, line, source)?;
+        let node = find_origin(alloc, sources, outcomes, line, memo, source)?;
         nodes.push((Path::copy_of(alloc, &line.target)?, node))?;
     }
     Ok(nodes)

@@ -13,7 +13,12 @@ ghost use Rattle.tree.specs.Difference.{made_by};
 ghost use Rattle.tree.specs.Folded.{IsFoldOfLawful};
 ghost use Rattle.verifier.specs.Answers.{IsDifference, IsDifferenceCause};
 ghost use Rattle.blob_source.specs.Called.{Called};
+ghost use Rattle.tree.specs.Memo.{IsKnownOf, IsRefused, Learns, known_by};
+ghost use Rattle.tree.specs.Memo.{IsWithout, LooksAtResult};
+ghost use Rattle.tree.specs.LooksAt.{Compares};
 ghost use Rattle.verifier.specs.Checks.{Checks};
+ghost use Rattle.verifier.specs.LooksAt.{InputLooksAt, OutputsLookAt, ResultLooksAt, StepLooksAt};
+ghost use Rattle.actions.specs.LooksAt.{OutputLooksAt};
 ghost use Rattle.verifier.specs.Stage.{Explains, Answers};
 ghost use Rattle.verifier.specs.declared.verdict.Cause.TheVariants as causes;
 ghost use Rattle.verifier.specs.StepChecks.{IsRefusedOutput, OutputFault, cached, framed, grafted, held, succeeded, read, step_check};
@@ -27,7 +32,7 @@ use blob_digest::Digest;
 use messages::{MessageError, Node, Path};
 use plan::Step;
 use std::alloc::Allocator;
-use tree::{BlobSource, Difference, Folded, first_difference, graft};
+use tree::{BlobSource, Difference, Folded, Memo, first_difference_with, graft};
 
 /// The outcome that was recorded of a step, or its first fault. The steps before it came to these
 /// outcomes.
@@ -37,22 +42,25 @@ pub(crate) fn check_step<A: Allocator + Copy, S: BlobSource<A>>(
     outcomes: &[Outcome<A>],
     step: &Step<A>,
     recorded: &Digest,
+    memo: &mut Memo<A>,
     source: &mut S,
 ) -> Result<Outcome<A>, Fault<A>>
     requires lines { AllByRecursion (IsLine (length outcomes.now)) step.now.lines }
     requires apart { HaveApartTargets (targets step.now.lines) }
+    requires known { IsKnownOf (known_by memo.old) (S.tells source.old) }
     ensures { Checks (λ tells. step_check tells sources.now outcomes.now step.now recorded.now)
-        (S.tells source.old) (S.tells source.new) result }
+        (λ tells. StepLooksAt {A = A} tells sources.now outcomes.now step.now recorded.now)
+        (known_by memo.old) (known_by memo.new) (S.tells source.old) (S.tells source.new) result }
 {
-    let action: Action<A> = told(alloc, recorded, source)?;
+    let action: Action<A> = told(alloc, recorded, memo, source)?;
     check_cached(&action)?;
-    let command: Command<A> = told(alloc, &action.command_digest(), source)?;
+    let command: Command<A> = told(alloc, &action.command_digest(), memo, source)?;
     check_frame(alloc, &action, step)?;
-    let nodes = resolve(alloc, sources, outcomes, &step.lines, source)?;
-    check_input(alloc, &action, &nodes, source)?;
-    let made = held_result(alloc, recorded, source)?;
+    let nodes = resolve(alloc, sources, outcomes, &step.lines, memo, source)?;
+    check_input(alloc, &action, &nodes, memo, source)?;
+    let made = held_result(alloc, recorded, memo, source)?;
     check_exit_code(&made)?;
-    read_outcome(alloc, &command, &made, source)
+    read_outcome(alloc, &command, &made, memo, source)
 }
 
 /// The action may be cached.
@@ -87,17 +95,22 @@ fn check_input<A: Allocator + Copy, S: BlobSource<A>>(
     alloc: A,
     action: &Action<A>,
     nodes: &[(Path<A>, Node<A>)],
+    memo: &mut Memo<A>,
     source: &mut S,
 ) -> Result<(), Fault<A>>
-    requires { HaveApartTargets (lines_of nodes.now) }
+    requires apart { HaveApartTargets (lines_of nodes.now) }
+    requires known { IsKnownOf (known_by memo.old) (S.tells source.old) }
     ensures checked { Answers (grafted (S.tells source.new).blobs action.now
         (lines_of nodes.now)) result }
     ensures called { Called (S.tells source.old) (S.tells source.new) (IsErrOf result Fault.Fetch) }
+    ensures learned { Learns (InputLooksAt (S.tells source.new).blobs action.now
+        (lines_of nodes.now)) (IsRefused result)
+        (known_by memo.old) (known_by memo.new) (S.tells source.old) (S.tells source.new) }
 {
     let grafted = graft(alloc, nodes)?;
     let input = action.input_root_digest();
     if grafted.root != input {
-        return Err(explain_difference(alloc, &grafted, &input, source));
+        return Err(explain_difference(alloc, &grafted, &input, memo, source));
     }
     Ok(())
 }
@@ -107,15 +120,20 @@ fn explain_difference<A: Allocator + Copy, S: BlobSource<A>>(
     alloc: A,
     grafted: &Folded<A>,
     input: &Digest,
+    memo: &mut Memo<A>,
     source: &mut S,
 ) -> Fault<A>
     requires lawful { IsFoldOfLawful grafted.now }
+    requires known { IsKnownOf (known_by memo.old) (S.tells source.old) }
     requires other { input.now ≢ grafted.now.root }
     ensures explained { Explains (IsDifference (made_by grafted.now) (S.tells source.new).blobs
         grafted.now.root input.now) result }
     ensures called { Called (S.tells source.old) (S.tells source.new) (result ≡ Fault.Fetch) }
+    ensures learned { Learns (Compares (made_by grafted.now) (S.tells source.new).blobs 64
+        grafted.now.root input.now) (Unit {0})
+        (known_by memo.old) (known_by memo.new) (S.tells source.old) (S.tells source.new) }
 {
-    match first_difference(alloc, grafted, input, source) {
+    match first_difference_with(alloc, grafted, input, memo, source) {
         Ok(Some(difference)) => Fault::Cause(cause_of_difference(difference)),
         Ok(None) => unreachable!(),
         Err(error) => fault_of(error),
@@ -136,12 +154,16 @@ fn cause_of_difference<A: Allocator>(difference: Difference<A>) -> Cause<A>
 fn held_result<A: Allocator + Copy, S: BlobSource<A>>(
     alloc: A,
     recorded: &Digest,
+    memo: &mut Memo<A>,
     source: &mut S,
 ) -> Result<ActionResult<A>, Fault<A>>
+    requires { IsKnownOf (known_by memo.old) (S.tells source.old) }
     ensures checked { Answers (held (S.tells source.new).results recorded.now) result }
     ensures called { Called (S.tells source.old) (S.tells source.new) (IsErrOf result Fault.Fetch) }
+    ensures learned { Learns (LooksAtResult recorded.now) (IsRefused result)
+        (known_by memo.old) (known_by memo.new) (S.tells source.old) (S.tells source.new) }
 {
-    match source.result(alloc, recorded)? {
+    match memo.result(alloc, source, recorded)? {
         None => Err(Fault::Cause(Cause::ResultMissing)),
         Some(bytes) => decode_result(alloc, &bytes),
     }
@@ -178,13 +200,17 @@ fn read_outcome<A: Allocator + Copy, S: BlobSource<A>>(
     alloc: A,
     command: &Command<A>,
     made: &ActionResult<A>,
+    memo: &mut Memo<A>,
     source: &mut S,
 ) -> Result<Outcome<A>, Fault<A>>
+    requires { IsKnownOf (known_by memo.old) (S.tells source.old) }
     ensures checked { Answers (read (S.tells source.new).blobs command.now made.now) result }
     ensures called { Called (S.tells source.old) (S.tells source.new) (IsErrOf result Fault.Fetch) }
+    ensures learned { Learns (ResultLooksAt (S.tells source.new).blobs command.now made.now) (IsRefused result)
+        (known_by memo.old) (known_by memo.new) (S.tells source.old) (S.tells source.new) }
 {
     let recorded = made.outputs(alloc)?;
-    let outputs = read_outputs(alloc, command, &recorded, source)?;
+    let outputs = read_outputs(alloc, command, &recorded, memo, source)?;
     Ok(Outcome::from_outputs(made.exit_code(), outputs))
 }
 
@@ -193,8 +219,10 @@ fn read_outputs<A: Allocator + Copy, S: BlobSource<A>>(
     alloc: A,
     command: &Command<A>,
     recorded: &[RecordedOutput<'_, A>],
+    memo: &mut Memo<A>,
     source: &mut S,
 ) -> Result<Vec<(Path<A>, Output<A>), A>, Fault<A>>
+    requires { IsKnownOf (known_by memo.old) (S.tells source.old) }
     ensures read { IfOk result (λ v. StandForAll (S.tells source.new).blobs
         (recorded_values recorded.now) (outputs_in v.items)) }
     ensures listed { IfOk result (λ v.
@@ -202,10 +230,13 @@ fn read_outputs<A: Allocator + Copy, S: BlobSource<A>>(
     ensures refused { IfErr result (Explains (OutputFault (S.tells source.new).blobs command.now
         (recorded_values recorded.now))) }
     ensures called { Called (S.tells source.old) (S.tells source.new) (IsErrOf result Fault.Fetch) }
+    ensures learned { Learns (OutputsLookAt (S.tells source.new).blobs command.now
+        (recorded_values recorded.now)) (IsRefused result)
+        (known_by memo.old) (known_by memo.new) (S.tells source.old) (S.tells source.new) }
 {
     let mut outputs = Vec::new(alloc);
     for output in recorded {
-        let read = read_output(alloc, command, output, source)?;
+        let read = read_output(alloc, command, output, memo, source)?;
         outputs.push((Path::copy_of(alloc, output.path())?, read))?;
     }
     Ok(outputs)
@@ -216,8 +247,10 @@ fn read_output<A: Allocator + Copy, S: BlobSource<A>>(
     alloc: A,
     command: &Command<A>,
     output: &RecordedOutput<'_, A>,
+    memo: &mut Memo<A>,
     source: &mut S,
 ) -> Result<Output<A>, Fault<A>>
+    requires { IsKnownOf (known_by memo.old) (S.tells source.old) }
     ensures read { IfOk result (λ x. StandsFor (S.tells source.new).blobs
         (recorded_value output.now) (output_value x)) }
     ensures listed { IsOk result
@@ -225,12 +258,16 @@ fn read_output<A: Allocator + Copy, S: BlobSource<A>>(
     ensures refused { IfErr result (Explains (IsRefusedOutput (S.tells source.new).blobs command.now
         (recorded_value output.now))) }
     ensures called { Called (S.tells source.old) (S.tells source.new) (IsErrOf result Fault.Fetch) }
+    ensures learned { Learns (λ a. Contains command.now.output_paths
+        (recorded_path (recorded_value output.now)) × OutputLooksAt (recorded_value output.now) a)
+        (IsRefused result)
+        (known_by memo.old) (known_by memo.new) (S.tells source.old) (S.tells source.new) }
 {
     if !command.lists(output.path()) {
         let path = Path::copy_of(alloc, output.path())?;
         return Err(Fault::Cause(Cause::OutputUnlisted(path)));
     }
-    match Output::read(alloc, output, source) {
+    match Output::read_with(alloc, output, memo, source) {
         Ok(read) => Ok(read),
         Err(error) => Err(fault_of(error)),
     }

@@ -1,14 +1,16 @@
-ghost use Rattle.std.specs.Prelude.{◌≡◌, [], IfOk, IsErrOf, length};
+ghost use Rattle.std.specs.Prelude.{◌≡◌, ◌≤◌, ◌+◌, List, [], IfOk, IsErrOf, length};
 ghost use Rattle.std.specs.List.{AllByRecursion};
 ghost use Rattle.plan.specs.Values.{IsLine};
 ghost use Rattle.plan.specs.Plan.{AreSteps};
 ghost use Rattle.plan.specs.Record.{Fits};
 ghost use Rattle.blob_source.specs.Called.{Called};
 ghost use Rattle.tree.specs.Graft.{HaveApartTargets};
+ghost use Rattle.tree.specs.Memo.{Asked, Covers, IsKnownOf, Learns, known_by};
 ghost use Rattle.verifier.specs.Accepted.{targets};
-ghost use Rattle.verifier.specs.Answers.{IsChecked};
+ghost use Rattle.verifier.specs.Answers.{IsChecked, IsStopped};
 ghost use Rattle.verifier.specs.Checks.{Checks};
 ghost use Rattle.verifier.specs.Headline.{EveryRunEndsIn, NoRunIsStuck};
+ghost use Rattle.verifier.specs.LooksAt.{PlanLooksAt, RootLooksAt, StepsLookAt};
 ghost use Rattle.verifier.specs.Verdict.{root_check, IsVerdict, IsYes};
 
 use crate::error::VerifyError;
@@ -20,7 +22,7 @@ use actions::Outcome;
 use blob_digest::Digest;
 use plan::{Line, Plan, Record, Step, StepName};
 use std::alloc::Allocator;
-use tree::{BlobSource, graft};
+use tree::{BlobSource, Memo, graft};
 
 /// What was recorded of all steps, or the first fault and its step.
 #[derive(Drop)]
@@ -49,18 +51,23 @@ fn check_steps<A: Allocator + Copy, S: BlobSource<A>>(
     sources: &Digest,
     steps: &[Step<A>],
     recorded: &[Digest],
+    memo: &mut Memo<A>,
     source: &mut S,
 ) -> Result<Checked<A>, VerifyError>
     requires lawful { AreSteps [] steps.now }
     requires each { length recorded.now ≡ length steps.now }
+    requires known { IsKnownOf (known_by memo.old) (S.tells source.old) }
     ensures checked { IfOk result (IsChecked (S.tells source.new) sources.now steps.now
         recorded.now) }
     ensures called { Called (S.tells source.old) (S.tells source.new)
         (IsErrOf result VerifyError.Fetch) }
+    ensures learned { Learns (StepsLookAt {A = A} (S.tells source.new) sources.now [] steps.now
+        recorded.now) (IsStopped result)
+        (known_by memo.old) (known_by memo.new) (S.tells source.old) (S.tells source.new) }
 {
     let mut outcomes = Vec::new(alloc);
     for (index, step) in steps.iter().enumerate() {
-        match check_step(alloc, sources, &outcomes, step, &recorded[index], source) {
+        match check_step(alloc, sources, &outcomes, step, &recorded[index], memo, source) {
             Ok(outcome) => outcomes.push(outcome)?,
             Err(fault) => {
                 let cause = cause_in(fault)?;
@@ -79,14 +86,17 @@ fn check_root<A: Allocator + Copy, S: BlobSource<A>>(
     outcomes: &[Outcome<A>],
     lines: &[Line<A>],
     claim: &Digest,
+    memo: &mut Memo<A>,
     source: &mut S,
 ) -> Result<(), Fault<A>>
     requires lawful { AllByRecursion (IsLine (length outcomes.now)) lines.now }
     requires apart { HaveApartTargets (targets lines.now) }
+    requires known { IsKnownOf (known_by memo.old) (S.tells source.old) }
     ensures { Checks (λ tells. root_check tells sources.now outcomes.now lines.now claim.now)
-        (S.tells source.old) (S.tells source.new) result }
+        (λ tells. RootLooksAt {A = A} tells sources.now outcomes.now lines.now)
+        (known_by memo.old) (known_by memo.new) (S.tells source.old) (S.tells source.new) result }
 {
-    let nodes = resolve(alloc, sources, outcomes, lines, source)?;
+    let nodes = resolve(alloc, sources, outcomes, lines, memo, source)?;
     let root = graft(alloc, &nodes)?.root;
     if root != *claim {
         return Err(Fault::Cause(Cause::RootDiffers(root)));
@@ -101,19 +111,24 @@ fn decide<A: Allocator + Copy, S: BlobSource<A>>(
     plan: &Plan<A>,
     recorded: &[Digest],
     claim: &Digest,
+    memo: &mut Memo<A>,
     source: &mut S,
 ) -> Result<Verdict<A>, VerifyError>
-    requires { length recorded.now ≡ length plan.now.steps }
+    requires each { length recorded.now ≡ length plan.now.steps }
+    requires known { IsKnownOf (known_by memo.old) (S.tells source.old) }
     ensures verdict { IfOk result (IsVerdict (S.tells source.new) sources.now plan.now
         recorded.now claim.now) }
     ensures called { Called (S.tells source.old) (S.tells source.new)
         (IsErrOf result VerifyError.Fetch) }
+    ensures learned { Learns (PlanLooksAt {A = A} (S.tells source.new) sources.now plan.now
+        recorded.now) (Unit {0})
+        (known_by memo.old) (known_by memo.new) (S.tells source.old) (S.tells source.new) }
 {
-    let outcomes = match check_steps(alloc, sources, plan.steps(), recorded, source)? {
+    let outcomes = match check_steps(alloc, sources, plan.steps(), recorded, memo, source)? {
         Checked::First(name, cause) => return Ok(Verdict::No(Place::Step(name), cause)),
         Checked::Outcomes(outcomes) => outcomes,
     };
-    match check_root(alloc, sources, &outcomes, plan.root(), claim, source) {
+    match check_root(alloc, sources, &outcomes, plan.root(), claim, memo, source) {
         Err(fault) => Ok(Verdict::No(Place::Root, cause_in(fault)?)),
         Ok(()) => Ok(Verdict::Yes {
             root: *claim,
@@ -148,6 +163,12 @@ pub fn verify<A: Allocator + Copy, S: BlobSource<A>>(
         sources.now plan.now «record».now.digests) }
     ensures called { Called (S.tells source.old) (S.tells source.new)
         (IsErrOf result VerifyError.Fetch) }
+    // Of what the checks look at, up to the first fault, the source is asked at most once for each.
+    ensures few { (list : List Asked)
+        → Covers (PlanLooksAt {A = A} (S.tells source.new) sources.now plan.now
+        «record».now.digests) list
+        → (S.tells source.new).calls ≤ (S.tells source.old).calls + length list }
 {
-    decide(alloc, sources, plan, record.digests(), claim, source)
+    let mut memo = Memo::new(alloc);
+    decide(alloc, sources, plan, record.digests(), claim, &mut memo, source)
 }

@@ -1,3 +1,4 @@
+mod levels;
 pub mod steps;
 
 use blob_digest::Digest;

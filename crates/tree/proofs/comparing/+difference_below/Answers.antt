@@ -11,6 +11,8 @@ use Rattle.tree.proofs.TwoReads.{asks_both, calls_both, calls_below}
 use Rattle.tree.proofs.Leaving.{leaves_then}
 use Rattle.tree.proofs.OwnDirectories.{ok_more, err_more}
 use Rattle.tree.proofs.DifferenceSteps.{ReadsBoth, reads_still, reads_both, finds_recorded, finds_grafted, finds_others, finds_last, finds_below, recorded_fault, grafted_fault, child_fault, explains_below}
+use Rattle.tree.proofs.Learning.{learns_then, learns_refused, refused_exit}
+use Rattle.tree.proofs.Ways.{compares_still, compares_recorded, compares_below, learns_both}
 use Rattle.tree.proofs.comparing.+difference_below.Goals as goal
 
 pub returns-in_err-there-clause-refused : goal.returns-in_err-there-clause-refused
@@ -165,3 +167,64 @@ returns-then-deeper-eq1-clause-called g t c = calls_both c.requires.some (c.in_o
 pub returns-clause-called : goal.returns-clause-called
 returns-clause-called g t c =
     calls_below c.requires.some (c.in_ok-there.ensures {u = tt}).called (c.in_ok-here.ensures {u = tt}).called c.difference_below.ensures.called
+
+pub read_directory-requires-2-clause-known : goal.read_directory-requires-2-clause-known
+read_directory-requires-2-clause-known g t c = (c.in_ok-there.ensures {u = tt}).learned.known
+
+pub returns-in_err-there-clause-learned : goal.returns-in_err-there-clause-learned
+returns-in_err-there-clause-learned g t c =
+    learns_refused (λ a. compares_recorded _ _ c.args.grafted.now c.args.recorded.now c.args.deeper c.requires.some a) (refused_exit _ _ c.from_residual.ensures.1) (c.in_err-there.ensures {u = tt}).learned
+
+pub returns-in_err-here-clause-learned : goal.returns-in_err-here-clause-learned
+returns-in_err-here-clause-learned g t c =
+    let read = reads_still (encodings_in c.args.own.now) c.args.recorded.now c.in_ok-there.there c.read_directory-2.ensures.called.asked.blobs (c.in_ok-there.ensures {u = tt}).told in
+    learns_both (encodings_in c.args.own.now) c.args.grafted.now c.args.recorded.now c.args.deeper c.in_ok-there.there c.requires.some read (λ n. n) (c.in_ok-there.ensures {u = tt}).learned (learns_refused (λ a h. h) (refused_exit _ _ c.from_residual-in_err-here.ensures.1) (c.in_err-here.ensures {u = tt}).learned)
+
+pub returns-in_err-name-clause-learned : goal.returns-in_err-name-clause-learned
+returns-in_err-name-clause-learned g t c =
+    let read = reads_still (encodings_in c.args.own.now) c.args.recorded.now c.in_ok-there.there c.read_directory-2.ensures.called.asked.blobs (c.in_ok-there.ensures {u = tt}).told in
+    learns_refused (λ a h. h) (refused_exit _ _ c.from_residual-in_err-name.ensures.1)
+    (learns_both (encodings_in c.args.own.now) c.args.grafted.now c.args.recorded.now c.args.deeper c.in_ok-there.there c.requires.some read (λ n. n) (c.in_ok-there.ensures {u = tt}).learned (c.in_ok-here.ensures {u = tt}).learned)
+
+pub returns-in_err-path-clause-learned : goal.returns-in_err-path-clause-learned
+returns-in_err-path-clause-learned g t c =
+    let read = reads_still (encodings_in c.args.own.now) c.args.recorded.now c.in_ok-there.there c.read_directory-2.ensures.called.asked.blobs (c.in_ok-there.ensures {u = tt}).told in
+    learns_refused (λ a h. h) (refused_exit _ _ c.from_residual-in_err-path.ensures.1)
+    (learns_both (encodings_in c.args.own.now) c.args.grafted.now c.args.recorded.now c.args.deeper c.in_ok-there.there c.requires.some read (λ n. n) (c.in_ok-there.ensures {u = tt}).learned (c.in_ok-here.ensures {u = tt}).learned)
+
+pub returns-in-OnlyRecorded-clause-learned : goal.returns-in-OnlyRecorded-clause-learned
+returns-in-OnlyRecorded-clause-learned g t c =
+    let read = reads_still (encodings_in c.args.own.now) c.args.recorded.now c.in_ok-there.there c.read_directory-2.ensures.called.asked.blobs (c.in_ok-there.ensures {u = tt}).told in
+    learns_both (encodings_in c.args.own.now) c.args.grafted.now c.args.recorded.now c.args.deeper c.in_ok-there.there c.requires.some read (λ n. n) (c.in_ok-there.ensures {u = tt}).learned (c.in_ok-here.ensures {u = tt}).learned
+
+pub returns-in-OnlyGrafted-clause-learned : goal.returns-in-OnlyGrafted-clause-learned
+returns-in-OnlyGrafted-clause-learned g t c =
+    let read = reads_still (encodings_in c.args.own.now) c.args.recorded.now c.in_ok-there.there c.read_directory-2.ensures.called.asked.blobs (c.in_ok-there.ensures {u = tt}).told in
+    learns_both (encodings_in c.args.own.now) c.args.grafted.now c.args.recorded.now c.args.deeper c.in_ok-there.there c.requires.some read (λ n. n) (c.in_ok-there.ensures {u = tt}).learned (c.in_ok-here.ensures {u = tt}).learned
+
+pub returns-in-Others-clause-learned : goal.returns-in-Others-clause-learned
+returns-in-Others-clause-learned g t c =
+    let read = reads_still (encodings_in c.args.own.now) c.args.recorded.now c.in_ok-there.there c.read_directory-2.ensures.called.asked.blobs (c.in_ok-there.ensures {u = tt}).told in
+    learns_both (encodings_in c.args.own.now) c.args.grafted.now c.args.recorded.now c.args.deeper c.in_ok-there.there c.requires.some read (λ n. n) (c.in_ok-there.ensures {u = tt}).learned (c.in_ok-here.ensures {u = tt}).learned
+
+pub returns-then-deeper-eq1-clause-learned : goal.returns-then-deeper-eq1-clause-learned
+returns-then-deeper-eq1-clause-learned g t c =
+    let read = reads_still (encodings_in c.args.own.now) c.args.recorded.now c.in_ok-there.there c.read_directory-2.ensures.called.asked.blobs (c.in_ok-there.ensures {u = tt}).told in
+    learns_both (encodings_in c.args.own.now) c.args.grafted.now c.args.recorded.now c.args.deeper c.in_ok-there.there c.requires.some read (λ n. n) (c.in_ok-there.ensures {u = tt}).learned (c.in_ok-here.ensures {u = tt}).learned
+
+pub returns-clause-learned : goal.returns-clause-learned
+returns-clause-learned g t c =
+    let first = c.in_ok-name.ensures {u = tt} in
+    let name = c.in_ok-name.field-0.name in
+    let here = c.in_ok-here.here in
+    let there = c.in_ok-there.there in
+    let own = encodings_in c.args.own.now in
+    let read = reads_still own c.args.recorded.now there c.read_directory-2.ensures.called.asked.blobs (c.in_ok-there.ensures {u = tt}).told in
+    let both : ReadsBoth own (g.S.BlobSource.tells c.read_directory-2.new.source).blobs c.args.grafted.now c.args.recorded.now name here there = record { recorded = read; grafted = (c.in_ok-here.ensures {u = tt}).told; first = first.name } in
+    let B = (g.S.BlobSource.tells c.difference_below.new.source).blobs in
+    let grows = c.difference_below.ensures.called.asked.blobs in
+    let later = reads_both own c.args.grafted.now c.args.recorded.now name here there grows both in
+    let unlike = subst (IsUnlike (child_of name here) (child_of name there)) c.in-Directories.is first.unlike in
+    learns_then {t1 = g.S.BlobSource.tells c.read_directory-2.new.source} (λ a. compares_still own grows a c.args.deeper c.args.grafted.now c.args.recorded.now)
+    (λ a. compares_below own B c.args.grafted.now c.args.recorded.now c.args.deeper c.requires.some a name here there c.in-Directories.grafted c.in-Directories.recorded later unlike) (λ n. n)
+    (learns_both (encodings_in c.args.own.now) c.args.grafted.now c.args.recorded.now c.args.deeper c.in_ok-there.there c.requires.some read (λ n. n) (c.in_ok-there.ensures {u = tt}).learned (c.in_ok-here.ensures {u = tt}).learned) c.difference_below.ensures.learned

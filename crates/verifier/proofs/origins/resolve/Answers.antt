@@ -9,13 +9,18 @@ use Rattle.blob_source.proofs.Asking.{ok_no_error}
 use Rattle.blob_source.proofs.Calling.{called_none, called_no, called_on, called_exit}
 use Rattle.verifier.proofs.Explained.{explains_map}
 use Rattle.verifier.proofs.Lines.{LinesGoOn, lines_first, lines_next, lines_end, lines_fault, lawful_line}
+use Rattle.tree.proofs.Learning.{learns_none, learns_then, learns_more, learns_refused, refused_exit}
+use Rattle.verifier.proofs.Looking.{lines_look_first, lines_look_here, lines_look_next, lines_look_still}
 use Rattle.verifier.proofs.origins.resolve.Goals as goal
 
-pub find_origin-requires : goal.find_origin-requires
-find_origin-requires g c = lawful_line _ c.args.lines.now c.loop-line.line-index c.line-item.result c.loop-line-test.true c.line-item.is c.requires
+pub find_origin-requires-clause-line : goal.find_origin-requires-clause-line
+find_origin-requires-clause-line g c = lawful_line _ c.args.lines.now c.loop-line.line-index c.line-item.result c.loop-line-test.true c.line-item.is c.requires.lines
+
+pub find_origin-requires-clause-known : goal.find_origin-requires-clause-known
+find_origin-requires-clause-known g c = c.loop-line.invariant.learned.known
 
 pub loop-line-init : goal.loop-line-init
-loop-line-init g c = record { called = called_none (λ n. n); goes = subst (λ ns. LinesGoOn g.row.A.Denot (g.S.BlobSource.tells c.args.source.now).blobs c.args.sources.now c.args.outcomes.now c.args.lines.now (lines_of ns) c.args.lines.now) (sym c.new-nodes.ensures.items) (lines_first _ _ _ _) }
+loop-line-init g c = record { called = called_none (λ n. n); goes = subst (λ ns. LinesGoOn g.row.A.Denot (g.S.BlobSource.tells c.args.source.now).blobs c.args.sources.now c.args.outcomes.now c.args.lines.now (lines_of ns) c.args.lines.now) (sym c.new-nodes.ensures.items) (lines_first _ _ _ _); look = lines_look_first _ _ _ _; learned = learns_none c.requires.known }
 
 pub returns-in_err-node-clause-faulty : goal.returns-in_err-node-clause-faulty
 returns-in_err-node-clause-faulty g c =
@@ -33,6 +38,10 @@ loop-line-preserved g c =
       called = called_on c.loop-line.invariant.called (called_no ok_no_error (λ n. n) c.in_ok-node.ensures.called);
       goes = subst (λ xs. LinesGoOn g.row.A.Denot (g.S.BlobSource.tells c.find_origin.new.source).blobs c.args.sources.now c.args.outcomes.now c.args.lines.now xs (drop (c.loop-line.line-index + 1) c.args.lines.now)) (sym values)
           (lines_next _ _ c.args.sources.now c.args.outcomes.now c.args.lines.now (lines_of c.loop-line.nodes.items) c.loop-line.line-index line (node_value c.in_ok-node.node) c.loop-line-test.true c.line-item.is c.loop-line.invariant.goes c.find_origin.ensures.called.asked.asks.blobs (c.in_ok-node.ensures {u = tt}).told);
+      look = lines_look_next _ _ c.args.sources.now c.args.outcomes.now c.args.lines.now c.loop-line.line-index line c.loop-line-test.true c.line-item.is c.loop-line.invariant.look c.find_origin.ensures.called.asked.asks.blobs (node_value c.in_ok-node.node) (c.in_ok-node.ensures {u = tt}).told;
+      learned = learns_then {t1 = g.S.BlobSource.tells c.loop-line.source} (λ a. lines_look_still _ _ c.args.sources.now c.args.outcomes.now c.args.lines.now a c.find_origin.ensures.called.asked.asks.blobs)
+          (lines_look_here _ _ c.args.sources.now c.args.outcomes.now c.args.lines.now c.loop-line.line-index c.line-item.result c.loop-line-test.true c.line-item.is c.loop-line.invariant.look c.find_origin.ensures.called.asked.asks.blobs) (λ n. n)
+          c.loop-line.invariant.learned c.in_ok-node.ensures.learned;
     }
 
 pub returns-clause-told : goal.returns-clause-told
@@ -49,3 +58,26 @@ returns-in_err-push-clause-called g c = called_on c.loop-line.invariant.called (
 
 pub returns-clause-called : goal.returns-clause-called
 returns-clause-called g c = called_no (λ n. n) ok_no_error c.loop-line.invariant.called
+
+pub returns-in_err-node-clause-learned : goal.returns-in_err-node-clause-learned
+returns-in_err-node-clause-learned g c =
+    learns_then {t1 = g.S.BlobSource.tells c.loop-line.source} (λ a. lines_look_still _ _ c.args.sources.now c.args.outcomes.now c.args.lines.now a c.find_origin.ensures.called.asked.asks.blobs)
+          (lines_look_here _ _ c.args.sources.now c.args.outcomes.now c.args.lines.now c.loop-line.line-index c.line-item.result c.loop-line-test.true c.line-item.is c.loop-line.invariant.look c.find_origin.ensures.called.asked.asks.blobs) (λ n. n)
+          c.loop-line.invariant.learned (learns_refused (λ a h. h) (refused_exit _ _ c.from_residual.ensures.1) c.in_err-node.ensures.learned)
+
+pub returns-in_err-copy_of-clause-learned : goal.returns-in_err-copy_of-clause-learned
+returns-in_err-copy_of-clause-learned g c =
+    learns_refused (λ a h. h) (refused_exit _ _ c.from_residual-in_err-copy_of.ensures.1)
+    (learns_then {t1 = g.S.BlobSource.tells c.loop-line.source} (λ a. lines_look_still _ _ c.args.sources.now c.args.outcomes.now c.args.lines.now a c.find_origin.ensures.called.asked.asks.blobs)
+          (lines_look_here _ _ c.args.sources.now c.args.outcomes.now c.args.lines.now c.loop-line.line-index c.line-item.result c.loop-line-test.true c.line-item.is c.loop-line.invariant.look c.find_origin.ensures.called.asked.asks.blobs) (λ n. n)
+          c.loop-line.invariant.learned c.in_ok-node.ensures.learned)
+
+pub returns-in_err-push-clause-learned : goal.returns-in_err-push-clause-learned
+returns-in_err-push-clause-learned g c =
+    learns_refused (λ a h. h) (refused_exit _ _ c.from_residual-in_err-push.ensures.1)
+    (learns_then {t1 = g.S.BlobSource.tells c.loop-line.source} (λ a. lines_look_still _ _ c.args.sources.now c.args.outcomes.now c.args.lines.now a c.find_origin.ensures.called.asked.asks.blobs)
+          (lines_look_here _ _ c.args.sources.now c.args.outcomes.now c.args.lines.now c.loop-line.line-index c.line-item.result c.loop-line-test.true c.line-item.is c.loop-line.invariant.look c.find_origin.ensures.called.asked.asks.blobs) (λ n. n)
+          c.loop-line.invariant.learned c.in_ok-node.ensures.learned)
+
+pub returns-clause-learned : goal.returns-clause-learned
+returns-clause-learned g c = c.loop-line.invariant.learned

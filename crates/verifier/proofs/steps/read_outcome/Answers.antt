@@ -6,6 +6,7 @@ use Rattle.action_messages.specs.Outputs.{recorded_values}
 use Rattle.actions.specs.Outcome.{outputs_in}
 use Rattle.actions.proofs.Outcomes.{lawful_outcome, recorded_outcome}
 use Rattle.blob_source.proofs.Asking.{ok_no_error}
+use Rattle.tree.proofs.Learning.{learns_more, learns_none, learns_refused, refused_exit}
 use Rattle.verifier.specs.StepChecks.{AreListed}
 use Rattle.blob_source.proofs.Calling.{called_no}
 use Rattle.verifier.proofs.steps.read_outcome.Goals as goal
@@ -24,3 +25,13 @@ returns-clause-checked g c =
 
 pub returns-clause-called : goal.returns-clause-called
 returns-clause-called g c = called_no ok_no_error ok_no_error c.in_ok-outputs.ensures.called
+
+pub returns-in_err-recorded-clause-learned : goal.returns-in_err-recorded-clause-learned
+returns-in_err-recorded-clause-learned g c = learns_none c.requires
+
+pub returns-in_err-outputs-clause-learned : goal.returns-in_err-outputs-clause-learned
+returns-in_err-outputs-clause-learned g c =
+    learns_refused (λ a h. (recorded_values c.deref.result.now, rw c.deref.ensures.value (c.in_ok-recorded.ensures {u = tt}), h)) (refused_exit _ _ c.from_residual-in_err-outputs.ensures.1) c.in_err-outputs.ensures.learned
+
+pub returns-clause-learned : goal.returns-clause-learned
+returns-clause-learned g c = learns_more (λ a h. (recorded_values c.deref.result.now, rw c.deref.ensures.value (c.in_ok-recorded.ensures {u = tt}), h)) (λ n. n) c.in_ok-outputs.ensures.learned

@@ -9,6 +9,8 @@ use Rattle.verifier.specs.StepChecks.{IsRefusedOutput, OutputFault}
 use Rattle.blob_source.proofs.Calling.{called_none, called_no, called_on, called_exit}
 use Rattle.verifier.proofs.Explained.{explains_map}
 use Rattle.verifier.proofs.Checking.{OutputsGoOn, outputs_first, outputs_next, outputs_fault, outputs_end}
+use Rattle.tree.proofs.Learning.{learns_none, learns_then, learns_refused, refused_exit}
+use Rattle.verifier.proofs.Looking.{outputs_look_first, outputs_look_here, outputs_look_next, outputs_look_still}
 use Rattle.verifier.proofs.steps.read_outputs.Goals as goal
 
 pub returns-in_err-read-clause-refused : goal.returns-in_err-read-clause-refused
@@ -30,6 +32,9 @@ loop-output-preserved g c =
       goes = subst (λ es. OutputsGoOn g.row.A.Denot B c.args.command.now (recorded_values c.args.recorded.now) es (recorded_values (drop (c.loop-output.output-index + 1) c.args.recorded.now))) (sym values)
           (outputs_next _ B c.args.command.now (recorded_values c.args.recorded.now) (outputs_in c.loop-output.outputs.items) c.args.recorded.now c.loop-output.output-index c.output-item.result path (output_value read) c.loop-output-test.true c.output-item.is c.loop-output.invariant.goes
           c.read_output.ensures.called.asked.asks.blobs ((c.in_ok-copy_of.ensures {u = tt}) ∙ c.path.ensures) (c.in_ok-read.ensures.listed refl) c.in_ok-read.ensures.read);
+      look = outputs_look_next _ _ c.args.command.now (recorded_values c.args.recorded.now) c.args.recorded.now c.loop-output.output-index c.output-item.result c.loop-output-test.true c.output-item.is c.loop-output.invariant.look c.read_output.ensures.called.asked.asks.blobs (output_value read) (c.in_ok-read.ensures.listed refl) c.in_ok-read.ensures.read;
+      learned = learns_then {t1 = g.S.BlobSource.tells c.loop-output.source} (λ a. outputs_look_still _ _ c.args.command.now (recorded_values c.args.recorded.now) a c.read_output.ensures.called.asked.asks.blobs)
+          (outputs_look_here _ _ c.args.command.now (recorded_values c.args.recorded.now) c.args.recorded.now c.loop-output.output-index c.output-item.result c.loop-output-test.true c.output-item.is c.loop-output.invariant.look c.read_output.ensures.called.asked.asks.blobs) (λ n. n) c.loop-output.invariant.learned c.in_ok-read.ensures.learned;
     }
 
 pub returns-clause-read : goal.returns-clause-read
@@ -51,4 +56,29 @@ pub loop-output-init : goal.loop-output-init
 loop-output-init g c = record {
   called = called_none (λ n. n);
   goes = subst (λ es. OutputsGoOn g.row.A.Denot (g.S.BlobSource.tells c.args.source.now).blobs c.args.command.now (recorded_values c.args.recorded.now) (outputs_in es) (recorded_values c.args.recorded.now)) (sym c.new-outputs.ensures.items) (outputs_first _ _ _);
+  look = outputs_look_first _ _ _;
+  learned = learns_none c.requires;
 }
+
+pub read_output-requires : goal.read_output-requires
+read_output-requires g c = c.loop-output.invariant.learned.known
+
+pub returns-in_err-read-clause-learned : goal.returns-in_err-read-clause-learned
+returns-in_err-read-clause-learned g c =
+    learns_then {t1 = g.S.BlobSource.tells c.loop-output.source} (λ a. outputs_look_still _ _ c.args.command.now (recorded_values c.args.recorded.now) a c.read_output.ensures.called.asked.asks.blobs)
+          (outputs_look_here _ _ c.args.command.now (recorded_values c.args.recorded.now) c.args.recorded.now c.loop-output.output-index c.output-item.result c.loop-output-test.true c.output-item.is c.loop-output.invariant.look c.read_output.ensures.called.asked.asks.blobs) (λ n. n) c.loop-output.invariant.learned (learns_refused (λ a h. h) (refused_exit _ _ c.from_residual.ensures.1) c.in_err-read.ensures.learned)
+
+pub returns-in_err-copy_of-clause-learned : goal.returns-in_err-copy_of-clause-learned
+returns-in_err-copy_of-clause-learned g c =
+    learns_refused (λ a h. h) (refused_exit _ _ c.from_residual-in_err-copy_of.ensures.1)
+    (learns_then {t1 = g.S.BlobSource.tells c.loop-output.source} (λ a. outputs_look_still _ _ c.args.command.now (recorded_values c.args.recorded.now) a c.read_output.ensures.called.asked.asks.blobs)
+          (outputs_look_here _ _ c.args.command.now (recorded_values c.args.recorded.now) c.args.recorded.now c.loop-output.output-index c.output-item.result c.loop-output-test.true c.output-item.is c.loop-output.invariant.look c.read_output.ensures.called.asked.asks.blobs) (λ n. n) c.loop-output.invariant.learned c.in_ok-read.ensures.learned)
+
+pub returns-in_err-push-clause-learned : goal.returns-in_err-push-clause-learned
+returns-in_err-push-clause-learned g c =
+    learns_refused (λ a h. h) (refused_exit _ _ c.from_residual-in_err-push.ensures.1)
+    (learns_then {t1 = g.S.BlobSource.tells c.loop-output.source} (λ a. outputs_look_still _ _ c.args.command.now (recorded_values c.args.recorded.now) a c.read_output.ensures.called.asked.asks.blobs)
+          (outputs_look_here _ _ c.args.command.now (recorded_values c.args.recorded.now) c.args.recorded.now c.loop-output.output-index c.output-item.result c.loop-output-test.true c.output-item.is c.loop-output.invariant.look c.read_output.ensures.called.asked.asks.blobs) (λ n. n) c.loop-output.invariant.learned c.in_ok-read.ensures.learned)
+
+pub returns-clause-learned : goal.returns-clause-learned
+returns-clause-learned g c = c.loop-output.invariant.learned

@@ -10,7 +10,10 @@ use Rattle.verifier.specs.declared.error.VerifyError.TheVariants as errors
 use Rattle.verifier.specs.Stage.{Explains}
 use Rattle.verifier.specs.StepChecks.{step_check}
 use Rattle.blob_source.proofs.Calling.{err_injective, called_none, called_as, called_no, called_on, called_exit}
-use Rattle.verifier.proofs.CheckingSteps.{StepsGoOn, steps_first, steps_next, steps_fail, steps_end, numbered_lines}
+use Rattle.tree.proofs.Learning.{learns_none, learns_then, learns_refused}
+use Rattle.verifier.specs.LooksAt.{StepLooksAt}
+use Rattle.verifier.proofs.ChecksThen.{steady_steps, stopped_exit}
+use Rattle.verifier.proofs.CheckingSteps.{StepsGoOn, steps_first, steps_next, steps_fail, steps_end, steps_look_here, numbered_lines}
 use Rattle.verifier.proofs.Targets.{plan_targets}
 use Rattle.verifier.proofs.verifying.check_steps.Goals as goal
 
@@ -37,6 +40,9 @@ returns-in-Err-clause-checked g c =
     steps_fail old tells c.args.sources.now c.args.steps.now c.args.recorded.now c.loop-index.outcomes.items c.loop-index.index c.index-steps-index.result c.index-recorded-index.result
     c.loop-index-test.true c.index-steps-index.is within c.index-recorded-index.is c.loop-index.invariant.goes asked.blobs asked.results c.in_ok-copy_of-in-Err.field-0 c.in_ok-cause-in-Err.cause (search rules) fails
 
+pub check_step-requires-clause-known : goal.check_step-requires-clause-known
+check_step-requires-clause-known g c = c.loop-index.invariant.learned.known
+
 pub loop-index-preserved : goal.loop-index-preserved
 loop-index-preserved g c =
     let old = g.S.BlobSource.tells c.loop-index.source in
@@ -46,6 +52,8 @@ loop-index-preserved g c =
     let pushed : c.push.new.self.items ≡ c.loop-index.outcomes.items ++ o ∷ [] = search rules in
     let passes = subst (λ os. (step_check {A = g.row.A.Denot} tells c.args.sources.now os c.index-steps-index.result c.index-recorded-index.result).passes o) c.deref.ensures.value (c.in-Ok.ensures {u = tt}).checked in
     let within : c.loop-index.index < length c.args.recorded.now = subst (λ n. c.loop-index.index < n) (sym c.requires.each) c.loop-index-test.true in
+    let here = steps_look_here {A = g.row.A.Denot} old tells c.args.sources.now c.args.steps.now c.args.recorded.now c.loop-index.outcomes.items c.loop-index.index c.index-steps-index.result c.index-recorded-index.result
+    c.loop-index-test.true c.index-steps-index.is within c.index-recorded-index.is c.loop-index.invariant.goes asked.blobs asked.results in
     let longer : length c.push.new.self.items ≡ length c.loop-index.outcomes.items + 1 = ap length pushed ∙ length-append c.loop-index.outcomes.items (o ∷ []) in
     record {
       called = called_on c.loop-index.invariant.called (called_no ok_no_error (λ n. n) (c.in-Ok.ensures {u = tt}).called);
@@ -53,6 +61,8 @@ loop-index-preserved g c =
       goes = subst (λ os. StepsGoOn g.row.A.Denot tells c.args.sources.now c.args.steps.now c.args.recorded.now os (drop (c.loop-index.index + 1) c.args.steps.now) (drop (c.loop-index.index + 1) c.args.recorded.now)) (sym pushed)
           (steps_next old tells c.args.sources.now c.args.steps.now c.args.recorded.now c.loop-index.outcomes.items c.loop-index.index c.index-steps-index.result c.index-recorded-index.result
           c.loop-index-test.true c.index-steps-index.is within c.index-recorded-index.is c.loop-index.invariant.goes asked.blobs asked.results o passes);
+      learned = learns_then {t1 = old} ((steady_steps {A = g.row.A.Denot} c.args.sources.now [] c.args.steps.now c.args.recorded.now).still old tells asked.blobs asked.results)
+    (λ a h. here a (subst (λ os. StepLooksAt {A = g.row.A.Denot} tells c.args.sources.now os c.index-steps-index.result c.index-recorded-index.result a) c.deref.ensures.value h)) (λ n. n) c.loop-index.invariant.learned (c.in-Ok.ensures {u = tt}).learned;
     }
 
 pub returns-clause-checked : goal.returns-clause-checked
@@ -63,6 +73,7 @@ loop-index-init g c = record {
   called = called_none (λ n. n);
   count = ap length c.new-outcomes.ensures.items;
   goes = subst (λ os. StepsGoOn g.row.A.Denot (g.S.BlobSource.tells c.args.source.now) c.args.sources.now c.args.steps.now c.args.recorded.now os c.args.steps.now c.args.recorded.now) (sym c.new-outcomes.ensures.items) (steps_first _ _ _ _);
+  learned = learns_none c.requires.known;
 }
 
 pub returns-in_err-push-in-Ok-clause-called : goal.returns-in_err-push-in-Ok-clause-called
@@ -84,3 +95,53 @@ returns-in-Err-clause-called g c =
 
 pub returns-clause-called : goal.returns-clause-called
 returns-clause-called g c = called_no (λ n. n) ok_no_error c.loop-index.invariant.called
+
+pub returns-in_err-push-in-Ok-clause-learned : goal.returns-in_err-push-in-Ok-clause-learned
+returns-in_err-push-in-Ok-clause-learned g c =
+    let old = g.S.BlobSource.tells c.loop-index.source in
+    let tells = g.S.BlobSource.tells c.check_step.new.source in
+    let asked = c.check_step.ensures.called.asked.asks in
+    let within : c.loop-index.index < length c.args.recorded.now = subst (λ n. c.loop-index.index < n) (sym c.requires.each) c.loop-index-test.true in
+    let here = steps_look_here {A = g.row.A.Denot} old tells c.args.sources.now c.args.steps.now c.args.recorded.now c.loop-index.outcomes.items c.loop-index.index c.index-steps-index.result c.index-recorded-index.result
+    c.loop-index-test.true c.index-steps-index.is within c.index-recorded-index.is c.loop-index.invariant.goes asked.blobs asked.results in
+    learns_refused (λ a h. h) (stopped_exit _ _ c.from_residual-in_err-push-in-Ok.ensures.1)
+    (learns_then {t1 = old} ((steady_steps {A = g.row.A.Denot} c.args.sources.now [] c.args.steps.now c.args.recorded.now).still old tells asked.blobs asked.results)
+    (λ a h. here a (subst (λ os. StepLooksAt {A = g.row.A.Denot} tells c.args.sources.now os c.index-steps-index.result c.index-recorded-index.result a) c.deref.ensures.value h)) (λ n. n) c.loop-index.invariant.learned (c.in-Ok.ensures {u = tt}).learned)
+
+pub returns-in_err-cause-in-Err-clause-learned : goal.returns-in_err-cause-in-Err-clause-learned
+returns-in_err-cause-in-Err-clause-learned g c =
+    let old = g.S.BlobSource.tells c.loop-index.source in
+    let tells = g.S.BlobSource.tells c.check_step.new.source in
+    let asked = c.check_step.ensures.called.asked.asks in
+    let within : c.loop-index.index < length c.args.recorded.now = subst (λ n. c.loop-index.index < n) (sym c.requires.each) c.loop-index-test.true in
+    let here = steps_look_here {A = g.row.A.Denot} old tells c.args.sources.now c.args.steps.now c.args.recorded.now c.loop-index.outcomes.items c.loop-index.index c.index-steps-index.result c.index-recorded-index.result
+    c.loop-index-test.true c.index-steps-index.is within c.index-recorded-index.is c.loop-index.invariant.goes asked.blobs asked.results in
+    learns_refused (λ a h. h) (stopped_exit _ _ c.from_residual-in_err-cause-in-Err.ensures.1)
+    (learns_then {t1 = old} ((steady_steps {A = g.row.A.Denot} c.args.sources.now [] c.args.steps.now c.args.recorded.now).still old tells asked.blobs asked.results)
+    (λ a h. here a (subst (λ os. StepLooksAt {A = g.row.A.Denot} tells c.args.sources.now os c.index-steps-index.result c.index-recorded-index.result a) c.deref.ensures.value h)) (λ n. n) c.loop-index.invariant.learned (c.in-Err.ensures {u = tt}).learned)
+
+pub returns-in_err-copy_of-in-Err-clause-learned : goal.returns-in_err-copy_of-in-Err-clause-learned
+returns-in_err-copy_of-in-Err-clause-learned g c =
+    let old = g.S.BlobSource.tells c.loop-index.source in
+    let tells = g.S.BlobSource.tells c.check_step.new.source in
+    let asked = c.check_step.ensures.called.asked.asks in
+    let within : c.loop-index.index < length c.args.recorded.now = subst (λ n. c.loop-index.index < n) (sym c.requires.each) c.loop-index-test.true in
+    let here = steps_look_here {A = g.row.A.Denot} old tells c.args.sources.now c.args.steps.now c.args.recorded.now c.loop-index.outcomes.items c.loop-index.index c.index-steps-index.result c.index-recorded-index.result
+    c.loop-index-test.true c.index-steps-index.is within c.index-recorded-index.is c.loop-index.invariant.goes asked.blobs asked.results in
+    learns_refused (λ a h. h) (stopped_exit _ _ c.from_residual-in_err-copy_of-in-Err.ensures.1)
+    (learns_then {t1 = old} ((steady_steps {A = g.row.A.Denot} c.args.sources.now [] c.args.steps.now c.args.recorded.now).still old tells asked.blobs asked.results)
+    (λ a h. here a (subst (λ os. StepLooksAt {A = g.row.A.Denot} tells c.args.sources.now os c.index-steps-index.result c.index-recorded-index.result a) c.deref.ensures.value h)) (λ n. n) c.loop-index.invariant.learned (c.in-Err.ensures {u = tt}).learned)
+
+pub returns-in-Err-clause-learned : goal.returns-in-Err-clause-learned
+returns-in-Err-clause-learned g c =
+    let old = g.S.BlobSource.tells c.loop-index.source in
+    let tells = g.S.BlobSource.tells c.check_step.new.source in
+    let asked = c.check_step.ensures.called.asked.asks in
+    let within : c.loop-index.index < length c.args.recorded.now = subst (λ n. c.loop-index.index < n) (sym c.requires.each) c.loop-index-test.true in
+    let here = steps_look_here {A = g.row.A.Denot} old tells c.args.sources.now c.args.steps.now c.args.recorded.now c.loop-index.outcomes.items c.loop-index.index c.index-steps-index.result c.index-recorded-index.result
+    c.loop-index-test.true c.index-steps-index.is within c.index-recorded-index.is c.loop-index.invariant.goes asked.blobs asked.results in
+    learns_then {t1 = old} ((steady_steps {A = g.row.A.Denot} c.args.sources.now [] c.args.steps.now c.args.recorded.now).still old tells asked.blobs asked.results)
+    (λ a h. here a (subst (λ os. StepLooksAt {A = g.row.A.Denot} tells c.args.sources.now os c.index-steps-index.result c.index-recorded-index.result a) c.deref.ensures.value h)) (λ n. n) c.loop-index.invariant.learned (c.in-Err.ensures {u = tt}).learned
+
+pub returns-clause-learned : goal.returns-clause-learned
+returns-clause-learned g c = c.loop-index.invariant.learned

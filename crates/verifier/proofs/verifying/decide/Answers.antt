@@ -1,7 +1,7 @@
 -- The steps, and then the root.
 use Rattle.std.proofs.Common.{◌≡◌, [], length, ap, subst, sym, refl, arith, rules}
 use Rattle.std.specs.List.{AllByRecursion}
-use Rattle.std.specs.Prelude.{Err, IsErrOf}
+use Rattle.std.specs.Prelude.{Ok, Err, IsErrOf}
 use Rattle.verifier.specs.declared.verdict.Place.TheVariants.{Step}
 use Rattle.plan.specs.Values.{IsLine}
 use Rattle.plan.specs.Plan as plans
@@ -9,10 +9,13 @@ use Rattle.blob_source.proofs.Asking.{ok_no_error}
 use Rattle.blob_source.proofs.Calling.{err_injective, called_as, called_no, called_ok, called_exit}
 use Rattle.verifier.specs.declared.error.VerifyError.TheVariants as errors
 use Rattle.verifier.specs.declared.verdict.Cause.{Cause}
-use Rattle.verifier.specs.Answers.{IsChecked}
+use Rattle.verifier.specs.Answers.{IsChecked, IsStopped}
+use Rattle.verifier.specs.declared.error.VerifyError.{VerifyError}
+use Rattle.verifier.specs.LooksAt.{StepsLookAt, RootLooksAt, PlanLooksAt}
+use Rattle.tree.proofs.Learning.{learns_then, learns_refused}
 use Rattle.verifier.specs.Stage.{Explains}
 use Rattle.verifier.specs.Verdict.{root_check, steps_check}
-use Rattle.verifier.proofs.CheckingSteps.{passes_count, steps_decide, root_decides, all_pass_decides}
+use Rattle.verifier.proofs.CheckingSteps.{passes_count, steps_decide, root_decides, all_pass_decides, plan_look_steps, plan_look_still, plan_look_root}
 use Rattle.verifier.proofs.Targets.{plan_targets}
 use Rattle.verifier.proofs.verifying.decide.Goals as goal
 
@@ -76,3 +79,57 @@ returns-in-Err-clause-called g c =
 
 pub returns-clause-called : goal.returns-clause-called
 returns-clause-called g c = called_ok (c.in_ok-name.ensures {u = tt}).called (called_no ok_no_error ok_no_error (c.in-Ok.ensures {u = tt}).called)
+
+pub check_root-requires-clause-known : goal.check_root-requires-clause-known
+check_root-requires-clause-known g c = (c.in_ok-name.ensures {u = tt}).learned.known
+
+pub returns-in_err-name-clause-learned : goal.returns-in_err-name-clause-learned
+returns-in_err-name-clause-learned g c =
+    let told = g.S.BlobSource.tells c.check_steps.new.source in
+    learns_refused (λ a h. plan_look_steps g.row.A.Denot told c.args.sources.now c.args.plan.now c.args.recorded.now a (subst (λ ss. StepsLookAt {A = g.row.A.Denot} told c.args.sources.now [] ss c.args.recorded.now a) c.steps.ensures.value h)) tt
+    (c.in_err-name.ensures {u = tt}).learned
+
+pub returns-in-First-clause-learned : goal.returns-in-First-clause-learned
+returns-in-First-clause-learned g c =
+    let told = g.S.BlobSource.tells c.check_steps.new.source in
+    learns_refused (λ a h. plan_look_steps g.row.A.Denot told c.args.sources.now c.args.plan.now c.args.recorded.now a (subst (λ ss. StepsLookAt {A = g.row.A.Denot} told c.args.sources.now [] ss c.args.recorded.now a) c.steps.ensures.value h)) tt
+    (c.in_ok-name.ensures {u = tt}).learned
+
+pub returns-in_err-cause_in-in-Err-clause-learned : goal.returns-in_err-cause_in-in-Err-clause-learned
+returns-in_err-cause_in-in-Err-clause-learned g c =
+    let told = g.S.BlobSource.tells c.check_steps.new.source in
+    let later = g.S.BlobSource.tells c.check_root.new.source in
+    let asked = c.check_root.ensures.called.asked.asks in
+    let checked = subst (IsChecked told c.args.sources.now c.steps.result.now c.args.recorded.now) c.in-Outcomes.is (c.in_ok-name.ensures {u = tt}).checked in
+    let passes = subst (λ steps. (steps_check {A = g.row.A.Denot} told c.args.sources.now [] steps c.args.recorded.now).passes c.in-Outcomes.outcomes.items) c.steps.ensures.value checked in
+    learns_refused (λ a h. h) tt (learns_then {both = PlanLooksAt {A = g.row.A.Denot} later c.args.sources.now c.args.plan.now c.args.recorded.now} {t1 = told}
+    (λ a h. plan_look_still g.row.A.Denot told c.args.sources.now c.args.plan.now c.args.recorded.now later asked.blobs asked.results a (subst (λ ss. StepsLookAt {A = g.row.A.Denot} told c.args.sources.now [] ss c.args.recorded.now a) c.steps.ensures.value h))
+    (λ a h. plan_look_root g.row.A.Denot told c.args.sources.now c.args.plan.now c.args.recorded.now later asked.blobs asked.results c.in-Outcomes.outcomes.items passes a
+    (subst (λ os. RootLooksAt {A = g.row.A.Denot} later c.args.sources.now os c.args.plan.now.root_lines a) c.deref.ensures.value (subst (λ ls. RootLooksAt {A = g.row.A.Denot} later c.args.sources.now c.deref.result.now ls a) c.root.ensures.value h)))
+    (λ stopped. subst (λ x. IsStopped {E = VerifyError} (Ok x)) c.in-Outcomes.is stopped) (c.in_ok-name.ensures {u = tt}).learned c.check_root.ensures.learned)
+
+pub returns-in-Err-clause-learned : goal.returns-in-Err-clause-learned
+returns-in-Err-clause-learned g c =
+    let told = g.S.BlobSource.tells c.check_steps.new.source in
+    let later = g.S.BlobSource.tells c.check_root.new.source in
+    let asked = c.check_root.ensures.called.asked.asks in
+    let checked = subst (IsChecked told c.args.sources.now c.steps.result.now c.args.recorded.now) c.in-Outcomes.is (c.in_ok-name.ensures {u = tt}).checked in
+    let passes = subst (λ steps. (steps_check {A = g.row.A.Denot} told c.args.sources.now [] steps c.args.recorded.now).passes c.in-Outcomes.outcomes.items) c.steps.ensures.value checked in
+    learns_refused (λ a h. h) tt (learns_then {both = PlanLooksAt {A = g.row.A.Denot} later c.args.sources.now c.args.plan.now c.args.recorded.now} {t1 = told}
+    (λ a h. plan_look_still g.row.A.Denot told c.args.sources.now c.args.plan.now c.args.recorded.now later asked.blobs asked.results a (subst (λ ss. StepsLookAt {A = g.row.A.Denot} told c.args.sources.now [] ss c.args.recorded.now a) c.steps.ensures.value h))
+    (λ a h. plan_look_root g.row.A.Denot told c.args.sources.now c.args.plan.now c.args.recorded.now later asked.blobs asked.results c.in-Outcomes.outcomes.items passes a
+    (subst (λ os. RootLooksAt {A = g.row.A.Denot} later c.args.sources.now os c.args.plan.now.root_lines a) c.deref.ensures.value (subst (λ ls. RootLooksAt {A = g.row.A.Denot} later c.args.sources.now c.deref.result.now ls a) c.root.ensures.value h)))
+    (λ stopped. subst (λ x. IsStopped {E = VerifyError} (Ok x)) c.in-Outcomes.is stopped) (c.in_ok-name.ensures {u = tt}).learned c.check_root.ensures.learned)
+
+pub returns-clause-learned : goal.returns-clause-learned
+returns-clause-learned g c =
+    let told = g.S.BlobSource.tells c.check_steps.new.source in
+    let later = g.S.BlobSource.tells c.check_root.new.source in
+    let asked = c.check_root.ensures.called.asked.asks in
+    let checked = subst (IsChecked told c.args.sources.now c.steps.result.now c.args.recorded.now) c.in-Outcomes.is (c.in_ok-name.ensures {u = tt}).checked in
+    let passes = subst (λ steps. (steps_check {A = g.row.A.Denot} told c.args.sources.now [] steps c.args.recorded.now).passes c.in-Outcomes.outcomes.items) c.steps.ensures.value checked in
+    learns_refused (λ a h. h) tt (learns_then {both = PlanLooksAt {A = g.row.A.Denot} later c.args.sources.now c.args.plan.now c.args.recorded.now} {t1 = told}
+    (λ a h. plan_look_still g.row.A.Denot told c.args.sources.now c.args.plan.now c.args.recorded.now later asked.blobs asked.results a (subst (λ ss. StepsLookAt {A = g.row.A.Denot} told c.args.sources.now [] ss c.args.recorded.now a) c.steps.ensures.value h))
+    (λ a h. plan_look_root g.row.A.Denot told c.args.sources.now c.args.plan.now c.args.recorded.now later asked.blobs asked.results c.in-Outcomes.outcomes.items passes a
+    (subst (λ os. RootLooksAt {A = g.row.A.Denot} later c.args.sources.now os c.args.plan.now.root_lines a) c.deref.ensures.value (subst (λ ls. RootLooksAt {A = g.row.A.Denot} later c.args.sources.now c.deref.result.now ls a) c.root.ensures.value h)))
+    (λ stopped. subst (λ x. IsStopped {E = VerifyError} (Ok x)) c.in-Outcomes.is stopped) (c.in_ok-name.ensures {u = tt}).learned c.check_root.ensures.learned)

@@ -1,6 +1,6 @@
-use Rattle.blob_source.proofs.Asking.{ok_no_error}
-use Rattle.blob_source.proofs.Calling.{called_no}
+-- A fresh memo knows nothing.
+use Rattle.tree.proofs.Learning.{known_nothing}
 use Rattle.actions.proofs.outcome.Output.read.Goals as goal
 
-pub returns-in_ok-fetch_message-in-Directory-clause-called : goal.returns-in_ok-fetch_message-in-Directory-clause-called
-returns-in_ok-fetch_message-in-Directory-clause-called g c = called_no ok_no_error ok_no_error c.in_ok-fetch_message-in-Directory.ensures.called
+pub read_with-requires : goal.read_with-requires
+read_with-requires g c = known_nothing c.new.ensures

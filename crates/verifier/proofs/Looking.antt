@@ -1,0 +1,76 @@
+-- What checks look at, one after another, while the source tells more and more.
+use Rattle.std.proofs.Common.{◌≡◌, ℕ, suc, ◌+◌, ◌<◌, List, [], ◌∷◌, ◌++◌, length, drop, get_or, ap, sym, subst, inl, inr, add-one, drop-cons}
+use Rattle.blob_digest.specs.Digest.{DigestValue}
+use Rattle.std.specs.List.{Contains}
+use Rattle.action_messages.specs.Command.{CommandValue}
+use Rattle.action_messages.specs.Outputs.{RecordedValue, recorded_path, recorded_value, recorded_values}
+use Rattle.action_messages.specs.declared.recorded_output.RecordedOutput.{RecordedOutput}
+use Rattle.actions.specs.LooksAt.{OutputLooksAt}
+use Rattle.actions.specs.Outcome.{OutcomeValue, OutputValue}
+use Rattle.actions.specs.Recorded.{StandsFor}
+use Rattle.actions.proofs.Reading.{stands_still}
+use Rattle.plan.specs.Values.{OriginValue, source, output, LineValue}
+use Rattle.tree.specs.Form.{NodeValue}
+use Rattle.tree.specs.Lookup.{found}
+use Rattle.tree.specs.Memo.{Asked}
+use Rattle.tree.proofs.Ways.{way_still}
+use Rattle.blob_source.specs.Source.{Blobs, Grows}
+use Rattle.verifier.specs.Accepted.{LooksAt}
+use Rattle.verifier.specs.LooksAt.{OriginLooksAt, LinesLookAt, OutputsLookAt}
+use Rattle.verifier.proofs.Checking.{recorded_next}
+use Rattle.verifier.proofs.Lines.{found_still}
+
+-- ---- lines
+
+pub origin_look_still : (B C : Blobs) (d : DigestValue) (o : OriginValue) (a : Asked) → Grows B C → OriginLooksAt B d o a → OriginLooksAt C d o a
+origin_look_still B C d (source p) a g h = way_still B C d p a g h
+origin_look_still B C d (output step p) a g h = h
+
+pub lines_look_still : (B C : Blobs) (d : DigestValue) (os : List OutcomeValue) (ls : List LineValue) (a : Asked) → Grows B C → LinesLookAt B d os ls a → LinesLookAt C d os ls a
+lines_look_still B C d os [] a g h = h
+lines_look_still B C d os (l ∷ ls) a g (inl h) = inl (origin_look_still B C d l.origin a g h)
+lines_look_still B C d os (l ∷ ls) a g (inr h) = inr (h.0, found_still B C d os l.origin h.0 g h.1, lines_look_still B C d os ls a g h.2)
+
+-- whatever is told later, what the rest of the lines looks at is looked at by all
+pub record LinesLookOn (B : Blobs) (d : DigestValue) (os : List OutcomeValue) (ls rest : List LineValue) : Type 0 where
+  pub look : (later : Blobs) → Grows B later → (a : Asked) → LinesLookAt later d os rest a → LinesLookAt later d os ls a
+
+pub lines_look_first : (B : Blobs) (d : DigestValue) (os : List OutcomeValue) (ls : List LineValue) → LinesLookOn B d os ls ls
+lines_look_first B d os ls = record { look = λ later g a h. h }
+
+module _ (B C : Blobs) (d : DigestValue) (os : List OutcomeValue) (ls : List LineValue) (i : ℕ) (l : LineValue) (lt : i < length ls) (is : l ≡ get_or ls i l) (on : LinesLookOn B d os ls (drop i ls)) (grows : Grows B C) where
+  split : drop i ls ≡ l ∷ drop (i + 1) ls
+  split = rw (add-one, drop-cons ls i l lt) (ap (λ k. k ∷ drop (suc i) ls) (sym is))
+
+  pub lines_look_here : (a : Asked) → OriginLooksAt C d l.origin a → LinesLookAt C d os ls a
+  lines_look_here a h = on.look C grows a (subst (λ q. LinesLookAt C d os q a) (sym split) (inl h))
+
+  pub lines_look_next : (x : NodeValue) → LooksAt C d os l.origin (found x) → LinesLookOn C d os ls (drop (i + 1) ls)
+  lines_look_next x there = record {
+    look = λ later g a h. on.look later (λ e b q. g e b (grows e b q)) a
+        (subst (λ q. LinesLookAt later d os q a) (sym split) (inr (x, found_still C later d os l.origin x g there, h)));
+  }
+
+-- ---- outputs
+
+pub outputs_look_still : (B C : Blobs) (c : CommandValue) (xs : List RecordedValue) (a : Asked) → Grows B C → OutputsLookAt B c xs a → OutputsLookAt C c xs a
+outputs_look_still B C c [] a g h = h
+outputs_look_still B C c (x ∷ xs) a g (listed, inl h) = (listed, inl h)
+outputs_look_still B C c (x ∷ xs) a g (listed, inr h) = (listed, inr (h.0, stands_still B C x h.0 g h.1, outputs_look_still B C c xs a g h.2))
+
+pub record OutputsLookOn (B : Blobs) (c : CommandValue) (xs rest : List RecordedValue) : Type 0 where
+  pub look : (later : Blobs) → Grows B later → (a : Asked) → OutputsLookAt later c rest a → OutputsLookAt later c xs a
+
+pub outputs_look_first : (B : Blobs) (c : CommandValue) (xs : List RecordedValue) → OutputsLookOn B c xs xs
+outputs_look_first B c xs = record { look = λ later g a h. h }
+
+module _ {A : Type 0} (B C : Blobs) (c : CommandValue) (xs : List RecordedValue) (ys : List (RecordedOutput A)) (i : ℕ) (y : RecordedOutput A) (lt : i < length ys) (is : y ≡ get_or ys i y)
+    (on : OutputsLookOn B c xs (recorded_values (drop i ys))) (grows : Grows B C) where
+  pub outputs_look_here : (a : Asked) → Contains c.output_paths (recorded_path (recorded_value y)) × OutputLooksAt (recorded_value y) a → OutputsLookAt C c xs a
+  outputs_look_here a h = on.look C grows a (subst (λ q. OutputsLookAt C c q a) (sym (recorded_next ys i y lt is)) (h.0, inl h.1))
+
+  pub outputs_look_next : (v : OutputValue) → Contains c.output_paths (recorded_path (recorded_value y)) → StandsFor C (recorded_value y) v → OutputsLookOn C c xs (recorded_values (drop (i + 1) ys))
+  outputs_look_next v listed stands = record {
+    look = λ later g a h. on.look later (λ e b q. g e b (grows e b q)) a
+        (subst (λ q. OutputsLookAt later c q a) (sym (recorded_next ys i y lt is)) (listed, inr (v, stands_still C later (recorded_value y) v g stands, h)));
+  }

@@ -1,0 +1,109 @@
+-- What the checks of a plan look at, up to the first fault: blobs and results, by their digests.
+use Rattle.std.specs.Prelude.{◌≡◌, ◌≢◌, ◌⊎◌, List, [], ◌∷◌, ◌++◌}
+use Rattle.std.specs.List.{Contains}
+use Rattle.blob_digest.specs.Digest.{DigestValue}
+use Rattle.action_messages.specs.Action.{ActionValue, IsAction, action_bytes}
+use Rattle.action_messages.specs.ActionResult.{ActionResultValue}
+use Rattle.action_messages.specs.Command.{CommandValue, IsCommand, command_bytes}
+use Rattle.action_messages.specs.Outputs.{RecordedValue, recorded_path, AreOutputs}
+use Rattle.actions.specs.Outcome.{OutcomeValue, OutputValue}
+use Rattle.actions.specs.LooksAt.{OutputLooksAt}
+use Rattle.actions.specs.Recorded.{StandsFor}
+use Rattle.plan.specs.Values.{OriginValue, source, output, LineValue, StepValue, PlanValue}
+use Rattle.tree.specs.Tree.{Name}
+use Rattle.tree.specs.Form.{NodeValue, root}
+use Rattle.tree.specs.Folded.{first_visits}
+use Rattle.tree.specs.Graft.{graft}
+use Rattle.tree.specs.Lookup.{found}
+use Rattle.tree.specs.LooksAt.{OnWay, Compares}
+use Rattle.tree.specs.Memo.{Asked, LooksAtBlob, LooksAtResult}
+use Rattle.blob_source.specs.Source.{Blobs, Telling}
+use Rattle.verifier.specs.Accepted.{LooksAt}
+use Rattle.verifier.specs.Stage.{Stage}
+use Rattle.verifier.specs.StepChecks.{message, cached, framed, resolved, grafted, held, succeeded, step_check}
+use Rattle.verifier.specs.Verdict.{steps_check}
+
+-- A check looks at some things, and where it passes those after it look at theirs.
+unfoldable pub looks : {E V : Type 0} → Stage E V → (Asked → Type 0) → (V → Asked → Type 0) → Asked
+    → Type 0
+looks check Here next a = Here a ⊎ ((v : V) × check.passes v × next v a)
+
+-- a check of what is known already
+abbrev pub LooksAtNothing : Asked → Type 0
+LooksAtNothing a = ⊥
+
+-- ---- what each check looks at
+
+-- the Directories on the way to an origin in the source tree; an outcome is known
+abbrev pub OriginLooksAt : Blobs → DigestValue → OriginValue → Asked → Type 0
+OriginLooksAt B sources (source p) a = OnWay B sources p a
+OriginLooksAt B sources (output step p) a = ⊥
+
+-- one line after another, as far as each has its origin
+abbrev pub LinesLookAt : Blobs → DigestValue → List OutcomeValue → List LineValue → Asked → Type 0
+LinesLookAt B sources outcomes [] a = ⊥
+LinesLookAt B sources outcomes (l ∷ ls) a =
+    OriginLooksAt B sources l.origin a
+    ⊎ ((x : NodeValue) × LooksAt B sources outcomes l.origin (found x)
+    × LinesLookAt B sources outcomes ls a)
+
+-- the comparison with the recorded input, where the graft of the lines isn't that
+abbrev pub InputLooksAt : Blobs → ActionValue → List (List Name × NodeValue) → Asked → Type 0
+InputLooksAt B action nodes a =
+    (root (graft nodes) ≢ action.input)
+    × Compares (first_visits (graft nodes)) B 64 (root (graft nodes)) action.input a
+
+-- one output after another, as far as the command lists each and it is told
+abbrev pub OutputsLookAt : Blobs → CommandValue → List RecordedValue → Asked → Type 0
+OutputsLookAt B command [] a = ⊥
+OutputsLookAt B command (x ∷ xs) a =
+    Contains command.output_paths (recorded_path x)
+    × (OutputLooksAt x a
+    ⊎ ((y : OutputValue) × StandsFor B x y × OutputsLookAt B command xs a))
+
+abbrev pub ResultLooksAt : Blobs → CommandValue → ActionResultValue → Asked → Type 0
+ResultLooksAt B command result a =
+    (xs : List RecordedValue) × AreOutputs result xs × OutputsLookAt B command xs a
+
+-- ---- all of them, in their order
+
+-- the checks of a step with a recorded digest
+abbrev pub StepLooksAt : {A : Type 0} → Telling → DigestValue → List OutcomeValue → StepValue
+    → DigestValue → Asked → Type 0
+StepLooksAt {A} tells sources outcomes step d =
+    looks (message {A = A} IsAction action_bytes tells.blobs d) (LooksAtBlob d) λ action.
+    looks (cached {A = A} action) LooksAtNothing λ _.
+    looks (message {A = A} IsCommand command_bytes tells.blobs action.frame.command)
+    (LooksAtBlob action.frame.command) λ command.
+    looks (framed {A = A} action step.frame) LooksAtNothing λ _.
+    looks (resolved {A = A} tells.blobs sources outcomes step.lines)
+    (LinesLookAt tells.blobs sources outcomes step.lines) λ nodes.
+    looks (grafted {A = A} tells.blobs action nodes) (InputLooksAt tells.blobs action nodes) λ _.
+    looks (held {A = A} tells.results d) (LooksAtResult d) λ result.
+    looks (succeeded {A = A} result) LooksAtNothing λ _.
+    ResultLooksAt tells.blobs command result
+
+-- the checks of the steps that are left
+abbrev pub StepsLookAt : {A : Type 0} → Telling → DigestValue → List OutcomeValue
+    → List StepValue → List DigestValue → Asked → Type 0
+StepsLookAt tells sources outcomes [] ds a = ⊥
+StepsLookAt tells sources outcomes (s ∷ ss) [] a = ⊥
+StepsLookAt {A} tells sources outcomes (s ∷ ss) (d ∷ ds) a =
+    looks (step_check {A = A} tells sources outcomes s d)
+    (StepLooksAt {A = A} tells sources outcomes s d)
+    (λ outcome. StepsLookAt {A = A} tells sources (outcomes ++ outcome ∷ []) ss ds) a
+
+-- the checks of the root
+abbrev pub RootLooksAt : {A : Type 0} → Telling → DigestValue → List OutcomeValue → List LineValue
+    → Asked → Type 0
+RootLooksAt {A} tells sources outcomes lines =
+    looks (resolved {A = A} tells.blobs sources outcomes lines)
+    (LinesLookAt tells.blobs sources outcomes lines) λ _. LooksAtNothing
+
+-- the checks of a plan: of its steps, and of its root
+abbrev pub PlanLooksAt : {A : Type 0} → Telling → DigestValue → PlanValue → List DigestValue
+    → Asked → Type 0
+PlanLooksAt {A} tells sources plan recorded =
+    looks (steps_check {A = A} tells sources [] plan.steps recorded)
+    (StepsLookAt {A = A} tells sources [] plan.steps recorded) λ outcomes.
+    RootLooksAt {A = A} tells sources outcomes plan.root_lines
