@@ -30,7 +30,7 @@ abbrev pub entry_path : List ℕ → List ℕ → DigestValue → List ℕ
 entry_path folder part digest = folder ++ 47 ∷ (part ++ 47 ∷ take 64 (digest_text digest))
 
 -- what was read is kept in tables, and stays told; each fault of the file system is a failure
-abbrev pub telling_of : {R A P Q : Type 0} → FolderSource R A → Telling
+abbrev pub telling_of : {R A : Type 0} → FolderSource R A → Telling
 telling_of s = record {
   blobs = told_by s.blobs;
   results = told_by s.results;
@@ -38,3 +38,39 @@ telling_of s = record {
   calls = s.calls;
   puts = [];
 }
+
+-- the folder, and the error of the last failure
+abbrev pub place_of : {R A : Type 0} → FolderSource R A → List ℕ
+place_of s = string_bytes s.folder.place
+
+abbrev pub error_of : {R A : Type 0} → FolderSource R A → Option (FileError A)
+error_of s = s.folder.error
+
+-- the blobs and the results that it keeps
+abbrev pub blobs_of : {R A : Type 0} → FolderSource R A → Table A
+blobs_of s = s.blobs
+
+abbrev pub results_of : {R A : Type 0} → FolderSource R A → Table A
+results_of s = s.results
+
+-- nothing was read so far
+pub record IsFreshFolder {R A : Type 0} (place : List ℕ) (s : FolderSource R A) : Type 0 where
+  pub is : place_of s ≡ place
+  pub blobs : (d : DigestValue) → HasAnswer (blobs_of s) d → ⊥
+  pub results : (d : DigestValue) → HasAnswer (results_of s) d → ⊥
+  pub failures : (telling_of s).failures ≡ 0
+  pub calls : (telling_of s).calls ≡ 0
+  pub unfailed : error_of s ≡ None
+
+-- A call that asked for the file at a path, of this digest. What is kept is told without the file,
+-- so that no fault of it is a failure.
+pub record LooksIn {A : Type 0}
+    (path : List ℕ) (d : DigestValue) (old new : Option (FileError A)) (before after : Table A)
+    (result : Result (Option (Vec ℕ A)) FetchError) : Type 0 where
+  pub kept : HasAnswer before d → IsErrOf result Failed → ⊥
+  pub same : HasAnswer before d → KeepsAnswers before after
+  pub held : IfOk result (λ answer. HasAnswer after d)
+  pub unheld : OnErr result (KeepsAnswers before after)
+  pub others : IsSameBut d before after
+  pub failed : IsErrOf result Failed → IfSome new (IsFaultOf path)
+  pub unfailed : (IsErrOf result Failed → ⊥) → new ≡ old

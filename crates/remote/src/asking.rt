@@ -52,7 +52,7 @@ pub(crate) fn look_up<S: Stream + Drop, A: Allocator + Copy>(
 }
 
 /// KeepsAnswer a copy of an answer.
-fn keep_answer<A: Allocator + Copy>(
+pub(crate) fn keep_answer<A: Allocator + Copy>(
     alloc: A,
     table: &mut Table<A>,
     digest: &Digest,

@@ -4,7 +4,7 @@ ghost use Rattle.remote.specs.Folder.{IsErrorOf};
 
 use std::alloc::{AllocError, Allocator};
 use std::io::ErrorKind;
-use std::rt::{Alloc, Files};
+use std::rt::Files;
 use std::{fs, io};
 use thiserror::Error;
 

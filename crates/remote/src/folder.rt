@@ -1,8 +1,8 @@
-ghost use Rattle.std.specs.Prelude.{◌≡◌, ◌+◌, ◌≤◌, IfErr, IfOk, IsErrOf, OnErr, Some};
+ghost use Rattle.std.specs.Prelude.{◌≡◌, ◌≢◌, ◌+◌, ◌≤◌, IfErr, IfOk, IfSome, IsErrOf, OnErr, Some};
 ghost use Rattle.std.specs.Prelude.{codes, string_bytes};
 ghost use Rattle.blob_source.specs.Called.{Calls};
 ghost use Rattle.blob_source.specs.Source.{AsksBlob, AsksResult, GrowsAt, bytes_of, greatest_count};
-ghost use Rattle.remote.specs.Folder.{IsErrorOf, IsFreshFolder, LooksIn, entry_path};
+ghost use Rattle.remote.specs.Folder.{IsErrorOf, IsFaultOf, IsFreshFolder, LooksIn, entry_path};
 ghost use Rattle.remote.specs.Folder.{blobs_of, error_of, place_of, results_of, telling_of};
 ghost use Rattle.remote.specs.Table.{HasAnswer, IsSameBut, KeepsAnswers, told_by};
 ghost use Rattle.remote.specs.declared.files.FileError.TheVariants as errors;
@@ -14,7 +14,7 @@ use blob_digest::Digest;
 use blob_source::{BlobSource, FetchError};
 use std::alloc::{AllocError, Allocator};
 use std::io::ErrorKind;
-use std::rt::{Alloc, Files};
+use std::rt::Files;
 
 /// A folder of files, and how often reading them failed.
 #[derive(Drop)]
@@ -56,7 +56,7 @@ impl<'r, R: Files + Alloc<A = A>, A: Allocator + Copy> FolderSource<'r, R, A> {
 
     /// The error of the last failure.
     pub fn into_error(self) -> Option<FileError<A>>
-        ensures { result ≡ error_of self }
+        ensures { result ≡ error_of self.entry }
     {
         self.folder.error
     }
@@ -66,6 +66,7 @@ impl<'r, R: Files + Alloc<A = A>, A: Allocator + Copy> Folder<'r, R, A> {
     /// Counts a failure, unless the error is want of memory or the count is full.
     fn fail(&mut self, error: FileError<A>) -> FetchError
         ensures kept { result ≡ FetchError.Failed → self.new.error ≡ Some error }
+        ensures real { result ≡ FetchError.Failed → error ≢ errors.Memory }
         ensures counted { result ≡ FetchError.Failed → self.new.failures ≡ self.old.failures + 1 }
         ensures risen { self.old.failures ≤ self.new.failures }
         ensures bounded { self.new.failures ≤ greatest_count }
@@ -109,7 +110,10 @@ impl<'r, R: Files + Alloc<A = A>, A: Allocator + Copy> Folder<'r, R, A> {
         ensures same { HasAnswer table.old digest.now → KeepsAnswers table.old table.new }
         ensures unheld { OnErr result (KeepsAnswers table.old table.new) }
         ensures others { IsSameBut digest.now table.old table.new }
-        ensures failed { IsErrOf result FetchError.Failed → Fails part.now digest.now self.old self.new }
+        ensures failed { IsErrOf result FetchError.Failed → IfSome self.new.error
+            (IsFaultOf (entry_path (string_bytes self.old.place) part.now digest.now)) }
+        ensures counted { IsErrOf result FetchError.Failed
+            → self.new.failures ≡ self.old.failures + 1 }
         ensures unfailed { (IsErrOf result FetchError.Failed → ⊥) → self.new ≡ self.old }
         ensures placed { self.new.place ≡ self.old.place }
         ensures risen { self.old.failures ≤ self.new.failures }

@@ -1,4 +1,6 @@
 //! A remote over streams in memory.
+mod folders;
+
 use crate::*;
 use blob_digest::Digest;
 use blob_source::{BlobSink, BlobSource, FetchError};
