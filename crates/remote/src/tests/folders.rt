@@ -58,7 +58,7 @@ fn files_are_read_once(rt: HostRuntime) -> Result<(), Fail> {
     let refused = source.result(heap, &Digest::of(b"a"));
     assert!(rt; matches!(refused, Err(FetchError::Failed)));
     let error = source.into_error();
-    assert!(rt; matches!(error, Some(FileError::NotAFile { path }) if path.as_str() == NO_FILE));
+    assert!(rt; matches!(&error, Some(FileError::NotAFile { path }) if path.as_str() == NO_FILE));
     assert_eq!(rt; lengths_there(&rt), Ok((None, Some(6))));
     fs::remove_dir_all(&rt, "kept")?;
     Ok(())
