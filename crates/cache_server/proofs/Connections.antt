@@ -14,7 +14,7 @@ use Rattle.cache_server.specs.Connection.{Runs, RunsSome, Exchanges, ExchangesSo
 use Rattle.cache_server.proofs.Serving.{serves_none, serves_join}
 use Rattle.cache_server.proofs.Telling.{appends_kept}
 
-stands_cut : (session : SessionValue) (stream : List ℕ) (events : List EventValue) → Stands session stream events → (left : Option (List ℕ)) × Cuts session.prefix stream events left
+pub stands_cut : (session : SessionValue) (stream : List ℕ) (events : List EventValue) → Stands session stream events → (left : Option (List ℕ)) × Cuts session.prefix stream events left
 unfolding Stands
 stands_cut session stream events (left, cut, leaves) = (left, cut)
 
@@ -22,12 +22,12 @@ closed_left : (prefix : List ℕ) (state : State) (stream : List ℕ) (events : 
 closed_left prefix state stream events None e c l = c
 closed_left prefix state stream events (Some rest) e c l = absurd (let k : Holds prefix Closed rest = subst (λ z. Holds prefix z rest) e l in k)
 
-stands_shut : (session : SessionValue) (stream : List ℕ) (events : List EventValue) → session.state ≡ Closed → Stands session stream events → Cuts session.prefix stream events None
+pub stands_shut : (session : SessionValue) (stream : List ℕ) (events : List EventValue) → session.state ≡ Closed → Stands session stream events → Cuts session.prefix stream events None
 unfolding Stands
 stands_shut session stream events e (left, cut, leaves) = closed_left session.prefix session.state stream events left e cut leaves
 
 -- a piece in which memory ran out before it was cut
-pub unfed : (session : SessionValue) (stream : List ℕ) (before : List EventValue) (cache : CacheValue) (written : Option (List ℕ)) (piece : List ℕ)
+unfoldable pub unfed : (session : SessionValue) (stream : List ℕ) (before : List EventValue) (cache : CacheValue) (written : Option (List ℕ)) (piece : List ℕ)
     → Stands session stream before → ExchangesSome session.prefix stream before cache written piece cache written
 unfed session stream before cache written piece s =
     let c : (left : Option (List ℕ)) × Cuts session.prefix stream before left = stands_cut session stream before s in
@@ -45,7 +45,7 @@ unfed session stream before cache written piece s =
     }
 
 -- a piece in whose answers memory ran out, or that can't be answered
-pub unanswered : (old new : SessionValue) (stream : List ℕ) (before events : List EventValue) (cache after : CacheValue) (written more : Option (List ℕ)) (piece : List ℕ)
+unfoldable pub unanswered : (old new : SessionValue) (stream : List ℕ) (before events : List EventValue) (cache after : CacheValue) (written more : Option (List ℕ)) (piece : List ℕ)
     → new.prefix ≡ old.prefix → Stands old stream before → Stands new (stream ++ piece) (before ++ events) → TellsSome cache events written more after
     → ExchangesSome old.prefix stream before cache written piece after more
 unanswered old new stream before events cache after written more piece same s t some =
@@ -67,7 +67,7 @@ unanswered old new stream before events cache after written more piece same s t 
     }
 
 -- a piece whose answers can't be flushed
-pub unflushed : (old new : SessionValue) (stream : List ℕ) (before events : List EventValue) (cache after : CacheValue) (written mid more : Option (List ℕ)) (piece : List ℕ)
+unfoldable pub unflushed : (old new : SessionValue) (stream : List ℕ) (before events : List EventValue) (cache after : CacheValue) (written mid more : Option (List ℕ)) (piece : List ℕ)
     → new.prefix ≡ old.prefix → Stands new (stream ++ piece) (before ++ events) → TellsAll cache events written mid after → Keeps mid more
     → ExchangesSome old.prefix stream before cache written piece after more
 unflushed old new stream before events cache after written mid more piece same t all k =
@@ -86,7 +86,7 @@ unflushed old new stream before events cache after written mid more piece same t
     }
 
 -- a piece that is answered
-pub exchanged : (old new : SessionValue) (events : List EventValue) (cache after : CacheValue) (written mid more : Option (List ℕ)) (piece : List ℕ)
+unfoldable pub exchanged : (old new : SessionValue) (events : List EventValue) (cache after : CacheValue) (written mid more : Option (List ℕ)) (piece : List ℕ)
     → Feeds old piece events new → TellsAll cache events written mid after → Keeps mid more
     → Exchanges old cache written piece new after more
 exchanged old new events cache after written mid more piece feeds all k = record {
@@ -109,10 +109,10 @@ pub record RunsOn (prefix : List ℕ) (old : CacheValue) (input input_left writt
   pub stands : Stands session read before
   pub served : Serves old before text now
 
-pub runs_first : (prefix : List ℕ) (old : CacheValue) (input written : Option (List ℕ)) (session : SessionValue) → session.prefix ≡ prefix → Stands session [] [] → RunsOn prefix old input input written written session old
+unfoldable pub runs_first : (prefix : List ℕ) (old : CacheValue) (input written : Option (List ℕ)) (session : SessionValue) → session.prefix ≡ prefix → Stands session [] [] → RunsOn prefix old input input written written session old
 runs_first prefix old input written session same s = record { read = []; text = []; before = []; same = same; consumes = Consumes-nil input; appends = Appends-nil written; stands = s; served = serves_none old }
 
-pub runs_more : (prefix : List ℕ) (old : CacheValue) (input left more written_before written written_more : Option (List ℕ)) (session new : SessionValue) (now after : CacheValue) (piece : List ℕ)
+unfoldable pub runs_more : (prefix : List ℕ) (old : CacheValue) (input left more written_before written written_more : Option (List ℕ)) (session new : SessionValue) (now after : CacheValue) (piece : List ℕ)
     → RunsOn prefix old input left written_before written session now → Consumes left more piece → Exchanges session now written piece new after written_more
     → RunsOn prefix old input more written_before written_more new after
 runs_more prefix old input left more written_before written written_more session new now after piece r c x = record {
@@ -126,7 +126,7 @@ runs_more prefix old input left more written_before written written_more session
   served = serves_join old now after r.before x.events r.text x.text r.served x.served;
 }
 
-pub runs_ended : (prefix : List ℕ) (old : CacheValue) (input left more written_before written : Option (List ℕ)) (session : SessionValue) (now : CacheValue) (count : ℕ) (buffer : List ℕ)
+unfoldable pub runs_ended : (prefix : List ℕ) (old : CacheValue) (input left more written_before written : Option (List ℕ)) (session : SessionValue) (now : CacheValue) (count : ℕ) (buffer : List ℕ)
     → RunsOn prefix old input left written_before written session now → count ≡ 0 → Consumes left more (take count buffer) → IsAtEnd more → Runs prefix old input more written_before written now
 runs_ended prefix old input left more written_before written session now count buffer r zero_is c end =
     let d : (rest : Option (List ℕ)) × Cuts session.prefix r.read r.before rest = stands_cut session r.read r.before r.stands in
@@ -141,14 +141,14 @@ runs_ended prefix old input left more written_before written session now count b
       stops = inl end;
     }
 
-pub runs_closed : (prefix : List ℕ) (old : CacheValue) (input left written_before written : Option (List ℕ)) (session : SessionValue) (now : CacheValue)
+unfoldable pub runs_closed : (prefix : List ℕ) (old : CacheValue) (input left written_before written : Option (List ℕ)) (session : SessionValue) (now : CacheValue)
     → RunsOn prefix old input left written_before written session now → session.state ≡ Closed → Runs prefix old input left written_before written now
 runs_closed prefix old input left written_before written session now r shut =
     let c : Cuts session.prefix r.read r.before None = stands_shut session r.read r.before shut r.stands in
     record { read = r.read; text = r.text; left = None; consumes = r.consumes; appends = r.appends; answered = record { events = r.before; cut = subst (λ z. Cuts z r.read r.before None) r.same c; served = r.served }; stops = inr refl }
 
 -- given up between two pieces
-pub runs_stopped : (prefix : List ℕ) (old : CacheValue) (input left more written_before written : Option (List ℕ)) (session : SessionValue) (now : CacheValue)
+unfoldable pub runs_stopped : (prefix : List ℕ) (old : CacheValue) (input left more written_before written : Option (List ℕ)) (session : SessionValue) (now : CacheValue)
     → RunsOn prefix old input left written_before written session now → Keeps left more → RunsSome prefix old input more written_before written now
 runs_stopped prefix old input left more written_before written session now r kept =
     let c : (rest : Option (List ℕ)) × Cuts session.prefix r.read r.before rest = stands_cut session r.read r.before r.stands in
@@ -164,7 +164,7 @@ runs_stopped prefix old input left more written_before written session now r kep
     }
 
 -- given up within a piece
-pub runs_broken : (prefix : List ℕ) (old : CacheValue) (input left more written_before written written_more : Option (List ℕ)) (session : SessionValue) (now after : CacheValue) (piece : List ℕ)
+unfoldable pub runs_broken : (prefix : List ℕ) (old : CacheValue) (input left more written_before written written_more : Option (List ℕ)) (session : SessionValue) (now after : CacheValue) (piece : List ℕ)
     → (r : RunsOn prefix old input left written_before written session now) → Consumes left more piece → ExchangesSome session.prefix r.read r.before now written piece after written_more
     → RunsSome prefix old input more written_before written_more after
 runs_broken prefix old input left more written_before written written_more session now after piece r c x = record {
@@ -183,7 +183,7 @@ runs_broken prefix old input left more written_before written written_more sessi
 }
 
 -- given up before the first piece
-pub runs_none : (prefix : List ℕ) (old : CacheValue) (input written : Option (List ℕ)) → Cuts prefix [] [] (Some []) → RunsSome prefix old input input written written old
+unfoldable pub runs_none : (prefix : List ℕ) (old : CacheValue) (input written : Option (List ℕ)) → Cuts prefix [] [] (Some []) → RunsSome prefix old input input written written old
 runs_none prefix old input written c = record {
   front = [];
   rest = [];

@@ -9,3 +9,4 @@ pub mod Connections
 pub mod StepOnce
 pub mod Once
 pub mod Total
+pub mod Counting

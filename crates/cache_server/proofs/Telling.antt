@@ -31,11 +31,11 @@ pub record TellsOn (old : CacheValue) (events left : List EventValue) (before no
   pub served : Serves old done text new
   pub appends : Appends before now text
 
-pub told_first : (old : CacheValue) (events left : List EventValue) (before : Option (List ℕ)) → events ≡ left → TellsOn old events left before before old
+unfoldable pub told_first : (old : CacheValue) (events left : List EventValue) (before : Option (List ℕ)) → events ≡ left → TellsOn old events left before before old
 told_first old events left before e = record { done = []; text = []; whole = e; served = serves_none old; appends = Appends-nil before }
 
 module _ (old now new : CacheValue) (events left : List EventValue) (event : EventValue) (before mid after : Option (List ℕ)) where
-  pub told_more : TellsOn old events (event ∷ left) before mid now → Tells now event mid after new → TellsOn old events left before after new
+  unfoldable pub told_more : TellsOn old events (event ∷ left) before mid now → Tells now event mid after new → TellsOn old events left before after new
   told_more t s = record {
     done = t.done ++ event ∷ [];
     text = t.text ++ s.text;
@@ -44,7 +44,7 @@ module _ (old now new : CacheValue) (events left : List EventValue) (event : Eve
     appends = Appends-trans before mid after t.text s.text t.appends s.appends;
   }
 
-  pub told_some : TellsOn old events (event ∷ left) before mid now → MayTell now event mid after new → TellsSome old events before after new
+  unfoldable pub told_some : TellsOn old events (event ∷ left) before mid now → MayTell now event mid after new → TellsSome old events before after new
   told_some t (inl (e, k)) = record {
     done = t.done;
     others = event ∷ left;

@@ -5,7 +5,9 @@ use Rattle.http_core.specs.Event.{EventValue}
 use Rattle.http_core.specs.Session.{SessionValue, Stands}
 use Rattle.http_core.specs.Stream.{Cuts}
 use Rattle.cache_server.specs.Cache.{CacheValue}
+use Rattle.cache_server.specs.Counts.{CountsFront, count_all}
 use Rattle.cache_server.specs.Serving.{Serves}
+use Rattle.cache_server.specs.declared.counts.Counts.{Counts}
 
 -- the requests in the stream are answered by this text, and lead from the one cache to the other
 pub record IsAnswered
@@ -73,3 +75,37 @@ pub record ExchangesSome
   pub cut : Cuts prefix (stream ++ front) (earlier ++ done) left
   pub served : Serves cache done (told ++ lost) cache_after
   pub appends : Appends before after told
+
+-- ---- with counts of what was answered
+
+-- the run, and the counts after it are those of the events that it answered
+pub record RunsCounting
+    (prefix : List ℕ) (old : CacheValue) (input input_left before after : Option (List ℕ))
+    (new : CacheValue) (first last : Counts)
+    : Type 0 where
+  pub runs : Runs prefix old input input_left before after new
+  pub counts : last ≡ count_all first old runs.answered.events
+
+-- the run that was given up, and the counts of the events that it answered whole
+pub record RunsSomeCounting
+    (prefix : List ℕ) (old : CacheValue) (input input_left before after : Option (List ℕ))
+    (new : CacheValue) (first last : Counts)
+    : Type 0 where
+  pub runs : RunsSome prefix old input input_left before after new
+  pub counts : CountsFront first old runs.answered.events last
+
+pub record ExchangesCounting
+    (old : SessionValue) (cache : CacheValue) (before : Option (List ℕ)) (piece : List ℕ)
+    (new : SessionValue) (cache_after : CacheValue) (after : Option (List ℕ))
+    (first last : Counts)
+    : Type 0 where
+  pub exchanges : Exchanges old cache before piece new cache_after after
+  pub counts : last ≡ count_all first cache exchanges.events
+
+pub record ExchangesSomeCounting
+    (prefix stream : List ℕ) (earlier : List EventValue) (cache : CacheValue)
+    (before : Option (List ℕ)) (piece : List ℕ) (cache_after : CacheValue)
+    (after : Option (List ℕ)) (first last : Counts)
+    : Type 0 where
+  pub exchanges : ExchangesSome prefix stream earlier cache before piece cache_after after
+  pub counts : CountsFront first cache exchanges.done last

@@ -1,6 +1,7 @@
 pub mod Status
 pub mod Cache
 pub mod Serving
+pub mod Counts
 pub mod Writing
 pub mod History
 pub mod Server

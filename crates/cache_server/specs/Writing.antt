@@ -4,7 +4,9 @@ use Rattle.std.specs.Io.KnownBytes.{Appends, Keeps}
 use Rattle.http_core.specs.Event.{AskValue, EventValue}
 use Rattle.http_core.specs.Reply.{ReplyValue, reply_text}
 use Rattle.cache_server.specs.Cache.{CacheValue, Step}
+use Rattle.cache_server.specs.Counts.{CountsFront}
 use Rattle.cache_server.specs.Serving.{Serves, ServesOne}
+use Rattle.cache_server.specs.declared.counts.Counts.{Counts}
 use Rattle.cache_server.specs.declared.error.ConnError.{ConnError}
 use Rattle.cache_server.specs.declared.error.ConnError.TheVariants.{ReadFault, WriteFault, Memory}
 
@@ -78,3 +80,11 @@ pub record TellsSome
   pub whole : events ≡ done ++ others
   pub served : Serves old done (told ++ lost) new
   pub appends : Appends before after told
+
+-- the same, and those whose texts are written whole are counted
+pub record TellsSomeCounting
+    (old : CacheValue) (events : List EventValue) (before after : Option (List ℕ))
+    (new : CacheValue) (first last : Counts)
+    : Type 0 where
+  pub tells : TellsSome old events before after new
+  pub counts : CountsFront first old tells.done last

@@ -1,47 +1,68 @@
 ghost use Rattle.std.specs.Prelude.{◌≡◌, OnOk, OnErr};
+ghost use Rattle.cache_server.specs.Counts.{count_all, count_event};
 ghost use Rattle.http_core.specs.Event.{events_of, event_of};
-ghost use Rattle.cache_server.specs.Writing.{Tells, MayTell, TellsAll, TellsSome};
+ghost use Rattle.cache_server.specs.Writing.{Tells, MayTell, TellsAll, TellsSomeCounting};
 
 use crate::cache::Cache;
+use crate::counts::Counts;
 use crate::error::ConnError;
 use crate::writing::write_answer;
-use http_core::Event;
+use http_core::{Ask, Event};
 use std::alloc::Allocator;
 use std::io::Write;
 
-/// Answers the events one after another. After an `Err` the cache is as some of the events left it,
-/// from the first on, and some beginning of their texts is written.
+/// Answers the events one after another, and counts them. After an `Err` the cache is as some of the
+/// events left it, from the first on, and some beginning of their texts is written; those whose text
+/// is written whole are counted.
 pub(crate) fn answer_all<A: Allocator + Copy, W: Write>(
     alloc: A,
     cache: &mut Cache<A>,
     events: Vec<Event<A>, A>,
     writer: &mut W,
+    counts: &mut Counts,
 ) -> Result<(), ConnError>
     ensures ok { OnOk result (TellsAll cache.old (events_of events.items)
         (W.contents writer.old) (W.contents writer.new) cache.new) }
-    ensures err { OnErr result (TellsSome cache.old (events_of events.items)
-        (W.contents writer.old) (W.contents writer.new) cache.new) }
+    ensures err { OnErr result (TellsSomeCounting cache.old (events_of events.items)
+        (W.contents writer.old) (W.contents writer.new) cache.new counts.old counts.new) }
+    ensures counted { OnOk result
+        (counts.new ≡ count_all counts.old cache.old (events_of events.items)) }
 {
     for event in events {
-        answer(alloc, cache, event, writer)?;
+        answer(alloc, cache, event, writer, counts)?;
     }
     Ok(())
 }
 
-/// Answers the event.
+/// Answers the event, and counts it.
 fn answer<A: Allocator + Copy, W: Write>(
     alloc: A,
     cache: &mut Cache<A>,
     event: Event<A>,
     writer: &mut W,
+    counts: &mut Counts,
 ) -> Result<(), ConnError>
     ensures ok { OnOk result (Tells cache.old (event_of event)
         (W.contents writer.old) (W.contents writer.new) cache.new) }
     ensures err { OnErr result (MayTell cache.old (event_of event)
         (W.contents writer.old) (W.contents writer.new) cache.new) }
+    ensures counted { OnOk result
+        (counts.new ≡ count_event counts.old cache.old (event_of event)) }
+    ensures uncounted { OnErr result (counts.new ≡ counts.old) }
 {
     match event {
-        Event::Refuse(status, close) => write_answer(writer, status, &[], close),
-        Event::Ask(ask, close) => cache.answer(alloc, ask, close, writer),
+        Event::Refuse(status, close) => {
+            write_answer(writer, status, &[], close)?;
+            counts.add_other();
+        }
+        Event::Ask(Ask::Get(area, hash), close) => {
+            let status = cache.write(alloc, area, &hash, close, writer)?;
+            counts.add_look_up(status);
+        }
+        Event::Ask(ask, close) => {
+            cache.answer(alloc, ask, close, writer)?;
+            counts.add_other();
+        }
     }
+    Ok(())
 }

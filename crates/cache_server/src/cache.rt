@@ -5,6 +5,7 @@ ghost use Rattle.http_core.specs.declared.event.Area.TheVariants.{Ac, Cas};
 ghost use Rattle.action_cache.specs.Machine.{get_blob as blob_got};
 ghost use Rattle.action_cache.specs.Reading.{by_messages};
 ghost use Rattle.cache_server.specs.Cache.{Step, bare, found_reply};
+ghost use Rattle.cache_server.specs.Counts.{IsStatusOf};
 ghost use Rattle.cache_server.specs.Status.{IsToldBy, IsWanting};
 ghost use Rattle.cache_server.specs.Writing.{AnswersAsk, FailsAsk};
 
@@ -142,7 +143,10 @@ impl<A: Allocator + Copy> Cache<A> {
             (W.contents writer.old) (W.contents writer.new) self.new) }
     {
         match ask {
-            Ask::Get(area, hash) => self.write(alloc, area, &hash, close, writer),
+            Ask::Get(area, hash) => {
+                self.write(alloc, area, &hash, close, writer)?;
+                Ok(())
+            }
             Ask::Put(area, hash, body) => {
                 let status = self.put(alloc, area, hash, body)?;
                 write_answer(writer, status, &[], close)
@@ -162,19 +166,20 @@ impl<A: Allocator + Copy> Cache<A> {
         }
     }
 
-    /// Writes what is looked up, or 404.
-    fn write<W: Write>(
+    /// Writes what is looked up, or 404. Gives the status.
+    pub(crate) fn write<W: Write>(
         &mut self,
         alloc: A,
         area: Area,
         hash: &[u8; 32],
         close: bool,
         writer: &mut W,
-    ) -> Result<(), ConnError>
+    ) -> Result<u16, ConnError>
         ensures ok { OnOk result (AnswersAsk self.old (Get area hash.now) close
             (W.contents writer.old) (W.contents writer.new) self.new) }
         ensures err { IfErr result (λ e. FailsAsk e self.old (Get area hash.now) close
             (W.contents writer.old) (W.contents writer.new) self.new) }
+        ensures status { IfOk result (IsStatusOf self.old (Get area hash.now)) }
     {
         match area {
             Area::Cas => self.write_blob(hash, close, writer),
@@ -199,11 +204,12 @@ impl<A: Allocator + Copy> Cache<A> {
         hash: &[u8; 32],
         close: bool,
         writer: &mut W,
-    ) -> Result<(), ConnError>
+    ) -> Result<u16, ConnError>
         ensures ok { OnOk result (AnswersAsk self.old (Get Cas hash.now) close
             (W.contents writer.old) (W.contents writer.new) self.new) }
         ensures err { IfErr result (λ e. FailsAsk e self.old (Get Cas hash.now) close
             (W.contents writer.old) (W.contents writer.new) self.new) }
+        ensures status { IfOk result (IsStatusOf self.old (Get Cas hash.now)) }
     {
         let written = write_found(writer, self.store.peek_blob(hash), close);
         self.use_blob(hash);
@@ -233,11 +239,12 @@ impl<A: Allocator + Copy> Cache<A> {
         hash: &[u8; 32],
         close: bool,
         writer: &mut W,
-    ) -> Result<(), ConnError>
+    ) -> Result<u16, ConnError>
         ensures ok { OnOk result (AnswersAsk self.old (Get Ac hash.now) close
             (W.contents writer.old) (W.contents writer.new) self.new) }
         ensures err { IfErr result (λ e. FailsAsk e self.old (Get Ac hash.now) close
             (W.contents writer.old) (W.contents writer.new) self.new) }
+        ensures status { IfOk result (IsStatusOf self.old (Get Ac hash.now)) }
     {
         let Some(bytes) = self.store.get_result(alloc, hash)? else {
             return write_found(writer, None, close);

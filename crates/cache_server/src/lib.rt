@@ -4,6 +4,7 @@
 
 mod answering;
 mod cache;
+mod counts;
 mod error;
 mod laws;
 mod running;
@@ -11,7 +12,8 @@ mod server;
 mod writing;
 
 pub use cache::Cache;
+pub use counts::Counts;
 pub use error::ConnError;
 pub use laws::{answers_begin_the_answers_to_the_whole, histories_are_answered_in_one_way};
-pub use running::run;
+pub use running::{run, run_counting};
 pub use server::Server;

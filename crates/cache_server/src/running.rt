@@ -1,10 +1,12 @@
 ghost use Rattle.std.specs.Prelude.{ℕ, List, OnErr, OnOk};
 ghost use Rattle.http_core.specs.Event.{EventValue};
 ghost use Rattle.http_core.specs.Session.{Stands};
-ghost use Rattle.cache_server.specs.Connection.{Exchanges, ExchangesSome, Runs, RunsSome};
+ghost use Rattle.cache_server.specs.Connection.{ExchangesCounting, ExchangesSomeCounting};
+ghost use Rattle.cache_server.specs.Connection.{Runs, RunsCounting, RunsSome, RunsSomeCounting};
 
 use crate::answering::answer_all;
 use crate::cache::Cache;
+use crate::counts::Counts;
 use crate::error::ConnError;
 use http_core::{Prefix, Session};
 use std::alloc::Allocator;
@@ -30,6 +32,28 @@ pub fn run<A: Allocator + Copy, R: Read, W: Write>(
         (R.remaining reader.old) (R.remaining reader.new)
         (W.contents writer.old) (W.contents writer.new) cache.new) }
 {
+    let mut counts = Counts::none();
+    run_counting(alloc, reader, writer, cache, prefix, &mut counts)
+}
+
+/// The same, and counts the requests whose answers are written whole.
+pub fn run_counting<A: Allocator + Copy, R: Read, W: Write>(
+    alloc: A,
+    reader: &mut R,
+    writer: &mut W,
+    cache: &mut Cache<A>,
+    prefix: &Prefix<A>,
+    counts: &mut Counts,
+) -> Result<(), ConnError>
+    ensures ok { OnOk result (RunsCounting prefix.now cache.old
+        (R.remaining reader.old) (R.remaining reader.new)
+        (W.contents writer.old) (W.contents writer.new) cache.new
+        counts.old counts.new) }
+    ensures err { OnErr result (RunsSomeCounting prefix.now cache.old
+        (R.remaining reader.old) (R.remaining reader.new)
+        (W.contents writer.old) (W.contents writer.new) cache.new
+        counts.old counts.new) }
+{
     let mut session = Session::new(alloc, prefix)?;
     let mut buffer = [0; PIECE];
     for _ in 0..u64::MAX {
@@ -40,7 +64,7 @@ pub fn run<A: Allocator + Copy, R: Read, W: Write>(
         if count == 0 {
             return Ok(());
         }
-        exchange(alloc, &mut session, cache, writer, piece)?;
+        exchange(alloc, &mut session, cache, writer, piece, counts)?;
         if !session.is_open() {
             return Ok(());
         }
@@ -55,16 +79,18 @@ fn exchange<A: Allocator + Copy, W: Write>(
     cache: &mut Cache<A>,
     writer: &mut W,
     piece: &[u8],
+    counts: &mut Counts,
 ) -> Result<(), ConnError>
-    ensures ok { OnOk result (Exchanges session.old cache.old (W.contents writer.old) piece.now
-        session.new cache.new (W.contents writer.new)) }
+    ensures ok { OnOk result (ExchangesCounting session.old cache.old (W.contents writer.old)
+        piece.now session.new cache.new (W.contents writer.new) counts.old counts.new) }
     ensures err { OnErr result ((stream : List ℕ) (earlier : List EventValue)
         → Stands session.old stream earlier
-        → ExchangesSome session.old.prefix stream earlier cache.old (W.contents writer.old)
-        piece.now cache.new (W.contents writer.new)) }
+        → ExchangesSomeCounting session.old.prefix stream earlier cache.old
+        (W.contents writer.old) piece.now cache.new (W.contents writer.new)
+        counts.old counts.new) }
 {
     let events = session.feed(alloc, piece)?;
-    answer_all(alloc, cache, events, writer)?;
+    answer_all(alloc, cache, events, writer, counts)?;
     match writer.flush() {
         Ok(()) => Ok(()),
         Err(_) => Err(ConnError::WriteFault),

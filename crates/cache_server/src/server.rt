@@ -7,6 +7,7 @@ ghost use Rattle.cache_server.specs.Sessions.{FeedsAt, ClosesAt, ForgetsAt, Hold
 
 use crate::answering::answer_all;
 use crate::cache::Cache;
+use crate::counts::Counts;
 use http_core::{Event, Prefix, Session};
 use std::alloc::{AllocError, Allocator};
 use std::collections::BTreeMap;
@@ -67,7 +68,8 @@ impl<A: Allocator + Copy> Server<A> {
     {
         let events = self.feed(alloc, connection, piece)?;
         let mut text = Vec::new(alloc);
-        match answer_all(alloc, &mut self.cache, events, &mut text) {
+        let mut counts = Counts::none();
+        match answer_all(alloc, &mut self.cache, events, &mut text, &mut counts) {
             Ok(()) => Ok(text),
             Err(_) => {
                 self.close(alloc, connection);

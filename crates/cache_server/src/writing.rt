@@ -1,4 +1,4 @@
-ghost use Rattle.std.specs.Prelude.{◌≡◌, OnErr, OnOk, IfErr, option_copied};
+ghost use Rattle.std.specs.Prelude.{◌≡◌, OnErr, OnOk, IfErr, IfOk, option_copied};
 ghost use Rattle.std.specs.Io.KnownBytes.{Appends};
 ghost use Rattle.http_core.specs.Reply.{reply_text};
 ghost use Rattle.cache_server.specs.Cache.{found_reply};
@@ -52,20 +52,28 @@ pub(crate) fn write_answer<W: Write>(
     write_out(writer, body)
 }
 
-/// Writes the answer to a look-up: what was found, or 404.
+/// Writes the answer to a look-up: what was found, or 404. Gives its status.
 pub(crate) fn write_found<W: Write>(
     writer: &mut W,
     found: Option<&[u8]>,
     close: bool,
-) -> Result<(), ConnError>
+) -> Result<u16, ConnError>
     ensures ok { OnOk result (Appends (W.contents writer.old) (W.contents writer.new)
         (reply_text (found_reply (option_copied found.entry)) close)) }
     ensures err { OnErr result (WritesSome (W.contents writer.old) (W.contents writer.new)
         (reply_text (found_reply (option_copied found.entry)) close)) }
     ensures fault { IfErr result (λ e. e ≡ ConnError.WriteFault) }
+    ensures status { IfOk result
+        (λ status. status ≡ (found_reply (option_copied found.entry)).status) }
 {
     match found {
-        Some(bytes) => write_answer(writer, 200, bytes, close),
-        None => write_answer(writer, 404, &[], close),
+        Some(bytes) => {
+            write_answer(writer, 200, bytes, close)?;
+            Ok(200)
+        }
+        None => {
+            write_answer(writer, 404, &[], close)?;
+            Ok(404)
+        }
     }
 }

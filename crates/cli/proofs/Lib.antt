@@ -1,3 +1,2 @@
 pub mod CommandLines
-pub mod Entries
-pub mod Folders
+pub mod Files

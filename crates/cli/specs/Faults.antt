@@ -7,6 +7,9 @@ use Rattle.blob_digest.specs.Text.{digest_text, BeginsWithHash}
 use Rattle.blob_digest.specs.declared.error.DigestError.TheVariants.{BadHex}
 use Rattle.plan.specs.declared.error.ReadError.{ReadError}
 use Rattle.plan.specs.declared.error.ReadError.TheVariants as reading
+use Rattle.remote.specs.declared.files.FileError.{FileError}
+use Rattle.remote.specs.declared.files.FileError.TheVariants as files
+use Rattle.std.specs.declared.alloc.Global.{Global}
 use Rattle.cli.specs.declared.error.CliError.{CliError}
 use Rattle.cli.specs.declared.error.CliError.TheVariants.{Words, Digest, Text, File, NotAFile, TooLarge, Output, Memory}
 
@@ -16,6 +19,13 @@ IsDigestFault option text (Digest o t fault) =
     (o.now ≡ option) × (string_bytes t ≡ text) × ((d : DigestValue) → IsDigest d → ¬ (text ≡ digest_text d)) × ((fault ≡ BadHex) ↔ ¬ BeginsWithHash text)
 IsDigestFault option text Memory = Unit {0}
 IsDigestFault option text _ = ⊥
+
+-- the error of a file that can't be read
+abbrev pub of_file : FileError Global → CliError
+of_file (files.Io path fault) = File path fault
+of_file (files.NotAFile path) = NotAFile path
+of_file (files.TooLarge path) = TooLarge path
+of_file files.Memory = Memory
 
 -- the file at this path is at fault, or memory ran out
 abbrev pub IsFileFault : List ℕ → CliError → Type 0

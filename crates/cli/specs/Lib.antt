@@ -4,4 +4,3 @@ pub mod Got
 pub mod Printed
 pub mod Put
 pub mod Status
-pub mod Store

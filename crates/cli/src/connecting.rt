@@ -130,6 +130,37 @@ fn connect_to<R: Net<Stream = TcpStream>>(
     Ok(stream)
 }
 
+/// A connection to a server, which is opened anew where the server has closed it.
+#[derive(Drop)]
+pub(crate) struct Connection<'a, R> {
+    rt: &'a R,
+    server: &'a Server<'a>,
+    stream: TcpStream,
+}
+
+impl<R: Net<Stream = TcpStream>> Stream for Connection<'_, R> {
+    ghost use Rattle.std.specs.Prelude.{None};
+
+    ghost flow = { λ _. record { coming = None; sent = None; is_open = None } };
+
+    fn receive(&mut self, buf: &mut [u8]) -> io::Result<usize> {
+        self.stream.receive(buf)
+    }
+
+    fn send(&mut self, buf: &[u8]) -> io::Result<usize> {
+        self.stream.send(buf)
+    }
+
+    fn is_open(&self) -> bool {
+        self.stream.is_open()
+    }
+
+    fn renew(&mut self) -> io::Result<()> {
+        self.stream = connect(self.rt, self.server)?;
+        Ok(())
+    }
+}
+
 /// A remote that knows its server's name and what it was asked last.
 #[derive(Drop)]
 pub(crate) struct Client<'a, S: Drop> {
@@ -176,9 +207,7 @@ impl<'a, S: Stream + Drop> Client<'a, S> {
         ensures named { IfOk result (λ digest. digest ≡ digest_of bytes.now) }
         ensures held { IfOk result (HasRight (telling_of self.new.remote).blobs) }
     {
-        self.asked = "put of blob";
-        self.digest = Digest::of(bytes);
-        match self.remote.put_blob(alloc, bytes) {
+        match self.put_blob(alloc, bytes) {
             Ok(digest) => Ok(digest),
             Err(refusal) => Err(self.error(alloc, refusal)?),
         }
@@ -203,15 +232,37 @@ impl<'a, S: Stream + Drop> BlobSource<Global> for Client<'a, S> {
     }
 }
 
+impl<'a, S: Stream + Drop> BlobSink<Global> for Client<'a, S> {
+    fn put_blob(&mut self, alloc: Global, bytes: &[u8]) -> Result<Digest, FetchError> {
+        self.asked = "put of blob";
+        self.digest = Digest::of(bytes);
+        self.remote.put_blob(alloc, bytes)
+    }
+
+    fn put_result(
+        &mut self,
+        alloc: Global,
+        digest: &Digest,
+        bytes: &[u8],
+    ) -> Result<(), FetchError> {
+        self.asked = "put of result";
+        self.digest = *digest;
+        self.remote.put_result(alloc, digest, bytes)
+    }
+}
+
 /// A client that is connected to the server.
 pub(crate) fn open<'a, R: AllocGlobal + Net<Stream = TcpStream>>(
-    rt: &R,
-    server: &Server<'a>,
-) -> Result<Client<'a, TcpStream>, CliError>
+    rt: &'a R,
+    server: &'a Server<'a>,
+) -> Result<Client<'a, Connection<'a, R>>, CliError>
     ensures { IfErr result (λ e. status_of e ≡ 3) }
 {
     match connect(rt, server) {
-        Ok(stream) => Ok(Client::new(rt.alloc(), server, stream)?),
+        Ok(stream) => {
+            let connection = Connection { rt, server, stream };
+            Ok(Client::new(rt.alloc(), server, connection)?)
+        }
         Err(fault) if fault.kind() == ErrorKind::OutOfMemory => Err(CliError::Memory),
         Err(fault) => Err(CliError::Connection {
             server: String::from_str(rt.alloc(), server.address)?,

@@ -1,42 +1,39 @@
-ghost use Rattle.std.specs.Prelude.{◌≡◌, ◌≢◌, ◌≤◌, IfErr, IfOk, MatchResult, Ok, vec_len};
+ghost use Rattle.std.specs.Prelude.{◌≡◌, ◌≢◌, IfErr, IfOk, MatchResult, Ok};
 ghost use Rattle.std.specs.IoError.{error_kind};
 ghost use Rattle.cli.specs.Faults.{IsFileFault};
 
 use crate::error::CliError;
+use remote::FileError;
+use std::alloc::Global;
+use std::io;
 use std::io::ErrorKind;
 use std::rt::Files;
-use std::{fs, io};
 
-/// The most bytes that a file has.
-const GREATEST_FILE: u64 = 16_777_216;
+impl From<FileError<Global>> for CliError {
+    ghost use Rattle.std.specs.Prelude.{◌≡◌};
+    ghost use Rattle.cli.specs.Faults.{of_file};
 
-/// The bytes of the file there. Links are followed.
+    ghost from_gives = { λ error e. e ≡ of_file error };
+
+    fn from(error: FileError<Global>) -> CliError {
+        match error {
+            FileError::Io { path, fault } => CliError::File { path, fault },
+            FileError::NotAFile { path } => CliError::NotAFile { path },
+            FileError::TooLarge { path } => CliError::TooLarge { path },
+            FileError::Memory => CliError::Memory,
+        }
+    }
+}
+
+/// The bytes of the file there.
+#[tactic(auto, using(crate::proofs::Files::file_fault))]
 pub(crate) fn read_file<R: Files + AllocGlobal>(rt: &R, path: &str) -> Result<Vec<u8>, CliError>
-    ensures few { IfOk result (λ bytes. vec_len bytes ≤ GREATEST_FILE) }
     ensures fault { IfErr result (IsFileFault path.now) }
 {
-    let metadata = match fs::metadata(rt, path) {
-        Ok(metadata) => metadata,
-        Err(fault) => return Err(file_error(rt, path, fault)?),
-    };
-    if !metadata.is_file() {
-        let path = String::from_str(rt.alloc(), path)?;
-        return Err(CliError::NotAFile { path });
+    match remote::read_file(rt, path) {
+        Ok(bytes) => Ok(bytes),
+        Err(error) => Err(CliError::from(error)),
     }
-    if metadata.len() > GREATEST_FILE {
-        let path = String::from_str(rt.alloc(), path)?;
-        return Err(CliError::TooLarge { path });
-    }
-    let bytes = match fs::read(rt, path) {
-        Ok(bytes) => bytes,
-        Err(fault) => return Err(file_error(rt, path, fault)?),
-    };
-    // The file may have grown since.
-    if bytes.len() as u64 > GREATEST_FILE {
-        let path = String::from_str(rt.alloc(), path)?;
-        return Err(CliError::TooLarge { path });
-    }
-    Ok(bytes)
 }
 
 /// The error of a file.

@@ -11,7 +11,6 @@ mod options;
 mod put_command;
 mod running;
 mod serve_command;
-mod store;
 mod verify_command;
 mod words;
 

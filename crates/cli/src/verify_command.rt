@@ -13,10 +13,10 @@ use crate::connecting::{Server, open, read_server};
 use crate::error::CliError;
 use crate::files::read_file;
 use crate::options::{option_of, read_digest, text_of};
-use crate::store::FolderSource;
 use blob_digest::Digest;
 use clap::ArgMatches;
 use plan::{Plan, ReadError, Record};
+use remote::FolderSource;
 use report::{is_yes, report};
 use std::alloc::{AllocError, Global};
 use std::io::Write;
@@ -116,7 +116,10 @@ fn judge_folder<R: Files + AllocGlobal>(
     match verify(rt.alloc(), sources, plan, noted, claim, &mut source) {
         Ok(verdict) => Ok(verdict),
         Err(VerifyError::Memory) => Err(CliError::Memory),
-        Err(VerifyError::Fetch) => Err(source.into_fault().unwrap_or(CliError::Memory)),
+        Err(VerifyError::Fetch) => match source.into_error() {
+            Some(error) => Err(CliError::from(error)),
+            None => Err(CliError::Memory),
+        },
     }
 }
 

@@ -3,3 +3,5 @@ pub mod Endings
 pub mod Replies
 pub mod Lines
 pub mod Storing
+pub mod Folders
+mod Entries

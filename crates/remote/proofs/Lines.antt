@@ -4,10 +4,10 @@ use Rattle.blob_source.specs.declared.source.FetchError.{FetchError}
 use Rattle.blob_source.specs.declared.source.FetchError.TheVariants.{Failed, Memory}
 use Rattle.remote.specs.declared.fault.Fault.{Fault}
 use Rattle.remote.specs.declared.fault.Fault.TheVariants.{Status}
-use Rattle.remote.specs.Line.{LineValue, Request, IsSameServer, IsUncounted, Asks, IsFault, Refuses, is_answer, text_of}
+use Rattle.remote.specs.Line.{ConnectionValue, Request, IsSameServer, IsUncounted, IsReplied, IsConnectionFault, RefusesRequest, is_answer, text_of}
 use Rattle.remote.specs.Flow.{SendsFront}
-use Rattle.remote.proofs.Flows.{fronts_all, fronts_then}
-use Rattle.remote.specs.Reply.{ReplyValue, Exchanges}
+use Rattle.remote.proofs.Flows.{fronts_all, fronts_from, fronts_then}
+use Rattle.remote.specs.Reply.{ReplyValue, RoundTrip}
 use Rattle.remote.specs.Steps.{Fails, Starves}
 
 pub memory_failed : Memory ≡ Failed → ⊥
@@ -16,15 +16,15 @@ memory_failed h = cc
 true_false : (b : Bool) → b ≡ false → b ≡ true → ⊥
 true_false b f t = cc
 
-same_server : {a b c : LineValue} → IsSameServer a b → IsSameServer b c → IsSameServer a c
+same_server : {a b c : ConnectionValue} → IsSameServer a b → IsSameServer b c → IsSameServer a c
 same_server h k = record { host = k.host ∙ h.host; prefix = k.prefix ∙ h.prefix }
 
-uncounted : {a b c : LineValue} → IsUncounted a b → IsUncounted b c → IsUncounted a c
+uncounted : {a b c : ConnectionValue} → IsUncounted a b → IsUncounted b c → IsUncounted a c
 uncounted h k = record { count = k.count ∙ h.count; fault = k.fault ∙ h.fault }
 
 -- a connection that wasn't broken fails
-pub refuses_fault : (old mid new : LineValue) (request : Request) (fault : Fault) (e : FetchError) → old.broken ≡ false → IsUncounted old mid → IsSameServer old mid
-    → SendsFront old.flow mid.flow (text_of old request) → IsFault old new request fault → Fails mid new fault e → Refuses old new request e
+pub refuses_fault : (old mid new : ConnectionValue) (request : Request) (fault : Fault) (e : FetchError) → old.broken ≡ false → IsUncounted old mid → IsSameServer old mid
+    → SendsFront old.flow mid.flow (text_of old request) → IsConnectionFault old new request fault → Fails mid new fault e → RefusesRequest old new request e
 refuses_fault old mid new request fault e open_ none server sent is h = record {
   broken = h.broken;
   failed = λ f. record { count = (h.failed f).0 ∙ ap (λ n. n + 1) none.count; fault = fault; kept = (h.failed f).1; is = is };
@@ -36,8 +36,8 @@ refuses_fault old mid new request fault e open_ none server sent is h = record {
 }
 
 -- memory was wanting
-pub refuses_starved : (old mid new : LineValue) (request : Request) (e : FetchError) → (old.broken ≡ true → mid.flow ≡ old.flow) → IsUncounted old mid → IsSameServer old mid
-    → SendsFront old.flow mid.flow (text_of old request) → Starves mid new e → Refuses old new request e
+pub refuses_starved : (old mid new : ConnectionValue) (request : Request) (e : FetchError) → (old.broken ≡ true → mid.flow ≡ old.flow) → IsUncounted old mid → IsSameServer old mid
+    → SendsFront old.flow mid.flow (text_of old request) → Starves mid new e → RefusesRequest old new request e
 refuses_starved old mid new request e still none server sent h = record {
   broken = h.broken;
   failed = λ f. absurd (memory_failed (sym h.is ∙ f));
@@ -48,16 +48,22 @@ refuses_starved old mid new request e still none server sent h = record {
   server = same_server server h.server;
 }
 
+-- what was sent is the one request
+sends_trip : {old mid : ConnectionValue} {request : Request} {reply : ReplyValue} → IsReplied old mid request reply → SendsFront old.flow mid.flow (text_of old request)
+sends_trip {old} {mid} {request} asks =
+    fronts_from old.flow asks.stream mid.flow (text_of old request) asks.next.sent
+    (fronts_all asks.stream asks.trip.between mid.flow (text_of old request) asks.trip.asks asks.trip.answers.read.sent)
+
 -- the reply has a status that is no answer
-pub refuses_status : (old mid new : LineValue) (request : Request) (reply : ReplyValue) (n : ℕ) (e : FetchError)
-    → Asks old mid request reply → reply.status ≡ n → is_answer request.body n ≡ false → Fails mid new (Status n) e → Refuses old new request e
+pub refuses_status : (old mid new : ConnectionValue) (request : Request) (reply : ReplyValue) (n : ℕ) (e : FetchError)
+    → IsReplied old mid request reply → reply.status ≡ n → is_answer request.body n ≡ false → Fails mid new (Status n) e → RefusesRequest old new request e
 refuses_status old mid new request reply n e asks is no_answer h =
     refuses_fault old mid new request (Status n) e asks.unbroken (record { count = asks.failures; fault = asks.fault }) asks.server
-    (fronts_all old.flow asks.exchanges.between mid.flow (text_of old request) asks.exchanges.asks asks.exchanges.answers.read.sent)
-    (record { unbroken = asks.unbroken; reply = reply; exchanges = subst (λ f. Exchanges old.flow f (text_of old request) reply) (sym h.flow) asks.exchanges; is = is; refused = no_answer }) h
+    (sends_trip asks)
+    (record { unbroken = asks.unbroken; stream = asks.stream; next = asks.next; reply = reply; trip = subst (λ f. RoundTrip asks.stream f (text_of old request) reply) (sym h.flow) asks.trip; is = is; refused = no_answer }) h
 
 -- what a reply brought isn't kept for want of memory
-pub refuses_unkept : (old mid new : LineValue) (request : Request) (reply : ReplyValue) (e : FetchError) → Asks old mid request reply → Starves mid new e → Refuses old new request e
+pub refuses_unkept : (old mid new : ConnectionValue) (request : Request) (reply : ReplyValue) (e : FetchError) → IsReplied old mid request reply → Starves mid new e → RefusesRequest old new request e
 refuses_unkept old mid new request reply e asks h =
     refuses_starved old mid new request e (λ shut. absurd (true_false old.broken asks.unbroken shut)) (record { count = asks.failures; fault = asks.fault }) asks.server
-    (fronts_all old.flow asks.exchanges.between mid.flow (text_of old request) asks.exchanges.asks asks.exchanges.answers.read.sent) h
+    (sends_trip asks) h

@@ -1,13 +1,17 @@
 -- What a stream of both directions gives and takes.
-use Rattle.std.specs.Prelude.{◌≡◌, ℕ, List, [], ◌++◌, Option, Some}
+use Rattle.std.specs.Prelude.{◌≡◌, ℕ, Bool, true, List, [], ◌++◌, Option, Some}
 use Rattle.std.specs.Io.Cursor.{cursor_remaining}
 use Rattle.std.specs.Io.KnownBytes.{Appends, Consumes}
 use Rattle.remote.specs.declared.stream.MemoryStream.{MemoryStream}
 
--- Where a stream stands, so far as that is known: the bytes that are to come, and those sent.
+-- Where a stream stands, so far as that is known.
 pub record Flow : Type 0 where
+  -- the bytes that are to come
   pub coming : Option (List ℕ)
+  -- all that was sent, also before the stream was opened anew
   pub sent : Option (List ℕ)
+  -- whether the other side hasn't closed it
+  pub is_open : Option Bool
 
 -- these bytes were sent, and nothing was read
 pub record Sends (old new : Flow) (bytes : List ℕ) : Type 0 where
@@ -26,13 +30,14 @@ pub record Receives (old new : Flow) (bytes : List ℕ) : Type 0 where
   pub coming : Consumes old.coming new.coming bytes
   pub sent : new.sent ≡ old.sent
 
--- these bytes are to come, and nothing was sent
+-- these bytes are to come over an open stream, and nothing was sent
 abbrev pub gives : List ℕ → Flow
-gives bytes = record { coming = Some bytes; sent = Some [] }
+gives bytes = record { coming = Some bytes; sent = Some []; is_open = Some true }
 
 -- where a stream in memory stands
 abbrev pub flow_of : {A : Type 0} → MemoryStream A → Flow
 flow_of s = record {
   coming = cursor_remaining (λ bytes. Some bytes.items) s.input;
   sent = Some s.output.items;
+  is_open = Some true;
 }

@@ -4,3 +4,4 @@ pub mod Table
 pub mod Line
 pub mod Remote
 pub mod Steps
+pub mod Folder

@@ -1,5 +1,5 @@
 -- A connection: its stream, and what it does with requests.
-use Rattle.std.specs.Prelude.{◌≡◌, ℕ, ◌+◌, ◌==◌, ◌≤◌, ◌||◌, ◌⊎◌, Bool, true, false, List, Option, Some, None}
+use Rattle.std.specs.Prelude.{◌≡◌, ◌≢◌, ℕ, ◌+◌, ◌==◌, ◌≤◌, ◌||◌, ◌⊎◌, Bool, true, false, List, Option, Some, None}
 use Rattle.http_core.specs.declared.event.Area.{Area}
 use Rattle.http_core.specs.Request.{request_text}
 use Rattle.blob_source.specs.Source.{greatest_count}
@@ -9,25 +9,28 @@ use Rattle.remote.specs.declared.fault.Fault.{Fault}
 use Rattle.remote.specs.declared.fault.Fault.TheVariants.{Io, BadReply, Status, Broken}
 use Rattle.remote.specs.declared.line.Line.{Line}
 use Rattle.remote.specs.Flow.{Flow, SendsFront}
-use Rattle.remote.specs.Reply.{ReplyValue, Exchanges, ExchangesForNone}
+use Rattle.remote.specs.Reply.{ReplyValue, RoundTrip, RoundTripForNone}
 
 -- a connection, where its stream stands as this tells
-pub record LineValue : Type 0 where
+pub record ConnectionValue : Type 0 where
   pub flow : Flow
   pub host : List ℕ
   pub prefix : List ℕ
   -- whether every further request is refused
   pub broken : Bool
+  -- whether the last reply closed the stream
+  pub shut : Bool
   pub failures : ℕ
   -- the fault of the last failure
   pub fault : Option Fault
 
-abbrev pub line_of : {S A : Type 0} → (S → Flow) → Line S A → LineValue
+abbrev pub line_of : {S A : Type 0} → (S → Flow) → Line S A → ConnectionValue
 line_of flow l = record {
   flow = flow l.stream;
   host = l.host;
   prefix = l.prefix;
   broken = l.broken;
+  shut = l.shut;
   failures = l.failures;
   fault = l.fault;
 }
@@ -38,7 +41,7 @@ pub record Request : Type 0 where
   pub hash : List ℕ
   pub body : Option (List ℕ)
 
-abbrev pub text_of : LineValue → Request → List ℕ
+abbrev pub text_of : ConnectionValue → Request → List ℕ
 text_of line r = request_text line.prefix line.host r.area r.hash r.body
 
 -- a PUT of the body, or a GET where there is none
@@ -52,64 +55,84 @@ abbrev pub put : Area → List ℕ → List ℕ → Request
 put area hash body = request area hash (Some body)
 
 -- requests have the same host and prefix
-pub record IsSameServer (old new : LineValue) : Type 0 where
+pub record IsSameServer (old new : ConnectionValue) : Type 0 where
   pub host : new.host ≡ old.host
   pub prefix : new.prefix ≡ old.prefix
 
--- The one request was sent, and the next reply in the stream is this one. After a closing reply the
--- connection is broken.
-pub record Asks (old new : LineValue) (request : Request) (reply : ReplyValue) : Type 0 where
+-- ---- replies
+
+-- the server has closed the stream, or isn't known not to have
+abbrev pub MayBeClosed : ConnectionValue → Type 0
+MayBeClosed line = (line.shut ≡ true) ⊎ (line.flow.is_open ≢ Some true)
+
+-- The stream for the next request: the one that there is, or one that was opened anew, where the
+-- server may have closed that. Nothing more was sent than before.
+pub record IsNextStream (line : ConnectionValue) (stream : Flow) : Type 0 where
+  pub is : ((line.shut ≡ false) × (stream ≡ line.flow)) ⊎ MayBeClosed line
+  pub sent : stream.sent ≡ line.flow.sent
+
+-- The one request was sent, and the next reply in its stream is this one, which may have closed it.
+pub record IsReplied (old new : ConnectionValue) (request : Request) (reply : ReplyValue)
+    : Type 0 where
   pub unbroken : old.broken ≡ false
-  pub exchanges : Exchanges old.flow new.flow (text_of old request) reply
-  pub closes : new.broken ≡ reply.close
+  pub stream : Flow
+  pub next : IsNextStream old stream
+  pub trip : RoundTrip stream new.flow (text_of old request) reply
+  pub stays : new.broken ≡ false
+  pub closes : new.shut ≡ reply.close
   pub failures : new.failures ≡ old.failures
   pub fault : new.fault ≡ old.fault
   pub server : IsSameServer old new
 
 -- the statuses with which a PUT is done
-abbrev pub is_put : ℕ → Bool
-is_put status = status == 200 || status == 201 || status == 202 || status == 204
+abbrev pub is_taken : ℕ → Bool
+is_taken status = status == 200 || status == 201 || status == 202 || status == 204
 
 -- the statuses that answer a GET, with a body or with none, or a PUT
 abbrev pub is_answer : Option (List ℕ) → ℕ → Bool
 is_answer None status = status == 200 || status == 404
-is_answer (Some body) status = is_put status
+is_answer (Some body) status = is_taken status
 
 -- a reply with a status that is no answer came to the one request
-pub record ComesStatus (old new : LineValue) (request : Request) (status : ℕ) : Type 0 where
+pub record ComesStatus (old new : ConnectionValue) (request : Request) (status : ℕ) : Type 0 where
   pub unbroken : old.broken ≡ false
+  pub stream : Flow
+  pub next : IsNextStream old stream
   pub reply : ReplyValue
-  pub exchanges : Exchanges old.flow new.flow (text_of old request) reply
+  pub trip : RoundTrip stream new.flow (text_of old request) reply
   pub is : reply.status ≡ status
   pub refused : is_answer request.body status ≡ false
 
 -- what begins no reply came to the one request
-pub record ComesBadly (old new : LineValue) (request : Request) : Type 0 where
+pub record ComesBadly (old new : ConnectionValue) (request : Request) : Type 0 where
   pub unbroken : old.broken ≡ false
-  pub exchanges : ExchangesForNone old.flow new.flow (text_of old request)
+  pub stream : Flow
+  pub next : IsNextStream old stream
+  pub trip : RoundTripForNone stream new.flow (text_of old request)
 
 -- The fault is Broken just where the connection was broken before the request.
-abbrev pub IsFault : LineValue → LineValue → Request → Fault → Type 0
-IsFault old new request Io = old.broken ≡ false
-IsFault old new request BadReply = ComesBadly old new request
-IsFault old new request (Status status) = ComesStatus old new request status
-IsFault old new request Broken = old.broken ≡ true
+abbrev pub IsConnectionFault : ConnectionValue → ConnectionValue → Request → Fault → Type 0
+IsConnectionFault old new request Io = old.broken ≡ false
+IsConnectionFault old new request BadReply = ComesBadly old new request
+IsConnectionFault old new request (Status status) = ComesStatus old new request status
+IsConnectionFault old new request Broken = old.broken ≡ true
 
 -- a failure was counted, and its fault is kept
-pub record IsCounted (old new : LineValue) (request : Request) : Type 0 where
+pub record IsCounted (old new : ConnectionValue) (request : Request) : Type 0 where
   pub count : new.failures ≡ old.failures + 1
   pub fault : Fault
   pub kept : new.fault ≡ Some fault
-  pub is : IsFault old new request fault
+  pub is : IsConnectionFault old new request fault
 
 -- nothing of this kind was counted
-pub record IsUncounted (old new : LineValue) : Type 0 where
+pub record IsUncounted (old new : ConnectionValue) : Type 0 where
   pub count : new.failures ≡ old.failures
   pub fault : new.fault ≡ old.fault
 
--- The refusal leaves the connection broken. A broken one sends and reads nothing, and another no
--- more than the one request.
-pub record Refuses (old new : LineValue) (request : Request) (e : FetchError) : Type 0 where
+-- The refusal leaves the connection broken. A broken one sends and reads nothing, and another sends
+-- no more than the one request.
+pub record RefusesRequest (old new : ConnectionValue) (request : Request) (e : FetchError)
+    : Type 0 where
   pub broken : new.broken ≡ true
   pub failed : e ≡ Failed → IsCounted old new request
   pub unfailed : (e ≡ Failed → ⊥) → IsUncounted old new
@@ -125,14 +148,14 @@ IsAnswerOf reply answer =
     ⊎ ((reply.status ≡ 404) × (answer ≡ None))
 
 -- the answer to a GET is that of the reply
-pub record Gets (old new : LineValue) (area : Area) (hash : List ℕ) (answer : Option (List ℕ))
+pub record Gets (old new : ConnectionValue) (area : Area) (hash : List ℕ) (answer : Option (List ℕ))
     : Type 0 where
   pub reply : ReplyValue
-  pub asks : Asks old new (get area hash) reply
+  pub asks : IsReplied old new (get area hash) reply
   pub is : IsAnswerOf reply answer
 
 -- the PUT of these bytes was answered with status 200, 201, 202 or 204
-pub record Puts (old new : LineValue) (area : Area) (hash body : List ℕ) : Type 0 where
+pub record Puts (old new : ConnectionValue) (area : Area) (hash body : List ℕ) : Type 0 where
   pub reply : ReplyValue
-  pub asks : Asks old new (put area hash body) reply
-  pub is : is_put reply.status ≡ true
+  pub asks : IsReplied old new (put area hash body) reply
+  pub is : is_taken reply.status ≡ true

@@ -8,8 +8,8 @@ use Rattle.blob_source.specs.declared.source.FetchError.{FetchError}
 use Rattle.remote.specs.declared.remote.Remote.{Remote}
 use Rattle.remote.specs.declared.table.Table.{Table}
 use Rattle.remote.specs.Flow.{Flow}
-use Rattle.remote.specs.Line.{LineValue, Gets, Puts, Refuses, get, put, line_of}
-use Rattle.remote.specs.Table.{IsKept, IsSameBut, KeepsAll, told_by}
+use Rattle.remote.specs.Line.{ConnectionValue, Gets, Puts, RefusesRequest, get, put, line_of}
+use Rattle.remote.specs.Table.{HasAnswer, IsSameBut, KeepsAnswers, told_by}
 
 -- what it kept, how often it failed and was called, and the list of results put
 abbrev pub telling_of : {S A : Type 0} → Remote S A → Telling
@@ -22,7 +22,7 @@ telling_of r = record {
 }
 
 -- its connection
-abbrev pub connection_of : {S A : Type 0} → (S → Flow) → Remote S A → LineValue
+abbrev pub connection_of : {S A : Type 0} → (S → Flow) → Remote S A → ConnectionValue
 connection_of flow r = line_of flow r.line
 
 -- the blobs and the results that it keeps
@@ -39,34 +39,35 @@ pub record IsFresh {S A : Type 0}
   pub host_is : (connection_of flow r).host ≡ host
   pub prefix_is : (connection_of flow r).prefix ≡ prefix
   pub unbroken : (connection_of flow r).broken ≡ false
+  pub unshut : (connection_of flow r).shut ≡ false
   pub failures : (connection_of flow r).failures ≡ 0
   pub fault : (connection_of flow r).fault ≡ None
-  pub blobs : (d : DigestValue) → IsKept (blobs_of r) d → ⊥
-  pub results : (d : DigestValue) → IsKept (results_of r) d → ⊥
+  pub blobs : (d : DigestValue) → HasAnswer (blobs_of r) d → ⊥
+  pub results : (d : DigestValue) → HasAnswer (results_of r) d → ⊥
   pub calls : (telling_of r).calls ≡ 0
   pub puts : (telling_of r).puts ≡ []
 
 -- A call that asked for what stands under the digest in the area. What is kept isn't asked again,
 -- also where memory is wanting; what isn't is the server's answer, and that alone is kept.
 pub record LooksUp {A : Type 0}
-    (area : Area) (d : DigestValue) (old new : LineValue) (before after : Table A)
+    (area : Area) (d : DigestValue) (old new : ConnectionValue) (before after : Table A)
     (result : Result (Option (Vec ℕ A)) FetchError) : Type 0 where
-  pub silent : IsKept before d → new.flow ≡ old.flow
-  pub kept : IsKept before d → IfOk result (λ answer. new ≡ old)
-  pub same : IsKept before d → KeepsAll before after
-  pub answered : (IsKept before d → ⊥)
+  pub silent : HasAnswer before d → new.flow ≡ old.flow
+  pub kept : HasAnswer before d → IfOk result (λ answer. new ≡ old)
+  pub same : HasAnswer before d → KeepsAnswers before after
+  pub answered : (HasAnswer before d → ⊥)
       → IfOk result (λ answer. Gets old new area d.hash (bytes_of answer))
-  pub refused : IfErr result (Refuses old new (get area d.hash))
-  pub held : IfOk result (λ answer. IsKept after d)
-  pub unheld : OnErr result (KeepsAll before after)
+  pub refused : IfErr result (RefusesRequest old new (get area d.hash))
+  pub held : IfOk result (λ answer. HasAnswer after d)
+  pub unheld : OnErr result (KeepsAnswers before after)
   pub others : IsSameBut d before after
 
 -- a call that put the bytes under the digest in the area, and kept that
 pub record Stores {A T : Type 0}
-    (area : Area) (d : DigestValue) (bytes : List ℕ) (old new : LineValue) (before after : Table A)
+    (area : Area) (d : DigestValue) (bytes : List ℕ) (old new : ConnectionValue) (before after : Table A)
     (result : Result T FetchError) : Type 0 where
   pub taken : OnOk result (Puts old new area d.hash bytes)
-  pub refused : IfErr result (Refuses old new (put area d.hash bytes))
-  pub held : OnOk result (IsKept after d)
-  pub unheld : OnErr result (KeepsAll before after)
+  pub refused : IfErr result (RefusesRequest old new (put area d.hash bytes))
+  pub held : OnOk result (HasAnswer after d)
+  pub unheld : OnErr result (KeepsAnswers before after)
   pub others : IsSameBut d before after

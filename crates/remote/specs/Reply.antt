@@ -31,7 +31,7 @@ pub record NextReply (old new : Flow) (reply : ReplyValue) : Type 0 where
   pub read : Receives old new text
 
 -- the one request was sent, and then the next reply in the stream was read
-pub record Exchanges (old new : Flow) (request : List ℕ) (reply : ReplyValue) : Type 0 where
+pub record RoundTrip (old new : Flow) (request : List ℕ) (reply : ReplyValue) : Type 0 where
   pub between : Flow
   pub asks : Sends old between request
   pub answers : NextReply between new reply
@@ -49,7 +49,7 @@ pub record NextIsNoReply (old new : Flow) : Type 0 where
   pub read : Receives old new text
 
 -- the one request was sent, and then what begins no reply was read
-pub record ExchangesForNone (old new : Flow) (request : List ℕ) : Type 0 where
+pub record RoundTripForNone (old new : Flow) (request : List ℕ) : Type 0 where
   pub between : Flow
   pub asks : Sends old between request
   pub answers : NextIsNoReply between new

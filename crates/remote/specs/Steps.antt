@@ -1,5 +1,5 @@
 -- What the steps do of which a call is made.
-use Rattle.std.specs.Prelude.{◌≡◌, ℕ, ◌+◌, ◌<◌, ◌≤◌, List, ◌++◌, length, true, Option, Some}
+use Rattle.std.specs.Prelude.{◌≡◌, ℕ, ◌+◌, ◌<◌, ◌≤◌, List, ◌++◌, length, true, false, Option, Some}
 use Rattle.blob_digest.specs.Digest.{DigestValue}
 use Rattle.http_core.specs.Block.{EndsBlock}
 use Rattle.blob_source.specs.Source.{greatest_count}
@@ -10,9 +10,9 @@ use Rattle.remote.specs.declared.fault.Refusal.{Refusal}
 use Rattle.remote.specs.declared.fault.Refusal.TheVariants.{Io, BadReply}
 use Rattle.remote.specs.declared.table.Table.{Table}
 use Rattle.remote.specs.Flow.{Flow, SendsFront, Receives}
-use Rattle.remote.specs.Line.{LineValue, IsSameServer, IsUncounted}
-use Rattle.remote.specs.Reply.{ExchangesForNone, NextIsNoReply}
-use Rattle.remote.specs.Table.{IsKept, IsSameBut, KeepsAll, told_by}
+use Rattle.remote.specs.Line.{ConnectionValue, IsNextStream, IsSameServer, IsUncounted}
+use Rattle.remote.specs.Reply.{RoundTripForNone, NextIsNoReply}
+use Rattle.remote.specs.Table.{HasAnswer, IsSameBut, KeepsAnswers, told_by}
 
 -- ---- bytes
 
@@ -45,7 +45,7 @@ pub record ReadsNone (old new : Flow) (e : Refusal) : Type 0 where
 
 -- no reply came to the request
 pub record ComesNone (old new : Flow) (request : List ℕ) (e : Refusal) : Type 0 where
-  pub bad : e ≡ BadReply → ExchangesForNone old new request
+  pub bad : e ≡ BadReply → RoundTripForNone old new request
   pub sent : SendsFront old new request
 
 -- the stream took a front of the bytes, and then failed
@@ -55,8 +55,13 @@ pub record SendsNoMore (old new : Flow) (bytes : List ℕ) (e : Refusal) : Type 
 
 -- ---- the connection
 
+-- the stream is that for the next request, and all else is as it was
+pub record Opens (old new : ConnectionValue) : Type 0 where
+  pub next : IsNextStream old new.flow
+  pub others : new ≡ record old { flow = new.flow; shut = false }
+
 -- the fault is counted and told, unless the count is full
-pub record Fails (old new : LineValue) (fault : Fault) (e : FetchError) : Type 0 where
+pub record Fails (old new : ConnectionValue) (fault : Fault) (e : FetchError) : Type 0 where
   pub flow : new.flow ≡ old.flow
   pub broken : new.broken ≡ true
   pub failed : e ≡ Failed → (new.failures ≡ old.failures + 1) × (new.fault ≡ Some fault)
@@ -65,7 +70,7 @@ pub record Fails (old new : LineValue) (fault : Fault) (e : FetchError) : Type 0
   pub server : IsSameServer old new
 
 -- memory is wanting, which is no failure
-pub record Starves (old new : LineValue) (e : FetchError) : Type 0 where
+pub record Starves (old new : ConnectionValue) (e : FetchError) : Type 0 where
   pub is : e ≡ Memory
   pub flow : new.flow ≡ old.flow
   pub broken : new.broken ≡ true
@@ -76,20 +81,20 @@ pub record Starves (old new : LineValue) (e : FetchError) : Type 0 where
 -- ---- tables
 
 -- this answer is kept under the digest, and under the others what was
-pub record Keeps {A : Type 0}
+pub record KeepsAnswer {A : Type 0}
     (old new : Table A) (d : DigestValue) (answer : Option (List ℕ)) : Type 0 where
-  pub kept : IsKept new d
+  pub kept : HasAnswer new d
   pub held : told_by new d ≡ answer
   pub others : IsSameBut d old new
 
 -- the bytes are kept, and the connection is as it was
 pub record KeepsBytes {A : Type 0}
-    (old new : Table A) (from to : LineValue) (d : DigestValue) (bytes : List ℕ) : Type 0 where
-  pub keeps : Keeps old new d (Some bytes)
+    (old new : Table A) (from to : ConnectionValue) (d : DigestValue) (bytes : List ℕ) : Type 0 where
+  pub keeps : KeepsAnswer old new d (Some bytes)
   pub connection : to ≡ from
 
 -- memory was wanting, and nothing more is kept
 pub record KeepsNothing {A : Type 0}
-    (old new : Table A) (from to : LineValue) (e : FetchError) : Type 0 where
-  pub keeps : KeepsAll old new
+    (old new : Table A) (from to : ConnectionValue) (e : FetchError) : Type 0 where
+  pub keeps : KeepsAnswers old new
   pub starves : Starves from to e

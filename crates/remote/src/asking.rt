@@ -1,8 +1,8 @@
 ghost use Rattle.std.specs.Prelude.{◌≡◌, ◌≤◌, IfOk, IfErr, OnErr, OnOk};
 ghost use Rattle.blob_source.specs.Source.{GrowsAt, bytes_of, greatest_count};
-ghost use Rattle.remote.specs.Line.{Gets, Refuses, get, line_of};
-ghost use Rattle.remote.specs.Table.{IsKept, IsSameBut, KeepsAll, told_by};
-ghost use Rattle.remote.specs.Steps.{Keeps, KeepsBytes, KeepsNothing};
+ghost use Rattle.remote.specs.Line.{Gets, RefusesRequest, get, line_of};
+ghost use Rattle.remote.specs.Table.{HasAnswer, IsSameBut, KeepsAnswers, told_by};
+ghost use Rattle.remote.specs.Steps.{KeepsAnswer, KeepsBytes, KeepsNothing};
 
 use crate::line::Line;
 use crate::stream::Stream;
@@ -22,17 +22,17 @@ pub(crate) fn look_up<S: Stream + Drop, A: Allocator + Copy>(
 ) -> Result<Option<Vec<u8, A>>, FetchError>
     ensures told { IfOk result (λ answer. bytes_of answer ≡ told_by table.new digest.now) }
     ensures grows { GrowsAt digest.now (told_by table.old) (told_by table.new) }
-    ensures held { IfOk result (λ _. IsKept table.new digest.now) }
-    ensures kept { IsKept table.old digest.now → IfOk result
+    ensures held { IfOk result (λ _. HasAnswer table.new digest.now) }
+    ensures kept { HasAnswer table.old digest.now → IfOk result
         (λ _. line_of S.flow line.new ≡ line_of S.flow line.old) }
-    ensures silent { IsKept table.old digest.now → S.flow line.new.stream ≡ S.flow line.old.stream }
-    ensures asked { (IsKept table.old digest.now → ⊥) → IfOk result (λ answer. Gets
+    ensures silent { HasAnswer table.old digest.now → S.flow line.new.stream ≡ S.flow line.old.stream }
+    ensures asked { (HasAnswer table.old digest.now → ⊥) → IfOk result (λ answer. Gets
         (line_of S.flow line.old)
         (line_of S.flow line.new) area digest.now.hash (bytes_of answer)) }
-    ensures refused { IfErr result (Refuses (line_of S.flow line.old) (line_of S.flow line.new)
+    ensures refused { IfErr result (RefusesRequest (line_of S.flow line.old) (line_of S.flow line.new)
         (get area digest.now.hash)) }
-    ensures same { IsKept table.old digest.now → KeepsAll table.old table.new }
-    ensures unheld { OnErr result (KeepsAll table.old table.new) }
+    ensures same { HasAnswer table.old digest.now → KeepsAnswers table.old table.new }
+    ensures unheld { OnErr result (KeepsAnswers table.old table.new) }
     ensures others { IsSameBut digest.now table.old table.new }
     ensures risen { line.old.failures ≤ line.new.failures }
     ensures bounded { line.new.failures ≤ greatest_count }
@@ -51,15 +51,15 @@ pub(crate) fn look_up<S: Stream + Drop, A: Allocator + Copy>(
     }
 }
 
-/// Keeps a copy of an answer.
-fn keep_answer<A: Allocator + Copy>(
+/// KeepsAnswer a copy of an answer.
+pub(crate) fn keep_answer<A: Allocator + Copy>(
     alloc: A,
     table: &mut Table<A>,
     digest: &Digest,
     answer: &Option<Vec<u8, A>>,
 ) -> Result<(), AllocError>
-    ensures ok { OnOk result (Keeps table.old table.new digest.now (bytes_of answer.now)) }
-    ensures err { OnErr result (KeepsAll table.old table.new) }
+    ensures ok { OnOk result (KeepsAnswer table.old table.new digest.now (bytes_of answer.now)) }
+    ensures err { OnErr result (KeepsAnswers table.old table.new) }
 {
     match answer {
         None => table.keep(digest, None),
@@ -70,7 +70,7 @@ fn keep_answer<A: Allocator + Copy>(
     }
 }
 
-/// Keeps a copy of bytes that were put.
+/// KeepsAnswer a copy of bytes that were put.
 pub(crate) fn keep_bytes<S: Stream + Drop, A: Allocator + Copy>(
     alloc: A,
     line: &mut Line<S, A>,

@@ -4,7 +4,7 @@ use thiserror::Error;
 /// Why a server gave no answer.
 #[derive(Clone, Copy, Debug, PartialEq, Eq, Error)]
 pub enum Fault {
-    /// The stream ended or failed within a request or a reply.
+    /// The stream ended or failed within a request or a reply, or couldn't be opened anew.
     #[error("the connection failed")]
     Io,
     /// What came is no lawful reply.
@@ -13,7 +13,7 @@ pub enum Fault {
     /// The reply has another status than those that answer.
     #[error("the server answered with status {0}")]
     Status(u16),
-    /// An earlier call was refused, or the server closed the connection.
+    /// An earlier call was refused.
     #[error("the connection is closed")]
     Broken,
 }

@@ -1,8 +1,8 @@
-ghost use Rattle.std.specs.Prelude.{◌≡◌, IfOk, IfErr, OnOk, option_map};
+ghost use Rattle.std.specs.Prelude.{◌≡◌, true, false, IfOk, IfErr, OnOk, option_map};
 ghost use Rattle.blob_source.specs.Source.{bytes_of};
-ghost use Rattle.remote.specs.Line.{Asks, Gets, Puts, Refuses, get, is_put, line_of, put, request};
+ghost use Rattle.remote.specs.Line.{IsReplied, Gets, Puts, RefusesRequest, get, is_taken, line_of, put, request};
 ghost use Rattle.remote.specs.Reply.{reply_value};
-ghost use Rattle.remote.specs.Steps.{Fails, Starves};
+ghost use Rattle.remote.specs.Steps.{Fails, Opens, Starves};
 
 use crate::fault::{Fault, Refusal};
 use crate::reply::{Reply, exchange};
@@ -12,14 +12,15 @@ use blob_source::FetchError;
 use http_core::{Area, Host, Prefix, write_request};
 use std::alloc::Allocator;
 
-/// An open stream to a server. After a refusal, or a reply that closes it, it is broken: every
-/// further request is refused.
+/// A stream to a server. After a refusal it is broken: every further request is refused. After a
+/// reply that closes it, it is shut, and opened anew for the next request.
 #[derive(Drop)]
 pub(crate) struct Line<S: Drop, A: Allocator> {
     pub stream: S,
     pub host: Host<A>,
     pub prefix: Prefix<A>,
     pub broken: bool,
+    pub shut: bool,
     pub failures: u64,
     pub fault: Option<Fault>,
 }
@@ -48,6 +49,21 @@ impl<S: Stream + Drop, A: Allocator + Copy> Line<S, A> {
         FetchError::Memory
     }
 
+    /// Opens the stream anew where the server has closed it. The answer tells whether it is open.
+    fn open(&mut self) -> bool
+        ensures opened { result ≡ true → Opens (line_of S.flow self.old) (line_of S.flow self.new) }
+        ensures shut { result ≡ false → line_of S.flow self.new ≡ line_of S.flow self.old }
+    {
+        if !self.shut && self.stream.is_open() {
+            return true;
+        }
+        if self.stream.renew().is_err() {
+            return false;
+        }
+        self.shut = false;
+        true
+    }
+
     /// Sends a request, and reads its reply.
     fn ask(
         &mut self,
@@ -56,15 +72,18 @@ impl<S: Stream + Drop, A: Allocator + Copy> Line<S, A> {
         digest: &Digest,
         body: Option<&[u8]>,
     ) -> Result<Reply<A>, FetchError>
-        ensures asked { IfOk result (λ reply. Asks (line_of S.flow self.old)
+        ensures asked { IfOk result (λ reply. IsReplied (line_of S.flow self.old)
             (line_of S.flow self.new) (request area digest.now.hash
             (option_map (λ b. b.now) body.entry)) (reply_value reply)) }
-        ensures refused { IfErr result (Refuses (line_of S.flow self.old)
+        ensures refused { IfErr result (RefusesRequest (line_of S.flow self.old)
             (line_of S.flow self.new) (request area digest.now.hash
             (option_map (λ b. b.now) body.entry))) }
     {
         if self.broken {
             return Err(self.fail(Fault::Broken));
+        }
+        if !self.open() {
+            return Err(self.fail(Fault::Io));
         }
         let hash = digest.hash();
         let request = write_request(alloc, area, &hash, body, self.host.as_str(), &self.prefix);
@@ -73,7 +92,7 @@ impl<S: Stream + Drop, A: Allocator + Copy> Line<S, A> {
         };
         match exchange(alloc, &mut self.stream, &request) {
             Ok(reply) => {
-                self.broken = reply.close;
+                self.shut = reply.close;
                 Ok(reply)
             }
             Err(Refusal::Io) => Err(self.fail(Fault::Io)),
@@ -82,7 +101,7 @@ impl<S: Stream + Drop, A: Allocator + Copy> Line<S, A> {
         }
     }
 
-    /// Asks for what the server has under a digest.
+    /// IsReplied for what the server has under a digest.
     pub(crate) fn get(
         &mut self,
         alloc: A,
@@ -91,7 +110,7 @@ impl<S: Stream + Drop, A: Allocator + Copy> Line<S, A> {
     ) -> Result<Option<Vec<u8, A>>, FetchError>
         ensures asked { IfOk result (λ answer. Gets (line_of S.flow self.old)
             (line_of S.flow self.new) area digest.now.hash (bytes_of answer)) }
-        ensures refused { IfErr result (Refuses (line_of S.flow self.old)
+        ensures refused { IfErr result (RefusesRequest (line_of S.flow self.old)
             (line_of S.flow self.new) (get area digest.now.hash)) }
     {
         let reply = self.ask(alloc, area, digest, None)?;
@@ -114,11 +133,11 @@ impl<S: Stream + Drop, A: Allocator + Copy> Line<S, A> {
     ) -> Result<(), FetchError>
         ensures asked { OnOk result (Puts (line_of S.flow self.old)
             (line_of S.flow self.new) area digest.now.hash bytes.now) }
-        ensures refused { IfErr result (Refuses (line_of S.flow self.old)
+        ensures refused { IfErr result (RefusesRequest (line_of S.flow self.old)
             (line_of S.flow self.new) (put area digest.now.hash bytes.now)) }
     {
         let reply = self.ask(alloc, area, digest, Some(bytes))?;
-        if is_put(reply.status) {
+        if is_taken(reply.status) {
             return Ok(());
         }
         Err(self.fail(Fault::Status(reply.status)))
@@ -126,8 +145,8 @@ impl<S: Stream + Drop, A: Allocator + Copy> Line<S, A> {
 }
 
 /// Whether a PUT with this status was done.
-fn is_put(status: u16) -> bool
-    ensures { result ≡ is_put status }
+fn is_taken(status: u16) -> bool
+    ensures { result ≡ is_taken status }
 {
     status == 200 || status == 201 || status == 202 || status == 204
 }

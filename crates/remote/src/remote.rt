@@ -42,6 +42,7 @@ impl<S: Stream + Drop, A: Allocator + Copy> Remote<S, A> {
                 host: host.copied(alloc)?,
                 prefix: prefix.copied(alloc)?,
                 broken: false,
+                shut: false,
                 failures: 0,
                 fault: None,
             },

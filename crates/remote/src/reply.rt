@@ -1,7 +1,7 @@
 ghost use Rattle.std.specs.Prelude.{◌≡◌, ℕ, ◌<◌, ◌≤◌, List, length, IfOk, IfErr, OnOk};
 ghost use Rattle.http_core.specs.Block.{IsBlock};
 ghost use Rattle.remote.specs.Flow.{Sends, Receives};
-ghost use Rattle.remote.specs.Reply.{Exchanges, NextReply, reply_value};
+ghost use Rattle.remote.specs.Reply.{RoundTrip, NextReply, reply_value};
 ghost use Rattle.remote.specs.Steps.{Adds, ComesNone, Interrupts, ReadsNone, SendsNoMore};
 
 use crate::block::wanting;
@@ -30,7 +30,7 @@ pub(crate) fn exchange<S: Stream, A: Allocator + Copy>(
     stream: &mut S,
     request: &[u8],
 ) -> Result<Reply<A>, Refusal>
-    ensures ok { IfOk result (λ reply. Exchanges (S.flow stream.old) (S.flow stream.new)
+    ensures ok { IfOk result (λ reply. RoundTrip (S.flow stream.old) (S.flow stream.new)
         request.now (reply_value reply)) }
     ensures err { IfErr result (ComesNone (S.flow stream.old) (S.flow stream.new) request.now) }
 {

@@ -1,4 +1,4 @@
-ghost use Rattle.std.specs.Prelude.{◌≡◌, Some, IfErr, IfOk, IsOk, length};
+ghost use Rattle.std.specs.Prelude.{◌≡◌, Some, IfErr, IfOk, IfSome, IsOk, OnErr, length};
 ghost use Rattle.std.specs.Io.{ReadsAtMost, WritesAtMost};
 ghost use Rattle.std.specs.Io.KnownBytes.{ReadConsumes, WriteAppends};
 ghost use Rattle.std.specs.IoError.{error_kind};
@@ -11,7 +11,7 @@ use std::net::TcpStream;
 
 /// What gives and takes bytes, each direction apart from the other.
 pub trait Stream {
-    /// The bytes that are to come and those sent, where they are known.
+    /// The bytes that are to come, those sent, and whether it is open, where that is known.
     ghost flow: { Self → Flow };
 
     /// Reads some bytes, none only at the end or with no room.
@@ -25,13 +25,22 @@ pub trait Stream {
         ensures bound { WritesAtMost result buf.now }
         ensures bytes { WriteAppends (flow self.old).sent (flow self.new).sent result buf.now }
         ensures kept { (flow self.new).coming ≡ (flow self.old).coming };
+
+    /// Whether the other side hasn't closed it, so far as that can be told.
+    fn is_open(&self) -> bool
+        ensures { IfSome (flow self.now).is_open (λ is. result ≡ is) };
+
+    /// Opens it anew to the same peer. Nothing is sent by that.
+    fn renew(&mut self) -> io::Result<()>
+        ensures sent { (flow self.new).sent ≡ (flow self.old).sent }
+        ensures err { OnErr result (flow self.new ≡ flow self.old) };
 }
 
-/// A socket, of whose bytes nothing is known.
+/// A socket, of whose bytes nothing is known. It doesn't know how to be opened anew.
 impl Stream for TcpStream {
     ghost use Rattle.std.specs.Prelude.{None};
 
-    ghost flow = { λ _. record { coming = None; sent = None } };
+    ghost flow = { λ _. record { coming = None; sent = None; is_open = None } };
 
     fn receive(&mut self, buf: &mut [u8]) -> io::Result<usize> {
         self.read(buf)
@@ -40,9 +49,31 @@ impl Stream for TcpStream {
     fn send(&mut self, buf: &[u8]) -> io::Result<usize> {
         self.write(buf)
     }
+
+    // Nothing is to come before a request: what does come is none of its reply.
+    fn is_open(&self) -> bool {
+        if self.set_nonblocking(true).is_err() {
+            return false;
+        }
+        let came = self.peek(&mut [0]);
+        let waits = self.set_nonblocking(false);
+        waits.is_ok() && would_wait(came)
+    }
+
+    fn renew(&mut self) -> io::Result<()> {
+        Err(io::Error::from(ErrorKind::Unsupported))
+    }
 }
 
-/// A stream in memory: bytes that are to come, and those sent.
+/// Whether a read that doesn't wait found nothing so far.
+fn would_wait(came: io::Result<usize>) -> bool {
+    match came {
+        Ok(_) => false,
+        Err(fault) => fault.kind() == ErrorKind::WouldBlock,
+    }
+}
+
+/// A stream in memory: bytes that are to come, and those sent. It isn't opened anew.
 #[derive(Drop)]
 pub struct MemoryStream<A: Allocator> {
     input: Cursor<Vec<u8, A>>,
@@ -93,5 +124,13 @@ impl<A: Allocator + Copy> Stream for MemoryStream<A> {
     {
         self.output.extend_from_slice(buf)?;
         Ok(buf.len())
+    }
+
+    fn is_open(&self) -> bool {
+        true
+    }
+
+    fn renew(&mut self) -> io::Result<()> {
+        Err(io::Error::from(ErrorKind::NotConnected))
     }
 }

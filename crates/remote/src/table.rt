@@ -2,8 +2,8 @@ ghost use Rattle.std.specs.Prelude.{◌≡◌, ◌↔◌, IsTrue, IfOk, OnOk, On
 ghost use Rattle.blob_source.specs.Sink.{HasRight};
 ghost use Rattle.blob_source.specs.Source.{bytes_of};
 ghost use Rattle.blob_digest.specs.Digest.{DigestValue};
-ghost use Rattle.remote.specs.Table.{IsKept, KeepsAll, told_by};
-ghost use Rattle.remote.specs.Steps.{Keeps};
+ghost use Rattle.remote.specs.Table.{HasAnswer, KeepsAnswers, told_by};
+ghost use Rattle.remote.specs.Steps.{KeepsAnswer};
 
 use blob_digest::Digest;
 use std::alloc::{AllocError, Allocator};
@@ -18,7 +18,7 @@ pub(crate) struct Table<A: Allocator> {
 impl<A: Allocator + Copy> Table<A> {
     /// A table without answers.
     pub(crate) fn new(alloc: A) -> Table<A>
-        ensures { (digest : DigestValue) → IsKept result digest → ⊥ }
+        ensures { (digest : DigestValue) → HasAnswer result digest → ⊥ }
     {
         Table {
             answers: BTreeMap::new(alloc),
@@ -27,7 +27,7 @@ impl<A: Allocator + Copy> Table<A> {
 
     /// Whether there is an answer under the digest.
     pub(crate) fn has(&self, digest: &Digest) -> bool
-        ensures { IsTrue result ↔ IsKept self.now digest.now }
+        ensures { IsTrue result ↔ HasAnswer self.now digest.now }
     {
         self.answers.contains_key(digest)
     }
@@ -52,14 +52,14 @@ impl<A: Allocator + Copy> Table<A> {
         }
     }
 
-    /// Keeps an answer under the digest, in place of another.
+    /// KeepsAnswer an answer under the digest, in place of another.
     pub(crate) fn keep(
         &mut self,
         digest: &Digest,
         answer: Option<Vec<u8, A>>,
     ) -> Result<(), AllocError>
-        ensures ok { OnOk result (Keeps self.old self.new digest.now (bytes_of answer)) }
-        ensures err { OnErr result (KeepsAll self.old self.new) }
+        ensures ok { OnOk result (KeepsAnswer self.old self.new digest.now (bytes_of answer)) }
+        ensures err { OnErr result (KeepsAnswers self.old self.new) }
     {
         self.answers.insert(*digest, answer)?;
         Ok(())

@@ -1,13 +1,14 @@
-ghost use Rattle.service.specs.Streams.{ServesUpTo, ServesOne};
+ghost use Rattle.std.specs.Prelude.{◌≤◌};
+ghost use Rattle.service.specs.Streams.{ServesSoMany, ServesSome};
 
 use crate::closing::close;
 use crate::metered::Metered;
-use cache_server::{Cache, ConnError, run};
+use cache_server::{Cache, ConnError, Counts, run_counting};
 use http_core::Prefix;
 use log::{Log, info, warn};
 use std::alloc::Global;
 use std::io::BufWriter;
-use std::net::{TcpListener, TcpStream};
+use std::net::{SocketAddr, TcpListener, TcpStream};
 use std::time::{Clock, Duration};
 
 /// How many bytes of answers are gathered before they are written: heads go out with what is short.
@@ -16,12 +17,14 @@ const GATHERED: usize = 16384;
 /// What came of a connection.
 struct Ended {
     end: Result<(), ConnError>,
+    counts: Counts,
     read: u64,
     written: u64,
 }
 
 /// Serves so many connections of the listener, one after another. One that is silent for `idle`, or
-/// takes no answer for so long, is ended. A fault of one connection ends that connection alone.
+/// takes no answer for so long, is ended. A fault of one connection ends that connection alone. The
+/// answer tells how many were accepted.
 pub fn serve<R: AllocGlobal + Clock + Log>(
     rt: &R,
     listener: &TcpListener,
@@ -29,26 +32,45 @@ pub fn serve<R: AllocGlobal + Clock + Log>(
     idle: Option<Duration>,
     cache: &mut Cache<Global>,
     prefix: &Prefix<Global>,
-)
-    // The cache is as the requests of some streams left it, one for each connection at most.
-    ensures { ServesUpTo connections prefix.now cache.old cache.new }
+) -> u64
+    // The cache is as the requests of some streams left it, one for each connection accepted.
+    ensures served { ServesSoMany result prefix.now cache.old cache.new }
+    ensures few { result ≤ connections }
 {
+    let mut accepted = 0;
     for number in 0..connections {
         match listener.accept() {
             Ok((stream, peer)) => {
                 let ended = serve_one(rt, &stream, idle, cache, prefix);
-                let Ended { end, read, written } = ended;
-                match end {
-                    Ok(()) => info!(rt; "{number} {peer}: {read} bytes in, {written} out, done"),
-                    Err(e) => info!(rt; "{number} {peer}: {read} bytes in, {written} out, {e}"),
-                }
+                tell(rt, number, &peer, &ended);
+                accepted += 1;
             }
             Err(fault) => warn!(rt; "{number}: not accepted: {fault}"),
         }
     }
+    accepted
+}
+
+/// Tells of a connection that has ended in the log.
+fn tell<R: Log>(rt: &R, number: u64, peer: &SocketAddr, ended: &Ended) {
+    let Counts {
+        requests,
+        hits,
+        misses,
+    } = ended.counts;
+    let (read, written) = (ended.read, ended.written);
+    match &ended.end {
+        Ok(()) => info!(rt;
+            "{number} {peer}: {requests} requests, {hits} hits, {misses} misses, {read} bytes in, {written} out, done"
+        ),
+        Err(e) => info!(rt;
+            "{number} {peer}: {requests} requests, {hits} hits, {misses} misses, {read} bytes in, {written} out, {e}"
+        ),
+    }
 }
 
 /// Serves a connection. Answers are sent as soon as they are written.
+#[tactic(auto, using(crate::proofs::Streams::serves_nothing, crate::proofs::Streams::serves_run))]
 fn serve_one<R: AllocGlobal + Clock>(
     rt: &R,
     stream: &TcpStream,
@@ -56,28 +78,38 @@ fn serve_one<R: AllocGlobal + Clock>(
     cache: &mut Cache<Global>,
     prefix: &Prefix<Global>,
 ) -> Ended
-    ensures { ServesOne prefix.now cache.old cache.new }
+    ensures { ServesSome prefix.now cache.old cache.new }
 {
     let _set = stream.set_nodelay(true);
     let _set = stream.set_read_timeout(idle);
     let _set = stream.set_write_timeout(idle);
+    let mut counts = Counts::none();
     let mut reader = Metered { stream, bytes: 0 };
     let sender = Metered { stream, bytes: 0 };
     let mut writer = match BufWriter::with_capacity(rt.alloc(), GATHERED, sender) {
         Ok(writer) => writer,
         Err(_) => return Ended {
             end: Err(ConnError::Memory),
+            counts,
             read: 0,
             written: 0,
         },
     };
-    let end = run(rt.alloc(), &mut reader, &mut writer, cache, prefix);
+    let end = run_counting(
+        rt.alloc(),
+        &mut reader,
+        &mut writer,
+        cache,
+        prefix,
+        &mut counts,
+    );
     let (sender, _unsent) = writer.into_parts();
     if end.is_ok() {
         close(rt, stream);
     }
     Ended {
         end,
+        counts,
         read: reader.bytes,
         written: sender.bytes,
     }

@@ -1,4 +1,6 @@
 //! A remote over streams in memory.
+mod folders;
+
 use blob_digest::Digest;
 use blob_source::{BlobSink, BlobSource, FetchError};
 use http_core::{Host, Prefix};
@@ -9,12 +11,14 @@ use std::io;
 use std::test::Fail;
 
 /// A stream in memory that gives and takes at most so many bytes at once, and of which the call of
-/// this number fails; none where it is 0.
+/// this number fails; none where it is 0. What comes once it is opened anew, and whether it is open.
 #[derive(Drop)]
 struct Failing {
     inner: MemoryStream<Global>,
     most: usize,
     left: u64,
+    next: Option<MemoryStream<Global>>,
+    open: bool,
 }
 
 impl Failing {
@@ -30,7 +34,7 @@ impl Failing {
 impl Stream for Failing {
     ghost use Rattle.std.specs.Prelude.{None};
 
-    ghost flow = { λ _. record { coming = None; sent = None } };
+    ghost flow = { λ _. record { coming = None; sent = None; is_open = None } };
 
     fn receive(&mut self, buf: &mut [u8]) -> io::Result<usize> {
         if self.fails() {
@@ -47,6 +51,35 @@ impl Stream for Failing {
         let (some, _) = buf.split_at(self.most.min(buf.len()));
         self.inner.send(some)
     }
+
+    fn is_open(&self) -> bool {
+        self.open
+    }
+
+    fn renew(&mut self) -> io::Result<()> {
+        if self.fails() {
+            return Err(io::Error::from(io::ErrorKind::ConnectionRefused));
+        }
+        match self.next.take() {
+            None => Err(io::Error::from(io::ErrorKind::ConnectionRefused)),
+            Some(next) => {
+                self.inner = next;
+                self.open = true;
+                Ok(())
+            }
+        }
+    }
+}
+
+/// A remote over this stream.
+fn over<A: Allocator + Copy>(alloc: A, stream: Failing) -> Result<Remote<Failing, A>, AllocError> {
+    let Some(host) = Host::read(alloc, "h:80")? else {
+        return Err(AllocError);
+    };
+    let Some(prefix) = Prefix::read(alloc, b"/p")? else {
+        return Err(AllocError);
+    };
+    Remote::new(alloc, stream, &host, &prefix)
 }
 
 /// A remote to which these bytes are to come, in pieces of at most so many; the stream's call of
@@ -59,13 +92,14 @@ fn remote<A: Allocator + Copy>(
     left: u64,
 ) -> Result<Remote<Failing, A>, AllocError> {
     let inner = MemoryStream::new(heap, Vec::from_slice(heap, input)?);
-    let Some(host) = Host::read(alloc, "h:80")? else {
-        return Err(AllocError);
+    let stream = Failing {
+        inner,
+        most,
+        left,
+        next: None,
+        open: true,
     };
-    let Some(prefix) = Prefix::read(alloc, b"/p")? else {
-        return Err(AllocError);
-    };
-    Remote::new(alloc, Failing { inner, most, left }, &host, &prefix)
+    over(alloc, stream)
 }
 
 /// What the server answers to the calls of `ask_all`, and what it is sent for them.
@@ -99,7 +133,7 @@ fn ask_all<S: Stream + Drop, A: Allocator + Copy>(
 
 static ANSWERS: [Option<usize>; 6] = [Some(9), Some(9), None, None, Some(1), Some(6)];
 
-/// Whether a further request is refused since the connection is closed.
+/// Whether a further request is refused since an earlier one was.
 fn is_broken<S: Stream + Drop, A: Allocator + Copy>(alloc: A, remote: &mut Remote<S, A>) -> bool {
     let refused = remote.fetch(alloc, &Digest::of(b"other"));
     matches!(refused, Err(FetchError::Failed)) && remote.last_fault() == Some(Fault::Broken)
@@ -113,7 +147,49 @@ fn asks_for_each_once(rt: HostRuntime) -> Result<(), Fail> {
         assert_eq!(rt; ask_all(heap, &mut remote)?, ANSWERS, "{most}");
         assert_eq!(rt; remote.last_fault(), None);
         assert!(rt; remote.stream().inner.sent() == REQUESTS);
+        let refused = remote.fetch(heap, &Digest::of(b"other"));
+        assert!(rt; matches!(refused, Err(FetchError::Failed)));
+        assert_eq!(rt; remote.last_fault(), Some(Fault::Io));
         assert!(rt; is_broken(heap, &mut remote));
+    }
+    Ok(())
+}
+
+/// What comes over a stream before it is opened anew and after, whether it is open at first, and
+/// which of the requests is the first after that.
+static STREAMS: [(&[u8], bool, usize); 2] = [
+    (
+        b"HTTP/1.1 200 OK\r\nContent-Length: 9\r\nConnection: close\r\n\r\n123456789",
+        true,
+        1,
+    ),
+    (
+        b"HTTP/1.1 408 Request Timeout\r\nContent-Length: 0\r\nConnection: close\r\n\r\n",
+        false,
+        0,
+    ),
+];
+
+/// How long the reply and the request of the first call are.
+static FIRST: [usize; 2] = [47, 100];
+
+#[test]
+fn goes_on_over_a_stream_opened_anew(rt: HostRuntime) -> Result<(), Fail> {
+    let heap = rt.alloc();
+    for (first, open, number) in STREAMS {
+        let (_, replies) = REPLIES.split_at(number * FIRST[0]);
+        let (_, requests) = REQUESTS.split_at(number * FIRST[1]);
+        let stream = Failing {
+            inner: MemoryStream::new(heap, Vec::from_slice(heap, first)?),
+            most: 1000,
+            left: 0,
+            next: Some(MemoryStream::new(heap, Vec::from_slice(heap, replies)?)),
+            open,
+        };
+        let mut remote = over(heap, stream)?;
+        assert_eq!(rt; ask_all(heap, &mut remote)?, ANSWERS, "{number}");
+        assert!(rt; remote.stream().inner.sent() == requests, "{number}");
+        assert_eq!(rt; remote.last_fault(), None);
     }
     Ok(())
 }
@@ -182,12 +258,12 @@ static FETCHES: [(
     (
         b"HTTP/1.1 200 OK\r\nContent-Length: 2\r\nConnection: close\r\n\r\nab",
         Ok(Some(2)),
-        Err(Fault::Broken),
+        Err(Fault::Io),
     ),
     (
         b"HTTP/1.1 404 No\r\nConnection: te, Close\r\nContent-Length: 0\r\n\r\n",
         Ok(None),
-        Err(Fault::Broken),
+        Err(Fault::Io),
     ),
     (
         b"HTTP/1.1 500 No\r\nContent-Length: 0\r\n\r\nHTTP/1.1 200 OK\r\nContent-Length: 0\r\n\r\n",

@@ -1,21 +1,40 @@
+use Rattle.std.proofs.Common.{[], sym}
 use Rattle.http_core.specs.Event.{events_of}
 use Rattle.cache_server.proofs.Serving.{on_err}
 use Rattle.cache_server.proofs.Connections.{unfed, unanswered, unflushed, exchanged}
+use Rattle.cache_server.proofs.Counting.{counts_whole, count_none}
 use Rattle.cache_server.proofs.running.exchange.Goals as goal
 
 pub returns-in_err-events-clause-err : goal.returns-in_err-events-clause-err
-returns-in_err-events-clause-err g c = on_err c.from_residual.result (λ stream before s. unfed c.args.session.now stream before c.args.cache.now (g.W.Write.contents c.args.writer.now) c.args.piece.now s)
+unfolding unfed
+returns-in_err-events-clause-err g c = on_err c.from_residual.result (λ stream before s. record {
+  exchanges = unfed c.args.session.now stream before c.args.cache.now (g.W.Write.contents c.args.writer.now) c.args.piece.now s;
+  counts = counts_whole c.args.counts.now c.args.counts.now c.args.cache.now [] (sym (count_none c.args.counts.now c.args.cache.now));
+})
 
 pub returns-in_err-answer_all-clause-err : goal.returns-in_err-answer_all-clause-err
+unfolding unanswered
 returns-in_err-answer_all-clause-err g c =
     let feeds = c.in_ok-events.ensures.ok in
-    on_err c.from_residual-in_err-answer_all.result (λ stream before s. unanswered c.args.session.now c.feed.new.self stream before (events_of c.in_ok-events.events.items) c.args.cache.now c.answer_all.new.cache (g.W.Write.contents c.args.writer.now) (g.W.Write.contents c.answer_all.new.writer) c.args.piece.now feeds.prefix s (feeds.stands stream before s) c.in_err-answer_all.ensures.err)
+    let some = c.in_err-answer_all.ensures.err in
+    on_err c.from_residual-in_err-answer_all.result (λ stream before s. record {
+      exchanges = unanswered c.args.session.now c.feed.new.self stream before (events_of c.in_ok-events.events.items) c.args.cache.now c.answer_all.new.cache (g.W.Write.contents c.args.writer.now) (g.W.Write.contents c.answer_all.new.writer) c.args.piece.now feeds.prefix s (feeds.stands stream before s) some.tells;
+      counts = some.counts;
+    })
 
 pub returns-in-Ok-clause-ok : goal.returns-in-Ok-clause-ok
-returns-in-Ok-clause-ok g c =
-    exchanged c.args.session.now c.feed.new.self (events_of c.in_ok-events.events.items) c.args.cache.now c.answer_all.new.cache (g.W.Write.contents c.args.writer.now) (g.W.Write.contents c.answer_all.new.writer) (g.W.Write.contents c.flush.new.self) c.args.piece.now c.in_ok-events.ensures.ok c.in_ok-answer_all.ensures.ok c.flush.ensures.bytes
+unfolding exchanged
+returns-in-Ok-clause-ok g c = record {
+  exchanges = exchanged c.args.session.now c.feed.new.self (events_of c.in_ok-events.events.items) c.args.cache.now c.answer_all.new.cache (g.W.Write.contents c.args.writer.now) (g.W.Write.contents c.answer_all.new.writer) (g.W.Write.contents c.flush.new.self) c.args.piece.now c.in_ok-events.ensures.ok c.in_ok-answer_all.ensures.ok c.flush.ensures.bytes;
+  counts = c.in_ok-answer_all.ensures.counted;
+}
 
 pub returns-in-Err-clause-err : goal.returns-in-Err-clause-err
+unfolding unflushed
 returns-in-Err-clause-err g c stream before s =
     let feeds = c.in_ok-events.ensures.ok in
-    unflushed c.args.session.now c.feed.new.self stream before (events_of c.in_ok-events.events.items) c.args.cache.now c.answer_all.new.cache (g.W.Write.contents c.args.writer.now) (g.W.Write.contents c.answer_all.new.writer) (g.W.Write.contents c.flush.new.self) c.args.piece.now feeds.prefix (feeds.stands stream before s) c.in_ok-answer_all.ensures.ok c.flush.ensures.bytes
+    let events = events_of c.in_ok-events.events.items in
+    record {
+      exchanges = unflushed c.args.session.now c.feed.new.self stream before events c.args.cache.now c.answer_all.new.cache (g.W.Write.contents c.args.writer.now) (g.W.Write.contents c.answer_all.new.writer) (g.W.Write.contents c.flush.new.self) c.args.piece.now feeds.prefix (feeds.stands stream before s) c.in_ok-answer_all.ensures.ok c.flush.ensures.bytes;
+      counts = counts_whole c.args.counts.now c.answer_all.new.counts c.args.cache.now events c.in_ok-answer_all.ensures.counted;
+    }

@@ -1,5 +1,9 @@
-use Rattle.service.specs.Streams.{ServesUpTo}
+use Rattle.std.proofs.Common.{◌≤◌}
+use Rattle.service.specs.Streams.{ServesSoMany}
 use Rattle.service.proofs.serving.serve.Given as goal
 
 abbrev pub invariant-loop-number : goal.invariant-loop-number
-invariant-loop-number g l = ServesUpTo l.number-counter l.fn.prefix l.fn.cache l.cache
+invariant-loop-number g l = record {
+  few : l.accepted ≤ l.number-counter;
+  serves : ServesSoMany l.accepted l.fn.prefix l.fn.cache l.cache;
+}

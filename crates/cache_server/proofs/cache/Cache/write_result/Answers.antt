@@ -5,6 +5,7 @@ use Rattle.http_core.specs.declared.event.Area.TheVariants.{Ac}
 use Rattle.action_cache.specs.Machine.{CacheState}
 use Rattle.cache_server.specs.Cache.{Step, found_reply}
 use Rattle.cache_server.proofs.Replying.{get_result_steps, answers_by, fails_by}
+use Rattle.cache_server.proofs.Counting.{status_by}
 use Rattle.cache_server.proofs.cache.Cache.write_result.Goals as goal
 
 pub returns-in_default-clause-ok : goal.returns-in_default-clause-ok
@@ -32,3 +33,16 @@ returns-clause-err g c =
     let found = Some c.as_slice.result.now in
     let steps = subst (λ (s : CacheState). Step s (Get Ac c.args.hash.now) (found_reply found) c.get_result.new.self) c.self.view_is (subst (λ o. Step c.self.inside.store (Get Ac c.args.hash.now) (found_reply o) c.get_result.new.self) some (get_result_steps c.self.inside.store c.get_result.new.self Ac c.args.hash.now (option_map (λ v. v.items) c.in_ok-bytes.field-0) refl c.in_ok-bytes.ensures.ok)) in
     fails_by c.write_found-2.result c.args.self.now c.get_result.new.self (Get Ac c.args.hash.now) c.args.close (g.W.Write.contents c.args.writer.now) (g.W.Write.contents c.write_found-2.new.writer) (found_reply found) steps c.write_found-2.ensures.err c.write_found-2.ensures.fault
+
+pub returns-in_default-clause-status : goal.returns-in_default-clause-status
+returns-in_default-clause-status g c =
+    let none = ap (option_map (λ v. v.items)) c.in_default.is in
+    let steps = subst (λ (s : CacheState). Step s (Get Ac c.args.hash.now) (found_reply None) c.get_result.new.self) c.self.view_is (subst (λ o. Step c.self.inside.store (Get Ac c.args.hash.now) (found_reply o) c.get_result.new.self) none (get_result_steps c.self.inside.store c.get_result.new.self Ac c.args.hash.now (option_map (λ v. v.items) c.in_ok-bytes.field-0) refl c.in_ok-bytes.ensures.ok)) in
+    status_by c.write_found.result c.args.self.now c.get_result.new.self (Get Ac c.args.hash.now) (found_reply None) steps c.write_found.ensures.status
+
+pub returns-clause-status : goal.returns-clause-status
+returns-clause-status g c =
+    let some = ap (option_map (λ v. v.items)) c.in-Some.is ∙ ap (λ z. Some z) (sym c.as_slice.ensures.value) in
+    let found = Some c.as_slice.result.now in
+    let steps = subst (λ (s : CacheState). Step s (Get Ac c.args.hash.now) (found_reply found) c.get_result.new.self) c.self.view_is (subst (λ o. Step c.self.inside.store (Get Ac c.args.hash.now) (found_reply o) c.get_result.new.self) some (get_result_steps c.self.inside.store c.get_result.new.self Ac c.args.hash.now (option_map (λ v. v.items) c.in_ok-bytes.field-0) refl c.in_ok-bytes.ensures.ok)) in
+    status_by c.write_found-2.result c.args.self.now c.get_result.new.self (Get Ac c.args.hash.now) (found_reply found) steps c.write_found-2.ensures.status

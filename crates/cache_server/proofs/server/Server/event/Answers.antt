@@ -29,4 +29,4 @@ returns-in-Err-clause-err g c opening history stands =
     let mid : ServerValue = record { cache = c.self.inside.cache; prefix = c.self.inside.prefix; sessions = c.self.inside.sessions.entries } in
     let served : ServerValue = record { cache = c.answer_all.new.cache; prefix = c.self.inside.prefix; sessions = c.self.inside.sessions.entries } in
     let feeds : FeedsAt c.args.self.now c.args.connection c.args.piece.now (events_of c.in_ok-events.events.items) mid = subst (FeedsAt c.args.self.now c.args.connection c.args.piece.now (events_of c.in_ok-events.events.items)) (sym c.self.view_is) c.in_ok-events.ensures.ok in
-    stands_answering opening c.args.self.now mid served c.close.new.self c.args.connection c.args.piece.now history (events_of c.in_ok-events.events.items) feeds (some_served c.self.inside.cache c.answer_all.new.cache (events_of c.in_ok-events.events.items) (Some c.new-text.result.items) (Some c.answer_all.new.writer.items) c.in-Err.ensures.err) refl refl c.close.ensures stands
+    stands_answering opening c.args.self.now mid served c.close.new.self c.args.connection c.args.piece.now history (events_of c.in_ok-events.events.items) feeds (some_served c.self.inside.cache c.answer_all.new.cache (events_of c.in_ok-events.events.items) (Some c.new-text.result.items) (Some c.answer_all.new.writer.items) c.in-Err.ensures.err.tells) refl refl c.close.ensures stands

@@ -8,4 +8,4 @@ pub returns-clause-refused : goal.returns-clause-refused
 returns-clause-refused g c =
     let flow = g.S.Stream.flow in
     refuses_status (line_of flow c.args.self.now) (line_of flow c.ask.new.self) (line_of flow c.fail.new.self) (put c.args.area c.args.digest.now.hash c.args.bytes.now) (reply_value c.in_ok-reply.reply) c.in_ok-reply.reply.status c.fail.result
-    c.in_ok-reply.ensures.asked refl (sym c.is_put.ensures ∙ c.if-is_put.false) c.fail.ensures
+    c.in_ok-reply.ensures.asked refl (sym c.is_taken.ensures ∙ c.if-is_taken.false) c.fail.ensures

@@ -1,0 +1,148 @@
+-- What was answered, counted.
+use Rattle.std.proofs.Common.{◌≡◌, ℕ, inl, inr, Option, Some, List, [], ◌∷◌, ◌++◌, refl, sym, ◌∙◌, ap, subst, append_assoc, take, Result, Ok, Err, IfOk}
+use Rattle.std.proofs.lemmas.List.{append-nil}
+use Rattle.std.specs.Io.KnownBytes.{Consumes, Keeps, IsAtEnd}
+use Rattle.http_core.specs.Event.{AskValue, EventValue, Asked, Refused}
+use Rattle.http_core.specs.Reply.{ReplyValue}
+use Rattle.http_core.specs.Session.{Closed, SessionValue, Stands}
+use Rattle.http_core.specs.Stream.{Cuts}
+use Rattle.cache_server.specs.Cache.{CacheValue, Step, step}
+use Rattle.cache_server.specs.Counts.{CountsFront, IsStatusOf, after_event, count_all, count_event}
+use Rattle.cache_server.specs.Connection.{RunsCounting, RunsSomeCounting, ExchangesCounting, ExchangesSomeCounting, ExchangesSome}
+use Rattle.cache_server.specs.Serving.{Serves, ServesOne}
+use Rattle.cache_server.specs.Writing.{Tells, MayTell, TellsSomeCounting}
+use Rattle.cache_server.specs.declared.counts.Counts.{Counts}
+use Rattle.cache_server.specs.declared.error.ConnError.{ConnError}
+use Rattle.cache_server.proofs.Connections.{RunsOn, runs_first, runs_more, runs_ended, runs_closed, runs_stopped, runs_broken, runs_none}
+use Rattle.cache_server.proofs.Telling.{TellsOn, told_first, told_more, told_some}
+
+-- ---- one event
+
+-- the status of a reply that is known
+pub status_by : (r : Result ℕ ConnError) (old new : CacheValue) (ask : AskValue) (reply : ReplyValue) → Step old ask reply new → IfOk r (λ s. s ≡ reply.status) → IfOk r (IsStatusOf old ask)
+status_by (Ok x) old new ask reply steps is = ap (λ (z : ReplyValue × CacheValue). z.0.status) steps ∙ sym is
+status_by (Err e) old new ask reply steps is = tt
+
+after_is : (old new : CacheValue) (event : EventValue) (text : List ℕ) → ServesOne old event text new → after_event old event ≡ new
+after_is old new (Asked ask close) text (reply, shut, (steps, same), e) = ap (λ (z : ReplyValue × CacheValue). z.1) steps
+after_is old new (Refused status close) text (reply, shut, (is, same, kept), e) = sym kept
+
+-- ---- many
+
+pub count_join : (c : Counts) (old mid : CacheValue) (done events : List EventValue) (text : List ℕ) → Serves old done text mid
+    → count_all c old (done ++ events) ≡ count_all (count_all c old done) mid events
+unfolding Serves count_all
+count_join c old mid [] events text (e, f) = ap (λ z. count_all c z events) (sym f)
+count_join c old mid (event ∷ done) events text (first, others, between, one, rest, e) =
+    let is : after_event old event ≡ between = after_is old between event first one in
+    ap (λ z. count_all (count_event c old event) z (done ++ events)) is ∙ count_join (count_event c old event) between mid done events others rest
+    ∙ ap (λ z. count_all (count_all (count_event c old event) z done) mid events) (sym is)
+
+pub count_none : (c : Counts) (old : CacheValue) → count_all c old [] ≡ c
+unfolding count_all
+count_none c old = refl
+
+count_one : (c : Counts) (old : CacheValue) (event : EventValue) → count_all c old (event ∷ []) ≡ count_event c old event
+unfolding count_all
+count_one c old event = refl
+
+-- all of them are counted
+pub counts_whole : (c after : Counts) (old : CacheValue) (events : List EventValue) → after ≡ count_all c old events → CountsFront c old events after
+counts_whole c after old events is = record { front = events; rest = []; whole = sym (append-nil events); counts = is }
+
+-- ---- the events of a piece
+
+pub record TellsOnCounting (old : CacheValue) (events left : List EventValue) (before now : Option (List ℕ)) (new : CacheValue) (first last : Counts) : Type 0 where
+  pub on : TellsOn old events left before now new
+  pub counts : last ≡ count_all first old on.done
+
+pub counted_first : (old : CacheValue) (events left : List EventValue) (before : Option (List ℕ)) (c : Counts) → events ≡ left → TellsOnCounting old events left before before old c c
+unfolding told_first
+counted_first old events left before c e = record { on = told_first old events left before e; counts = sym (count_none c old) }
+
+module _ (old now new : CacheValue) (events left : List EventValue) (event : EventValue) (before mid after : Option (List ℕ)) (c d e : Counts) where
+  pub counted_more : TellsOnCounting old events (event ∷ left) before mid now c d → Tells now event mid after new → e ≡ count_event d now event → TellsOnCounting old events left before after new c e
+  unfolding told_more
+  counted_more t s is = record {
+    on = told_more old now new events left event before mid after t.on s;
+    counts = is ∙ ap (λ z. count_event z now event) t.counts ∙ sym (count_one (count_all c old t.on.done) now event) ∙ sym (count_join c old now t.on.done (event ∷ []) t.on.text t.on.served);
+  }
+
+  pub counted_some : TellsOnCounting old events (event ∷ left) before mid now c d → MayTell now event mid after new → e ≡ d → TellsSomeCounting old events before after new c e
+  unfolding told_some
+  counted_some t (inl k) is = record {
+    tells = told_some old now new events left event before mid after t.on (inl k);
+    counts = counts_whole c e old t.on.done (is ∙ t.counts);
+  }
+  counted_some t (inr k) is = record {
+    tells = told_some old now new events left event before mid after t.on (inr k);
+    counts = record { front = t.on.done; rest = event ∷ []; whole = refl; counts = is ∙ t.counts };
+  }
+
+pub counted_all : (old new : CacheValue) (events : List EventValue) (before now : Option (List ℕ)) (c d : Counts) → TellsOnCounting old events [] before now new c d → d ≡ count_all c old events
+counted_all old new events before now c d t = t.counts ∙ ap (count_all c old) (sym (t.on.whole ∙ append-nil t.on.done))
+
+-- ---- the pieces of a stream
+
+pub record RunsOnCounting (prefix : List ℕ) (old : CacheValue) (input input_left written_before written : Option (List ℕ)) (session : SessionValue) (now : CacheValue) (first last : Counts) : Type 0 where
+  pub on : RunsOn prefix old input input_left written_before written session now
+  pub counts : last ≡ count_all first old on.before
+
+pub counting_first : (prefix : List ℕ) (old : CacheValue) (input written : Option (List ℕ)) (session : SessionValue) (c : Counts) → session.prefix ≡ prefix → Stands session [] []
+    → RunsOnCounting prefix old input input written written session old c c
+unfolding runs_first
+counting_first prefix old input written session c same s = record { on = runs_first prefix old input written session same s; counts = sym (count_none c old) }
+
+pub counting_more : (prefix : List ℕ) (old : CacheValue) (input left more written_before written written_more : Option (List ℕ)) (session new : SessionValue) (now after : CacheValue) (piece : List ℕ) (c d e : Counts)
+    → RunsOnCounting prefix old input left written_before written session now c d → Consumes left more piece → ExchangesCounting session now written piece new after written_more d e
+    → RunsOnCounting prefix old input more written_before written_more new after c e
+unfolding runs_more
+counting_more prefix old input left more written_before written written_more session new now after piece c d e r k x = record {
+  on = runs_more prefix old input left more written_before written written_more session new now after piece r.on k x.exchanges;
+  counts = x.counts ∙ ap (λ z. count_all z now x.exchanges.events) r.counts ∙ sym (count_join c old now r.on.before x.exchanges.events r.on.text r.on.served);
+}
+
+pub counting_ended : (prefix : List ℕ) (old : CacheValue) (input left more written_before written : Option (List ℕ)) (session : SessionValue) (now : CacheValue) (count : ℕ) (buffer : List ℕ) (c d : Counts)
+    → RunsOnCounting prefix old input left written_before written session now c d → count ≡ 0 → Consumes left more (take count buffer) → IsAtEnd more → RunsCounting prefix old input more written_before written now c d
+unfolding runs_ended
+counting_ended prefix old input left more written_before written session now count buffer c d r none k end = record {
+  runs = runs_ended prefix old input left more written_before written session now count buffer r.on none k end;
+  counts = r.counts;
+}
+
+pub counting_closed : (prefix : List ℕ) (old : CacheValue) (input left written_before written : Option (List ℕ)) (session : SessionValue) (now : CacheValue) (c d : Counts)
+    → RunsOnCounting prefix old input left written_before written session now c d → session.state ≡ Closed → RunsCounting prefix old input left written_before written now c d
+unfolding runs_closed
+counting_closed prefix old input left written_before written session now c d r shut = record {
+  runs = runs_closed prefix old input left written_before written session now r.on shut;
+  counts = r.counts;
+}
+
+pub counting_stopped : (prefix : List ℕ) (old : CacheValue) (input left more written_before written : Option (List ℕ)) (session : SessionValue) (now : CacheValue) (c d : Counts)
+    → RunsOnCounting prefix old input left written_before written session now c d → Keeps left more → RunsSomeCounting prefix old input more written_before written now c d
+unfolding runs_stopped
+counting_stopped prefix old input left more written_before written session now c d r kept = record {
+  runs = runs_stopped prefix old input left more written_before written session now r.on kept;
+  counts = counts_whole c d old r.on.before r.counts;
+}
+
+pub counting_broken : (prefix : List ℕ) (old : CacheValue) (input left more written_before written written_more : Option (List ℕ)) (session : SessionValue) (now after : CacheValue) (piece : List ℕ) (c d e : Counts)
+    → (r : RunsOnCounting prefix old input left written_before written session now c d) → Consumes left more piece → ExchangesSomeCounting session.prefix r.on.read r.on.before now written piece after written_more d e
+    → RunsSomeCounting prefix old input more written_before written_more after c e
+unfolding runs_broken
+counting_broken prefix old input left more written_before written written_more session now after piece c d e r k x = record {
+  runs = runs_broken prefix old input left more written_before written written_more session now after piece r.on k x.exchanges;
+  counts = record {
+    front = r.on.before ++ x.counts.front;
+    rest = x.counts.rest;
+    whole = ap (λ z. r.on.before ++ z) x.counts.whole ∙ sym (append_assoc r.on.before x.counts.front x.counts.rest);
+    counts = x.counts.counts ∙ ap (λ z. count_all z now x.counts.front) r.counts ∙ sym (count_join c old now r.on.before x.counts.front r.on.text r.on.served);
+  };
+}
+
+pub counting_none : (prefix : List ℕ) (old : CacheValue) (input written : Option (List ℕ)) (c : Counts) → Cuts prefix [] [] (Some []) → RunsSomeCounting prefix old input input written written old c c
+unfolding runs_none
+counting_none prefix old input written c cut = record {
+  runs = runs_none prefix old input written cut;
+  counts = counts_whole c c old [] (sym (count_none c old));
+}

@@ -1,0 +1,49 @@
+use Rattle.std.proofs.Common.{◌≡◌, ◌<◌, true, length, refl, sym, ◌∙◌, subst, rules, arith}
+use Rattle.std.specs.Io.KnownBytes.{Consumes}
+use Rattle.std.proofs.KnownBytes.{Keeps-refl}
+use Rattle.http_core.specs.Session.{Closed}
+use Rattle.http_core.proofs.Pieces.{not_open}
+use Rattle.cache_server.proofs.Serving.{on_err}
+use Rattle.cache_server.proofs.Connections.{nothing_cut}
+use Rattle.cache_server.proofs.Counting.{RunsOnCounting, counting_first, counting_more, counting_ended, counting_closed, counting_stopped, counting_broken, counting_none}
+use Rattle.cache_server.proofs.running.run_counting.Goals as goal
+
+pub returns-in_err-session-clause-err : goal.returns-in_err-session-clause-err
+returns-in_err-session-clause-err g c = on_err c.from_residual.result (counting_none c.args.prefix.now c.args.cache.now (g.R.Read.remaining c.args.reader.now) (g.W.Write.contents c.args.writer.now) c.args.counts.now (nothing_cut c.args.prefix.now))
+
+pub loop-init : goal.loop-init
+loop-init g c = record { long = refl; runs = counting_first c.args.prefix.now c.args.cache.now (g.R.Read.remaining c.args.reader.now) (g.W.Write.contents c.args.writer.now) c.in_ok-session.session c.args.counts.now c.in_ok-session.ensures.prefix c.in_ok-session.ensures.stands }
+
+pub returns-in_default-clause-err : goal.returns-in_default-clause-err
+returns-in_default-clause-err g c =
+    counting_stopped c.args.prefix.now c.args.cache.now (g.R.Read.remaining c.args.reader.now) (g.R.Read.remaining c.loop.reader) (g.R.Read.remaining c.read.new.self) (g.W.Write.contents c.args.writer.now) (g.W.Write.contents c.loop.writer) c.loop.session c.loop.cache c.args.counts.now c.loop.counts c.loop.invariant.runs c.in_default.ensures.bytes
+
+pub returns-then-count-eq0-clause-ok : goal.returns-then-count-eq0-clause-ok
+returns-then-count-eq0-clause-ok g c =
+    let long : 0 < length c.read.new.buf = omega (arith, c.read.auto.buf, c.loop.invariant.long) in
+    counting_ended c.args.prefix.now c.args.cache.now (g.R.Read.remaining c.args.reader.now) (g.R.Read.remaining c.loop.reader) (g.R.Read.remaining c.read.new.self) (g.W.Write.contents c.args.writer.now) (g.W.Write.contents c.loop.writer) c.loop.session c.loop.cache c.in-Ok.count c.read.new.buf c.args.counts.now c.loop.counts
+    c.loop.invariant.runs c.if-count-eq0.true c.in-Ok.ensures.bytes.0 (c.in-Ok.ensures.bytes.1 c.if-count-eq0.true long)
+
+pub returns-in_err-exchange-clause-err : goal.returns-in_err-exchange-clause-err
+returns-in_err-exchange-clause-err g c =
+    let piece : Consumes (g.R.Read.remaining c.loop.reader) (g.R.Read.remaining c.read.new.self) c.split_at.result.0.now = subst (Consumes (g.R.Read.remaining c.loop.reader) (g.R.Read.remaining c.read.new.self)) (sym c.split_at.ensures.front) c.in-Ok.ensures.bytes.0 in
+    on_err c.from_residual-in_err-exchange.result
+    (counting_broken c.args.prefix.now c.args.cache.now (g.R.Read.remaining c.args.reader.now) (g.R.Read.remaining c.loop.reader) (g.R.Read.remaining c.read.new.self) (g.W.Write.contents c.args.writer.now) (g.W.Write.contents c.loop.writer) (g.W.Write.contents c.exchange.new.writer) c.loop.session c.loop.cache c.exchange.new.cache c.split_at.result.0.now c.args.counts.now c.loop.counts c.exchange.new.counts
+    c.loop.invariant.runs piece (c.in_err-exchange.ensures.err c.loop.invariant.runs.on.read c.loop.invariant.runs.on.before c.loop.invariant.runs.on.stands))
+
+pub returns-then-not-is_open-clause-ok : goal.returns-then-not-is_open-clause-ok
+returns-then-not-is_open-clause-ok g c =
+    let piece : Consumes (g.R.Read.remaining c.loop.reader) (g.R.Read.remaining c.read.new.self) c.split_at.result.0.now = subst (Consumes (g.R.Read.remaining c.loop.reader) (g.R.Read.remaining c.read.new.self)) (sym c.split_at.ensures.front) c.in-Ok.ensures.bytes.0 in
+    let shut : c.exchange.new.session.state ≡ Closed = not_open c.exchange.new.session.state (λ o. let t : c.is_open.result ≡ true = search (rules, c.is_open.ensures.1 o) in let f = c.if-not-is_open.true in cc) in
+    let on : RunsOnCounting c.args.prefix.now c.args.cache.now (g.R.Read.remaining c.args.reader.now) (g.R.Read.remaining c.read.new.self) (g.W.Write.contents c.args.writer.now) (g.W.Write.contents c.exchange.new.writer) c.exchange.new.session c.exchange.new.cache c.args.counts.now c.exchange.new.counts =
+    counting_more c.args.prefix.now c.args.cache.now (g.R.Read.remaining c.args.reader.now) (g.R.Read.remaining c.loop.reader) (g.R.Read.remaining c.read.new.self) (g.W.Write.contents c.args.writer.now) (g.W.Write.contents c.loop.writer) (g.W.Write.contents c.exchange.new.writer) c.loop.session c.exchange.new.session c.loop.cache c.exchange.new.cache c.split_at.result.0.now c.args.counts.now c.loop.counts c.exchange.new.counts c.loop.invariant.runs piece c.in_ok-exchange.ensures.ok in
+    counting_closed c.args.prefix.now c.args.cache.now (g.R.Read.remaining c.args.reader.now) (g.R.Read.remaining c.read.new.self) (g.W.Write.contents c.args.writer.now) (g.W.Write.contents c.exchange.new.writer) c.exchange.new.session c.exchange.new.cache c.args.counts.now c.exchange.new.counts on shut
+
+pub loop-preserved : goal.loop-preserved
+loop-preserved g c =
+    let piece : Consumes (g.R.Read.remaining c.loop.reader) (g.R.Read.remaining c.read.new.self) c.split_at.result.0.now = subst (Consumes (g.R.Read.remaining c.loop.reader) (g.R.Read.remaining c.read.new.self)) (sym c.split_at.ensures.front) c.in-Ok.ensures.bytes.0 in
+    record { long = c.read.auto.buf ∙ c.loop.invariant.long; runs = counting_more c.args.prefix.now c.args.cache.now (g.R.Read.remaining c.args.reader.now) (g.R.Read.remaining c.loop.reader) (g.R.Read.remaining c.read.new.self) (g.W.Write.contents c.args.writer.now) (g.W.Write.contents c.loop.writer) (g.W.Write.contents c.exchange.new.writer) c.loop.session c.exchange.new.session c.loop.cache c.exchange.new.cache c.split_at.result.0.now c.args.counts.now c.loop.counts c.exchange.new.counts c.loop.invariant.runs piece c.in_ok-exchange.ensures.ok }
+
+pub returns-clause-err : goal.returns-clause-err
+returns-clause-err g c =
+    counting_stopped c.args.prefix.now c.args.cache.now (g.R.Read.remaining c.args.reader.now) (g.R.Read.remaining c.loop.reader) (g.R.Read.remaining c.loop.reader) (g.W.Write.contents c.args.writer.now) (g.W.Write.contents c.loop.writer) c.loop.session c.loop.cache c.args.counts.now c.loop.counts c.loop.invariant.runs (Keeps-refl (g.R.Read.remaining c.loop.reader))

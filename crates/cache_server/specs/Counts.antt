@@ -1,0 +1,56 @@
+-- How many requests were answered, and how many look-ups found what they asked for.
+use Rattle.std.specs.Prelude.{◌≡◌, ℕ, ◌+◌, ◌==◌, min, List, [], ◌∷◌, ◌++◌, if◌then◌else◌}
+use Rattle.http_core.specs.Event.{EventValue, Asked, Refused, AskValue, Get, Put}
+use Rattle.cache_server.specs.Cache.{CacheValue, step}
+use Rattle.cache_server.specs.declared.counts.Counts.{Counts}
+
+abbrev pub no_counts : Counts
+no_counts = record { requests = 0; hits = 0; misses = 0 }
+
+-- a count, as far as a machine word goes
+abbrev pub one_more : ℕ → ℕ
+one_more n = min (n + 1) 18446744073709551615
+
+-- a look-up that was answered with this status: 200 is a hit, and all else a miss
+abbrev pub count_look_up : Counts → ℕ → Counts
+count_look_up c status =
+    if status == 200
+    then record { requests = one_more c.requests; hits = one_more c.hits; misses = c.misses }
+    else record { requests = one_more c.requests; hits = c.hits; misses = one_more c.misses }
+
+-- a request that asks for nothing, or was refused
+abbrev pub count_other : Counts → Counts
+count_other c = record { requests = one_more c.requests; hits = c.hits; misses = c.misses }
+
+-- a request that was answered with this status
+abbrev pub count_ask : Counts → AskValue → ℕ → Counts
+count_ask c (Get area hash) status = count_look_up c status
+count_ask c (Put area hash body) status = count_other c
+
+-- an event that was answered whole
+abbrev pub count_event : Counts → CacheValue → EventValue → Counts
+count_event c cache (Asked ask close) = count_ask c ask (step cache ask).0.status
+count_event c cache (Refused status close) = count_other c
+
+-- the state after an event
+abbrev pub after_event : CacheValue → EventValue → CacheValue
+after_event cache (Asked ask close) = (step cache ask).1
+after_event cache (Refused status close) = cache
+
+-- the counts after the events, which the cache answered one after another
+unfoldable pub count_all : Counts → CacheValue → List EventValue → Counts
+count_all c cache [] = c
+count_all c cache (event ∷ events) =
+    count_all (count_event c cache event) (after_event cache event) events
+
+-- the reply to what is asked has this status
+abbrev pub IsStatusOf : CacheValue → AskValue → ℕ → Type 0
+IsStatusOf cache ask status = (step cache ask).0.status ≡ status
+
+-- the first of the events are counted, those whose answers are written whole
+pub record CountsFront (old : Counts) (cache : CacheValue) (events : List EventValue) (new : Counts)
+    : Type 0 where
+  pub front : List EventValue
+  pub rest : List EventValue
+  pub whole : events ≡ front ++ rest
+  pub counts : new ≡ count_all old cache front

@@ -1,0 +1,66 @@
+//! A store in a folder.
+use blob_digest::Digest;
+use blob_source::{BlobSource, FetchError};
+use refusing::Refusing;
+use remote::{FileError, FolderSource};
+use std::alloc::Allocator;
+use std::fs;
+use std::rt::Files;
+use std::test::Fail;
+
+/// The file of the blob `123456789`, and the result of an action with that digest.
+const BLOB: &str = "kept/cas/15e2b0d3c33891ebb0f1ef609ec419420c20e320ce94c65fbc8c3312448eb225";
+
+const RESULT: &str = "kept/ac/15e2b0d3c33891ebb0f1ef609ec419420c20e320ce94c65fbc8c3312448eb225";
+
+/// Where a folder stands in place of the result of an action with the digest of `a`.
+const NO_FILE: &str = "kept/ac/ca978112ca1bbdcafac231b39a23dc4da786eff8147c4e72b9807785afee48bb";
+
+/// The lengths of a blob, and of its result.
+fn lengths<R: Files + Alloc<A = A>, A: Allocator + Copy>(
+    rt: &R,
+    source: &mut FolderSource<'_, R, A>,
+) -> Result<(Option<usize>, Option<usize>), FetchError> {
+    let nine = Digest::of(b"123456789");
+    let blob = source.fetch(rt.alloc(), &nine)?.map(|bytes| bytes.len());
+    let result = source.result(rt.alloc(), &nine)?.map(|bytes| bytes.len());
+    Ok((blob, result))
+}
+
+/// The lengths in the folder `kept`.
+fn lengths_there<R: Files + Alloc<A = A>, A: Allocator + Copy>(
+    rt: &R,
+) -> Result<(Option<usize>, Option<usize>), FetchError> {
+    let place = String::from_str(rt.alloc(), "kept")?;
+    let mut source = FolderSource::new(rt, place);
+    lengths(rt, &mut source)
+}
+
+#[test]
+fn files_are_read_once(rt: HostRuntime) -> Result<(), Fail> {
+    let heap = rt.alloc();
+    fs::create_dir_all(&rt, "kept/cas")?;
+    fs::create_dir_all(&rt, NO_FILE)?;
+    fs::write(&rt, BLOB, b"123456789")?;
+    for number in 1..1000u64 {
+        let alloc = Refusing::new(heap, number);
+        let answer = lengths_there(&(&rt, &alloc));
+        if !alloc.has_refused() {
+            assert_eq!(rt; answer, Ok((Some(9), None)));
+            break;
+        }
+        assert_eq!(rt; answer, Err(FetchError::Memory), "request {number}");
+    }
+    let mut source = FolderSource::new(&rt, String::from_str(heap, "kept")?);
+    assert_eq!(rt; lengths(&rt, &mut source), Ok((Some(9), None)));
+    fs::remove_file(&rt, BLOB)?;
+    fs::write(&rt, RESULT, b"result")?;
+    assert_eq!(rt; lengths(&rt, &mut source), Ok((Some(9), None)));
+    let refused = source.result(heap, &Digest::of(b"a"));
+    assert!(rt; matches!(refused, Err(FetchError::Failed)));
+    let error = source.into_error();
+    assert!(rt; matches!(&error, Some(FileError::NotAFile { path }) if path.as_str() == NO_FILE));
+    assert_eq!(rt; lengths_there(&rt), Ok((None, Some(6))));
+    fs::remove_dir_all(&rt, "kept")?;
+    Ok(())
+}

@@ -1,0 +1,76 @@
+-- A store in a folder: what it tells, and what a look-up in it does.
+use Rattle.std.specs.Prelude.{◌≡◌, ℕ, List, [], ◌∷◌, ◌++◌, take, Option, None, Result, IfOk, IfSome, IsErrOf, OnErr, string_bytes}
+use Rattle.std.specs.declared.vec.Vec.{Vec}
+use Rattle.blob_digest.specs.Digest.{DigestValue}
+use Rattle.blob_digest.specs.Text.{digest_text}
+use Rattle.blob_source.specs.Source.{Telling}
+use Rattle.blob_source.specs.declared.source.FetchError.{FetchError}
+use Rattle.blob_source.specs.declared.source.FetchError.TheVariants.{Failed}
+use Rattle.remote.specs.declared.files.FileError.{FileError}
+use Rattle.remote.specs.declared.files.FileError.TheVariants.{Io, NotAFile, TooLarge, Memory}
+use Rattle.remote.specs.declared.folder.FolderSource.{FolderSource}
+use Rattle.remote.specs.declared.table.Table.{Table}
+use Rattle.remote.specs.Table.{HasAnswer, IsSameBut, KeepsAnswers, told_by}
+
+-- the error tells of the file at this path
+abbrev pub IsFaultOf : {A : Type 0} → List ℕ → FileError A → Type 0
+IsFaultOf path (Io p fault) = string_bytes p ≡ path
+IsFaultOf path (NotAFile p) = string_bytes p ≡ path
+IsFaultOf path (TooLarge p) = string_bytes p ≡ path
+IsFaultOf path Memory = ⊥
+
+-- the error tells of the file at this path, or of want of memory
+abbrev pub IsErrorOf : {A : Type 0} → List ℕ → FileError A → Type 0
+IsErrorOf path Memory = Unit {0}
+IsErrorOf path e = IsFaultOf path e
+
+-- the file for a digest in a part of the store: FOLDER/PART/HASH, with the 64 hex digits that the
+-- digest's text begins with
+abbrev pub entry_path : List ℕ → List ℕ → DigestValue → List ℕ
+entry_path folder part digest = folder ++ 47 ∷ (part ++ 47 ∷ take 64 (digest_text digest))
+
+-- what was read is kept in tables, and stays told; each fault of the file system is a failure
+abbrev pub telling_of : {R A : Type 0} → FolderSource R A → Telling
+telling_of s = record {
+  blobs = told_by s.blobs;
+  results = told_by s.results;
+  failures = s.folder.failures;
+  calls = s.calls;
+  puts = [];
+}
+
+-- the folder, and the error of the last failure
+abbrev pub place_of : {R A : Type 0} → FolderSource R A → List ℕ
+place_of s = string_bytes s.folder.place
+
+abbrev pub error_of : {R A : Type 0} → FolderSource R A → Option (FileError A)
+error_of s = s.folder.error
+
+-- the blobs and the results that it keeps
+abbrev pub blobs_of : {R A : Type 0} → FolderSource R A → Table A
+blobs_of s = s.blobs
+
+abbrev pub results_of : {R A : Type 0} → FolderSource R A → Table A
+results_of s = s.results
+
+-- nothing was read so far
+pub record IsFreshFolder {R A : Type 0} (place : List ℕ) (s : FolderSource R A) : Type 0 where
+  pub is : place_of s ≡ place
+  pub blobs : (d : DigestValue) → HasAnswer (blobs_of s) d → ⊥
+  pub results : (d : DigestValue) → HasAnswer (results_of s) d → ⊥
+  pub failures : (telling_of s).failures ≡ 0
+  pub calls : (telling_of s).calls ≡ 0
+  pub unfailed : error_of s ≡ None
+
+-- A call that asked for the file at a path, of this digest. What is kept is told without the file,
+-- so that no fault of it is a failure.
+pub record LooksIn {A : Type 0}
+    (path : List ℕ) (d : DigestValue) (old new : Option (FileError A)) (before after : Table A)
+    (result : Result (Option (Vec ℕ A)) FetchError) : Type 0 where
+  pub kept : HasAnswer before d → IsErrOf result Failed → ⊥
+  pub same : HasAnswer before d → KeepsAnswers before after
+  pub held : IfOk result (λ answer. HasAnswer after d)
+  pub unheld : OnErr result (KeepsAnswers before after)
+  pub others : IsSameBut d before after
+  pub failed : IsErrOf result Failed → IfSome new (IsFaultOf path)
+  pub unfailed : (IsErrOf result Failed → ⊥) → new ≡ old

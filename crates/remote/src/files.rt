@@ -1,0 +1,84 @@
+ghost use Rattle.std.specs.Prelude.{◌≡◌, ◌≢◌, ◌≤◌, IfErr, IfOk, MatchResult, Ok, vec_len};
+ghost use Rattle.std.specs.IoError.{error_kind};
+ghost use Rattle.remote.specs.Folder.{IsErrorOf};
+
+use std::alloc::{AllocError, Allocator};
+use std::io::ErrorKind;
+use std::rt::Files;
+use std::{fs, io};
+use thiserror::Error;
+
+/// The most bytes that a file has.
+const GREATEST_FILE: u64 = 16_777_216;
+
+/// Why a file can't be read.
+#[derive(Drop, Error)]
+#[derive_where(Debug)]
+pub enum FileError<A: Allocator> {
+    #[error("{path:?}: {fault}")]
+    Io { path: String<A>, fault: io::Error },
+    #[error("{path:?}: not a file")]
+    NotAFile { path: String<A> },
+    #[error("{path:?}: a file of more than 16777216 bytes")]
+    TooLarge { path: String<A> },
+    #[error("out of memory")]
+    Memory,
+}
+
+impl<A: Allocator> From<AllocError> for FileError<A> {
+    ghost use Rattle.std.specs.Prelude.{◌≡◌};
+    ghost use Rattle.remote.specs.declared.files.FileError.TheVariants as errors;
+
+    ghost from_gives = { λ _ e. e ≡ errors.Memory };
+
+    fn from(_e: AllocError) -> FileError<A> {
+        FileError::Memory
+    }
+}
+
+/// The bytes of the file there. Links are followed; what is no file isn't opened.
+pub fn read_file<R: Files + Alloc<A = A>, A: Allocator + Copy>(
+    rt: &R,
+    path: &str,
+) -> Result<Vec<u8, A>, FileError<A>>
+    ensures few { IfOk result (λ bytes. vec_len bytes ≤ GREATEST_FILE) }
+    ensures error { IfErr result (IsErrorOf path.now) }
+{
+    let metadata = match fs::metadata(rt, path) {
+        Ok(metadata) => metadata,
+        Err(fault) => return Err(io_error(rt.alloc(), path, fault)?),
+    };
+    if !metadata.is_file() {
+        let path = String::from_str(rt.alloc(), path)?;
+        return Err(FileError::NotAFile { path });
+    }
+    if metadata.len() > GREATEST_FILE {
+        let path = String::from_str(rt.alloc(), path)?;
+        return Err(FileError::TooLarge { path });
+    }
+    let bytes = match fs::read(rt, path) {
+        Ok(bytes) => bytes,
+        Err(fault) => return Err(io_error(rt.alloc(), path, fault)?),
+    };
+    // The file may have grown since.
+    if bytes.len() as u64 > GREATEST_FILE {
+        let path = String::from_str(rt.alloc(), path)?;
+        return Err(FileError::TooLarge { path });
+    }
+    Ok(bytes)
+}
+
+/// The error of a file.
+fn io_error<A: Allocator>(
+    alloc: A,
+    path: &str,
+    fault: io::Error,
+) -> Result<FileError<A>, FileError<A>>
+    ensures error { MatchResult result (IsErrorOf path.now) (IsErrorOf path.now) }
+{
+    if fault.kind() == ErrorKind::OutOfMemory {
+        return Ok(FileError::Memory);
+    }
+    let path = String::from_str(alloc, path)?;
+    Ok(FileError::Io { path, fault })
+}

@@ -1,0 +1,182 @@
+ghost use Rattle.std.specs.Prelude.{◌≡◌, ◌≢◌, ◌+◌, ◌≤◌, IfErr, IfOk, IfSome, IsErrOf, OnErr, Some};
+ghost use Rattle.std.specs.Prelude.{codes, string_bytes};
+ghost use Rattle.blob_source.specs.Called.{Calls};
+ghost use Rattle.blob_source.specs.Source.{AsksBlob, AsksResult, GrowsAt, bytes_of, greatest_count};
+ghost use Rattle.remote.specs.Folder.{IsErrorOf, IsFaultOf, IsFreshFolder, LooksIn, entry_path};
+ghost use Rattle.remote.specs.Folder.{blobs_of, error_of, place_of, results_of, telling_of};
+ghost use Rattle.remote.specs.Table.{HasAnswer, IsSameBut, KeepsAnswers, told_by};
+ghost use Rattle.remote.specs.declared.files.FileError.TheVariants as errors;
+
+use crate::asking::keep_answer;
+use crate::files::{FileError, read_file};
+use crate::table::Table;
+use blob_digest::Digest;
+use blob_source::{BlobSource, FetchError};
+use std::alloc::{AllocError, Allocator};
+use std::io::ErrorKind;
+use std::rt::Files;
+
+/// A folder of files, and how often reading them failed.
+#[derive(Drop)]
+struct Folder<'r, R, A: Allocator> {
+    rt: &'r R,
+    place: String<A>,
+    failures: u64,
+    error: Option<FileError<A>>,
+}
+
+/// A folder of blobs, in files `cas/HASH`, and of results, in files `ac/HASH`. What was read is
+/// kept, also that a file isn't there, which is no blob; any other fault of a file is a failure.
+/// What the files hold isn't believed: who asks hashes it.
+#[derive(Drop)]
+pub struct FolderSource<'r, R, A: Allocator> {
+    folder: Folder<'r, R, A>,
+    blobs: Table<A>,
+    results: Table<A>,
+    calls: u64,
+}
+
+impl<'r, R: Files + Alloc<A = A>, A: Allocator + Copy> FolderSource<'r, R, A> {
+    /// The store in this folder.
+    pub fn new(rt: &'r R, place: String<A>) -> FolderSource<'r, R, A>
+        ensures { IsFreshFolder (string_bytes place) result }
+    {
+        FolderSource {
+            blobs: Table::new(rt.alloc()),
+            results: Table::new(rt.alloc()),
+            folder: Folder {
+                rt,
+                place,
+                failures: 0,
+                error: None,
+            },
+            calls: 0,
+        }
+    }
+
+    /// The error of the last failure.
+    pub fn into_error(self) -> Option<FileError<A>>
+        ensures { result ≡ error_of self.entry }
+    {
+        self.folder.error
+    }
+}
+
+impl<'r, R: Files + Alloc<A = A>, A: Allocator + Copy> Folder<'r, R, A> {
+    /// Counts a failure, unless the error is want of memory or the count is full.
+    fn fail(&mut self, error: FileError<A>) -> FetchError
+        ensures kept { result ≡ FetchError.Failed → self.new.error ≡ Some error }
+        ensures real { result ≡ FetchError.Failed → error ≢ errors.Memory }
+        ensures counted { result ≡ FetchError.Failed → self.new.failures ≡ self.old.failures + 1 }
+        ensures risen { self.old.failures ≤ self.new.failures }
+        ensures bounded { self.new.failures ≤ greatest_count }
+        ensures unfailed { (result ≡ FetchError.Failed → ⊥) → self.new ≡ self.old }
+        ensures placed { self.new.place ≡ self.old.place }
+    {
+        let _count = self.failures;
+        if matches!(error, FileError::Memory) || self.failures == u64::MAX {
+            return FetchError::Memory;
+        }
+        self.error = Some(error);
+        self.failures += 1;
+        FetchError::Failed
+    }
+
+    /// The bytes of the file for a digest in a part of the folder, if it is there.
+    fn read(&self, part: &str, digest: &Digest) -> Result<Option<Vec<u8, A>>, FileError<A>>
+        ensures { IfErr result
+            (IsErrorOf (entry_path (string_bytes self.now.place) part.now digest.now)) }
+    {
+        let path = entry_path(self.rt.alloc(), self.place.as_str(), part, digest)?;
+        match read_file(self.rt, path.as_str()) {
+            Ok(bytes) => Ok(Some(bytes)),
+            Err(FileError::Io { fault, .. }) if fault.kind() == ErrorKind::NotFound => Ok(None),
+            Err(error) => Err(error),
+        }
+    }
+
+    /// Answers from the table, or else reads the file and keeps what it holds.
+    fn look_up(
+        &mut self,
+        alloc: A,
+        table: &mut Table<A>,
+        part: &str,
+        digest: &Digest,
+    ) -> Result<Option<Vec<u8, A>>, FetchError>
+        ensures told { IfOk result (λ answer. bytes_of answer ≡ told_by table.new digest.now) }
+        ensures grows { GrowsAt digest.now (told_by table.old) (told_by table.new) }
+        ensures held { IfOk result (λ _. HasAnswer table.new digest.now) }
+        ensures kept { HasAnswer table.old digest.now → IsErrOf result FetchError.Failed → ⊥ }
+        ensures same { HasAnswer table.old digest.now → KeepsAnswers table.old table.new }
+        ensures unheld { OnErr result (KeepsAnswers table.old table.new) }
+        ensures others { IsSameBut digest.now table.old table.new }
+        ensures failed { IsErrOf result FetchError.Failed → IfSome self.new.error
+            (IsFaultOf (entry_path (string_bytes self.old.place) part.now digest.now)) }
+        ensures counted { IsErrOf result FetchError.Failed
+            → self.new.failures ≡ self.old.failures + 1 }
+        ensures unfailed { (IsErrOf result FetchError.Failed → ⊥) → self.new ≡ self.old }
+        ensures placed { self.new.place ≡ self.old.place }
+        ensures risen { self.old.failures ≤ self.new.failures }
+        ensures bounded { self.new.failures ≤ greatest_count }
+    {
+        let _count = self.failures;
+        if table.has(digest) {
+            return Ok(table.copied(alloc, digest)?);
+        }
+        match self.read(part, digest) {
+            Ok(answer) => {
+                keep_answer(alloc, table, digest, &answer)?;
+                Ok(answer)
+            }
+            Err(error) => Err(self.fail(error)),
+        }
+    }
+}
+
+/// The path of the file for a digest in a part of a folder.
+fn entry_path<A: Allocator + Copy>(
+    alloc: A,
+    place: &str,
+    part: &str,
+    digest: &Digest,
+) -> Result<String<A>, AllocError>
+    ensures { IfOk result (λ path. string_bytes path ≡ entry_path place.now part.now digest.now) }
+{
+    let _size = digest.size();
+    let mut hash = digest.write_text(alloc)?;
+    hash.truncate(64);
+    format!(in alloc; "{place}/{part}/{hash}")
+}
+
+impl<'r, R: Files + Alloc<A = A>, A: Allocator + Copy> BlobSource<A> for FolderSource<'r, R, A> {
+    ghost tells = { telling_of };
+
+    fn fetch(&mut self, alloc: A, digest: &Digest) -> Result<Option<Vec<u8, A>>, FetchError>
+        ensures told { IfOk result
+            (λ answer. bytes_of answer ≡ (telling_of self.new).blobs digest.now) }
+        ensures called { Calls (AsksBlob digest.now) (telling_of self.old) (telling_of self.new)
+            (IsErrOf result FetchError.Failed) }
+        ensures looked { LooksIn (entry_path (place_of self.old) (codes "cas") digest.now) digest.now
+            (error_of self.old) (error_of self.new) (blobs_of self.old) (blobs_of self.new) result }
+        ensures untouched { results_of self.new ≡ results_of self.old }
+        ensures placed { place_of self.new ≡ place_of self.old }
+    {
+        self.calls = self.calls.saturating_add(1);
+        self.folder.look_up(alloc, &mut self.blobs, "cas", digest)
+    }
+
+    fn result(&mut self, alloc: A, digest: &Digest) -> Result<Option<Vec<u8, A>>, FetchError>
+        ensures told { IfOk result
+            (λ answer. bytes_of answer ≡ (telling_of self.new).results digest.now) }
+        ensures called { Calls (AsksResult digest.now) (telling_of self.old) (telling_of self.new)
+            (IsErrOf result FetchError.Failed) }
+        ensures looked { LooksIn (entry_path (place_of self.old) (codes "ac") digest.now) digest.now
+            (error_of self.old) (error_of self.new) (results_of self.old) (results_of self.new)
+            result }
+        ensures untouched { blobs_of self.new ≡ blobs_of self.old }
+        ensures placed { place_of self.new ≡ place_of self.old }
+    {
+        self.calls = self.calls.saturating_add(1);
+        self.folder.look_up(alloc, &mut self.results, "ac", digest)
+    }
+}
