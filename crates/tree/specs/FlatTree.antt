@@ -82,3 +82,7 @@ found_value (Some e) = entry_value e
 
 abbrev pub flat_value : {A : Type 0} → List (Vec Name A × FlatEntry A) → FlatValue
 flat_value entries = map (λ e. (e.0.items, entry_value e.1)) entries
+
+-- entries with their paths
+abbrev pub path_values : {A : Type 0} → List (List Name × FlatEntry A) → FlatValue
+path_values entries = map (λ e. (e.0, entry_value e.1)) entries

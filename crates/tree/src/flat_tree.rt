@@ -1,11 +1,12 @@
 ghost use Rattle.std.specs.Prelude.{◌≡◌, ◌↔◌, ◌⊎◌, ◌==◌, ◌-◌, ℕ, IsTrue, ◌<◌, ◌≤◌, [], IfOk, IfErr, IfNone, IfSome, OnOk, OnErr, IsErr, length, take, option_copied};
 ghost use Rattle.messages.specs.Path.{IsPath};
 ghost use Rattle.tree.specs.Tree.{nothing, a_directory};
-ghost use Rattle.tree.specs.FlatTree.{standing_in, IsFlatTree, IsTaken, IsAdded, IsFirstMissing, entry_value, found_value, flat_value};
+ghost use Rattle.tree.specs.FlatTree.{standing_in, IsFlatTree, IsTaken, IsAdded, IsFirstMissing, entry_value, found_value, flat_value, path_values};
 ghost use Rattle.messages.specs.Path.{IsPath};
 ghost use Rattle.tree.specs.TreeError.{IsOverlapAt};
 
-use crate::error::AddError;
+use crate::error::{AddError, TreeError};
+use crate::unfolding::child_path;
 use blob_digest::Digest;
 use messages::{Name, Path, Target};
 use std::alloc::{AllocError, Allocator};
@@ -67,6 +68,25 @@ pub(crate) fn copy_names<A: Allocator + Copy>(
         copy.push(Name::copy_of(alloc, name)?)?;
     }
     Ok(copy)
+}
+
+/// The path of these names.
+fn path_of<A: Allocator + Copy>(alloc: A, names: &[Name<A>]) -> Result<Path<A>, AllocError>
+    requires { IsPath names.now }
+    ensures { IfOk result (λ path. path ≡ names.now) }
+{
+    let mut path: Option<Path<A>> = None;
+    for name in names {
+        match child_path(alloc, path.as_ref(), name) {
+            Ok(below) => path = Some(below),
+            Err(TreeError::Memory) => return Err(AllocError),
+            Err(_) => unreachable!(),
+        }
+    }
+    match path {
+        Some(path) => Ok(path),
+        None => unreachable!(),
+    }
 }
 
 /// Adds the entry at a path, with the directories above it from the first `depth` names on, of
@@ -139,6 +159,22 @@ impl<A: Allocator + Copy> FlatTree<A> {
         ensures { result ≡ (length self.now == 0) }
     {
         self.entries.is_empty()
+    }
+
+    /// The entries with their paths, in the order of the paths' names: a directory before what is
+    /// below it.
+    pub fn into_entries(
+        self,
+        alloc: A,
+    ) -> Result<Vec<(Path<A>, FlatEntry<A>), A>, AllocError>
+        ensures value { IfOk result (λ entries. path_values entries.items ≡ self) }
+        ensures flat { IsFlatTree self }
+    {
+        let mut entries = Vec::new(alloc);
+        for (names, entry) in self.entries {
+            entries.push((path_of(alloc, &names)?, entry))?;
+        }
+        Ok(entries)
     }
 
     /// How many names the shortest beginning of a path has at which nothing stands. `None` where
