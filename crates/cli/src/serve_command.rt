@@ -138,7 +138,7 @@ where
         0 => None,
         seconds => Some(Duration::from_secs(seconds)),
     };
-    serve(
+    let _accepted = serve(
         rt,
         &listener,
         asked.connections,

@@ -10,13 +10,13 @@ use Rattle.service.specs.Streams.{ServesStream, ServesSome, ServesStreams, Serve
 
 -- a stream of which nothing was read
 pub serves_nothing : (prefix : List ℕ) (old : CacheValue) → ServesSome prefix old old
-serves_nothing prefix old = ([], [], Some [], record { events = []; cut = nothing_cut prefix; served = serves_none old })
+serves_nothing prefix old = ([], ([], Some [], record { events = []; cut = nothing_cut prefix; served = serves_none old }))
 
 -- a stream that was run to its end, or given up
 pub serves_run : {T E : Type 0} (r : Result T E) (prefix : List ℕ) (old new : CacheValue) (input left before after : Option (List ℕ)) (c d : Counts)
     → OnOk r (RunsCounting prefix old input left before after new c d) → OnErr r (RunsSomeCounting prefix old input left before after new c d) → ServesSome prefix old new
-serves_run (Ok x) prefix old new input left before after c d ran some = (ran.runs.read, ran.runs.text, ran.runs.left, ran.runs.answered)
-serves_run (Err e) prefix old new input left before after c d ran some = (some.runs.front, some.runs.told ++ some.runs.lost, some.runs.left, some.runs.answered)
+serves_run (Ok x) prefix old new input left before after c d ran some = (ran.runs.read, (ran.runs.text, ran.runs.left, ran.runs.answered))
+serves_run (Err e) prefix old new input left before after c d ran some = (some.runs.front, (some.runs.told ++ some.runs.lost, some.runs.left, some.runs.answered))
 
 streams_more : (prefix : List ℕ) (old between new : CacheValue) (streams : List (List ℕ)) (stream : List ℕ)
     → ServesStreams prefix old streams between → ServesStream prefix between stream new → ServesStreams prefix old (streams ++ stream ∷ []) new

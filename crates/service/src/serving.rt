@@ -15,6 +15,7 @@ use std::time::{Clock, Duration};
 const GATHERED: usize = 16384;
 
 /// What came of a connection.
+#[derive(Drop)]
 struct Ended {
     end: Result<(), ConnError>,
     counts: Counts,
@@ -70,7 +71,7 @@ fn tell<R: Log>(rt: &R, number: u64, peer: &SocketAddr, ended: &Ended) {
 }
 
 /// Serves a connection. Answers are sent as soon as they are written.
-#[tactic(auto, using(crate::proofs::Streams::serves_nothing, crate::proofs::Streams::serves_run))]
+#[tactic(auto, using(crate::proofs::Streams::serves_run))]
 fn serve_one<R: AllocGlobal + Clock>(
     rt: &R,
     stream: &TcpStream,
