@@ -26,7 +26,7 @@ impl From<FileError<Global>> for CliError {
 }
 
 /// The bytes of the file there.
-#[tactic(auto, using(crate::proofs::Files::file_fault))]
+#[tactic(auto, using(crate::proofs::FileErrors::file_fault))]
 pub(crate) fn read_file<R: Files + AllocGlobal>(rt: &R, path: &str) -> Result<Vec<u8>, CliError>
     ensures fault { IfErr result (IsFileFault path.now) }
 {

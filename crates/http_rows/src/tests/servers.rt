@@ -80,6 +80,36 @@ fn streams_and_their_answers(rt: HostRuntime) -> Result<(), Fail> {
     Ok(())
 }
 
+/// A blob is put and looked up, another is looked up, and what comes then is no request.
+const COUNTED: &[u8] =
+    b"PUT /cas/ca978112ca1bbdcafac231b39a23dc4da786eff8147c4e72b9807785afee48bb HTTP/1.1\r\nHost: h\r\nContent-Length: 1\r\n\r\naGET /cas/ca978112ca1bbdcafac231b39a23dc4da786eff8147c4e72b9807785afee48bb HTTP/1.1\r\nHost: h\r\n\r\nGET /cas/15e2b0d3c33891ebb0f1ef609ec419420c20e320ce94c65fbc8c3312448eb225 HTTP/1.1\r\nHost: h\r\n\r\nnothing\r\n\r\n";
+
+#[test]
+fn requests_are_counted(rt: HostRuntime) -> Result<(), Fail> {
+    let heap = rt.alloc();
+    let mut cache = Cache::new(heap, RandomState::new(&rt)?, 1000, 1000)?;
+    let prefix = Prefix::read(heap, b"")?.unwrap();
+    let mut counts = Counts::none();
+    let mut reader = COUNTED;
+    let mut answers = Vec::new(heap);
+    let end = run_counting(
+        heap,
+        &mut reader,
+        &mut answers,
+        &mut cache,
+        &prefix,
+        &mut counts,
+    );
+    assert_eq!(rt; end, Ok(()));
+    let expected = Counts {
+        requests: 4,
+        hits: 1,
+        misses: 1,
+    };
+    assert_eq!(rt; counts, expected);
+    Ok(())
+}
+
 #[test]
 fn beginnings_of_a_stream(rt: HostRuntime) -> Result<(), Fail> {
     let heap = rt.alloc();
