@@ -60,7 +60,7 @@ list_more : (P : List (List ℕ) → Type 0) (es : List (List (List ℕ) × Outp
 list_more P [] e h p = (p, tt)
 list_more P (x ∷ es) e h p = (h.0, list_more P es e h.1 p)
 
-recorded_next : {A : Type 0} (ys : List (RecordedOutput A)) (i : ℕ) (y : RecordedOutput A) → i < length ys → y ≡ get_or ys i y → recorded_values (drop i ys) ≡ recorded_value y ∷ recorded_values (drop (i + 1) ys)
+pub recorded_next : {A : Type 0} (ys : List (RecordedOutput A)) (i : ℕ) (y : RecordedOutput A) → i < length ys → y ≡ get_or ys i y → recorded_values (drop i ys) ≡ recorded_value y ∷ recorded_values (drop (i + 1) ys)
 recorded_next ys i y lt is =
     let split : drop i ys ≡ y ∷ drop (i + 1) ys = rw (add-one, drop-cons ys i y lt) (ap (λ k. k ∷ drop (suc i) ys) (sym is)) in
     ap recorded_values split
@@ -94,15 +94,15 @@ module _ {A : Type 0} where
       none_more [] = refl
       none_more (f ∷ fs) = ap (λ q. f ∷ q) (none_more fs)
 
-module _ {A : Type 0} where
-  -- the comparison with the recorded input looks at what the check of it does
-  pub input_looked : {A' : Type 0} (B : Blobs) (act : ActionValue) (xs : List (List Name × NodeValue)) (f : Folded A') (input : DigestValue) → IsFoldOf (graft xs) f → input ≡ act.input → f.root ≢ input
-      → (a : Asked) → Compares (made_by f) B 64 f.root input a → InputLooksAt B act xs a
-  input_looked B act xs f input fold is other a h = (
-    (λ same. other (fold.root ∙ same ∙ sym is)),
-    subst (λ own. Compares own B 64 (root (graft xs)) act.input a) fold.directories (subst (λ g. Compares (made_by f) B 64 g act.input a) fold.root (subst (λ r. Compares (made_by f) B 64 f.root r a) is h)),
-  )
+-- the comparison with the recorded input looks at what the check of it does
+pub input_looked : {A' : Type 0} (B : Blobs) (act : ActionValue) (xs : List (List Name × NodeValue)) (f : Folded A') (input : DigestValue) → IsFoldOf (graft xs) f → input ≡ act.input → f.root ≢ input
+    → (a : Asked) → Compares (made_by f) B 64 f.root input a → InputLooksAt B act xs a
+input_looked B act xs f input fold is other a h = (
+  (λ same. other (fold.root ∙ same ∙ sym is)),
+  subst (λ own. Compares own B 64 (root (graft xs)) act.input a) fold.directories (subst (λ g. Compares (made_by f) B 64 g act.input a) fold.root (subst (λ r. Compares (made_by f) B 64 f.root r a) is h)),
+)
 
+module _ {A : Type 0} where
   -- why the graft isn't the recorded input
   pub input_explained : {A' : Type 0} (B : Blobs) (a : ActionValue) (xs : List (List Name × NodeValue)) (f : Folded A') (input : DigestValue) (fault : faults_type.Fault A) → IsFoldOf (graft xs) f → input ≡ a.input → f.root ≢ input
       → Explains (IsDifference (made_by f) B f.root input) fault → Explains (grafted {A = A} B a xs).fails fault

@@ -24,7 +24,7 @@ pub record StepsGoOn (A : Type 0) (told : Telling) (src : DigestValue) (steps : 
   pub fail : (later : Telling) → Grows told.blobs later.blobs → Grows told.results later.results → (why : Place A × Cause A)
       → (steps_check later src os rest left).fails why → (steps_check later src [] steps ds).fails why
   pub look : (later : Telling) → Grows told.blobs later.blobs → Grows told.results later.results → (a : Asked)
-      → StepsLookAt {A = A} later src os rest left a → StepsLookAt {A = A} later src [] steps ds a
+      → StepsLookAt A later src os rest left a → StepsLookAt A later src [] steps ds a
 
 split_at : {A : Type 0} (xs : List A) (i : ℕ) (x : A) → i < length xs → x ≡ get_or xs i x → drop i xs ≡ x ∷ drop (i + 1) xs
 split_at xs i x lt is = rw (add-one, drop-cons xs i x lt) (ap (λ k. k ∷ drop (suc i) xs) (sym is))
@@ -52,17 +52,17 @@ module _ {A : Type 0} where
         (subst (λ ys. (steps_check later src os (s ∷ drop (i + 1) steps) ys).fails why) (sym (split_at ds i d lt' is')) h))
 
     all_look : (later : Telling) → Grows new.blobs later.blobs → Grows new.results later.results → (a : Asked)
-        → StepsLookAt {A = A} later src os (s ∷ drop (i + 1) steps) (d ∷ drop (i + 1) ds) a → StepsLookAt {A = A} later src [] steps ds a
+        → StepsLookAt A later src os (s ∷ drop (i + 1) steps) (d ∷ drop (i + 1) ds) a → StepsLookAt A later src [] steps ds a
     all_look later m n a h =
-        goes.look later (both_grow g m) (both_grow k n) a (subst (λ xs. StepsLookAt {A = A} later src os xs (drop i ds) a) (sym (split_at steps i s lt is))
-        (subst (λ ys. StepsLookAt {A = A} later src os (s ∷ drop (i + 1) steps) ys a) (sym (split_at ds i d lt' is')) h))
+        goes.look later (both_grow g m) (both_grow k n) a (subst (λ xs. StepsLookAt A later src os xs (drop i ds) a) (sym (split_at steps i s lt is))
+        (subst (λ ys. StepsLookAt A later src os (s ∷ drop (i + 1) steps) ys a) (sym (split_at ds i d lt' is')) h))
 
-    pub steps_look_here : (a : Asked) → StepLooksAt {A = A} new src os s d a → StepsLookAt {A = A} new src [] steps ds a
+    pub steps_look_here : (a : Asked) → StepLooksAt A new src os s d a → StepsLookAt A new src [] steps ds a
     unfolding looks
     steps_look_here a h = all_look new (λ e b q. q) (λ e b q. q) a (inl h)
 
     pub steps_next : (o : OutcomeValue) → (step_check {A = A} new src os s d).passes o → StepsGoOn A new src steps ds (os ++ o ∷ []) (drop (i + 1) steps) (drop (i + 1) ds)
-    unfolding ◌and_then◌, looks
+    unfolding ◌and_then◌ looks
     steps_next o h = record {
       pass = λ later m n outcomes rest. all_pass later m n outcomes (o, (stable_step {A = A} src os s d).still new later m n o h, rest);
       fail = λ later m n why rest. all_fail later m n why (inr (o, (stable_step {A = A} src os s d).still new later m n o h, rest));
@@ -130,15 +130,15 @@ module _ (A : Type 0) (told : Telling) (src : DigestValue) (plan : PlanValue) (d
 -- ---- what the checks of a plan look at
 
 module _ (A : Type 0) (told : Telling) (src : DigestValue) (plan : PlanValue) (ds : List DigestValue) where
-  pub plan_look_steps : (a : Asked) → StepsLookAt {A = A} told src [] plan.steps ds a → PlanLooksAt {A = A} told src plan ds a
+  pub plan_look_steps : (a : Asked) → StepsLookAt A told src [] plan.steps ds a → PlanLooksAt A told src plan ds a
   unfolding looks
   plan_look_steps a h = inl h
 
   module _ (later : Telling) (g : Grows told.blobs later.blobs) (k : Grows told.results later.results) where
-    pub plan_look_still : (a : Asked) → StepsLookAt {A = A} told src [] plan.steps ds a → PlanLooksAt {A = A} later src plan ds a
+    pub plan_look_still : (a : Asked) → StepsLookAt A told src [] plan.steps ds a → PlanLooksAt A later src plan ds a
     unfolding looks
-    plan_look_still a h = inl ((steady_steps {A = A} src [] plan.steps ds).still told later g k a h)
+    plan_look_still a h = inl ((steady_steps A src [] plan.steps ds).still told later g k a h)
 
-    pub plan_look_root : (os : List OutcomeValue) → (steps_check {A = A} told src [] plan.steps ds).passes os → (a : Asked) → RootLooksAt {A = A} later src os plan.root_lines a → PlanLooksAt {A = A} later src plan ds a
+    pub plan_look_root : (os : List OutcomeValue) → (steps_check {A = A} told src [] plan.steps ds).passes os → (a : Asked) → RootLooksAt A later src os plan.root_lines a → PlanLooksAt A later src plan ds a
     unfolding looks
     plan_look_root os h a at = inr (os, (stable_steps {A = A} src [] plan.steps ds).still told later g k os h, at)

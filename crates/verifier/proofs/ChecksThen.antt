@@ -94,13 +94,20 @@ pub record IsSteady (look : Telling → Asked → Type 0) : Type 0 where
 pub steady_without : {look : Asked → Type 0} → IsSteady (λ _. look)
 steady_without = record { still = λ old new g k a h. h }
 
+pub looks_here : {E V : Type 0} (check : Stage E V) (Here : Asked → Type 0) (next : V → Asked → Type 0) (a : Asked) → Here a → looks check Here next a
+unfolding looks
+looks_here check Here next a h = inl h
+
+pub looks_next : {E V : Type 0} (check : Stage E V) (Here : Asked → Type 0) (next : V → Asked → Type 0) (a : Asked) (v : V) → check.passes v → next v a → looks check Here next a
+unfolding looks
+looks_next check Here next a v p h = inr (v, p, h)
+
 pub steady_looks : {E V : Type 0} {first : Telling → Stage E V} {here : Telling → Asked → Type 0} {next : Telling → V → Asked → Type 0} → IsStable first → IsSteady here → ((v : V) → IsSteady (λ t. next t v))
     → IsSteady (λ t. looks (first t) (here t) (next t))
 unfolding looks
 steady_looks {first = first} {here = here} {next = next} stable steady rest = record { still = by }
   where
     by : (old new : Telling) → Grows old.blobs new.blobs → Grows old.results new.results → (a : Asked) → looks (first old) (here old) (next old) a → looks (first new) (here new) (next new) a
-    unfolding looks
     by old new g k a (inl h) = inl (steady.still old new g k a h)
     by old new g k a (inr h) = inr (h.0, stable.still old new g k h.0 h.1, (rest h.0).still old new g k a h.2)
 
@@ -113,8 +120,8 @@ steady_input act xs = record { still = λ old new g k a h. (h.0, compares_still 
 pub steady_result : (m : CommandValue) (r : ActionResultValue) → IsSteady (λ t. ResultLooksAt t.blobs m r)
 steady_result m r = record { still = λ old new g k a h. (h.0, h.1, outputs_look_still old.blobs new.blobs m h.0 a g h.2) }
 
-module _ {A : Type 0} where
-  pub steady_step : (d : DigestValue) (os : List OutcomeValue) (s : StepValue) (recorded : DigestValue) → IsSteady (λ t. StepLooksAt {A = A} t d os s recorded)
+module _ (A : Type 0) where
+  pub steady_step : (d : DigestValue) (os : List OutcomeValue) (s : StepValue) (recorded : DigestValue) → IsSteady (λ t. StepLooksAt A t d os s recorded)
   steady_step d os s recorded =
       steady_looks (stable_message {A = A}) steady_without (λ a.
       steady_looks stable_without steady_without (λ _.
@@ -126,7 +133,7 @@ module _ {A : Type 0} where
       steady_looks stable_without steady_without (λ _.
       steady_result m r))))))))
 
-  pub steady_steps : (d : DigestValue) (os : List OutcomeValue) (ss : List StepValue) (ds : List DigestValue) → IsSteady (λ t. StepsLookAt {A = A} t d os ss ds)
+  pub steady_steps : (d : DigestValue) (os : List OutcomeValue) (ss : List StepValue) (ds : List DigestValue) → IsSteady (λ t. StepsLookAt A t d os ss ds)
   steady_steps d os [] ds = steady_without
   steady_steps d os (s ∷ ss) [] = steady_without
   steady_steps d os (s ∷ ss) (recorded ∷ ds) = steady_looks (stable_step {A = A} d os s recorded) (steady_step d os s recorded) (λ o. steady_steps d (os ++ o ∷ []) ss ds)
@@ -135,8 +142,8 @@ module _ {A : Type 0} where
 pub looked_blob : {d e : DigestValue} {refused : Type 0} {k0 k1 : Known} {t0 t1 : Telling} → d ≡ e → Learns (LooksAtBlob d) refused k0 k1 t0 t1 → Learns (LooksAtBlob e) refused k0 k1 t0 t1
 looked_blob same h = learns_more (λ a k. subst (λ x. LooksAtBlob x a) same k) (λ n. n) h
 
-pub looked_lines : {d : DigestValue} {os : List OutcomeValue} {ls ls' : List LineValue} {refused : Type 0} {k0 k1 : Known} {t0 t1 : Telling} → ls ≡ ls' → Learns (LinesLookAt t1.blobs d os ls) refused k0 k1 t0 t1 → Learns (LinesLookAt t1.blobs d os ls') refused k0 k1 t0 t1
-looked_lines {d} {os} {t1 = t1} same h = learns_more (λ a k. subst (λ x. LinesLookAt t1.blobs d os x a) same k) (λ n. n) h
+pub looked_lines : (d : DigestValue) (os : List OutcomeValue) {ls ls' : List LineValue} {refused : Type 0} {k0 k1 : Known} {t0 t1 : Telling} → ls ≡ ls' → Learns (LinesLookAt t1.blobs d os ls) refused k0 k1 t0 t1 → Learns (LinesLookAt t1.blobs d os ls') refused k0 k1 t0 t1
+looked_lines d os {t1 = t1} same h = learns_more (λ a k. subst (λ x. LinesLookAt t1.blobs d os x a) same k) (λ n. n) h
 
 pub stopped_exit : {A E : Type 0} (r : Result (Checked A) E) (P : E → Type 0) → IsErrAnd r P → IsStopped r
 stopped_exit (Ok x) P exit = elim exit [ ]
@@ -165,27 +172,25 @@ module _ {A V : Type 0} where
 
 module _ {A V W : Type 0} where
   -- the first check passed
-  pub checks_then : {first : Telling → Stage (Cause A) V} (next : Telling → V → Stage (Cause A) W) {here : Telling → Asked → Type 0} {further : Telling → V → Asked → Type 0} {k0 k1 k2 : Known} {old mid new : Telling} {v : V}
+  pub checks_then : {first : Telling → Stage (Cause A) V} (next : Telling → V → Stage (Cause A) W) {here : Telling → Asked → Type 0} (further : Telling → V → Asked → Type 0) {k0 k1 k2 : Known} {old mid new : Telling} {v : V}
       {r : Result W (Fault A)} → IsStable first → IsSteady here → Checks first here k0 k1 old mid (Ok v) → Checks (λ t. next t v) (λ t. further t v) k1 k2 mid new r
       → Checks (λ t. first t and_then next t) (λ t. looks (first t) (here t) (further t)) k0 k2 old new r
-  unfolding looks
-  checks_then {first} next {old = old} {mid = mid} {new = new} {v = v} {r = r} stable steady h k =
+  checks_then {first} next {here = here} further {old = old} {mid = mid} {new = new} {v = v} {r = r} stable steady h k =
       let blobs = k.called.asked.asks.blobs in
       let results = k.called.asked.asks.results in
       let passes = stable.still mid new blobs results v h.checked in
       record {
         checked = then_answers (first new) (next new) v r passes k.checked;
         called = called_ok h.called k.called;
-        learned = learns_then {t1 = mid} (λ a at. inl (steady.still mid new blobs results a at)) (λ a at. inr (v, passes, at)) (λ n. n) h.learned k.learned;
+        learned = learns_then {t1 = mid} (λ a at. looks_here (first new) (here new) (further new) a (steady.still mid new blobs results a at)) (λ a at. looks_next (first new) (here new) (further new) a v passes at) (λ n. n) h.learned k.learned;
       }
 
   -- the first check failed, and a `?` hands its answer out
-  pub checks_exit : {T : Type 0} (first : Telling → Stage (Cause A) V) (next : Telling → V → Stage (Cause A) W) {here : Telling → Asked → Type 0} {further : Telling → V → Asked → Type 0} {k0 k1 : Known} {old new : Telling} {f : Fault A}
+  pub checks_exit : {T : Type 0} (first : Telling → Stage (Cause A) V) (next : Telling → V → Stage (Cause A) W) (here : Telling → Asked → Type 0) (further : Telling → V → Asked → Type 0) {k0 k1 : Known} {old new : Telling} {f : Fault A}
       {r : Result W (Fault A)} {refused : Type 0} → IsErrAnd r (λ e. e ≡ f) → Explains (first new).fails f → Called old new (IsErrOf {T = T} (Err f) faults.Fetch) → Learns (here new) refused k0 k1 old new
       → Checks (λ t. first t and_then next t) (λ t. looks (first t) (here t) (further t)) k0 k1 old new r
-  unfolding looks
-  checks_exit first next {old = old} {new = new} {f = f} {r = r} exit h k l = record {
+  checks_exit first next here further {old = old} {new = new} {f = f} {r = r} exit h k l = record {
     checked = fails_here (first new) (next new) f r exit h;
     called = called_exit exit k;
-    learned = learns_refused (λ a at. inl at) (refused_exit r (λ e. e ≡ f) exit) l;
+    learned = learns_refused (λ a at. looks_here (first new) (here new) (further new) a at) (refused_exit r (λ e. e ≡ f) exit) l;
   }

@@ -12,9 +12,12 @@ use Rattle.actions.proofs.Reading.{stands_still}
 use Rattle.plan.specs.Values.{OriginValue, source, output, LineValue}
 use Rattle.tree.specs.Form.{NodeValue}
 use Rattle.tree.specs.Lookup.{found}
-use Rattle.tree.specs.Memo.{Asked}
+use Rattle.tree.specs.LooksAt.{OnWay}
+use Rattle.tree.specs.Memo.{Asked, Known, Learns}
+use Rattle.tree.specs.Tree.{Name}
+use Rattle.tree.proofs.Learning.{learns_more}
 use Rattle.tree.proofs.Ways.{way_still}
-use Rattle.blob_source.specs.Source.{Blobs, Grows}
+use Rattle.blob_source.specs.Source.{Blobs, Telling, Grows}
 use Rattle.verifier.specs.Accepted.{LooksAt}
 use Rattle.verifier.specs.LooksAt.{OriginLooksAt, LinesLookAt, OutputsLookAt}
 use Rattle.verifier.proofs.Checking.{recorded_next}
@@ -74,3 +77,7 @@ module _ {A : Type 0} (B C : Blobs) (c : CommandValue) (xs : List RecordedValue)
     look = λ later g a h. on.look later (λ e b q. g e b (grows e b q)) a
         (subst (λ q. OutputsLookAt later c q a) (sym (recorded_next ys i y lt is)) (listed, inr (v, stands_still C later (recorded_value y) v g stands, h)));
   }
+
+-- an origin in the source tree
+pub origin_looked : {refused : Type 0} {k0 k1 : Known} {t0 t1 : Telling} (d : DigestValue) (o : OriginValue) (p : List Name) → o ≡ source p → Learns (OnWay t1.blobs d p) refused k0 k1 t0 t1 → Learns (OriginLooksAt t1.blobs d o) refused k0 k1 t0 t1
+origin_looked {t1 = t1} d o p from h = learns_more (λ a at. subst (λ x. OriginLooksAt t1.blobs d x a) (sym from) at) (λ n. n) h

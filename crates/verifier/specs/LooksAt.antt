@@ -26,7 +26,7 @@ use Rattle.verifier.specs.Verdict.{steps_check}
 -- A check looks at some things, and where it passes those after it look at theirs.
 unfoldable pub looks : {E V : Type 0} → Stage E V → (Asked → Type 0) → (V → Asked → Type 0) → Asked
     → Type 0
-looks check Here next a = Here a ⊎ ((v : V) × check.passes v × next v a)
+looks {E} {V} check Here next a = Here a ⊎ ((v : V) × check.passes v × next v a)
 
 -- a check of what is known already
 abbrev pub LooksAtNothing : Asked → Type 0
@@ -68,9 +68,9 @@ ResultLooksAt B command result a =
 -- ---- all of them, in their order
 
 -- the checks of a step with a recorded digest
-abbrev pub StepLooksAt : {A : Type 0} → Telling → DigestValue → List OutcomeValue → StepValue
+abbrev pub StepLooksAt : (A : Type 0) → Telling → DigestValue → List OutcomeValue → StepValue
     → DigestValue → Asked → Type 0
-StepLooksAt {A} tells sources outcomes step d =
+StepLooksAt A tells sources outcomes step d =
     looks (message {A = A} IsAction action_bytes tells.blobs d) (LooksAtBlob d) λ action.
     looks (cached {A = A} action) LooksAtNothing λ _.
     looks (message {A = A} IsCommand command_bytes tells.blobs action.frame.command)
@@ -84,26 +84,26 @@ StepLooksAt {A} tells sources outcomes step d =
     ResultLooksAt tells.blobs command result
 
 -- the checks of the steps that are left
-abbrev pub StepsLookAt : {A : Type 0} → Telling → DigestValue → List OutcomeValue
+abbrev pub StepsLookAt : (A : Type 0) → Telling → DigestValue → List OutcomeValue
     → List StepValue → List DigestValue → Asked → Type 0
-StepsLookAt tells sources outcomes [] ds a = ⊥
-StepsLookAt tells sources outcomes (s ∷ ss) [] a = ⊥
-StepsLookAt {A} tells sources outcomes (s ∷ ss) (d ∷ ds) a =
+StepsLookAt A tells sources outcomes [] ds a = ⊥
+StepsLookAt A tells sources outcomes (s ∷ ss) [] a = ⊥
+StepsLookAt A tells sources outcomes (s ∷ ss) (d ∷ ds) a =
     looks (step_check {A = A} tells sources outcomes s d)
-    (StepLooksAt {A = A} tells sources outcomes s d)
-    (λ outcome. StepsLookAt {A = A} tells sources (outcomes ++ outcome ∷ []) ss ds) a
+    (StepLooksAt A tells sources outcomes s d)
+    (λ outcome. StepsLookAt A tells sources (outcomes ++ outcome ∷ []) ss ds) a
 
 -- the checks of the root
-abbrev pub RootLooksAt : {A : Type 0} → Telling → DigestValue → List OutcomeValue → List LineValue
+abbrev pub RootLooksAt : (A : Type 0) → Telling → DigestValue → List OutcomeValue → List LineValue
     → Asked → Type 0
-RootLooksAt {A} tells sources outcomes lines =
+RootLooksAt A tells sources outcomes lines =
     looks (resolved {A = A} tells.blobs sources outcomes lines)
     (LinesLookAt tells.blobs sources outcomes lines) λ _. LooksAtNothing
 
 -- the checks of a plan: of its steps, and of its root
-abbrev pub PlanLooksAt : {A : Type 0} → Telling → DigestValue → PlanValue → List DigestValue
+abbrev pub PlanLooksAt : (A : Type 0) → Telling → DigestValue → PlanValue → List DigestValue
     → Asked → Type 0
-PlanLooksAt {A} tells sources plan recorded =
+PlanLooksAt A tells sources plan recorded =
     looks (steps_check {A = A} tells sources [] plan.steps recorded)
-    (StepsLookAt {A = A} tells sources [] plan.steps recorded) λ outcomes.
-    RootLooksAt {A = A} tells sources outcomes plan.root_lines
+    (StepsLookAt A tells sources [] plan.steps recorded) λ outcomes.
+    RootLooksAt A tells sources outcomes plan.root_lines

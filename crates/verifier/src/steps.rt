@@ -49,7 +49,7 @@ pub(crate) fn check_step<A: Allocator + Copy, S: BlobSource<A>>(
     requires apart { HaveApartTargets (targets step.now.lines) }
     requires known { IsKnownOf (known_by memo.old) (S.tells source.old) }
     ensures { Checks (λ tells. step_check tells sources.now outcomes.now step.now recorded.now)
-        (λ tells. StepLooksAt {A = A} tells sources.now outcomes.now step.now recorded.now)
+        (λ tells. StepLooksAt A tells sources.now outcomes.now step.now recorded.now)
         (known_by memo.old) (known_by memo.new) (S.tells source.old) (S.tells source.new) result }
 {
     let action: Action<A> = told(alloc, recorded, memo, source)?;

@@ -61,7 +61,7 @@ fn check_steps<A: Allocator + Copy, S: BlobSource<A>>(
         recorded.now) }
     ensures called { Called (S.tells source.old) (S.tells source.new)
         (IsErrOf result VerifyError.Fetch) }
-    ensures learned { Learns (StepsLookAt {A = A} (S.tells source.new) sources.now [] steps.now
+    ensures learned { Learns (StepsLookAt A (S.tells source.new) sources.now [] steps.now
         recorded.now) (IsStopped result)
         (known_by memo.old) (known_by memo.new) (S.tells source.old) (S.tells source.new) }
 {
@@ -93,7 +93,7 @@ fn check_root<A: Allocator + Copy, S: BlobSource<A>>(
     requires apart { HaveApartTargets (targets lines.now) }
     requires known { IsKnownOf (known_by memo.old) (S.tells source.old) }
     ensures { Checks (λ tells. root_check tells sources.now outcomes.now lines.now claim.now)
-        (λ tells. RootLooksAt {A = A} tells sources.now outcomes.now lines.now)
+        (λ tells. RootLooksAt A tells sources.now outcomes.now lines.now)
         (known_by memo.old) (known_by memo.new) (S.tells source.old) (S.tells source.new) result }
 {
     let nodes = resolve(alloc, sources, outcomes, lines, memo, source)?;
@@ -120,7 +120,7 @@ fn decide<A: Allocator + Copy, S: BlobSource<A>>(
         recorded.now claim.now) }
     ensures called { Called (S.tells source.old) (S.tells source.new)
         (IsErrOf result VerifyError.Fetch) }
-    ensures learned { Learns (PlanLooksAt {A = A} (S.tells source.new) sources.now plan.now
+    ensures learned { Learns (PlanLooksAt A (S.tells source.new) sources.now plan.now
         recorded.now) (Unit {0})
         (known_by memo.old) (known_by memo.new) (S.tells source.old) (S.tells source.new) }
 {
@@ -165,7 +165,7 @@ pub fn verify<A: Allocator + Copy, S: BlobSource<A>>(
         (IsErrOf result VerifyError.Fetch) }
     // Of what the checks look at, up to the first fault, the source is asked at most once for each.
     ensures few { (list : List Asked)
-        → Covers (PlanLooksAt {A = A} (S.tells source.new) sources.now plan.now
+        → Covers (PlanLooksAt A (S.tells source.new) sources.now plan.now
         «record».now.digests) list
         → (S.tells source.new).calls ≤ (S.tells source.old).calls + length list }
 {

@@ -1,5 +1,7 @@
 -- The recorded input against the graft.
-use Rattle.std.proofs.Common.{sym, ◌∙◌}
+use Rattle.std.proofs.Common.{ap, sym, ◌∙◌}
+use Rattle.std.specs.Prelude.{Err}
+use Rattle.blob_source.proofs.Calling.{called_as, err_injective}
 use Rattle.tree.specs.Lines.{lines_of}
 use Rattle.tree.proofs.Learning.{learns_none, learns_refused}
 use Rattle.verifier.proofs.Checking.{input_explained, input_looked}
@@ -31,3 +33,6 @@ returns-then-ne-clause-learned g c =
 
 pub returns-clause-learned : goal.returns-clause-learned
 returns-clause-learned g c = learns_none c.requires.known
+
+pub returns-then-ne-clause-called : goal.returns-then-ne-clause-called
+returns-then-ne-clause-called g c = called_as (λ e. err_injective c.explain_difference.result _ e) (λ e. ap Err e) c.explain_difference.ensures.called

@@ -13,85 +13,85 @@ use Rattle.verifier.proofs.steps.check_step.Goals as goal
 
 pub returns-in_err-action : goal.returns-in_err-action
 returns-in_err-action g c =
-    checks_exit _ _ c.from_residual.ensures.1 c.in_err-action.ensures.checked c.in_err-action.ensures.called c.in_err-action.ensures.learned
+    checks_exit _ _ _ _ c.from_residual.ensures.1 c.in_err-action.ensures.checked c.in_err-action.ensures.called c.in_err-action.ensures.learned
 
 pub returns-in_err-check_cached : goal.returns-in_err-check_cached
 returns-in_err-check_cached g c =
-    checks_then _ stable_message steady_without (checks_both _ _ _ _ c.in_ok-action.ensures.checked c.in_ok-action.ensures.called c.in_ok-action.ensures.learned)
-    (checks_exit _ _ c.from_residual-in_err-check_cached.ensures.1 c.in_err-check_cached.ensures.checked (called_none c.in_err-check_cached.ensures.fetch) (learns_none {refused = Unit {0}} c.in_ok-action.ensures.learned.known))
+    checks_then _ _ stable_message steady_without (checks_both _ _ _ _ c.in_ok-action.ensures.checked c.in_ok-action.ensures.called c.in_ok-action.ensures.learned)
+    (checks_exit _ _ _ _ c.from_residual-in_err-check_cached.ensures.1 c.in_err-check_cached.ensures.checked (called_none c.in_err-check_cached.ensures.fetch) (learns_none {refused = Unit {0}} c.in_ok-action.ensures.learned.known))
 
 pub returns-in_err-command : goal.returns-in_err-command
 returns-in_err-command g c =
-    checks_then _ stable_message steady_without (checks_both _ _ _ _ c.in_ok-action.ensures.checked c.in_ok-action.ensures.called c.in_ok-action.ensures.learned)
-    (checks_then _ stable_without steady_without (checks_none _ _ _ c.in_ok-action.ensures.learned.known c.in_ok-check_cached.ensures.checked ok_no_error)
-    (checks_exit _ _ c.from_residual-in_err-command.ensures.1 (rw (sym c.command_digest.ensures.value) c.in_err-command.ensures.checked) c.in_err-command.ensures.called (looked_blob c.command_digest.ensures.value c.in_err-command.ensures.learned)))
+    checks_then _ _ stable_message steady_without (checks_both _ _ _ _ c.in_ok-action.ensures.checked c.in_ok-action.ensures.called c.in_ok-action.ensures.learned)
+    (checks_then _ _ stable_without steady_without (checks_none _ _ _ c.in_ok-action.ensures.learned.known c.in_ok-check_cached.ensures.checked ok_no_error)
+    (checks_exit _ _ _ _ c.from_residual-in_err-command.ensures.1 (rw (sym c.command_digest.ensures.value) c.in_err-command.ensures.checked) c.in_err-command.ensures.called (looked_blob c.command_digest.ensures.value c.in_err-command.ensures.learned)))
 
 pub returns-in_err-check_frame : goal.returns-in_err-check_frame
 returns-in_err-check_frame g c =
-    checks_then _ stable_message steady_without (checks_both _ _ _ _ c.in_ok-action.ensures.checked c.in_ok-action.ensures.called c.in_ok-action.ensures.learned)
-    (checks_then _ stable_without steady_without (checks_none _ _ _ c.in_ok-action.ensures.learned.known c.in_ok-check_cached.ensures.checked ok_no_error)
-    (checks_then _ stable_message steady_without (checks_both _ _ _ _ (told_at c.command_digest.ensures.value c.in_ok-command.ensures.checked) c.in_ok-command.ensures.called (looked_blob c.command_digest.ensures.value c.in_ok-command.ensures.learned))
-    (checks_exit _ _ c.from_residual-in_err-check_frame.ensures.1 c.in_err-check_frame.ensures.checked (called_none c.in_err-check_frame.ensures.fetch) (learns_none {refused = Unit {0}} c.in_ok-command.ensures.learned.known))))
+    checks_then _ _ stable_message steady_without (checks_both _ _ _ _ c.in_ok-action.ensures.checked c.in_ok-action.ensures.called c.in_ok-action.ensures.learned)
+    (checks_then _ _ stable_without steady_without (checks_none _ _ _ c.in_ok-action.ensures.learned.known c.in_ok-check_cached.ensures.checked ok_no_error)
+    (checks_then _ _ stable_message steady_without (checks_both _ _ _ _ (told_at c.command_digest.ensures.value c.in_ok-command.ensures.checked) c.in_ok-command.ensures.called (looked_blob c.command_digest.ensures.value c.in_ok-command.ensures.learned))
+    (checks_exit _ _ _ _ c.from_residual-in_err-check_frame.ensures.1 c.in_err-check_frame.ensures.checked (called_none c.in_err-check_frame.ensures.fetch) (learns_none {refused = Unit {0}} c.in_ok-command.ensures.learned.known))))
 
 pub returns-in_err-nodes : goal.returns-in_err-nodes
 returns-in_err-nodes g c =
     let same : c.deref.result.now ≡ c.args.step.now.lines = search rules in
     let tells = g.S.BlobSource.tells c.resolve.new.source in
     let why = subst (λ ls. Explains (FirstFault tells.blobs c.args.sources.now c.args.outcomes.now ls) c.in_err-nodes.field-0.0) same c.in_err-nodes.ensures.faulty in
-    checks_then _ stable_message steady_without (checks_both _ _ _ _ c.in_ok-action.ensures.checked c.in_ok-action.ensures.called c.in_ok-action.ensures.learned)
-    (checks_then _ stable_without steady_without (checks_none _ _ _ c.in_ok-action.ensures.learned.known c.in_ok-check_cached.ensures.checked ok_no_error)
-    (checks_then _ stable_message steady_without (checks_both _ _ _ _ (told_at c.command_digest.ensures.value c.in_ok-command.ensures.checked) c.in_ok-command.ensures.called (looked_blob c.command_digest.ensures.value c.in_ok-command.ensures.learned))
-    (checks_then _ stable_without steady_without (checks_none _ _ _ c.in_ok-command.ensures.learned.known c.in_ok-check_frame.ensures.checked ok_no_error)
-    (checks_exit _ _ c.from_residual-in_err-nodes.ensures.1 why c.in_err-nodes.ensures.called (looked_lines same c.in_err-nodes.ensures.learned)))))
+    checks_then _ _ stable_message steady_without (checks_both _ _ _ _ c.in_ok-action.ensures.checked c.in_ok-action.ensures.called c.in_ok-action.ensures.learned)
+    (checks_then _ _ stable_without steady_without (checks_none _ _ _ c.in_ok-action.ensures.learned.known c.in_ok-check_cached.ensures.checked ok_no_error)
+    (checks_then _ _ stable_message steady_without (checks_both _ _ _ _ (told_at c.command_digest.ensures.value c.in_ok-command.ensures.checked) c.in_ok-command.ensures.called (looked_blob c.command_digest.ensures.value c.in_ok-command.ensures.learned))
+    (checks_then _ _ stable_without steady_without (checks_none _ _ _ c.in_ok-command.ensures.learned.known c.in_ok-check_frame.ensures.checked ok_no_error)
+    (checks_exit _ _ _ _ c.from_residual-in_err-nodes.ensures.1 why c.in_err-nodes.ensures.called (looked_lines c.args.sources.now c.args.outcomes.now same c.in_err-nodes.ensures.learned)))))
 
 pub returns-in_err-check_input : goal.returns-in_err-check_input
 returns-in_err-check_input g c =
     let same : c.deref.result.now ≡ c.args.step.now.lines = search rules in
     let origins = resolves_at (g.S.BlobSource.tells c.resolve.new.source).blobs c.args.sources.now c.args.outcomes.now _ _ _ _ same (sym c.deref-2.ensures.value) c.in_ok-nodes.ensures.told in
-    checks_then _ stable_message steady_without (checks_both _ _ _ _ c.in_ok-action.ensures.checked c.in_ok-action.ensures.called c.in_ok-action.ensures.learned)
-    (checks_then _ stable_without steady_without (checks_none _ _ _ c.in_ok-action.ensures.learned.known c.in_ok-check_cached.ensures.checked ok_no_error)
-    (checks_then _ stable_message steady_without (checks_both _ _ _ _ (told_at c.command_digest.ensures.value c.in_ok-command.ensures.checked) c.in_ok-command.ensures.called (looked_blob c.command_digest.ensures.value c.in_ok-command.ensures.learned))
-    (checks_then _ stable_without steady_without (checks_none _ _ _ c.in_ok-command.ensures.learned.known c.in_ok-check_frame.ensures.checked ok_no_error)
-    (checks_then _ (stable_resolved _ _ _) (steady_lines _ _ _) (checks_both _ _ _ _ origins (called_no ok_no_error ok_no_error c.in_ok-nodes.ensures.called) (looked_lines same c.in_ok-nodes.ensures.learned))
-    (checks_exit _ _ c.from_residual-in_err-check_input.ensures.1 c.in_err-check_input.ensures.checked c.in_err-check_input.ensures.called c.in_err-check_input.ensures.learned)))))
+    checks_then _ _ stable_message steady_without (checks_both _ _ _ _ c.in_ok-action.ensures.checked c.in_ok-action.ensures.called c.in_ok-action.ensures.learned)
+    (checks_then _ _ stable_without steady_without (checks_none _ _ _ c.in_ok-action.ensures.learned.known c.in_ok-check_cached.ensures.checked ok_no_error)
+    (checks_then _ _ stable_message steady_without (checks_both _ _ _ _ (told_at c.command_digest.ensures.value c.in_ok-command.ensures.checked) c.in_ok-command.ensures.called (looked_blob c.command_digest.ensures.value c.in_ok-command.ensures.learned))
+    (checks_then _ _ stable_without steady_without (checks_none _ _ _ c.in_ok-command.ensures.learned.known c.in_ok-check_frame.ensures.checked ok_no_error)
+    (checks_then _ _ (stable_resolved _ _ _) (steady_lines _ _ _) (checks_both _ _ _ _ origins (called_no ok_no_error ok_no_error c.in_ok-nodes.ensures.called) (looked_lines c.args.sources.now c.args.outcomes.now same c.in_ok-nodes.ensures.learned))
+    (checks_exit _ _ _ _ c.from_residual-in_err-check_input.ensures.1 c.in_err-check_input.ensures.checked c.in_err-check_input.ensures.called c.in_err-check_input.ensures.learned)))))
 
 pub returns-in_err-made : goal.returns-in_err-made
 returns-in_err-made g c =
     let same : c.deref.result.now ≡ c.args.step.now.lines = search rules in
     let origins = resolves_at (g.S.BlobSource.tells c.resolve.new.source).blobs c.args.sources.now c.args.outcomes.now _ _ _ _ same (sym c.deref-2.ensures.value) c.in_ok-nodes.ensures.told in
-    checks_then _ stable_message steady_without (checks_both _ _ _ _ c.in_ok-action.ensures.checked c.in_ok-action.ensures.called c.in_ok-action.ensures.learned)
-    (checks_then _ stable_without steady_without (checks_none _ _ _ c.in_ok-action.ensures.learned.known c.in_ok-check_cached.ensures.checked ok_no_error)
-    (checks_then _ stable_message steady_without (checks_both _ _ _ _ (told_at c.command_digest.ensures.value c.in_ok-command.ensures.checked) c.in_ok-command.ensures.called (looked_blob c.command_digest.ensures.value c.in_ok-command.ensures.learned))
-    (checks_then _ stable_without steady_without (checks_none _ _ _ c.in_ok-command.ensures.learned.known c.in_ok-check_frame.ensures.checked ok_no_error)
-    (checks_then _ (stable_resolved _ _ _) (steady_lines _ _ _) (checks_both _ _ _ _ origins (called_no ok_no_error ok_no_error c.in_ok-nodes.ensures.called) (looked_lines same c.in_ok-nodes.ensures.learned))
-    (checks_then _ (stable_grafted c.in_ok-action.action (lines_of c.deref-2.result.now)) (steady_input c.in_ok-action.action (lines_of c.deref-2.result.now)) (checks_both _ _ _ _ c.in_ok-check_input.ensures.checked c.in_ok-check_input.ensures.called c.in_ok-check_input.ensures.learned)
-    (checks_exit _ _ c.from_residual-in_err-made.ensures.1 c.in_err-made.ensures.checked c.in_err-made.ensures.called c.in_err-made.ensures.learned))))))
+    checks_then _ _ stable_message steady_without (checks_both _ _ _ _ c.in_ok-action.ensures.checked c.in_ok-action.ensures.called c.in_ok-action.ensures.learned)
+    (checks_then _ _ stable_without steady_without (checks_none _ _ _ c.in_ok-action.ensures.learned.known c.in_ok-check_cached.ensures.checked ok_no_error)
+    (checks_then _ _ stable_message steady_without (checks_both _ _ _ _ (told_at c.command_digest.ensures.value c.in_ok-command.ensures.checked) c.in_ok-command.ensures.called (looked_blob c.command_digest.ensures.value c.in_ok-command.ensures.learned))
+    (checks_then _ _ stable_without steady_without (checks_none _ _ _ c.in_ok-command.ensures.learned.known c.in_ok-check_frame.ensures.checked ok_no_error)
+    (checks_then _ _ (stable_resolved _ _ _) (steady_lines _ _ _) (checks_both _ _ _ _ origins (called_no ok_no_error ok_no_error c.in_ok-nodes.ensures.called) (looked_lines c.args.sources.now c.args.outcomes.now same c.in_ok-nodes.ensures.learned))
+    (checks_then _ _ (stable_grafted c.in_ok-action.action (lines_of c.deref-2.result.now)) (steady_input c.in_ok-action.action (lines_of c.deref-2.result.now)) (checks_both _ _ _ _ c.in_ok-check_input.ensures.checked c.in_ok-check_input.ensures.called c.in_ok-check_input.ensures.learned)
+    (checks_exit _ _ _ _ c.from_residual-in_err-made.ensures.1 c.in_err-made.ensures.checked c.in_err-made.ensures.called c.in_err-made.ensures.learned))))))
 
 pub returns-in_err-check_exit_code : goal.returns-in_err-check_exit_code
 returns-in_err-check_exit_code g c =
     let same : c.deref.result.now ≡ c.args.step.now.lines = search rules in
     let origins = resolves_at (g.S.BlobSource.tells c.resolve.new.source).blobs c.args.sources.now c.args.outcomes.now _ _ _ _ same (sym c.deref-2.ensures.value) c.in_ok-nodes.ensures.told in
-    checks_then _ stable_message steady_without (checks_both _ _ _ _ c.in_ok-action.ensures.checked c.in_ok-action.ensures.called c.in_ok-action.ensures.learned)
-    (checks_then _ stable_without steady_without (checks_none _ _ _ c.in_ok-action.ensures.learned.known c.in_ok-check_cached.ensures.checked ok_no_error)
-    (checks_then _ stable_message steady_without (checks_both _ _ _ _ (told_at c.command_digest.ensures.value c.in_ok-command.ensures.checked) c.in_ok-command.ensures.called (looked_blob c.command_digest.ensures.value c.in_ok-command.ensures.learned))
-    (checks_then _ stable_without steady_without (checks_none _ _ _ c.in_ok-command.ensures.learned.known c.in_ok-check_frame.ensures.checked ok_no_error)
-    (checks_then _ (stable_resolved _ _ _) (steady_lines _ _ _) (checks_both _ _ _ _ origins (called_no ok_no_error ok_no_error c.in_ok-nodes.ensures.called) (looked_lines same c.in_ok-nodes.ensures.learned))
-    (checks_then _ (stable_grafted c.in_ok-action.action (lines_of c.deref-2.result.now)) (steady_input c.in_ok-action.action (lines_of c.deref-2.result.now)) (checks_both _ _ _ _ c.in_ok-check_input.ensures.checked c.in_ok-check_input.ensures.called c.in_ok-check_input.ensures.learned)
-    (checks_then _ stable_held steady_without (checks_both _ _ _ _ c.in_ok-made.ensures.checked c.in_ok-made.ensures.called c.in_ok-made.ensures.learned)
-    (checks_exit _ _ c.from_residual-in_err-check_exit_code.ensures.1 c.in_err-check_exit_code.ensures.checked (called_none c.in_err-check_exit_code.ensures.fetch) (learns_none {refused = Unit {0}} c.in_ok-made.ensures.learned.known))))))))
+    checks_then _ _ stable_message steady_without (checks_both _ _ _ _ c.in_ok-action.ensures.checked c.in_ok-action.ensures.called c.in_ok-action.ensures.learned)
+    (checks_then _ _ stable_without steady_without (checks_none _ _ _ c.in_ok-action.ensures.learned.known c.in_ok-check_cached.ensures.checked ok_no_error)
+    (checks_then _ _ stable_message steady_without (checks_both _ _ _ _ (told_at c.command_digest.ensures.value c.in_ok-command.ensures.checked) c.in_ok-command.ensures.called (looked_blob c.command_digest.ensures.value c.in_ok-command.ensures.learned))
+    (checks_then _ _ stable_without steady_without (checks_none _ _ _ c.in_ok-command.ensures.learned.known c.in_ok-check_frame.ensures.checked ok_no_error)
+    (checks_then _ _ (stable_resolved _ _ _) (steady_lines _ _ _) (checks_both _ _ _ _ origins (called_no ok_no_error ok_no_error c.in_ok-nodes.ensures.called) (looked_lines c.args.sources.now c.args.outcomes.now same c.in_ok-nodes.ensures.learned))
+    (checks_then _ _ (stable_grafted c.in_ok-action.action (lines_of c.deref-2.result.now)) (steady_input c.in_ok-action.action (lines_of c.deref-2.result.now)) (checks_both _ _ _ _ c.in_ok-check_input.ensures.checked c.in_ok-check_input.ensures.called c.in_ok-check_input.ensures.learned)
+    (checks_then _ _ stable_held steady_without (checks_both _ _ _ _ c.in_ok-made.ensures.checked c.in_ok-made.ensures.called c.in_ok-made.ensures.learned)
+    (checks_exit _ _ _ _ c.from_residual-in_err-check_exit_code.ensures.1 c.in_err-check_exit_code.ensures.checked (called_none c.in_err-check_exit_code.ensures.fetch) (learns_none {refused = Unit {0}} c.in_ok-made.ensures.learned.known))))))))
 
 pub returns : goal.returns
 returns g c =
     let same : c.deref.result.now ≡ c.args.step.now.lines = search rules in
     let origins = resolves_at (g.S.BlobSource.tells c.resolve.new.source).blobs c.args.sources.now c.args.outcomes.now _ _ _ _ same (sym c.deref-2.ensures.value) c.in_ok-nodes.ensures.told in
-    checks_then _ stable_message steady_without (checks_both _ _ _ _ c.in_ok-action.ensures.checked c.in_ok-action.ensures.called c.in_ok-action.ensures.learned)
-    (checks_then _ stable_without steady_without (checks_none _ _ _ c.in_ok-action.ensures.learned.known c.in_ok-check_cached.ensures.checked ok_no_error)
-    (checks_then _ stable_message steady_without (checks_both _ _ _ _ (told_at c.command_digest.ensures.value c.in_ok-command.ensures.checked) c.in_ok-command.ensures.called (looked_blob c.command_digest.ensures.value c.in_ok-command.ensures.learned))
-    (checks_then _ stable_without steady_without (checks_none _ _ _ c.in_ok-command.ensures.learned.known c.in_ok-check_frame.ensures.checked ok_no_error)
-    (checks_then _ (stable_resolved _ _ _) (steady_lines _ _ _) (checks_both _ _ _ _ origins (called_no ok_no_error ok_no_error c.in_ok-nodes.ensures.called) (looked_lines same c.in_ok-nodes.ensures.learned))
-    (checks_then _ (stable_grafted c.in_ok-action.action (lines_of c.deref-2.result.now)) (steady_input c.in_ok-action.action (lines_of c.deref-2.result.now)) (checks_both _ _ _ _ c.in_ok-check_input.ensures.checked c.in_ok-check_input.ensures.called c.in_ok-check_input.ensures.learned)
-    (checks_then _ stable_held steady_without (checks_both _ _ _ _ c.in_ok-made.ensures.checked c.in_ok-made.ensures.called c.in_ok-made.ensures.learned)
-    (checks_then _ stable_without steady_without (checks_none _ _ _ c.in_ok-made.ensures.learned.known c.in_ok-check_exit_code.ensures.checked ok_no_error)
+    checks_then _ _ stable_message steady_without (checks_both _ _ _ _ c.in_ok-action.ensures.checked c.in_ok-action.ensures.called c.in_ok-action.ensures.learned)
+    (checks_then _ _ stable_without steady_without (checks_none _ _ _ c.in_ok-action.ensures.learned.known c.in_ok-check_cached.ensures.checked ok_no_error)
+    (checks_then _ _ stable_message steady_without (checks_both _ _ _ _ (told_at c.command_digest.ensures.value c.in_ok-command.ensures.checked) c.in_ok-command.ensures.called (looked_blob c.command_digest.ensures.value c.in_ok-command.ensures.learned))
+    (checks_then _ _ stable_without steady_without (checks_none _ _ _ c.in_ok-command.ensures.learned.known c.in_ok-check_frame.ensures.checked ok_no_error)
+    (checks_then _ _ (stable_resolved _ _ _) (steady_lines _ _ _) (checks_both _ _ _ _ origins (called_no ok_no_error ok_no_error c.in_ok-nodes.ensures.called) (looked_lines c.args.sources.now c.args.outcomes.now same c.in_ok-nodes.ensures.learned))
+    (checks_then _ _ (stable_grafted c.in_ok-action.action (lines_of c.deref-2.result.now)) (steady_input c.in_ok-action.action (lines_of c.deref-2.result.now)) (checks_both _ _ _ _ c.in_ok-check_input.ensures.checked c.in_ok-check_input.ensures.called c.in_ok-check_input.ensures.learned)
+    (checks_then _ _ stable_held steady_without (checks_both _ _ _ _ c.in_ok-made.ensures.checked c.in_ok-made.ensures.called c.in_ok-made.ensures.learned)
+    (checks_then _ _ stable_without steady_without (checks_none _ _ _ c.in_ok-made.ensures.learned.known c.in_ok-check_exit_code.ensures.checked ok_no_error)
     (checks_both _ _ _ _ c.read_outcome.ensures.checked c.read_outcome.ensures.called c.read_outcome.ensures.learned))))))))
 
 pub check_input-requires-clause-apart : goal.check_input-requires-clause-apart

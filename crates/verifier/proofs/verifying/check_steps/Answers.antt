@@ -61,8 +61,8 @@ loop-index-preserved g c =
       goes = subst (λ os. StepsGoOn g.row.A.Denot tells c.args.sources.now c.args.steps.now c.args.recorded.now os (drop (c.loop-index.index + 1) c.args.steps.now) (drop (c.loop-index.index + 1) c.args.recorded.now)) (sym pushed)
           (steps_next old tells c.args.sources.now c.args.steps.now c.args.recorded.now c.loop-index.outcomes.items c.loop-index.index c.index-steps-index.result c.index-recorded-index.result
           c.loop-index-test.true c.index-steps-index.is within c.index-recorded-index.is c.loop-index.invariant.goes asked.blobs asked.results o passes);
-      learned = learns_then {t1 = old} ((steady_steps {A = g.row.A.Denot} c.args.sources.now [] c.args.steps.now c.args.recorded.now).still old tells asked.blobs asked.results)
-    (λ a h. here a (subst (λ os. StepLooksAt {A = g.row.A.Denot} tells c.args.sources.now os c.index-steps-index.result c.index-recorded-index.result a) c.deref.ensures.value h)) (λ n. n) c.loop-index.invariant.learned (c.in-Ok.ensures {u = tt}).learned;
+      learned = learns_then {t1 = old} ((steady_steps g.row.A.Denot c.args.sources.now [] c.args.steps.now c.args.recorded.now).still old tells asked.blobs asked.results)
+    (λ a h. here a (subst (λ os. StepLooksAt g.row.A.Denot tells c.args.sources.now os c.index-steps-index.result c.index-recorded-index.result a) c.deref.ensures.value h)) (λ n. n) c.loop-index.invariant.learned (c.in-Ok.ensures {u = tt}).learned;
     }
 
 pub returns-clause-checked : goal.returns-clause-checked
@@ -104,9 +104,9 @@ returns-in_err-push-in-Ok-clause-learned g c =
     let within : c.loop-index.index < length c.args.recorded.now = subst (λ n. c.loop-index.index < n) (sym c.requires.each) c.loop-index-test.true in
     let here = steps_look_here {A = g.row.A.Denot} old tells c.args.sources.now c.args.steps.now c.args.recorded.now c.loop-index.outcomes.items c.loop-index.index c.index-steps-index.result c.index-recorded-index.result
     c.loop-index-test.true c.index-steps-index.is within c.index-recorded-index.is c.loop-index.invariant.goes asked.blobs asked.results in
-    learns_refused (λ a h. h) (stopped_exit _ _ c.from_residual-in_err-push-in-Ok.ensures.1)
-    (learns_then {t1 = old} ((steady_steps {A = g.row.A.Denot} c.args.sources.now [] c.args.steps.now c.args.recorded.now).still old tells asked.blobs asked.results)
-    (λ a h. here a (subst (λ os. StepLooksAt {A = g.row.A.Denot} tells c.args.sources.now os c.index-steps-index.result c.index-recorded-index.result a) c.deref.ensures.value h)) (λ n. n) c.loop-index.invariant.learned (c.in-Ok.ensures {u = tt}).learned)
+    learns_refused (λ a h. h) (stopped_exit _ _ c.from_residual.ensures.1)
+    (learns_then {t1 = old} ((steady_steps g.row.A.Denot c.args.sources.now [] c.args.steps.now c.args.recorded.now).still old tells asked.blobs asked.results)
+    (λ a h. here a (subst (λ os. StepLooksAt g.row.A.Denot tells c.args.sources.now os c.index-steps-index.result c.index-recorded-index.result a) c.deref.ensures.value h)) (λ n. n) c.loop-index.invariant.learned (c.in-Ok.ensures {u = tt}).learned)
 
 pub returns-in_err-cause-in-Err-clause-learned : goal.returns-in_err-cause-in-Err-clause-learned
 returns-in_err-cause-in-Err-clause-learned g c =
@@ -117,8 +117,8 @@ returns-in_err-cause-in-Err-clause-learned g c =
     let here = steps_look_here {A = g.row.A.Denot} old tells c.args.sources.now c.args.steps.now c.args.recorded.now c.loop-index.outcomes.items c.loop-index.index c.index-steps-index.result c.index-recorded-index.result
     c.loop-index-test.true c.index-steps-index.is within c.index-recorded-index.is c.loop-index.invariant.goes asked.blobs asked.results in
     learns_refused (λ a h. h) (stopped_exit _ _ c.from_residual-in_err-cause-in-Err.ensures.1)
-    (learns_then {t1 = old} ((steady_steps {A = g.row.A.Denot} c.args.sources.now [] c.args.steps.now c.args.recorded.now).still old tells asked.blobs asked.results)
-    (λ a h. here a (subst (λ os. StepLooksAt {A = g.row.A.Denot} tells c.args.sources.now os c.index-steps-index.result c.index-recorded-index.result a) c.deref.ensures.value h)) (λ n. n) c.loop-index.invariant.learned (c.in-Err.ensures {u = tt}).learned)
+    (learns_then {t1 = old} ((steady_steps g.row.A.Denot c.args.sources.now [] c.args.steps.now c.args.recorded.now).still old tells asked.blobs asked.results)
+    (λ a h. here a (subst (λ os. StepLooksAt g.row.A.Denot tells c.args.sources.now os c.index-steps-index.result c.index-recorded-index.result a) c.deref.ensures.value h)) (λ n. n) c.loop-index.invariant.learned (c.in-Err.ensures {u = tt}).learned)
 
 pub returns-in_err-copy_of-in-Err-clause-learned : goal.returns-in_err-copy_of-in-Err-clause-learned
 returns-in_err-copy_of-in-Err-clause-learned g c =
@@ -129,8 +129,8 @@ returns-in_err-copy_of-in-Err-clause-learned g c =
     let here = steps_look_here {A = g.row.A.Denot} old tells c.args.sources.now c.args.steps.now c.args.recorded.now c.loop-index.outcomes.items c.loop-index.index c.index-steps-index.result c.index-recorded-index.result
     c.loop-index-test.true c.index-steps-index.is within c.index-recorded-index.is c.loop-index.invariant.goes asked.blobs asked.results in
     learns_refused (λ a h. h) (stopped_exit _ _ c.from_residual-in_err-copy_of-in-Err.ensures.1)
-    (learns_then {t1 = old} ((steady_steps {A = g.row.A.Denot} c.args.sources.now [] c.args.steps.now c.args.recorded.now).still old tells asked.blobs asked.results)
-    (λ a h. here a (subst (λ os. StepLooksAt {A = g.row.A.Denot} tells c.args.sources.now os c.index-steps-index.result c.index-recorded-index.result a) c.deref.ensures.value h)) (λ n. n) c.loop-index.invariant.learned (c.in-Err.ensures {u = tt}).learned)
+    (learns_then {t1 = old} ((steady_steps g.row.A.Denot c.args.sources.now [] c.args.steps.now c.args.recorded.now).still old tells asked.blobs asked.results)
+    (λ a h. here a (subst (λ os. StepLooksAt g.row.A.Denot tells c.args.sources.now os c.index-steps-index.result c.index-recorded-index.result a) c.deref.ensures.value h)) (λ n. n) c.loop-index.invariant.learned (c.in-Err.ensures {u = tt}).learned)
 
 pub returns-in-Err-clause-learned : goal.returns-in-Err-clause-learned
 returns-in-Err-clause-learned g c =
@@ -140,8 +140,8 @@ returns-in-Err-clause-learned g c =
     let within : c.loop-index.index < length c.args.recorded.now = subst (λ n. c.loop-index.index < n) (sym c.requires.each) c.loop-index-test.true in
     let here = steps_look_here {A = g.row.A.Denot} old tells c.args.sources.now c.args.steps.now c.args.recorded.now c.loop-index.outcomes.items c.loop-index.index c.index-steps-index.result c.index-recorded-index.result
     c.loop-index-test.true c.index-steps-index.is within c.index-recorded-index.is c.loop-index.invariant.goes asked.blobs asked.results in
-    learns_then {t1 = old} ((steady_steps {A = g.row.A.Denot} c.args.sources.now [] c.args.steps.now c.args.recorded.now).still old tells asked.blobs asked.results)
-    (λ a h. here a (subst (λ os. StepLooksAt {A = g.row.A.Denot} tells c.args.sources.now os c.index-steps-index.result c.index-recorded-index.result a) c.deref.ensures.value h)) (λ n. n) c.loop-index.invariant.learned (c.in-Err.ensures {u = tt}).learned
+    learns_then {t1 = old} ((steady_steps g.row.A.Denot c.args.sources.now [] c.args.steps.now c.args.recorded.now).still old tells asked.blobs asked.results)
+    (λ a h. here a (subst (λ os. StepLooksAt g.row.A.Denot tells c.args.sources.now os c.index-steps-index.result c.index-recorded-index.result a) c.deref.ensures.value h)) (λ n. n) c.loop-index.invariant.learned (c.in-Err.ensures {u = tt}).learned
 
 pub returns-clause-learned : goal.returns-clause-learned
 returns-clause-learned g c = c.loop-index.invariant.learned

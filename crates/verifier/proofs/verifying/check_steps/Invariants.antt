@@ -12,5 +12,5 @@ invariant-loop-index g l =
       called : Called (tells l.fn.source) (tells l.source) ⊥;
       count : length l.outcomes.items ≡ l.index;
       goes : StepsGoOn g.row.A.Denot (tells l.source) l.sources l.steps l.recorded l.outcomes.items (drop l.index l.steps) (drop l.index l.recorded);
-      learned : Learns (StepsLookAt {A = g.row.A.Denot} (tells l.source) l.sources [] l.steps l.recorded) ⊥ (known_by l.fn.memo) (known_by l.memo) (tells l.fn.source) (tells l.source);
+      learned : Learns (StepsLookAt g.row.A.Denot (tells l.source) l.sources [] l.steps l.recorded) ⊥ (known_by l.fn.memo) (known_by l.memo) (tells l.fn.source) (tells l.source);
     }

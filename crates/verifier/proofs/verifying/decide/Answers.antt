@@ -86,13 +86,13 @@ check_root-requires-clause-known g c = (c.in_ok-name.ensures {u = tt}).learned.k
 pub returns-in_err-name-clause-learned : goal.returns-in_err-name-clause-learned
 returns-in_err-name-clause-learned g c =
     let told = g.S.BlobSource.tells c.check_steps.new.source in
-    learns_refused (λ a h. plan_look_steps g.row.A.Denot told c.args.sources.now c.args.plan.now c.args.recorded.now a (subst (λ ss. StepsLookAt {A = g.row.A.Denot} told c.args.sources.now [] ss c.args.recorded.now a) c.steps.ensures.value h)) tt
+    learns_refused (λ a h. plan_look_steps g.row.A.Denot told c.args.sources.now c.args.plan.now c.args.recorded.now a (subst (λ ss. StepsLookAt g.row.A.Denot told c.args.sources.now [] ss c.args.recorded.now a) c.steps.ensures.value h)) tt
     (c.in_err-name.ensures {u = tt}).learned
 
 pub returns-in-First-clause-learned : goal.returns-in-First-clause-learned
 returns-in-First-clause-learned g c =
     let told = g.S.BlobSource.tells c.check_steps.new.source in
-    learns_refused (λ a h. plan_look_steps g.row.A.Denot told c.args.sources.now c.args.plan.now c.args.recorded.now a (subst (λ ss. StepsLookAt {A = g.row.A.Denot} told c.args.sources.now [] ss c.args.recorded.now a) c.steps.ensures.value h)) tt
+    learns_refused (λ a h. plan_look_steps g.row.A.Denot told c.args.sources.now c.args.plan.now c.args.recorded.now a (subst (λ ss. StepsLookAt g.row.A.Denot told c.args.sources.now [] ss c.args.recorded.now a) c.steps.ensures.value h)) tt
     (c.in_ok-name.ensures {u = tt}).learned
 
 pub returns-in_err-cause_in-in-Err-clause-learned : goal.returns-in_err-cause_in-in-Err-clause-learned
@@ -102,10 +102,10 @@ returns-in_err-cause_in-in-Err-clause-learned g c =
     let asked = c.check_root.ensures.called.asked.asks in
     let checked = subst (IsChecked told c.args.sources.now c.steps.result.now c.args.recorded.now) c.in-Outcomes.is (c.in_ok-name.ensures {u = tt}).checked in
     let passes = subst (λ steps. (steps_check {A = g.row.A.Denot} told c.args.sources.now [] steps c.args.recorded.now).passes c.in-Outcomes.outcomes.items) c.steps.ensures.value checked in
-    learns_refused (λ a h. h) tt (learns_then {both = PlanLooksAt {A = g.row.A.Denot} later c.args.sources.now c.args.plan.now c.args.recorded.now} {t1 = told}
-    (λ a h. plan_look_still g.row.A.Denot told c.args.sources.now c.args.plan.now c.args.recorded.now later asked.blobs asked.results a (subst (λ ss. StepsLookAt {A = g.row.A.Denot} told c.args.sources.now [] ss c.args.recorded.now a) c.steps.ensures.value h))
+    learns_refused (λ a h. h) tt (learns_then {both = PlanLooksAt g.row.A.Denot later c.args.sources.now c.args.plan.now c.args.recorded.now} {t1 = told}
+    (λ a h. plan_look_still g.row.A.Denot told c.args.sources.now c.args.plan.now c.args.recorded.now later asked.blobs asked.results a (subst (λ ss. StepsLookAt g.row.A.Denot told c.args.sources.now [] ss c.args.recorded.now a) c.steps.ensures.value h))
     (λ a h. plan_look_root g.row.A.Denot told c.args.sources.now c.args.plan.now c.args.recorded.now later asked.blobs asked.results c.in-Outcomes.outcomes.items passes a
-    (subst (λ os. RootLooksAt {A = g.row.A.Denot} later c.args.sources.now os c.args.plan.now.root_lines a) c.deref.ensures.value (subst (λ ls. RootLooksAt {A = g.row.A.Denot} later c.args.sources.now c.deref.result.now ls a) c.root.ensures.value h)))
+    (subst (λ os. RootLooksAt g.row.A.Denot later c.args.sources.now os c.args.plan.now.root_lines a) c.deref.ensures.value (subst (λ ls. RootLooksAt g.row.A.Denot later c.args.sources.now c.deref.result.now ls a) c.root.ensures.value h)))
     (λ stopped. subst (λ x. IsStopped {E = VerifyError} (Ok x)) c.in-Outcomes.is stopped) (c.in_ok-name.ensures {u = tt}).learned c.check_root.ensures.learned)
 
 pub returns-in-Err-clause-learned : goal.returns-in-Err-clause-learned
@@ -115,10 +115,10 @@ returns-in-Err-clause-learned g c =
     let asked = c.check_root.ensures.called.asked.asks in
     let checked = subst (IsChecked told c.args.sources.now c.steps.result.now c.args.recorded.now) c.in-Outcomes.is (c.in_ok-name.ensures {u = tt}).checked in
     let passes = subst (λ steps. (steps_check {A = g.row.A.Denot} told c.args.sources.now [] steps c.args.recorded.now).passes c.in-Outcomes.outcomes.items) c.steps.ensures.value checked in
-    learns_refused (λ a h. h) tt (learns_then {both = PlanLooksAt {A = g.row.A.Denot} later c.args.sources.now c.args.plan.now c.args.recorded.now} {t1 = told}
-    (λ a h. plan_look_still g.row.A.Denot told c.args.sources.now c.args.plan.now c.args.recorded.now later asked.blobs asked.results a (subst (λ ss. StepsLookAt {A = g.row.A.Denot} told c.args.sources.now [] ss c.args.recorded.now a) c.steps.ensures.value h))
+    learns_refused (λ a h. h) tt (learns_then {both = PlanLooksAt g.row.A.Denot later c.args.sources.now c.args.plan.now c.args.recorded.now} {t1 = told}
+    (λ a h. plan_look_still g.row.A.Denot told c.args.sources.now c.args.plan.now c.args.recorded.now later asked.blobs asked.results a (subst (λ ss. StepsLookAt g.row.A.Denot told c.args.sources.now [] ss c.args.recorded.now a) c.steps.ensures.value h))
     (λ a h. plan_look_root g.row.A.Denot told c.args.sources.now c.args.plan.now c.args.recorded.now later asked.blobs asked.results c.in-Outcomes.outcomes.items passes a
-    (subst (λ os. RootLooksAt {A = g.row.A.Denot} later c.args.sources.now os c.args.plan.now.root_lines a) c.deref.ensures.value (subst (λ ls. RootLooksAt {A = g.row.A.Denot} later c.args.sources.now c.deref.result.now ls a) c.root.ensures.value h)))
+    (subst (λ os. RootLooksAt g.row.A.Denot later c.args.sources.now os c.args.plan.now.root_lines a) c.deref.ensures.value (subst (λ ls. RootLooksAt g.row.A.Denot later c.args.sources.now c.deref.result.now ls a) c.root.ensures.value h)))
     (λ stopped. subst (λ x. IsStopped {E = VerifyError} (Ok x)) c.in-Outcomes.is stopped) (c.in_ok-name.ensures {u = tt}).learned c.check_root.ensures.learned)
 
 pub returns-clause-learned : goal.returns-clause-learned
@@ -128,8 +128,8 @@ returns-clause-learned g c =
     let asked = c.check_root.ensures.called.asked.asks in
     let checked = subst (IsChecked told c.args.sources.now c.steps.result.now c.args.recorded.now) c.in-Outcomes.is (c.in_ok-name.ensures {u = tt}).checked in
     let passes = subst (λ steps. (steps_check {A = g.row.A.Denot} told c.args.sources.now [] steps c.args.recorded.now).passes c.in-Outcomes.outcomes.items) c.steps.ensures.value checked in
-    learns_refused (λ a h. h) tt (learns_then {both = PlanLooksAt {A = g.row.A.Denot} later c.args.sources.now c.args.plan.now c.args.recorded.now} {t1 = told}
-    (λ a h. plan_look_still g.row.A.Denot told c.args.sources.now c.args.plan.now c.args.recorded.now later asked.blobs asked.results a (subst (λ ss. StepsLookAt {A = g.row.A.Denot} told c.args.sources.now [] ss c.args.recorded.now a) c.steps.ensures.value h))
+    learns_refused (λ a h. h) tt (learns_then {both = PlanLooksAt g.row.A.Denot later c.args.sources.now c.args.plan.now c.args.recorded.now} {t1 = told}
+    (λ a h. plan_look_still g.row.A.Denot told c.args.sources.now c.args.plan.now c.args.recorded.now later asked.blobs asked.results a (subst (λ ss. StepsLookAt g.row.A.Denot told c.args.sources.now [] ss c.args.recorded.now a) c.steps.ensures.value h))
     (λ a h. plan_look_root g.row.A.Denot told c.args.sources.now c.args.plan.now c.args.recorded.now later asked.blobs asked.results c.in-Outcomes.outcomes.items passes a
-    (subst (λ os. RootLooksAt {A = g.row.A.Denot} later c.args.sources.now os c.args.plan.now.root_lines a) c.deref.ensures.value (subst (λ ls. RootLooksAt {A = g.row.A.Denot} later c.args.sources.now c.deref.result.now ls a) c.root.ensures.value h)))
+    (subst (λ os. RootLooksAt g.row.A.Denot later c.args.sources.now os c.args.plan.now.root_lines a) c.deref.ensures.value (subst (λ ls. RootLooksAt g.row.A.Denot later c.args.sources.now c.deref.result.now ls a) c.root.ensures.value h)))
     (λ stopped. subst (λ x. IsStopped {E = VerifyError} (Ok x)) c.in-Outcomes.is stopped) (c.in_ok-name.ensures {u = tt}).learned c.check_root.ensures.learned)

@@ -25,7 +25,7 @@ decide-requires-clause-known g c = known_nothing c.new-memo.ensures
 pub returns-clause-few : goal.returns-clause-few
 returns-clause-few g c list covers =
     let tells = g.S.BlobSource.tells c.decide.new.source in
-    let all = subst (λ digests. Covers (PlanLooksAt {A = g.row.A.Denot} tells c.args.sources.now c.args.plan.now digests) list) (sym c.digests.ensures.value) covers in
+    let all = subst (λ digests. Covers (PlanLooksAt g.row.A.Denot tells c.args.sources.now c.args.plan.now digests) list) (sym c.digests.ensures.value) covers in
     let once = c.decide.ensures.learned.once list all in
     let none = nothing_known c.new-memo.ensures list in
     omega (arith, once, none)
