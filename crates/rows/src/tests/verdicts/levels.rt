@@ -71,15 +71,30 @@ fn judged_levels<A: Allocator + Copy>(
         source.hold_blob(sources, bytes)?;
     }
     let plan = plan_of(alloc, pairs)?;
-    let verdict = judge(alloc, &plan, b"buildrecord 1\n", &sources, claim, &mut source)?;
+    let verdict = judge(
+        alloc,
+        &plan,
+        b"buildrecord 1\n",
+        &sources,
+        claim,
+        &mut source,
+    )?;
     Ok((in_short(verdict), source.calls()))
 }
 
 #[test]
 fn each_directory_is_asked_for_once(rt: HostRuntime) {
     let claim = Digest::of(CLAIM);
-    assert_eq!(rt; judged_levels(rt.alloc(), 1, &claim), Ok((Told::Yes(claim, 0), 64)));
-    assert!(rt; matches!(judged_levels(rt.alloc(), 20, &claim), Ok((Told::Differs(_), 64))));
+    assert_eq!(rt;
+        judged_levels(rt.alloc(), 1, &claim),
+        Ok((Told::Yes(claim, 0), 64))
+    );
+    assert!(rt;
+        matches!(
+            judged_levels(rt.alloc(), 20, &claim),
+            Ok((Told::Differs(_), 64))
+        )
+    );
 }
 
 #[test]
