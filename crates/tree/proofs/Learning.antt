@@ -1,11 +1,9 @@
 -- Calls over what is known, one after another.
-use Rattle.std.proofs.Common.{◌≡◌, ◌≢◌, ℕ, zero, suc, ◌+◌, ◌≤◌, ◌<◌, List, [], ◌∷◌, length, refl, ap, sym, ◌∙◌, subst, arith, inl, inr}
+use Rattle.std.proofs.Common.{◌≡◌, ℕ, zero, suc, ◌+◌, ◌≤◌, List, [], ◌∷◌, length, refl, ap, sym, ◌∙◌, subst, arith, inl, inr}
 use Rattle.std.specs.Prelude.{◌⊎◌, Option, Some, None, Contains, Result, Ok, Err}
 use Rattle.std.specs.Result.{IsErrAnd}
-use Rattle.std.proofs.lemmas.Result.{err_from_is_err_and}
-use Rattle.blob_digest.specs.Digest.{DigestValue, empty_digest}
-use Rattle.blob_source.specs.Source.{Telling, Grows, IsBlobUnder, Asks}
-use Rattle.tree.specs.Memo.{Asked, blob, result, Known, IsKnownOf, KnowsToo, IsSame, one_if_none, unknown, Covers, Learns, KnowsNothing, IsRefused, IsWithout}
+use Rattle.blob_source.specs.Source.{Telling, Grows}
+use Rattle.tree.specs.Memo.{Asked, blob, result, Known, IsKnownOf, one_if_none, unknown, Learns, KnowsNothing, IsRefused, IsWithout}
 use Rattle.tree.proofs.Descent.{under_still}
 
 -- ---- lists of what is asked for

@@ -1,6 +1,6 @@
 -- What a look-up and a comparison look at, while a source tells more and more.
-use Rattle.std.proofs.Common.{◌≡◌, ℕ, zero, suc, ◌+◌, ◌-◌, ◌<◌, List, [], ◌∷◌, length, drop, get_or, refl, subst, sym, ◌∙◌, ap, arith, inl, inr, add-one, drop-cons}
-use Rattle.std.specs.Prelude.{◌⊎◌, Option, Some, None, option_map}
+use Rattle.std.proofs.Common.{◌≡◌, ℕ, zero, suc, ◌+◌, ◌-◌, ◌<◌, List, [], ◌∷◌, length, drop, get_or, subst, sym, ◌∙◌, ap, arith, inl, inr, add-one, drop-cons}
+use Rattle.std.specs.Prelude.{Option, Some, None, option_map}
 use Rattle.blob_digest.specs.Digest.{DigestValue}
 use Rattle.messages.specs.declared.node.Node.{Node}
 use Rattle.messages.specs.declared.node.Node.TheVariants.{File, Link, Dir}
@@ -10,7 +10,7 @@ use Rattle.tree.specs.Tree.{Name}
 use Rattle.tree.specs.Form.{NodeValue, node_value}
 use Rattle.blob_source.specs.Source.{Blobs, Telling, Grows}
 use Rattle.blob_source.specs.Told.{TellsDirectory}
-use Rattle.tree.specs.Difference.{Reads, child_of, IsFirstName}
+use Rattle.tree.specs.Difference.{Reads, child_of}
 use Rattle.tree.specs.declared.difference.Unlike.TheVariants.{Directories}
 use Rattle.tree.specs.Comparing.{IsUnlike}
 use Rattle.tree.specs.Memo.{Asked, Known, LooksAtBlob, Learns}
@@ -79,8 +79,17 @@ module _ (own : List (List ℕ)) {B C : Blobs} (grows : Grows B C) (a : Asked) w
   compares_still (suc deeper) g r (inl h) = inl h
   compares_still (suc deeper) g r (inr (m, read, inl k)) = inr (m, reads_still own r m grows read, inl k)
   compares_still (suc deeper) g r (inr (m, read, inr (k, here, n, first, both))) =
-      inr (m, reads_still own r m grows read, inr (k, reads_still own g k grows here, n, first,
-      both_still (child_of n k) (child_of n m) (λ x y. Compares own B deeper x y a) (λ x y. Compares own C deeper x y a) (λ x y. compares_still deeper x y) both))
+      inr (
+        m,
+        reads_still own r m grows read,
+        inr (
+          k,
+          reads_still own g k grows here,
+          n,
+          first,
+          both_still (child_of n k) (child_of n m) (λ x y. Compares own B deeper x y a) (λ x y. Compares own C deeper x y a) (λ x y. compares_still deeper x y) both,
+        ),
+      )
 
 module _ (own : List (List ℕ)) (B : Blobs) (g r : DigestValue) (deeper : ℕ) (some : 0 < deeper) (a : Asked) where
   less : deeper ≡ suc (deeper - 1)

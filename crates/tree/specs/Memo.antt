@@ -1,10 +1,9 @@
 -- What is known of a source without asking it, and how often calls over that ask it.
 use Rattle.std.specs.Prelude.{◌≡◌, ◌≢◌, ℕ, ◌+◌, ◌≤◌, List, [], ◌∷◌, Option, Some, None, option_map, Contains, Result, Ok, Err}
-use Rattle.std.specs.declared.vec.Vec.{Vec}
 use Rattle.std.specs.BTreeMap.{get}
 use Rattle.blob_digest.specs.Digest.{DigestValue, digest_cmp, empty_digest}
 use Rattle.messages.specs.Directory.{directory_bytes}
-use Rattle.blob_source.specs.Source.{Blobs, Telling, IsBlobUnder}
+use Rattle.blob_source.specs.Source.{Telling, IsBlobUnder}
 use Rattle.tree.specs.declared.memo.Memo.{Memo}
 use Rattle.tree.specs.declared.memo.Kept.{Kept}
 use Rattle.tree.specs.declared.memo.Kept.TheVariants.{Bytes, Directory}

@@ -128,7 +128,16 @@ fn difference_below<A: Allocator + Copy, S: BlobSource<A>>(
                 return Ok(Difference::Differs(path));
             }
             let above = Some(path);
-            difference_below(alloc, own, &above, deeper - 1, &grafted, &recorded, memo, source)
+            difference_below(
+                alloc,
+                own,
+                &above,
+                deeper - 1,
+                &grafted,
+                &recorded,
+                memo,
+                source,
+            )
         }
     }
 }

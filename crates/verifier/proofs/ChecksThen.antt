@@ -15,7 +15,6 @@ use Rattle.tree.specs.Tree.{Name}
 use Rattle.tree.specs.Form.{NodeValue}
 use Rattle.blob_source.specs.Source.{Telling, Grows}
 use Rattle.blob_source.proofs.Calling.{called_none, called_ok, called_exit}
-use Rattle.tree.specs.LooksAt.{Compares}
 use Rattle.tree.specs.Memo.{Asked, Known, IsKnownOf, IsRefused, Learns, LooksAtBlob}
 use Rattle.tree.proofs.Descent.{told_still}
 use Rattle.tree.proofs.Learning.{learns_none, learns_then, learns_more, learns_refused, refused_exit}
@@ -32,7 +31,7 @@ use Rattle.verifier.specs.Checks.{Checks}
 use Rattle.verifier.specs.declared.verifying.Checked.{Checked}
 use Rattle.verifier.specs.Stage.{Stage, ◌and_then◌, Explains, Answers}
 use Rattle.verifier.specs.StepChecks.{message, resolved, grafted, held, read, step_check}
-use Rattle.verifier.specs.LooksAt.{looks, LooksAtNothing, LinesLookAt, InputLooksAt, ResultLooksAt, StepLooksAt, StepsLookAt}
+use Rattle.verifier.specs.LooksAt.{looks, LinesLookAt, InputLooksAt, ResultLooksAt, StepLooksAt, StepsLookAt}
 use Rattle.verifier.specs.Verdict.{located, steps_check}
 use Rattle.verifier.proofs.Checking.{resolves_still}
 use Rattle.verifier.proofs.Looking.{lines_look_still, outputs_look_still}

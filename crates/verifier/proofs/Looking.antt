@@ -1,5 +1,5 @@
 -- What checks look at, one after another, while the source tells more and more.
-use Rattle.std.proofs.Common.{◌≡◌, ℕ, suc, ◌+◌, ◌<◌, List, [], ◌∷◌, ◌++◌, length, drop, get_or, ap, sym, subst, inl, inr, add-one, drop-cons}
+use Rattle.std.proofs.Common.{◌≡◌, ℕ, suc, ◌+◌, ◌<◌, List, [], ◌∷◌, length, drop, get_or, ap, sym, subst, inl, inr, add-one, drop-cons}
 use Rattle.blob_digest.specs.Digest.{DigestValue}
 use Rattle.std.specs.List.{Contains}
 use Rattle.action_messages.specs.Command.{CommandValue}

@@ -67,7 +67,15 @@ fn check_steps<A: Allocator + Copy, S: BlobSource<A>>(
 {
     let mut outcomes = Vec::new(alloc);
     for (index, step) in steps.iter().enumerate() {
-        match check_step(alloc, sources, &outcomes, step, &recorded[index], memo, source) {
+        match check_step(
+            alloc,
+            sources,
+            &outcomes,
+            step,
+            &recorded[index],
+            memo,
+            source,
+        ) {
             Ok(outcome) => outcomes.push(outcome)?,
             Err(fault) => {
                 let cause = cause_in(fault)?;
@@ -170,5 +178,13 @@ pub fn verify<A: Allocator + Copy, S: BlobSource<A>>(
         → (S.tells source.new).calls ≤ (S.tells source.old).calls + length list }
 {
     let mut memo = Memo::new(alloc);
-    decide(alloc, sources, plan, record.digests(), claim, &mut memo, source)
+    decide(
+        alloc,
+        sources,
+        plan,
+        record.digests(),
+        claim,
+        &mut memo,
+        source,
+    )
 }

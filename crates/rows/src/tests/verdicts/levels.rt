@@ -35,15 +35,15 @@ fn level<A: Allocator + Copy>(alloc: A, below: Digest) -> Result<Vec<u8, A>, Bro
 }
 
 /// A plan of so many pairs of lines: the first of each goes down by `a`, the second by `b`.
-fn plan_of<A: Allocator + Copy>(alloc: A, pairs: usize) -> Result<Vec<u8, A>, Broken> {
+fn plan_of<A: Allocator + Copy>(alloc: A, pairs: u8) -> Result<Vec<u8, A>, Broken> {
     let mut text = Vec::from_slice(alloc, b"buildplan 1\nroot\n")?;
     for (target, name) in [(b"t", b"a/"), (b"u", b"b/")] {
         for pair in 0..pairs {
             text.extend_from_slice(b"in ")?;
             text.extend_from_slice(target)?;
             if pair > 0 {
-                text.push(b'0' + (pair / 10) as u8)?;
-                text.push(b'0' + (pair % 10) as u8)?;
+                text.push(b'0' + pair / 10)?;
+                text.push(b'0' + pair % 10)?;
             }
             text.extend_from_slice(b" src ")?;
             for _ in 0..LEVELS {
@@ -59,7 +59,7 @@ fn plan_of<A: Allocator + Copy>(alloc: A, pairs: usize) -> Result<Vec<u8, A>, Br
 /// directory stands twice, and how often the source was called.
 fn judged_levels<A: Allocator + Copy>(
     alloc: A,
-    pairs: usize,
+    pairs: u8,
     claim: &Digest,
 ) -> Result<(Told, u64), Broken> {
     let mut source = MemorySource::new(alloc);
@@ -71,22 +71,37 @@ fn judged_levels<A: Allocator + Copy>(
         source.hold_blob(sources, bytes)?;
     }
     let plan = plan_of(alloc, pairs)?;
-    let verdict = judge(alloc, &plan, b"buildrecord 1\n", &sources, claim, &mut source)?;
+    let verdict = judge(
+        alloc,
+        &plan,
+        b"buildrecord 1\n",
+        &sources,
+        claim,
+        &mut source,
+    )?;
     Ok((in_short(verdict), source.calls()))
 }
 
 #[test]
 fn each_directory_is_asked_for_once(rt: HostRuntime) {
     let claim = Digest::of(CLAIM);
-    assert_eq!(rt; judged_levels(rt.alloc(), 1, &claim), Ok((Told::Yes(claim, 0), 64)));
-    assert!(rt; matches!(judged_levels(rt.alloc(), 20, &claim), Ok((Told::Differs(_), 64))));
+    assert_eq!(rt;
+        judged_levels(rt.alloc(), 1, &claim),
+        Ok((Told::Yes(claim, 0), 64))
+    );
+    assert!(rt;
+        matches!(
+            judged_levels(rt.alloc(), 20, &claim),
+            Ok((Told::Differs(_), 64))
+        )
+    );
 }
 
 #[test]
 fn levels_with_requests_for_memory_refused(rt: HostRuntime) {
     let claim = Digest::of(CLAIM);
-    let mut number = 1u64;
-    for _ in 0..2000 {
+    for round in 0..2000u64 {
+        let number = 13 * round + 1;
         let heap = Refusing::new(rt.alloc(), number);
         let answer = judged_levels(&heap, 1, &claim);
         if !heap.has_refused() {
@@ -94,6 +109,5 @@ fn levels_with_requests_for_memory_refused(rt: HostRuntime) {
             return;
         }
         assert_eq!(rt; answer, Err(Broken::Memory), "request {number}");
-        number += 13;
     }
 }

@@ -9,7 +9,7 @@ use Rattle.blob_source.proofs.Asking.{ok_no_error}
 use Rattle.blob_source.proofs.Calling.{called_none, called_no, called_on, called_exit}
 use Rattle.verifier.proofs.Explained.{explains_map}
 use Rattle.verifier.proofs.Lines.{LinesGoOn, lines_first, lines_next, lines_end, lines_fault, lawful_line}
-use Rattle.tree.proofs.Learning.{learns_none, learns_then, learns_more, learns_refused, refused_exit}
+use Rattle.tree.proofs.Learning.{learns_none, learns_then, learns_refused, refused_exit}
 use Rattle.verifier.proofs.Looking.{lines_look_first, lines_look_here, lines_look_next, lines_look_still}
 use Rattle.verifier.proofs.origins.resolve.Goals as goal
 
@@ -62,22 +62,22 @@ returns-clause-called g c = called_no (λ n. n) ok_no_error c.loop-line.invarian
 pub returns-in_err-node-clause-learned : goal.returns-in_err-node-clause-learned
 returns-in_err-node-clause-learned g c =
     learns_then {t1 = g.S.BlobSource.tells c.loop-line.source} (λ a. lines_look_still _ _ c.args.sources.now c.args.outcomes.now c.args.lines.now a c.find_origin.ensures.called.asked.asks.blobs)
-          (lines_look_here _ _ c.args.sources.now c.args.outcomes.now c.args.lines.now c.loop-line.line-index c.line-item.result c.loop-line-test.true c.line-item.is c.loop-line.invariant.look c.find_origin.ensures.called.asked.asks.blobs) (λ n. n)
-          c.loop-line.invariant.learned (learns_refused (λ a h. h) (refused_exit _ _ c.from_residual.ensures.1) c.in_err-node.ensures.learned)
+    (lines_look_here _ _ c.args.sources.now c.args.outcomes.now c.args.lines.now c.loop-line.line-index c.line-item.result c.loop-line-test.true c.line-item.is c.loop-line.invariant.look c.find_origin.ensures.called.asked.asks.blobs) (λ n. n)
+    c.loop-line.invariant.learned (learns_refused (λ a h. h) (refused_exit _ _ c.from_residual.ensures.1) c.in_err-node.ensures.learned)
 
 pub returns-in_err-copy_of-clause-learned : goal.returns-in_err-copy_of-clause-learned
 returns-in_err-copy_of-clause-learned g c =
     learns_refused (λ a h. h) (refused_exit _ _ c.from_residual-in_err-copy_of.ensures.1)
     (learns_then {t1 = g.S.BlobSource.tells c.loop-line.source} (λ a. lines_look_still _ _ c.args.sources.now c.args.outcomes.now c.args.lines.now a c.find_origin.ensures.called.asked.asks.blobs)
-          (lines_look_here _ _ c.args.sources.now c.args.outcomes.now c.args.lines.now c.loop-line.line-index c.line-item.result c.loop-line-test.true c.line-item.is c.loop-line.invariant.look c.find_origin.ensures.called.asked.asks.blobs) (λ n. n)
-          c.loop-line.invariant.learned c.in_ok-node.ensures.learned)
+    (lines_look_here _ _ c.args.sources.now c.args.outcomes.now c.args.lines.now c.loop-line.line-index c.line-item.result c.loop-line-test.true c.line-item.is c.loop-line.invariant.look c.find_origin.ensures.called.asked.asks.blobs) (λ n. n)
+    c.loop-line.invariant.learned c.in_ok-node.ensures.learned)
 
 pub returns-in_err-push-clause-learned : goal.returns-in_err-push-clause-learned
 returns-in_err-push-clause-learned g c =
     learns_refused (λ a h. h) (refused_exit _ _ c.from_residual-in_err-push.ensures.1)
     (learns_then {t1 = g.S.BlobSource.tells c.loop-line.source} (λ a. lines_look_still _ _ c.args.sources.now c.args.outcomes.now c.args.lines.now a c.find_origin.ensures.called.asked.asks.blobs)
-          (lines_look_here _ _ c.args.sources.now c.args.outcomes.now c.args.lines.now c.loop-line.line-index c.line-item.result c.loop-line-test.true c.line-item.is c.loop-line.invariant.look c.find_origin.ensures.called.asked.asks.blobs) (λ n. n)
-          c.loop-line.invariant.learned c.in_ok-node.ensures.learned)
+    (lines_look_here _ _ c.args.sources.now c.args.outcomes.now c.args.lines.now c.loop-line.line-index c.line-item.result c.loop-line-test.true c.line-item.is c.loop-line.invariant.look c.find_origin.ensures.called.asked.asks.blobs) (λ n. n)
+    c.loop-line.invariant.learned c.in_ok-node.ensures.learned)
 
 pub returns-clause-learned : goal.returns-clause-learned
 returns-clause-learned g c = c.loop-line.invariant.learned

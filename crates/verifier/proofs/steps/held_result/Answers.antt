@@ -2,7 +2,7 @@ use Rattle.std.proofs.Common.{ap, sym, subst, ◌∙◌}
 use Rattle.std.specs.Prelude.{Some, Ok}
 use Rattle.blob_source.specs.Source.{bytes_of}
 use Rattle.blob_source.proofs.Asking.{ok_no_error}
-use Rattle.blob_source.proofs.Calling.{called_no, called_as, calls_some, err_injective}
+use Rattle.blob_source.proofs.Calling.{called_no, calls_some}
 use Rattle.blob_source.specs.declared.source.FetchError.{FetchError}
 use Rattle.tree.specs.Memo.{IsWithout}
 use Rattle.tree.proofs.Learning.{learns_more, learns_refused, refused_exit}

@@ -66,19 +66,19 @@ read_output-requires g c = c.loop-output.invariant.learned.known
 pub returns-in_err-read-clause-learned : goal.returns-in_err-read-clause-learned
 returns-in_err-read-clause-learned g c =
     learns_then {t1 = g.S.BlobSource.tells c.loop-output.source} (λ a. outputs_look_still _ _ c.args.command.now (recorded_values c.args.recorded.now) a c.read_output.ensures.called.asked.asks.blobs)
-          (outputs_look_here _ _ c.args.command.now (recorded_values c.args.recorded.now) c.args.recorded.now c.loop-output.output-index c.output-item.result c.loop-output-test.true c.output-item.is c.loop-output.invariant.look c.read_output.ensures.called.asked.asks.blobs) (λ n. n) c.loop-output.invariant.learned (learns_refused (λ a h. h) (refused_exit _ _ c.from_residual.ensures.1) c.in_err-read.ensures.learned)
+    (outputs_look_here _ _ c.args.command.now (recorded_values c.args.recorded.now) c.args.recorded.now c.loop-output.output-index c.output-item.result c.loop-output-test.true c.output-item.is c.loop-output.invariant.look c.read_output.ensures.called.asked.asks.blobs) (λ n. n) c.loop-output.invariant.learned (learns_refused (λ a h. h) (refused_exit _ _ c.from_residual.ensures.1) c.in_err-read.ensures.learned)
 
 pub returns-in_err-copy_of-clause-learned : goal.returns-in_err-copy_of-clause-learned
 returns-in_err-copy_of-clause-learned g c =
     learns_refused (λ a h. h) (refused_exit _ _ c.from_residual-in_err-copy_of.ensures.1)
     (learns_then {t1 = g.S.BlobSource.tells c.loop-output.source} (λ a. outputs_look_still _ _ c.args.command.now (recorded_values c.args.recorded.now) a c.read_output.ensures.called.asked.asks.blobs)
-          (outputs_look_here _ _ c.args.command.now (recorded_values c.args.recorded.now) c.args.recorded.now c.loop-output.output-index c.output-item.result c.loop-output-test.true c.output-item.is c.loop-output.invariant.look c.read_output.ensures.called.asked.asks.blobs) (λ n. n) c.loop-output.invariant.learned c.in_ok-read.ensures.learned)
+    (outputs_look_here _ _ c.args.command.now (recorded_values c.args.recorded.now) c.args.recorded.now c.loop-output.output-index c.output-item.result c.loop-output-test.true c.output-item.is c.loop-output.invariant.look c.read_output.ensures.called.asked.asks.blobs) (λ n. n) c.loop-output.invariant.learned c.in_ok-read.ensures.learned)
 
 pub returns-in_err-push-clause-learned : goal.returns-in_err-push-clause-learned
 returns-in_err-push-clause-learned g c =
     learns_refused (λ a h. h) (refused_exit _ _ c.from_residual-in_err-push.ensures.1)
     (learns_then {t1 = g.S.BlobSource.tells c.loop-output.source} (λ a. outputs_look_still _ _ c.args.command.now (recorded_values c.args.recorded.now) a c.read_output.ensures.called.asked.asks.blobs)
-          (outputs_look_here _ _ c.args.command.now (recorded_values c.args.recorded.now) c.args.recorded.now c.loop-output.output-index c.output-item.result c.loop-output-test.true c.output-item.is c.loop-output.invariant.look c.read_output.ensures.called.asked.asks.blobs) (λ n. n) c.loop-output.invariant.learned c.in_ok-read.ensures.learned)
+    (outputs_look_here _ _ c.args.command.now (recorded_values c.args.recorded.now) c.args.recorded.now c.loop-output.output-index c.output-item.result c.loop-output-test.true c.output-item.is c.loop-output.invariant.look c.read_output.ensures.called.asked.asks.blobs) (λ n. n) c.loop-output.invariant.learned c.in_ok-read.ensures.learned)
 
 pub returns-clause-learned : goal.returns-clause-learned
 returns-clause-learned g c = c.loop-output.invariant.learned

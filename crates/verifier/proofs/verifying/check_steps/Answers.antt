@@ -62,7 +62,7 @@ loop-index-preserved g c =
           (steps_next old tells c.args.sources.now c.args.steps.now c.args.recorded.now c.loop-index.outcomes.items c.loop-index.index c.index-steps-index.result c.index-recorded-index.result
           c.loop-index-test.true c.index-steps-index.is within c.index-recorded-index.is c.loop-index.invariant.goes asked.blobs asked.results o passes);
       learned = learns_then {t1 = old} ((steady_steps g.row.A.Denot c.args.sources.now [] c.args.steps.now c.args.recorded.now).still old tells asked.blobs asked.results)
-    (λ a h. here a (subst (λ os. StepLooksAt g.row.A.Denot tells c.args.sources.now os c.index-steps-index.result c.index-recorded-index.result a) c.deref.ensures.value h)) (λ n. n) c.loop-index.invariant.learned (c.in-Ok.ensures {u = tt}).learned;
+          (λ a h. here a (subst (λ os. StepLooksAt g.row.A.Denot tells c.args.sources.now os c.index-steps-index.result c.index-recorded-index.result a) c.deref.ensures.value h)) (λ n. n) c.loop-index.invariant.learned (c.in-Ok.ensures {u = tt}).learned;
     }
 
 pub returns-clause-checked : goal.returns-clause-checked

@@ -1,14 +1,12 @@
 -- The loop goes on at the child that was found; a fault on the way ends the look-up.
-use Rattle.std.proofs.Common.{ap, sym, ◌∙◌, rules, subst}
+use Rattle.std.proofs.Common.{sym, ◌∙◌}
 use Rattle.std.specs.Prelude.{Some, None}
 use Rattle.std.proofs.lemmas.Result.{err_from_is_err_and}
-use Rattle.messages.specs.Node.{child}
 use Rattle.blob_source.proofs.Asking.{asks_more, asks_then, ok_no_error}
 use Rattle.blob_source.proofs.Calling.{called_exit, called_no, calls_on}
-use Rattle.tree.specs.LooksAt.{OnWay}
 use Rattle.tree.proofs.Descent.{goes_dir, goes_child, goes_nowhere, goes_wrong}
-use Rattle.tree.proofs.Learning.{learns_then, learns_none, learns_refused, refused_exit}
-use Rattle.tree.proofs.Ways.{way_dir, way_still, way_here, way_child, way_first}
+use Rattle.tree.proofs.Learning.{learns_then, learns_refused, refused_exit}
+use Rattle.tree.proofs.Ways.{way_dir, way_still, way_here, way_child}
 use Rattle.tree.proofs.memo.Memo.descend.Goals as goal
 
 pub child-requires : goal.child-requires

@@ -1,6 +1,6 @@
 -- The Directory is kept, or fetched.
-use Rattle.std.proofs.Common.{sym, subst, refl, inl}
-use Rattle.std.specs.Prelude.{IfSome, IsNone}
+use Rattle.std.proofs.Common.{subst}
+use Rattle.std.specs.Prelude.{IfSome}
 use Rattle.std.proofs.lemmas.Result.{err_from_is_err_and}
 use Rattle.blob_source.specs.Told.{TellsDirectory}
 use Rattle.tree.proofs.memo.Memo.directory.Goals as goal

@@ -1,5 +1,5 @@
 -- The message is kept, or fetched and then kept.
-use Rattle.std.proofs.Common.{◌≡◌, sym, subst, refl, inl}
+use Rattle.std.proofs.Common.{sym, subst, refl, inl}
 use Rattle.std.specs.Prelude.{IfSome, IsNone}
 use Rattle.std.proofs.lemmas.Result.{err_from_is_err_and}
 use Rattle.blob_source.specs.Source.{IsBlobUnder}
