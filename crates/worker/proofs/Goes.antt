@@ -203,8 +203,8 @@ module _ (A J : Type 0) (y : Yields) (may : J → ProducedValue → Type 0) (mos
     pub going_back : (new : EngineValue) (call : Call) → new.jobs ≡ set mid.jobs id None → new.commands ≡ mid.commands → Does A y u [] call mid new → Goes u new cs
     going_back new call jobs commands does =
         let back : AreJobsOf (IsOwnJob y may u.blobs mid) (set mid.jobs id None) cs
-              = subst (λ js. AreJobsOf (IsOwnJob y may u.blobs mid) (set js id None) cs) (sym (ap (λ (e : EngineValue). e.jobs) (after w)))
-                  (jobs_back (IsOwnJob y may u.blobs mid) cs now.jobs id (job_of w) (least_within now.jobs id (least w)) (least w).free there) in
+        = subst (λ js. AreJobsOf (IsOwnJob y may u.blobs mid) (set js id None) cs) (sym (ap (λ (e : EngineValue). e.jobs) (after w)))
+        (jobs_back (IsOwnJob y may u.blobs mid) cs now.jobs id (job_of w) (least_within now.jobs id (least w)) (least w).free there) in
         let count = jobs_count (IsOwnJob y may u.blobs mid) cs (set mid.jobs id None) back in
         let few = g.few in
         let few_new : running new.jobs ≤ most = subst (λ js. running js ≤ most) (sym jobs) (omega (arith, count, few)) in

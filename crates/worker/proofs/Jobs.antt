@@ -69,23 +69,21 @@ module _ {J : Type 0} (Is : Child J → JobValue → Type 0) where
   jobs_added [] js w c j le free id is none =
       let at = placed_same js w j le in
       let one = running_placed js w j le free in
-      let less = running_set (placed js w j) w j at in
-      (
+      let less = running_set (placed js w j) w j at in (
         j,
         subst (λ n. at_number (placed js w j) n ≡ Some j) (sym id) at,
         is,
-        subst (λ n. running (set (placed js w j) n None) ≡ 0) (sym id) (omega (arith, one, less, none))
+        subst (λ n. running (set (placed js w j) n None) ≡ 0) (sym id) (omega (arith, one, less, none)),
       )
   jobs_added (d ∷ cs) js w c j le free id is (k, at, of_d, rest) =
       let lt = taken_within js d.id k at in
       let other : d.id ≢ w = λ e. some_none (at_number js w) k (subst (λ n. at_number js n ≡ Some k) e at) free in
       let le' : w ≤ length (set js d.id None) = subst (λ n. w ≤ n) (sym (set_length js d.id)) le in
-      let free' : at_number (set js d.id None) w ≡ None = set_other js d.id w None (λ e. other (sym e)) ∙ free in
-      (
+      let free' : at_number (set js d.id None) w ≡ None = set_other js d.id w None (λ e. other (sym e)) ∙ free in (
         k,
         placed_other js w d.id j le other ∙ at,
         of_d,
-        subst (λ ks. AreJobsOf Is ks (cs ++ c ∷ [])) (sym (set_placed js w d.id j le lt other)) (jobs_added cs (set js d.id None) w c j le' free' id is rest)
+        subst (λ ks. AreJobsOf Is ks (cs ++ c ∷ [])) (sym (set_placed js w d.id j le lt other)) (jobs_added cs (set js d.id None) w c j le' free' id is rest),
       )
 
   -- a job is placed and taken away again: there may be one empty place more
@@ -98,12 +96,11 @@ module _ {J : Type 0} (Is : Child J → JobValue → Type 0) where
       let lt = taken_within js d.id k at in
       let other : d.id ≢ w = λ e. some_none (at_number js w) k (subst (λ n. at_number js n ≡ Some k) e at) free in
       let le' : w ≤ length (set js d.id None) = subst (λ n. w ≤ n) (sym (set_length js d.id)) le in
-      let free' : at_number (set js d.id None) w ≡ None = set_other js d.id w None (λ e. other (sym e)) ∙ free in
-      (
+      let free' : at_number (set js d.id None) w ≡ None = set_other js d.id w None (λ e. other (sym e)) ∙ free in (
         k,
         set_other (placed js w j) w d.id None other ∙ placed_other js w d.id j le other ∙ at,
         of_d,
-        subst (λ ks. AreJobsOf Is ks cs) (sym (set_both (placed js w j) d.id w other ∙ ap (λ ks. set ks w None) (set_placed js w d.id j le lt other))) (jobs_back cs (set js d.id None) w j le' free' rest)
+        subst (λ ks. AreJobsOf Is ks cs) (sym (set_both (placed js w j) d.id w other ∙ ap (λ ks. set ks w None) (set_placed js w d.id j le lt other))) (jobs_back cs (set js d.id None) w j le' free' rest),
       )
 
   -- as many jobs run as there are children

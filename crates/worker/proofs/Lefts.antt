@@ -150,19 +150,19 @@ module _ (A J : Type 0) (y : Yields) (may : J → ProducedValue → Type 0) (t u
           let count = k.count in
           let within : f.job.step < length now.finished = omega (arith, step, count, lt) in
           let others : (n : ℕ) → n ≢ f.job.step → jobs_of n (set b.mid.jobs b.id None) ≡ jobs_of n now.jobs
-                = λ n other.
-                    let fewer = one_fewer n b.mid.jobs b.id f.job f.is in
-                    let nil = other_step f.job n other in
-                    let grown = ap (jobs_of n) jobs_mid ∙ grows n in
-                    let nil' = other_step (job_of w) n (λ e. other (e ∙ sym step)) in
-                    omega (arith, fewer, nil, grown, nil') in
+          = λ n other.
+          let fewer = one_fewer n b.mid.jobs b.id f.job f.is in
+          let nil = other_step f.job n other in
+          let grown = ap (jobs_of n) jobs_mid ∙ grows n in
+          let nil' = other_step (job_of w) n (λ e. other (e ∙ sym step)) in
+          omega (arith, fewer, nil, grown, nil') in
           let le = finished_le now b.mid b.id f.job v same within others in
           let here = subst (λ n. at_step (with_finished b.id f.job v b.mid) n ≡ 0) step le.0 in
           let was = one in
           let less = waiting_lt (length now.plan.steps) i now (with_finished b.id f.job v b.mid) lt le.1 (omega (arith, here, was)) in
           let len = ap length after in
           let whole : waiting_among (length new.plan.steps) new ≡ waiting_among (length now.plan.steps) (with_finished b.id f.job v b.mid)
-                = ap (λ (e : EngineValue). waiting_among (length e.plan.steps) e) f.after ∙ ap (λ p. waiting_among (length p.steps) (with_finished b.id f.job v b.mid)) plan_mid in
+          = ap (λ (e : EngineValue). waiting_among (length e.plan.steps) e) f.after ∙ ap (λ p. waiting_among (length p.steps) (with_finished b.id f.job v b.mid)) plan_mid in
           omega (arith, less, len, whole)
 
   pub start_less : {T E : Type 0} (r : Result T E) (i : ℕ) (cs ds : List (Child J)) → i < length now.plan.steps → IsStartable now i → OnOk r (IsBegun A y may u i now new cs ds) → OnOk r (turns_left new ds < turns_left now cs)
@@ -177,7 +177,7 @@ module _ (A J : Type 0) (y : Yields) (may : J → ProducedValue → Type 0) (t u
       let count = k.count in
       let within : f.job.step < length now.finished = omega (arith, lt, count) in
       let others : (n : ℕ) → n ≢ f.job.step → jobs_of n (set now.jobs h.child.id None) ≡ jobs_of n now.jobs
-            = λ n other. let fewer = one_fewer n now.jobs h.child.id f.job f.is in let nil = other_step f.job n other in omega (arith, fewer, nil) in
+      = λ n other. let fewer = one_fewer n now.jobs h.child.id f.job f.is in let nil = other_step f.job n other in omega (arith, fewer, nil) in
       let le = finished_le now now h.child.id f.job v refl within others in
       let less = waiting_le (length now.plan.steps) now (with_finished h.child.id f.job v now) le.1 in
       let len = ap length h.is in

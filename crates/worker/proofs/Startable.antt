@@ -19,14 +19,13 @@ untrue false e h = cc
 
 pub startable : (e : EngineValue) (i : ℕ) (done : Bool) (count : ℕ) (ready : Bool) → IsTrue done ↔ IsSome (finished_in i e) → count ≡ jobs_of i e.jobs
     → IsTrue ready ↔ IsReady e i → done ≡ false → count ≡ 0 → IsTrue ready ↔ IsStartable e i
-startable e i done count ready finished running there undone idle =
-    (
-      λ t. record {
-        waiting = record { unfinished = not_some (finished_in i e) (λ h. untrue done undone (finished.1 h)); idle = sym running ∙ idle };
-        ready = there.0 t;
-      },
-      λ h. there.1 h.ready
-    )
+startable e i done count ready finished running there undone idle = (
+  λ t. record {
+    waiting = record { unfinished = not_some (finished_in i e) (λ h. untrue done undone (finished.1 h)); idle = sym running ∙ idle };
+    ready = there.0 t;
+  },
+  λ h. there.1 h.ready,
+)
 
 pub not_finished : (e : EngineValue) (i : ℕ) (done : Bool) → IsTrue done ↔ IsSome (finished_in i e) → done ≡ true → IsStartable e i → ⊥
 not_finished e i done finished is h = none_some (finished_in i e) h.waiting.unfinished (finished.0 is)

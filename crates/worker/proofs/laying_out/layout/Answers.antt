@@ -13,8 +13,11 @@ returns-in_err-gathered-clause-refused g c =
     let p = err_from_is_err_and c.from_residual-in_err-gathered.result c.from_residual-in_err-gathered.ensures.1 in
     let blobs = (g.S.BlobSource.tells c.gather.new.source).blobs in
     let grows = c.gather.ensures.called.asked.asks.blobs in
-    rw (p.1, p.2) (inr (c.in_ok-tree.tree, unfolded_still (λ e b at right. grows e b at) c.in_ok-tree.ensures.told,
-    subst (λ es. IsEntryFault blobs es c.in_err-gathered.field-0.0) c.in_ok-into_entries.ensures.value c.in_err-gathered.ensures.refused))
+    rw (p.1, p.2) (inr (
+      c.in_ok-tree.tree,
+      unfolded_still (λ e b at right. grows e b at) c.in_ok-tree.ensures.told,
+      subst (λ es. IsEntryFault blobs es c.in_err-gathered.field-0.0) c.in_ok-into_entries.ensures.value c.in_err-gathered.ensures.refused,
+    ))
 
 pub returns-in_err-gathered-clause-called : goal.returns-in_err-gathered-clause-called
 returns-in_err-gathered-clause-called g c = called_ok c.in_ok-tree.ensures.called (called_exit c.from_residual-in_err-gathered.ensures.1 c.in_err-gathered.ensures.called)

@@ -15,10 +15,9 @@ returns-clause-gave g c =
     let put = (g.S.BlobSource.tells c.put_all.new.sink).blobs in
     let end = (g.S.BlobSource.tells c.put_trees.new.sink).blobs in
     let bs = blobs_of c.outcome.inside.blobs.items in
-    let held : HasAllRight put bs = subst (λ vs. HasAllRight put (blobs_of vs)) c.deref.ensures.value c.in_ok-put_all.ensures.held in
-    (
+    let held : HasAllRight put bs = subst (λ vs. HasAllRight put (blobs_of vs)) c.deref.ensures.value c.in_ok-put_all.ensures.held in (
       c.in_ok-outcome.field-0,
       c.in_ok-outcome.ensures.gave,
       ap (λ (p : ProducedValue). p.outcome) c.outcome.view_is,
-      subst (λ (p : ProducedValue). HasAllRight end p.blobs) c.outcome.view_is (all_right_still put end bs c.put_trees.ensures.kept.blobs held)
+      subst (λ (p : ProducedValue). HasAllRight end p.blobs) c.outcome.view_is (all_right_still put end bs c.put_trees.ensures.kept.blobs held),
     )

@@ -48,5 +48,5 @@ returns-clause-launched g c =
         };
       },
       refl,
-      c.push_back_reserved.ensures.items ∙ ap (λ xs. xs ++ child ∷ []) c.reserve.ensures.items
+      c.push_back_reserved.ensures.items ∙ ap (λ xs. xs ++ child ∷ []) c.reserve.ensures.items,
     )

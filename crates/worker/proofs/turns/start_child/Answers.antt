@@ -13,5 +13,5 @@ pub returns-clause-owed : goal.returns-clause-owed
 returns-clause-owed g c = (
   c.in_ok-laid.laid,
   subst (λ d. IsLayoutOf (g.S.BlobSource.tells c.layout.new.source).blobs d c.in_ok-laid.laid) c.input_root_digest-root.ensures.value c.in_ok-laid.ensures.told,
-  λ p m. c.start.ensures.same c.in_ok-laid.laid c.args.job.now.command p (c.in_ok-start.ensures.gives p m)
+  λ p m. c.start.ensures.same c.in_ok-laid.laid c.args.job.now.command p (c.in_ok-start.ensures.gives p m),
 )
