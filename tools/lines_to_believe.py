@@ -14,6 +14,7 @@ ASIDE = {
     "runs": ["TwoSteps"],
     "tree": ["Comparing", "Unfolding", "Visiting"],
     "verifier": ["Answers", "TwoSteps"],
+    "worker": ["Going", "Stores"],
 }
 
 

@@ -163,10 +163,7 @@ impl<A: Allocator + Copy> FlatTree<A> {
 
     /// The entries with their paths, in the order of the paths' names: a directory before what is
     /// below it.
-    pub fn into_entries(
-        self,
-        alloc: A,
-    ) -> Result<Vec<(Path<A>, FlatEntry<A>), A>, AllocError>
+    pub fn into_entries(self, alloc: A) -> Result<Vec<(Path<A>, FlatEntry<A>), A>, AllocError>
         ensures value { IfOk result (λ entries. path_values entries.items ≡ self) }
         ensures flat { IsFlatTree self }
     {

@@ -1,7 +1,7 @@
 use Rattle.std.proofs.Common.{◌≡◌, ◌+◌, ◌<◌, ◌^◌, arith, ap, ◌∙◌, bytes_eq}
 use Rattle.eviction.specs.Pinning.{pins_of}
 use Rattle.blob_store.proofs.OneDigest.{one_hash, one_can_pin}
-use Rattle.blob_store.proofs.tests.pin.Goals as goal
+use Rattle.store_rows.proofs.tests.blobs.pin.Goals as goal
 
 pub pin_all-requires-clause-distinct : goal.pin_all-requires-clause-distinct
 pin_all-requires-clause-distinct g c = one_hash c.args.digest

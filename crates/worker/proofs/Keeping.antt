@@ -1,0 +1,112 @@
+-- What calls of a store keep.
+use Rattle.std.proofs.Common.{◌≡◌, ◌≢◌, true, false, ℕ, ◌+◌, ◌<◌, length, take, get_or, List, [], ◌∷◌, ◌++◌, Option, Some, refl, sym, subst, ◌∙◌, ap, inl, inr}
+use Rattle.std.specs.Prelude.{◌⊎◌, ◌==◌}
+use Rattle.std.proofs.lemmas.Bool.Decides.{eqb_tells}
+use Rattle.std.proofs.lemmas.List.{map-append, take_more}
+use Rattle.std.specs.declared.vec.Vec.{Vec}
+use Rattle.worker.specs.Values.{blobs_of}
+use Rattle.blob_digest.specs.Digest.{DigestValue, digest_of}
+use Rattle.blob_source.specs.Source.{Blobs, Telling, Grows, AsksResult, Asks, AsksSome}
+use Rattle.blob_source.specs.Sink.{PutsBlob, PutsResult, HasRight, IsPut, KeepsRight}
+use Rattle.blob_source.specs.Called.{Calls}
+use Rattle.worker.specs.Stores.{IsKept, IsKeptBut}
+use Rattle.worker.specs.Outcomes.{HasAllRight}
+
+grown_same : (B C : Blobs) → C ≡ B → Grows B C
+grown_same B C same e b at = subst (λ (D : Blobs). D e ≡ Some b) (sym same) at
+
+right_same : (B C : Blobs) → C ≡ B → KeepsRight B C
+right_same B C same e b at right = subst (λ (D : Blobs). D e ≡ Some b) (sym same) at
+
+pub right_trans : {B C D : Blobs} → KeepsRight B C → KeepsRight C D → KeepsRight B D
+right_trans {B} {C} {D} f g e b at right = g e b (f e b at right) right
+
+pub kept_none : {t : Telling} → IsKept t t
+kept_none {t} = record { blobs = λ e b at right. at; results = λ e b at. at }
+
+pub kept_trans : {t u v : Telling} → IsKept t u → IsKept u v → IsKept t v
+kept_trans {t} {u} {v} f g = record { blobs = λ e b at right. g.blobs e b (f.blobs e b at right) right; results = λ e b at. g.results e b (f.results e b at) }
+
+pub kept_asks : {n : ℕ} {t u : Telling} {F : Type 0} → Calls (Asks n) t u F → IsKept t u
+kept_asks {n} {t} {u} {F} a = record { blobs = λ e b at right. a.asked.blobs e b at; results = λ e b at. a.asked.results e b at }
+
+pub kept_some : {t u : Telling} {F : Type 0} → Calls AsksSome t u F → IsKept t u
+kept_some {t} {u} {F} a = record { blobs = λ e b at right. a.asked.asks.blobs e b at; results = λ e b at. a.asked.asks.results e b at }
+
+pub kept_blob : {t u : Telling} {bytes : List ℕ} {F : Type 0} → Calls (PutsBlob bytes) t u F → IsKept t u
+kept_blob {t} {u} {bytes} {F} p = record { blobs = p.asked.right; results = grown_same t.results u.results p.asked.results }
+
+pub kept_result : {t u : Telling} {d : DigestValue} {F : Type 0} → Calls (AsksResult d) t u F → IsKept t u
+kept_result {t} {u} {d} {F} a = let k = a.asked.results.kept in record { blobs = right_same t.blobs u.blobs a.asked.blobs; results = λ e b at. k e b at }
+
+pub kept_but : {t u : Telling} {d : DigestValue} → IsKept t u → IsKeptBut d t u
+kept_but {t} {u} {d} k = record { blobs = k.blobs; results = λ e b at. inl (k.results e b at) }
+
+pub kept_then : {t u v : Telling} {d : DigestValue} → IsKept t u → IsKeptBut d u v → IsKeptBut d t v
+kept_then {t} {u} {v} {d} f g = record { blobs = λ e b at right. g.blobs e b (f.blobs e b at right) right; results = λ e b at. g.results e b (f.results e b at) }
+
+pub kept_more : {t u v : Telling} {d : DigestValue} → IsKeptBut d t u → IsKeptBut d u v → IsKeptBut d t v
+kept_more {t} {u} {v} {d} f g = record {
+  blobs = λ e b at right. g.blobs e b (f.blobs e b at right) right;
+  results = λ e b at. by e b (f.results e b at);
+}
+  where
+    by : (e : DigestValue) (b : List ℕ) → (u.results e ≡ Some b) ⊎ (e ≡ d) → (v.results e ≡ Some b) ⊎ (e ≡ d)
+    by e b (inl at) = g.results e b at
+    by e b (inr is) = inr is
+
+-- ---- right bytes
+
+pub right_still : {B C : Blobs} {d : DigestValue} → KeepsRight B C → HasRight B d → HasRight C d
+right_still {B} {C} {d} k (b, at, right) = (b, k d b at right, right)
+
+pub right_put : (B C : Blobs) {bytes : List ℕ} → IsPut bytes B C → HasRight C (digest_of bytes)
+right_put B C {bytes} (inl ((b, at, right), same)) = (b, same ∙ at, right)
+right_put B C {bytes} (inr (none, at)) = (bytes, at, refl)
+
+pub all_right_still : (B C : Blobs) (bs : List (List ℕ)) → KeepsRight B C → HasAllRight B bs → HasAllRight C bs
+all_right_still B C [] k h = tt
+all_right_still B C (b ∷ bs) k h = (right_still k h.0, all_right_still B C bs k h.1)
+
+pub all_right_more : (B : Blobs) (bs : List (List ℕ)) (b : List ℕ) → HasAllRight B bs → HasRight B (digest_of b) → HasAllRight B (bs ++ b ∷ [])
+all_right_more B [] b h right = (right, tt)
+all_right_more B (c ∷ bs) b h right = (h.0, all_right_more B bs b h.1 right)
+
+pub all_right_taken : {A : Type 0} (B C : Blobs) (bs : List (Vec ℕ A)) (i : ℕ) (x : Vec ℕ A) → i < length bs → x ≡ get_or bs i x → KeepsRight B C
+    → HasAllRight B (blobs_of (take i bs)) → HasRight C (digest_of x.items) → HasAllRight C (blobs_of (take (i + 1) bs))
+all_right_taken {A} B C bs i x lt is keeps held right =
+    let taken : take (i + 1) bs ≡ take i bs ++ x ∷ [] = take_more bs i x lt ∙ ap (λ y. take i bs ++ y ∷ []) (sym is) in
+    let values : blobs_of (take (i + 1) bs) ≡ blobs_of (take i bs) ++ x.items ∷ [] = ap blobs_of taken ∙ map-append (λ (b : Vec ℕ A). b.items) (take i bs) (x ∷ []) in
+    subst (HasAllRight C) (sym values) (all_right_more C (blobs_of (take i bs)) x.items (all_right_still B C (blobs_of (take i bs)) keeps held) right)
+
+-- ---- which digest
+
+same_bytes : (xs ys : List ℕ) → (xs ≡ ys) ⊎ (xs ≢ ys)
+same_bytes [] [] = inl refl
+same_bytes [] (y ∷ ys) = inr (λ e. cc)
+same_bytes (x ∷ xs) [] = inr (λ e. cc)
+same_bytes (x ∷ xs) (y ∷ ys) = by (eqb_tells x y) (same_bytes xs ys)
+  where
+    by : (((x == y) ≡ true) × (x ≡ y)) ⊎ (((x == y) ≡ false) × (x ≢ y)) → (xs ≡ ys) ⊎ (xs ≢ ys) → (x ∷ xs ≡ y ∷ ys) ⊎ (x ∷ xs ≢ y ∷ ys)
+    by (inl h) (inl t) = let head = h.1 in inl cc
+    by (inl h) (inr n) = inr (λ e. n cc)
+    by (inr h) t = let other = h.1 in inr (λ e. other cc)
+
+same_digest : (d e : DigestValue) → (d ≡ e) ⊎ (d ≢ e)
+same_digest d e = by (same_bytes d.hash e.hash) (eqb_tells d.size e.size)
+  where
+    by : (d.hash ≡ e.hash) ⊎ (d.hash ≢ e.hash) → (((d.size == e.size) ≡ true) × (d.size ≡ e.size)) ⊎ (((d.size == e.size) ≡ false) × (d.size ≢ e.size)) → (d ≡ e) ⊎ (d ≢ e)
+    by (inl h) (inl s) =
+        let size = s.1 in
+        let pair : ◌≡◌ {A = List ℕ × ℕ} (d.hash, d.size) (e.hash, e.size) = cc in
+        inl (ap (λ (p : List ℕ × ℕ). record { hash = p.0; size = p.1 }) pair)
+    by (inr n) s = inr (λ is. n (ap (λ (x : DigestValue). x.hash) is))
+    by (inl h) (inr s) = let n = s.1 in inr (λ is. n (ap (λ (x : DigestValue). x.size) is))
+
+-- a result that is put, or may have been
+pub kept_put : {t u : Telling} {d : DigestValue} {bytes : List ℕ} {F : Type 0} → Calls (PutsResult d bytes) t u F → IsKeptBut d t u
+kept_put {t} {u} {d} {bytes} {F} p = record { blobs = right_same t.blobs u.blobs p.asked.blobs; results = λ e b at. by e b at (same_digest e d) }
+  where
+    by : (e : DigestValue) (b : List ℕ) → t.results e ≡ Some b → (e ≡ d) ⊎ (e ≢ d) → (u.results e ≡ Some b) ⊎ (e ≡ d)
+    by e b at (inl is) = inr is
+    by e b at (inr n) = inl (p.asked.results.others e n ∙ at)

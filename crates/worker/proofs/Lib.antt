@@ -1,0 +1,11 @@
+pub mod Keeping
+pub mod Telling
+pub mod Sorting
+pub mod Gathering
+pub mod Startable
+pub mod Jobs
+pub mod Started
+pub mod Goes
+pub mod Taking
+pub mod Lefts
+pub mod Complete

@@ -1,0 +1,85 @@
+-- What is told of a layout and of a result stays told where right bytes stay.
+use Rattle.std.proofs.Common.{◌≡◌, ◌≢◌, ℕ, Bool, List, [], ◌∷◌, Option, Some, refl, sym, subst, ◌∙◌, ap, inl, inr}
+use Rattle.std.specs.Prelude.{◌⊎◌}
+use Rattle.blob_digest.specs.Digest.{DigestValue, digest_of, empty_digest}
+use Rattle.messages.specs.declared.node.Node.TheVariants as nodes
+use Rattle.blob_source.specs.Source.{Blobs, Telling, IsUnder, IsBlobUnder}
+use Rattle.blob_source.specs.Sink.{KeepsRight}
+use Rattle.blob_source.specs.Told.{IsTold}
+use Rattle.action_messages.specs.ActionResult.{ActionResultValue}
+use Rattle.action_messages.specs.Outputs.{RecordedValue, file, directory, link}
+use Rattle.actions.specs.Outcome.{OutputValue, OutcomeValue}
+use Rattle.actions.specs.Recorded.{StandsFor, StandForAll, IsRecorded}
+use Rattle.tree.specs.Tree.{Name, Tree, empty, leaf, folder, Standing, nothing, a_leaf, a_directory}
+use Rattle.tree.specs.Form.{NodeValue}
+use Rattle.tree.specs.FlatTree.{FlatValue}
+use Rattle.tree.specs.Unfolded.{TellsBelow, TellsTree, IsUnfolded}
+use Rattle.worker.specs.Values.{LayoutValue}
+use Rattle.worker.specs.Stores.{IsKept}
+use Rattle.worker.specs.Outcomes.{IsHeld}
+use Rattle.worker.specs.Layout.{AreFiles, AreGathered, IsLayoutOf}
+
+module _ {B C : Blobs} (keeps : KeepsRight B C) where
+  blob_still : {d : DigestValue} {b : List ℕ} → IsBlobUnder B d b → IsBlobUnder C d b
+  blob_still {d} {b} h = record { held = by h.held; right = h.right }
+    where
+      by : IsUnder B d (Some b) → IsUnder C d (Some b)
+      by (inl e) = inl e
+      by (inr (n, at)) = inr (n, sym (keeps d b (sym at) h.right))
+
+  told_still : {M : Type 0} {rules : M → Type 0} {spells : M → List ℕ} {d : DigestValue} {m : M} → IsTold rules spells B d m → IsTold rules spells C d m
+  told_still t = record { lawful = t.lawful; blob = blob_still t.blob }
+
+  below_still : (t : Tree NodeValue) → TellsBelow B t → TellsBelow C t
+  below_still empty h = tt
+  below_still (leaf n x rest) h = below_still rest h
+  below_still (folder n below rest) h = ((told_still h.0.0, below_still below h.0.1), below_still rest h.1)
+
+  pub unfolded_still : {d : DigestValue} {es : FlatValue} → IsUnfolded B d es → IsUnfolded C d es
+  unfolded_still h = record {
+    tree = h.tree;
+    list = h.list;
+    told = record { root = h.told.root; top = told_still h.told.top; below = below_still h.tree h.told.below };
+  }
+
+  files_still : (es : FlatValue) (fs : List (List Name × List ℕ)) → AreFiles B es fs → AreFiles C es fs
+  files_still [] fs h = h
+  files_still ((p, nothing) ∷ es) fs h = files_still es fs h
+  files_still ((p, a_directory) ∷ es) fs h = files_still es fs h
+  files_still ((p, a_leaf (nodes.Link t)) ∷ es) fs h = files_still es fs h
+  files_still ((p, a_leaf (nodes.Dir d)) ∷ es) fs h = files_still es fs h
+  files_still ((p, a_leaf (nodes.File d x)) ∷ es) fs (b, blob, rest, files, is) = (b, blob_still blob, rest, files_still es rest files, is)
+
+  pub layout_still : {d : DigestValue} {l : LayoutValue} → IsLayoutOf B d l → IsLayoutOf C d l
+  layout_still h = record {
+    entries = h.entries;
+    unfolded = unfolded_still h.unfolded;
+    gathered = h.gathered;
+    of_entries = record { no_link = h.of_entries.no_link; folders = h.of_entries.folders; files = files_still h.entries h.gathered.files h.of_entries.files };
+    folders = h.folders;
+    files = h.files;
+    folders_sorted = h.folders_sorted;
+    files_sorted = h.files_sorted;
+  }
+
+  stands_still : (x : RecordedValue) (v : OutputValue) → StandsFor B x v → StandsFor C x v
+  stands_still (file f) v h = h
+  stands_still (link l) v h = h
+  stands_still (directory d) v (t, told, is) = (t, told_still told, is)
+
+  stand_still : (xs : List RecordedValue) (es : List (List (List ℕ) × OutputValue)) → StandForAll B xs es → StandForAll C xs es
+  stand_still [] es h = h
+  stand_still (x ∷ xs) [] h = h
+  stand_still (x ∷ xs) (e ∷ es) h = (h.0, stands_still x e.1 h.1, stand_still xs es h.2)
+
+  pub recorded_still : (r : ActionResultValue) (o : OutcomeValue) → IsRecorded B r o → IsRecorded C r o
+  recorded_still r o h = record { lawful = h.lawful; exit_code = h.exit_code; recorded = h.recorded; ordered = h.ordered; outputs = stand_still h.recorded o.outputs h.outputs }
+
+pub held_kept : {t u : Telling} {d : DigestValue} {v : OutcomeValue} → IsKept t u → IsHeld t d v → IsHeld u d v
+held_kept {t} {u} {d} {v} k h = record {
+  bytes = h.bytes;
+  held = k.results d h.bytes h.held;
+  result = h.result;
+  reads = h.reads;
+  recorded = recorded_still k.blobs h.result v h.recorded;
+}

@@ -1,0 +1,19 @@
+use Rattle.std.proofs.Common.{arith, length}
+use Rattle.worker.proofs.Taking.{lost_child, lost_jobs, lost_goes, lost_count}
+use Rattle.worker.proofs.building.end_all.Goals as goal
+
+pub loop-child-preserved : goal.loop-child-preserved
+loop-child-preserved g c =
+    let lost = lost_child c.loop-child.engine c.lose.new.self c.in-Some.child c.loop-child.rest.items c.pop_front.new.self.items c.in-Some.ensures.items c.loop-child.invariant.there c.lose.result c.lose.ensures.no_job c.lose.ensures.lost in
+    record {
+      there = lost_jobs c.loop-child.engine c.lose.new.self c.in-Some.child c.loop-child.rest.items c.pop_front.new.self.items c.in-Some.ensures.items c.loop-child.invariant.there lost;
+      going = λ entry t most first h. lost_goes c.loop-child.engine c.lose.new.self c.in-Some.child c.loop-child.rest.items c.pop_front.new.self.items c.in-Some.ensures.items c.loop-child.invariant.there g.row.A.Denot (g.N.Runner.yields entry) g.N.Runner.may_give lost t most first (c.loop-child.invariant.going entry t most first h);
+      alive = λ count h. lost_count c.in-Some.child c.loop-child.rest.items c.pop_front.new.self.items c.in-Some.ensures.items count _ _ (c.loop-child.invariant.alive count h) c.finish.ensures.closed;
+    }
+
+pub returns-clause-alive : goal.returns-clause-alive
+returns-clause-alive g c count h =
+    let empty = (c.in_default.ensures {u = tt}).cases.0 in
+    let all = c.loop-child.invariant.alive count h in
+    let ok = c.loop-child.rest.ok in
+    omega (arith, empty, all, ok)

@@ -1,0 +1,18 @@
+use Rattle.std.proofs.Common.{◌≡◌, ◌+◌, ℕ, length}
+use Rattle.blob_source.specs.Source.{Telling}
+use Rattle.runs.specs.Engine.{EngineValue}
+use Rattle.worker.specs.Going.{AreJobsOf, IsJobOf, IsGoing}
+use Rattle.worker.proofs.building.end_all.Given as goal
+
+abbrev pub invariant-loop-child : goal.invariant-loop-child
+invariant-loop-child g l =
+    let yields = g.N.Runner.yields in
+    let may = g.N.Runner.may_give in
+    record {
+      there : AreJobsOf IsJobOf l.engine.jobs l.rest.items;
+      going : (entry : g.row.N.Denot) (t : Telling) (most : ℕ) (first : EngineValue) → IsGoing g.row.A.Denot (yields entry) may t most first l.fn.engine l.fn.children.items → IsGoing g.row.A.Denot (yields entry) may t most first l.engine l.rest.items;
+      alive : (count : ℕ) → g.N.Runner.alive l.fn.runner ≡ count + length l.fn.children.items → g.N.Runner.alive l.runner ≡ count + length l.rest.items;
+    }
+
+abbrev pub decreases-loop-child : goal.decreases-loop-child
+decreases-loop-child g l = length l.rest.items

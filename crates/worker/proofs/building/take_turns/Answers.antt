@@ -1,0 +1,44 @@
+use Rattle.std.proofs.Common.{arith, subst, sym, ap, length}
+use Rattle.worker.specs.Going.{AreJobsOf, IsJobOf, IsGoing}
+use Rattle.worker.proofs.Keeping.{right_trans}
+use Rattle.worker.proofs.Complete.{all_finished}
+use Rattle.worker.proofs.Goes.{going_none, own_jobs}
+use Rattle.worker.proofs.building.take_turns.Goals as goal
+
+pub loop-turn-init : goal.loop-turn-init
+loop-turn-init g c =
+    let t = g.S.BlobSource.tells c.args.sink.now in
+    record {
+      going = subst (IsGoing g.row.A.Denot (g.N.Runner.yields c.args.runner.now) g.N.Runner.may_give t c.args.jobs c.args.engine.now c.args.engine.now) (sym c.requires.none)
+          (going_none g.row.A.Denot g.row.N-Job.Denot (g.N.Runner.yields c.args.runner.now) g.N.Runner.may_give c.args.jobs c.args.engine.now t c.requires.idle);
+      within = λ l d p h. h;
+      right = λ e b at right. at;
+      alive = let none = c.requires.none in let len = ap length none in omega (arith, len);
+    }
+
+pub take_turn-requires : goal.take_turn-requires
+take_turn-requires g c = record {
+  can = (c.args.jobs, c.in-Some.ensures.turn);
+  there = own_jobs g.row.A.Denot (g.N.Runner.yields c.args.runner.now) g.N.Runner.may_give (g.S.BlobSource.tells c.loop-turn.sink) c.args.jobs c.args.engine.now c.loop-turn.engine c.loop-turn.children.items c.loop-turn.invariant.going;
+  alive = let all = c.loop-turn.invariant.alive in omega (arith, all);
+}
+
+pub loop-turn-preserved : goal.loop-turn-preserved
+loop-turn-preserved g c = record {
+  going = c.take_turn.ensures.going c.args.runner.now c.args.jobs c.args.engine.now c.loop-turn.invariant.within c.in-Some.ensures.turn c.loop-turn.invariant.going;
+  within = λ l d p h. c.loop-turn.invariant.within l d p (c.take_turn.ensures.within l d p h);
+  right = right_trans c.loop-turn.invariant.right c.take_turn.ensures.right;
+  alive = let now = c.take_turn.ensures.alive in let was = c.loop-turn.invariant.alive in omega (arith, now, was);
+}
+
+pub returns-in_err-take_turn-clause-going : goal.returns-in_err-take_turn-clause-going
+returns-in_err-take_turn-clause-going g c = c.take_turn.ensures.going c.args.runner.now c.args.jobs c.args.engine.now c.loop-turn.invariant.within c.in-Some.ensures.turn c.loop-turn.invariant.going
+
+pub returns-in_err-take_turn-clause-right : goal.returns-in_err-take_turn-clause-right
+returns-in_err-take_turn-clause-right g c = right_trans c.loop-turn.invariant.right c.take_turn.ensures.right
+
+pub returns-clause-done : goal.returns-clause-done
+returns-clause-done g c =
+    let empty = c.next_turn.ensures.none_runs c.in_default.is in
+    let jobs = own_jobs g.row.A.Denot (g.N.Runner.yields c.args.runner.now) g.N.Runner.may_give (g.S.BlobSource.tells c.loop-turn.sink) c.args.jobs c.args.engine.now c.loop-turn.engine c.loop-turn.children.items c.loop-turn.invariant.going in
+    all_finished c.loop-turn.engine c.next_turn.ensures.planned c.next_turn.ensures.lawful (subst (AreJobsOf IsJobOf c.loop-turn.engine.jobs) empty jobs) (c.next_turn.ensures.none_starts c.in_default.is)

@@ -1,0 +1,19 @@
+use Rattle.std.proofs.Common.{◌≡◌, ◌+◌, ℕ, length}
+use Rattle.blob_source.specs.Sink.{KeepsRight}
+use Rattle.worker.specs.Outcomes.{IsWithin}
+use Rattle.worker.specs.Going.{IsGoing, turns_left}
+use Rattle.worker.proofs.building.take_turns.Given as goal
+
+abbrev pub invariant-loop-turn : goal.invariant-loop-turn
+invariant-loop-turn g l =
+    let tells = g.S.BlobSource.tells in
+    let yields = g.N.Runner.yields in
+    record {
+      going : IsGoing g.row.A.Denot (yields l.fn.runner) g.N.Runner.may_give (tells l.sink) l.jobs l.fn.engine l.engine l.children.items;
+      within : IsWithin (yields l.runner) (yields l.fn.runner);
+      right : KeepsRight (tells l.fn.sink).blobs (tells l.sink).blobs;
+      alive : g.N.Runner.alive l.runner ≡ g.N.Runner.alive l.fn.runner + length l.children.items;
+    }
+
+abbrev pub decreases-loop-turn : goal.decreases-loop-turn
+decreases-loop-turn g l = turns_left l.engine l.children.items

@@ -1,0 +1,41 @@
+-- A tree that is told, and its entries.
+use Rattle.std.proofs.Common.{◌≡◌, subst, inr}
+use Rattle.std.proofs.lemmas.Result.{err_from_is_err_and}
+use Rattle.blob_source.proofs.Asking.{ok_no_error}
+use Rattle.blob_source.proofs.Calling.{called_ok, called_no, called_exit}
+use Rattle.worker.specs.Layout.{AreGathered}
+use Rattle.worker.specs.Refusals.{IsEntryFault}
+use Rattle.worker.proofs.Telling.{unfolded_still}
+use Rattle.worker.proofs.laying_out.layout.Goals as goal
+
+pub returns-in_err-gathered-clause-refused : goal.returns-in_err-gathered-clause-refused
+returns-in_err-gathered-clause-refused g c =
+    let p = err_from_is_err_and c.from_residual-in_err-gathered.result c.from_residual-in_err-gathered.ensures.1 in
+    let blobs = (g.S.BlobSource.tells c.gather.new.source).blobs in
+    let grows = c.gather.ensures.called.asked.asks.blobs in
+    rw (p.1, p.2) (inr (
+      c.in_ok-tree.tree,
+      unfolded_still (λ e b at right. grows e b at) c.in_ok-tree.ensures.told,
+      subst (λ es. IsEntryFault blobs es c.in_err-gathered.field-0.0) c.in_ok-into_entries.ensures.value c.in_err-gathered.ensures.refused,
+    ))
+
+pub returns-in_err-gathered-clause-called : goal.returns-in_err-gathered-clause-called
+returns-in_err-gathered-clause-called g c = called_ok c.in_ok-tree.ensures.called (called_exit c.from_residual-in_err-gathered.ensures.1 c.in_err-gathered.ensures.called)
+
+pub returns-clause-told : goal.returns-clause-told
+returns-clause-told g c =
+    let blobs = (g.S.BlobSource.tells c.gather.new.source).blobs in
+    let grows = c.gather.ensures.called.asked.asks.blobs in
+    record {
+      entries = c.in_ok-tree.tree;
+      unfolded = unfolded_still (λ e b at right. grows e b at) c.in_ok-tree.ensures.told;
+      gathered = c.in_ok-gathered.gathered;
+      of_entries = subst (λ es. AreGathered blobs es c.in_ok-gathered.gathered) c.in_ok-into_entries.ensures.value c.in_ok-gathered.ensures.gathered;
+      folders = c.sort.ensures.folders;
+      files = c.sort.ensures.files;
+      folders_sorted = c.sort.ensures.folders_sorted;
+      files_sorted = c.sort.ensures.files_sorted;
+    }
+
+pub returns-clause-called : goal.returns-clause-called
+returns-clause-called g c = called_no ok_no_error ok_no_error (called_ok c.in_ok-tree.ensures.called c.in_ok-gathered.ensures.called)

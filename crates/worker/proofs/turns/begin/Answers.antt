@@ -1,0 +1,19 @@
+use Rattle.worker.proofs.Keeping.{kept_trans, kept_some}
+use Rattle.worker.proofs.Started.{started_in}
+use Rattle.worker.proofs.Goes.{begun, refused}
+use Rattle.worker.proofs.turns.begin.Goals as goal
+
+pub launch-requires : goal.launch-requires
+launch-requires g c = started_in c.in-Ok.ensures.started
+
+pub returns-in-Ok-launch-clause-kept : goal.returns-in-Ok-launch-clause-kept
+returns-in-Ok-launch-clause-kept g c = kept_trans (kept_some c.start.ensures.called) c.launch.ensures.kept
+
+pub returns-in-Ok-launch-clause-begun : goal.returns-in-Ok-launch-clause-begun
+returns-in-Ok-launch-clause-begun g c = begun (g.S.BlobSource.tells c.launch.new.sink) c.in-Ok.ensures.started c.launch.ensures.kept.blobs c.in-Ok-launch.ensures.launched
+
+pub returns-clause-kept : goal.returns-clause-kept
+returns-clause-kept g c = kept_trans (kept_some c.start.ensures.called) c.launch.ensures.kept
+
+pub returns-clause-refused : goal.returns-clause-refused
+returns-clause-refused g c = refused c.lose.result c.in-Ok.ensures.started c.launch.ensures.kept.blobs c.in-Err-launch.ensures.unchanged c.lose.ensures.no_job c.lose.ensures.lost

@@ -1,0 +1,11 @@
+use Rattle.std.proofs.Common.{subst}
+use Rattle.worker.specs.Going.{AreJobsOf, IsJobOf}
+use Rattle.worker.proofs.turns.finish_first.Goals as goal
+
+pub settle-requires : goal.settle-requires
+settle-requires g c =
+    let jobs = subst (AreJobsOf IsJobOf c.args.engine.now.jobs) c.in-Some.ensures.items c.requires.there in
+    record { there = (jobs.0, jobs.1, jobs.2) }
+
+pub returns-in-Ok-clause-ended : goal.returns-in-Ok-clause-ended
+returns-in-Ok-clause-ended g c = record { child = c.in-Some.child; is = c.in-Some.ensures.items; end = c.in-Ok.ensures.ended }

@@ -1,0 +1,31 @@
+use Rattle.std.proofs.Common.{subst}
+use Rattle.worker.specs.Going.{IsTurn}
+use Rattle.worker.proofs.Taking.{start_goes, finish_goes, finish_right}
+use Rattle.worker.proofs.Lefts.{start_less, finish_less}
+use Rattle.worker.proofs.turns.take_turn.Goals as goal
+
+pub returns-in-Start-clause-going : goal.returns-in-Start-clause-going
+returns-in-Start-clause-going g c entry most first within turn going =
+    start_goes g.row.A.Denot g.row.N-Job.Denot (g.N.Runner.yields entry) g.N.Runner.may_give (g.S.BlobSource.tells c.args.sink.now) (g.S.BlobSource.tells c.begin.new.sink) most first c.args.engine.now c.begin.new.engine c.args.children.now.items c.begin.new.children.items going
+    c.begin.result (g.N.Runner.yields c.args.runner.now) c.in-Start.step within c.begin.ensures.kept (subst (IsTurn most c.args.engine.now c.args.children.now.items) c.in-Start.is turn).0 c.begin.ensures.begun c.begin.ensures.refused c.begin.ensures.same
+
+pub returns-in-Start-clause-fewer : goal.returns-in-Start-clause-fewer
+returns-in-Start-clause-fewer g c =
+    let turn = subst (IsTurn c.requires.can.0 c.args.engine.now c.args.children.now.items) c.in-Start.is c.requires.can.1 in
+    start_less g.row.A.Denot g.row.N-Job.Denot (g.N.Runner.yields c.args.runner.now) g.N.Runner.may_give (g.S.BlobSource.tells c.args.sink.now) (g.S.BlobSource.tells c.begin.new.sink) c.args.engine.now c.begin.new.engine c.plan.ensures.lawful
+    c.begin.result c.in-Start.step c.args.children.now.items c.begin.new.children.items turn.1 turn.2 c.begin.ensures.begun
+
+pub returns-in-Finish-clause-going : goal.returns-in-Finish-clause-going
+returns-in-Finish-clause-going g c entry most first within turn going =
+    finish_goes g.row.A.Denot g.row.N-Job.Denot (g.N.Runner.yields entry) g.N.Runner.may_give (g.S.BlobSource.tells c.args.sink.now) (g.S.BlobSource.tells c.finish_first.new.sink) most first c.args.engine.now c.finish_first.new.engine c.args.children.now.items c.finish_first.new.children.items going
+    c.finish_first.result c.finish_first.ensures.ended c.finish_first.ensures.refused
+
+pub returns-in-Finish-clause-fewer : goal.returns-in-Finish-clause-fewer
+returns-in-Finish-clause-fewer g c =
+    finish_less g.row.A.Denot g.row.N-Job.Denot (g.N.Runner.yields c.args.runner.now) g.N.Runner.may_give (g.S.BlobSource.tells c.args.sink.now) (g.S.BlobSource.tells c.finish_first.new.sink) c.args.engine.now c.finish_first.new.engine c.plan.ensures.lawful
+    c.finish_first.result c.args.children.now.items c.finish_first.new.children.items c.finish_first.ensures.ended
+
+pub returns-in-Finish-clause-right : goal.returns-in-Finish-clause-right
+returns-in-Finish-clause-right g c =
+    finish_right g.N.Runner.may_give (g.S.BlobSource.tells c.args.sink.now) (g.S.BlobSource.tells c.finish_first.new.sink) c.args.engine.now c.finish_first.new.engine c.args.children.now.items c.finish_first.new.children.items
+    c.finish_first.result c.finish_first.ensures.ended c.finish_first.ensures.refused

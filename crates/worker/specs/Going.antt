@@ -1,0 +1,117 @@
+-- A build that goes on: the children that run, and the engine.
+use Rattle.std.specs.Prelude.{zero, suc, ◌≡◌, ◌⊎◌, ◌+◌, ◌*◌, ◌<◌, ◌≤◌, ℕ, List, [], ◌∷◌, ◌++◌, length, set, slice_get, Option, Some, None}
+use Rattle.blob_digest.specs.Digest.{DigestValue, digest_of}
+use Rattle.action_messages.specs.Action.{action_bytes}
+use Rattle.actions.specs.Outcome.{OutcomeValue}
+use Rattle.blob_source.specs.Source.{Blobs, Telling}
+use Rattle.runs.specs.Engine.{FinishedValue, JobValue, EngineValue, at_number, finished_in, job_in}
+use Rattle.runs.specs.Calls.{IsFinished, without_job, jobs_of}
+use Rattle.runs.specs.declared.starting.Job.{Job}
+use Rattle.worker.specs.declared.turns.Child.{Child}
+use Rattle.worker.specs.declared.turns.Turn.{Turn}
+use Rattle.worker.specs.declared.turns.Turn.TheVariants as turns
+use Rattle.worker.specs.Values.{ProducedValue}
+use Rattle.worker.specs.Stores.{IsKept, IsKeptBut}
+use Rattle.worker.specs.Outcomes.{Yields, IsOwed, HasAllRight, IsHeld}
+use Rattle.worker.specs.Calls.{running, WasStarted, IsLost, IsLed, IsStartable}
+
+-- the job is the child's
+pub record IsJobOf {J : Type 0} (c : Child J) (j : JobValue) : Type 0 where
+  pub step : j.step ≡ c.step
+  pub action : j.action ≡ c.action
+
+-- Each job is that of one child, as a relation says. The first child's is taken away, and the others' are those of the rest.
+abbrev pub AreJobsOf : {J : Type 0} → (Child J → JobValue → Type 0) → List (Option JobValue)
+    → List (Child J) → Type 0
+AreJobsOf Is js [] = running js ≡ 0
+AreJobsOf Is js (c ∷ cs) =
+    (j : JobValue) × (at_number js c.id ≡ Some j) × Is c j × AreJobsOf Is (set js c.id None) cs
+
+-- the job is the child's, and what may come of the child is owed to it
+pub record IsOwnJob {J : Type 0} (yields : Yields) (may : J → ProducedValue → Type 0) (B : Blobs)
+    (e : EngineValue) (c : Child J) (j : JobValue) : Type 0 where
+  pub of_child : IsJobOf c j
+  pub owed : IsOwed yields (may c.job) B e j
+
+-- Calls led to the engine, the children have its jobs, and they are few.
+pub record IsGoing (A : Type 0) {J : Type 0} (yields : Yields) (may : J → ProducedValue → Type 0)
+    (t : Telling) (most : ℕ) (old new : EngineValue) (children : List (Child J)) : Type 0 where
+  pub led : IsLed A yields t most old new
+  pub jobs : AreJobsOf (IsOwnJob yields may t.blobs new) new.jobs children
+  pub few : length children ≤ most
+
+-- the engine has the job's command, and the job's digest is that of its action
+pub record IsJobIn {A : Type 0} (e : EngineValue) (job : Job A) : Type 0 where
+  pub command : slice_get e.commands job.step ≡ Some job.command
+  pub digest : job.digest ≡ digest_of (action_bytes job.action)
+
+-- a job as an engine has it
+abbrev pub job_value : {A : Type 0} → Job A → JobValue
+job_value job = record { step = job.step; action = job.digest; input = job.action.input }
+
+-- A job goes on: a child runs for it, or it finished at once as the store had recorded.
+abbrev pub IsLaunched : {J : Type 0} → Yields → (J → ProducedValue → Type 0) → Telling → ℕ
+    → JobValue → EngineValue → EngineValue → List (Child J) → List (Child J) → Type 0
+IsLaunched yields may t id j old new before after =
+    ((c : Child _) × (c.id ≡ id) × IsOwnJob yields may t.blobs old c j × (new ≡ old)
+    × (after ≡ before ++ c ∷ []))
+    ⊎ ((v : OutcomeValue) × IsFinished id v old new × IsHeld t j.action v × (after ≡ before))
+
+-- A step was started: a child runs for it, or its job finished at once.
+pub record IsBegun (A : Type 0) {J : Type 0} (yields : Yields) (may : J → ProducedValue → Type 0)
+    (t : Telling) (i : ℕ) (old new : EngineValue) (before after : List (Child J)) : Type 0 where
+  pub id : ℕ
+  pub mid : EngineValue
+  pub started : WasStarted A t.blobs i id old mid
+  pub job : JobValue
+  pub is : job_in id mid ≡ Some job
+  pub goes : IsLaunched yields may t id job mid new before after
+
+-- A step was refused: it wasn't started, or its job was lost.
+abbrev pub IsRefused : (A : Type 0) → Blobs → ℕ → EngineValue → EngineValue → Type 0
+IsRefused A B i old new = (new ≡ old)
+    ⊎ ((id : ℕ) × (mid : EngineValue) × WasStarted A B i id old mid × (new ≡ without_job id mid))
+
+-- A child's job finished with what the child came to, whose blobs are in the store, where a result may have been put.
+pub record EndsWell {J : Type 0} (may : J → ProducedValue → Type 0) (s t : Telling) (c : Child J)
+    (old new : EngineValue) : Type 0 where
+  pub produced : ProducedValue
+  pub came : may c.job produced
+  pub finished : IsFinished c.id produced.outcome old new
+  pub blobs : HasAllRight t.blobs produced.blobs
+  pub kept : IsKeptBut c.action s t
+
+-- A child's job ended, well or lost.
+abbrev pub Ends : {J : Type 0} → (J → ProducedValue → Type 0) → Telling → Telling → Child J
+    → EngineValue → EngineValue → Type 0
+Ends may s t c old new = EndsWell may s t c old new ⊎ (IsLost c.id old new × IsKept s t)
+
+-- The first child was waited for, and its job ended so.
+pub record HasEndedFirst {J : Type 0} (ends : Child J → EngineValue → EngineValue → Type 0)
+    (old new : EngineValue) (before after : List (Child J)) : Type 0 where
+  pub child : Child J
+  pub is : before ≡ child ∷ after
+  pub end : ends child old new
+
+-- ---- the turns
+
+-- a turn that can be taken: a step may be started, while fewer children than the most run, or there is one to wait for
+abbrev pub IsTurn : {J : Type 0} → ℕ → EngineValue → List (Child J) → Turn → Type 0
+IsTurn most e children (turns.Start i) =
+    (length children < most) × (i < length e.plan.steps) × IsStartable e i
+IsTurn most e children turns.Finish = 0 < length children
+
+-- whether a step has neither finished nor a job, as a number
+abbrev pub weight : Option FinishedValue → ℕ → ℕ
+weight (Some f) count = 0
+weight None zero = 1
+weight None (suc count) = 0
+
+-- how many of the first steps have neither finished nor a job
+abbrev pub waiting_among : ℕ → EngineValue → ℕ
+waiting_among zero e = 0
+waiting_among (suc n) e = weight (finished_in n e) (jobs_of n e.jobs) + waiting_among n e
+
+-- how many turns there can still be
+abbrev pub turns_left : {J : Type 0} → EngineValue → List (Child J) → ℕ
+turns_left e children = 2 * waiting_among (length e.plan.steps) e + length children

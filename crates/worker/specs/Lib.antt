@@ -1,0 +1,7 @@
+pub mod Values
+pub mod Layout
+pub mod Refusals
+pub mod Stores
+pub mod Outcomes
+pub mod Calls
+pub mod Going

@@ -1,0 +1,55 @@
+-- Why a layout or a step of a build is refused.
+use Rattle.std.specs.Prelude.{◌≡◌, ◌⊎◌, ℕ, Bool, List, [], Contains}
+use Rattle.blob_digest.specs.Digest.{DigestValue}
+use Rattle.messages.specs.declared.node.Node.TheVariants as nodes
+use Rattle.blob_source.specs.Source.{Blobs, IsMissing, IsWrong}
+use Rattle.blob_source.specs.Told.{Fault, missing, wrong, malformed}
+use Rattle.blob_source.specs.declared.source.FetchError.{FetchError}
+use Rattle.blob_source.specs.declared.source.FetchError.TheVariants as fetching
+use Rattle.tree.specs.Tree.{Name, a_leaf}
+use Rattle.tree.specs.FlatTree.{FlatValue}
+use Rattle.tree.specs.TreeError.{Explains}
+use Rattle.tree.specs.Unfolded.{IsUnfolded, ExplainsUnfold}
+use Rattle.tree.specs.declared.error.TreeError.{TreeError}
+use Rattle.tree.specs.declared.error.TreeError.TheVariants as trees
+use Rattle.worker.specs.declared.error.Refusal.{Refusal}
+use Rattle.worker.specs.declared.error.Refusal.TheVariants as refusals
+use Rattle.worker.specs.declared.laid.LayoutError.{LayoutError}
+use Rattle.worker.specs.declared.laid.LayoutError.TheVariants as laying
+use Rattle.worker.specs.Layout.{IsLinkAt}
+
+abbrev pub of_fetch : {A : Type 0} → FetchError → Refusal A
+of_fetch fetching.Failed = refusals.Fetch
+of_fetch fetching.Memory = refusals.Memory
+
+-- ---- why nothing is laid out
+
+-- why a blob isn't told under a digest
+abbrev pub FailsBlob : Blobs → DigestValue → Fault → Type 0
+FailsBlob B d (missing e) = (e ≡ d) × IsMissing B d
+FailsBlob B d (wrong e) = (e ≡ d) × IsWrong B d
+FailsBlob B d (malformed e) = ⊥
+
+-- why a blob isn't fetched: it isn't told, unless the source failed or memory ran out
+abbrev pub IsContentFault : {A : Type 0} → Blobs → DigestValue → LayoutError A → Type 0
+IsContentFault B d (laying.Source e) = Explains (FailsBlob B d) e
+IsContentFault B d (laying.LinkInput p) = ⊥
+IsContentFault B d laying.Memory = Unit {0}
+
+-- Why entries aren't laid out: the content of a file among them isn't fetched, or a link is among them.
+abbrev pub IsEntryFault : {A : Type 0} → Blobs → FlatValue → LayoutError A → Type 0
+IsEntryFault B entries (laying.Source e) = (p : List Name) × (d : DigestValue) × (x : Bool)
+    × Contains entries (p, a_leaf (nodes.File d x)) × Explains (FailsBlob B d) e
+IsEntryFault B entries (laying.LinkInput p) = IsLinkAt entries p
+IsEntryFault B entries laying.Memory = Unit {0}
+
+-- why a tree isn't unfolded
+abbrev pub IsTreeFault : {A : Type 0} → Blobs → DigestValue → LayoutError A → Type 0
+IsTreeFault B d (laying.Source e) = ExplainsUnfold B d [] e
+IsTreeFault B d (laying.LinkInput p) = ⊥
+IsTreeFault B d laying.Memory = Unit {0}
+
+-- Why the tree under a digest isn't laid out: it isn't told, or its entries aren't laid out.
+abbrev pub IsLayoutFault : {A : Type 0} → Blobs → DigestValue → LayoutError A → Type 0
+IsLayoutFault B d e = IsTreeFault B d e
+    ⊎ ((entries : FlatValue) × IsUnfolded B d entries × IsEntryFault B entries e)

@@ -1,0 +1,96 @@
+ghost use Rattle.std.specs.Prelude.{◌≡◌, ◌+◌, ◌<◌, ◌≤◌, ℕ, [], OnOk, OnErr, length};
+ghost use Rattle.blob_source.specs.Source.{Telling};
+ghost use Rattle.blob_source.specs.Sink.{KeepsRight};
+ghost use Rattle.runs.specs.Engine.{EngineValue};
+ghost use Rattle.runs.specs.Calls.{HaveAllFinished};
+ghost use Rattle.worker.specs.Calls.{running, IsLed};
+ghost use Rattle.worker.specs.Going.{AreJobsOf, IsJobOf, IsGoing};
+
+use crate::error::BuildError;
+use crate::runner::Runner;
+use crate::turns::{Child, next_turn, take_turn};
+use runs::Engine;
+use std::alloc::Allocator;
+use std::collections::VecDeque;
+use tree::BlobSink;
+
+/// Waits for all children, and loses their jobs.
+fn end_all<A: Allocator + Copy, N: Runner<A>>(
+    alloc: A,
+    engine: &mut Engine<A>,
+    runner: &mut N,
+    children: VecDeque<Child<N::Job>, A>,
+)
+    requires there { AreJobsOf IsJobOf engine.old.jobs children.items }
+    ensures led { (entry : N) (t : Telling) (most : ℕ) (first : EngineValue)
+        → IsGoing A (N.yields entry) N.may_give t most first engine.old children.items
+        → IsLed A (N.yields entry) t most first engine.new }
+    ensures idle { running engine.new.jobs ≡ 0 }
+    ensures alive { (count : ℕ) → N.alive runner.old ≡ count + length children.items
+        → N.alive runner.new ≡ count }
+{
+    let mut rest = children;
+    while let Some(child) = rest.pop_front() {
+        let Child { id, job, .. } = child;
+        let _ = runner.finish(alloc, job);
+        let _ = engine.lose(id);
+    }
+}
+
+/// Takes turns until there is none.
+fn take_turns<A: Allocator + Copy, S: BlobSink<A>, N: Runner<A>>(
+    alloc: A,
+    engine: &mut Engine<A>,
+    sink: &mut S,
+    runner: &mut N,
+    children: &mut VecDeque<Child<N::Job>, A>,
+    jobs: usize,
+) -> Result<(), BuildError<A>>
+    requires some { 0 < jobs }
+    requires idle { running engine.old.jobs ≡ 0 }
+    requires none { children.old.items ≡ [] }
+    ensures going { IsGoing A (N.yields runner.old) N.may_give (S.tells sink.new) jobs
+        engine.old engine.new children.new.items }
+    ensures done { OnOk result (HaveAllFinished engine.new) }
+    ensures ended { OnOk result (children.new.items ≡ []) }
+    ensures right { KeepsRight (S.tells sink.old).blobs (S.tells sink.new).blobs }
+    ensures alive { N.alive runner.new ≡ N.alive runner.old + length children.new.items }
+{
+    while let Some(turn) = next_turn(engine, children, jobs) {
+        take_turn(alloc, engine, sink, runner, children, turn)?;
+    }
+    Ok(())
+}
+
+/// Builds a plan by an engine of which no job runs, with as many children at once as `jobs` says.
+/// While fewer run, the least step that may be started is: its job finishes at once where the store
+/// has a result for its action, and a child runs for it otherwise. Else the child that was started
+/// first is waited for, its blobs are put and its job finishes, and then the result is put. On a
+/// refusal every child is waited for and its job lost.
+pub fn build<A: Allocator + Copy, S: BlobSink<A>, N: Runner<A>>(
+    alloc: A,
+    engine: &mut Engine<A>,
+    sink: &mut S,
+    runner: &mut N,
+    jobs: usize,
+) -> Result<(), BuildError<A>>
+    requires some { 0 < jobs }
+    requires idle { running engine.old.jobs ≡ 0 }
+    // Calls lead to the engine, and at most `jobs` jobs run after each. What a job finishes with is
+    // from the runner or from the store.
+    ensures led { IsLed A (N.yields runner.old) (S.tells sink.new) jobs engine.old engine.new }
+    ensures done { OnOk result (HaveAllFinished engine.new) }
+    ensures idle { running engine.new.jobs ≡ 0 }
+    // Each child that was started was waited for.
+    ensures alive { N.alive runner.new ≡ N.alive runner.old }
+    ensures right { KeepsRight (S.tells sink.old).blobs (S.tells sink.new).blobs }
+{
+    let mut children = VecDeque::new(alloc);
+    match take_turns(alloc, engine, sink, runner, &mut children, jobs) {
+        Ok(()) => Ok(()),
+        Err(error) => {
+            end_all(alloc, engine, runner, children);
+            Err(error)
+        }
+    }
+}

@@ -1,0 +1,92 @@
+ghost use Rattle.std.specs.Prelude.{◌≡◌};
+ghost use Rattle.blob_source.specs.declared.source.FetchError.TheVariants as fetching;
+ghost use Rattle.worker.specs.declared.error.Refusal.TheVariants as refusals;
+ghost use Rattle.worker.specs.Refusals.{of_fetch};
+
+use crate::laid::LayoutError;
+use crate::runner::RunError;
+use runs::RunsError;
+use std::alloc::{AllocError, AllocFailed, Allocator};
+use thiserror::Error;
+use tree::FetchError;
+
+/// Why a step of a build is refused.
+#[derive(Drop, Error)]
+#[derive_where(Debug)]
+pub enum Refusal<A: Allocator> {
+    /// The engine refuses to start the step, or to finish its job.
+    #[error("the step can't be started, or its job not finished")]
+    Engine(RunsError<A>),
+    /// The input of the step can't be laid out.
+    #[error("the input can't be laid out")]
+    Layout(LayoutError<A>),
+    /// The child wasn't started, or came to nothing.
+    #[error("the process wasn't started, or came to nothing")]
+    Run(RunError<A>),
+    /// The store failed, and counted that.
+    #[error("the store failed")]
+    Fetch,
+    /// No memory was left.
+    #[error("out of memory")]
+    Memory,
+}
+
+/// Why a build ends, and at which step.
+#[derive(Drop, Error)]
+#[derive_where(Debug)]
+#[error("a step was refused")]
+pub struct BuildError<A: Allocator> {
+    pub step: usize,
+    pub refusal: Refusal<A>,
+}
+
+impl<A: Allocator> From<AllocError> for Refusal<A> {
+    ghost from_gives = { λ _ e. e ≡ refusals.Memory };
+
+    fn from(_e: AllocError) -> Refusal<A> {
+        Refusal::Memory
+    }
+}
+
+impl<A: Allocator, T: Drop> From<AllocFailed<T>> for Refusal<A> {
+    ghost from_gives = { λ _ e. e ≡ refusals.Memory };
+
+    fn from(_e: AllocFailed<T>) -> Refusal<A> {
+        Refusal::Memory
+    }
+}
+
+impl<A: Allocator> From<FetchError> for Refusal<A> {
+    ghost from_gives = { λ error e. e ≡ of_fetch error };
+
+    fn from(error: FetchError) -> Refusal<A> {
+        match error {
+            FetchError::Failed => Refusal::Fetch,
+            FetchError::Memory => Refusal::Memory,
+        }
+    }
+}
+
+impl<A: Allocator> From<RunsError<A>> for Refusal<A> {
+    ghost from_gives = { λ error e. e ≡ refusals.Engine error };
+
+    fn from(error: RunsError<A>) -> Refusal<A> {
+        Refusal::Engine(error)
+    }
+}
+
+impl<A: Allocator> From<LayoutError<A>> for Refusal<A> {
+    ghost from_gives = { λ error e. e ≡ refusals.Layout error };
+
+    fn from(error: LayoutError<A>) -> Refusal<A> {
+        Refusal::Layout(error)
+    }
+}
+
+impl<A: Allocator> From<RunError<A>> for Refusal<A> {
+    ghost from_gives = { λ error e. e ≡ refusals.Run error };
+
+    fn from(error: RunError<A>) -> Refusal<A> {
+        Refusal::Run(error)
+    }
+}

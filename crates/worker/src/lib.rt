@@ -1,0 +1,16 @@
+//! The worker of a build: what is laid out for a step, what starts and finishes children, and the
+//! build of a plan by an engine, a store and a runner.
+#![tactic(auto)]
+
+mod building;
+mod error;
+mod laid;
+mod laying_out;
+mod runner;
+mod turns;
+
+pub use building::build;
+pub use error::{BuildError, Refusal};
+pub use laid::{Layout, LayoutError};
+pub use laying_out::layout;
+pub use runner::{Produced, RunError, Runner};

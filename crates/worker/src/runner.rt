@@ -1,0 +1,107 @@
+ghost use Rattle.std.specs.Prelude.{◌≡◌, ◌+◌, ◌-◌, ◌<◌, ℕ, IfOk, IsErrOf, OnOk, OnErr};
+ghost use Rattle.worker.specs.declared.runner.RunError.TheVariants as errors;
+ghost use Rattle.worker.specs.Outcomes.{IsWithin};
+ghost use Rattle.worker.specs.Values.{IsAbsolute};
+
+use crate::laid::Layout;
+use actions::{Command, Outcome};
+use messages::Path;
+use std::alloc::{AllocError, AllocFailed, Allocator};
+use std::marker::Model;
+use thiserror::Error;
+
+/// What a child came to: its outcome, and the blobs to which it refers.
+#[derive(Drop)]
+pub struct Produced<A: Allocator> {
+    pub outcome: Outcome<A>,
+    pub blobs: Vec<Vec<u8, A>, A>,
+}
+
+impl<A: Allocator> Model for Produced<A> {
+    ghost use Rattle.worker.specs.Values.{ProducedValue, blobs_of};
+
+    ghost Value = { ProducedValue };
+
+    ghost view = { λ a. record { outcome = a.outcome; blobs = blobs_of a.blobs.items } };
+}
+
+/// Why a child isn't started, or came to nothing.
+#[derive(Drop, Error)]
+#[derive_where(Debug)]
+pub enum RunError<A: Allocator> {
+    /// Refusal 112: the first argument doesn't begin with a slash.
+    #[error("the program isn't named by a path from the root")]
+    NotAbsolute,
+    /// Refusal 113, which is counted. A runner whose count is full answers `Memory` instead.
+    #[error("the runner failed")]
+    Device,
+    /// Refusal 114: what stands at the path is no output.
+    #[error("what stands at an output path is no output")]
+    BadOutput(Path<A>),
+    /// No memory was left.
+    #[error("out of memory")]
+    Memory,
+}
+
+impl<A: Allocator> From<AllocError> for RunError<A> {
+    ghost from_gives = { λ _ e. e ≡ errors.Memory };
+
+    fn from(_e: AllocError) -> RunError<A> {
+        RunError::Memory
+    }
+}
+
+impl<A: Allocator, T: Drop> From<AllocFailed<T>> for RunError<A> {
+    ghost from_gives = { λ _ e. e ≡ errors.Memory };
+
+    fn from(_e: AllocFailed<T>) -> RunError<A> {
+        RunError::Memory
+    }
+}
+
+/// What starts and finishes children.
+pub trait Runner<A: Allocator> {
+    /// A child that was started.
+    type Job: Drop;
+
+    ghost use Rattle.action_messages.specs.Command.{CommandValue};
+    ghost use Rattle.worker.specs.Values.{LayoutValue, ProducedValue};
+
+    /// What may come of a layout and a command.
+    ghost yields: { Self → LayoutValue → CommandValue → ProducedValue → Type 0 };
+
+    /// What may come of a child. It is the child's own: no later call changes it.
+    ghost may_give: { Self.Job → ProducedValue → Type 0 };
+
+    /// How many children were started and not yet waited for.
+    ghost alive: { Self → ℕ };
+
+    /// How often it failed.
+    ghost failures: { Self → ℕ };
+
+    /// Starts a child for a command in a layout. After an error none was started.
+    fn start(
+        &mut self,
+        alloc: A,
+        layout: &Layout<A>,
+        command: &Command<A>,
+    ) -> Result<Self::Job, RunError<A>>
+        ensures gives { IfOk result (λ job. (p : ProducedValue)
+            → may_give job p → yields self.new layout.now command.now p) }
+        ensures same { IsWithin (yields self.new) (yields self.old) }
+        ensures opened { OnOk result (alive self.new ≡ alive self.old + 1) }
+        ensures unopened { OnErr result (alive self.new ≡ alive self.old) }
+        ensures refused { IsErrOf result RunError.NotAbsolute → IsAbsolute command.now → ⊥ }
+        ensures failed { IsErrOf result RunError.Device → failures self.old < failures self.new }
+        ensures unfailed { (IsErrOf result RunError.Device → ⊥)
+            → failures self.new ≡ failures self.old };
+
+    /// Waits for a child, which is spent also where the call is refused.
+    fn finish(&mut self, alloc: A, job: Self::Job) -> Result<Produced<A>, RunError<A>>
+        ensures gave { IfOk result (may_give job) }
+        ensures same { IsWithin (yields self.new) (yields self.old) }
+        ensures closed { alive self.new ≡ alive self.old - 1 }
+        ensures failed { IsErrOf result RunError.Device → failures self.old < failures self.new }
+        ensures unfailed { (IsErrOf result RunError.Device → ⊥)
+            → failures self.new ≡ failures self.old };
+}
