@@ -59,6 +59,17 @@ build_library() {
 }
 
 mapfile -t order < <(below buildcache | awk '!seen[$0]++')
+
+# How many crates stand above a crate, one on the other: the greatest first, since the rest waits for these.
+declare -A height=()
+for ((at = ${#order[@]} - 1; at >= 0; at--)); do
+  it=${order[at]}
+  for low in $(below "$it"); do
+    above=$((${height[$it]:-0} + 1))
+    [ "${height[$low]:-0}" -ge "$above" ] || height[$low]=$above
+  done
+done
+mapfile -t order < <(for it in "${order[@]}"; do echo "${height[$it]:-0} $it"; done | sort -s -k1,1nr | cut -d' ' -f2)
 total=$((${#order[@]} + 1))
 lanes=$(nproc)
 in_memory=$(awk '/^MemAvailable:/ { print int($2 / 2500000) }' /proc/meminfo)
@@ -90,9 +101,11 @@ while [ "${#built[@]}" -lt "${#order[@]}" ]; do
   for it in "${order[@]}"; do
     [ -n "${built[$it]+set}" ] || [ -n "${running[$it]+set}" ] || ! is_ready "$it" || ready+=("$it")
   done
+  first=${ready[0]:-}
   for it in "${ready[@]}"; do
     [ "${#running[@]}" -lt "$at_once" ] || break
     jobs=$((lanes / (${#running[@]} + ${#ready[@]})))
+    [ "$it" != "$first" ] || [ "$jobs" -gt 1 ] || jobs=$((lanes > 1 ? 2 : 1))
     count=$((count + 1))
     echo "buildcache: proving crate $count of $total: $it" >&2
     where=in-room
