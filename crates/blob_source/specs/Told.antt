@@ -6,12 +6,14 @@ use Rattle.messages.specs.Directory.{directory_bytes}
 use Rattle.blob_source.specs.Source.{Blobs, IsBlobUnder, IsMissing, IsWrong}
 
 -- The message told under a digest keeps its rules, and its encoding is the blob there.
-pub record IsTold {M : Type 0} (keeps : M → Type 0) (spells : M → List ℕ) (B : Blobs) (d : DigestValue) (m : M) : Type 0 where
+pub record IsTold {M : Type 0}
+    (keeps : M → Type 0) (spells : M → List ℕ) (B : Blobs) (d : DigestValue) (m : M) : Type 0 where
   pub lawful : keeps m
   pub blob : IsBlobUnder B d (spells m)
 
 -- the blob there is the encoding of no message of the kind
-pub record IsMalformed {M : Type 0} (keeps : M → Type 0) (spells : M → List ℕ) (B : Blobs) (d : DigestValue) : Type 0 where
+pub record IsMalformed {M : Type 0}
+    (keeps : M → Type 0) (spells : M → List ℕ) (B : Blobs) (d : DigestValue) : Type 0 where
   pub bytes : List ℕ
   pub blob : IsBlobUnder B d bytes
   pub no_message : (m : M) → keeps m → bytes ≢ spells m
@@ -22,7 +24,8 @@ pub data Fault : Type 0 where
   wrong : DigestValue → Fault
   malformed : DigestValue → Fault
 
-abbrev pub IsFault : {M : Type 0} → (M → Type 0) → (M → List ℕ) → Blobs → DigestValue → Fault → Type 0
+abbrev pub IsFault : {M : Type 0}
+    → (M → Type 0) → (M → List ℕ) → Blobs → DigestValue → Fault → Type 0
 IsFault keeps spells B d (missing e) = (e ≡ d) × IsMissing B d
 IsFault keeps spells B d (wrong e) = (e ≡ d) × IsWrong B d
 IsFault keeps spells B d (malformed e) = (e ≡ d) × IsMalformed keeps spells B d

@@ -77,8 +77,8 @@ Moves old bytes event new =
 
 -- a session takes a front of the piece, at most to the end of a request
 pub record Takes
-    (old : SessionValue) (piece : List ℕ) (taken : ℕ) (event : Option EventValue) (new : SessionValue)
-    : Type 0 where
+    (old : SessionValue) (piece : List ℕ) (taken : ℕ)
+    (event : Option EventValue) (new : SessionValue) : Type 0 where
   pub some : 0 < taken
   pub within : taken ≤ length piece
   pub moves : Moves old (take taken piece) event new
