@@ -3,7 +3,7 @@ use Rattle.std.proofs.Common.{◌≡◌, ℕ, suc, ◌+◌, ◌<◌, ◌≤◌, 
 use Rattle.std.proofs.lemmas.List.{append-nil}
 use Rattle.http_core.specs.Block.{empty_line, EndsBlock, HasNoBlock, IsBlock}
 use Rattle.http_core.proofs.Lists.{IsShorter, compare_fronts, same_fronts}
-use Rattle.remote.specs.Steps.{IsWanting}
+use Rattle.remote.specs.Steps.{WantsMore}
 
 -- the bytes don't end so
 abbrev pub IsNoTail : List ℕ → List ℕ → Type 0
@@ -63,7 +63,7 @@ is_empty (x ∷ xs) e = absurd (not_zero (length xs) e)
     not_zero n e = omega arith
 
 -- so many bytes came as are missing at least
-pub ends_last_more : (bytes came new : List ℕ) (count : ℕ) → EndsLast bytes → IsWanting bytes count → 0 < count → length came ≤ count → new ≡ bytes ++ came → EndsLast new
+pub ends_last_more : (bytes came new : List ℕ) (count : ℕ) → EndsLast bytes → WantsMore bytes count → 0 < count → length came ≤ count → new ≡ bytes ++ came → EndsLast new
 ends_last_more bytes came new count last wants some few is front rest e h = elim (compare_fronts bytes came front rest (sym is ∙ e)) [
   | inl s ↦ within s
   | inr s ↦ absurd (before s)
@@ -84,13 +84,13 @@ ends_last_more bytes came new count last wants some few is front rest e h = elim
         omega (arith, n, some)
 
 -- no byte is missing
-pub block_ended : (bytes : List ℕ) (count : ℕ) → EndsLast bytes → IsWanting bytes count → count ≡ 0 → IsBlock bytes
+pub block_ended : (bytes : List ℕ) (count : ℕ) → EndsLast bytes → WantsMore bytes count → count ≡ 0 → IsBlock bytes
 block_ended bytes count last wants zero =
     let none : wants.more ≡ [] = is_empty wants.more (wants.many ∙ zero) in
     record { ends = subst EndsBlock (ap (λ z. bytes ++ z) none ∙ append-nil bytes) wants.ends; first = last }
 
 -- some byte is missing
-pub none_ended : (bytes : List ℕ) (count : ℕ) → EndsLast bytes → IsWanting bytes count → 0 < count → HasNoBlock bytes
+pub none_ended : (bytes : List ℕ) (count : ℕ) → EndsLast bytes → WantsMore bytes count → 0 < count → HasNoBlock bytes
 none_ended bytes count last wants some front rest e h =
     let none : rest ≡ [] = last front rest e h in
     let same : bytes ≡ front = e ∙ ap (λ z. front ++ z) none ∙ append-nil front in

@@ -13,16 +13,16 @@ use Rattle.remote.specs.declared.table.Table.{Table}
 use Rattle.remote.specs.Table.{HasAnswer, IsSameBut, KeepsAnswers, told_by}
 
 -- the error tells of the file at this path
-abbrev pub IsFaultOf : {A : Type 0} → List ℕ → FileError A → Type 0
-IsFaultOf path (Io p fault) = string_bytes p ≡ path
-IsFaultOf path (NotAFile p) = string_bytes p ≡ path
-IsFaultOf path (TooLarge p) = string_bytes p ≡ path
-IsFaultOf path Memory = ⊥
+abbrev pub IsFaultAt : {A : Type 0} → List ℕ → FileError A → Type 0
+IsFaultAt path (Io p fault) = string_bytes p ≡ path
+IsFaultAt path (NotAFile p) = string_bytes p ≡ path
+IsFaultAt path (TooLarge p) = string_bytes p ≡ path
+IsFaultAt path Memory = ⊥
 
 -- the error tells of the file at this path, or of want of memory
 abbrev pub IsErrorOf : {A : Type 0} → List ℕ → FileError A → Type 0
 IsErrorOf path Memory = Unit {0}
-IsErrorOf path e = IsFaultOf path e
+IsErrorOf path e = IsFaultAt path e
 
 -- the file for a digest in a part of the store: FOLDER/PART/HASH, with the 64 hex digits that the
 -- digest's text begins with
@@ -64,7 +64,7 @@ pub record IsFreshFolder {R A : Type 0} (place : List ℕ) (s : FolderSource R A
 
 -- A call that asked for the file at a path, of this digest. What is kept is told without the file,
 -- so that no fault of it is a failure.
-pub record LooksIn {A : Type 0}
+pub record LooksInFolder {A : Type 0}
     (path : List ℕ) (d : DigestValue) (old new : Option (FileError A)) (before after : Table A)
     (result : Result (Option (Vec ℕ A)) FetchError) : Type 0 where
   pub kept : HasAnswer before d → IsErrOf result Failed → ⊥
@@ -72,5 +72,5 @@ pub record LooksIn {A : Type 0}
   pub held : IfOk result (λ answer. HasAnswer after d)
   pub unheld : OnErr result (KeepsAnswers before after)
   pub others : IsSameBut d before after
-  pub failed : IsErrOf result Failed → IfSome new (IsFaultOf path)
+  pub failed : IsErrOf result Failed → IfSome new (IsFaultAt path)
   pub unfailed : (IsErrOf result Failed → ⊥) → new ≡ old

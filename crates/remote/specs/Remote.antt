@@ -33,7 +33,7 @@ abbrev pub results_of : {S A : Type 0} → Remote S A → Table A
 results_of r = r.results
 
 -- nothing was asked so far
-pub record IsFresh {S A : Type 0}
+pub record IsFreshRemote {S A : Type 0}
     (flow : S → Flow) (stream : S) (host prefix : List ℕ) (r : Remote S A) : Type 0 where
   pub stream_is : (connection_of flow r).flow ≡ flow stream
   pub host_is : (connection_of flow r).host ≡ host
@@ -64,8 +64,8 @@ pub record LooksUp {A : Type 0}
 
 -- a call that put the bytes under the digest in the area, and kept that
 pub record Stores {A T : Type 0}
-    (area : Area) (d : DigestValue) (bytes : List ℕ) (old new : ConnectionValue) (before after : Table A)
-    (result : Result T FetchError) : Type 0 where
+    (area : Area) (d : DigestValue) (bytes : List ℕ) (old new : ConnectionValue)
+    (before after : Table A) (result : Result T FetchError) : Type 0 where
   pub taken : OnOk result (Puts old new area d.hash bytes)
   pub refused : IfErr result (RefusesRequest old new (put area d.hash bytes))
   pub held : OnOk result (HasAnswer after d)

@@ -17,7 +17,7 @@ use Rattle.remote.specs.Table.{HasAnswer, IsSameBut, KeepsAnswers, told_by}
 -- ---- bytes
 
 -- The bytes end a block with so many more, and with no fewer.
-pub record IsWanting (bytes : List ℕ) (count : ℕ) : Type 0 where
+pub record WantsMore (bytes : List ℕ) (count : ℕ) : Type 0 where
   pub fewest : (more : List ℕ) → EndsBlock (bytes ++ more) → count ≤ length more
   pub more : List ℕ
   pub ends : EndsBlock (bytes ++ more)
@@ -89,7 +89,8 @@ pub record KeepsAnswer {A : Type 0}
 
 -- the bytes are kept, and the connection is as it was
 pub record KeepsBytes {A : Type 0}
-    (old new : Table A) (from to : ConnectionValue) (d : DigestValue) (bytes : List ℕ) : Type 0 where
+    (old new : Table A) (from to : ConnectionValue) (d : DigestValue) (bytes : List ℕ)
+    : Type 0 where
   pub keeps : KeepsAnswer old new d (Some bytes)
   pub connection : to ≡ from
 

@@ -25,12 +25,13 @@ pub(crate) fn look_up<S: Stream + Drop, A: Allocator + Copy>(
     ensures held { IfOk result (λ _. HasAnswer table.new digest.now) }
     ensures kept { HasAnswer table.old digest.now → IfOk result
         (λ _. line_of S.flow line.new ≡ line_of S.flow line.old) }
-    ensures silent { HasAnswer table.old digest.now → S.flow line.new.stream ≡ S.flow line.old.stream }
+    ensures silent { HasAnswer table.old digest.now
+        → S.flow line.new.stream ≡ S.flow line.old.stream }
     ensures asked { (HasAnswer table.old digest.now → ⊥) → IfOk result (λ answer. Gets
         (line_of S.flow line.old)
         (line_of S.flow line.new) area digest.now.hash (bytes_of answer)) }
-    ensures refused { IfErr result (RefusesRequest (line_of S.flow line.old) (line_of S.flow line.new)
-        (get area digest.now.hash)) }
+    ensures refused { IfErr result (RefusesRequest
+        (line_of S.flow line.old) (line_of S.flow line.new) (get area digest.now.hash)) }
     ensures same { HasAnswer table.old digest.now → KeepsAnswers table.old table.new }
     ensures unheld { OnErr result (KeepsAnswers table.old table.new) }
     ensures others { IsSameBut digest.now table.old table.new }

@@ -1,8 +1,8 @@
-ghost use Rattle.remote.specs.Steps.{IsWanting};
+ghost use Rattle.remote.specs.Steps.{WantsMore};
 
 /// How many bytes are missing at least until a block ends: none, where one does.
 pub(crate) fn wanting(block: &[u8]) -> usize
-    ensures { IsWanting block.now result }
+    ensures { WantsMore block.now result }
 {
     if block.ends_with(b"\r\n\r\n") {
         0

@@ -2,7 +2,7 @@ ghost use Rattle.std.specs.Prelude.{◌≡◌, ◌≢◌, ◌+◌, ◌≤◌, If
 ghost use Rattle.std.specs.Prelude.{codes, string_bytes};
 ghost use Rattle.blob_source.specs.Called.{Calls};
 ghost use Rattle.blob_source.specs.Source.{AsksBlob, AsksResult, GrowsAt, bytes_of, greatest_count};
-ghost use Rattle.remote.specs.Folder.{IsErrorOf, IsFaultOf, IsFreshFolder, LooksIn, entry_path};
+ghost use Rattle.remote.specs.Folder.{IsErrorOf, IsFaultAt, IsFreshFolder, LooksInFolder, entry_path};
 ghost use Rattle.remote.specs.Folder.{blobs_of, error_of, place_of, results_of, telling_of};
 ghost use Rattle.remote.specs.Table.{HasAnswer, IsSameBut, KeepsAnswers, told_by};
 ghost use Rattle.remote.specs.declared.files.FileError.TheVariants as errors;
@@ -111,7 +111,7 @@ impl<'r, R: Files + Alloc<A = A>, A: Allocator + Copy> Folder<'r, R, A> {
         ensures unheld { OnErr result (KeepsAnswers table.old table.new) }
         ensures others { IsSameBut digest.now table.old table.new }
         ensures failed { IsErrOf result FetchError.Failed → IfSome self.new.error
-            (IsFaultOf (entry_path (string_bytes self.old.place) part.now digest.now)) }
+            (IsFaultAt (entry_path (string_bytes self.old.place) part.now digest.now)) }
         ensures counted { IsErrOf result FetchError.Failed
             → self.new.failures ≡ self.old.failures + 1 }
         ensures unfailed { (IsErrOf result FetchError.Failed → ⊥) → self.new ≡ self.old }
@@ -156,7 +156,8 @@ impl<'r, R: Files + Alloc<A = A>, A: Allocator + Copy> BlobSource<A> for FolderS
             (λ answer. bytes_of answer ≡ (telling_of self.new).blobs digest.now) }
         ensures called { Calls (AsksBlob digest.now) (telling_of self.old) (telling_of self.new)
             (IsErrOf result FetchError.Failed) }
-        ensures looked { LooksIn (entry_path (place_of self.old) (codes "cas") digest.now) digest.now
+        ensures looked { LooksInFolder
+            (entry_path (place_of self.old) (codes "cas") digest.now) digest.now
             (error_of self.old) (error_of self.new) (blobs_of self.old) (blobs_of self.new) result }
         ensures untouched { results_of self.new ≡ results_of self.old }
         ensures placed { place_of self.new ≡ place_of self.old }
@@ -170,9 +171,10 @@ impl<'r, R: Files + Alloc<A = A>, A: Allocator + Copy> BlobSource<A> for FolderS
             (λ answer. bytes_of answer ≡ (telling_of self.new).results digest.now) }
         ensures called { Calls (AsksResult digest.now) (telling_of self.old) (telling_of self.new)
             (IsErrOf result FetchError.Failed) }
-        ensures looked { LooksIn (entry_path (place_of self.old) (codes "ac") digest.now) digest.now
-            (error_of self.old) (error_of self.new) (results_of self.old) (results_of self.new)
-            result }
+        ensures looked { LooksInFolder
+            (entry_path (place_of self.old) (codes "ac") digest.now) digest.now
+            (error_of self.old) (error_of self.new)
+            (results_of self.old) (results_of self.new) result }
         ensures untouched { blobs_of self.new ≡ blobs_of self.old }
         ensures placed { place_of self.new ≡ place_of self.old }
     {

@@ -3,7 +3,7 @@ ghost use Rattle.blob_digest.specs.Digest.{digest_of};
 ghost use Rattle.blob_source.specs.Called.{Calls};
 ghost use Rattle.blob_source.specs.Sink.{PutsBlob, PutsResult, IsPut};
 ghost use Rattle.blob_source.specs.Source.{AsksBlob, AsksResult, bytes_of};
-ghost use Rattle.remote.specs.Remote.{IsFresh, LooksUp, Stores, blobs_of, connection_of, results_of, telling_of};
+ghost use Rattle.remote.specs.Remote.{IsFreshRemote, LooksUp, Stores, blobs_of, connection_of, results_of, telling_of};
 
 use crate::asking::{keep_bytes, look_up};
 use crate::fault::Fault;
@@ -34,7 +34,7 @@ impl<S: Stream + Drop, A: Allocator + Copy> Remote<S, A> {
         host: &Host<A>,
         prefix: &Prefix<A>,
     ) -> Result<Remote<S, A>, AllocError>
-        ensures { IfOk result (IsFresh S.flow stream host.now prefix.now) }
+        ensures { IfOk result (IsFreshRemote S.flow stream host.now prefix.now) }
     {
         Ok(Remote {
             line: Line {

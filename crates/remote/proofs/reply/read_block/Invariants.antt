@@ -2,13 +2,13 @@ use Rattle.std.proofs.Common.{◌≤◌, ◌-◌, length}
 use Rattle.remote.specs.Flow.{Receives}
 use Rattle.remote.proofs.Endings.{EndsLast}
 use Rattle.remote.proofs.reply.read_block.Given as goal
-use Rattle.remote.specs.Steps.{IsWanting}
+use Rattle.remote.specs.Steps.{WantsMore}
 
 abbrev pub invariant-loop-missing : goal.invariant-loop-missing
 invariant-loop-missing g l = record {
   read : Receives (g.S.Stream.flow l.fn.stream) (g.S.Stream.flow l.stream) l.block.items;
   last : EndsLast l.block.items;
-  wants : IsWanting l.block.items l.missing;
+  wants : WantsMore l.block.items l.missing;
   fits : length l.block.items ≤ 16384;
 }
 
