@@ -8,7 +8,7 @@ use Rattle.http_core.specs.Stream.{Cuts}
 use Rattle.http_core.specs.Session.{State, Closed, SessionValue, Stands, Feeds, Leaves, Holds}
 use Rattle.http_core.proofs.Cutting.{cut_within, HasMore, empty_partial}
 use Rattle.cache_server.specs.Cache.{CacheValue}
-use Rattle.cache_server.specs.Serving.{Serves}
+use Rattle.cache_server.specs.Serving.{ServesAll}
 use Rattle.cache_server.specs.Writing.{TellsAll, TellsSome}
 use Rattle.cache_server.specs.Connection.{Runs, RunsSome, Exchanges, ExchangesSome}
 use Rattle.cache_server.proofs.Serving.{serves_none, serves_join}
@@ -81,7 +81,7 @@ unflushed old new stream before events cache after written mid more piece same t
       left = d.0;
       whole = sym (append-nil piece);
       cut = subst (λ z. Cuts z (stream ++ piece) (before ++ events) d.0) same d.1;
-      served = subst (λ z. Serves cache events z after) (sym (append-nil all.text)) all.served;
+      served = subst (λ z. ServesAll cache events z after) (sym (append-nil all.text)) all.served;
       appends = appends_kept written mid more all.text all.appends k;
     }
 
@@ -107,7 +107,7 @@ pub record RunsOn (prefix : List ℕ) (old : CacheValue) (input input_left writt
   pub consumes : Consumes input input_left read
   pub appends : Appends written_before written text
   pub stands : Stands session read before
-  pub served : Serves old before text now
+  pub served : ServesAll old before text now
 
 unfoldable pub runs_first : (prefix : List ℕ) (old : CacheValue) (input written : Option (List ℕ)) (session : SessionValue) → session.prefix ≡ prefix → Stands session [] [] → RunsOn prefix old input input written written session old
 runs_first prefix old input written session same s = record { read = []; text = []; before = []; same = same; consumes = Consumes-nil input; appends = Appends-nil written; stands = s; served = serves_none old }
@@ -160,7 +160,7 @@ runs_stopped prefix old input left more written_before written session now r kep
       left = c.0;
       consumes = subst (Consumes input more) (sym (append-nil r.read)) (Consumes-kept input left more r.read r.consumes kept);
       appends = r.appends;
-      answered = record { events = r.before; cut = subst (λ z. Cuts z r.read r.before c.0) r.same c.1; served = subst (λ z. Serves old r.before z now) (sym (append-nil r.text)) r.served };
+      answered = record { events = r.before; cut = subst (λ z. Cuts z r.read r.before c.0) r.same c.1; served = subst (λ z. ServesAll old r.before z now) (sym (append-nil r.text)) r.served };
     }
 
 -- given up within a piece
@@ -178,7 +178,7 @@ runs_broken prefix old input left more written_before written written_more sessi
   answered = record {
     events = r.before ++ x.done;
     cut = subst (λ z. Cuts z (r.read ++ x.front) (r.before ++ x.done) x.left) r.same x.cut;
-    served = subst (λ z. Serves old (r.before ++ x.done) z after) (sym (append_assoc r.text x.told x.lost)) (serves_join old now after r.before x.done r.text (x.told ++ x.lost) r.served x.served);
+    served = subst (λ z. ServesAll old (r.before ++ x.done) z after) (sym (append_assoc r.text x.told x.lost)) (serves_join old now after r.before x.done r.text (x.told ++ x.lost) r.served x.served);
   };
 }
 

@@ -9,7 +9,7 @@ use Rattle.http_core.specs.Stream.{Cuts}
 use Rattle.cache_server.specs.Cache.{CacheValue, Step, step}
 use Rattle.cache_server.specs.Counts.{CountsFront, IsStatusOf, after_event, count_all, count_event}
 use Rattle.cache_server.specs.Connection.{RunsCounting, RunsSomeCounting, ExchangesCounting, ExchangesSomeCounting, ExchangesSome}
-use Rattle.cache_server.specs.Serving.{Serves, ServesOne}
+use Rattle.cache_server.specs.Serving.{ServesAll, ServesOne}
 use Rattle.cache_server.specs.Writing.{Tells, MayTell, TellsSomeCounting}
 use Rattle.cache_server.specs.declared.counts.Counts.{Counts}
 use Rattle.cache_server.specs.declared.error.ConnError.{ConnError}
@@ -29,9 +29,9 @@ after_is old new (Refused status close) text (reply, shut, (is, same, kept), e) 
 
 -- ---- many
 
-pub count_join : (c : Counts) (old mid : CacheValue) (done events : List EventValue) (text : List ℕ) → Serves old done text mid
+pub count_join : (c : Counts) (old mid : CacheValue) (done events : List EventValue) (text : List ℕ) → ServesAll old done text mid
     → count_all c old (done ++ events) ≡ count_all (count_all c old done) mid events
-unfolding Serves count_all
+unfolding ServesAll count_all
 count_join c old mid [] events text (e, f) = ap (λ z. count_all c z events) (sym f)
 count_join c old mid (event ∷ done) events text (first, others, between, one, rest, e) =
     let is : after_event old event ≡ between = after_is old between event first one in

@@ -5,27 +5,27 @@ use Rattle.http_core.specs.Event.{EventValue}
 use Rattle.http_core.specs.Stream.{Cuts}
 use Rattle.http_core.proofs.Cutting.{cut_once, cut_within, HasMore}
 use Rattle.cache_server.specs.Cache.{CacheValue}
-use Rattle.cache_server.specs.Serving.{Serves}
-use Rattle.cache_server.specs.History.{Entry, Piece, Fail, End, is_end, is_fail, bytes_of, stream_of, has_failed, Gains, Completes, CompletesAll, CacheAfter, Answers}
+use Rattle.cache_server.specs.Serving.{ServesAll}
+use Rattle.cache_server.specs.History.{HistoryEntry, Piece, Fail, End, is_end, is_fail, bytes_over, stream_of, has_failed, Gains, Brings, BringsAll, CacheAfter, Answers}
 use Rattle.cache_server.proofs.Histories.{stream_more}
 use Rattle.cache_server.proofs.Serving.{serves_join}
 
-pub completes_more : (prefix : List ℕ) (before history : List Entry) (entry : Entry) (events first : List EventValue)
-    → CompletesAll prefix before history events → Completes prefix (before ++ history) entry first → CompletesAll prefix before (history ++ entry ∷ []) (events ++ first)
-unfolding CompletesAll
+pub completes_more : (prefix : List ℕ) (before history : List HistoryEntry) (entry : HistoryEntry) (events first : List EventValue)
+    → BringsAll prefix before history events → Brings prefix (before ++ history) entry first → BringsAll prefix before (history ++ entry ∷ []) (events ++ first)
+unfolding BringsAll
 completes_more prefix before [] entry events first e c =
-    (first, [], subst (λ z. Completes prefix z entry first) (append-nil before) c, refl, ap (λ z. z ++ first) e ∙ sym (append-nil first))
+    (first, [], subst (λ z. Brings prefix z entry first) (append-nil before) c, refl, ap (λ z. z ++ first) e ∙ sym (append-nil first))
 completes_more prefix before (item ∷ history) entry events first (own, others, one, rest, e) c =
-    (own, others ++ first, one, completes_more prefix (before ++ item ∷ []) history entry others first rest (subst (λ z. Completes prefix z entry first) (sym (append_assoc before (item ∷ []) history)) c), ap (λ z. z ++ first) e ∙ append_assoc own others first)
+    (own, others ++ first, one, completes_more prefix (before ++ item ∷ []) history entry others first rest (subst (λ z. Brings prefix z entry first) (sym (append_assoc before (item ∷ []) history)) c), ap (λ z. z ++ first) e ∙ append_assoc own others first)
 
-pub cache_more : (prefix : List ℕ) (opening before after : CacheValue) (history : List Entry) (entry : Entry) (events : List EventValue) (text : List ℕ)
-    → CacheAfter prefix opening history before → Completes prefix history entry events → Serves before events text after → CacheAfter prefix opening (history ++ entry ∷ []) after
+pub cache_more : (prefix : List ℕ) (opening before after : CacheValue) (history : List HistoryEntry) (entry : HistoryEntry) (events : List EventValue) (text : List ℕ)
+    → CacheAfter prefix opening history before → Brings prefix history entry events → ServesAll before events text after → CacheAfter prefix opening (history ++ entry ∷ []) after
 unfolding CacheAfter
 cache_more prefix opening before after history entry events text (earlier, told, all, served) c s =
     (earlier ++ events, told ++ text, completes_more prefix [] history entry earlier events all c, serves_join opening before after earlier events told text served s)
 
-pub answers_are : (prefix : List ℕ) (opening before after : CacheValue) (history : List Entry) (entry : Entry) (events : List EventValue) (text : List ℕ)
-    → CacheAfter prefix opening history before → Completes prefix history entry events → Serves before events text after → Answers prefix opening history entry text
+pub answers_are : (prefix : List ℕ) (opening before after : CacheValue) (history : List HistoryEntry) (entry : HistoryEntry) (events : List EventValue) (text : List ℕ)
+    → CacheAfter prefix opening history before → Brings prefix history entry events → ServesAll before events text after → Answers prefix opening history entry text
 unfolding Answers
 answers_are prefix opening before after history entry events text b c s = (events, before, after, b, c, s)
 
@@ -35,10 +35,10 @@ same_key k = grind arith
 other_key : (j k : ℕ) → (j ≡ k → ⊥) → (j == k) ≡ false
 other_key j k h = grind arith
 
-pub own_bytes : (k : ℕ) (bytes : List ℕ) → bytes_of k (Piece k bytes) ≡ bytes
+pub own_bytes : (k : ℕ) (bytes : List ℕ) → bytes_over k (Piece k bytes) ≡ bytes
 own_bytes k bytes = ap (λ b. if b then bytes else []) (same_key k)
 
-pub other_bytes : (j k : ℕ) (bytes : List ℕ) → (j ≡ k → ⊥) → bytes_of j (Piece k bytes) ≡ []
+pub other_bytes : (j k : ℕ) (bytes : List ℕ) → (j ≡ k → ⊥) → bytes_over j (Piece k bytes) ≡ []
 other_bytes j k bytes h = ap (λ b. if b then bytes else []) (other_key j k h)
 
 pub own_fail : (k : ℕ) → is_fail k (Fail k) ≡ true
@@ -53,21 +53,21 @@ own_end k = same_key k
 pub other_end : (j k : ℕ) → (j ≡ k → ⊥) → is_end j (End k) ≡ false
 other_end j k h = other_key j k h
 
-pub stream_open : (k : ℕ) (history : List Entry) (bytes : List ℕ) → has_failed k history ≡ false → stream_of k (history ++ Piece k bytes ∷ []) ≡ stream_of k history ++ bytes
+pub stream_open : (k : ℕ) (history : List HistoryEntry) (bytes : List ℕ) → has_failed k history ≡ false → stream_of k (history ++ Piece k bytes ∷ []) ≡ stream_of k history ++ bytes
 stream_open k history bytes open_ =
-    stream_more k history (Piece k bytes) refl ∙ ap (λ b. if b then stream_of k history else stream_of k history ++ bytes_of k (Piece k bytes)) open_ ∙ ap (λ z. stream_of k history ++ z) (own_bytes k bytes)
+    stream_more k history (Piece k bytes) refl ∙ ap (λ b. if b then stream_of k history else stream_of k history ++ bytes_over k (Piece k bytes)) open_ ∙ ap (λ z. stream_of k history ++ z) (own_bytes k bytes)
 
-pub stream_shut : (k : ℕ) (history : List Entry) (bytes : List ℕ) → has_failed k history ≡ true → stream_of k (history ++ Piece k bytes ∷ []) ≡ stream_of k history
+pub stream_shut : (k : ℕ) (history : List HistoryEntry) (bytes : List ℕ) → has_failed k history ≡ true → stream_of k (history ++ Piece k bytes ∷ []) ≡ stream_of k history
 stream_shut k history bytes shut =
-    stream_more k history (Piece k bytes) refl ∙ ap (λ b. if b then stream_of k history else stream_of k history ++ bytes_of k (Piece k bytes)) shut
+    stream_more k history (Piece k bytes) refl ∙ ap (λ b. if b then stream_of k history else stream_of k history ++ bytes_over k (Piece k bytes)) shut
 
-pub gains_open : (prefix : List ℕ) (k : ℕ) (history : List Entry) (bytes : List ℕ) (earlier events : List EventValue) (a b : Option (List ℕ))
+pub gains_open : (prefix : List ℕ) (k : ℕ) (history : List HistoryEntry) (bytes : List ℕ) (earlier events : List EventValue) (a b : Option (List ℕ))
     → has_failed k history ≡ false → Cuts prefix (stream_of k history) earlier a → Cuts prefix (stream_of k history ++ bytes) (earlier ++ events) b
     → Gains prefix k history (Piece k bytes) events
 gains_open prefix k history bytes earlier events a b open_ c d = (earlier, a, b, c, subst (λ z. Cuts prefix z (earlier ++ events) b) (sym (stream_open k history bytes open_)) d)
 
 -- a piece that adds nothing
-pub gains_none : (prefix : List ℕ) (k : ℕ) (history : List Entry) (bytes : List ℕ) (earlier : List EventValue) (a : Option (List ℕ))
+pub gains_none : (prefix : List ℕ) (k : ℕ) (history : List HistoryEntry) (bytes : List ℕ) (earlier : List EventValue) (a : Option (List ℕ))
     → stream_of k (history ++ Piece k bytes ∷ []) ≡ stream_of k history → Cuts prefix (stream_of k history) earlier a → Gains prefix k history (Piece k bytes) []
 gains_none prefix k history bytes earlier a same c =
     (earlier, a, a, c, subst (λ z. Cuts prefix z (earlier ++ []) a) (sym same) (subst (λ z. Cuts prefix (stream_of k history) z a) (sym (append-nil earlier)) c))
@@ -80,30 +80,30 @@ front_empty [] y e = refl
 front_empty (d ∷ x) y e = let h : d ∷ (x ++ y) ≡ [] = e in cc
 
 -- the beginning of a piece that completes the first of its events
-pub record GainsFirst (prefix : List ℕ) (k : ℕ) (history : List Entry) (piece : List ℕ) (done : List EventValue) : Type 0 where
+pub record GainsFirst (prefix : List ℕ) (k : ℕ) (history : List HistoryEntry) (piece : List ℕ) (done : List EventValue) : Type 0 where
   pub front : List ℕ
   pub rest : List ℕ
   pub whole : piece ≡ front ++ rest
   pub gains : Gains prefix k history (Piece k front) done
 
-gains_open_first : (prefix : List ℕ) (k : ℕ) (history : List Entry) (piece : List ℕ) (done others : List EventValue)
+gains_open_first : (prefix : List ℕ) (k : ℕ) (history : List HistoryEntry) (piece : List ℕ) (done others : List EventValue)
     → has_failed k history ≡ false → Gains prefix k history (Piece k piece) (done ++ others) → GainsFirst prefix k history piece done
 gains_open_first prefix k history piece done others open_ (earlier, a, b, c, d) =
     let h : HasMore prefix (stream_of k history) piece (earlier ++ done) = cut_within prefix (stream_of k history) piece earlier done others a b c (subst (λ z. Cuts prefix z (earlier ++ (done ++ others)) b) (stream_open k history piece open_) d) in
     record { front = h.front; rest = h.rest; whole = h.whole; gains = gains_open prefix k history h.front earlier done a h.left open_ c h.cut }
 
-gains_shut_first : (prefix : List ℕ) (k : ℕ) (history : List Entry) (piece : List ℕ) (done others : List EventValue)
+gains_shut_first : (prefix : List ℕ) (k : ℕ) (history : List HistoryEntry) (piece : List ℕ) (done others : List EventValue)
     → has_failed k history ≡ true → Gains prefix k history (Piece k piece) (done ++ others) → GainsFirst prefix k history piece done
 gains_shut_first prefix k history piece done others shut (earlier, a, b, c, d) =
     let o : (earlier ≡ earlier ++ (done ++ others)) × (a ≡ b) = cut_once prefix (stream_of k history) earlier (earlier ++ (done ++ others)) a b c (subst (λ z. Cuts prefix z (earlier ++ (done ++ others)) b) (stream_shut k history piece shut) d) in
     let n : done ≡ [] = front_empty done others (nothing_more earlier (done ++ others) o.0) in
     record { front = piece; rest = []; whole = sym (append-nil piece); gains = subst (Gains prefix k history (Piece k piece)) (sym n) (gains_none prefix k history piece earlier a (stream_shut k history piece shut) c) }
 
-gains_first_by : (prefix : List ℕ) (k : ℕ) (history : List Entry) (piece : List ℕ) (done others : List EventValue) (b : Bool)
+gains_first_by : (prefix : List ℕ) (k : ℕ) (history : List HistoryEntry) (piece : List ℕ) (done others : List EventValue) (b : Bool)
     → has_failed k history ≡ b → Gains prefix k history (Piece k piece) (done ++ others) → GainsFirst prefix k history piece done
 gains_first_by prefix k history piece done others true e g = gains_shut_first prefix k history piece done others e g
 gains_first_by prefix k history piece done others false e g = gains_open_first prefix k history piece done others e g
 
-pub gains_first : (prefix : List ℕ) (k : ℕ) (history : List Entry) (piece : List ℕ) (done others : List EventValue)
+pub gains_first : (prefix : List ℕ) (k : ℕ) (history : List HistoryEntry) (piece : List ℕ) (done others : List EventValue)
     → Gains prefix k history (Piece k piece) (done ++ others) → GainsFirst prefix k history piece done
 gains_first prefix k history piece done others g = gains_first_by prefix k history piece done others (has_failed k history) refl g

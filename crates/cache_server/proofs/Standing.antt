@@ -7,17 +7,17 @@ use Rattle.http_core.specs.Stream.{Cuts}
 use Rattle.http_core.specs.Session.{SessionValue, IsClosed, Leaves}
 use Rattle.http_core.specs.Session as sessions
 use Rattle.cache_server.specs.Cache.{CacheValue}
-use Rattle.cache_server.specs.Serving.{Serves, ServesSome}
-use Rattle.cache_server.specs.History.{Entry, Piece, Fail, End, is_end, is_fail, bytes_of, since_end, until_fail, stream_of, has_failed, Gains, CompletesAll, CacheAfter, Answers}
-use Rattle.cache_server.specs.Server.{ServerValue, session_at, StandsSo, Keeps, Stands, StandsOrFails}
-use Rattle.cache_server.specs.Sessions.{KeepsOthers, IsHeld, FeedsAt, IsClosedAt, ClosesAt}
+use Rattle.cache_server.specs.Serving.{ServesAll, ServesFront}
+use Rattle.cache_server.specs.History.{HistoryEntry, Piece, Fail, End, is_end, is_fail, bytes_over, since_end, until_fail, stream_of, has_failed, Gains, BringsAll, CacheAfter, Answers}
+use Rattle.cache_server.specs.Server.{ServerValue, session_at, StandsSo, KeepsSession, ServerStands, StandsOrFails}
+use Rattle.cache_server.specs.Sessions.{KeepsOthers, IsSessionFor, FeedsAt, IsClosedAt, ClosesAt}
 use Rattle.cache_server.proofs.Histories.{stream_aside, failed_more, failed_now, stream_ended, failed_ended}
 use Rattle.cache_server.proofs.Serving.{serves_none}
 use Rattle.cache_server.proofs.Gaining.{cache_more, answers_are, own_bytes, other_bytes, own_fail, other_fail, own_end, other_end, stream_open, stream_shut, gains_open, gains_none, GainsFirst, gains_first}
 
 -- an entry of another connection
-pub keeps_aside : (prefix : List ℕ) (held : Option SessionValue) (k : ℕ) (history : List Entry) (entry : Entry)
-    → is_end k entry ≡ false → bytes_of k entry ≡ [] → is_fail k entry ≡ false → Keeps prefix held k history → Keeps prefix held k (history ++ entry ∷ [])
+pub keeps_aside : (prefix : List ℕ) (held : Option SessionValue) (k : ℕ) (history : List HistoryEntry) (entry : HistoryEntry)
+    → is_end k entry ≡ false → bytes_over k entry ≡ [] → is_fail k entry ≡ false → KeepsSession prefix held k history → KeepsSession prefix held k (history ++ entry ∷ [])
 keeps_aside prefix None k history entry e f h (stream, open_) = (stream_aside k history entry e f ∙ stream, failed_more k history entry e h ∙ open_)
 keeps_aside prefix (Some session) k history entry e f h (same, stands) =
     (same, subst (λ b. StandsSo b session (stream_of k (history ++ entry ∷ []))) (sym (failed_more k history entry e h)) (subst (StandsSo (has_failed k history) session) (sym (stream_aside k history entry e f)) stands))
@@ -36,15 +36,15 @@ so_cut : (b : Bool) (session : SessionValue) (stream : List ℕ) → StandsSo b 
 so_cut true session stream (closed, (events, left, cut)) = record { events = events; left = left; cut = cut }
 so_cut false session stream (events, stands) = let h : (left : Option (List ℕ)) × Cuts session.prefix stream events left = stands_cut session stream events stands in record { events = events; left = h.0; cut = h.1 }
 
-keeps_cut : (prefix : List ℕ) (session : SessionValue) (k : ℕ) (history : List Entry) → Keeps prefix (Some session) k history → IsCut prefix (stream_of k history)
+keeps_cut : (prefix : List ℕ) (session : SessionValue) (k : ℕ) (history : List HistoryEntry) → KeepsSession prefix (Some session) k history → IsCut prefix (stream_of k history)
 keeps_cut prefix session k history (same, stands) = subst (λ p. IsCut p (stream_of k history)) same (so_cut (has_failed k history) session (stream_of k history) stands)
 
 -- a session took a piece
-pub record IsFed (prefix : List ℕ) (k : ℕ) (history : List Entry) (piece : List ℕ) (events : List EventValue) (after : SessionValue) : Type 0 where
+pub record IsFed (prefix : List ℕ) (k : ℕ) (history : List HistoryEntry) (piece : List ℕ) (events : List EventValue) (after : SessionValue) : Type 0 where
   pub gains : Gains prefix k history (Piece k piece) events
-  pub keeps : Keeps prefix (Some after) k (history ++ Piece k piece ∷ [])
+  pub keeps : KeepsSession prefix (Some after) k (history ++ Piece k piece ∷ [])
 
-fed_open : (prefix : List ℕ) (k : ℕ) (history : List Entry) (piece : List ℕ) (earlier events : List EventValue) (before after : SessionValue)
+fed_open : (prefix : List ℕ) (k : ℕ) (history : List HistoryEntry) (piece : List ℕ) (earlier events : List EventValue) (before after : SessionValue)
     → has_failed k history ≡ false → before.prefix ≡ prefix → sessions.Stands before (stream_of k history) earlier → sessions.Feeds before piece events after → IsFed prefix k history piece events after
 fed_open prefix k history piece earlier events before after open_ same stands takes =
     let s : sessions.Stands after (stream_of k history ++ piece) (earlier ++ events) = takes.stands (stream_of k history) earlier stands in
@@ -57,7 +57,7 @@ fed_open prefix k history piece earlier events before after open_ same stands ta
       keeps = (p, subst (λ b. StandsSo b after (stream_of k (history ++ Piece k piece ∷ []))) (sym f) (earlier ++ events, subst (λ z. sessions.Stands after z (earlier ++ events)) (sym (stream_open k history piece open_)) s));
     }
 
-fed_shut : (prefix : List ℕ) (k : ℕ) (history : List Entry) (piece : List ℕ) (events : List EventValue) (before after : SessionValue)
+fed_shut : (prefix : List ℕ) (k : ℕ) (history : List HistoryEntry) (piece : List ℕ) (events : List EventValue) (before after : SessionValue)
     → has_failed k history ≡ true → before.prefix ≡ prefix → StandsSo true before (stream_of k history) → sessions.Feeds before piece events after → IsFed prefix k history piece events after
 fed_shut prefix k history piece events before after shut same (closed, (earlier, left, cut)) takes =
     let t : IsClosed after × (events ≡ []) = takes.closed closed in
@@ -73,112 +73,112 @@ fed_shut prefix k history piece events before after shut same (closed, (earlier,
       );
     }
 
-fed_by : (prefix : List ℕ) (k : ℕ) (history : List Entry) (piece : List ℕ) (events : List EventValue) (before after : SessionValue) (b : Bool)
+fed_by : (prefix : List ℕ) (k : ℕ) (history : List HistoryEntry) (piece : List ℕ) (events : List EventValue) (before after : SessionValue) (b : Bool)
     → has_failed k history ≡ b → before.prefix ≡ prefix → StandsSo b before (stream_of k history) → sessions.Feeds before piece events after → IsFed prefix k history piece events after
 fed_by prefix k history piece events before after true e same stands takes = fed_shut prefix k history piece events before after e same stands takes
 fed_by prefix k history piece events before after false e same (earlier, stands) takes = fed_open prefix k history piece earlier events before after e same stands takes
 
-fed : (prefix : List ℕ) (held : Option SessionValue) (k : ℕ) (history : List Entry) (piece : List ℕ) (events : List EventValue) (before after : SessionValue)
-    → Keeps prefix held k history → IsHeld prefix held before → sessions.Feeds before piece events after → IsFed prefix k history piece events after
+fed : (prefix : List ℕ) (held : Option SessionValue) (k : ℕ) (history : List HistoryEntry) (piece : List ℕ) (events : List EventValue) (before after : SessionValue)
+    → KeepsSession prefix held k history → IsSessionFor prefix held before → sessions.Feeds before piece events after → IsFed prefix k history piece events after
 fed prefix None k history piece events before after (stream, open_) fresh takes =
     fed_open prefix k history piece [] events before after open_ fresh.prefixed (subst (λ z. sessions.Stands before z []) (sym stream) fresh.stands) takes
 fed prefix (Some session) k history piece events before after (same, stands) is takes =
     fed_by prefix k history piece events before after (has_failed k history) refl (ap (λ (z : SessionValue). z.prefix) is ∙ same) (subst (λ z. StandsSo (has_failed k history) z (stream_of k history)) (sym is) stands) takes
 
 -- all sessions, where that of one connection is told
-sessions_with : (prefix : List ℕ) (old new : ServerValue) (k : ℕ) (after : SessionValue) (history : List Entry) (entry : Entry)
+sessions_with : (prefix : List ℕ) (old new : ServerValue) (k : ℕ) (after : SessionValue) (history : List HistoryEntry) (entry : HistoryEntry)
     → ((j : ℕ) → (j ≡ k → ⊥) → session_at new j ≡ session_at old j)
-    → ((j : ℕ) → (j ≡ k → ⊥) → (is_end j entry ≡ false) × (bytes_of j entry ≡ []) × (is_fail j entry ≡ false))
-    → ((j : ℕ) → Keeps prefix (session_at old j) j history) → Keeps prefix (session_at new k) k (history ++ entry ∷ [])
-    → (j : ℕ) → Keeps prefix (session_at new j) j (history ++ entry ∷ [])
+    → ((j : ℕ) → (j ≡ k → ⊥) → (is_end j entry ≡ false) × (bytes_over j entry ≡ []) × (is_fail j entry ≡ false))
+    → ((j : ℕ) → KeepsSession prefix (session_at old j) j history) → KeepsSession prefix (session_at new k) k (history ++ entry ∷ [])
+    → (j : ℕ) → KeepsSession prefix (session_at new j) j (history ++ entry ∷ [])
 sessions_with prefix old new k after history entry others aside kept own j = by_test (eqb_tells j k)
   where
-    by_test : ((eqb j k ≡ true) × (j ≡ k)) ⊎ ((eqb j k ≡ false) × (j ≡ k → ⊥)) → Keeps prefix (session_at new j) j (history ++ entry ∷ [])
-    by_test (inl (t, e)) = subst (λ i. Keeps prefix (session_at new i) i (history ++ entry ∷ [])) (sym e) own
-    by_test (inr (f, n)) = subst (λ z. Keeps prefix z j (history ++ entry ∷ [])) (sym (others j n)) (keeps_aside prefix (session_at old j) j history entry (aside j n).0 (aside j n).1 (aside j n).2 (kept j))
+    by_test : ((eqb j k ≡ true) × (j ≡ k)) ⊎ ((eqb j k ≡ false) × (j ≡ k → ⊥)) → KeepsSession prefix (session_at new j) j (history ++ entry ∷ [])
+    by_test (inl (t, e)) = subst (λ i. KeepsSession prefix (session_at new i) i (history ++ entry ∷ [])) (sym e) own
+    by_test (inr (f, n)) = subst (λ z. KeepsSession prefix z j (history ++ entry ∷ [])) (sym (others j n)) (keeps_aside prefix (session_at old j) j history entry (aside j n).0 (aside j n).1 (aside j n).2 (kept j))
 
-pub stands_fed : (opening : CacheValue) (old mid new : ServerValue) (k : ℕ) (history : List Entry) (piece : List ℕ) (events : List EventValue) (text : List ℕ)
-    → FeedsAt old k piece events mid → Serves mid.cache events text new.cache → new.prefix ≡ mid.prefix → new.sessions ≡ mid.sessions
-    → Stands opening old history → Stands opening new (history ++ Piece k piece ∷ [])
+pub stands_fed : (opening : CacheValue) (old mid new : ServerValue) (k : ℕ) (history : List HistoryEntry) (piece : List ℕ) (events : List EventValue) (text : List ℕ)
+    → FeedsAt old k piece events mid → ServesAll mid.cache events text new.cache → new.prefix ≡ mid.prefix → new.sessions ≡ mid.sessions
+    → ServerStands opening old history → ServerStands opening new (history ++ Piece k piece ∷ [])
 stands_fed opening old mid new k history piece events text feeds serves p m stands =
     let x : IsFed old.prefix k history piece events feeds.after = fed old.prefix (session_at old k) k history piece events feeds.before feeds.after (stands.sessions k) feeds.held feeds.feeds in
     let q : new.prefix ≡ old.prefix = p ∙ feeds.kept.prefix in
-    let c : CacheAfter old.prefix opening (history ++ Piece k piece ∷ []) new.cache = cache_more old.prefix opening old.cache new.cache history (Piece k piece) events text stands.cache x.gains (subst (λ z. Serves z events text new.cache) feeds.kept.cache serves) in
+    let c : CacheAfter old.prefix opening (history ++ Piece k piece ∷ []) new.cache = cache_more old.prefix opening old.cache new.cache history (Piece k piece) events text stands.cache x.gains (subst (λ z. ServesAll z events text new.cache) feeds.kept.cache serves) in
     let a : session_at new k ≡ Some feeds.after = ap (λ z. session_at (record { cache = new.cache; prefix = new.prefix; sessions = z }) k) m ∙ feeds.at in
-    let own : Keeps old.prefix (session_at new k) k (history ++ Piece k piece ∷ []) = subst (λ z. Keeps old.prefix z k (history ++ Piece k piece ∷ [])) (sym a) x.keeps in
+    let own : KeepsSession old.prefix (session_at new k) k (history ++ Piece k piece ∷ []) = subst (λ z. KeepsSession old.prefix z k (history ++ Piece k piece ∷ [])) (sym a) x.keeps in
     record {
       cache = subst (λ z. CacheAfter z opening (history ++ Piece k piece ∷ []) new.cache) (sym q) c;
-      sessions = λ j. subst (λ z. Keeps z (session_at new j) j (history ++ Piece k piece ∷ [])) (sym q)
+      sessions = λ j. subst (λ z. KeepsSession z (session_at new j) j (history ++ Piece k piece ∷ [])) (sym q)
           (sessions_with old.prefix old new k feeds.after history (Piece k piece) (λ i n. ap (λ z. session_at (record { cache = new.cache; prefix = new.prefix; sessions = z }) i) m ∙ feeds.kept.others i n)
           (λ i n. (refl, other_bytes i k piece n, refl)) stands.sessions own j);
     }
 
-pub answers_fed : (opening : CacheValue) (old mid : ServerValue) (after : CacheValue) (k : ℕ) (history : List Entry) (piece : List ℕ) (events : List EventValue) (text : List ℕ)
-    → FeedsAt old k piece events mid → Serves mid.cache events text after
-    → Stands opening old history → Answers old.prefix opening history (Piece k piece) text
+pub answers_fed : (opening : CacheValue) (old mid : ServerValue) (after : CacheValue) (k : ℕ) (history : List HistoryEntry) (piece : List ℕ) (events : List EventValue) (text : List ℕ)
+    → FeedsAt old k piece events mid → ServesAll mid.cache events text after
+    → ServerStands opening old history → Answers old.prefix opening history (Piece k piece) text
 answers_fed opening old mid after k history piece events text feeds serves stands =
     let x : IsFed old.prefix k history piece events feeds.after = fed old.prefix (session_at old k) k history piece events feeds.before feeds.after (stands.sessions k) feeds.held feeds.feeds in
-    answers_are old.prefix opening old.cache after history (Piece k piece) events text stands.cache x.gains (subst (λ z. Serves z events text after) feeds.kept.cache serves)
+    answers_are old.prefix opening old.cache after history (Piece k piece) events text stands.cache x.gains (subst (λ z. ServesAll z events text after) feeds.kept.cache serves)
 
-pub stands_ended : (opening : CacheValue) (old new : ServerValue) (k : ℕ) (history : List Entry)
-    → session_at new k ≡ None → KeepsOthers old k new → Stands opening old history → Stands opening new (history ++ End k ∷ [])
+pub stands_ended : (opening : CacheValue) (old new : ServerValue) (k : ℕ) (history : List HistoryEntry)
+    → session_at new k ≡ None → KeepsOthers old k new → ServerStands opening old history → ServerStands opening new (history ++ End k ∷ [])
 stands_ended opening old new k history gone kept stands =
     let c : CacheAfter old.prefix opening (history ++ End k ∷ []) old.cache = cache_more old.prefix opening old.cache old.cache history (End k) [] [] stands.cache refl (serves_none old.cache) in
-    let own : Keeps old.prefix (session_at new k) k (history ++ End k ∷ []) = subst (λ z. Keeps old.prefix z k (history ++ End k ∷ [])) (sym gone) (stream_ended k history (End k) (own_end k), failed_ended k history (End k) (own_end k)) in
+    let own : KeepsSession old.prefix (session_at new k) k (history ++ End k ∷ []) = subst (λ z. KeepsSession old.prefix z k (history ++ End k ∷ [])) (sym gone) (stream_ended k history (End k) (own_end k), failed_ended k history (End k) (own_end k)) in
     record {
       cache = subst (λ z. CacheAfter z opening (history ++ End k ∷ []) new.cache) (sym kept.prefix) (subst (CacheAfter old.prefix opening (history ++ End k ∷ [])) (sym kept.cache) c);
-      sessions = λ j. subst (λ z. Keeps z (session_at new j) j (history ++ End k ∷ [])) (sym kept.prefix)
+      sessions = λ j. subst (λ z. KeepsSession z (session_at new j) j (history ++ End k ∷ [])) (sym kept.prefix)
           (sessions_with old.prefix old new k (record { prefix = []; state = sessions.Closed }) history (End k) kept.others (λ i n. (other_end i k n, refl, refl)) stands.sessions own j);
     }
 
 -- a connection without a session stays one
-pub stands_unknown : (opening : CacheValue) (old new : ServerValue) (k : ℕ) (history : List Entry)
-    → session_at old k ≡ None → session_at new k ≡ None → KeepsOthers old k new → Stands opening old history → Stands opening new history
+pub stands_unknown : (opening : CacheValue) (old new : ServerValue) (k : ℕ) (history : List HistoryEntry)
+    → session_at old k ≡ None → session_at new k ≡ None → KeepsOthers old k new → ServerStands opening old history → ServerStands opening new history
 stands_unknown opening old new k history was gone kept stands = record {
   cache = subst (λ z. CacheAfter z opening history new.cache) (sym kept.prefix) (subst (CacheAfter old.prefix opening history) (sym kept.cache) stands.cache);
-  sessions = λ j. subst (λ z. Keeps z (session_at new j) j history) (sym kept.prefix) (by_test j (eqb_tells j k));
+  sessions = λ j. subst (λ z. KeepsSession z (session_at new j) j history) (sym kept.prefix) (by_test j (eqb_tells j k));
 }
   where
-    by_test : (j : ℕ) → ((eqb j k ≡ true) × (j ≡ k)) ⊎ ((eqb j k ≡ false) × (j ≡ k → ⊥)) → Keeps old.prefix (session_at new j) j history
-    by_test j (inl (t, e)) = subst (λ i. Keeps old.prefix (session_at new i) i history) (sym e) (subst (λ z. Keeps old.prefix z k history) (was ∙ sym gone) (stands.sessions k))
-    by_test j (inr (f, n)) = subst (λ z. Keeps old.prefix z j history) (sym (kept.others j n)) (stands.sessions j)
+    by_test : (j : ℕ) → ((eqb j k ≡ true) × (j ≡ k)) ⊎ ((eqb j k ≡ false) × (j ≡ k → ⊥)) → KeepsSession old.prefix (session_at new j) j history
+    by_test j (inl (t, e)) = subst (λ i. KeepsSession old.prefix (session_at new i) i history) (sym e) (subst (λ z. KeepsSession old.prefix z k history) (was ∙ sym gone) (stands.sessions k))
+    by_test j (inr (f, n)) = subst (λ z. KeepsSession old.prefix z j history) (sym (kept.others j n)) (stands.sessions j)
 
 -- a session that failed behind a beginning of a piece
-fails_own : (prefix : List ℕ) (k : ℕ) (history : List Entry) (after : SessionValue) → IsClosed after → after.prefix ≡ prefix → IsCut prefix (stream_of k history)
-    → Keeps prefix (Some after) k (history ++ Fail k ∷ [])
+fails_own : (prefix : List ℕ) (k : ℕ) (history : List HistoryEntry) (after : SessionValue) → IsClosed after → after.prefix ≡ prefix → IsCut prefix (stream_of k history)
+    → KeepsSession prefix (Some after) k (history ++ Fail k ∷ [])
 fails_own prefix k history after closed same cut =
     let f : has_failed k (history ++ Fail k ∷ []) ≡ true = failed_now k history (Fail k) refl (own_fail k) in
     let s : stream_of k (history ++ Fail k ∷ []) ≡ stream_of k history = stream_aside k history (Fail k) refl refl in
     (same, subst (λ b. StandsSo b after (stream_of k (history ++ Fail k ∷ []))) (sym f) (closed, (cut.events, cut.left, subst (λ z. Cuts z (stream_of k (history ++ Fail k ∷ [])) cut.events cut.left) (sym same) (subst (λ z. Cuts prefix z cut.events cut.left) (sym s) cut.cut))))
 
-gains_cut : (prefix : List ℕ) (k : ℕ) (history : List Entry) (entry : Entry) (events : List EventValue) → Gains prefix k history entry events → IsCut prefix (stream_of k (history ++ entry ∷ []))
+gains_cut : (prefix : List ℕ) (k : ℕ) (history : List HistoryEntry) (entry : HistoryEntry) (events : List EventValue) → Gains prefix k history entry events → IsCut prefix (stream_of k (history ++ entry ∷ []))
 gains_cut prefix k history entry events (earlier, a, b, c, d) = record { events = earlier ++ events; left = b; cut = d }
 
-pub stands_failed : (opening : CacheValue) (old new : ServerValue) (k : ℕ) (history : List Entry) (front : List ℕ) (done : List EventValue) (text : List ℕ) (after : SessionValue)
-    → Gains old.prefix k history (Piece k front) done → Serves old.cache done text new.cache → new.prefix ≡ old.prefix
+pub stands_failed : (opening : CacheValue) (old new : ServerValue) (k : ℕ) (history : List HistoryEntry) (front : List ℕ) (done : List EventValue) (text : List ℕ) (after : SessionValue)
+    → Gains old.prefix k history (Piece k front) done → ServesAll old.cache done text new.cache → new.prefix ≡ old.prefix
     → ((j : ℕ) → (j ≡ k → ⊥) → session_at new j ≡ session_at old j) → session_at new k ≡ Some after → after.prefix ≡ old.prefix → IsClosed after
-    → Stands opening old history → Stands opening new (history ++ (Piece k front ∷ Fail k ∷ []))
+    → ServerStands opening old history → ServerStands opening new (history ++ (Piece k front ∷ Fail k ∷ []))
 stands_failed opening old new k history front done text after gains serves p others at same closed stands =
-    let longer : List Entry = history ++ Piece k front ∷ [] in
+    let longer : List HistoryEntry = history ++ Piece k front ∷ [] in
     let c : CacheAfter old.prefix opening longer new.cache = cache_more old.prefix opening old.cache new.cache history (Piece k front) done text stands.cache gains serves in
     let d : CacheAfter old.prefix opening (longer ++ Fail k ∷ []) new.cache = cache_more old.prefix opening new.cache new.cache longer (Fail k) [] [] c refl (serves_none new.cache) in
-    let own : Keeps old.prefix (session_at new k) k (longer ++ Fail k ∷ []) = subst (λ z. Keeps old.prefix z k (longer ++ Fail k ∷ [])) (sym at) (fails_own old.prefix k longer after closed same (gains_cut old.prefix k history (Piece k front) done gains)) in
+    let own : KeepsSession old.prefix (session_at new k) k (longer ++ Fail k ∷ []) = subst (λ z. KeepsSession old.prefix z k (longer ++ Fail k ∷ [])) (sym at) (fails_own old.prefix k longer after closed same (gains_cut old.prefix k history (Piece k front) done gains)) in
     let e : longer ++ Fail k ∷ [] ≡ history ++ (Piece k front ∷ Fail k ∷ []) = append_assoc history (Piece k front ∷ []) (Fail k ∷ []) in
     record {
       cache = subst (λ z. CacheAfter z opening (history ++ (Piece k front ∷ Fail k ∷ [])) new.cache) (sym p) (subst (λ z. CacheAfter old.prefix opening z new.cache) e d);
-      sessions = λ j. subst (λ z. Keeps z (session_at new j) j (history ++ (Piece k front ∷ Fail k ∷ []))) (sym p) (subst (Keeps old.prefix (session_at new j) j) e (by_test j (eqb_tells j k) own));
+      sessions = λ j. subst (λ z. KeepsSession z (session_at new j) j (history ++ (Piece k front ∷ Fail k ∷ []))) (sym p) (subst (KeepsSession old.prefix (session_at new j) j) e (by_test j (eqb_tells j k) own));
     }
   where
-    by_test : (j : ℕ) → ((eqb j k ≡ true) × (j ≡ k)) ⊎ ((eqb j k ≡ false) × (j ≡ k → ⊥)) → Keeps old.prefix (session_at new k) k ((history ++ Piece k front ∷ []) ++ Fail k ∷ [])
-        → Keeps old.prefix (session_at new j) j ((history ++ Piece k front ∷ []) ++ Fail k ∷ [])
-    by_test j (inl (t, e)) own = subst (λ i. Keeps old.prefix (session_at new i) i ((history ++ Piece k front ∷ []) ++ Fail k ∷ [])) (sym e) own
-    by_test j (inr (f, n)) own = subst (λ z. Keeps old.prefix z j ((history ++ Piece k front ∷ []) ++ Fail k ∷ [])) (sym (others j n))
+    by_test : (j : ℕ) → ((eqb j k ≡ true) × (j ≡ k)) ⊎ ((eqb j k ≡ false) × (j ≡ k → ⊥)) → KeepsSession old.prefix (session_at new k) k ((history ++ Piece k front ∷ []) ++ Fail k ∷ [])
+        → KeepsSession old.prefix (session_at new j) j ((history ++ Piece k front ∷ []) ++ Fail k ∷ [])
+    by_test j (inl (t, e)) own = subst (λ i. KeepsSession old.prefix (session_at new i) i ((history ++ Piece k front ∷ []) ++ Fail k ∷ [])) (sym e) own
+    by_test j (inr (f, n)) own = subst (λ z. KeepsSession old.prefix z j ((history ++ Piece k front ∷ []) ++ Fail k ∷ [])) (sym (others j n))
         (keeps_aside old.prefix (session_at old j) j (history ++ Piece k front ∷ []) (Fail k) refl refl (other_fail j k n)
         (keeps_aside old.prefix (session_at old j) j history (Piece k front) refl (other_bytes j k front n) refl (stands.sessions j)))
 
 -- want of memory before the piece was cut
-closes_by : (opening : CacheValue) (old new : ServerValue) (k : ℕ) (piece : List ℕ) (history : List Entry) (held : Option SessionValue)
-    → session_at old k ≡ held → IsClosedAt held (session_at new k) → KeepsOthers old k new → Keeps old.prefix held k history → Stands opening old history → StandsOrFails opening old k piece new history
+closes_by : (opening : CacheValue) (old new : ServerValue) (k : ℕ) (piece : List ℕ) (history : List HistoryEntry) (held : Option SessionValue)
+    → session_at old k ≡ held → IsClosedAt held (session_at new k) → KeepsOthers old k new → KeepsSession old.prefix held k history → ServerStands opening old history → StandsOrFails opening old k piece new history
 closes_by opening old new k piece history None is gone kept keeps stands = inl (is, stands_unknown opening old new k history is gone kept stands)
 closes_by opening old new k piece history (Some session) is (after, at, same, closed) kept keeps stands =
     let c : IsCut old.prefix (stream_of k history) = keeps_cut old.prefix session k history keeps in
@@ -188,10 +188,10 @@ closes_by opening old new k piece history (Some session) is (after, at, same, cl
       piece,
       refl,
       stands_failed opening old new k history [] [] [] after (gains_none old.prefix k history [] c.events c.left quiet c.cut)
-          (subst (Serves old.cache [] []) (sym kept.cache) (serves_none old.cache)) kept.prefix kept.others at (same ∙ keeps.0) closed stands,
+          (subst (ServesAll old.cache [] []) (sym kept.cache) (serves_none old.cache)) kept.prefix kept.others at (same ∙ keeps.0) closed stands,
     )
 
-pub stands_closed : (opening : CacheValue) (old new : ServerValue) (k : ℕ) (piece : List ℕ) (history : List Entry) → ClosesAt old k new → Stands opening old history → StandsOrFails opening old k piece new history
+pub stands_closed : (opening : CacheValue) (old new : ServerValue) (k : ℕ) (piece : List ℕ) (history : List HistoryEntry) → ClosesAt old k new → ServerStands opening old history → StandsOrFails opening old k piece new history
 stands_closed opening old new k piece history closes stands = closes_by opening old new k piece history (session_at old k) refl closes.at closes.kept (stands.sessions k) stands
 
 -- want of memory in the answers
@@ -199,22 +199,22 @@ closed_after : (held : Option SessionValue) (session : SessionValue) (now : Opti
     → (after : SessionValue) × (now ≡ Some after) × (after.prefix ≡ session.prefix) × IsClosed after
 closed_after held session now e c = subst (λ z. IsClosedAt z now) e c
 
-pub stands_answering : (opening : CacheValue) (old mid served new : ServerValue) (k : ℕ) (piece : List ℕ) (history : List Entry) (events : List EventValue)
-    → FeedsAt old k piece events mid → ServesSome mid.cache events served.cache → served.prefix ≡ mid.prefix → served.sessions ≡ mid.sessions → ClosesAt served k new
-    → Stands opening old history → StandsOrFails opening old k piece new history
+pub stands_answering : (opening : CacheValue) (old mid served new : ServerValue) (k : ℕ) (piece : List ℕ) (history : List HistoryEntry) (events : List EventValue)
+    → FeedsAt old k piece events mid → ServesFront mid.cache events served.cache → served.prefix ≡ mid.prefix → served.sessions ≡ mid.sessions → ClosesAt served k new
+    → ServerStands opening old history → StandsOrFails opening old k piece new history
 stands_answering opening old mid served new k piece history events feeds some p m closes stands =
     let x : IsFed old.prefix k history piece events feeds.after = fed old.prefix (session_at old k) k history piece events feeds.before feeds.after (stands.sessions k) feeds.held feeds.feeds in
     let f : GainsFirst old.prefix k history piece some.done = gains_first old.prefix k history piece some.done some.others (subst (Gains old.prefix k history (Piece k piece)) some.whole x.gains) in
     let at : session_at served k ≡ Some feeds.after = ap (λ z. session_at (record { cache = served.cache; prefix = served.prefix; sessions = z }) k) m ∙ feeds.at in
     let c : (after : SessionValue) × (session_at new k ≡ Some after) × (after.prefix ≡ feeds.after.prefix) × IsClosed after = closed_after (session_at served k) feeds.after (session_at new k) at closes.at in
     let q : new.prefix ≡ old.prefix = closes.kept.prefix ∙ p ∙ feeds.kept.prefix in
-    let s : Serves old.cache some.done some.text new.cache = subst (Serves old.cache some.done some.text) (sym closes.kept.cache) (subst (λ z. Serves z some.done some.text served.cache) feeds.kept.cache some.served) in
+    let s : ServesAll old.cache some.done some.text new.cache = subst (ServesAll old.cache some.done some.text) (sym closes.kept.cache) (subst (λ z. ServesAll z some.done some.text served.cache) feeds.kept.cache some.served) in
     let others : (j : ℕ) → (j ≡ k → ⊥) → session_at new j ≡ session_at old j = λ j n. closes.kept.others j n ∙ ap (λ z. session_at (record { cache = served.cache; prefix = served.prefix; sessions = z }) j) m ∙ feeds.kept.others j n in
     inr (f.front, f.rest, f.whole, stands_failed opening old new k history f.front some.done some.text c.0 f.gains s q others c.1 (c.2 ∙ x.keeps.0) c.3 stands)
 
-pub stands_first : (opening : CacheValue) (new : ServerValue) → new.cache ≡ opening → new.sessions ≡ [] → Stands opening new []
-unfolding CacheAfter CompletesAll stream_of has_failed until_fail since_end
+pub stands_first : (opening : CacheValue) (new : ServerValue) → new.cache ≡ opening → new.sessions ≡ [] → ServerStands opening new []
+unfolding CacheAfter BringsAll stream_of has_failed until_fail since_end
 stands_first opening new c e = record {
-  cache = ([], [], refl, subst (Serves opening [] []) (sym c) (serves_none opening));
-  sessions = λ k. subst (λ z. Keeps new.prefix z k []) (sym (ap (λ z. session_at (record { cache = new.cache; prefix = new.prefix; sessions = z }) k) e)) (refl, refl);
+  cache = ([], [], refl, subst (ServesAll opening [] []) (sym c) (serves_none opening));
+  sessions = λ k. subst (λ z. KeepsSession new.prefix z k []) (sym (ap (λ z. session_at (record { cache = new.cache; prefix = new.prefix; sessions = z }) k) e)) (refl, refl);
 }

@@ -5,7 +5,7 @@ use Rattle.std.specs.Io.KnownBytes.{Appends, Keeps}
 use Rattle.std.proofs.KnownBytes.{Appends-nil, Appends-trans}
 use Rattle.http_core.specs.Event.{EventValue}
 use Rattle.cache_server.specs.Cache.{CacheValue}
-use Rattle.cache_server.specs.Serving.{Serves, ServesSome}
+use Rattle.cache_server.specs.Serving.{ServesAll, ServesFront}
 use Rattle.cache_server.specs.Writing.{WritesSome, Tells, MayTell, TellsAll, TellsSome}
 use Rattle.cache_server.proofs.Serving.{serves_none, serves_more}
 
@@ -28,7 +28,7 @@ pub record TellsOn (old : CacheValue) (events left : List EventValue) (before no
   pub done : List EventValue
   pub text : List ℕ
   pub whole : events ≡ done ++ left
-  pub served : Serves old done text new
+  pub served : ServesAll old done text new
   pub appends : Appends before now text
 
 unfoldable pub told_first : (old : CacheValue) (events left : List EventValue) (before : Option (List ℕ)) → events ≡ left → TellsOn old events left before before old
@@ -51,7 +51,7 @@ module _ (old now new : CacheValue) (events left : List EventValue) (event : Eve
     told = t.text;
     lost = [];
     whole = t.whole;
-    served = subst (λ z. Serves old t.done z new) (sym (append-nil t.text)) (subst (Serves old t.done t.text) (sym e) t.served);
+    served = subst (λ z. ServesAll old t.done z new) (sym (append-nil t.text)) (subst (ServesAll old t.done t.text) (sym e) t.served);
     appends = appends_kept before mid after t.text t.appends k;
   }
   told_some t (inr (text, s, w)) = record {
@@ -67,13 +67,13 @@ module _ (old now new : CacheValue) (events left : List EventValue) (event : Eve
 pub told_all : (old new : CacheValue) (events : List EventValue) (before now : Option (List ℕ)) → TellsOn old events [] before now new → TellsAll old events before now new
 told_all old new events before now t = record {
   text = t.text;
-  served = subst (λ z. Serves old z t.text new) (sym (t.whole ∙ append-nil t.done)) t.served;
+  served = subst (λ z. ServesAll old z t.text new) (sym (t.whole ∙ append-nil t.done)) t.served;
   appends = t.appends;
 }
 
-pub some_served : (old new : CacheValue) (events : List EventValue) (before after : Option (List ℕ)) → TellsSome old events before after new → ServesSome old events new
+pub some_served : (old new : CacheValue) (events : List EventValue) (before after : Option (List ℕ)) → TellsSome old events before after new → ServesFront old events new
 some_served old new events before after t = record { done = t.done; others = t.others; text = t.told ++ t.lost; whole = t.whole; served = t.served }
 
 -- the writer was empty, and its bytes are known
-pub all_served : (old new : CacheValue) (events : List EventValue) (none bytes : List ℕ) → none ≡ [] → TellsAll old events (Some none) (Some bytes) new → Serves old events bytes new
-all_served old new events none bytes e t = subst (λ z. Serves old events z new) (sym (t.appends ∙ ap (λ z. z ++ t.text) e)) t.served
+pub all_served : (old new : CacheValue) (events : List EventValue) (none bytes : List ℕ) → none ≡ [] → TellsAll old events (Some none) (Some bytes) new → ServesAll old events bytes new
+all_served old new events none bytes e t = subst (λ z. ServesAll old events z new) (sym (t.appends ∙ ap (λ z. z ++ t.text) e)) t.served

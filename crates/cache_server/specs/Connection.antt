@@ -6,7 +6,7 @@ use Rattle.http_core.specs.Session.{SessionValue, Stands}
 use Rattle.http_core.specs.Stream.{Cuts}
 use Rattle.cache_server.specs.Cache.{CacheValue}
 use Rattle.cache_server.specs.Counts.{CountsFront, count_all}
-use Rattle.cache_server.specs.Serving.{Serves}
+use Rattle.cache_server.specs.Serving.{ServesAll}
 use Rattle.cache_server.specs.declared.counts.Counts.{Counts}
 
 -- the requests in the stream are answered by this text, and lead from the one cache to the other
@@ -16,7 +16,7 @@ pub record IsAnswered
     : Type 0 where
   pub events : List EventValue
   pub cut : Cuts prefix stream events left
-  pub served : Serves old events text new
+  pub served : ServesAll old events text new
 
 -- the input has ended, or an event in what was read closes, and all its answers are written
 pub record Runs
@@ -56,7 +56,7 @@ pub record Exchanges
   pub kept : new.prefix ≡ old.prefix
   pub stands : (stream : List ℕ) (earlier : List EventValue)
       → Stands old stream earlier → Stands new (stream ++ piece) (earlier ++ events)
-  pub served : Serves cache events text cache_after
+  pub served : ServesAll cache events text cache_after
   pub appends : Appends before after text
 
 -- a beginning of a piece is answered, and a beginning of the answers is written
@@ -73,7 +73,7 @@ pub record ExchangesSome
   pub left : Option (List ℕ)
   pub whole : piece ≡ front ++ rest
   pub cut : Cuts prefix (stream ++ front) (earlier ++ done) left
-  pub served : Serves cache done (told ++ lost) cache_after
+  pub served : ServesAll cache done (told ++ lost) cache_after
   pub appends : Appends before after told
 
 -- ---- with counts of what was answered

@@ -3,27 +3,28 @@ use Rattle.std.specs.Prelude.{◌≡◌, ℕ, List, ◌++◌, Option}
 use Rattle.http_core.specs.Event.{EventValue}
 use Rattle.http_core.specs.Stream.{Cuts}
 use Rattle.cache_server.specs.Cache.{CacheValue}
-use Rattle.cache_server.specs.Serving.{Serves}
-use Rattle.cache_server.specs.History.{Entry, CacheAfter, Answers}
+use Rattle.cache_server.specs.Serving.{ServesAll}
+use Rattle.cache_server.specs.History.{HistoryEntry, CacheAfter, Answers}
 use Rattle.cache_server.specs.Connection.{IsAnswered}
 
 -- a history leads to one cache
 abbrev pub LeadsToOneCache : Type 0
 LeadsToOneCache =
-    (prefix : List ℕ) (opening : CacheValue) (history : List Entry) (a b : CacheValue)
+    (prefix : List ℕ) (opening : CacheValue) (history : List HistoryEntry) (a b : CacheValue)
     → CacheAfter prefix opening history a → CacheAfter prefix opening history b → a ≡ b
 
 -- an entry after a history has one text of answers
 abbrev pub HasOneAnswer : Type 0
 HasOneAnswer =
-    (prefix : List ℕ) (opening : CacheValue) (history : List Entry) (entry : Entry) (x y : List ℕ)
+    (prefix : List ℕ) (opening : CacheValue)
+    (history : List HistoryEntry) (entry : HistoryEntry) (x y : List ℕ)
     → Answers prefix opening history entry x → Answers prefix opening history entry y → x ≡ y
 
 -- whatever the cache, any events are answered
 abbrev pub AnswersAny : Type 0
 AnswersAny =
     (old : CacheValue) (events : List EventValue)
-    → (text : List ℕ) × (new : CacheValue) × Serves old events text new
+    → (text : List ℕ) × (new : CacheValue) × ServesAll old events text new
 
 -- what a beginning of a stream is answered begins the answers to the whole stream
 abbrev pub BeginsTheAnswers : Type 0

@@ -8,7 +8,7 @@ use Rattle.http_core.specs.Session.{SessionValue, IsClosed}
 use Rattle.http_core.specs.Session as sessions
 use Rattle.http_core.specs.Stream.{Cuts}
 use Rattle.cache_server.specs.Cache.{CacheValue}
-use Rattle.cache_server.specs.History.{Entry, Piece, Fail, stream_of, has_failed, CacheAfter}
+use Rattle.cache_server.specs.History.{HistoryEntry, Piece, Fail, stream_of, has_failed, CacheAfter}
 
 -- the sessions stand under the numbers of their connections
 pub record ServerValue : Type 0 where
@@ -29,21 +29,22 @@ StandsSo true session stream =
     × Cuts session.prefix stream events left)
 
 -- what the server keeps for the connection
-abbrev pub Keeps : List ℕ → Option SessionValue → ℕ → List Entry → Type 0
-Keeps prefix None k history = (stream_of k history ≡ []) × (has_failed k history ≡ false)
-Keeps prefix (Some session) k history =
+abbrev pub KeepsSession : List ℕ → Option SessionValue → ℕ → List HistoryEntry → Type 0
+KeepsSession prefix None k history = (stream_of k history ≡ []) × (has_failed k history ≡ false)
+KeepsSession prefix (Some session) k history =
     (session.prefix ≡ prefix) × StandsSo (has_failed k history) session (stream_of k history)
 
 -- the server stands where the history leaves it, which began with this cache
-pub record Stands (opening : CacheValue) (s : ServerValue) (history : List Entry) : Type 0 where
+pub record ServerStands (opening : CacheValue) (s : ServerValue) (history : List HistoryEntry)
+    : Type 0 where
   pub cache : CacheAfter s.prefix opening history s.cache
-  pub sessions : (k : ℕ) → Keeps s.prefix (session_at s k) k history
+  pub sessions : (k : ℕ) → KeepsSession s.prefix (session_at s k) k history
 
 -- After want of memory: nothing was kept of a connection without a session. Else the requests in a
 -- beginning of the piece were served, and the connection failed.
 abbrev pub StandsOrFails :
-    CacheValue → ServerValue → ℕ → List ℕ → ServerValue → List Entry → Type 0
+    CacheValue → ServerValue → ℕ → List ℕ → ServerValue → List HistoryEntry → Type 0
 StandsOrFails opening old k piece new history =
-    ((session_at old k ≡ None) × Stands opening new history)
+    ((session_at old k ≡ None) × ServerStands opening new history)
     ⊎ ((front : List ℕ) × (rest : List ℕ) × (piece ≡ front ++ rest)
-    × Stands opening new (history ++ (Piece k front ∷ Fail k ∷ [])))
+    × ServerStands opening new (history ++ (Piece k front ∷ Fail k ∷ [])))

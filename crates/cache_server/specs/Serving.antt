@@ -17,17 +17,18 @@ ServesOne old event text new =
     × (text ≡ reply_text reply close)
 
 -- the events are answered one after another
-unfoldable pub Serves : CacheValue → List EventValue → List ℕ → CacheValue → Type 0
-Serves old [] text new = (text ≡ []) × (new ≡ old)
-Serves old (event ∷ events) text new =
+unfoldable pub ServesAll : CacheValue → List EventValue → List ℕ → CacheValue → Type 0
+ServesAll old [] text new = (text ≡ []) × (new ≡ old)
+ServesAll old (event ∷ events) text new =
     (first : List ℕ) × (others : List ℕ) × (between : CacheValue)
-    × ServesOne old event first between × Serves between events others new
+    × ServesOne old event first between × ServesAll between events others new
     × (text ≡ first ++ others)
 
 -- the first of the events were answered, as many as may be, and their texts are lost
-pub record ServesSome (old : CacheValue) (events : List EventValue) (new : CacheValue) : Type 0 where
+pub record ServesFront (old : CacheValue) (events : List EventValue) (new : CacheValue)
+    : Type 0 where
   pub done : List EventValue
   pub others : List EventValue
   pub text : List ℕ
   pub whole : events ≡ done ++ others
-  pub served : Serves old done text new
+  pub served : ServesAll old done text new

@@ -12,13 +12,13 @@ pub record KeepsOthers (old : ServerValue) (k : ℕ) (new : ServerValue) : Type 
   pub others : (j : ℕ) → (j ≡ k → ⊥) → session_at new j ≡ session_at old j
 
 -- a session for a new connection
-pub record IsFresh (prefix : List ℕ) (session : SessionValue) : Type 0 where
+pub record IsNewSession (prefix : List ℕ) (session : SessionValue) : Type 0 where
   pub prefixed : session.prefix ≡ prefix
   pub stands : sessions.Stands session [] []
 
-abbrev pub IsHeld : List ℕ → Option SessionValue → SessionValue → Type 0
-IsHeld prefix None session = IsFresh prefix session
-IsHeld prefix (Some held) session = session ≡ held
+abbrev pub IsSessionFor : List ℕ → Option SessionValue → SessionValue → Type 0
+IsSessionFor prefix None session = IsNewSession prefix session
+IsSessionFor prefix (Some held) session = session ≡ held
 
 -- the session of the connection, or a fresh one, took the piece
 pub record FeedsAt
@@ -26,7 +26,7 @@ pub record FeedsAt
     : Type 0 where
   pub before : SessionValue
   pub after : SessionValue
-  pub held : IsHeld old.prefix (session_at old k) before
+  pub held : IsSessionFor old.prefix (session_at old k) before
   pub feeds : sessions.Feeds before piece events after
   pub at : session_at new k ≡ Some after
   pub kept : KeepsOthers old k new

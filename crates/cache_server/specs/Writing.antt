@@ -5,7 +5,7 @@ use Rattle.http_core.specs.Event.{AskValue, EventValue}
 use Rattle.http_core.specs.Reply.{ReplyValue, reply_text}
 use Rattle.cache_server.specs.Cache.{CacheValue, Step}
 use Rattle.cache_server.specs.Counts.{CountsFront}
-use Rattle.cache_server.specs.Serving.{Serves, ServesOne}
+use Rattle.cache_server.specs.Serving.{ServesAll, ServesOne}
 use Rattle.cache_server.specs.declared.counts.Counts.{Counts}
 use Rattle.cache_server.specs.declared.error.ConnError.{ConnError}
 use Rattle.cache_server.specs.declared.error.ConnError.TheVariants.{ReadFault, WriteFault, Memory}
@@ -64,7 +64,7 @@ pub record TellsAll
     (new : CacheValue)
     : Type 0 where
   pub text : List ℕ
-  pub served : Serves old events text new
+  pub served : ServesAll old events text new
   pub appends : Appends before after text
 
 -- the first of the events are answered, as many as may be, and some beginning of their texts is
@@ -78,7 +78,7 @@ pub record TellsSome
   pub told : List ℕ
   pub lost : List ℕ
   pub whole : events ≡ done ++ others
-  pub served : Serves old done (told ++ lost) new
+  pub served : ServesAll old done (told ++ lost) new
   pub appends : Appends before after told
 
 -- the same, and those whose texts are written whole are counted

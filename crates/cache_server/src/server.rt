@@ -1,8 +1,8 @@
 ghost use Rattle.std.specs.Prelude.{◌≡◌, ℕ, List, ◌∷◌, ◌++◌, [], IfOk, OnErr, OnOk, None, IsSome};
 ghost use Rattle.http_core.specs.Event.{events_of};
 ghost use Rattle.cache_server.specs.Cache.{CacheValue};
-ghost use Rattle.cache_server.specs.History.{Entry, Piece, End, Answers};
-ghost use Rattle.cache_server.specs.Server.{session_at, Stands, StandsOrFails};
+ghost use Rattle.cache_server.specs.History.{HistoryEntry, Piece, End, Answers};
+ghost use Rattle.cache_server.specs.Server.{session_at, ServerStands, StandsOrFails};
 ghost use Rattle.cache_server.specs.Sessions.{FeedsAt, ClosesAt, ForgetsAt, HoldsAt};
 
 use crate::answering::answer_all;
@@ -37,7 +37,7 @@ impl<A: Allocator> Model for Server<A> {
 impl<A: Allocator + Copy> Server<A> {
     /// A server without connections.
     pub fn new(alloc: A, cache: Cache<A>, prefix: Prefix<A>) -> Server<A>
-        ensures stands { Stands cache result [] }
+        ensures stands { ServerStands cache result [] }
         ensures prefix { result.prefix ≡ prefix }
     {
         Server {
@@ -56,14 +56,14 @@ impl<A: Allocator + Copy> Server<A> {
         connection: u64,
         piece: &[u8],
     ) -> Result<Vec<u8, A>, AllocError>
-        ensures answers { IfOk result (λ text. (opening : CacheValue) (history : List Entry)
-            → Stands opening self.old history
+        ensures answers { IfOk result (λ text. (opening : CacheValue) (history : List HistoryEntry)
+            → ServerStands opening self.old history
             → Answers self.old.prefix opening history (Piece connection piece.now) text.items) }
-        ensures ok { OnOk result ((opening : CacheValue) (history : List Entry)
-            → Stands opening self.old history
-            → Stands opening self.new (history ++ Piece connection piece.now ∷ [])) }
-        ensures err { OnErr result ((opening : CacheValue) (history : List Entry)
-            → Stands opening self.old history
+        ensures ok { OnOk result ((opening : CacheValue) (history : List HistoryEntry)
+            → ServerStands opening self.old history
+            → ServerStands opening self.new (history ++ Piece connection piece.now ∷ [])) }
+        ensures err { OnErr result ((opening : CacheValue) (history : List HistoryEntry)
+            → ServerStands opening self.old history
             → StandsOrFails opening self.old connection piece.now self.new history) }
     {
         let events = self.feed(alloc, connection, piece)?;
@@ -80,9 +80,9 @@ impl<A: Allocator + Copy> Server<A> {
 
     /// Forgets the connection.
     pub fn end(&mut self, connection: u64)
-        ensures { (opening : CacheValue) (history : List Entry)
-            → Stands opening self.old history
-            → Stands opening self.new (history ++ End connection ∷ []) }
+        ensures { (opening : CacheValue) (history : List HistoryEntry)
+            → ServerStands opening self.old history
+            → ServerStands opening self.new (history ++ End connection ∷ []) }
     {
         self.forget(connection);
     }

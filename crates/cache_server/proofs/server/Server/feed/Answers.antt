@@ -2,15 +2,15 @@ use Rattle.std.proofs.Common.{◌≡◌, List, ℕ, false, ap, sym, ◌∙◌, s
 use Rattle.std.specs.Option.{is_some}
 use Rattle.http_core.specs.Session.{SessionValue}
 use Rattle.cache_server.specs.Server.{ServerValue, session_at}
-use Rattle.cache_server.specs.Sessions.{IsHeld, IsFresh}
+use Rattle.cache_server.specs.Sessions.{IsSessionFor, IsNewSession}
 use Rattle.cache_server.proofs.server.Server.feed.Goals as goal
 
 is_none : {X : Type 0} (o : Option X) → is_some o ≡ false → o ≡ None
 is_none None e = refl
 is_none (Some x) e = cc
 
-held : (prefix : List ℕ) (o : Option SessionValue) (session : SessionValue) → o ≡ None → IsFresh prefix session → IsHeld prefix o session
-held prefix o session e fresh = subst (λ z. IsHeld prefix z session) (sym e) fresh
+held : (prefix : List ℕ) (o : Option SessionValue) (session : SessionValue) → o ≡ None → IsNewSession prefix session → IsSessionFor prefix o session
+held prefix o session e fresh = subst (λ z. IsSessionFor prefix z session) (sym e) fresh
 
 pub keep-requires : goal.keep-requires
 keep-requires g c = ap (λ (z : ServerValue). session_at z c.args.connection) (sym c.self.view_is) ∙ is_none (session_at (record { cache = c.self.inside.cache; prefix = c.self.inside.prefix; sessions = c.self.inside.sessions.entries }) c.args.connection) (sym c.contains_key.ensures ∙ c.if-contains_key.false)
