@@ -4,7 +4,7 @@ ghost use Rattle.blob_source.specs.Sink.{HasRight};
 ghost use Rattle.clap.specs.Words.{found_of, rows_of};
 ghost use Rattle.cli.specs.CommandLine.{option_text};
 ghost use Rattle.cli.specs.Status.{status_of};
-ghost use Rattle.remote.specs.Remote.{IsFresh, telling_of};
+ghost use Rattle.remote.specs.Remote.{IsFreshRemote, telling_of};
 
 use crate::error::CliError;
 use crate::options::{option_of, text_of, unlike};
@@ -177,7 +177,8 @@ impl<'a, S: Stream + Drop> Client<'a, S> {
         server: &Server<'a>,
         stream: S,
     ) -> Result<Client<'a, S>, AllocError>
-        ensures { IfOk result (λ client. IsFresh S.flow stream server.now.host server.now.prefix client.remote) }
+        ensures { IfOk result (λ client. IsFreshRemote S.flow stream
+            server.now.host server.now.prefix client.remote) }
     {
         Ok(Client {
             address: server.address,
