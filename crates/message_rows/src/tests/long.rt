@@ -32,16 +32,64 @@ const DIGITS: &[u32] = &[1000, 100, 10, 1];
 
 /// Each repeated field.
 static ROWS: [Row; 11] = [
-    (Kind::Directory, &[], b"\x0aL\x0a\x04", DIGITS, &[b"\x12D\x0a@", NINE, b"\x10\x09"]),
-    (Kind::Directory, &[], b"\x12J\x0a\x04", DIGITS, &[b"\x12B\x0a@", EMPTY]),
-    (Kind::Directory, &[], b"\x1a\x09\x0a\x04", DIGITS, &[b"\x12\x01t"]),
-    (Kind::Tree, &[b"\x0aI\x12G\x0a\x01d\x12B\x0a@", EMPTY], b"\x12\x00", &[], &[]),
+    (
+        Kind::Directory,
+        &[],
+        b"\x0aL\x0a\x04",
+        DIGITS,
+        &[b"\x12D\x0a@", NINE, b"\x10\x09"],
+    ),
+    (
+        Kind::Directory,
+        &[],
+        b"\x12J\x0a\x04",
+        DIGITS,
+        &[b"\x12B\x0a@", EMPTY],
+    ),
+    (
+        Kind::Directory,
+        &[],
+        b"\x1a\x09\x0a\x04",
+        DIGITS,
+        &[b"\x12\x01t"],
+    ),
+    (
+        Kind::Tree,
+        &[b"\x0aI\x12G\x0a\x01d\x12B\x0a@", EMPTY],
+        b"\x12\x00",
+        &[],
+        &[],
+    ),
     (Kind::Platform, &[], b"\x0a\x06\x0a\x04", DIGITS, &[]),
     (Kind::Command, &[], b"\x0a\x04", DIGITS, &[]),
-    (Kind::Command, &[b"\x0a\x09/bin/true"], b"\x12\x06\x0a\x04", DIGITS, &[]),
-    (Kind::Command, &[b"\x0a\x09/bin/true"], b":\x04", DIGITS, &[]),
-    (Kind::Result, &[], b"\x12L\x0a\x04", DIGITS, &[b"\x12D\x0a@", NINE, b"\x10\x09"]),
-    (Kind::Result, &[], b"\x1aL\x0a\x04", DIGITS, &[b"\x1aD\x0a@", NINE, b"\x10\x09"]),
+    (
+        Kind::Command,
+        &[b"\x0a\x09/bin/true"],
+        b"\x12\x06\x0a\x04",
+        DIGITS,
+        &[],
+    ),
+    (
+        Kind::Command,
+        &[b"\x0a\x09/bin/true"],
+        b":\x04",
+        DIGITS,
+        &[],
+    ),
+    (
+        Kind::Result,
+        &[],
+        b"\x12L\x0a\x04",
+        DIGITS,
+        &[b"\x12D\x0a@", NINE, b"\x10\x09"],
+    ),
+    (
+        Kind::Result,
+        &[],
+        b"\x1aL\x0a\x04",
+        DIGITS,
+        &[b"\x1aD\x0a@", NINE, b"\x10\x09"],
+    ),
     (Kind::Result, &[], b"b\x09\x0a\x04", DIGITS, &[b"\x12\x01t"]),
 ];
 
