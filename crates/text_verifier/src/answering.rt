@@ -46,14 +46,7 @@ pub fn answer<A: Allocator + Copy, S: BlobSource<A>>(
         (question_of digests.now.sources digests.now.claim plan.now noted.now)) list
         → (S.tells source.new).calls ≤ (S.tells source.old).calls + length list }
 {
-    let verdict = verify(
-        alloc,
-        &digests.sources,
-        plan,
-        noted,
-        &digests.claim,
-        source,
-    )?;
+    let verdict = verify(alloc, &digests.sources, plan, noted, &digests.claim, source)?;
     Ok(Answer {
         line: report(alloc, &verdict)?,
         is_yes: is_yes(&verdict),

@@ -6,8 +6,8 @@ use Rattle.clap.specs.Simple.{App, HasMatchesOf, is_simple}
 use Rattle.clap.specs.Words.{FailsBy, Text, fault_of, is_simple_and_free, subcommand_of, subcommand_rows_of}
 use Rattle.clap.specs.declared.error.Error.{Error}
 use Rattle.clap.specs.declared.parser.matches.ArgMatches.{ArgMatches}
-use Rattle.cli.specs.CommandLine.{program_line}
-use Rattle.cli.proofs.words.parse.Goals as goal
+use Rattle.command_lines.specs.CommandLine.{program_line}
+use Rattle.command_lines.proofs.words.parse.Goals as goal
 
 simple : is_simple program_line ≡ true
 unfolding clap_on_literals

@@ -1,6 +1,6 @@
 use Rattle.std.proofs.Common.{refl, inl, inr}
 use Rattle.clap.proofs.OnLiterals.{clap_on_literals}
-use Rattle.cli.proofs.laws.words_are_understood.Goals as goal
+use Rattle.command_lines.proofs.laws.words_are_understood.Goals as goal
 
 pub returns : goal.returns
 unfolding clap_on_literals

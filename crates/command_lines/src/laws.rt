@@ -1,6 +1,6 @@
 ghost use Rattle.std.specs.Prelude.{[], ◌∷◌, codes};
 ghost use Rattle.clap.specs.Words.{Text};
-ghost use Rattle.cli.specs.CommandLine.{AsksForHelp, AsksVerify, verify_words};
+ghost use Rattle.command_lines.specs.CommandLine.{AsksForHelp, AsksVerify, verify_words};
 
 /// What words ask for: `verify` with a text for each option, help, and the version. A law: it
 /// does nothing.

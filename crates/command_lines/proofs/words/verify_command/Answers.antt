@@ -3,7 +3,7 @@ use Rattle.std.proofs.lemmas.Result.{IfOk-weaker}
 use Rattle.clap.specs.Simple.{app_of_fields}
 use Rattle.clap.specs.Words.{app_of, new_app, with_rule}
 use Rattle.std.specs.Prelude.{codes}
-use Rattle.cli.proofs.words.verify_command.Goals as goal
+use Rattle.command_lines.proofs.words.verify_command.Goals as goal
 
 pub returns : goal.returns
 returns c =

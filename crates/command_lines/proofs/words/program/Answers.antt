@@ -3,7 +3,7 @@ use Rattle.std.specs.Prelude.{codes, not, ◌&&◌}
 use Rattle.std.proofs.lemmas.Result.{IfOk-weaker}
 use Rattle.clap.specs.Simple.{app_of_fields, on_top}
 use Rattle.clap.specs.Words.{App, app_of, new_app, with_subcommand}
-use Rattle.cli.proofs.words.program.Goals as goal
+use Rattle.command_lines.proofs.words.program.Goals as goal
 
 -- where the third of some tests holds
 third_holds : (a b x rest : Bool) → (a && (b && (not x && rest))) ≡ true → x ≡ false
