@@ -22,7 +22,7 @@ use std::alloc::{AllocError, Global};
 use std::io::Write;
 use std::net::{Net, TcpStream};
 use std::rt::Files;
-use text_verifier::{Answer, Digests, TextError, answer, read_digests, read_plan, read_record};
+use text_verifier::{Answer, Digests, TextError, answer_question, read_digests, read_plan, read_record};
 use tree::FetchError;
 
 /// Where the recorded build is.
@@ -155,7 +155,7 @@ fn judge_folder<R: Files + AllocGlobal>(
 {
     let folder = String::from_str(rt.alloc(), folder)?;
     let mut source = FolderSource::new(rt, folder);
-    match answer(rt.alloc(), digests, plan, noted, &mut source) {
+    match answer_question(rt.alloc(), digests, plan, noted, &mut source) {
         Ok(answer) => Ok(answer),
         Err(TextError::Fetch) => match source.into_error() {
             Some(error) => Err(CliError::from(error)),
@@ -179,7 +179,7 @@ fn judge_server<R: AllocGlobal + Net<Stream = TcpStream>>(
     ensures fault { IfErr result (λ e. status_of e ≡ 3) }
 {
     let mut source = open(rt, server)?;
-    match answer(rt.alloc(), digests, plan, noted, &mut source) {
+    match answer_question(rt.alloc(), digests, plan, noted, &mut source) {
         Ok(answer) => Ok(answer),
         Err(TextError::Fetch) => Err(source.error(rt.alloc(), FetchError::Failed)?),
         Err(_e) => Err(CliError::Memory),

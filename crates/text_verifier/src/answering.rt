@@ -25,7 +25,7 @@ pub struct Answer<A: Allocator> {
 }
 
 /// The answer on a plan and its record, by what the source tells.
-pub fn answer<A: Allocator + Copy, S: BlobSource<A>>(
+pub fn answer_question<A: Allocator + Copy, S: BlobSource<A>>(
     alloc: A,
     digests: &Digests,
     plan: &Plan<A>,

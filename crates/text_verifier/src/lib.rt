@@ -7,7 +7,7 @@ mod error;
 mod reading;
 mod verifying;
 
-pub use answering::{Answer, answer};
+pub use answering::{Answer, answer_question};
 pub use error::TextError;
 pub use reading::{Digests, read_digests, read_plan, read_record};
 pub use verifying::verify_texts;

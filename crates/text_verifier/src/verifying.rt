@@ -5,7 +5,7 @@ ghost use Rattle.text_verifier.specs.Refused.{FailsTexts, IsNoFault, IsTextFault
 ghost use Rattle.text_verifier.specs.Texts.{HasTexts, Question};
 ghost use Rattle.tree.specs.Memo.{Asked, Covers};
 
-use crate::answering::{Answer, answer};
+use crate::answering::{Answer, answer_question};
 use crate::error::TextError;
 use crate::reading::{read_digests, read_plan, read_record};
 use std::alloc::Allocator;
@@ -44,5 +44,5 @@ pub fn verify_texts<A: Allocator + Copy, S: BlobSource<A>>(
     let digests = read_digests(sources, claim)?;
     let plan = read_plan(alloc, plan)?;
     let noted = read_record(alloc, noted, &plan)?;
-    answer(alloc, &digests, &plan, &noted, source)
+    answer_question(alloc, &digests, &plan, &noted, source)
 }
