@@ -89,6 +89,12 @@ pub data FailsVerify (options : List Row) (e : CliError) : Type 0 where
       → FailsVerify options e
   in_work : HasQuestion options → status_of e ≡ 3 → FailsVerify options e
 
+-- an error with this status is the first fault
+pub record IsRefused (options : List Row) (status : ℕ) : Type 0 where
+  pub error : CliError
+  pub first : FailsVerify options error
+  pub status_is : status_of error ≡ status
+
 -- ---- how the fault of a text is told
 
 abbrev pub IsToldAs : List Row → TextError → CliError → Type 0

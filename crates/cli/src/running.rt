@@ -1,8 +1,10 @@
-ghost use Rattle.std.specs.Prelude.{◌≡◌, ◌⊎◌, ◌<◌, Err, IfErr, IfOk, map, string_bytes};
+ghost use Rattle.std.specs.Prelude.{◌≡◌, ◌⊎◌, ◌<◌, ◌≤◌, Err, IfErr, IfOk, codes, map, string_bytes};
 ghost use Rattle.clap.specs.Words.{kind_of};
 ghost use Rattle.cli.specs.Faults.{IsShownFault};
 ghost use Rattle.cli.specs.Printed.{IsDone, IsNo};
+ghost use Rattle.cli.specs.Refusal.{FailsVerify, IsRefused};
 ghost use Rattle.cli.specs.Status.{status_of};
+ghost use Rattle.command_lines.specs.CommandLine.{Calls, options_of};
 
 use crate::error::CliError;
 use crate::get_command::run_get;
@@ -43,6 +45,9 @@ where
     ensures unprinted { result ≡ 2 → O.contents out.new ≡ O.contents out.old }
     // With an answer, standard error stays as it was.
     ensures quiet { result < 2 → E.contents err.new ≡ E.contents err.old }
+    // With another status, where the words call `verify`, the first fault is told, in its order.
+    ensures refused { 2 ≤ result → Calls (map string_bytes words.now) (codes "verify")
+        → IsRefused (options_of (map string_bytes words.now)) result }
 {
     match run(rt, words, out) {
         Ok(Ended::Done) => 0,
@@ -62,6 +67,8 @@ where
     ensures done { IfOk result (λ ended. ended ≡ Ended.Done → IsDone (map string_bytes words.now) (O.contents out.old) (O.contents out.new)) }
     ensures no { IfOk result (λ ended. ended ≡ Ended.No → IsNo (map string_bytes words.now) (O.contents out.old) (O.contents out.new)) }
     ensures unprinted { IfErr result (λ fault. status_of fault ≡ 2 → O.contents out.new ≡ O.contents out.old) }
+    ensures refused { IfErr result (λ fault. Calls (map string_bytes words.now) (codes "verify")
+        → FailsVerify (options_of (map string_bytes words.now)) fault) }
 {
     let matches = match parse(rt.alloc(), words) {
         Ok(matches) => matches,
