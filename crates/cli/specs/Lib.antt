@@ -4,3 +4,4 @@ pub mod Printed
 pub mod Put
 pub mod Refusal
 pub mod Status
+pub mod Told

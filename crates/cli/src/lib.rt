@@ -10,6 +10,7 @@ mod options;
 mod put_command;
 mod running;
 mod serve_command;
+mod telling;
 mod verify_command;
 
 pub use running::run_words;

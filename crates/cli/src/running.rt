@@ -4,12 +4,14 @@ ghost use Rattle.cli.specs.Faults.{IsShownFault};
 ghost use Rattle.cli.specs.Printed.{IsDone, IsNo};
 ghost use Rattle.cli.specs.Refusal.{FailsVerify, IsRefused};
 ghost use Rattle.cli.specs.Status.{status_of};
+ghost use Rattle.cli.specs.Told.{TellsError};
 ghost use Rattle.command_lines.specs.CommandLine.{Calls, options_of};
 
 use crate::error::CliError;
 use crate::get_command::run_get;
 use crate::put_command::run_put;
 use crate::serve_command::run_serve;
+use crate::telling::tell;
 use crate::verify_command::run_verify;
 use clap::error::{Error, ErrorKind};
 use command_lines::parse;
@@ -45,7 +47,9 @@ where
     ensures unprinted { result ≡ 2 → O.contents out.new ≡ O.contents out.old }
     // With an answer, standard error stays as it was.
     ensures quiet { result < 2 → E.contents err.new ≡ E.contents err.old }
-    // With another status, where the words call `verify`, the first fault is told, in its order.
+    // With another status it grew by one line that begins `error: `, or by a beginning of it.
+    ensures told { 2 ≤ result → TellsError (E.contents err.old) (E.contents err.new) }
+    // And where the words call `verify`, the error is for the first fault, in its order.
     ensures refused { 2 ≤ result → Calls (map string_bytes words.now) (codes "verify")
         → IsRefused (options_of (map string_bytes words.now)) result }
 {
@@ -53,8 +57,7 @@ where
         Ok(Ended::Done) => 0,
         Ok(Ended::No) => 1,
         Err(error) => {
-            let _ = writeln!(err, "error: {error}");
-            let _ = err.flush();
+            tell(rt.alloc(), &error, err);
             error.status()
         }
     }

@@ -22,7 +22,9 @@ use std::alloc::{AllocError, Global};
 use std::io::Write;
 use std::net::{Net, TcpStream};
 use std::rt::Files;
-use text_verifier::{Answer, Digests, TextError, answer_question, read_digests, read_plan, read_record};
+use text_verifier::{
+    Answer, Digests, TextError, answer_question, read_digests, read_plan, read_record,
+};
 use tree::FetchError;
 
 /// Where the recorded build is.
@@ -211,7 +213,8 @@ fn print_line<O: Write>(answer: &Answer<Global>, out: &mut O) -> Result<(), CliE
         (string_bytes answer.now.line)) }
     ensures fault { IfErr result (λ e. status_of e ≡ 3) }
 {
-    out.write_all(answer.line.as_bytes()).map_err(CliError::Output)?;
+    out.write_all(answer.line.as_bytes())
+        .map_err(CliError::Output)?;
     out.flush().map_err(CliError::Output)?;
     Ok(())
 }

@@ -46,8 +46,7 @@ returns-in_err-print_line-clause-refused g c =
 
 pub returns-clause-printed : goal.returns-clause-printed
 returns-clause-printed g c =
-    let is = c.in_ok-answer.ensures.answered.1 in
-    (
+    let is = c.in_ok-answer.ensures.answered.1 in (
       record {
         place = c.in_ok-place.ensures.place;
         plan_bytes = c.in_ok-plan.ensures.found.0;
