@@ -5,7 +5,7 @@ use Rattle.std.specs.Option.{option_map_or}
 use Rattle.std.proofs.lemmas.Bool.{iff_false}
 use Rattle.clap.specs.Words.{Row, Text}
 use Rattle.verifier.specs.Verdict.{IsYes}
-use Rattle.cli.specs.CommandLine.{Calls, options_of}
+use Rattle.command_lines.specs.CommandLine.{Calls, options_of}
 use Rattle.cli.specs.Printed.{Does, GetsBlob, LacksBlob, PrintsVerdict, PrintsYes, PrintsNo, WritesBlob}
 
 -- the rows of the subcommand that was found are those of the one that the words call

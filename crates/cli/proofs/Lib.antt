@@ -1,2 +1,4 @@
 pub mod CommandLines
+pub mod Exits
 pub mod FileErrors
+pub mod Writing

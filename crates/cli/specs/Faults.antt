@@ -5,13 +5,11 @@ use Rattle.clap.specs.declared.error.kind.ErrorKind.TheVariants.{DisplayHelp, Di
 use Rattle.blob_digest.specs.Digest.{DigestValue, IsDigest}
 use Rattle.blob_digest.specs.Text.{digest_text, BeginsWithHash}
 use Rattle.blob_digest.specs.declared.error.DigestError.TheVariants.{BadHex}
-use Rattle.plan.specs.declared.error.ReadError.{ReadError}
-use Rattle.plan.specs.declared.error.ReadError.TheVariants as reading
 use Rattle.remote.specs.declared.files.FileError.{FileError}
 use Rattle.remote.specs.declared.files.FileError.TheVariants as files
 use Rattle.std.specs.declared.alloc.Global.{Global}
 use Rattle.cli.specs.declared.error.CliError.{CliError}
-use Rattle.cli.specs.declared.error.CliError.TheVariants.{Words, Digest, Text, File, NotAFile, TooLarge, Output, Memory}
+use Rattle.cli.specs.declared.error.CliError.TheVariants.{Words, Digest, File, NotAFile, TooLarge, Output, Memory}
 
 -- the text of an option spells no digest, or memory ran out
 abbrev pub IsDigestFault : List ℕ → List ℕ → CliError → Type 0
@@ -34,17 +32,6 @@ IsFileFault path (NotAFile p) = string_bytes p ≡ path
 IsFileFault path (TooLarge p) = string_bytes p ≡ path
 IsFileFault path Memory = Unit {0}
 IsFileFault path _ = ⊥
-
--- why the text of the file at this path was refused
-abbrev pub IsTextFault : List ℕ → ReadError → CliError → Type 0
-IsTextFault path (reading.Faulty fault) (Text p f) = (string_bytes p ≡ path) × (f ≡ fault)
-IsTextFault path reading.Memory Memory = Unit {0}
-IsTextFault path error e = ⊥
-
--- the file at this path is at fault, or its text, or memory ran out
-abbrev pub IsOfFile : List ℕ → CliError → Type 0
-IsOfFile path (Text p fault) = string_bytes p ≡ path
-IsOfFile path e = IsFileFault path e
 
 -- where clap gave no matches: the words are at fault, or help or the version could not be printed, or memory ran out
 abbrev pub IsShownFault : ErrorKind → CliError → Type 0

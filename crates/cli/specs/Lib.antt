@@ -1,6 +1,7 @@
-pub mod CommandLine
 pub mod Faults
 pub mod Got
 pub mod Printed
 pub mod Put
+pub mod Refusal
 pub mod Status
+pub mod Told

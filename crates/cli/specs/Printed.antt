@@ -2,35 +2,19 @@
 use Rattle.std.specs.Prelude.{◌≡◌, ◌⊎◌, ℕ, true, Bool, false, List, [], ◌∷◌, ◌++◌, Option, None, IsSome, codes}
 use Rattle.std.specs.Io.KnownBytes.{Appends}
 use Rattle.std.specs.declared.alloc.Global.{Global}
-use Rattle.blob_digest.specs.Digest.{DigestValue, IsDigest}
+use Rattle.blob_digest.specs.Digest.{DigestValue}
 use Rattle.blob_digest.specs.Text.{digest_text}
 use Rattle.clap.specs.Words.{Row, Text, first_of}
 use Rattle.http_core.specs.Prefix.{is_prefix}
-use Rattle.plan.specs.Plan.{IsPlan}
-use Rattle.plan.specs.Record.{RecordValue, IsRecord, Fits}
-use Rattle.plan.specs.Values.{PlanValue}
 use Rattle.report.specs.Line.{report_line}
 use Rattle.blob_source.specs.Sink.{HasRight}
 use Rattle.blob_source.specs.Source.{Telling}
 use Rattle.verifier.specs.declared.verdict.Verdict.{Verdict}
-use Rattle.verifier.specs.Headline.{EveryRunEndsIn, NoRunIsStuck}
-use Rattle.verifier.specs.Verdict.{IsVerdict, IsYes}
+use Rattle.verifier.specs.Verdict.{IsYes}
+use Rattle.text_verifier.specs.Answered.{IsJudged}
+use Rattle.text_verifier.specs.Texts.{HasTexts, Question, Spells}
 use Rattle.cli.specs.Got.{Writes}
-use Rattle.cli.specs.CommandLine.{Calls, AsksForHelp, option_text, options_of}
-
--- the text spells the digest
-pub record Spells (text : Text) (digest : DigestValue) : Type 0 where
-  pub lawful : IsDigest digest
-  pub text_is : text ≡ digest_text digest
-
--- The verdict on a plan and the recorded actions of its steps, by what a store told. Where it is
--- yes, every complete run of the plan ends in exactly the claimed root, and no run is ever stuck.
-pub record IsJudged (sources : DigestValue) (plan : PlanValue) (recorded : List DigestValue)
-    (claim : DigestValue) (v : Verdict Global) : Type 0 where
-  pub told : Telling
-  pub verdict : IsVerdict told sources plan recorded claim v
-  pub holds : IsYes v → EveryRunEndsIn told.blobs told.results sources plan recorded claim
-  pub unstuck : IsYes v → NoRunIsStuck told.blobs told.results sources plan recorded
+use Rattle.command_lines.specs.CommandLine.{Calls, AsksForHelp, option_text, options_of}
 
 -- the options name a store folder, and nothing of a server
 pub record NamesStore (options : List Row) : Type 0 where
@@ -49,21 +33,19 @@ pub record NamesServer (options : List Row) : Type 0 where
 abbrev pub NamesPlace : List Row → Type 0
 NamesPlace options = NamesStore options ⊎ NamesServer options
 
--- the line of a verdict was printed, of the one on the digests that the options spell, a plan, and
--- a record of it
+-- The line of a verdict was printed: of the one on the question that these texts ask, by what a
+-- store told. The texts are the two digests in the words, and the bytes that were read as the plan
+-- and as the record.
 pub record PrintsVerdict (options : List Row) (old new : Option (List ℕ)) : Type 0 where
-  pub sources : DigestValue
-  pub claim : DigestValue
-  pub plan : PlanValue
-  pub noted : RecordValue
-  pub verdict : Verdict Global
   pub place : NamesPlace options
-  pub sources_spelled : Spells (option_text options (codes "sources")) sources
-  pub claim_spelled : Spells (option_text options (codes "claim")) claim
-  pub plan_lawful : IsPlan plan
-  pub noted_lawful : IsRecord noted
-  pub fits : Fits noted plan
-  pub judged : IsJudged sources plan noted.digests claim verdict
+  pub plan_bytes : List ℕ
+  pub noted_bytes : List ℕ
+  pub question : Question
+  pub texts : HasTexts (option_text options (codes "sources")) (option_text options (codes "claim"))
+      plan_bytes noted_bytes question
+  pub told : Telling
+  pub verdict : Verdict Global
+  pub judged : IsJudged told question verdict
   pub printed : Appends old new (report_line verdict)
 
 -- the words call `verify`, and the line of its yes was printed

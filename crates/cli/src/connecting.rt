@@ -2,15 +2,17 @@ ghost use Rattle.std.specs.Prelude.{◌≡◌, IfErr, IfOk, codes};
 ghost use Rattle.blob_digest.specs.Digest.{digest_of};
 ghost use Rattle.blob_source.specs.Sink.{HasRight};
 ghost use Rattle.clap.specs.Words.{found_of, rows_of};
-ghost use Rattle.cli.specs.CommandLine.{option_text};
+ghost use Rattle.command_lines.specs.CommandLine.{option_text};
+ghost use Rattle.cli.specs.Refusal.{IsWordsFault};
 ghost use Rattle.cli.specs.Status.{status_of};
 ghost use Rattle.remote.specs.Remote.{IsFreshRemote, telling_of};
 
 use crate::error::CliError;
-use crate::options::{option_of, text_of, unlike};
+use crate::options::unlike;
 use blob_digest::Digest;
 use blob_source::{BlobSink, BlobSource, FetchError};
 use clap::ArgMatches;
+use command_lines::{option_of, text_of};
 use http_core::{Host, Prefix};
 use remote::{Remote, Stream};
 use std::alloc::{AllocError, Global};
@@ -49,7 +51,8 @@ fn is_address(text: &str) -> bool {
 }
 
 fn read_host(alloc: Global, address: &str) -> Result<Host<Global>, CliError>
-    ensures { IfOk result (λ host. host ≡ address.now) }
+    ensures host { IfOk result (λ host. host ≡ address.now) }
+    ensures fault { IfErr result IsWordsFault }
 {
     let host = Host::read(alloc, address)?;
     match host {
@@ -58,7 +61,9 @@ fn read_host(alloc: Global, address: &str) -> Result<Host<Global>, CliError>
     }
 }
 
-fn read_timeout(alloc: Global, matches: &ArgMatches<'_>) -> Result<Option<Duration>, CliError> {
+fn read_timeout(alloc: Global, matches: &ArgMatches<'_>) -> Result<Option<Duration>, CliError>
+    ensures { IfErr result IsWordsFault }
+{
     let Some(text) = option_of(matches, "timeout") else {
         return Ok(Some(Duration::from_secs(SILENT)));
     };
@@ -74,7 +79,8 @@ pub(crate) fn read_prefix(
     alloc: Global,
     matches: &ArgMatches<'_>,
 ) -> Result<Prefix<Global>, CliError>
-    ensures { IfOk result (λ prefix. prefix ≡ option_text (rows_of (found_of matches.now)) (codes "prefix")) }
+    ensures prefix { IfOk result (λ prefix. prefix ≡ option_text (rows_of (found_of matches.now)) (codes "prefix")) }
+    ensures fault { IfErr result IsWordsFault }
 {
     let text = text_of(matches, "prefix");
     match Prefix::read(alloc, text.as_bytes())? {
@@ -91,6 +97,7 @@ pub(crate) fn read_server<'a>(
 ) -> Result<Server<'a>, CliError>
     ensures host { IfOk result (λ server. server.host ≡ address.now) }
     ensures prefix { IfOk result (λ server. server.prefix ≡ option_text (rows_of (found_of matches.now)) (codes "prefix")) }
+    ensures fault { IfErr result IsWordsFault }
 {
     let host = read_host(alloc, address)?;
     let timeout = read_timeout(alloc, matches)?;

@@ -6,10 +6,11 @@ ghost use Rattle.cli.specs.Status.{status_of};
 
 use crate::connecting::{Client, open, read_server};
 use crate::error::CliError;
-use crate::options::{read_digest, text_of};
+use crate::options::read_digest;
 use blob_digest::Digest;
 use blob_source::{Fetched, fetch_blob};
 use clap::ArgMatches;
+use command_lines::text_of;
 use remote::Stream;
 use std::alloc::Global;
 use std::io::Write;

@@ -6,13 +6,11 @@ mod connecting;
 mod error;
 mod files;
 mod get_command;
-mod laws;
 mod options;
 mod put_command;
 mod running;
 mod serve_command;
+mod telling;
 mod verify_command;
-mod words;
 
-pub use laws::words_are_understood;
 pub use running::run_words;

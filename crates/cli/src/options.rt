@@ -1,27 +1,15 @@
-ghost use Rattle.std.specs.Prelude.{◌≡◌, IfErr, IfOk, option_map};
-ghost use Rattle.clap.specs.Words.{found_of, first_of, rows_of};
-ghost use Rattle.cli.specs.CommandLine.{option_text};
+ghost use Rattle.std.specs.Prelude.{IfErr, IfOk};
+ghost use Rattle.clap.specs.Words.{found_of, rows_of};
+ghost use Rattle.command_lines.specs.CommandLine.{option_text};
 ghost use Rattle.cli.specs.Faults.{IsDigestFault};
-ghost use Rattle.cli.specs.Printed.{Spells};
+ghost use Rattle.cli.specs.Refusal.{IsWordsFault};
+ghost use Rattle.text_verifier.specs.Texts.{Spells};
 
 use crate::error::CliError;
 use blob_digest::Digest;
 use clap::ArgMatches;
+use command_lines::text_of;
 use std::alloc::{AllocError, Global};
-
-/// The text of an option, where it is there.
-pub(crate) fn option_of<'a>(matches: &ArgMatches<'a>, option: &'static str) -> Option<&'a str>
-    ensures { option_map (λ s. s.now) result ≡ first_of option.now (rows_of (found_of matches.now)) }
-{
-    matches.get_str(option)
-}
-
-/// The text of an option that clap has found to be there.
-pub(crate) fn text_of<'a>(matches: &ArgMatches<'a>, option: &'static str) -> &'a str
-    ensures { result.now ≡ option_text (rows_of (found_of matches.now)) option.now }
-{
-    option_of(matches, option).unwrap_or("")
-}
 
 /// The digest that an option spells.
 pub(crate) fn read_digest(
@@ -49,7 +37,9 @@ pub(crate) fn unlike(
     option: &'static str,
     wanted: &'static str,
     text: &str,
-) -> Result<CliError, AllocError> {
+) -> Result<CliError, AllocError>
+    ensures { IfOk result IsWordsFault }
+{
     Ok(CliError::Unlike {
         option,
         wanted,

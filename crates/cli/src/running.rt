@@ -1,16 +1,20 @@
-ghost use Rattle.std.specs.Prelude.{◌≡◌, ◌⊎◌, ◌<◌, Err, IfErr, IfOk, map, string_bytes};
+ghost use Rattle.std.specs.Prelude.{◌≡◌, ◌⊎◌, ◌<◌, ◌≤◌, Err, IfErr, IfOk, codes, map, string_bytes};
 ghost use Rattle.clap.specs.Words.{kind_of};
 ghost use Rattle.cli.specs.Faults.{IsShownFault};
 ghost use Rattle.cli.specs.Printed.{IsDone, IsNo};
+ghost use Rattle.cli.specs.Refusal.{FailsVerify, IsRefused};
 ghost use Rattle.cli.specs.Status.{status_of};
+ghost use Rattle.cli.specs.Told.{TellsError};
+ghost use Rattle.command_lines.specs.CommandLine.{Calls, options_of};
 
 use crate::error::CliError;
 use crate::get_command::run_get;
 use crate::put_command::run_put;
 use crate::serve_command::run_serve;
+use crate::telling::tell;
 use crate::verify_command::run_verify;
-use crate::words::parse;
 use clap::error::{Error, ErrorKind};
+use command_lines::parse;
 use log::Log;
 use std::alloc::{AllocError, Global};
 use std::io::Write;
@@ -43,13 +47,17 @@ where
     ensures unprinted { result ≡ 2 → O.contents out.new ≡ O.contents out.old }
     // With an answer, standard error stays as it was.
     ensures quiet { result < 2 → E.contents err.new ≡ E.contents err.old }
+    // With another status it grew by one line that begins `error: `, or by a beginning of it.
+    ensures told { 2 ≤ result → TellsError (E.contents err.old) (E.contents err.new) }
+    // And where the words call `verify`, the error is for the first fault, in its order.
+    ensures refused { 2 ≤ result → Calls (map string_bytes words.now) (codes "verify")
+        → IsRefused (options_of (map string_bytes words.now)) result }
 {
     match run(rt, words, out) {
         Ok(Ended::Done) => 0,
         Ok(Ended::No) => 1,
         Err(error) => {
-            let _ = writeln!(err, "error: {error}");
-            let _ = err.flush();
+            tell(rt.alloc(), &error, err);
             error.status()
         }
     }
@@ -62,6 +70,8 @@ where
     ensures done { IfOk result (λ ended. ended ≡ Ended.Done → IsDone (map string_bytes words.now) (O.contents out.old) (O.contents out.new)) }
     ensures no { IfOk result (λ ended. ended ≡ Ended.No → IsNo (map string_bytes words.now) (O.contents out.old) (O.contents out.new)) }
     ensures unprinted { IfErr result (λ fault. status_of fault ≡ 2 → O.contents out.new ≡ O.contents out.old) }
+    ensures refused { IfErr result (λ fault. Calls (map string_bytes words.now) (codes "verify")
+        → FailsVerify (options_of (map string_bytes words.now)) fault) }
 {
     let matches = match parse(rt.alloc(), words) {
         Ok(matches) => matches,

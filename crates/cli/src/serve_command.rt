@@ -4,9 +4,9 @@ ghost use Rattle.cli.specs.Status.{status_of};
 
 use crate::connecting::{number_in, read_prefix};
 use crate::error::CliError;
-use crate::options::text_of;
 use cache_server::Cache;
 use clap::ArgMatches;
+use command_lines::text_of;
 use http_core::Prefix;
 use log::Log;
 use service::serve;

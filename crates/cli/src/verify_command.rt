@@ -1,29 +1,31 @@
-ghost use Rattle.std.specs.Prelude.{◌≡◌, ◌↔◌, IfErr, IfNone, IfOk, IsTrue, None, OnOk, codes};
+ghost use Rattle.std.specs.Prelude.{◌≡◌, ◌↔◌, ℕ, List, IfErr, IfNone, IfOk, IsTrue, None, OnOk, codes, string_bytes};
 ghost use Rattle.std.specs.Io.KnownBytes.{Appends};
+ghost use Rattle.blob_source.specs.Source.{Telling};
 ghost use Rattle.clap.specs.Words.{found_of, first_of, rows_of};
-ghost use Rattle.cli.specs.Faults.{IsOfFile, IsTextFault};
-ghost use Rattle.cli.specs.Printed.{IsJudged, NamesPlace, PrintsVerdict};
+ghost use Rattle.cli.specs.Printed.{NamesPlace, PrintsVerdict};
+ghost use Rattle.cli.specs.Refusal.{FailsDigests, FailsPlan, FailsRecord, FailsVerify, IsToldAs, IsWordsFault};
 ghost use Rattle.cli.specs.Status.{status_of};
-ghost use Rattle.plan.specs.Plan.{IsPlan};
-ghost use Rattle.plan.specs.Record.{IsRecord, Fits};
-ghost use Rattle.report.specs.Line.{report_line};
+ghost use Rattle.command_lines.specs.CommandLine.{option_text};
+ghost use Rattle.plan.specs.Record.{Fits};
+ghost use Rattle.text_verifier.specs.Answered.{IsAnswer};
+ghost use Rattle.text_verifier.specs.Texts.{HasPlan, HasRecord, Spells, question_of};
 ghost use Rattle.verifier.specs.Verdict.{IsYes};
 
 use crate::connecting::{Server, open, read_server};
 use crate::error::CliError;
 use crate::files::read_file;
-use crate::options::{option_of, read_digest, text_of};
-use blob_digest::Digest;
 use clap::ArgMatches;
-use plan::{Plan, ReadError, Record};
+use command_lines::{option_of, text_of};
+use plan::{Plan, Record};
 use remote::FolderSource;
-use report::{is_yes, report};
 use std::alloc::{AllocError, Global};
 use std::io::Write;
 use std::net::{Net, TcpStream};
 use std::rt::Files;
+use text_verifier::{
+    Answer, Digests, TextError, answer_question, read_digests, read_plan, read_record,
+};
 use tree::FetchError;
-use verifier::{Verdict, VerifyError, verify};
 
 /// Where the recorded build is.
 #[derive(Drop)]
@@ -32,47 +34,88 @@ enum Place<'a> {
     Server(Server<'a>),
 }
 
-/// The error of a text that can't be read.
-fn text_error(alloc: Global, path: &str, error: ReadError) -> Result<CliError, AllocError>
-    ensures { IfOk result (IsTextFault path.now error) }
+/// The error of texts: it names the option or the file whose text is at fault.
+fn text_error(
+    alloc: Global,
+    matches: &ArgMatches<'_>,
+    error: TextError,
+) -> Result<CliError, AllocError>
+    ensures { IfOk result (IsToldAs (rows_of (found_of matches.now)) error) }
 {
     match error {
-        ReadError::Memory => Ok(CliError::Memory),
-        ReadError::Faulty(fault) => Ok(CliError::Text {
-            path: String::from_str(alloc, path)?,
+        TextError::Sources(fault) => Ok(CliError::Digest {
+            option: "sources",
+            text: String::from_str(alloc, text_of(matches, "sources"))?,
             fault,
         }),
+        TextError::Claim(fault) => Ok(CliError::Digest {
+            option: "claim",
+            text: String::from_str(alloc, text_of(matches, "claim"))?,
+            fault,
+        }),
+        TextError::Plan(fault) => Ok(CliError::Text {
+            path: String::from_str(alloc, text_of(matches, "plan"))?,
+            fault,
+        }),
+        TextError::Record(fault) => Ok(CliError::Text {
+            path: String::from_str(alloc, text_of(matches, "record"))?,
+            fault,
+        }),
+        TextError::Fetch | TextError::Memory => Ok(CliError::Memory),
     }
 }
 
-fn read_plan<R: Files + AllocGlobal>(rt: &R, path: &str) -> Result<Plan<Global>, CliError>
-    ensures found { IfOk result IsPlan }
-    ensures fault { IfErr result (IsOfFile path.now) }
+/// The digests that the words spell.
+fn typed_digests(alloc: Global, matches: &ArgMatches<'_>) -> Result<Digests, CliError>
+    ensures sources { IfOk result (λ digests.
+        Spells (option_text (rows_of (found_of matches.now)) (codes "sources")) digests.sources) }
+    ensures claim { IfOk result (λ digests.
+        Spells (option_text (rows_of (found_of matches.now)) (codes "claim")) digests.claim) }
+    ensures fault { IfErr result (FailsDigests (rows_of (found_of matches.now))) }
 {
-    match Plan::read(rt.alloc(), &read_file(rt, path)?) {
-        Ok(plan) => Ok(plan),
-        Err(error) => Err(text_error(rt.alloc(), path, error)?),
+    let sources = text_of(matches, "sources");
+    let claim = text_of(matches, "claim");
+    match read_digests(sources.as_bytes(), claim.as_bytes()) {
+        Ok(digests) => Ok(digests),
+        Err(error) => Err(text_error(alloc, matches, error)?),
     }
 }
 
-/// The record of the plan that stands in the file.
-fn read_record<R: Files + AllocGlobal>(
+/// The plan in the file that the words name.
+fn plan_in_file<R: Files + AllocGlobal>(
     rt: &R,
-    path: &str,
+    matches: &ArgMatches<'_>,
+) -> Result<Plan<Global>, CliError>
+    ensures found { IfOk result (λ plan. (bytes : List ℕ) × HasPlan bytes plan) }
+    ensures fault { IfErr result (FailsPlan (rows_of (found_of matches.now))) }
+{
+    let bytes = read_file(rt, text_of(matches, "plan"))?;
+    match read_plan(rt.alloc(), &bytes) {
+        Ok(plan) => Ok(plan),
+        Err(error) => Err(text_error(rt.alloc(), matches, error)?),
+    }
+}
+
+/// The record of the plan, in the file that the words name.
+fn record_in_file<R: Files + AllocGlobal>(
+    rt: &R,
+    matches: &ArgMatches<'_>,
     plan: &Plan<Global>,
 ) -> Result<Record<Global>, CliError>
-    ensures found { IfOk result (λ noted. IsRecord noted × Fits noted plan.now) }
-    ensures fault { IfErr result (IsOfFile path.now) }
+    ensures found { IfOk result (λ noted. (bytes : List ℕ) × HasRecord plan.now bytes noted) }
+    ensures fault { IfErr result (FailsRecord (rows_of (found_of matches.now)) plan.now) }
 {
-    match Record::read(rt.alloc(), &read_file(rt, path)?, plan) {
-        Ok(record) => Ok(record),
-        Err(error) => Err(text_error(rt.alloc(), path, error)?),
+    let bytes = read_file(rt, text_of(matches, "record"))?;
+    match read_record(rt.alloc(), &bytes, plan) {
+        Ok(noted) => Ok(noted),
+        Err(error) => Err(text_error(rt.alloc(), matches, error)?),
     }
 }
 
 /// Where the words say that the recorded build is: a store folder or a server, and not both.
 fn read_place<'a>(alloc: Global, matches: &ArgMatches<'a>) -> Result<Place<'a>, CliError>
-    ensures { OnOk result (NamesPlace (rows_of (found_of matches.now))) }
+    ensures place { OnOk result (NamesPlace (rows_of (found_of matches.now))) }
+    ensures fault { IfErr result IsWordsFault }
 {
     let fault = match (option_of(matches, "store"), option_of(matches, "server")) {
         (Some(folder), None) => match remote_option(matches) {
@@ -99,85 +142,86 @@ fn remote_option(matches: &ArgMatches<'_>) -> Option<&'static str>
     option_of(matches, "timeout").map(|_| "timeout")
 }
 
-/// The verdict over the store folder.
+/// The answer over the store folder.
 fn judge_folder<R: Files + AllocGlobal>(
     rt: &R,
     folder: &str,
-    sources: &Digest,
+    digests: &Digests,
     plan: &Plan<Global>,
     noted: &Record<Global>,
-    claim: &Digest,
-) -> Result<Verdict<Global>, CliError>
+) -> Result<Answer<Global>, CliError>
     requires { Fits noted.now plan.now }
-    ensures judged { IfOk result (IsJudged sources.now plan.now noted.now.digests claim.now) }
+    ensures answered { IfOk result (λ answer. (told : Telling) × IsAnswer told
+        (question_of digests.now.sources digests.now.claim plan.now noted.now) answer) }
+    ensures fault { IfErr result (λ e. status_of e ≡ 3) }
 {
     let folder = String::from_str(rt.alloc(), folder)?;
     let mut source = FolderSource::new(rt, folder);
-    match verify(rt.alloc(), sources, plan, noted, claim, &mut source) {
-        Ok(verdict) => Ok(verdict),
-        Err(VerifyError::Memory) => Err(CliError::Memory),
-        Err(VerifyError::Fetch) => match source.into_error() {
+    match answer_question(rt.alloc(), digests, plan, noted, &mut source) {
+        Ok(answer) => Ok(answer),
+        Err(TextError::Fetch) => match source.into_error() {
             Some(error) => Err(CliError::from(error)),
             None => Err(CliError::Memory),
         },
+        Err(_e) => Err(CliError::Memory),
     }
 }
 
-/// The verdict over the server.
+/// The answer over the server.
 fn judge_server<R: AllocGlobal + Net<Stream = TcpStream>>(
     rt: &R,
     server: &Server<'_>,
-    sources: &Digest,
+    digests: &Digests,
     plan: &Plan<Global>,
     noted: &Record<Global>,
-    claim: &Digest,
-) -> Result<Verdict<Global>, CliError>
+) -> Result<Answer<Global>, CliError>
     requires { Fits noted.now plan.now }
-    ensures judged { IfOk result (IsJudged sources.now plan.now noted.now.digests claim.now) }
+    ensures answered { IfOk result (λ answer. (told : Telling) × IsAnswer told
+        (question_of digests.now.sources digests.now.claim plan.now noted.now) answer) }
+    ensures fault { IfErr result (λ e. status_of e ≡ 3) }
 {
     let mut source = open(rt, server)?;
-    match verify(rt.alloc(), sources, plan, noted, claim, &mut source) {
-        Ok(verdict) => Ok(verdict),
-        Err(VerifyError::Memory) => Err(CliError::Memory),
-        Err(VerifyError::Fetch) => Err(source.error(rt.alloc(), FetchError::Failed)?),
+    match answer_question(rt.alloc(), digests, plan, noted, &mut source) {
+        Ok(answer) => Ok(answer),
+        Err(TextError::Fetch) => Err(source.error(rt.alloc(), FetchError::Failed)?),
+        Err(_e) => Err(CliError::Memory),
     }
 }
 
-/// The verdict over the place where the recorded build is.
+/// The answer over the place where the recorded build is.
 fn judge<R: AllocGlobal + Files + Net<Stream = TcpStream>>(
     rt: &R,
     place: &Place<'_>,
-    sources: &Digest,
+    digests: &Digests,
     plan: &Plan<Global>,
     noted: &Record<Global>,
-    claim: &Digest,
-) -> Result<Verdict<Global>, CliError>
+) -> Result<Answer<Global>, CliError>
     requires { Fits noted.now plan.now }
-    ensures judged { IfOk result (IsJudged sources.now plan.now noted.now.digests claim.now) }
+    ensures answered { IfOk result (λ answer. (told : Telling) × IsAnswer told
+        (question_of digests.now.sources digests.now.claim plan.now noted.now) answer) }
+    ensures fault { IfErr result (λ e. status_of e ≡ 3) }
 {
     match place {
-        Place::Folder(folder) => judge_folder(rt, folder, sources, plan, noted, claim),
-        Place::Server(server) => judge_server(rt, server, sources, plan, noted, claim),
+        Place::Folder(folder) => judge_folder(rt, folder, digests, plan, noted),
+        Place::Server(server) => judge_server(rt, server, digests, plan, noted),
     }
 }
 
-/// Prints the verdict's line.
-fn print_verdict<O: Write>(
-    alloc: Global,
-    verdict: &Verdict<Global>,
-    out: &mut O,
-) -> Result<(), CliError>
-    ensures printed { OnOk result (Appends (O.contents out.old) (O.contents out.new) (report_line verdict.now)) }
+/// Prints the line of the answer.
+fn print_line<O: Write>(answer: &Answer<Global>, out: &mut O) -> Result<(), CliError>
+    ensures printed { OnOk result (Appends (O.contents out.old) (O.contents out.new)
+        (string_bytes answer.now.line)) }
     ensures fault { IfErr result (λ e. status_of e ≡ 3) }
 {
-    let line = report(alloc, verdict)?;
-    out.write_all(line.as_bytes()).map_err(CliError::Output)?;
+    out.write_all(answer.line.as_bytes())
+        .map_err(CliError::Output)?;
     out.flush().map_err(CliError::Output)?;
     Ok(())
 }
 
-/// Prints the verdict's line, and answers whether it is yes. The digests are read first, then the
-/// plan's file and its text, then the record's; then the store or the server is asked.
+/// Prints the verdict's line, and answers whether it is yes. The steps are those of
+/// `verify_texts`: the digests are read first, then the plan's file and its text, then the
+/// record's; then the store or the server is asked.
 pub(crate) fn run_verify<R, O: Write>(
     rt: &R,
     matches: &ArgMatches<'_>,
@@ -189,13 +233,14 @@ where
         (prints : PrintsVerdict (rows_of (found_of matches.now)) (O.contents out.old) (O.contents out.new))
         × (IsTrue positive ↔ IsYes prints.verdict)) }
     ensures unprinted { IfErr result (λ fault. status_of fault ≡ 2 → O.contents out.new ≡ O.contents out.old) }
+    // A refusal is for the first fault: what comes before it has none.
+    ensures refused { IfErr result (FailsVerify (rows_of (found_of matches.now))) }
 {
     let place = read_place(rt.alloc(), matches)?;
-    let sources = read_digest(rt.alloc(), matches, "sources")?;
-    let claim = read_digest(rt.alloc(), matches, "claim")?;
-    let plan = read_plan(rt, text_of(matches, "plan"))?;
-    let noted = read_record(rt, text_of(matches, "record"), &plan)?;
-    let verdict = judge(rt, &place, &sources, &plan, &noted, &claim)?;
-    print_verdict(rt.alloc(), &verdict, out)?;
-    Ok(is_yes(&verdict))
+    let digests = typed_digests(rt.alloc(), matches)?;
+    let plan = plan_in_file(rt, matches)?;
+    let noted = record_in_file(rt, matches, &plan)?;
+    let answer = judge(rt, &place, &digests, &plan, &noted)?;
+    print_line(&answer, out)?;
+    Ok(answer.is_yes)
 }

@@ -1,6 +1,6 @@
 use Rattle.std.proofs.Common.{rules, inl, map, string_bytes, codes}
 use Rattle.clap.specs.Words.{subcommand_of, subcommand_rows_of}
-use Rattle.cli.specs.CommandLine.{Calls, program_line}
+use Rattle.command_lines.specs.CommandLine.{Calls, program_line}
 use Rattle.cli.proofs.CommandLines.{options_found, yes_printed, no_printed}
 use Rattle.cli.proofs.running.run.Goals as goal
 

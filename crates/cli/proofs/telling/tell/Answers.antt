@@ -1,0 +1,24 @@
+use Rattle.std.proofs.Common.{refl, rules, subst, sym}
+use Rattle.std.specs.Prelude.{codes}
+use Rattle.cli.specs.Told.{AppendsBeginning, IsErrorLine}
+use Rattle.cli.proofs.Writing.{tells_by}
+use Rattle.cli.proofs.telling.tell.Goals as goal
+use Rattle.cli.proofs.telling.tell.Goals.{in-Ok, in-Err}
+
+no_memory : IsErrorLine (codes "error: out of memory\n")
+no_memory = record { told = codes "out of memory"; one = search rules; line_is = refl }
+
+pub returns : goal.returns
+returns g c =
+    let old = g.E.Write.contents c.args.err.now in
+    let mid = g.E.Write.contents c.match-error_line.err in
+    let new = g.E.Write.contents c.flush.new.self in
+    elim c.match-error_line.branch [
+      | in-Ok w ↦ tells_by old mid new w.in-Ok.line.items (w.in-Ok.ensures {u = tt})
+          (subst (λ e. AppendsBeginning old (g.E.Write.contents e) w.in-Ok.line.items) (sym w.err-is)
+          (subst (AppendsBeginning old (g.E.Write.contents w.write_beginning.new.out)) w.deref.ensures.value w.write_beginning.ensures))
+          c.flush.ensures.bytes
+      | in-Err w ↦ tells_by old mid new (codes "error: out of memory\n") no_memory
+          (subst (λ e. AppendsBeginning old (g.E.Write.contents e) (codes "error: out of memory\n")) (sym w.err-is) w.write_beginning-in-Err.ensures)
+          c.flush.ensures.bytes
+    ]

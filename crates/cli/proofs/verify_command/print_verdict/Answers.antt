@@ -1,9 +1,0 @@
-use Rattle.std.proofs.Common.{rules}
-use Rattle.std.proofs.KnownBytes.{Appends-kept}
-use Rattle.report.specs.Line.{report_line}
-use Rattle.cli.proofs.verify_command.print_verdict.Goals as goal
-
-pub returns-clause-printed : goal.returns-clause-printed
-returns-clause-printed g c =
-    Appends-kept (g.O.Write.contents c.args.out.now) (g.O.Write.contents c.write_all.new.self) (g.O.Write.contents c.flush.new.self)
-    (report_line c.args.verdict.now) (search rules) (search rules)

@@ -1,8 +1,0 @@
-use Rattle.std.proofs.Common.{ap₂, ◌∙◌}
-use Rattle.std.proofs.lemmas.Result.{IfOk-weaker}
-use Rattle.clap.specs.Words.{with_rule}
-use Rattle.cli.proofs.words.put_command.Goals as goal
-
-pub returns : goal.returns
-returns c =
-    IfOk-weaker c.arg.result _ _ (λ r h. h.shape c.word.ensures.local ∙ ap₂ with_rule c.in_ok-client.ensures c.word.ensures.rule) c.arg.ensures

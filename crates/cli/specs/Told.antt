@@ -1,0 +1,27 @@
+-- What standard error is told.
+use Rattle.std.specs.Prelude.{◌≡◌, ◌≢◌, ℕ, List, [], ◌∷◌, ◌++◌, Option, codes}
+use Rattle.std.specs.List.{All}
+use Rattle.std.specs.Io.KnownBytes.{Appends}
+
+-- a text was appended up to this rest of it
+pub record AppendsUpTo (old new : Option (List ℕ)) (text rest : List ℕ) : Type 0 where
+  pub beginning : List ℕ
+  pub cut : text ≡ beginning ++ rest
+  pub appended : Appends old new beginning
+
+-- a text was appended, or a beginning of it
+pub record AppendsBeginning (old new : Option (List ℕ)) (text : List ℕ) : Type 0 where
+  pub rest : List ℕ
+  pub up_to : AppendsUpTo old new text rest
+
+-- one line, which begins `error: `
+pub record IsErrorLine (line : List ℕ) : Type 0 where
+  pub told : List ℕ
+  pub one : All (λ b. b ≢ 10) told
+  pub line_is : line ≡ codes "error: " ++ (told ++ 10 ∷ [])
+
+-- one such line was appended, or a beginning of it
+pub record TellsError (old new : Option (List ℕ)) : Type 0 where
+  pub line : List ℕ
+  pub lawful : IsErrorLine line
+  pub appended : AppendsBeginning old new line

@@ -1,0 +1,41 @@
+-- Answers of the verifier as lines.
+use Rattle.std.specs.Prelude.{◌≡◌, ◌↔◌, ℕ, List, IsTrue, string_bytes}
+use Rattle.report.specs.Line.{report_line}
+use Rattle.blob_source.specs.Source.{Telling}
+use Rattle.tree.specs.Memo.{Asked}
+use Rattle.verifier.specs.declared.verdict.Verdict.{Verdict}
+use Rattle.verifier.specs.Headline.{EveryRunEndsIn, NoRunIsStuck}
+use Rattle.verifier.specs.LooksAt.{PlanLooksAt}
+use Rattle.verifier.specs.Verdict.{IsVerdict, IsYes}
+use Rattle.text_verifier.specs.declared.answering.Answer.{Answer}
+use Rattle.text_verifier.specs.Texts.{HasTexts, Question}
+
+-- The verdict on a question by what a store told. Where it is yes, every complete run of the plan
+-- ends in exactly the claimed root, and no run is ever stuck.
+pub record IsJudged {A : Type 0} (told : Telling) (q : Question) (v : Verdict A) : Type 0 where
+  pub verdict : IsVerdict told q.sources q.plan q.noted.digests q.claim v
+  pub holds : IsYes v
+      → EveryRunEndsIn told.blobs told.results q.sources q.plan q.noted.digests q.claim
+  pub unstuck : IsYes v → NoRunIsStuck told.blobs told.results q.sources q.plan q.noted.digests
+
+-- the verdict's line, and whether it is yes
+pub record Tells {A : Type 0} (answer : Answer A) (v : Verdict A) : Type 0 where
+  pub line : string_bytes answer.line ≡ report_line v
+  pub positive : IsTrue answer.is_yes ↔ IsYes v
+
+-- it tells the verdict on the question
+pub record IsAnswer {A : Type 0} (told : Telling) (q : Question) (answer : Answer A) : Type 0 where
+  pub verdict : Verdict A
+  pub judged : IsJudged told q verdict
+  pub tells : Tells answer verdict
+
+-- the texts ask a question, and this is the answer to it
+pub record AnswersTexts {A : Type 0} (told : Telling) (sources claim plan noted : List ℕ)
+    (answer : Answer A) : Type 0 where
+  pub question : Question
+  pub texts : HasTexts sources claim plan noted question
+  pub is : IsAnswer told question answer
+
+-- what the verifier looks at for a question, up to the first fault
+abbrev pub LooksAt : (A : Type 0) → Telling → Question → Asked → Type 0
+LooksAt A told q = PlanLooksAt A told q.sources q.plan q.noted.digests

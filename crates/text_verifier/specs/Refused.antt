@@ -1,0 +1,95 @@
+-- Why texts have no answer: the first fault, in the order sources, claim, plan, record.
+use Rattle.std.specs.Prelude.{◌≡◌, ◌↔◌, ℕ, List, Result, Ok, Err}
+use Rattle.blob_digest.specs.Digest.{DigestValue}
+use Rattle.blob_digest.specs.Text.{BeginsWithHash}
+use Rattle.blob_digest.specs.declared.error.DigestError.{DigestError}
+use Rattle.blob_digest.specs.declared.error.DigestError.TheVariants.{BadHex}
+use Rattle.plan.specs.declared.error.PlanError.{PlanError}
+use Rattle.plan.specs.Faults.{IsPlanFault}
+use Rattle.plan.specs.Record.{IsRecordFault, names_of}
+use Rattle.plan.specs.Values.{PlanValue}
+use Rattle.verifier.specs.declared.error.VerifyError.{VerifyError}
+use Rattle.verifier.specs.declared.error.VerifyError.TheVariants as verifying
+use Rattle.text_verifier.specs.declared.error.TextError.{TextError}
+use Rattle.text_verifier.specs.declared.error.TextError.TheVariants.{Sources, Claim, Plan, Record, Fetch, Memory}
+use Rattle.text_verifier.specs.Texts.{HasPlan, HasTexts, Question, Spells}
+
+abbrev pub of_verify : VerifyError → TextError
+of_verify verifying.Fetch = Fetch
+of_verify verifying.Memory = Memory
+
+-- ---- the parts
+
+-- why a text spells no digest
+pub record IsNoDigest (text : List ℕ) (fault : DigestError) : Type 0 where
+  pub none : (digest : DigestValue) → ¬ Spells text digest
+  pub hex : (fault ≡ BadHex) ↔ ¬ BeginsWithHash text
+
+-- the text spells some digest
+abbrev pub IsSpelled : List ℕ → Type 0
+IsSpelled text = (digest : DigestValue) × Spells text digest
+
+-- the text of the sources' digest is none; or else that of the claim's
+abbrev pub IsDigestRefusal : List ℕ → List ℕ → TextError → Type 0
+IsDigestRefusal sources claim (Sources fault) = IsNoDigest sources fault
+IsDigestRefusal sources claim (Claim fault) = IsSpelled sources × IsNoDigest claim fault
+IsDigestRefusal sources claim (Plan fault) = ⊥
+IsDigestRefusal sources claim (Record fault) = ⊥
+IsDigestRefusal sources claim Fetch = ⊥
+IsDigestRefusal sources claim Memory = ⊥
+
+-- a line of the plan's text is at fault, or memory ran out
+abbrev pub IsPlanRefusal : List ℕ → TextError → Type 0
+IsPlanRefusal text (Sources fault) = ⊥
+IsPlanRefusal text (Claim fault) = ⊥
+IsPlanRefusal text (Plan fault) = IsPlanFault text fault
+IsPlanRefusal text (Record fault) = ⊥
+IsPlanRefusal text Fetch = ⊥
+IsPlanRefusal text Memory = Unit {0}
+
+-- a line of the text of a record of these steps is at fault, or memory ran out
+abbrev pub IsRecordRefusal : List (List ℕ) → List ℕ → TextError → Type 0
+IsRecordRefusal names text (Sources fault) = ⊥
+IsRecordRefusal names text (Claim fault) = ⊥
+IsRecordRefusal names text (Plan fault) = ⊥
+IsRecordRefusal names text (Record fault) = IsRecordFault names text fault
+IsRecordRefusal names text Fetch = ⊥
+IsRecordRefusal names text Memory = Unit {0}
+
+-- no text is at fault: the source failed, or memory ran out
+abbrev pub IsNoFault : TextError → Type 0
+IsNoFault (Sources fault) = ⊥
+IsNoFault (Claim fault) = ⊥
+IsNoFault (Plan fault) = ⊥
+IsNoFault (Record fault) = ⊥
+IsNoFault Fetch = Unit {0}
+IsNoFault Memory = Unit {0}
+
+abbrev pub IsTextFault : TextError → Type 0
+IsTextFault e = ¬ IsNoFault e
+
+-- this is answered, unless memory ran out
+abbrev pub GivesUnlessMemory : {X : Type 0} → Result X TextError → X → Type 0
+GivesUnlessMemory (Ok x) y = x ≡ y
+GivesUnlessMemory (Err e) y = e ≡ Memory
+
+-- ---- the whole
+
+-- The text of a record is none of the plan whose text this is.
+pub record IsRecordFaultOf (plan noted : List ℕ) (e : PlanError) : Type 0 where
+  pub planned : PlanValue
+  pub plan_is : HasPlan plan planned
+  pub fault : IsRecordFault (names_of planned) noted e
+
+-- Why these texts have no answer. Where a text is at fault, those before it aren't; the source
+-- fails only where none is.
+abbrev pub FailsTexts : List ℕ → List ℕ → List ℕ → List ℕ → TextError → Type 0
+FailsTexts sources claim plan noted (Sources fault) = IsNoDigest sources fault
+FailsTexts sources claim plan noted (Claim fault) = IsSpelled sources × IsNoDigest claim fault
+FailsTexts sources claim plan noted (Plan fault) =
+    IsSpelled sources × IsSpelled claim × IsPlanFault plan fault
+FailsTexts sources claim plan noted (Record fault) =
+    IsSpelled sources × IsSpelled claim × IsRecordFaultOf plan noted fault
+FailsTexts sources claim plan noted Fetch =
+    (question : Question) × HasTexts sources claim plan noted question
+FailsTexts sources claim plan noted Memory = Unit {0}

@@ -1,0 +1,54 @@
+ghost use Rattle.std.specs.Prelude.{◌≤◌, ◌+◌, List, IfOk, IfErr, IsErrOf, length};
+ghost use Rattle.blob_source.specs.Called.{Called};
+ghost use Rattle.plan.specs.Record.{Fits};
+ghost use Rattle.text_verifier.specs.Answered.{IsAnswer, LooksAt};
+ghost use Rattle.text_verifier.specs.Refused.{IsNoFault};
+ghost use Rattle.text_verifier.specs.Texts.{question_of};
+ghost use Rattle.tree.specs.Memo.{Asked, Covers};
+
+use crate::error::TextError;
+use crate::reading::Digests;
+use plan::{Plan, Record};
+use report::{is_yes, report};
+use std::alloc::Allocator;
+use tree::BlobSource;
+use verifier::verify;
+
+/// What the verifier answered.
+#[derive(Drop)]
+#[derive_where(Debug)]
+pub struct Answer<A: Allocator> {
+    /// The verdict's line, with its newline.
+    pub line: String<A>,
+    /// Whether the verdict is yes.
+    pub is_yes: bool,
+}
+
+/// The answer on a plan and its record, by what the source tells.
+pub fn answer_question<A: Allocator + Copy, S: BlobSource<A>>(
+    alloc: A,
+    digests: &Digests,
+    plan: &Plan<A>,
+    noted: &Record<A>,
+    source: &mut S,
+) -> Result<Answer<A>, TextError>
+    requires { Fits noted.now plan.now }
+    // The line is that of the one verdict, and what a yes says holds.
+    ensures answered { IfOk result (IsAnswer (S.tells source.new)
+        (question_of digests.now.sources digests.now.claim plan.now noted.now)) }
+    // It is refused where the source fails or memory runs out.
+    ensures refused { IfErr result IsNoFault }
+    // The source is asked as the verifier asks.
+    ensures called { Called (S.tells source.old) (S.tells source.new)
+        (IsErrOf result TextError.Fetch) }
+    ensures few { (list : List Asked)
+        → Covers (LooksAt A (S.tells source.new)
+        (question_of digests.now.sources digests.now.claim plan.now noted.now)) list
+        → (S.tells source.new).calls ≤ (S.tells source.old).calls + length list }
+{
+    let verdict = verify(alloc, &digests.sources, plan, noted, &digests.claim, source)?;
+    Ok(Answer {
+        line: report(alloc, &verdict)?,
+        is_yes: is_yes(&verdict),
+    })
+}

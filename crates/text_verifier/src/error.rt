@@ -1,0 +1,52 @@
+ghost use Rattle.std.specs.Prelude.{◌≡◌};
+ghost use Rattle.text_verifier.specs.declared.error.TextError.TheVariants as errors;
+
+use blob_digest::DigestError;
+use plan::PlanError;
+use std::alloc::AllocError;
+use thiserror::Error;
+use verifier::VerifyError;
+
+/// Why texts have no answer. Those of the texts come in this order, and before the source is asked.
+#[derive(Clone, Copy, Debug, PartialEq, Eq, Error)]
+pub enum TextError {
+    /// The text of the sources' digest is none.
+    #[error("sources: {0}")]
+    Sources(DigestError),
+    /// The text of the claimed root's digest is none.
+    #[error("claim: {0}")]
+    Claim(DigestError),
+    /// The plan's text is none.
+    #[error("plan: {0}")]
+    Plan(PlanError),
+    /// The record's text is none of the plan.
+    #[error("record: {0}")]
+    Record(PlanError),
+    /// The source failed, and counted that.
+    #[error("the blob source failed")]
+    Fetch,
+    /// No memory was left.
+    #[error("out of memory")]
+    Memory,
+}
+
+impl From<AllocError> for TextError {
+    ghost from_gives = { λ _ e. e ≡ errors.Memory };
+
+    fn from(_e: AllocError) -> TextError {
+        TextError::Memory
+    }
+}
+
+impl From<VerifyError> for TextError {
+    ghost use Rattle.text_verifier.specs.Refused.{of_verify};
+
+    ghost from_gives = { λ error e. e ≡ of_verify error };
+
+    fn from(error: VerifyError) -> TextError {
+        match error {
+            VerifyError::Fetch => TextError::Fetch,
+            VerifyError::Memory => TextError::Memory,
+        }
+    }
+}

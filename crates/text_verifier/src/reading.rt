@@ -1,0 +1,74 @@
+ghost use Rattle.std.specs.Prelude.{◌≡◌, IfOk, IfErr, Ok};
+ghost use Rattle.blob_digest.specs.Digest.{DigestValue};
+ghost use Rattle.plan.specs.Plan.{IsPlan, plan_text};
+ghost use Rattle.plan.specs.Record.{IsRecord, Fits, RecordValue, names_of, record_text};
+ghost use Rattle.plan.specs.Values.{PlanValue};
+ghost use Rattle.text_verifier.specs.Refused.{GivesUnlessMemory, IsDigestRefusal, IsPlanRefusal, IsRecordRefusal};
+ghost use Rattle.text_verifier.specs.Texts.{Spells};
+
+use crate::error::TextError;
+use blob_digest::Digest;
+use plan::{Plan, ReadError, Record};
+use std::alloc::Allocator;
+
+/// The digests that are asked about.
+#[derive(Clone, Copy, Debug)]
+pub struct Digests {
+    /// That of the source tree.
+    pub sources: Digest,
+    /// That of the root that is claimed.
+    pub claim: Digest,
+}
+
+/// The digests of these texts. That of the sources is read first.
+pub fn read_digests(sources: &[u8], claim: &[u8]) -> Result<Digests, TextError>
+    ensures sources { IfOk result (λ digests. Spells sources.now digests.sources) }
+    ensures claim { IfOk result (λ digests. Spells claim.now digests.claim) }
+    // The digests whose texts these are are answered.
+    ensures only { (s c : DigestValue) → Spells sources.now s → Spells claim.now c
+        → result ≡ Ok (record { sources = s; claim = c }) }
+    ensures fault { IfErr result (IsDigestRefusal sources.now claim.now) }
+{
+    match (Digest::read_text(sources), Digest::read_text(claim)) {
+        (Err(fault), _) => Err(TextError::Sources(fault)),
+        (Ok(_), Err(fault)) => Err(TextError::Claim(fault)),
+        (Ok(sources), Ok(claim)) => Ok(Digests { sources, claim }),
+    }
+}
+
+/// The plan of this text.
+pub fn read_plan<A: Allocator + Copy>(alloc: A, text: &[u8]) -> Result<Plan<A>, TextError>
+    ensures lawful { IfOk result IsPlan }
+    ensures found { IfOk result (λ plan. text.now ≡ plan_text plan) }
+    // The plan whose text it is is answered.
+    ensures only { (plan : PlanValue) → IsPlan plan → text.now ≡ plan_text plan
+        → GivesUnlessMemory result plan }
+    ensures fault { IfErr result (IsPlanRefusal text.now) }
+{
+    match Plan::read(alloc, text) {
+        Ok(plan) => Ok(plan),
+        Err(ReadError::Faulty(fault)) => Err(TextError::Plan(fault)),
+        Err(ReadError::Memory) => Err(TextError::Memory),
+    }
+}
+
+/// The record of this text, for the plan.
+pub fn read_record<A: Allocator + Copy>(
+    alloc: A,
+    text: &[u8],
+    plan: &Plan<A>,
+) -> Result<Record<A>, TextError>
+    ensures lawful { IfOk result IsRecord }
+    ensures fits { IfOk result (λ noted. Fits noted plan.now) }
+    ensures found { IfOk result (λ noted. text.now ≡ record_text noted) }
+    // The record whose text it is is answered.
+    ensures only { (noted : RecordValue) → IsRecord noted → Fits noted plan.now
+        → text.now ≡ record_text noted → GivesUnlessMemory result noted }
+    ensures fault { IfErr result (IsRecordRefusal (names_of plan.now) text.now) }
+{
+    match Record::read(alloc, text, plan) {
+        Ok(noted) => Ok(noted),
+        Err(ReadError::Faulty(fault)) => Err(TextError::Record(fault)),
+        Err(ReadError::Memory) => Err(TextError::Memory),
+    }
+}
