@@ -92,7 +92,11 @@ fn plan_in_file<R: Files + AllocGlobal>(
     let bytes = read_file(rt, text_of(matches, "plan"))?;
     match read_plan(rt.alloc(), &bytes) {
         Ok(plan) => Ok(plan),
-        Err(error) => Err(text_error(rt.alloc(), matches, error)?),
+        Err(TextError::Plan(fault)) => Err(CliError::Text {
+            path: String::from_str(rt.alloc(), text_of(matches, "plan"))?,
+            fault,
+        }),
+        Err(_e) => Err(CliError::Memory),
     }
 }
 
@@ -108,7 +112,11 @@ fn record_in_file<R: Files + AllocGlobal>(
     let bytes = read_file(rt, text_of(matches, "record"))?;
     match read_record(rt.alloc(), &bytes, plan) {
         Ok(noted) => Ok(noted),
-        Err(error) => Err(text_error(rt.alloc(), matches, error)?),
+        Err(TextError::Record(fault)) => Err(CliError::Text {
+            path: String::from_str(rt.alloc(), text_of(matches, "record"))?,
+            fault,
+        }),
+        Err(_e) => Err(CliError::Memory),
     }
 }
 
