@@ -10,7 +10,8 @@
 `sources`: a source directory of so many files, and a root of as many lines, one for each.
 
 Each build is written to a folder of its own, which is gone afterwards. It is run three times, and the least time
-counts. The messages are encoded here as protobuf does, and by nothing of this repository.
+counts; beside each run `sha256sum` reads and hashes the files of the store, and its least time is told too. The
+messages are encoded here as protobuf does, and by nothing of this repository.
 """
 
 import hashlib
@@ -87,14 +88,16 @@ class Build:
         self.record.append(f"step {name} {text(action)}")
 
     def run(self, program, sources, claim):
-        """The least seconds of three runs, and the greatest memory in KiB."""
+        """The least seconds of three runs, the greatest memory in KiB, and the least seconds of sha256sum beside."""
         for name in ("plan", "record"):
             with open(os.path.join(self.folder, name), "w") as out:
                 out.write("\n".join(getattr(self, name)) + "\n")
         words = [program, "verify", "--store", "store", "--sources", text(sources), "--plan", "plan"]
         words += ["--record", "record", "--claim", text(claim)]
-        least, memory = None, 0
+        least, memory, beside = None, 0, None
         for _ in range(3):
+            hashed = self.sha256sum()
+            beside = hashed if beside is None else min(beside, hashed)
             start = time.monotonic()
             process = subprocess.Popen(words, cwd=self.folder, stdout=subprocess.PIPE)
             printed = process.stdout.read()
@@ -104,7 +107,17 @@ class Build:
                 sys.exit(f"not a yes: {printed!r}")
             least = seconds if least is None else min(least, seconds)
             memory = max(memory, usage.ru_maxrss)
-        return least, memory
+        return least, memory, beside
+
+    def sha256sum(self):
+        """The seconds that sha256sum takes for the files of the store."""
+        start = time.monotonic()
+        found = subprocess.Popen(["find", "store", "-type", "f", "-print0"], cwd=self.folder, stdout=subprocess.PIPE)
+        subprocess.run(
+            ["xargs", "-0", "sha256sum"], cwd=self.folder, stdin=found.stdout, stdout=subprocess.DEVNULL, check=True
+        )
+        found.wait()
+        return time.monotonic() - start
 
 
 def contents(count, salt):
@@ -149,8 +162,9 @@ def main():
         with tempfile.TemporaryDirectory() as folder:
             build = Build(folder)
             named, claim = make(build, count)
-            seconds, memory = build.run(os.path.abspath(program), named, claim)
-            print(f"| {count:,} | {seconds:.2f} s | {memory // 1024} MB | {build.hashed // 1024:,} KiB |", flush=True)
+            seconds, memory, beside = build.run(os.path.abspath(program), named, claim)
+            kept = f"{memory // 1024} MB | {build.hashed // 1024:,} KiB"
+            print(f"| {count:,} | {seconds:.2f} s | {kept} | {beside:.2f} s |", flush=True)
 
 
 if __name__ == "__main__":

@@ -8,7 +8,7 @@ use Rattle.std.proofs.lemmas.Bool.{eqb-true, eq-eqb}
 use Rattle.sha2.specs.Sha256.{sha256}
 use Rattle.blob_digest.specs.DigestValue.{DigestValue}
 use Rattle.eviction.specs.Kept.{Held}
-use Rattle.action_cache.specs.References.{Reference, Reader, is_empty, of_size, held_under, blob_of, is_held, files_of, digests_of, references, fault_in_tree, fault_of, first_of, first_fault, outputs_of, is_complete, names_hash, refers}
+use Rattle.action_cache.specs.References.{Reference, Reader, is_empty, of_size, held_under, blob_of, is_held, files_of, digests_of, references, fault_in_tree, fault_of, first_given, first_fault, outputs_of, is_complete, names_hash, refers}
 use Rattle.action_cache.specs.Tied.{how_many}
 
 module _ {X : Type 0} (P : X → Type 0) where
@@ -95,7 +95,7 @@ module _ (f g : List ℕ → Option (List ℕ)) where
     same_first_fault (r ∷ rs) a =
         let front = all_front (λ d. blob_of g d ≡ blob_of f d) (digests_of f reader r) (references f reader rs) a in
         let back = all_back (λ d. blob_of g d ≡ blob_of f d) (digests_of f reader r) (references f reader rs) a in
-        λ i. first_of (same_fault r front i) (same_first_fault rs back i)
+        λ i. first_given (same_fault r front i) (same_first_fault rs back i)
 
     -- the results refer to blobs on which both agree
     abbrev pub AllAgree : List (List ℕ × Held) → Type 0

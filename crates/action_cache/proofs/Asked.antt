@@ -2,7 +2,7 @@
 use Rattle.std.proofs.Common.{◌≡◌, ℕ, true, false, cond, not, List, [], ◌∷◌, ◌++◌, Option, Some, None, is_some, is_none, refl, sym, ◌∙◌, subst, arith}
 use Rattle.std.specs.List.{find, AllByRecursion, IsDistinct}
 use Rattle.blob_digest.specs.DigestValue.{DigestValue}
-use Rattle.action_cache.specs.References.{Reference, Reader, is_held, files_of, fault_of, fault_in_tree, first_of, refers, is_complete, outputs_of, first_fault}
+use Rattle.action_cache.specs.References.{Reference, Reader, is_held, files_of, fault_of, fault_in_tree, first_given, refers, is_complete, outputs_of, first_fault}
 use Rattle.action_cache.specs.Machine.{CacheState, Answer, Marked, given, nothing, opened, under, found, result_used, got_result, get_result}
 use Rattle.action_cache.specs.Asking.{CacheAsk, Unpin, after_ask, after, IsWhole, AreWhole, StaysPinned}
 use Rattle.action_cache.proofs.Keeping.{both_true, all_under, same_complete, same_refers_to, wanted_under}
@@ -19,7 +19,7 @@ module _ (reader : Reader) where
       | false ↦ λ t n. absurd cc
     ]) refl e
 
-    firsts : (a b : Option DigestValue) → first_of a b ≡ None → (a ≡ None) × (b ≡ None)
+    firsts : (a b : Option DigestValue) → first_given a b ≡ None → (a ≡ None) × (b ≡ None)
     firsts None b e = (refl, e)
     firsts (Some d) b e = absurd cc
 

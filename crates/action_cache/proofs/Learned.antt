@@ -10,7 +10,7 @@ use Rattle.std.specs.BTreeMap.{BTreeMap, get}
 use Rattle.std.specs.Cmp.Lexicographic.{slice_cmp}
 use Rattle.std.proofs.lemmas.Map.Lookups.{exact_bytes, exact_pairs, exact_unsigned}
 use Rattle.blob_digest.specs.Digest.{DigestValue, digest_cmp}
-use Rattle.action_cache.specs.References.{Reference, files_of, digests_by, references_by, references, fault_by, first_of, first_fault_by, first_fault, fault_in_tree, is_held}
+use Rattle.action_cache.specs.References.{Reference, files_of, digests_by, references_by, references, fault_by, first_given, first_fault_by, first_fault, fault_in_tree, is_held}
 use Rattle.action_cache.specs.Reading.{by_messages}
 use Rattle.action_cache.specs.Survey.{listed, is_read, known, AreRight, AreKnown}
 
@@ -87,4 +87,4 @@ module _ {A : Type 0} (found : List ℕ → Option (List ℕ)) where
 
     pub known_first_fault : (rs : List Reference) → AreKnown trees found rs → first_fault_by found (known trees) rs ≡ first_fault found by_messages rs
     known_first_fault [] all = refl
-    known_first_fault (r ∷ rs) all = λ i. first_of (known_fault r all.0 i) (known_first_fault rs all.1 i)
+    known_first_fault (r ∷ rs) all = λ i. first_given (known_fault r all.0 i) (known_first_fault rs all.1 i)

@@ -11,7 +11,7 @@ use Rattle.eviction.specs.Pinning.{is_held}
 use Rattle.eviction.proofs.Filters.{filter-map}
 use Rattle.blob_store.specs.declared.error.BlobError.{BlobError}
 use Rattle.blob_store.specs.declared.error.BlobError.TheVariants.{TooLarge, HashDiffers, Full, Memory}
-use Rattle.blob_store.specs.Storing.{blob_put, refusal_of as put_refusal, IsRefusal}
+use Rattle.blob_store.specs.Storing.{blob_put, refused_put as put_refusal, IsRefusal}
 use Rattle.blob_digest.specs.Body.{greatest_blob}
 use Rattle.eviction.proofs.Entered.{entered_is}
 use Rattle.action_cache.specs.References.{Reader}

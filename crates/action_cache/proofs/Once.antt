@@ -12,7 +12,7 @@ use Rattle.blob_digest.specs.DigestValue.{DigestValue}
 use Rattle.eviction.specs.Pinning.{is_among}
 use Rattle.blob_store.specs.Blobs.{hashes_of, is_held as is_blob_held}
 use Rattle.blob_store.proofs.BlobLemmas.{hashes_push}
-use Rattle.action_cache.specs.References.{Reference, Reader, is_empty, of_size, is_held, names_hash, files_of, digests_of, references, fault_in_tree, fault_of, first_of, first_fault}
+use Rattle.action_cache.specs.References.{Reference, Reader, is_empty, of_size, is_held, names_hash, files_of, digests_of, references, fault_in_tree, fault_of, first_given, first_fault}
 use Rattle.action_cache.specs.Survey.{AreHeld, AreOnce}
 use Rattle.action_cache.proofs.Agreeing.{empty_held}
 
@@ -140,7 +140,7 @@ module _ (found : List ℕ → Option (List ℕ)) where
   tree_held d true None e = tt
   tree_held d true (Some fs) e = none_missing fs e
 
-  first_none : (a b : Option DigestValue) → first_of a b ≡ None → (a ≡ None) × (b ≡ None)
+  first_none : (a b : Option DigestValue) → first_given a b ≡ None → (a ≡ None) × (b ≡ None)
   first_none None b e = (refl, e)
   first_none (Some d) b e = absurd cc
 

@@ -14,7 +14,7 @@ use Rattle.blob_digest.specs.DigestValue.{DigestValue}
 use Rattle.eviction.specs.Kept.{Held, is_pinned, total_cost}
 use Rattle.eviction.specs.Pinning.{repinned, is_among, all_held, one_more}
 use Rattle.eviction.proofs.Repins.{repinned_same}
-use Rattle.action_cache.specs.References.{Reference, Reader, is_empty, of_size, is_held, names_hash, fault_in_tree, digests_of, files_of, references, fault_of, first_of, first_fault, outputs_of, refers, is_complete}
+use Rattle.action_cache.specs.References.{Reference, Reader, is_empty, of_size, is_held, names_hash, fault_in_tree, digests_of, files_of, references, fault_of, first_given, first_fault, outputs_of, refers, is_complete}
 use Rattle.action_cache.specs.Machine.{CacheState, Marked, done, refused, not_held, incomplete, why_incomplete, found, pin, pinned_now, with_results, marked}
 use Rattle.action_cache.specs.Tied.{how_many, marks, found_in, IsTied}
 use Rattle.action_cache.specs.State.{state_of}
@@ -67,7 +67,7 @@ module _ (found : List ℕ → Option (List ℕ)) (h : List ℕ) where
       | false ↦ λ t. let e' = rw t at e in absurd cc
     ]) refl
 
-    firsts : (a b : Option DigestValue) → first_of a b ≡ None → (a ≡ None) × (b ≡ None)
+    firsts : (a b : Option DigestValue) → first_given a b ≡ None → (a ≡ None) × (b ≡ None)
     firsts None b e = (refl, e)
     firsts (Some d) b e = absurd cc
 

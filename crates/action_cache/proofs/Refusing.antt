@@ -3,11 +3,11 @@ use Rattle.std.proofs.Common.{◌≡◌, ℕ, List, None, sym, subst, ◌⊎◌,
 use Rattle.blob_store.specs.declared.error.BlobError.{BlobError}
 use Rattle.blob_store.specs.declared.error.BlobError.TheVariants as blob
 use Rattle.action_cache.specs.declared.error.CacheError.{CacheError}
-use Rattle.action_cache.specs.Reading.{outputs_in}
+use Rattle.action_cache.specs.Reading.{references_in}
 use Rattle.action_cache.specs.Machine.{CacheState, Answer, refused, bad_result}
-use Rattle.action_cache.specs.CacheError.{IsRefused, IsUnread, of_blob}
+use Rattle.action_cache.specs.CacheError.{IsRefused, IsNoResult, of_blob}
 
-pub unread_refused : (st : CacheState) (out : Answer × CacheState) (bytes : List ℕ) (e : CacheError) → IsUnread e bytes → (outputs_in bytes ≡ None → out ≡ (refused bad_result, st)) → IsRefused st out e
+pub unread_refused : (st : CacheState) (out : Answer × CacheState) (bytes : List ℕ) (e : CacheError) → IsNoResult e bytes → (references_in bytes ≡ None → out ≡ (refused bad_result, st)) → IsRefused st out e
 unread_refused st out bytes e (inl memory) bad = subst (IsRefused st out) (sym memory) tt
 unread_refused st out bytes e (inr (d, same, why, none)) bad = subst (IsRefused st out) (sym same) (bad none)
 

@@ -17,8 +17,8 @@ use Rattle.messages.proofs.Orders.{flipped, itself}
 use Rattle.action_messages.specs.ActionResult.{ActionResultValue, file_paths, directory_paths, symlink_paths, action_result_of}
 use Rattle.action_messages.specs.Overlaps.{ArePathsApart, texts_of}
 use Rattle.action_messages.specs.Reads.{Reads}
-use Rattle.action_messages.specs.Refused.{IsRefused}
-use Rattle.action_messages.specs.Unordered.{unordered, IsOrdered, output_paths}
+use Rattle.action_messages.specs.Refused.{IsRefusedResult}
+use Rattle.action_messages.specs.Unordered.{unordered, IsOrderingOf, output_paths}
 use Rattle.action_messages.proofs.Agreeing.{SaysUnordered, unordered_found, unordered_only}
 use Rattle.action_messages.proofs.Decoding.{apart_permuted, paths_permuted, lawful_permuted, lawful_said, not_unread}
 use Rattle.action_messages.proofs.Pairs.{ByPairs, pairs_permuted, all_permuted}
@@ -27,8 +27,8 @@ use Rattle.action_messages.proofs.SameOrder.{AscendBy, same_order}
 use Rattle.action_messages.proofs.Searches.{bytes_trans}
 use Rattle.action_cache.specs.declared.error.CacheError.{CacheError}
 use Rattle.action_cache.specs.declared.error.CacheError.TheVariants.{BadResult, Memory as NoMemory}
-use Rattle.action_cache.specs.CacheError.{of_message, IsUnread}
-use Rattle.action_cache.specs.Reading.{placed, by_path, in_order, said_result, referred_to, referred_in, outputs_in}
+use Rattle.action_cache.specs.CacheError.{of_message, IsNoResult}
+use Rattle.action_cache.specs.Reading.{placed, by_path, in_order, said_result, referred_to, referred_in, references_in}
 
 -- ---- in the order of the paths
 
@@ -107,10 +107,10 @@ said_is m bytes fits (rs, spelled, s) =
     let ordered : in_order u ≡ m = λ i. record { files = files i; directories = directories i; symlinks = symlinks i; exit_code = m.exit_code; stdout = m.stdout; stderr = m.stderr } in
     ap (λ (r : Result ActionResultValue MessageError). r >>= λ v. action_result_of (in_order v)) (unordered_only bytes u fits (rs, spelled, said)) ∙ ap action_result_of ordered ∙ result_given m s.lawful
 
-pub outputs_read : (m : ActionResultValue) (bytes : List ℕ) → IsBytes bytes → Reads m bytes → outputs_in bytes ≡ Some (referred_to m)
+pub outputs_read : (m : ActionResultValue) (bytes : List ℕ) → IsBytes bytes → Reads m bytes → references_in bytes ≡ Some (referred_to m)
 outputs_read m bytes fits reads = ap referred_in (said_is m bytes fits reads)
 
-ordered_in : (u : ActionResultValue) → IsOrdered u (in_order u)
+ordered_in : (u : ActionResultValue) → IsOrderingOf u (in_order u)
 ordered_in u = record {
   files = permutes-by_path (λ f. f.path) u.files;
   directories = permutes-by_path (λ d. d.path) u.directories;
@@ -130,12 +130,12 @@ said_apart bytes u m fits read e =
     let rules = paths_found (file_paths r.files) (directory_paths r.directories) (symlink_paths r.symlinks) (file_paths_lawful r.files lawful.files) (directory_paths_lawful r.directories lawful.directories) (symlink_paths_lawful r.symlinks lawful.symlinks) (result_found r m e).0 in
     apart_permuted (output_paths r) (output_paths u) (IsPermutation-sym (output_paths u) (output_paths r) (paths_permuted u r o)) rules.apart
 
-not_said : (bytes : List ℕ) (u m : ActionResultValue) (e : MessageError) → IsBytes bytes → unordered bytes ≡ Ok u → action_result_of (in_order u) ≡ Ok m → IsRefused e bytes → ⊥
+not_said : (bytes : List ℕ) (u m : ActionResultValue) (e : MessageError) → IsBytes bytes → unordered bytes ≡ Ok u → action_result_of (in_order u) ≡ Ok m → IsRefusedResult e bytes → ⊥
 not_said bytes u m e fits read made (inl unread) = not_unread bytes u e read unread
 not_said bytes u m e fits read made (inr (v, also, overlap, is)) =
     overlap (subst (λ (x : ActionResultValue). ArePathsApart (output_paths x)) (ok_is {E = MessageError} u v (sym read ∙ also)) (said_apart bytes u m fits read made))
 
-pub outputs_refused : (bytes : List ℕ) (e : MessageError) → IsBytes bytes → IsRefused e bytes → outputs_in bytes ≡ None
+pub outputs_refused : (bytes : List ℕ) (e : MessageError) → IsBytes bytes → IsRefusedResult e bytes → references_in bytes ≡ None
 unfolding said_result
 outputs_refused bytes e fits refused = by (said_result bytes) refl
   where
@@ -146,11 +146,11 @@ outputs_refused bytes e fits refused = by (said_result bytes) refl
 -- ---- what is told of bytes that are no result
 
 module _ (bytes : List ℕ) (fits : IsBytes bytes) where
-  refused_as : (d : MessageError) → (d ≡ message.Memory) ⊎ IsRefused d bytes → (d ≡ message.Memory → ⊥) → IsRefused d bytes × (outputs_in bytes ≡ None)
+  refused_as : (d : MessageError) → (d ≡ message.Memory) ⊎ IsRefusedResult d bytes → (d ≡ message.Memory → ⊥) → IsRefusedResult d bytes × (references_in bytes ≡ None)
   refused_as d (inl none) other = absurd (other none)
   refused_as d (inr is) other = (is, outputs_refused bytes d fits is)
 
-  pub unread : (d : MessageError) → (d ≡ message.Memory) ⊎ IsRefused d bytes → IsUnread (of_message d) bytes
+  pub unread : (d : MessageError) → (d ≡ message.Memory) ⊎ IsRefusedResult d bytes → IsNoResult (of_message d) bytes
   unread message.Memory h = inl refl
   unread (message.Wire e) h = let r = refused_as (message.Wire e) h (λ q. cc) in inr (message.Wire e, refl, r.0, r.1)
   unread message.BadName h = let r = refused_as message.BadName h (λ q. cc) in inr (message.BadName, refl, r.0, r.1)
@@ -163,17 +163,17 @@ module _ (bytes : List ℕ) (fits : IsBytes bytes) where
   unread (message.BadDigest e) h = let r = refused_as (message.BadDigest e) h (λ q. cc) in inr (message.BadDigest e, refl, r.0, r.1)
   unread (message.BadText n) h = let r = refused_as (message.BadText n) h (λ q. cc) in inr (message.BadText n, refl, r.0, r.1)
 
-pub unread_none : (e : CacheError) (d : MessageError) (bytes : List ℕ) → e ≡ BadResult d → IsUnread e bytes → outputs_in bytes ≡ None
+pub unread_none : (e : CacheError) (d : MessageError) (bytes : List ℕ) → e ≡ BadResult d → IsNoResult e bytes → references_in bytes ≡ None
 unread_none e d bytes bad (inl none) = let no : NoMemory ≡ BadResult d = sym none ∙ bad in absurd cc
 unread_none e d bytes bad (inr (f, same, refused, none)) = none
 
-bad_is : (e : CacheError) (d : MessageError) (bytes : List ℕ) → e ≡ BadResult d → IsUnread e bytes → IsRefused d bytes
+bad_is : (e : CacheError) (d : MessageError) (bytes : List ℕ) → e ≡ BadResult d → IsNoResult e bytes → IsRefusedResult d bytes
 bad_is e d bytes bad (inl none) = let no : NoMemory ≡ BadResult d = sym none ∙ bad in absurd cc
-bad_is e d bytes bad (inr (f, same, refused, none)) = let both : BadResult f ≡ BadResult d = sym same ∙ bad in let is : f ≡ d = cc in subst (λ x. IsRefused x bytes) is refused
+bad_is e d bytes bad (inr (f, same, refused, none)) = let both : BadResult f ≡ BadResult d = sym same ∙ bad in let is : f ≡ d = cc in subst (λ x. IsRefusedResult x bytes) is refused
 
 -- why bytes are refused as no result
-pub bad_told : {X : Type 0} (r : Result X CacheError) (d : MessageError) (bytes : List ℕ) → IfErr r (λ e. IsUnread e bytes) → r ≡ Err (BadResult d) → IsRefused d bytes
-bad_told r d bytes h e = bad_is (BadResult d) d bytes refl (subst (λ x. IfErr x (λ f. IsUnread f bytes)) e h)
+pub bad_told : {X : Type 0} (r : Result X CacheError) (d : MessageError) (bytes : List ℕ) → IfErr r (λ e. IsNoResult e bytes) → r ≡ Err (BadResult d) → IsRefusedResult d bytes
+bad_told r d bytes h e = bad_is (BadResult d) d bytes refl (subst (λ x. IfErr x (λ f. IsNoResult f bytes)) e h)
 
 pub not_bad : {X : Type 0} (r : Result X CacheError) (d : MessageError) (P : Type 0) → IfErr r (λ e. (e ≡ BadResult d → ⊥)) → r ≡ Err (BadResult d) → P
 not_bad r d P h e = absurd ((subst (λ x. IfErr x (λ f. (f ≡ BadResult d → ⊥))) e h) refl)

@@ -8,9 +8,11 @@ use Rattle.action_cache.specs.declared.error.CacheError.{CacheError}
 use Rattle.action_cache.specs.declared.error.CacheError.TheVariants as cache
 use Rattle.messages.specs.declared.error.MessageError.{MessageError}
 use Rattle.messages.specs.declared.error.MessageError.TheVariants as message
-use Rattle.action_messages.specs.Refused.{IsRefused as IsRefusedAs}
-use Rattle.action_cache.specs.Reading.{outputs_in}
-use Rattle.action_cache.specs.Machine.{CacheState, Answer, refused, Refusal, too_large, hash_differs, full, not_held, not_pinned, bad_result, pinned_differs, incomplete}
+use Rattle.action_messages.specs.Refused.{IsRefusedResult as IsRefusedAs}
+use Rattle.action_cache.specs.Reading.{references_in}
+use Rattle.action_cache.specs.Machine.{CacheState, Answer, refused, Refusal, too_large}
+use Rattle.action_cache.specs.Machine.{hash_differs, full, not_held, not_pinned, bad_result}
+use Rattle.action_cache.specs.Machine.{pinned_differs, incomplete}
 
 -- how a refusal of the layers below is told
 abbrev pub of_message : MessageError → CacheError
@@ -57,7 +59,7 @@ abbrev pub IsRefused : CacheState → Answer × CacheState → CacheError → Ty
 IsRefused s out e = IfSome (refusal_of e) (λ r. out ≡ (refused r, s))
 
 -- the bytes are refused as no result, and why; or memory was wanting
-abbrev pub IsUnread : CacheError → List ℕ → Type 0
-IsUnread e bytes = (e ≡ cache.Memory)
+abbrev pub IsNoResult : CacheError → List ℕ → Type 0
+IsNoResult e bytes = (e ≡ cache.Memory)
     ⊎ ((d : MessageError) × (e ≡ cache.BadResult d) × IsRefusedAs d bytes
-    × (outputs_in bytes ≡ None))
+    × (references_in bytes ≡ None))

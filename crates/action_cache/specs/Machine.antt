@@ -1,5 +1,7 @@
 -- The cache as a machine: lists, a mark on pinned results, and no counts.
-use Rattle.std.specs.Prelude.{ℕ, ◌+◌, Bool, true, false, not, ◌&&◌, List, [], ◌∷◌, ◌++◌, map, length, bytes_eq, Option, Some, None, is_some, nat_lt, option_map, if◌then◌else◌}
+use Rattle.std.specs.Prelude.{ℕ, ◌+◌, Bool, true, false, not, ◌&&◌, List, [], ◌∷◌, ◌++◌, map}
+use Rattle.std.specs.Prelude.{length, bytes_eq, Option, Some, None, is_some, nat_lt, option_map}
+use Rattle.std.specs.Prelude.{if◌then◌else◌}
 use Rattle.std.specs.List.{filter, list_any, fold}
 use Rattle.std.specs.Map.{lookup}
 use Rattle.std.specs.Option.{option_map_or}
@@ -7,7 +9,8 @@ use Rattle.sha2.specs.Sha256.{sha256}
 use Rattle.blob_digest.specs.DigestValue.{DigestValue}
 use Rattle.blob_digest.specs.Body.{greatest_blob}
 use Rattle.eviction.specs.Entering.{enter}
-use Rattle.action_cache.specs.References.{Reader, references, outputs_of, first_fault, is_complete, refers}
+use Rattle.action_cache.specs.References.{Reader, references, outputs_of, first_fault, is_complete}
+use Rattle.action_cache.specs.References.{refers}
 
 -- a result's bytes, and whether it is pinned
 pub record Marked : Type 0 where
@@ -41,8 +44,8 @@ pub data Refusal : Type 0 where
   pinned_differs : Refusal
   incomplete : DigestValue → Refusal
 
--- what a call answers: that it is done, the bytes that were asked for or that there are none, or why
--- it is refused
+-- what a call answers: that it is done, the bytes that were asked for or that there are none, or
+-- why it is refused
 pub data Answer : Type 0 where
   done : Answer
   given : List ℕ → Answer
@@ -126,8 +129,8 @@ module _ (reader : Reader) (s : CacheState) where
   abbrev pub get_blob : List ℕ → Answer × CacheState
   get_blob h = if bytes_eq (sha256 []) h then (given [], s) else got_blob h (found h)
 
-  -- the state after a use of a result: it is first, and then each blob to which it refers, in order,
-  -- is moved to the front
+  -- the state after a use of a result: it is first, and then each blob to which it refers, in
+  -- order, is moved to the front
   abbrev pub result_used : List ℕ → List ℕ → CacheState
   result_used h bytes = record {
     blobs = fold (λ bs (d : DigestValue). fronted d.hash bs) s.blobs

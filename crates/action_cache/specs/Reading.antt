@@ -1,5 +1,6 @@
 -- What a result refers to, and which files a Tree has, by their messages.
-use Rattle.std.specs.Prelude.{ℕ, true, false, List, [], ◌∷◌, ◌++◌, map, Option, Some, None, Result, Ok, Err, if◌then◌else◌}
+use Rattle.std.specs.Prelude.{ℕ, true, false, List, [], ◌∷◌, ◌++◌, map, Option, Some, None, Result}
+use Rattle.std.specs.Prelude.{Ok, Err, if◌then◌else◌}
 use Rattle.std.specs.Ordering.{is_lt}
 use Rattle.wire.specs.Steps.{◌>>=◌}
 use Rattle.blob_digest.specs.DigestValue.{DigestValue}
@@ -64,8 +65,8 @@ referred_in (Ok r) = Some (referred_to r)
 referred_in (Err e) = None
 
 -- what the bytes of a result refer to; nothing where they are no result
-abbrev pub outputs_in : List ℕ → Option (List Reference)
-outputs_in bytes = referred_in (said_result bytes)
+abbrev pub references_in : List ℕ → Option (List Reference)
+references_in bytes = referred_in (said_result bytes)
 
 -- ---- a Tree
 
@@ -90,4 +91,4 @@ files_in bytes = files_told (decoded_tree bytes)
 
 -- results and Trees are read as the messages of the Remote Execution API
 abbrev pub by_messages : Reader
-by_messages = record { outputs = outputs_in; files = files_in }
+by_messages = record { outputs = references_in; files = files_in }

@@ -1,5 +1,6 @@
 -- What a result refers to, by the blobs that are found.
-use Rattle.std.specs.Prelude.{ℕ, Bool, not, ◌&&◌, List, [], ◌∷◌, ◌++◌, bytes_eq, Option, Some, None, is_some, is_none, unwrap_or, if◌then◌else◌}
+use Rattle.std.specs.Prelude.{ℕ, Bool, not, ◌&&◌, List, [], ◌∷◌, ◌++◌, bytes_eq, Option, Some, None}
+use Rattle.std.specs.Prelude.{is_some, is_none, unwrap_or, if◌then◌else◌}
 use Rattle.std.specs.List.{find, list_any}
 use Rattle.std.specs.Option.{option_and_then}
 use Rattle.blob_digest.specs.DigestValue.{DigestValue}
@@ -16,9 +17,9 @@ pub record Reader : Type 0 where
   pub outputs : List ℕ → Option (List Reference)
   pub files : List ℕ → Option (List DigestValue)
 
-abbrev pub first_of : Option DigestValue → Option DigestValue → Option DigestValue
-first_of None o = o
-first_of (Some d) o = Some d
+abbrev pub first_given : Option DigestValue → Option DigestValue → Option DigestValue
+first_given None o = o
+first_given (Some d) o = Some d
 
 -- a digest names a blob with this hash. No bytes are never stored, and so are left out
 abbrev pub names_hash : List ℕ → DigestValue → Bool
@@ -60,7 +61,7 @@ module _ (found : List ℕ → Option (List ℕ)) where
 
     abbrev pub first_fault_by : List Reference → Option DigestValue
     first_fault_by [] = None
-    first_fault_by (r ∷ rs) = first_of (fault_by r) (first_fault_by rs)
+    first_fault_by (r ∷ rs) = first_given (fault_by r) (first_fault_by rs)
 
   module _ (reader : Reader) where
     abbrev pub files_of : DigestValue → Option (List DigestValue)

@@ -8,14 +8,21 @@ use Rattle.action_cache.specs.Tied.{plain, marks}
 
 -- without counts
 abbrev pub state_of : ℕ → ℕ → List (List ℕ × Held) → List (List ℕ × Held) → CacheState
-state_of limit result_limit blobs results = record { blobs = plain blobs; results = marks results; limit = limit; result_limit = result_limit }
+state_of limit result_limit blobs results =
+    record {
+      blobs = plain blobs;
+      results = marks results;
+      limit = limit;
+      result_limit = result_limit;
+    }
 
 -- the blobs, each of the digests' moved to the front in turn
 abbrev pub moved_each : List DigestValue → List (List ℕ × Held) → List (List ℕ × Held)
 moved_each ds es = fold (λ l (d : DigestValue). moved_to_front bytes_eq d.hash l) es ds
 
 abbrev pub touched_each : Kept (List ℕ) → List DigestValue → Kept (List ℕ)
-touched_each s ds = record { entries = moved_each ds s.entries; limit = s.limit; overhead = s.overhead }
+touched_each s ds =
+    record { entries = moved_each ds s.entries; limit = s.limit; overhead = s.overhead }
 
 -- what the machine answers where a result is found, and where none is
 abbrev pub answer_of : Option (List ℕ) → Answer

@@ -1,5 +1,6 @@
 -- What a walk over a result's references tells.
-use Rattle.std.specs.Prelude.{◌≡◌, ℕ, true, false, List, bytes_eq, Option, Some, None, is_some, option_map, IfSome, Bool}
+use Rattle.std.specs.Prelude.{◌≡◌, ℕ, true, false, List, bytes_eq, Option, Some, None, is_some}
+use Rattle.std.specs.Prelude.{option_map, IfSome, Bool}
 use Rattle.std.specs.List.{IsDistinct, list_any, AllByRecursion}
 use Rattle.std.specs.Option.{option_and_then}
 use Rattle.std.specs.BTreeMap.{BTreeMap, get}
@@ -8,7 +9,8 @@ use Rattle.blob_digest.specs.Digest.{digest_cmp}
 use Rattle.blob_digest.specs.DigestValue.{DigestValue}
 use Rattle.eviction.specs.Pinning.{is_among}
 use Rattle.blob_store.specs.Blobs.{hashes_of, all_held}
-use Rattle.action_cache.specs.References.{Reference, Reader, names_hash, is_held, files_of, references, outputs_of, first_fault}
+use Rattle.action_cache.specs.References.{Reference, Reader, names_hash, is_held, files_of}
+use Rattle.action_cache.specs.References.{references, outputs_of, first_fault}
 use Rattle.action_cache.specs.Reading.{by_messages}
 use Rattle.action_cache.specs.declared.survey.Survey.{Survey}
 
@@ -16,8 +18,8 @@ use Rattle.action_cache.specs.declared.survey.Survey.{Survey}
 abbrev pub AreHeld : (List ℕ → Option (List ℕ)) → List DigestValue → Type 0
 AreHeld found ds = AllByRecursion (λ d. is_held found d ≡ true) ds
 
--- The digests each once: no two have one hash, they name the same hashes, and where all of the first
--- are held so are all of these.
+-- The digests each once: no two have one hash, they name the same hashes, and where all of the
+-- first are held so are all of these.
 pub record AreOnce (ds once : List DigestValue) : Type 0 where
   pub distinct : IsDistinct bytes_eq (hashes_of once)
   pub named : (h : List ℕ) → is_among bytes_eq (hashes_of once) h ≡ list_any (names_hash h) ds
@@ -32,7 +34,8 @@ pub record Surveys {A : Type 0} (reader : Reader) (found : List ℕ → Option (
   pub fault : s.fault ≡ first_fault found reader (outputs_of reader bytes)
 
 -- no survey just where the bytes are no result
-abbrev pub IsSurvey : {A : Type 0} → Reader → (List ℕ → Option (List ℕ)) → List ℕ → Option (Survey A) → Type 0
+abbrev pub IsSurvey : {A : Type 0} → Reader → (List ℕ → Option (List ℕ)) → List ℕ
+    → Option (Survey A) → Type 0
 IsSurvey reader found bytes None = is_some (reader.outputs bytes) ≡ false
 IsSurvey reader found bytes (Some s) = Surveys reader found bytes s
 

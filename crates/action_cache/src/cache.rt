@@ -1,13 +1,17 @@
-ghost use Rattle.std.specs.Prelude.{◌≡◌, ℕ, ◌+◌, ◌<◌, ◌≤◌, ◌^◌, List, [], length, IfOk, IfErr, OnOk, OnErr, Err, option_map, option_copied, bytes_eq};
+ghost use Rattle.std.specs.Prelude.{◌≡◌, ℕ, ◌+◌, ◌<◌, ◌≤◌, ◌^◌, List, [], length, IfOk, IfErr};
+ghost use Rattle.std.specs.Prelude.{OnOk, OnErr, Err, option_map, option_copied, bytes_eq};
 ghost use Rattle.std.specs.Borrow.{sem};
 ghost use Rattle.eviction.specs.Kept.{bytes_under, total};
 ghost use Rattle.eviction.specs.Pinning.{pins_of};
 ghost use Rattle.blob_store.specs.Storing.{used};
 ghost use Rattle.messages.specs.declared.error.MessageError.{MessageError};
-ghost use Rattle.action_messages.specs.Refused.{IsRefused as IsRefusedAs};
+ghost use Rattle.action_messages.specs.Refused.{IsRefusedResult as IsRefusedAs};
 ghost use Rattle.action_cache.specs.State.{touched_each, answer_of, is_other, bytes_given};
 ghost use Rattle.action_cache.specs.Reading.{by_messages};
-ghost use Rattle.action_cache.specs.Machine.{CacheState, opened, done, put_blob as blob_put, get_blob as blob_got, unpin as take_off, pin as put_on, get_result as result_got, put_result as result_put};
+ghost use Rattle.action_cache.specs.Machine.{CacheState, opened, done, put_blob as blob_put};
+ghost use Rattle.action_cache.specs.Machine.{get_blob as blob_got, unpin as take_off};
+ghost use Rattle.action_cache.specs.Machine.{pin as put_on, get_result as result_got};
+ghost use Rattle.action_cache.specs.Machine.{put_result as result_put};
 ghost use Rattle.action_cache.specs.CacheError.{IsRefused};
 
 use crate::error::CacheError;
@@ -200,8 +204,8 @@ impl<A: Allocator + Copy> ActionCache<A> {
         Ok(Some(copy))
     }
 
-    /// Pins a result that is held and complete, and once more each blob to which it refers. One that
-    /// is pinned already isn't pinned again.
+    /// Pins a result that is held and complete, and once more each blob to which it refers. One
+    /// that is pinned already isn't pinned again.
     pub fn pin(&mut self, alloc: A, hash: &[u8; 32]) -> Result<(), CacheError>
         ensures ok { OnOk result (put_on by_messages self.old hash.now ≡ (done, self.new)) }
         ensures refused { IfErr result

@@ -1,5 +1,5 @@
-//! Results of actions and their blobs, in bounded stores. A result is answered where all to which it
-//! refers is held, through the Trees of its directories; what a pinned result refers to stays.
+//! Results of actions and their blobs, in bounded stores. A result is answered where all to which
+//! it refers is held, through the Trees of its directories; what a pinned result refers to stays.
 #![tactic(auto)]
 
 mod cache;

@@ -1,6 +1,7 @@
 ghost use Rattle.std.specs.Prelude.{◌≡◌, ◌++◌, map, IfOk, IfErr, OnOk, OnErr, Some, option_map};
-ghost use Rattle.action_cache.specs.Reading.{to_file, to_tree, to_stream, referred_to, outputs_in};
-ghost use Rattle.action_cache.specs.CacheError.{IsUnread};
+ghost use Rattle.action_cache.specs.Reading.{to_file, to_tree, to_stream, referred_to};
+ghost use Rattle.action_cache.specs.Reading.{references_in};
+ghost use Rattle.action_cache.specs.CacheError.{IsNoResult};
 
 use crate::error::CacheError;
 use action_messages::{ActionResult, OutputDirectory, OutputFile};
@@ -92,8 +93,8 @@ pub(crate) fn read_result<A: Allocator + Copy>(
     alloc: A,
     bytes: &[u8],
 ) -> Result<ActionResult<A>, CacheError>
-    ensures read { IfOk result (λ r. outputs_in bytes.now ≡ Some (referred_to r)) }
-    ensures refused { IfErr result (λ e. IsUnread e bytes.now) }
+    ensures read { IfOk result (λ r. references_in bytes.now ≡ Some (referred_to r)) }
+    ensures refused { IfErr result (λ e. IsNoResult e bytes.now) }
 {
     let action_result = ActionResult::decode(alloc, bytes)?;
     Ok(action_result)
@@ -104,7 +105,7 @@ pub(crate) fn read_outputs<A: Allocator + Copy>(
     alloc: A,
     bytes: &[u8],
 ) -> Result<Option<Vec<Reference, A>>, AllocError>
-    ensures { IfOk result (λ found. option_map (λ v. v.items) found ≡ outputs_in bytes.now) }
+    ensures { IfOk result (λ found. option_map (λ v. v.items) found ≡ references_in bytes.now) }
 {
     match read_result(alloc, bytes) {
         Ok(action_result) => Ok(Some(referred_to(alloc, &action_result)?)),

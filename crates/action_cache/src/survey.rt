@@ -1,7 +1,8 @@
 ghost use Rattle.std.specs.Prelude.{◌≡◌, ◌++◌, not, IfOk, OnOk, option_copied, option_map};
 ghost use Rattle.std.specs.List.{find};
 ghost use Rattle.blob_store.specs.Blobs.{found_in};
-ghost use Rattle.action_cache.specs.References.{is_held, digests_by, references_by, fault_by, first_fault_by};
+ghost use Rattle.action_cache.specs.References.{is_held, digests_by, references_by, fault_by};
+ghost use Rattle.action_cache.specs.References.{first_fault_by};
 ghost use Rattle.action_cache.specs.Reading.{by_messages};
 ghost use Rattle.action_cache.specs.Survey.{known, AreOnce, IsSurvey};
 

@@ -2,7 +2,8 @@ ghost use Rattle.std.specs.Prelude.{◌≡◌, ◌++◌, ◌∷◌, IfOk, OnOk, 
 ghost use Rattle.blob_digest.specs.DigestValue.{DigestValue};
 ghost use Rattle.blob_store.specs.Blobs.{found_in};
 ghost use Rattle.action_cache.specs.References.{blob_of, is_held, files_of};
-ghost use Rattle.action_cache.specs.Reading.{by_messages, digests_of_files, files_below, files_in_tree};
+ghost use Rattle.action_cache.specs.Reading.{by_messages, digests_of_files, files_below};
+ghost use Rattle.action_cache.specs.Reading.{files_in_tree};
 ghost use Rattle.action_cache.specs.Survey.{listed, is_read, known, AreRight, AreKnown};
 
 use crate::reference::Reference;

@@ -2,10 +2,10 @@
 use Rattle.std.proofs.Common.{◌≡◌, ◌≢◌, ℕ, Bool, true, false, ◌||◌, List, [], ◌∷◌, ◌++◌, length, refl, sym, ap, subst, ◌∙◌, append_assoc, Less, Equal, inl, inr, arith}
 use Rattle.std.specs.List.{AllByRecursion}
 use Rattle.std.proofs.lemmas.List.{length-append}
-use Rattle.messages.specs.Order.{bytes_cmp, AreApart, share_name}
+use Rattle.messages.specs.Order.{bytes_cmp, ShareNone, share_name}
 use Rattle.messages.specs.Path.{IsPath, LiesUnder, Overlap, parts_of, path_text}
 use Rattle.messages.proofs.Choices.{or_false, or_neither}
-use Rattle.messages.proofs.Orders.{itself, AreApart-from, share_name-from}
+use Rattle.messages.proofs.Orders.{itself, ShareNone-from, share_name-from}
 use Rattle.messages.proofs.Paths.{Some_part, some_part, part_there, parts-seam, parts_of_path}
 use Rattle.action_messages.specs.Ascending.{IsAscendingBy}
 use Rattle.action_messages.specs.Overlaps.{ArePathsApart, is_under, lies_under_some, some_under, some_cross, texts_of}
@@ -141,7 +141,7 @@ differ_row : (path : List (List ℕ)) (others : List (List (List ℕ))) → AllB
 differ_row path [] differ over under = tt
 differ_row path (other ∷ others) differ over under = (apart_of path other (λ e. differ.0 (ap path_text e)) over.0 under.0, differ_row path others differ.1 over.1 under.1)
 
-cross_rows : (paths others : List (List (List ℕ))) → AreApart (texts_of paths) (texts_of others) → NoneUnder paths others → AllByRecursion (λ path. AllByRecursion (λ other. LiesUnder other path → ⊥) others) paths → AreApartFrom paths others
+cross_rows : (paths others : List (List (List ℕ))) → ShareNone (texts_of paths) (texts_of others) → NoneUnder paths others → AllByRecursion (λ path. AllByRecursion (λ other. LiesUnder other path → ⊥) others) paths → AreApartFrom paths others
 cross_rows [] others differ over under = tt
 cross_rows (path ∷ paths) others differ over under = (differ_row path others differ.0 over.0 under.0, cross_rows paths others differ.1 over.1 under.1)
 
@@ -149,7 +149,7 @@ pub apart_from : (paths others : List (List (List ℕ))) → ArePaths paths → 
 apart_from paths others is all e =
     let o = or_false (share_name (texts_of paths) (texts_of others) || some_under (texts_of paths) (texts_of others)) (some_under (texts_of others) (texts_of paths)) e in
     let p = or_false (share_name (texts_of paths) (texts_of others)) (some_under (texts_of paths) (texts_of others)) o.0 in
-    cross_rows paths others (AreApart-from (texts_of paths) (texts_of others) p.0) (none_under paths others all p.1)
+    cross_rows paths others (ShareNone-from (texts_of paths) (texts_of others) p.0) (none_under paths others all p.1)
     (turned (λ (q : List (List ℕ)) (p' : List (List ℕ)). LiesUnder q p' → ⊥) others paths (none_under others paths is o.1))
 
 same_text : (path other : List (List ℕ)) → IsPath path → IsPath other → path_text path ≡ path_text other → path ≡ other
@@ -159,7 +159,7 @@ text_row : (path : List (List ℕ)) (others : List (List (List ℕ))) → IsPath
 text_row path [] is all h = tt
 text_row path (other ∷ others) is all h = (λ e. h.0 (inl (same_text path other is all.0 e)), text_row path others is all.1 h.1)
 
-pub text_rows : (paths others : List (List (List ℕ))) → ArePaths paths → ArePaths others → AreApartFrom paths others → AreApart (texts_of paths) (texts_of others)
+pub text_rows : (paths others : List (List (List ℕ))) → ArePaths paths → ArePaths others → AreApartFrom paths others → ShareNone (texts_of paths) (texts_of others)
 text_rows [] others is all h = tt
 text_rows (path ∷ paths) others is all h = (text_row path others is.0 all h.0, text_rows paths others is.1 all h.1)
 

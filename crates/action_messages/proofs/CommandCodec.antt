@@ -22,7 +22,7 @@ use Rattle.messages.proofs.DirectoryCodec.{no_texts}
 use Rattle.action_messages.specs.Fields.{string_of}
 use Rattle.action_messages.specs.Overlaps.{texts_of}
 use Rattle.action_messages.specs.Setting.{IsSetting, setting_bytes, decoded_setting}
-use Rattle.action_messages.specs.Command.{CommandValue, IsCommand, command_shape, directory_text, command_bytes, texts_checked, lists_checked, directory_of, command_in, decoded_command}
+use Rattle.action_messages.specs.Command.{CommandValue, IsCommand, command_shape, directory_text, command_bytes, texts_checked, lists_checked, working_directory_of, command_in, decoded_command}
 use Rattle.action_messages.proofs.Strings.{IsString, string_codec, path_codec, map-same, paths_utf8, path_utf8}
 use Rattle.action_messages.proofs.Joins.{of_four}
 use Rattle.action_messages.proofs.SettingCodec.{setting_codec}
@@ -47,7 +47,7 @@ command_message = record {
       let a = bind_ok (each string_of (elements_at 1 rs)) _ x e in
       let v = bind_ok (each decoded_setting (elements_at 2 rs)) _ x a.2 in
       let t = bind_ok (texts_checked a.0 v.0) _ x v.2 in
-      let d = bind_ok (directory_of (bytes_at 6 rs)) _ x t.2 in
+      let d = bind_ok (working_directory_of (bytes_at 6 rs)) _ x t.2 in
       let p = bind_ok (each path_of (elements_at 7 rs)) _ x d.2 in
       let l = bind_ok (lists_checked v.0 p.0) _ x p.2 in
       let made : CommandValue = record { arguments = a.0; environment = v.0; working_directory = d.0; output_paths = p.0 } in

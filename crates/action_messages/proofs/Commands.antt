@@ -13,10 +13,10 @@ use Rattle.messages.proofs.Choices.{and_first, and_second, and_both, not_true, f
 use Rattle.messages.proofs.Orders.{ascending, ordered_behind-from}
 use Rattle.messages.proofs.Paths.{path_found, path_given, parts_of_path}
 use Rattle.action_messages.specs.Fields.{refused_unless}
-use Rattle.action_messages.specs.Ascending.{IsAscendingBy, ascends_behind}
+use Rattle.action_messages.specs.Ascending.{IsAscendingBy, is_ascending_past}
 use Rattle.action_messages.specs.Overlaps.{some_under, texts_of}
 use Rattle.action_messages.specs.Setting.{SettingValue, IsSetting}
-use Rattle.action_messages.specs.Command.{CommandValue, IsText, NamesProgram, IsVariable, variable_names, IsCommand, directory_text, has_byte, is_argument, are_arguments, is_variable_name, is_variable, some_argument, texts_checked, lists_checked, command_of, directory_of}
+use Rattle.action_messages.specs.Command.{CommandValue, IsText, NamesProgram, IsVariable, variable_names, IsCommand, directory_text, has_byte, is_argument, are_arguments, is_variable_name, is_variable, some_argument, texts_checked, lists_checked, command_of, working_directory_of}
 use Rattle.action_messages.proofs.Strings.{IsString}
 use Rattle.action_messages.proofs.Sorted as sorted
 use Rattle.action_messages.proofs.Searches.{bytes_trans}
@@ -124,7 +124,7 @@ pub lists_found : (environment : List SettingValue) (output_paths : List (List (
 unfolding lists_checked
 lists_found environment output_paths e =
     let a = bind_ok (ordered_behind None (variable_names environment)) _ tt e in
-    let b = bind_ok (ascends_behind bytes_cmp None (texts_of output_paths)) (λ _. refused_unless (not (some_under (texts_of output_paths) (texts_of output_paths))) SameName) tt a.2 in
+    let b = bind_ok (is_ascending_past bytes_cmp None (texts_of output_paths)) (λ _. refused_unless (not (some_under (texts_of output_paths) (texts_of output_paths))) SameName) tt a.2 in
     record {
       names = ascending (variable_names environment) a.1;
       outputs = sorted.ascending bytes_cmp bytes_trans (texts_of output_paths) b.1;
@@ -135,7 +135,7 @@ pub lists_given : (environment : List SettingValue) (output_paths : List (List (
 unfolding lists_checked
 lists_given environment output_paths h =
     let a = ordered_behind-from (variable_names environment) h.names in
-    let b = sorted.ascends_behind-from bytes_cmp (texts_of output_paths) h.outputs in
+    let b = sorted.is_ascending_past-from bytes_cmp (texts_of output_paths) h.outputs in
     rw (a, b, h.under) refl
 
 pub command_made : (c : CommandValue) → AllByRecursion IsString c.arguments → AllByRecursion IsSetting c.environment → IfSome c.working_directory IsPath → AllByRecursion IsPath c.output_paths → texts_checked c.arguments c.environment ≡ Ok tt → lists_checked c.environment c.output_paths ≡ Ok tt → IsCommand c
@@ -178,8 +178,8 @@ command_answer c (Err e) given lawful = (λ h. absurd (cc h), λ k. let o = comm
 
 -- ---- the working directory
 
-pub directory_found : (text : List ℕ) (d : Option (List (List ℕ))) → directory_of text ≡ Ok d → IfSome d IsPath × (text ≡ directory_text d)
-unfolding directory_of
+pub directory_found : (text : List ℕ) (d : Option (List (List ℕ))) → working_directory_of text ≡ Ok d → IfSome d IsPath × (text ≡ directory_text d)
+unfolding working_directory_of
 directory_found [] d e = subst (λ (x : Option (List (List ℕ))). IfSome x IsPath × ([] ≡ directory_text x)) (ok_is {E = MessageError} None d e) (tt, refl)
 directory_found (b ∷ text) d e =
     let p = bind_ok (path_of (b ∷ text)) (λ path. Ok (Some path)) d e in
@@ -189,17 +189,17 @@ directory_found (b ∷ text) d e =
 no_empty : IsPath ([] ∷ []) → ⊥
 no_empty is = let none : 0 < 0 = is.each.0.segment.some in omega arith
 
-read_text : (path : List (List ℕ)) (text : List ℕ) → IsPath path → path_text path ≡ text → directory_of text ≡ Ok (Some path)
-unfolding directory_of
+read_text : (path : List (List ℕ)) (text : List ℕ) → IsPath path → path_text path ≡ text → working_directory_of text ≡ Ok (Some path)
+unfolding working_directory_of
 read_text path [] is e =
     let one : [] ∷ [] ≡ path = sym (ap parts_of e) ∙ parts_of_path path is in
     absurd (no_empty (subst IsPath (sym one) is))
 read_text path (b ∷ text) is e = let r : path_of (b ∷ text) ≡ Ok path = ap path_of (sym e) ∙ path_given path is in rw r refl
 
-absent : directory_of [] ≡ Ok None
-unfolding directory_of
+absent : working_directory_of [] ≡ Ok None
+unfolding working_directory_of
 absent = refl
 
-pub directory_given : (d : Option (List (List ℕ))) → IfSome d IsPath → directory_of (directory_text d) ≡ Ok d
+pub directory_given : (d : Option (List (List ℕ))) → IfSome d IsPath → working_directory_of (directory_text d) ≡ Ok d
 directory_given None is = absent
 directory_given (Some path) is = read_text path (path_text path) is refl

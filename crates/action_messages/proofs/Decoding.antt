@@ -26,8 +26,8 @@ use Rattle.action_messages.specs.OutputSymlink.{OutputSymlinkValue, IsOutputSyml
 use Rattle.action_messages.specs.ActionResult.{ActionResultValue, IsActionResult, AreOutputPaths, file_paths, directory_paths, symlink_paths, paths_checked, action_result_of}
 use Rattle.action_messages.specs.Nested.{SaysEach}
 use Rattle.action_messages.specs.Reads.{SaysFile, SaysDirectory, SaysSymlink, SaysStream, Reads}
-use Rattle.action_messages.specs.Refused.{NoneRefused, IsFirstRefused, IsUnread, IsRefused}
-use Rattle.action_messages.specs.Unordered.{unordered_in, known_fields, unordered, output_paths, IsOrdered, AreOutputsLawful}
+use Rattle.action_messages.specs.Refused.{NoneRefused, IsFirstRefused, IsUnreadResult, IsRefusedResult}
+use Rattle.action_messages.specs.Unordered.{unordered_in, known_fields, unordered, output_paths, IsOrderingOf, AreOutputsLawful}
 use Rattle.action_messages.proofs.Agreeing.{SaysUnordered, unordered_found, unordered_only}
 use Rattle.action_messages.proofs.Apart.{ArePaths}
 use Rattle.action_messages.proofs.NestedOrder.{none_refused, all_read, first_once, err_is, failed_with}
@@ -60,7 +60,7 @@ of_pairs (path ∷ paths) h = (h.0, of_pairs paths h.1)
 pub apart_permuted : (paths others : List (List (List ℕ))) → IsPermutation paths others → ArePathsApart paths → ArePathsApart others
 apart_permuted paths others p h = of_pairs others (pairs_permuted Apart apart_symmetric paths others p (pairs_of paths h))
 
-pub paths_permuted : (u r : ActionResultValue) → IsOrdered u r → IsPermutation (output_paths u) (output_paths r)
+pub paths_permuted : (u r : ActionResultValue) → IsOrderingOf u r → IsPermutation (output_paths u) (output_paths r)
 paths_permuted u r o =
     let f = IsPermutation-map (λ (x : OutputFileValue). x.path) u.files r.files o.files in
     let d = IsPermutation-map (λ (x : OutputDirectoryValue). x.path) u.directories r.directories o.directories in
@@ -112,7 +112,7 @@ pub record IsSortedResult (r : ActionResultValue) : Type 0 where
   pub directories : IsSortedByText (λ (x : OutputDirectoryValue). x.path) r.directories
   pub symlinks : IsSortedByText (λ (x : OutputSymlinkValue). x.path) r.symlinks
 
-pub lawful_permuted : (u r : ActionResultValue) → IsOrdered u r → AreOutputsLawful u → AreOutputsLawful r
+pub lawful_permuted : (u r : ActionResultValue) → IsOrderingOf u r → AreOutputsLawful u → AreOutputsLawful r
 lawful_permuted u r o k = record {
   files = all_permuted IsOutputFile u.files r.files o.files k.files;
   directories = all_permuted IsOutputDirectory u.directories r.directories o.directories k.directories;
@@ -122,7 +122,7 @@ lawful_permuted u r o k = record {
 abbrev paths_of_result : ActionResultValue → Result (Unit {0}) MessageError
 paths_of_result r = paths_checked (file_paths r.files) (directory_paths r.directories) (symlink_paths r.symlinks)
 
-sorted_checked : (u r : ActionResultValue) → IsOrdered u r → IsSortedResult r → AreOutputsLawful u → ArePathsApart (output_paths u) → paths_of_result r ≡ Ok tt
+sorted_checked : (u r : ActionResultValue) → IsOrderingOf u r → IsSortedResult r → AreOutputsLawful u → ArePathsApart (output_paths u) → paths_of_result r ≡ Ok tt
 sorted_checked u r o s k h =
     let l = lawful_permuted u r o k in
     let f = file_paths_lawful r.files l.files in
@@ -139,12 +139,12 @@ sorted_checked u r o s k h =
     } in
     paths_given (file_paths r.files) (directory_paths r.directories) (symlink_paths r.symlinks) f d y rules
 
-pub overlapping : (u r : ActionResultValue) (e : MessageError) → IsOrdered u r → IsSortedResult r → action_result_of r ≡ Err e → AreOutputsLawful u → ArePathsApart (output_paths u) → ⊥
+pub overlapping : (u r : ActionResultValue) (e : MessageError) → IsOrderingOf u r → IsSortedResult r → action_result_of r ≡ Err e → AreOutputsLawful u → ArePathsApart (output_paths u) → ⊥
 unfolding action_result_of
 overlapping u r e o s refused k h = let no = sym refused ∙ ap (λ (x : Result (Unit {0}) MessageError). x >>= λ _. Ok r) (sorted_checked u r o s k h) in cc
 
-pub ordered_made : (u s r : ActionResultValue) → IsOrdered u s → action_result_of s ≡ Ok r → IsActionResult r → IsActionResult r × IsOrdered u r
-ordered_made u s r o e k = let f = result_found s r e in (k, subst (IsOrdered u) f.1 o)
+pub ordered_made : (u s r : ActionResultValue) → IsOrderingOf u s → action_result_of s ≡ Ok r → IsActionResult r → IsActionResult r × IsOrderingOf u r
+ordered_made u s r o e k = let f = result_found s r e in (k, subst (IsOrderingOf u) f.1 o)
 
 -- ---- bytes
 
@@ -162,7 +162,7 @@ lawful_said u rs s = record {
 }
 
 abbrev IsMade : ActionResultValue → ActionResultValue → Type 0
-IsMade u r = IsActionResult r × IsOrdered u r
+IsMade u r = IsActionResult r × IsOrderingOf u r
 
 abbrev IsOverlap : ActionResultValue → MessageError → Type 0
 IsOverlap u e = (e ≡ SameName) × (AreOutputsLawful u → ArePathsApart (output_paths u) → ⊥)
@@ -186,7 +186,7 @@ found_is bytes u (Ok x) fits read made =
     )
 found_is bytes u (Err e) fits read made = tt
 
-pub refused_is : (bytes : List ℕ) (u : ActionResultValue) (r : Result ActionResultValue MessageError) → IsBytes bytes → unordered bytes ≡ Ok u → IfErr r (IsOverlap u) → IfErr r (λ e. (e ≡ Memory) ⊎ IsRefused e bytes)
+pub refused_is : (bytes : List ℕ) (u : ActionResultValue) (r : Result ActionResultValue MessageError) → IsBytes bytes → unordered bytes ≡ Ok u → IfErr r (IsOverlap u) → IfErr r (λ e. (e ≡ Memory) ⊎ IsRefusedResult e bytes)
 refused_is bytes u (Ok x) fits read h = tt
 refused_is bytes u (Err e) fits read h = let s = unordered_found bytes u fits read in inr (inr (u, read, h.1 (lawful_said u s.0 s.2), h.0))
 
@@ -194,7 +194,7 @@ refused_is bytes u (Err e) fits read h = let s = unordered_found bytes u fits re
 reads_said : (m : ActionResultValue) (bytes : List ℕ) → IsBytes bytes → Reads m bytes → (u : ActionResultValue) × (unordered bytes ≡ Ok u) × ArePathsApart (output_paths u)
 reads_said m bytes fits (rs, spelled, s) =
     let u : ActionResultValue = record { files = s.files.read; directories = s.directories.read; symlinks = s.symlinks.read; exit_code = m.exit_code; stdout = m.stdout; stderr = m.stderr } in
-    let o : IsOrdered m u = record {
+    let o : IsOrderingOf m u = record {
       files = IsPermutation-sym s.files.read m.files s.files.same;
       directories = IsPermutation-sym s.directories.read m.directories s.directories.same;
       symlinks = IsPermutation-sym s.symlinks.read m.symlinks s.symlinks.same;
@@ -219,19 +219,19 @@ read_again bytes rs ss e f = ok_is {E = MessageError} rs ss (sym e ∙ f)
 not_first : (e : MessageError) (rs : List Record) → NoneRefused rs rs → IsFirstRefused e rs → ⊥
 not_first e rs none f = let no = sym (none f.front f.after f.r f.parts) ∙ f.refused in cc
 
-pub not_unread : (bytes : List ℕ) (u : ActionResultValue) (e : MessageError) → unordered bytes ≡ Ok u → IsUnread e bytes → ⊥
+pub not_unread : (bytes : List ℕ) (u : ActionResultValue) (e : MessageError) → unordered bytes ≡ Ok u → IsUnreadResult e bytes → ⊥
 not_unread bytes u e read (inl h) = let k = known_said bytes u read in let no = sym k.1 ∙ h in cc
 not_unread bytes u e read (inr (rs, known, first)) =
     let k = known_said bytes u read in
     not_first e rs (subst (λ (l : List Record). NoneRefused l l) (read_again bytes k.0 rs k.1 known) k.2) first
 
-pub not_refused : (m : ActionResultValue) (bytes : List ℕ) (e : MessageError) → IsBytes bytes → Reads m bytes → IsRefused e bytes → ⊥
+pub not_refused : (m : ActionResultValue) (bytes : List ℕ) (e : MessageError) → IsBytes bytes → Reads m bytes → IsRefusedResult e bytes → ⊥
 not_refused m bytes e fits reads (inl h) = let s = reads_said m bytes fits reads in not_unread bytes s.0 e s.1 h
 not_refused m bytes e fits reads (inr (u, read, overlap, is)) =
     let s = reads_said m bytes fits reads in
     overlap (subst (λ (x : ActionResultValue). ArePathsApart (output_paths x)) (same_read s.0 u (unordered bytes) s.1 read) s.2)
 
-pub refused_once : (d e : MessageError) (bytes : List ℕ) → IsRefused d bytes → IsRefused e bytes → d ≡ e
+pub refused_once : (d e : MessageError) (bytes : List ℕ) → IsRefusedResult d bytes → IsRefusedResult e bytes → d ≡ e
 refused_once d e bytes (inl (inl h)) (inl (inl k)) = err_is {A = List Record} d e (sym h ∙ k)
 refused_once d e bytes (inl (inl h)) (inl (inr (rs, known, first))) = let no = sym h ∙ known in absurd cc
 refused_once d e bytes (inl (inr (rs, known, first))) (inl (inl k)) = let no = sym k ∙ known in absurd cc
@@ -241,12 +241,12 @@ refused_once d e bytes (inl h) (inr (u, read, overlap, is)) = absurd (not_unread
 refused_once d e bytes (inr (u, read, overlap, is)) (inl k) = absurd (not_unread bytes u e read k)
 refused_once d e bytes (inr (u, read, overlap, is)) (inr (v, also, overlaps, same)) = is ∙ sym same
 
-pub only_is : (bytes : List ℕ) (r : Result ActionResultValue MessageError) → IsBytes bytes → IfOk r (λ x. Reads x bytes) → IfErr r (λ e. (e ≡ Memory) ⊎ IsRefused e bytes) → (m : ActionResultValue) → Reads m bytes → GivesUnlessMemory (λ x. x) r (Ok m)
+pub only_is : (bytes : List ℕ) (r : Result ActionResultValue MessageError) → IsBytes bytes → IfOk r (λ x. Reads x bytes) → IfErr r (λ e. (e ≡ Memory) ⊎ IsRefusedResult e bytes) → (m : ActionResultValue) → Reads m bytes → GivesUnlessMemory (λ x. x) r (Ok m)
 only_is bytes (Ok x) fits found refused m reads = ap Ok (reads_once m x bytes reads found)
 only_is bytes (Err e) fits found (inl none) m reads = subst (λ (d : MessageError). FailsUnlessMemory {Y = ActionResultValue} d (Ok m)) (sym none) tt
 only_is bytes (Err e) fits found (inr is) m reads = absurd (not_refused m bytes e fits reads is)
 
-pub refused_first : (bytes : List ℕ) (e : MessageError) → (e ≡ Memory) ⊎ IsUnread e bytes → (e ≡ Memory) ⊎ IsRefused e bytes
+pub refused_first : (bytes : List ℕ) (e : MessageError) → (e ≡ Memory) ⊎ IsUnreadResult e bytes → (e ≡ Memory) ⊎ IsRefusedResult e bytes
 refused_first bytes e (inl none) = inl none
 refused_first bytes e (inr h) = inr (inl h)
 

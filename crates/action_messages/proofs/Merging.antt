@@ -8,7 +8,7 @@ use Rattle.std.proofs.lemmas.List.{append-nil, map-append}
 use Rattle.std.proofs.lemmas.Cmp.{upto}
 use Rattle.std.proofs.lemmas.Map.Lookups.{exact_bytes}
 use Rattle.std.specs.Cmp.Lexicographic.{nat_list_cmp_total}
-use Rattle.messages.specs.Order.{bytes_cmp, AreApart}
+use Rattle.messages.specs.Order.{bytes_cmp, ShareNone}
 use Rattle.messages.specs.Path.{path_text}
 use Rattle.messages.proofs.Orders.{flipped, itself}
 use Rattle.action_messages.specs.Ascending.{IsAscendingBy}
@@ -109,9 +109,9 @@ pub record AreLeft (F D L : List (List ℕ)) : Type 0 where
   pub files : IsAscendingBy bytes_cmp F
   pub directories : IsAscendingBy bytes_cmp D
   pub links : IsAscendingBy bytes_cmp L
-  pub files_directories : AreApart F D
-  pub files_links : AreApart F L
-  pub directories_links : AreApart D L
+  pub files_directories : ShareNone F D
+  pub files_links : ShareNone F L
+  pub directories_links : ShareNone D L
 
 -- a text comes before all that is left
 abbrev pub Precedes : List (List ℕ) → List (List ℕ) → List (List ℕ) → List ℕ → Type 0

@@ -17,7 +17,7 @@ use Rattle.canonical.specs.Checking.{kept_if, fields_checked}
 use Rattle.canonical.specs.Columns.{column}
 use Rattle.canonical.specs.Fields.{bytes_field, bool_field, int_field, message_field, element_fields, elements_at}
 use Rattle.canonical.specs.Known.{IsFieldOf, AreKnown}
-use Rattle.canonical.specs.Shape.{is_shape, entry_of}
+use Rattle.canonical.specs.Shape.{is_shape, shape_entry}
 use Rattle.canonical.proofs.Behind.{all_shaped}
 use Rattle.canonical.proofs.Columns.{Part, entries_of, joined, IsShapedBehind, kept_facts}
 use Rattle.canonical.proofs.FieldKinds.{bytes_again, bool_again, int32_read, int64_read, elements_again, bytes_is, bool_is, int32_is, message_is, elements_are}
@@ -41,14 +41,14 @@ use Rattle.action_messages.proofs.Strings.{path_utf8}
 
 -- ---- the records of a shape are known
 
-field_of : (entries : List Entry) (before : ℕ) (r : Record) (o : Option Entry) → entry_of r.number entries ≡ o → kept_if before r o ≡ Ok tt → IsFieldOf entries r
+field_of : (entries : List Entry) (before : ℕ) (r : Record) (o : Option Entry) → shape_entry r.number entries ≡ o → kept_if before r o ≡ Ok tt → IsFieldOf entries r
 field_of entries before r None is e = absurd cc
 field_of entries before r (Some entry) is e = let k = kept_facts entry before r e in record { entry = entry; listed = is; wire = k.wire; text = k.text }
 
 all_known : (entries : List Entry) (skipped : List ℕ) (before : ℕ) (rs : List Record) → IsShapedBehind entries before rs → AreKnown entries skipped rs
 unfolding IsShapedBehind
 all_known entries skipped before [] s = tt
-all_known entries skipped before (r ∷ rs) s = (inr (field_of entries before r (entry_of r.number entries) refl s.0), all_known entries skipped r.number rs s.1)
+all_known entries skipped before (r ∷ rs) s = (inr (field_of entries before r (shape_entry r.number entries) refl s.0), all_known entries skipped r.number rs s.1)
 
 -- ---- a message
 

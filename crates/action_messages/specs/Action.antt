@@ -1,11 +1,13 @@
--- The message Action of remote_execution.proto: a frame, and the digest of the Directory of its inputs.
+-- The message Action of remote_execution.proto: a frame, and the digest of the Directory of its
+-- inputs.
 use Rattle.std.specs.Prelude.{ℕ, List, [], ◌∷◌, ◌++◌, Some, Result, Ok}
 use Rattle.wire.specs.Record.{Record}
 use Rattle.wire.specs.Spelling.{spelling}
 use Rattle.wire.specs.Steps.{◌>>=◌}
 use Rattle.canonical.specs.declared.shape.Kind.TheVariants as kinds
 use Rattle.canonical.specs.declared.shape.Entry.{Entry}
-use Rattle.canonical.specs.Fields.{message_field, bool_field, bytes_field, message_at, bool_at, bytes_at}
+use Rattle.canonical.specs.Fields.{message_field, bool_field, bytes_field, message_at, bool_at}
+use Rattle.canonical.specs.Fields.{bytes_at}
 use Rattle.canonical.specs.Told.{in_option}
 use Rattle.blob_digest.specs.DigestValue.{DigestValue, IsDigest}
 use Rattle.messages.specs.declared.error.MessageError.{MessageError}
@@ -46,7 +48,8 @@ action_bytes a = spelling (
     bytes_field 9 a.frame.salt ++
     message_field 10 (platform_entry a.frame.platform))
 
--- ---- what bytes say, or the first refusal: the shape, the digests and the platform, whether the digests are there
+-- ---- what bytes say, or the first refusal: the shape, the digests and the platform, whether the
+-- digests are there
 
 abbrev pub action_in : List Record → Result ActionValue MessageError
 action_in rs =

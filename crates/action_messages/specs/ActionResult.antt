@@ -1,6 +1,7 @@
--- The message ActionResult of remote_execution.proto: what an action made, and how it ended. Each list of outputs is sorted
--- by the texts of the paths, and no two outputs of any kind overlap.
-use Rattle.std.specs.Prelude.{ℕ, ℤ, FitsSigned, Bool, ◌||◌, not, List, [], ◌∷◌, ◌++◌, map, None, option_map, Result, Ok}
+-- The message ActionResult of remote_execution.proto: what an action made, and how it ended. Each
+-- list of outputs is sorted by the texts of the paths, and no two outputs of any kind overlap.
+use Rattle.std.specs.Prelude.{ℕ, ℤ, FitsSigned, Bool, ◌||◌, not, List, [], ◌∷◌, ◌++◌, map, None}
+use Rattle.std.specs.Prelude.{option_map, Result, Ok}
 use Rattle.std.specs.Int.{w32}
 use Rattle.std.specs.List.{AllByRecursion}
 use Rattle.wire.specs.Record.{Record}
@@ -14,13 +15,15 @@ use Rattle.messages.specs.declared.error.MessageError.TheVariants.{SameName}
 use Rattle.messages.specs.Order.{bytes_cmp}
 use Rattle.messages.specs.Shapes.{single, repeated}
 use Rattle.messages.specs.DigestMessage.{digest_bytes}
-use Rattle.action_messages.specs.Ascending.{IsAscendingBy, ascends_behind}
+use Rattle.action_messages.specs.Ascending.{IsAscendingBy, is_ascending_past}
 use Rattle.action_messages.specs.Overlaps.{ArePathsApart, some_under, some_cross, texts_of}
 use Rattle.action_messages.specs.Fields.{refused_unless}
 use Rattle.action_messages.specs.Stream.{StreamValue, IsStream}
 use Rattle.action_messages.specs.OutputFile.{OutputFileValue, IsOutputFile, output_file_bytes}
-use Rattle.action_messages.specs.OutputDirectory.{OutputDirectoryValue, IsOutputDirectory, output_directory_bytes}
-use Rattle.action_messages.specs.OutputSymlink.{OutputSymlinkValue, IsOutputSymlink, output_symlink_bytes}
+use Rattle.action_messages.specs.OutputDirectory.{OutputDirectoryValue, IsOutputDirectory}
+use Rattle.action_messages.specs.OutputDirectory.{output_directory_bytes}
+use Rattle.action_messages.specs.OutputSymlink.{OutputSymlinkValue, IsOutputSymlink}
+use Rattle.action_messages.specs.OutputSymlink.{output_symlink_bytes}
 
 -- the outputs of three kinds, the exit code, and the two streams
 pub record ActionResultValue : Type 0 where
@@ -54,7 +57,8 @@ pub record IsActionResult (r : ActionResultValue) : Type 0 where
   pub exit_code : FitsSigned w32 r.exit_code
   pub stdout : IsStream r.stdout
   pub stderr : IsStream r.stderr
-  pub paths : AreOutputPaths (file_paths r.files) (directory_paths r.directories) (symlink_paths r.symlinks)
+  pub paths : AreOutputPaths (file_paths r.files) (directory_paths r.directories)
+      (symlink_paths r.symlinks)
 
 abbrev pub action_result_shape : List Entry
 action_result_shape =
@@ -94,13 +98,15 @@ some_overlap files directories symlinks =
 unfoldable pub paths_checked : List (List (List ℕ)) → List (List (List ℕ)) → List (List (List ℕ))
     → Result (Unit {0}) MessageError
 paths_checked files directories symlinks =
-    ascends_behind bytes_cmp None (texts_of files) >>= λ _.
-    ascends_behind bytes_cmp None (texts_of directories) >>= λ _.
-    ascends_behind bytes_cmp None (texts_of symlinks) >>= λ _.
-    refused_unless (not (some_overlap (texts_of files) (texts_of directories) (texts_of symlinks))) SameName
+    is_ascending_past bytes_cmp None (texts_of files) >>= λ _.
+    is_ascending_past bytes_cmp None (texts_of directories) >>= λ _.
+    is_ascending_past bytes_cmp None (texts_of symlinks) >>= λ _.
+    refused_unless
+    (not (some_overlap (texts_of files) (texts_of directories) (texts_of symlinks))) SameName
 
 -- the result of these fields, or the first refusal
 unfoldable pub action_result_of : ActionResultValue → Result ActionResultValue MessageError
 action_result_of r =
-    paths_checked (file_paths r.files) (directory_paths r.directories) (symlink_paths r.symlinks) >>= λ _.
+    paths_checked (file_paths r.files) (directory_paths r.directories)
+    (symlink_paths r.symlinks) >>= λ _.
     Ok r

@@ -1,5 +1,6 @@
 -- Lists in a strict order, by any comparison.
-use Rattle.std.specs.Prelude.{◌≡◌, ℕ, List, IsSortedBy, [], ◌∷◌, Option, Some, None, Result, Ok, Err}
+use Rattle.std.specs.Prelude.{◌≡◌, ℕ, List, IsSortedBy, [], ◌∷◌, Option, Some, None, Result, Ok}
+use Rattle.std.specs.Prelude.{Err}
 use Rattle.std.specs.List.{AllByRecursion}
 use Rattle.std.specs.Ordering.{is_lt}
 use Rattle.messages.specs.Path.{text_cmp}
@@ -26,7 +27,9 @@ pair_ascends Equal = Err Unsorted
 pair_ascends Greater = Err Unsorted
 
 -- the first pair of neighbours that doesn't ascend, behind an element
-abbrev pub ascends_behind : {X : Type 0} → (X → X → Ordering) → Option X → List X → Result (Unit {0}) MessageError
-ascends_behind cmp before [] = Ok tt
-ascends_behind cmp None (x ∷ xs) = ascends_behind cmp (Some x) xs
-ascends_behind cmp (Some before) (x ∷ xs) = pair_ascends (cmp before x) >>= λ _. ascends_behind cmp (Some x) xs
+abbrev pub is_ascending_past : {X : Type 0} → (X → X → Ordering) → Option X → List X
+    → Result (Unit {0}) MessageError
+is_ascending_past cmp before [] = Ok tt
+is_ascending_past cmp None (x ∷ xs) = is_ascending_past cmp (Some x) xs
+is_ascending_past cmp (Some before) (x ∷ xs) =
+    pair_ascends (cmp before x) >>= λ _. is_ascending_past cmp (Some x) xs

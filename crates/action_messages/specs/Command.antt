@@ -1,7 +1,8 @@
--- The message Command of remote_execution.proto: the `arguments` that are run, the first of which names the program; the
--- `environment_variables`, sorted by name; the `working_directory`, a path in the input root or none for the root itself;
--- and the `output_paths`, sorted by their texts.
-use Rattle.std.specs.Prelude.{◌≡◌, ◌≢◌, ℕ, ◌<◌, Bool, true, ◌==◌, ◌&&◌, not, List, [], ◌∷◌, ◌++◌, length, map, Option, Some, None, Result, Ok, Err, IfSome}
+-- The message Command of remote_execution.proto: the `arguments` that are run, the first of which
+-- names the program; the `environment_variables`, sorted by name; the `working_directory`, a path
+-- in the input root or none for the root itself; and the `output_paths`, sorted by their texts.
+use Rattle.std.specs.Prelude.{◌≡◌, ◌≢◌, ℕ, ◌<◌, Bool, true, ◌==◌, ◌&&◌, not, List, [], ◌∷◌, ◌++◌}
+use Rattle.std.specs.Prelude.{length, map, Option, Some, None, Result, Ok, Err, IfSome}
 use Rattle.std.specs.List.{AllByRecursion, list_any, list_all}
 use Rattle.std.specs.Str.{is_utf8}
 use Rattle.wire.specs.Record.{Record}
@@ -18,7 +19,7 @@ use Rattle.messages.specs.Path.{IsPath, path_of, path_text}
 use Rattle.messages.specs.Shapes.{single, repeated}
 use Rattle.messages.specs.Told.{shape_checked}
 use Rattle.action_messages.specs.Fields.{string_of, refused_unless}
-use Rattle.action_messages.specs.Ascending.{IsAscendingBy, ascends_behind}
+use Rattle.action_messages.specs.Ascending.{IsAscendingBy, is_ascending_past}
 use Rattle.action_messages.specs.Overlaps.{ArePathsApart, some_under, texts_of}
 use Rattle.action_messages.specs.Setting.{SettingValue, setting_bytes, decoded_setting}
 
@@ -79,7 +80,8 @@ command_bytes c = spelling (
     bytes_field 6 (directory_text c.working_directory) ++
     element_fields 7 (texts_of c.output_paths))
 
--- ---- what bytes say, or the first refusal: the shape, the variables in the order of the bytes, the missing argument,
+-- ---- what bytes say, or the first refusal: the shape, the variables in the order of the bytes,
+-- the missing argument,
 -- texts and paths by field and place, the order of each list, overlaps
 
 abbrev pub has_byte : ℕ → List ℕ → Bool
@@ -90,7 +92,8 @@ is_argument text = not (has_byte 0 text)
 
 abbrev pub are_arguments : List (List ℕ) → Bool
 are_arguments [] = true
-are_arguments (program ∷ arguments) = not (length program == 0) && list_all is_argument (program ∷ arguments)
+are_arguments (program ∷ arguments) =
+    not (length program == 0) && list_all is_argument (program ∷ arguments)
 
 abbrev pub is_variable_name : List ℕ → Bool
 is_variable_name name = not (length name == 0) && not (has_byte 61 name) && not (has_byte 0 name)
@@ -110,10 +113,11 @@ texts_checked arguments environment =
     refused_unless (list_all is_variable environment) (BadText 2)
 
 -- the order of fields 2 and 7, and then overlaps
-unfoldable pub lists_checked : List SettingValue → List (List (List ℕ)) → Result (Unit {0}) MessageError
+unfoldable pub lists_checked : List SettingValue → List (List (List ℕ))
+    → Result (Unit {0}) MessageError
 lists_checked environment output_paths =
     ordered_behind None (variable_names environment) >>= λ _.
-    ascends_behind bytes_cmp None (texts_of output_paths) >>= λ _.
+    is_ascending_past bytes_cmp None (texts_of output_paths) >>= λ _.
     refused_unless (not (some_under (texts_of output_paths) (texts_of output_paths))) SameName
 
 -- the command of these fields, or the first refusal
@@ -124,16 +128,16 @@ command_of c =
     Ok c
 
 -- an empty text is no path
-unfoldable pub directory_of : List ℕ → Result (Option (List (List ℕ))) MessageError
-directory_of [] = Ok None
-directory_of (b ∷ text) = path_of (b ∷ text) >>= λ path. Ok (Some path)
+unfoldable pub working_directory_of : List ℕ → Result (Option (List (List ℕ))) MessageError
+working_directory_of [] = Ok None
+working_directory_of (b ∷ text) = path_of (b ∷ text) >>= λ path. Ok (Some path)
 
 abbrev pub command_in : List Record → Result CommandValue MessageError
 command_in rs =
     each string_of (elements_at 1 rs) >>= λ arguments.
     each decoded_setting (elements_at 2 rs) >>= λ environment.
     texts_checked arguments environment >>= λ _.
-    directory_of (bytes_at 6 rs) >>= λ working_directory.
+    working_directory_of (bytes_at 6 rs) >>= λ working_directory.
     each path_of (elements_at 7 rs) >>= λ output_paths.
     lists_checked environment output_paths >>= λ _.
     Ok (record {

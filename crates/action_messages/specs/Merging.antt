@@ -11,8 +11,11 @@ use Rattle.action_messages.specs.Outputs.{RecordedValue, file, directory, link, 
 abbrev pub earlier : Option RecordedValue → Option RecordedValue → Option RecordedValue
 earlier None other = other
 earlier (Some one) None = Some one
-earlier (Some one) (Some other) = if is_gt (text_cmp (recorded_path one) (recorded_path other)) then Some other else Some one
+earlier (Some one) (Some other) =
+    if is_gt (text_cmp (recorded_path one) (recorded_path other)) then Some other else Some one
 
-abbrev pub first_of : List OutputFileValue → List OutputDirectoryValue → List OutputSymlinkValue → Option RecordedValue
+abbrev pub first_of : List OutputFileValue → List OutputDirectoryValue → List OutputSymlinkValue
+    → Option RecordedValue
 first_of files directories symlinks =
-    earlier (earlier (option_map file (slice_get files 0)) (option_map directory (slice_get directories 0))) (option_map link (slice_get symlinks 0))
+    earlier (earlier (option_map file (slice_get files 0))
+    (option_map directory (slice_get directories 0))) (option_map link (slice_get symlinks 0))

@@ -1,4 +1,5 @@
--- What the messages within a message say. `Says a rs` is what the records of one message say of its value.
+-- What the messages within a message say. `Says a rs` is what the records of one message say of its
+-- value.
 use Rattle.std.specs.Prelude.{◌≡◌, ◌≢◌, ℕ, List, [], ◌∷◌, Option, Some, None, IsPermutation}
 use Rattle.wire.specs.Record.{Record}
 use Rattle.wire.specs.AnySpelling.{SpellsAny}
@@ -8,8 +9,8 @@ use Rattle.canonical.specs.Known.{SpellsEach}
 abbrev pub SaysBytes : {A : Type 0} → (A → List Record → Type 0) → A → List ℕ → Type 0
 SaysBytes Says a bytes = (rs : List Record) × SpellsAny bytes rs × Says a rs
 
--- A single message, by the payloads of its records: it is there where one is, and it is what the records of all of them
--- say, one after another.
+-- A single message, by the payloads of its records: it is there where one is, and it is what the
+-- records of all of them say, one after another.
 abbrev pub SaysOne : {A : Type 0} → (A → List Record → Type 0)
     → Option A → List (List ℕ) → Type 0
 SaysOne Says None payloads = payloads ≡ []

@@ -1,5 +1,5 @@
--- The message OutputDirectory of remote_execution.proto: a directory that an action made, by the digest of its Tree. Its
--- `path` and its `tree_digest` have to be there.
+-- The message OutputDirectory of remote_execution.proto: a directory that an action made, by the
+-- digest of its Tree. Its `path` and its `tree_digest` have to be there.
 use Rattle.std.specs.Prelude.{ℕ, List, [], ◌∷◌, ◌++◌, Some}
 use Rattle.wire.specs.Spelling.{spelling}
 use Rattle.canonical.specs.declared.shape.Kind.TheVariants as kinds
@@ -23,4 +23,5 @@ output_directory_shape = single 1 kinds.String ∷ single 3 kinds.Message ∷ []
 
 -- the one encoding of an output directory
 unfoldable pub output_directory_bytes : OutputDirectoryValue → List ℕ
-output_directory_bytes d = spelling (bytes_field 1 (path_text d.path) ++ message_field 3 (Some (digest_bytes d.tree)))
+output_directory_bytes d =
+    spelling (bytes_field 1 (path_text d.path) ++ message_field 3 (Some (digest_bytes d.tree)))

@@ -1,5 +1,5 @@
--- The message OutputFile of remote_execution.proto: a file that an action made. Its `path` and its `digest` have to be
--- there.
+-- The message OutputFile of remote_execution.proto: a file that an action made. Its `path` and its
+-- `digest` have to be there.
 use Rattle.std.specs.Prelude.{ℕ, Bool, List, [], ◌∷◌, ◌++◌, Some}
 use Rattle.wire.specs.Spelling.{spelling}
 use Rattle.canonical.specs.declared.shape.Kind.TheVariants as kinds

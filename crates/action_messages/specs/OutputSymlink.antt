@@ -1,5 +1,5 @@
--- The message OutputSymlink of remote_execution.proto: a symbolic link that an action made. Its `path` and its `target`
--- have to be there.
+-- The message OutputSymlink of remote_execution.proto: a symbolic link that an action made. Its
+-- `path` and its `target` have to be there.
 use Rattle.std.specs.Prelude.{ℕ, List, [], ◌∷◌, ◌++◌}
 use Rattle.wire.specs.Spelling.{spelling}
 use Rattle.canonical.specs.declared.shape.Kind.TheVariants as kinds

@@ -1,5 +1,6 @@
 -- Paths that stand side by side: none equals another or lies under it.
-use Rattle.std.specs.Prelude.{◌≡◌, ℕ, ◌≤◌, Bool, false, ◌==◌, ◌&&◌, ◌||◌, List, [], ◌∷◌, map, length, take, drop, Some, slice_get, Result, Ok, Err}
+use Rattle.std.specs.Prelude.{◌≡◌, ℕ, ◌≤◌, Bool, false, ◌==◌, ◌&&◌, ◌||◌, List, [], ◌∷◌, map}
+use Rattle.std.specs.Prelude.{length, take, drop, Some, slice_get, Result, Ok, Err}
 use Rattle.std.specs.List.{AllByRecursion, list_any}
 use Rattle.std.specs.declared.cmp.Ordering.TheVariants.{Less, Greater}
 use Rattle.messages.specs.Order.{bytes_cmp, share_name}
@@ -8,7 +9,8 @@ use Rattle.messages.specs.Path.{Overlap, begins_with_slash, path_text}
 -- no two paths of the list overlap
 abbrev pub ArePathsApart : List (List (List ℕ)) → Type 0
 ArePathsApart [] = Unit {0}
-ArePathsApart (path ∷ paths) = AllByRecursion (λ other. Overlap path other → ⊥) paths × ArePathsApart paths
+ArePathsApart (path ∷ paths) =
+    AllByRecursion (λ other. Overlap path other → ⊥) paths × ArePathsApart paths
 
 -- ---- the test, by the texts of the paths
 
@@ -28,13 +30,16 @@ some_under texts others = list_any (lies_under_some others) texts
 
 -- whether a path of one list overlaps one of the other
 abbrev pub some_cross : List (List ℕ) → List (List ℕ) → Bool
-some_cross texts others = share_name texts others || some_under texts others || some_under others texts
+some_cross texts others =
+    share_name texts others || some_under texts others || some_under others texts
 
 abbrev pub texts_of : List (List (List ℕ)) → List (List ℕ)
 texts_of paths = map path_text paths
 
--- where a text stands in an ascending list, or where it would stand: behind those before it and before those behind it
+-- where a text stands in an ascending list, or where it would stand: behind those before it and
+-- before those behind it
 abbrev pub IsPlace : List (List ℕ) → List ℕ → Result ℕ ℕ → Type 0
 IsPlace texts text (Ok place) = slice_get texts place ≡ Some text
 IsPlace texts text (Err place) =
-    (place ≤ length texts) × AllByRecursion (λ t. bytes_cmp t text ≡ Less) (take place texts) × AllByRecursion (λ t. bytes_cmp t text ≡ Greater) (drop place texts)
+    (place ≤ length texts) × AllByRecursion (λ t. bytes_cmp t text ≡ Less) (take place texts)
+    × AllByRecursion (λ t. bytes_cmp t text ≡ Greater) (drop place texts)

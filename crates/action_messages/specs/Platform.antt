@@ -1,5 +1,6 @@
--- The message Platform of remote_execution.proto: what an action asks of the machine that runs it, as `properties` sorted
--- by name and then by value. Without properties it is written as no field at all in the message that holds it.
+-- The message Platform of remote_execution.proto: what an action asks of the machine that runs it,
+-- as `properties` sorted by name and then by value. Without properties it is written as no field at
+-- all in the message that holds it.
 use Rattle.std.specs.Prelude.{ℕ, List, [], ◌∷◌, map, Option, Some, None, Result, Ok, Err}
 use Rattle.std.specs.List.{AllByRecursion}
 use Rattle.std.specs.Ordering.{ordering_then}
@@ -17,7 +18,7 @@ use Rattle.messages.specs.declared.error.MessageError.TheVariants.{Wire}
 use Rattle.messages.specs.Order.{bytes_cmp}
 use Rattle.messages.specs.Shapes.{repeated}
 use Rattle.messages.specs.Told.{shape_checked}
-use Rattle.action_messages.specs.Ascending.{IsAscendingBy, ascends_behind}
+use Rattle.action_messages.specs.Ascending.{IsAscendingBy, is_ascending_past}
 use Rattle.action_messages.specs.Setting.{SettingValue, IsSetting, setting_bytes, decoded_setting}
 
 pub record PlatformValue : Type 0 where
@@ -46,11 +47,12 @@ platform_entry_of (s ∷ settings) = Some (platform_bytes (record { properties =
 abbrev pub platform_entry : PlatformValue → Option (List ℕ)
 platform_entry p = platform_entry_of p.properties
 
--- ---- what bytes say, or the first refusal: the shape, the properties in the order of the bytes, their order
+-- ---- what bytes say, or the first refusal: the shape, the properties in the order of the bytes,
+-- their order
 
 -- the platform of these properties
 unfoldable pub platform_of : PlatformValue → Result PlatformValue MessageError
-platform_of p = ascends_behind setting_cmp None p.properties >>= λ _. Ok p
+platform_of p = is_ascending_past setting_cmp None p.properties >>= λ _. Ok p
 
 abbrev pub platform_in : List Record → Result PlatformValue MessageError
 platform_in rs =

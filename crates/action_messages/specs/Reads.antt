@@ -1,7 +1,8 @@
--- An ActionResult read by the tolerant rules of Protocol Buffers (encoding guide: "Last One Wins", "Field Order", "More
--- Integer Types", "Default Values"). Of a single number, bool, string or bytes the last record counts; a single message is
--- read from the records of all its occurrences; a repeated field has an element for each record. A few fields are skipped,
--- and no others may be there.
+-- An ActionResult read by the tolerant rules of Protocol Buffers (encoding guide: "Last One Wins",
+-- "Field Order", "More Integer Types", "Default Values"). Of a single number, bool, string or bytes
+-- the last record counts; a single message is read from the records of all its occurrences; a
+-- repeated field has an element for each record. A few fields are skipped, and no others may be
+-- there.
 use Rattle.std.specs.Prelude.{◌≡◌, ℕ, ◌+◌, pos, List, [], ◌∷◌, Some}
 use Rattle.wire.specs.Record.{Record}
 use Rattle.canonical.specs.Columns.{column}
@@ -12,9 +13,12 @@ use Rattle.messages.specs.Path.{path_text}
 use Rattle.messages.specs.DigestMessage.{digest_shape}
 use Rattle.action_messages.specs.Stream.{StreamValue}
 use Rattle.action_messages.specs.OutputFile.{OutputFileValue, IsOutputFile, output_file_shape}
-use Rattle.action_messages.specs.OutputDirectory.{OutputDirectoryValue, IsOutputDirectory, output_directory_shape}
-use Rattle.action_messages.specs.OutputSymlink.{OutputSymlinkValue, IsOutputSymlink, output_symlink_shape}
-use Rattle.action_messages.specs.ActionResult.{ActionResultValue, IsActionResult, action_result_shape}
+use Rattle.action_messages.specs.OutputDirectory.{OutputDirectoryValue, IsOutputDirectory}
+use Rattle.action_messages.specs.OutputDirectory.{output_directory_shape}
+use Rattle.action_messages.specs.OutputSymlink.{OutputSymlinkValue, IsOutputSymlink}
+use Rattle.action_messages.specs.OutputSymlink.{output_symlink_shape}
+use Rattle.action_messages.specs.ActionResult.{ActionResultValue, IsActionResult}
+use Rattle.action_messages.specs.ActionResult.{action_result_shape}
 use Rattle.canonical.specs.Known.{AreKnown}
 use Rattle.action_messages.specs.Nested.{SaysBytes, SaysOne, SaysSorted}
 

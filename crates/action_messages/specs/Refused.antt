@@ -1,6 +1,8 @@
--- Why bytes are read as no result. The first of these decides: a record that can't be read or breaks a rule of the shape; the
--- first record at which a message that begins there is refused; two outputs that overlap.
-use Rattle.std.specs.Prelude.{◌≡◌, ◌⊎◌, ℕ, Bool, ◌==◌, List, ◌∷◌, ◌++◌, Result, Ok, Err, if◌then◌else◌}
+-- Why bytes are read as no result. The first of these decides: a record that can't be read or
+-- breaks a rule of the shape; the first record at which a message that begins there is refused; two
+-- outputs that overlap.
+use Rattle.std.specs.Prelude.{◌≡◌, ◌⊎◌, ℕ, Bool, ◌==◌, List, ◌∷◌, ◌++◌, Result, Ok, Err}
+use Rattle.std.specs.Prelude.{if◌then◌else◌}
 use Rattle.std.specs.List.{list_any}
 use Rattle.wire.specs.Record.{Record, Value}
 use Rattle.wire.specs.Steps.{◌>>=◌}
@@ -11,7 +13,9 @@ use Rattle.messages.specs.declared.error.MessageError.TheVariants.{SameName}
 use Rattle.messages.specs.Tolerant.{in_occurrences, alone, any_digest}
 use Rattle.action_messages.specs.ActionResult.{ActionResultValue}
 use Rattle.action_messages.specs.Overlaps.{ArePathsApart}
-use Rattle.action_messages.specs.Unordered.{any_output_file, any_output_directory, any_output_symlink, known_fields, unordered, output_paths}
+use Rattle.action_messages.specs.Unordered.{any_output_file, any_output_directory}
+use Rattle.action_messages.specs.Unordered.{any_output_symlink, known_fields, unordered}
+use Rattle.action_messages.specs.Unordered.{output_paths}
 
 -- ---- the messages in a result
 
@@ -28,7 +32,8 @@ digest_checked came number all =
 abbrev pub has_number : ℕ → List Record → Bool
 has_number number rs = list_any (λ r. r.number == number) rs
 
--- The message that begins at a record, among all; whether records of the digests of stdout and stderr came before.
+-- The message that begins at a record, among all; whether records of the digests of stdout and
+-- stderr came before.
 unfoldable pub begun_at : List Record → Bool → Bool → Record
     → Result (Unit {0}) MessageError
 begun_at all out err r =
@@ -48,7 +53,8 @@ begun all before r = begun_at all (has_number 6 before) (has_number 8 before) r
 -- at none of the records in front a message begins that is refused
 abbrev pub NoneRefused : List Record → List Record → Type 0
 NoneRefused all front =
-    (before after : List Record) (r : Record) → front ≡ before ++ r ∷ after → begun all before r ≡ Ok tt
+    (before after : List Record) (r : Record) → front ≡ before ++ r ∷ after
+    → begun all before r ≡ Ok tt
 
 -- the refusal of the first record at which a message that begins there is refused
 pub record IsFirstRefused (e : MessageError) (all : List Record) : Type 0 where
@@ -60,8 +66,8 @@ pub record IsFirstRefused (e : MessageError) (all : List Record) : Type 0 where
   pub refused : begun all front r ≡ Err e
 
 -- a record, or a message in one, is refused
-abbrev pub IsUnread : MessageError → List ℕ → Type 0
-IsUnread e bytes =
+abbrev pub IsUnreadResult : MessageError → List ℕ → Type 0
+IsUnreadResult e bytes =
     (known_fields bytes ≡ Err e)
     ⊎ ((rs : List Record) × (known_fields bytes ≡ Ok rs) × IsFirstRefused e rs)
 
@@ -71,5 +77,5 @@ IsOverlapping e bytes =
     (u : ActionResultValue) × (unordered bytes ≡ Ok u)
     × (ArePathsApart (output_paths u) → ⊥) × (e ≡ SameName)
 
-abbrev pub IsRefused : MessageError → List ℕ → Type 0
-IsRefused e bytes = IsUnread e bytes ⊎ IsOverlapping e bytes
+abbrev pub IsRefusedResult : MessageError → List ℕ → Type 0
+IsRefusedResult e bytes = IsUnreadResult e bytes ⊎ IsOverlapping e bytes

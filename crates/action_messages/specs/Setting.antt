@@ -1,5 +1,6 @@
--- The messages EnvironmentVariable of Command and Property of Platform of remote_execution.proto: a setting, that is a
--- `name` and a `value`. What names and values may be is a rule of the message that holds them.
+-- The messages EnvironmentVariable of Command and Property of Platform of remote_execution.proto: a
+-- setting, that is a `name` and a `value`. What names and values may be is a rule of the message
+-- that holds them.
 use Rattle.std.specs.Prelude.{◌≡◌, ℕ, true, List, [], ◌∷◌, ◌++◌, Result, Ok}
 use Rattle.std.specs.Str.{is_utf8}
 use Rattle.wire.specs.Record.{Record}

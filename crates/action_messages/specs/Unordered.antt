@@ -12,9 +12,12 @@ use Rattle.messages.specs.Tolerant.{known_checked, in_occurrences, alone, any_di
 use Rattle.action_messages.specs.Fields.{required}
 use Rattle.action_messages.specs.Stream.{StreamValue}
 use Rattle.action_messages.specs.OutputFile.{OutputFileValue, IsOutputFile, output_file_shape}
-use Rattle.action_messages.specs.OutputDirectory.{OutputDirectoryValue, IsOutputDirectory, output_directory_shape}
-use Rattle.action_messages.specs.OutputSymlink.{OutputSymlinkValue, IsOutputSymlink, output_symlink_shape}
-use Rattle.action_messages.specs.ActionResult.{ActionResultValue, file_paths, directory_paths, symlink_paths, action_result_shape}
+use Rattle.action_messages.specs.OutputDirectory.{OutputDirectoryValue, IsOutputDirectory}
+use Rattle.action_messages.specs.OutputDirectory.{output_directory_shape}
+use Rattle.action_messages.specs.OutputSymlink.{OutputSymlinkValue, IsOutputSymlink}
+use Rattle.action_messages.specs.OutputSymlink.{output_symlink_shape}
+use Rattle.action_messages.specs.ActionResult.{ActionResultValue, file_paths, directory_paths}
+use Rattle.action_messages.specs.ActionResult.{symlink_paths, action_result_shape}
 
 abbrev pub any_output_file_in : List Record → Result OutputFileValue MessageError
 any_output_file_in rs =
@@ -34,7 +37,8 @@ any_output_directory_in rs =
     Ok (record { path = path; tree = tree })
 
 unfoldable pub any_output_directory : List (List ℕ) → Result OutputDirectoryValue MessageError
-any_output_directory texts = known_checked output_directory_shape (4 ∷ []) texts >>= any_output_directory_in
+any_output_directory texts =
+    known_checked output_directory_shape (4 ∷ []) texts >>= any_output_directory_in
 
 abbrev pub any_output_symlink_in : List Record → Result OutputSymlinkValue MessageError
 any_output_symlink_in rs =
@@ -82,7 +86,7 @@ output_paths u = file_paths u.files ++ directory_paths u.directories ++ symlink_
 
 -- ---- what putting the outputs in order keeps
 
-pub record IsOrdered (u r : ActionResultValue) : Type 0 where
+pub record IsOrderingOf (u r : ActionResultValue) : Type 0 where
   pub files : IsPermutation u.files r.files
   pub directories : IsPermutation u.directories r.directories
   pub symlinks : IsPermutation u.symlinks r.symlinks

@@ -1,6 +1,7 @@
 ghost use Rattle.std.specs.Prelude.{◌≡◌, IfOk, Ok};
 ghost use Rattle.messages.specs.Gives.{GivesUnlessMemory};
-ghost use Rattle.action_messages.specs.Action.{ActionValue, IsAction, with_input, action_bytes, decoded_action};
+ghost use Rattle.action_messages.specs.Action.{ActionValue, IsAction, with_input, action_bytes};
+ghost use Rattle.action_messages.specs.Action.{decoded_action};
 
 use crate::fields::required;
 use crate::frame::Frame;

@@ -1,4 +1,5 @@
-ghost use Rattle.std.specs.Prelude.{◌≡◌, ◌↔◌, ◌⊎◌, ◌++◌, Bool, IfOk, IfErr, IsOk, OnOk, Ok, map, option_map};
+ghost use Rattle.std.specs.Prelude.{◌≡◌, ◌↔◌, ◌⊎◌, ◌++◌, Bool, IfOk, IfErr, IsOk, OnOk, Ok, map};
+ghost use Rattle.std.specs.Prelude.{option_map};
 ghost use Rattle.std.specs.List.{AllByRecursion};
 ghost use Rattle.wire.specs.Spelling.{spelling};
 ghost use Rattle.wire.specs.Steps.{Gives};
@@ -8,14 +9,17 @@ ghost use Rattle.messages.specs.Gives.{GivesUnlessMemory};
 ghost use Rattle.messages.specs.Order.{bytes_cmp};
 ghost use Rattle.messages.specs.declared.error.MessageError.TheVariants.{SameName, Memory};
 ghost use Rattle.action_messages.specs.Reads.{Reads};
-ghost use Rattle.action_messages.specs.Unordered.{IsOrdered, AreOutputsLawful, output_paths};
-ghost use Rattle.action_messages.specs.Refused.{IsRefused};
+ghost use Rattle.action_messages.specs.Unordered.{IsOrderingOf, AreOutputsLawful, output_paths};
+ghost use Rattle.action_messages.specs.Refused.{IsRefusedResult};
 ghost use Rattle.action_messages.specs.Ascending.{IsAscendingBy};
 ghost use Rattle.action_messages.specs.Overlaps.{ArePathsApart, texts_of};
 ghost use Rattle.action_messages.specs.OutputFile.{IsOutputFile};
 ghost use Rattle.action_messages.specs.OutputDirectory.{IsOutputDirectory};
 ghost use Rattle.action_messages.specs.OutputSymlink.{IsOutputSymlink};
-ghost use Rattle.action_messages.specs.ActionResult.{ActionResultValue, IsActionResult, file_paths, directory_paths, symlink_paths, some_overlap, paths_checked, action_result_of, action_result_bytes};
+ghost use Rattle.action_messages.specs.ActionResult.{ActionResultValue, IsActionResult, file_paths};
+ghost use Rattle.action_messages.specs.ActionResult.{directory_paths, symlink_paths, some_overlap};
+ghost use Rattle.action_messages.specs.ActionResult.{paths_checked, action_result_of};
+ghost use Rattle.action_messages.specs.ActionResult.{action_result_bytes};
 
 use crate::listed::{Listed, check_paths, some_cross, some_under, sort_by_path};
 use crate::output::{OutputDirectory, OutputFile, OutputSymlink};
@@ -263,7 +267,7 @@ impl<A: Allocator + Copy> Encode<A> for ActionResult<A> {
 
 /// The result of what bytes say, its outputs put in the order of their paths. 34 where two overlap.
 fn ordered<A: Allocator>(read: Unordered<A>) -> Result<ActionResult<A>, MessageError>
-    ensures found { IfOk result (λ r. IsActionResult r × IsOrdered read r) }
+    ensures found { IfOk result (λ r. IsActionResult r × IsOrderingOf read r) }
     ensures refused { IfErr result (λ e. (e ≡ SameName)
         × (AreOutputsLawful read → ArePathsApart (output_paths read) → ⊥)) }
 {
@@ -292,7 +296,7 @@ impl<A: Allocator + Copy> ActionResult<A> {
         ensures found { IfOk result (λ r. Reads r bytes.now) }
         ensures only { (r : ActionResultValue) → Reads r bytes.now
             → GivesUnlessMemory (λ x. x) result (Ok r) }
-        ensures refused { IfErr result (λ e. (e ≡ Memory) ⊎ IsRefused e bytes.now) }
+        ensures refused { IfErr result (λ e. (e ≡ Memory) ⊎ IsRefusedResult e bytes.now) }
     {
         let read = read_unordered(alloc, bytes)?;
         ordered(read)

@@ -1,4 +1,5 @@
-ghost use Rattle.std.specs.Prelude.{◌≡◌, ◌↔◌, Bool, None, Contains, IfOk, IfSome, IsOk, IsTrue, OnOk, Ok, map};
+ghost use Rattle.std.specs.Prelude.{◌≡◌, ◌↔◌, Bool, None, Contains, IfOk, IfSome, IsOk, IsTrue};
+ghost use Rattle.std.specs.Prelude.{OnOk, Ok, map};
 ghost use Rattle.std.specs.Bool.{OnTrue};
 ghost use Rattle.std.specs.List.{AllByRecursion, list_all};
 ghost use Rattle.std.specs.Option.{option_copied};
@@ -8,7 +9,11 @@ ghost use Rattle.messages.specs.Gives.{GivesUnlessMemory};
 ghost use Rattle.messages.specs.Order.{ordered_behind};
 ghost use Rattle.messages.specs.Path.{IsPath};
 ghost use Rattle.action_messages.specs.Setting.{IsSetting};
-ghost use Rattle.action_messages.specs.Command.{CommandValue, IsCommand, are_arguments, is_argument, is_variable_name, is_variable, variable_names, directory_text, directory_of, texts_checked, lists_checked, command_of, command_bytes, decoded_command};
+ghost use Rattle.action_messages.specs.Command.{CommandValue, IsCommand, are_arguments};
+ghost use Rattle.action_messages.specs.Command.{is_argument, is_variable_name, is_variable};
+ghost use Rattle.action_messages.specs.Command.{variable_names, directory_text};
+ghost use Rattle.action_messages.specs.Command.{working_directory_of, texts_checked, lists_checked};
+ghost use Rattle.action_messages.specs.Command.{command_of, command_bytes, decoded_command};
 
 use crate::copying::{copy_directory, copy_paths, copy_settings, copy_texts};
 use crate::fields::{read_paths, read_strings, write_paths, write_strings};
@@ -166,9 +171,9 @@ fn directory_text<A: Allocator>(directory: &Option<Path<A>>) -> &[u8]
 }
 
 /// The working directory of this text, none where it is empty.
-#[tactic(auto, unfolding(crate::specs::Command::directory_of))]
+#[tactic(auto, unfolding(crate::specs::Command::working_directory_of))]
 fn read_directory<A: Allocator>(alloc: A, text: &[u8]) -> Result<Option<Path<A>>, MessageError>
-    ensures { GivesUnlessMemory (λ d. d) result (directory_of text.now) }
+    ensures { GivesUnlessMemory (λ d. d) result (working_directory_of text.now) }
 {
     match text {
         [] => Ok(None),

@@ -3,12 +3,13 @@ ghost use Rattle.wire.specs.Bytes.{IsBytes, AreBytes};
 ghost use Rattle.wire.specs.AnySpelling.{SpellsAny};
 ghost use Rattle.wire.specs.Record.{Record};
 ghost use Rattle.messages.specs.declared.error.MessageError.{MessageError};
-ghost use Rattle.action_messages.specs.ActionResult.{ActionResultValue, IsActionResult, action_result_bytes};
+ghost use Rattle.action_messages.specs.ActionResult.{ActionResultValue, IsActionResult};
+ghost use Rattle.action_messages.specs.ActionResult.{action_result_bytes};
 ghost use Rattle.action_messages.specs.OutputDirectory.{OutputDirectoryValue};
 ghost use Rattle.action_messages.specs.OutputFile.{OutputFileValue};
 ghost use Rattle.action_messages.specs.OutputSymlink.{OutputSymlinkValue};
 ghost use Rattle.action_messages.specs.Reads.{HaveSameFields, Reads};
-ghost use Rattle.action_messages.specs.Refused.{IsRefused};
+ghost use Rattle.action_messages.specs.Refused.{IsRefusedResult};
 
 use crate::output::{OutputDirectory, OutputFile, OutputSymlink};
 use std::alloc::Allocator;
@@ -27,9 +28,9 @@ pub fn results_are_read_as_one_value()
         → Reads m bytes → Reads m other }
     // No bytes are refused in two ways, and none that are read.
     ensures refused_once { (d e : MessageError) (bytes : List ℕ)
-        → IsRefused d bytes → IsRefused e bytes → d ≡ e }
+        → IsRefusedResult d bytes → IsRefusedResult e bytes → d ≡ e }
     ensures excluded { (m : ActionResultValue) (e : MessageError) (bytes : List ℕ)
-        → IsBytes bytes → Reads m bytes → IsRefused e bytes → ⊥ }
+        → IsBytes bytes → Reads m bytes → IsRefusedResult e bytes → ⊥ }
 {}
 
 /// What `clone` answers of an output is the output again. A law: it does nothing.

@@ -4,9 +4,11 @@ ghost use Rattle.wire.specs.Spelling.{spelling};
 ghost use Rattle.wire.specs.Steps.{Gives};
 ghost use Rattle.canonical.specs.Fields.{message_field};
 ghost use Rattle.messages.specs.Gives.{GivesUnlessMemory};
-ghost use Rattle.action_messages.specs.Ascending.{IsAscendingBy, ascends_behind};
+ghost use Rattle.action_messages.specs.Ascending.{IsAscendingBy, is_ascending_past};
 ghost use Rattle.action_messages.specs.Setting.{IsSetting};
-ghost use Rattle.action_messages.specs.Platform.{PlatformValue, IsPlatform, setting_cmp, platform_of, platform_entry, platform_at, platform_bytes, decoded_platform};
+ghost use Rattle.action_messages.specs.Platform.{PlatformValue, IsPlatform, setting_cmp};
+ghost use Rattle.action_messages.specs.Platform.{platform_of, platform_entry, platform_at};
+ghost use Rattle.action_messages.specs.Platform.{platform_bytes, decoded_platform};
 
 use crate::copying::copy_settings;
 use crate::setting::{Property, Setting};
@@ -37,7 +39,7 @@ impl<A: Allocator> Model for Platform<A> {
 
 /// Whether the properties strictly ascend.
 fn check_properties<A: Allocator>(properties: &[Setting<A>]) -> Result<(), MessageError>
-    ensures exact { Gives (λ x. x) result (ascends_behind setting_cmp None properties.now) }
+    ensures exact { Gives (λ x. x) result (is_ascending_past setting_cmp None properties.now) }
     ensures kept { OnOk result (AllByRecursion IsSetting properties.now) }
 {
     let mut before: Option<&Setting<A>> = None;

@@ -1,5 +1,6 @@
 ghost use Rattle.std.specs.Prelude.{◌≡◌, IfOk, option_map, slice_get, drop};
-ghost use Rattle.action_messages.specs.Outputs.{AreOutputs, file, directory, link, recorded_path, recorded_value, recorded_values};
+ghost use Rattle.action_messages.specs.Outputs.{AreOutputs, file, directory, link, recorded_path};
+ghost use Rattle.action_messages.specs.Outputs.{recorded_value, recorded_values};
 ghost use Rattle.action_messages.specs.Merging.{earlier, first_of};
 
 use crate::action_result::ActionResult;
@@ -37,7 +38,8 @@ fn earlier<'a, A: Allocator>(
     one: Option<RecordedOutput<'a, A>>,
     other: Option<RecordedOutput<'a, A>>,
 ) -> Option<RecordedOutput<'a, A>>
-    ensures { option_map recorded_value result ≡ earlier (option_map recorded_value one.entry) (option_map recorded_value other.entry) }
+    ensures { option_map recorded_value result
+        ≡ earlier (option_map recorded_value one.entry) (option_map recorded_value other.entry) }
 {
     match (one, other) {
         (Some(one), Some(other)) => {
@@ -61,7 +63,8 @@ fn first_file<'a, A: Allocator>(files: &'a [OutputFile<A>]) -> Option<RecordedOu
 fn first_directory<'a, A: Allocator>(
     directories: &'a [OutputDirectory<A>],
 ) -> Option<RecordedOutput<'a, A>>
-    ensures { option_map recorded_value result ≡ option_map directory (slice_get directories.now 0) }
+    ensures { option_map recorded_value result
+        ≡ option_map directory (slice_get directories.now 0) }
 {
     directories
         .first()

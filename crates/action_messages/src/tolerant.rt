@@ -5,7 +5,8 @@ ghost use Rattle.messages.specs.Tolerant.{in_occurrences, any_digest};
 ghost use Rattle.canonical.specs.Fields.{elements_at};
 ghost use Rattle.messages.specs.declared.error.MessageError.TheVariants.{Memory};
 ghost use Rattle.action_messages.specs.Unordered.{any_stream_at, unordered_in, unordered};
-ghost use Rattle.action_messages.specs.Refused.{element_checked, digest_checked, begun_at, NoneRefused, IsFirstRefused, IsUnread};
+ghost use Rattle.action_messages.specs.Refused.{element_checked, digest_checked, begun_at};
+ghost use Rattle.action_messages.specs.Refused.{NoneRefused, IsFirstRefused, IsUnreadResult};
 
 use crate::fields::required;
 use crate::output::{OutputDirectory, OutputFile, OutputSymlink};
@@ -222,7 +223,7 @@ pub fn read_unordered<A: Allocator + Copy>(
     bytes: &[u8],
 ) -> Result<Unordered<A>, MessageError>
     ensures read { IfOk result (λ u. unordered bytes.now ≡ Ok u) }
-    ensures refused { IfErr result (λ e. (e ≡ Memory) ⊎ IsUnread e bytes.now) }
+    ensures refused { IfErr result (λ e. (e ≡ Memory) ⊎ IsUnreadResult e bytes.now) }
 {
     let fields = read_any_fields(alloc, &action_result_shape(), &[9], &[bytes])?;
     match read_unordered_in(alloc, &fields) {

@@ -8,7 +8,7 @@ use Rattle.messages.specs.Path.{IsPath}
 use Rattle.actions.specs.declared.outcome.Output.{Output}
 use Rattle.action_messages.specs.Ascending.{IsAscendingBy}
 use Rattle.action_messages.specs.Overlaps.{ArePathsApart, texts_of}
-use Rattle.actions.specs.Outcome.{OutcomeValue, IsOutcome, IsAdded, HasRoom, LeavesNoRoom, output_value, outputs_in, output_paths}
+use Rattle.actions.specs.Outcome.{OutcomeValue, IsOutcome, AddsOutput, HasRoom, LeavesNoRoom, output_value, outputs_in, output_paths}
 use Rattle.actions.proofs.OutcomeLookups.{paths_in, same_paths, paths_of}
 
 module _ {A : Type 0} where
@@ -27,7 +27,7 @@ module _ {A : Type 0} where
       }
 
   -- the outcome before and behind, as the code has them
-  pub is_added : (old new : OutcomeValue) (es : List (List (List ℕ) × Output A)) (n : ℕ) (e : List (List ℕ) × Output A) → outputs_in es ≡ old.outputs → new.outputs ≡ outputs_in (insert es n e) → new.exit_code ≡ old.exit_code → HasRoom (paths_in es) e.0 (Some n) → IsAdded old e.0 (output_value e.1) new
+  pub is_added : (old new : OutcomeValue) (es : List (List (List ℕ) × Output A)) (n : ℕ) (e : List (List ℕ) × Output A) → outputs_in es ≡ old.outputs → new.outputs ≡ outputs_in (insert es n e) → new.exit_code ≡ old.exit_code → HasRoom (paths_in es) e.0 (Some n) → AddsOutput old e.0 (output_value e.1) new
   is_added old new es n e before after code h = record {
     lawful = subst (λ l. IsOutcome (record { exit_code = new.exit_code; outputs = l })) (sym after) (lawful_added es n e new.exit_code h);
     exit_code = code;

@@ -21,7 +21,7 @@ use Rattle.action_messages.specs.Platform.{platform_bytes, platform_entry_of}
 use Rattle.action_messages.specs.Frame.{FrameValue, IsFrame, frame_bytes}
 use Rattle.action_messages.specs.Action.{ActionValue, IsAction, action_bytes}
 use Rattle.action_messages.specs.Overlaps.{texts_of}
-use Rattle.action_messages.specs.Command.{CommandValue, IsCommand, command_bytes, directory_text, directory_of}
+use Rattle.action_messages.specs.Command.{CommandValue, IsCommand, command_bytes, directory_text, working_directory_of}
 use Rattle.action_messages.specs.Stream.{StreamValue, IsStream}
 use Rattle.action_messages.specs.OutputFile.{OutputFileValue, IsOutputFile, output_file_bytes}
 use Rattle.action_messages.specs.OutputDirectory.{OutputDirectoryValue, IsOutputDirectory, output_directory_bytes}
@@ -92,7 +92,7 @@ path_once p q h k e = sym (parts_of_path p h) ∙ ap parts_of e ∙ parts_of_pat
 
 directory_once : (o p : Option (List (List ℕ))) → IfSome o IsPath → IfSome p IsPath → directory_text o ≡ directory_text p → o ≡ p
 directory_once o p h k e =
-    let same : ◌≡◌ {A = Result (Option (List (List ℕ))) MessageError} (Ok o) (Ok p) = sym (directory_given o h) ∙ ap directory_of e ∙ directory_given p k in
+    let same : ◌≡◌ {A = Result (Option (List (List ℕ))) MessageError} (Ok o) (Ok p) = sym (directory_given o h) ∙ ap working_directory_of e ∙ directory_given p k in
     cc
 
 own_number : (n : ℕ) → column 4 (number_field 4 n) ≡ number_field 4 n

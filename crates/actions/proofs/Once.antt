@@ -27,7 +27,7 @@ use Rattle.action_messages.specs.ActionResult.{ActionResultValue}
 use Rattle.actions.specs.Outcome.{OutputValue, OutcomeValue, IsOutcome, output_paths}
 use Rattle.actions.specs.OutcomeLookup.{IsFirstChild, NoFault, LooksBelow, LooksIn, StandsOver}
 use Rattle.action_messages.specs.Outputs.{RecordedValue, file, directory, link, files_among, directories_among, links_among, AreOutputs}
-use Rattle.actions.specs.Recorded.{StandsFor, StandForAll, IsRecorded, IsFirstFault, IsOutputFault}
+use Rattle.actions.specs.Recorded.{StandsFor, StandForAll, IsRecorded, IsFirstTreeFault, IsOutputFault}
 use Rattle.action_messages.proofs.Merging.{texts}
 use Rattle.actions.proofs.TreeLookups.{all_at, holds_mapped}
 use Rattle.actions.proofs.Outcomes.{apart_back}
@@ -138,14 +138,14 @@ stands_or_fault B (file y) v f h k = k
 stands_or_fault B (directory d) v f h k = told_or_fault IsTree tree_bytes B d.tree h.0 f h.1 k
 stands_or_fault B (link l) v f h k = k
 
-pub first_fault_once : (B : Blobs) (ds : List OutputDirectoryValue) (f g : Fault) → IsFirstFault B ds f → IsFirstFault B ds g → f ≡ g
+pub first_fault_once : (B : Blobs) (ds : List OutputDirectoryValue) (f g : Fault) → IsFirstTreeFault B ds f → IsFirstTreeFault B ds g → f ≡ g
 first_fault_once B [] f g h k = elim h [ ]
 first_fault_once B (d ∷ ds) f g (inl h) (inl k) = fault_once IsTree tree_bytes B d.tree f g h k
 first_fault_once B (d ∷ ds) f g (inl h) (inr k) = absurd (told_or_fault IsTree tree_bytes B d.tree k.0 f k.1 h)
 first_fault_once B (d ∷ ds) f g (inr h) (inl k) = absurd (told_or_fault IsTree tree_bytes B d.tree h.0 g h.1 k)
 first_fault_once B (d ∷ ds) f g (inr h) (inr k) = first_fault_once B ds f g h.2 k.2
 
-told_all : (B : Blobs) (xs : List RecordedValue) (es : List (List (List ℕ) × OutputValue)) (f : Fault) → StandForAll B xs es → IsFirstFault B (directories_among xs) f → ⊥
+told_all : (B : Blobs) (xs : List RecordedValue) (es : List (List (List ℕ) × OutputValue)) (f : Fault) → StandForAll B xs es → IsFirstTreeFault B (directories_among xs) f → ⊥
 told_all B [] es f h k = k
 told_all B (x ∷ xs) [] f h k = elim h [ ]
 told_all B (file x ∷ xs) (e ∷ es) f h k = told_all B xs es f h.2 k
@@ -153,8 +153,8 @@ told_all B (link x ∷ xs) (e ∷ es) f h k = told_all B xs es f h.2 k
 told_all B (directory x ∷ xs) (e ∷ es) f h (inl k) = told_or_fault IsTree tree_bytes B x.tree h.1.0 f h.1.1 k
 told_all B (directory x ∷ xs) (e ∷ es) f h (inr k) = told_all B xs es f h.2 k.2
 
-pub recorded_or_fault : (B : Blobs) (r : ActionResultValue) (o : OutcomeValue) (f : Fault) → IsRecorded B r o → IsFirstFault B r.directories f → ⊥
-recorded_or_fault B r o f h k = told_all B h.recorded o.outputs f h.outputs (subst (λ ds. IsFirstFault B ds f) (sym h.ordered.directories) k)
+pub recorded_or_fault : (B : Blobs) (r : ActionResultValue) (o : OutcomeValue) (f : Fault) → IsRecorded B r o → IsFirstTreeFault B r.directories f → ⊥
+recorded_or_fault B r o f h k = told_all B h.recorded o.outputs f h.outputs (subst (λ ds. IsFirstTreeFault B ds f) (sym h.ordered.directories) k)
 
 -- ---- one look-up
 

@@ -13,7 +13,7 @@ use Rattle.action_messages.specs.declared.recorded_output.RecordedOutput.{Record
 use Rattle.action_messages.specs.ActionResult.{ActionResultValue}
 use Rattle.actions.specs.Outcome.{OutputValue, OutcomeValue, output_value, outputs_in}
 use Rattle.action_messages.specs.Outputs.{RecordedValue, file, directory, link, recorded_value, recorded_values, recorded_path, directories_among}
-use Rattle.actions.specs.Recorded.{StandsFor, StandForAll, IsRecorded, IsFirstFault, IsOutputFault, IsWithoutTree}
+use Rattle.actions.specs.Recorded.{StandsFor, StandForAll, IsRecorded, IsFirstTreeFault, IsOutputFault, IsWithoutTree}
 use Rattle.action_messages.proofs.Merging.{directories_append}
 
 -- ---- what was read stays
@@ -41,7 +41,7 @@ pub recorded_still : (B C : Blobs) (r : ActionResultValue) (o : OutcomeValue) �
 recorded_still B C r o g h = record { lawful = h.lawful; exit_code = h.exit_code; recorded = h.recorded; ordered = h.ordered; outputs = stand_still B C h.recorded o.outputs g h.outputs }
 
 -- the fault of the first that isn't told, behind those that are
-first_fault : (B : Blobs) (xs : List RecordedValue) (es : List (List (List ℕ) × OutputValue)) (x : RecordedValue) (rest : List RecordedValue) (f : Fault) → StandForAll B xs es → IsOutputFault B x f → IsFirstFault B (directories_among (xs ++ x ∷ rest)) f
+first_fault : (B : Blobs) (xs : List RecordedValue) (es : List (List (List ℕ) × OutputValue)) (x : RecordedValue) (rest : List RecordedValue) (f : Fault) → StandForAll B xs es → IsOutputFault B x f → IsFirstTreeFault B (directories_among (xs ++ x ∷ rest)) f
 first_fault B [] es (file y) rest f h fault = elim fault [ ]
 first_fault B [] es (directory d) rest f h fault = inl fault
 first_fault B [] es (link l) rest f h fault = elim fault [ ]
@@ -92,10 +92,10 @@ module _ {A : Type 0} where
         let es = ap outputs_in e ∙ map-append (λ (d : List (List ℕ) × Output A). (d.0, output_value d.1)) outputs ((path, v) ∷ []) in
         rw (one_more, es) (stand_push C (read_so_far i ys) (outputs_in outputs) (recorded_value x) (path, output_value v) (stand_still B C (read_so_far i ys) (outputs_in outputs) g h) at stands)
 
-    pub fault_next : (B C : Blobs) (outputs : List (List (List ℕ) × Output A)) (e : TreeError A) → Grows B C → StandForAll B (read_so_far i ys) (outputs_in outputs) → Explains (IsOutputFault C (recorded_value x)) e → Explains (IsFirstFault C (directories_among (recorded_values ys))) e
+    pub fault_next : (B C : Blobs) (outputs : List (List (List ℕ) × Output A)) (e : TreeError A) → Grows B C → StandForAll B (read_so_far i ys) (outputs_in outputs) → Explains (IsOutputFault C (recorded_value x)) e → Explains (IsFirstTreeFault C (directories_among (recorded_values ys))) e
     fault_next B C outputs e g h why =
-        subst (λ l. Explains (IsFirstFault C (directories_among l)) e) whole
-        (explains (IsOutputFault C (recorded_value x)) (IsFirstFault C (directories_among (read_so_far i ys ++ recorded_value x ∷ recorded_values (drop (i + 1) ys))))
+        subst (λ l. Explains (IsFirstTreeFault C (directories_among l)) e) whole
+        (explains (IsOutputFault C (recorded_value x)) (IsFirstTreeFault C (directories_among (read_so_far i ys ++ recorded_value x ∷ recorded_values (drop (i + 1) ys))))
         (λ f. first_fault C (read_so_far i ys) (outputs_in outputs) (recorded_value x) (recorded_values (drop (i + 1) ys)) f (stand_still B C (read_so_far i ys) (outputs_in outputs) g h)) e why)
 
   -- as many calls as all of them have directories

@@ -1,5 +1,7 @@
--- What an action comes to, by digests: an exit code, and files, symbolic links and whole directories at output paths.
-use Rattle.std.specs.Prelude.{◌≡◌, ℕ, ◌≤◌, ℤ, length, Option, Some, None, List, ◌∷◌, ◌++◌, map, Contains}
+-- What an action comes to, by digests: an exit code, and files, symbolic links and whole
+-- directories at output paths.
+use Rattle.std.specs.Prelude.{◌≡◌, ℕ, ◌≤◌, ℤ, length, Option, Some, None, List, ◌∷◌, ◌++◌, map}
+use Rattle.std.specs.Prelude.{Contains}
 use Rattle.std.specs.List.{AllByRecursion, insert}
 use Rattle.blob_digest.specs.Digest.{digest_of}
 use Rattle.messages.specs.Order.{bytes_cmp}
@@ -29,7 +31,8 @@ pub record OutcomeValue : Type 0 where
   pub exit_code : ℤ
   pub outputs : List (List (List ℕ) × OutputValue)
 
-abbrev pub outputs_in : {A : Type 0} → List (List (List ℕ) × Output A) → List (List (List ℕ) × OutputValue)
+abbrev pub outputs_in : {A : Type 0} → List (List (List ℕ) × Output A)
+    → List (List (List ℕ) × OutputValue)
 outputs_in outputs = map (λ e. (e.0, output_value e.1)) outputs
 
 abbrev pub output_paths : List (List (List ℕ) × OutputValue) → List (List (List ℕ))
@@ -59,7 +62,8 @@ outputs_form outputs = map (λ e. (e.0, output_node e.1)) outputs
 -- ---- one more output
 
 -- The output stands among the others, at the one place that the order has for it.
-pub record IsAdded (old : OutcomeValue) (path : List (List ℕ)) (output : OutputValue) (new : OutcomeValue) : Type 0 where
+pub record AddsOutput (old : OutcomeValue) (path : List (List ℕ)) (output : OutputValue)
+    (new : OutcomeValue) : Type 0 where
   pub lawful : IsOutcome new
   pub exit_code : new.exit_code ≡ old.exit_code
   pub before : List (List (List ℕ) × OutputValue)
@@ -69,7 +73,8 @@ pub record IsAdded (old : OutcomeValue) (path : List (List ℕ)) (output : Outpu
 
 -- a path that is there equals the path, lies under it or lies above it
 abbrev pub LeavesNoRoom : OutcomeValue → List (List ℕ) → Type 0
-LeavesNoRoom o path = (other : List (List ℕ)) × Contains (output_paths o.outputs) other × OverlapEachOther other path
+LeavesNoRoom o path =
+    (other : List (List ℕ)) × Contains (output_paths o.outputs) other × OverlapEachOther other path
 
 -- why nothing was added
 abbrev pub ExplainsAdd : {A : Type 0} → OutcomeValue → List (List ℕ) → AddError A → Type 0
@@ -78,8 +83,12 @@ ExplainsAdd o path Memory = Unit {0}
 
 -- ---- what the private functions that add speak of
 
--- where a path would stand among others by the order of the texts, or that one of them leaves no room for it
+-- where a path would stand among others by the order of the texts, or that one of them leaves no
+-- room for it
 abbrev pub HasRoom : List (List (List ℕ)) → List (List ℕ) → Option ℕ → Type 0
-HasRoom paths path None = (other : List (List ℕ)) × Contains paths other × OverlapEachOther other path
+HasRoom paths path None =
+    (other : List (List ℕ)) × Contains paths other × OverlapEachOther other path
 HasRoom paths path (Some place) =
-    (place ≤ length paths) × AllByRecursion IsPath (insert paths place path) × IsAscendingBy bytes_cmp (texts_of (insert paths place path)) × ArePathsApart (insert paths place path)
+    (place ≤ length paths) × AllByRecursion IsPath (insert paths place path)
+    × IsAscendingBy bytes_cmp (texts_of (insert paths place path))
+    × ArePathsApart (insert paths place path)

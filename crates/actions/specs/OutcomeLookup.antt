@@ -1,5 +1,6 @@
 -- Looking up a path in an outcome: at an output's path, or below that of a whole directory.
-use Rattle.std.specs.Prelude.{◌≤◌, drop, length, slice_get, Option, Some, None, ◌≡◌, ◌≢◌, ◌⊎◌, ℕ, List, [], ◌∷◌, ◌++◌, Contains}
+use Rattle.std.specs.Prelude.{◌≤◌, drop, length, slice_get, Option, Some, None, ◌≡◌, ◌≢◌, ◌⊎◌, ℕ}
+use Rattle.std.specs.Prelude.{List, [], ◌∷◌, ◌++◌, Contains}
 use Rattle.std.specs.List.{AllByRecursion}
 use Rattle.blob_digest.specs.Digest.{DigestValue, digest_of}
 use Rattle.messages.specs.DirectoryRules.{DirectoryValue}
@@ -26,13 +27,14 @@ pub record IsFirstChild (t : TreeValue) (digest : DigestValue) (m : DirectoryVal
 abbrev pub NoFault : DigestValue → Fault → Type 0
 NoFault digest f = ⊥
 
--- What stands in a tree below its root, name by name. The root itself is the tree's own; each directory below it is the
--- first with its digest.
+-- What stands in a tree below its root, name by name. The root itself is the tree's own; each
+-- directory below it is the first with its digest.
 abbrev pub LooksInTree : TreeValue → List (List ℕ) → Looked → Type 0
 LooksInTree t [] r = r ≡ found (tree_node t)
 LooksInTree t (name ∷ names) r = LooksFrom (IsFirstChild t) NoFault names (child name t.root) r
 
--- What stands below an output. Without names it is the output itself; a file or a link has nothing below it.
+-- What stands below an output. Without names it is the output itself; a file or a link has nothing
+-- below it.
 abbrev pub LooksBelow : OutputValue → List (List ℕ) → Looked → Type 0
 LooksBelow (Tree t) names r = LooksInTree t names r
 LooksBelow x [] r = r ≡ found (output_node x)
@@ -42,19 +44,23 @@ LooksBelow x (name ∷ names) r = r ≡ nothing
 abbrev pub StandsOver : List (List ℕ) → List (List ℕ) → Type 0
 StandsOver above path = (names : List (List ℕ)) × (path ≡ above ++ names)
 
--- What stands at a path: what stands below the output that is at or above it, and nothing where there is none.
+-- What stands at a path: what stands below the output that is at or above it, and nothing where
+-- there is none.
 abbrev pub LooksIn : OutcomeValue → List (List ℕ) → Looked → Type 0
 LooksIn o path r =
-    ((e : List (List ℕ) × OutputValue) × Contains o.outputs e × (names : List (List ℕ)) × (path ≡ e.0 ++ names) × LooksBelow e.1 names r)
+    ((e : List (List ℕ) × OutputValue) × Contains o.outputs e × (names : List (List ℕ))
+    × (path ≡ e.0 ++ names) × LooksBelow e.1 names r)
     ⊎ (AllByRecursion (λ e. ¬ StandsOver e.0 path) o.outputs × (r ≡ nothing))
 
 -- ---- what the private functions of a look-up speak of
 
--- where the path at or above another stands, and that the rest is what is behind as many names as it has
+-- where the path at or above another stands, and that the rest is what is behind as many names as
+-- it has
 abbrev pub IsOver : List (List (List ℕ)) → List (List ℕ) → Option Over → Type 0
 IsOver paths path None = AllByRecursion (λ above. ¬ StandsOver above path) paths
 IsOver paths path (Some over) =
-    (above : List (List ℕ)) × (slice_get paths over.place ≡ Some above) × (path ≡ above ++ drop over.names path) × (over.names ≤ length path)
+    (above : List (List ℕ)) × (slice_get paths over.place ≡ Some above)
+    × (path ≡ above ++ drop over.names path) × (over.names ≤ length path)
 
 -- a node that is a directory has the digest of one of the tree's children
 abbrev pub IsChildOf : {A : Type 0} → TreeValue → Node A → Type 0

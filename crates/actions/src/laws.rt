@@ -7,16 +7,21 @@ ghost use Rattle.action_messages.specs.OutputDirectory.{OutputDirectoryValue};
 ghost use Rattle.action_messages.specs.Outputs.{RecordedValue, AreOutputs};
 ghost use Rattle.actions.specs.Outcome.{OutcomeValue, IsOutcome};
 ghost use Rattle.actions.specs.OutcomeLookup.{LooksIn};
-ghost use Rattle.actions.specs.Recorded.{IsRecorded, IsFirstFault};
+ghost use Rattle.actions.specs.Recorded.{IsRecorded, IsFirstTreeFault};
 
 /// What a result and a source determine. A law: it does nothing.
 pub fn outcomes_are_single_valued()
     // The outputs of a result stand in one order.
-    ensures outputs { (r : ActionResultValue) (xs ys : List RecordedValue) → AreOutputs r xs → AreOutputs r ys → xs ≡ ys }
+    ensures outputs { (r : ActionResultValue) (xs ys : List RecordedValue) → AreOutputs r xs
+        → AreOutputs r ys → xs ≡ ys }
     // A result stands for one outcome, or one fault is the first, and not both.
-    ensures recorded { (blobs : Blobs) (r : ActionResultValue) (o p : OutcomeValue) → IsRecorded blobs r o → IsRecorded blobs r p → o ≡ p }
-    ensures faults { (blobs : Blobs) (ds : List OutputDirectoryValue) (f g : Fault) → IsFirstFault blobs ds f → IsFirstFault blobs ds g → f ≡ g }
-    ensures excluded { (blobs : Blobs) (r : ActionResultValue) (o : OutcomeValue) (f : Fault) → IsRecorded blobs r o → IsFirstFault blobs r.directories f → ⊥ }
+    ensures recorded { (blobs : Blobs) (r : ActionResultValue) (o p : OutcomeValue)
+        → IsRecorded blobs r o → IsRecorded blobs r p → o ≡ p }
+    ensures faults { (blobs : Blobs) (ds : List OutputDirectoryValue) (f g : Fault)
+        → IsFirstTreeFault blobs ds f → IsFirstTreeFault blobs ds g → f ≡ g }
+    ensures excluded { (blobs : Blobs) (r : ActionResultValue) (o : OutcomeValue) (f : Fault)
+        → IsRecorded blobs r o → IsFirstTreeFault blobs r.directories f → ⊥ }
     // A look-up in an outcome comes to one thing.
-    ensures looked { (o : OutcomeValue) (path : List (List ℕ)) (r s : Looked) → IsOutcome o → LooksIn o path r → LooksIn o path s → r ≡ s }
+    ensures looked { (o : OutcomeValue) (path : List (List ℕ)) (r s : Looked) → IsOutcome o
+        → LooksIn o path r → LooksIn o path s → r ≡ s }
 {}

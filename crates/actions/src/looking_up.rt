@@ -8,7 +8,8 @@ ghost use Rattle.tree.specs.Lookup.{LooksFrom, looked};
 ghost use Rattle.action_messages.specs.Ascending.{IsAscendingBy};
 ghost use Rattle.action_messages.specs.Overlaps.{texts_of};
 ghost use Rattle.actions.specs.Outcome.{output_value};
-ghost use Rattle.actions.specs.OutcomeLookup.{IsFirstChild, NoFault, LooksInTree, LooksBelow, LooksIn, IsOver, IsChildOf};
+ghost use Rattle.actions.specs.OutcomeLookup.{IsFirstChild, NoFault, LooksInTree, LooksBelow};
+ghost use Rattle.actions.specs.OutcomeLookup.{LooksIn, IsOver, IsChildOf};
 
 use crate::outcome::{Outcome, Output};
 use action_messages::{Listed, place_of};
@@ -51,7 +52,8 @@ fn find_over<A: Allocator, L: Listed>(items: &[L], path: &Path<A>) -> Option<Ove
 
 /// The first of a tree's children with a digest.
 fn first_child<'a, A: Allocator>(tree: &'a Tree<A>, digest: &Digest) -> Option<&'a Directory<A>>
-    ensures found { MatchOption result (Contains (child_digests tree.now) digest.now → ⊥) (λ m. IsFirstChild tree.now digest.now m.now) }
+    ensures found { MatchOption result (Contains (child_digests tree.now) digest.now → ⊥)
+        (λ m. IsFirstChild tree.now digest.now m.now) }
     ensures lawful { IsTree tree.now }
 {
     for (index, other) in tree.child_digests().iter().enumerate() {
@@ -70,7 +72,9 @@ fn descend<A: Allocator + Copy>(
     names: &[Name<A>],
 ) -> Result<Option<Node<A>>, AllocError>
     requires { IsChildOf tree.now node }
-    ensures { IfOk result (λ o. LooksFrom (IsFirstChild tree.now) NoFault names.now (Some (node_value node)) (looked o)) }
+    ensures { IfOk result
+        (λ o. LooksFrom (IsFirstChild tree.now) NoFault names.now (Some (node_value node))
+        (looked o)) }
 {
     for name in names {
         let Node::Dir(digest) = node else {

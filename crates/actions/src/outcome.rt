@@ -4,7 +4,8 @@ ghost use Rattle.messages.specs.Order.{bytes_cmp};
 ghost use Rattle.messages.specs.Path.{IsPath};
 ghost use Rattle.action_messages.specs.Ascending.{IsAscendingBy};
 ghost use Rattle.action_messages.specs.Overlaps.{ArePathsApart, is_under, texts_of};
-ghost use Rattle.actions.specs.Outcome.{IsOutcome, IsAdded, ExplainsAdd, HasRoom, output_value, outputs_in};
+ghost use Rattle.actions.specs.Outcome.{IsOutcome, AddsOutput, ExplainsAdd, HasRoom, output_value};
+ghost use Rattle.actions.specs.Outcome.{outputs_in};
 
 use action_messages::{Listed, lies_under_some, place_of};
 use blob_digest::Digest;
@@ -41,7 +42,8 @@ impl<A: Allocator> Model for Outcome<A> {
 
     ghost view = { λ a. record { exit_code = a.exit_code; outputs = outputs_in a.outputs.items } };
 
-    ghost invariant = { λ a. IsOutcome (record { exit_code = a.exit_code; outputs = outputs_in a.outputs.items }) };
+    ghost invariant = { λ a. IsOutcome
+        (record { exit_code = a.exit_code; outputs = outputs_in a.outputs.items }) };
 }
 
 impl<A: Allocator> Outcome<A> {
@@ -57,7 +59,8 @@ impl<A: Allocator> Outcome<A> {
 
     /// The outcome of this exit code and these outputs, which keep the rules.
     pub fn from_outputs(exit_code: i32, outputs: Vec<(Path<A>, Output<A>), A>) -> Outcome<A>
-        requires { IsOutcome (record { exit_code = exit_code; outputs = outputs_in outputs.items }) }
+        requires { IsOutcome
+            (record { exit_code = exit_code; outputs = outputs_in outputs.items }) }
         ensures { result ≡ record { exit_code = exit_code; outputs = outputs_in outputs.items } }
     {
         Outcome { exit_code, outputs }
@@ -88,7 +91,8 @@ fn some_lies_under<A: Allocator, L: Listed>(
     text: &[u8],
 ) -> Result<bool, AllocError>
     requires { IsAscendingBy bytes_cmp (texts_of (map L.path_in items.now)) }
-    ensures { IfOk result (λ b. b ≡ list_any (λ t. is_under t text.now) (texts_of (map L.path_in items.now))) }
+    ensures { IfOk result
+        (λ b. b ≡ list_any (λ t. is_under t text.now) (texts_of (map L.path_in items.now))) }
 {
     let mut below = Vec::from_slice(alloc, text)?;
     below.push(b'/')?;
@@ -130,7 +134,7 @@ impl<A: Allocator + Copy> Outcome<A> {
     /// under or lies above one that is there. The place and the overlaps are found by binary
     /// searches, one for each name of the path; after a refusal nothing has changed.
     pub fn add(&mut self, alloc: A, path: Path<A>, output: Output<A>) -> Result<(), AddError<A>>
-        ensures added { OnOk result (IsAdded self.old path (output_value output) self.new) }
+        ensures added { OnOk result (AddsOutput self.old path (output_value output) self.new) }
         ensures refused { IfErr result (λ e. ExplainsAdd self.old path e) }
         ensures unchanged { OnErr result (self.new ≡ self.old) }
     {

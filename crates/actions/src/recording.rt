@@ -1,13 +1,13 @@
 ghost use Rattle.std.specs.Prelude.{◌≡◌, length, IfOk, IfErr, IsErrOf};
 ghost use Rattle.blob_source.specs.Source.{Asks};
 ghost use Rattle.blob_source.specs.Called.{Calls};
-ghost use Rattle.tree.specs.Memo.{IsKnownOf, IsRefused, Learns, known_by};
+ghost use Rattle.tree.specs.Memo.{IsKnownOf, WasRefused, Learns, known_by};
 ghost use Rattle.tree.specs.TreeError.{Explains};
 ghost use Rattle.action_messages.specs.Outputs.{directories_among, recorded_value};
 ghost use Rattle.action_messages.specs.Outputs.{recorded_values};
 ghost use Rattle.actions.specs.Outcome.{output_value, outputs_in};
 ghost use Rattle.actions.specs.Recorded.{IsRecorded, StandsFor, StandForAll};
-ghost use Rattle.actions.specs.Recorded.{IsFirstFault, IsOutputFault, IsWithoutTree};
+ghost use Rattle.actions.specs.Recorded.{IsFirstTreeFault, IsOutputFault, IsWithoutTree};
 ghost use Rattle.actions.specs.LooksAt.{OutputLooksAt};
 
 use crate::outcome::{Outcome, Output};
@@ -53,7 +53,7 @@ impl<A: Allocator + Copy> Output<A> {
             (IsErrOf result TreeError.Fetch) }
         ensures unasked { IsWithoutTree (recorded_value recorded.now)
             → S.tells source.new ≡ S.tells source.old }
-        ensures learned { Learns (OutputLooksAt (recorded_value recorded.now)) (IsRefused result)
+        ensures learned { Learns (OutputLooksAt (recorded_value recorded.now)) (WasRefused result)
             (known_by memo.old) (known_by memo.new) (S.tells source.old) (S.tells source.new) }
     {
         match recorded {
@@ -81,7 +81,7 @@ fn read_outputs<A: Allocator + Copy, S: BlobSource<A>>(
 ) -> Result<Vec<(Path<A>, Output<A>), A>, TreeError<A>>
     ensures found { IfOk result (λ v. StandForAll (S.tells source.new).blobs
         (recorded_values recorded.now) (outputs_in v.items)) }
-    ensures faulty { IfErr result (Explains (IsFirstFault (S.tells source.new).blobs
+    ensures faulty { IfErr result (Explains (IsFirstTreeFault (S.tells source.new).blobs
         (directories_among (recorded_values recorded.now)))) }
     ensures called { Calls (Asks (length (directories_among (recorded_values recorded.now))))
         (S.tells source.old) (S.tells source.new) (IsErrOf result TreeError.Fetch) }
@@ -104,7 +104,7 @@ pub fn recorded<A: Allocator + Copy, S: BlobSource<A>>(
     // The outcome, or the fault of the first directory whose Tree isn't told.
     ensures found { IfOk result (IsRecorded (S.tells source.new).blobs made.now) }
     ensures faulty { IfErr result (Explains
-        (IsFirstFault (S.tells source.new).blobs made.now.directories)) }
+        (IsFirstTreeFault (S.tells source.new).blobs made.now.directories)) }
     ensures called { Calls (Asks (length made.now.directories))
         (S.tells source.old) (S.tells source.new) (IsErrOf result TreeError.Fetch) }
 {

@@ -1,4 +1,5 @@
--- What names a blob: the SHA-256 hash of its bytes (FIPS 180-4), and their length (REAPI, message Digest).
+-- What names a blob: the SHA-256 hash of its bytes (FIPS 180-4), and their length (REAPI, message
+-- Digest).
 use Rattle.std.specs.Prelude.{◌≡◌, ℕ, min, List, [], length}
 use Rattle.std.specs.declared.cmp.Ordering.{Ordering}
 use Rattle.std.specs.Ordering.{nat_cmp, ordering_then}
@@ -18,6 +19,7 @@ empty_digest = digest_of []
 abbrev pub digest_cmp : DigestValue → DigestValue → Ordering
 digest_cmp d e = ordering_then (slice_cmp nat_cmp d.hash e.hash) (nat_cmp d.size e.size)
 
--- No two different blobs of the set have one digest. That SHA-256 has no clash at all is nowhere assumed.
+-- No two different blobs of the set have one digest. That SHA-256 has no clash at all is nowhere
+-- assumed.
 abbrev pub NoClash : (List ℕ → Type 0) → Type 0
 NoClash S = (x y : List ℕ) → S x → S y → digest_of x ≡ digest_of y → x ≡ y

@@ -1,5 +1,6 @@
 -- The text of a digest: its hash in lower-case hex, a slash, and its size in decimal.
-use Rattle.std.specs.Prelude.{◌≡◌, ℕ, ◌<◌, nat_le, Bool, ◌&&◌, ◌||◌, List, ◌∷◌, ◌++◌, length, take, slice_get, slice_index, Some, decimal}
+use Rattle.std.specs.Prelude.{◌≡◌, ℕ, ◌<◌, nat_le, Bool, ◌&&◌, ◌||◌, List, ◌∷◌, ◌++◌, length, take}
+use Rattle.std.specs.Prelude.{slice_get, slice_index, Some, decimal}
 use Rattle.std.specs.Char.{is_ascii_digit}
 use Rattle.std.specs.List.{AllPass}
 use Rattle.hex.specs.Hex.{encode_lower}

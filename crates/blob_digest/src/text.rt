@@ -1,8 +1,10 @@
-ghost use Rattle.std.specs.Prelude.{◌≡◌, ◌≤◌, ◌↔◌, ℕ, ◌<◌, List, [], ◌∷◌, ◌++◌, slice_index, IsTrue, IsSome, IfSome, IfOk, Some, Ok, string_bytes, decimal};
+ghost use Rattle.std.specs.Prelude.{◌≡◌, ◌≤◌, ◌↔◌, ℕ, ◌<◌, List, [], ◌∷◌, ◌++◌, slice_index};
+ghost use Rattle.std.specs.Prelude.{IsTrue, IsSome, IfSome, IfOk, Some, Ok, string_bytes, decimal};
 ghost use Rattle.std.specs.List.{AllPass};
 ghost use Rattle.hex.specs.Hex.{encode_lower, lower_digits};
 ghost use Rattle.blob_digest.specs.DigestValue.{DigestValue, IsDigest, IsHash, greatest_size};
-ghost use Rattle.blob_digest.specs.Text.{digest_text, is_lower_hex, IsHashText, BeginsWithHash, IsDecimal};
+ghost use Rattle.blob_digest.specs.Text.{digest_text, is_lower_hex, IsHashText, BeginsWithHash};
+ghost use Rattle.blob_digest.specs.Text.{IsDecimal};
 
 use crate::digest::{Digest, GREATEST_SIZE};
 use crate::error::DigestError;
@@ -11,7 +13,8 @@ use std::alloc::{AllocError, Allocator};
 /// What a lower-case hex digit stands for.
 fn read_digit(digit: u8) -> Option<u8>
     ensures some { IsSome result ↔ IsTrue (is_lower_hex digit) }
-    ensures found { IfSome result (λ value. (value < 16) × (slice_index lower_digits value ≡ digit)) }
+    ensures found { IfSome result
+        (λ value. (value < 16) × (slice_index lower_digits value ≡ digit)) }
 {
     match digit {
         b'0'..=b'9' => Some(digit - b'0'),
@@ -23,7 +26,8 @@ fn read_digit(digit: u8) -> Option<u8>
 /// The byte that two lower-case hex digits spell.
 fn read_byte(high: u8, low: u8) -> Option<u8>
     ensures some { IsSome result ↔ (IsTrue (is_lower_hex high) × IsTrue (is_lower_hex low)) }
-    ensures found { IfSome result (λ byte. (byte < 256) × (encode_lower (byte ∷ []) ≡ high ∷ low ∷ [])) }
+    ensures found { IfSome result
+        (λ byte. (byte < 256) × (encode_lower (byte ∷ []) ≡ high ∷ low ∷ [])) }
 {
     Some(read_digit(high)? * 16 + read_digit(low)?)
 }
@@ -32,7 +36,8 @@ fn read_byte(high: u8, low: u8) -> Option<u8>
 pub fn read_hash(text: &[u8]) -> Option<[u8; 32]>
     ensures some { IsSome result ↔ IsHashText text.now }
     ensures found { IfSome result (λ hash. IsHash hash × (text.now ≡ encode_lower hash)) }
-    ensures only { (hash : List ℕ) → IsHash hash → text.now ≡ encode_lower hash → result ≡ Some hash }
+    ensures only { (hash : List ℕ) → IsHash hash → text.now ≡ encode_lower hash
+        → result ≡ Some hash }
 {
     if text.len() != 64 {
         return None;
@@ -57,7 +62,8 @@ fn is_decimal(text: &[u8]) -> bool
 /// The size that the text spells: a decimal in range, without a leading zero.
 fn read_size(text: &[u8]) -> Option<u64>
     ensures found { IfSome result (λ size. (size ≤ greatest_size) × (text.now ≡ decimal size)) }
-    ensures only { (size : ℕ) → size ≤ greatest_size → text.now ≡ decimal size → result ≡ Some size }
+    ensures only { (size : ℕ) → size ≤ greatest_size → text.now ≡ decimal size
+        → result ≡ Some size }
 {
     if !is_decimal(text) {
         return None;
@@ -78,7 +84,8 @@ fn read_size(text: &[u8]) -> Option<u64>
 /// The hash at the front, and what follows the slash behind it.
 fn split_hash(text: &[u8]) -> Option<([u8; 32], &[u8])>
     ensures some { IsSome result ↔ BeginsWithHash text.now }
-    ensures found { IfSome result (λ parts. IsHash parts.0 × (text.now ≡ encode_lower parts.0 ++ 47 ∷ parts.1.now)) }
+    ensures found { IfSome result
+        (λ parts. IsHash parts.0 × (text.now ≡ encode_lower parts.0 ++ 47 ∷ parts.1.now)) }
 {
     if text.len() < 65 {
         return None;
@@ -96,7 +103,8 @@ impl Digest {
     /// without leading zeros. `BadHex` comes before `BadSize`.
     pub fn read_text(text: &[u8]) -> Result<Digest, DigestError>
         ensures found { IfOk result (λ digest. IsDigest digest × (text.now ≡ digest_text digest)) }
-        ensures only { (digest : DigestValue) → IsDigest digest → text.now ≡ digest_text digest → result ≡ Ok digest }
+        ensures only { (digest : DigestValue) → IsDigest digest → text.now ≡ digest_text digest
+            → result ≡ Ok digest }
         ensures bad_hex { (result ≡ Err DigestError.BadHex) ↔ ¬ BeginsWithHash text.now }
     {
         let (hash, rest) = split_hash(text).ok_or(DigestError::BadHex)?;

@@ -36,7 +36,7 @@ pub record HoldsBlob (old new : Telling) (d : DigestValue) (bytes : List ℕ) : 
   pub calls : new.calls ≡ old.calls
   pub puts : new.puts ≡ old.puts
 
-pub record HoldsResult (old new : Telling) (d : DigestValue) (bytes : List ℕ) : Type 0 where
+pub record ResultIsHeld (old new : Telling) (d : DigestValue) (bytes : List ℕ) : Type 0 where
   pub held : new.results d ≡ Some bytes
   pub others : (e : DigestValue) → e ≢ d → new.results e ≡ old.results e
   pub blobs : new.blobs ≡ old.blobs

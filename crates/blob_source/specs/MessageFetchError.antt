@@ -2,7 +2,9 @@
 use Rattle.blob_source.specs.declared.source.FetchError.{FetchError}
 use Rattle.blob_source.specs.declared.source.FetchError.TheVariants as calls
 use Rattle.blob_source.specs.declared.fetching.MessageFetchError.{MessageFetchError}
-use Rattle.blob_source.specs.declared.fetching.MessageFetchError.TheVariants.{Missing, Wrong, Malformed, Failed, Memory}
+use Rattle.blob_source.specs.declared.fetching.MessageFetchError.TheVariants.{Missing, Wrong}
+use Rattle.blob_source.specs.declared.fetching.MessageFetchError.TheVariants.{Malformed, Failed}
+use Rattle.blob_source.specs.declared.fetching.MessageFetchError.TheVariants.{Memory}
 use Rattle.blob_source.specs.Told.{Fault, missing, wrong, malformed}
 
 -- the error of the call, as one of the message

@@ -1,6 +1,6 @@
 ghost use Rattle.std.specs.Prelude.{◌≡◌, ◌↔◌, IsTrue, OnOk, OnErr};
 ghost use Rattle.blob_source.specs.Memory.{telling_of, told_by};
-ghost use Rattle.blob_source.specs.Memory.{HoldsBlob, HoldsResult, IsUnchanged, TellsNothing};
+ghost use Rattle.blob_source.specs.Memory.{HoldsBlob, ResultIsHeld, IsUnchanged, TellsNothing};
 ghost use Rattle.blob_source.specs.Sink.{HasRight};
 
 use crate::source::{BlobSink, BlobSource, FetchError};
@@ -44,7 +44,7 @@ impl<A: Allocator + Copy> MemorySource<A> {
     /// Holds these bytes as the result of the action with the digest, in place of others.
     pub fn hold_result(&mut self, digest: Digest, bytes: Vec<u8, A>) -> Result<(), AllocError>
         ensures ok { OnOk result
-            (HoldsResult (telling_of self.old) (telling_of self.new) digest bytes.items) }
+            (ResultIsHeld (telling_of self.old) (telling_of self.new) digest bytes.items) }
         ensures err { OnErr result (IsUnchanged (telling_of self.old) (telling_of self.new)) }
     {
         self.results.insert(digest, bytes)?;

@@ -1,5 +1,6 @@
 -- Blobs by what is held under hashes.
-use Rattle.std.specs.Prelude.{◌≡◌, ℕ, ◌==◌, ◌<◌, Bool, not, ◌&&◌, List, [], map, length, bytes_eq, Option, Some, None, is_some, if◌then◌else◌}
+use Rattle.std.specs.Prelude.{◌≡◌, ℕ, ◌==◌, ◌<◌, Bool, not, ◌&&◌, List, [], map, length, bytes_eq}
+use Rattle.std.specs.Prelude.{Option, Some, None, is_some, if◌then◌else◌}
 use Rattle.std.specs.List.{filter, list_all, AllByRecursion}
 use Rattle.std.specs.Map.{lookup}
 use Rattle.sha2.specs.Sha256.{sha256}

@@ -1,12 +1,14 @@
 -- How a blob is put.
-use Rattle.std.specs.Prelude.{◌≡◌, ℕ, not, nat_lt, List, [], ◌∷◌, length, bytes_eq, Option, Some, None, is_none, if◌then◌else◌}
+use Rattle.std.specs.Prelude.{◌≡◌, ℕ, not, nat_lt, List, [], ◌∷◌, length, bytes_eq, Option, Some}
+use Rattle.std.specs.Prelude.{None, is_none, if◌then◌else◌}
 use Rattle.sha2.specs.Sha256.{sha256}
 use Rattle.blob_digest.specs.Body.{greatest_blob}
 use Rattle.eviction.specs.Kept.{Kept, touched}
 use Rattle.eviction.specs.Entering.{entered}
 use Rattle.eviction.specs.Pinning.{is_held}
 use Rattle.blob_store.specs.declared.error.BlobError.{BlobError}
-use Rattle.blob_store.specs.declared.error.BlobError.TheVariants.{TooLarge, HashDiffers, Full, Memory}
+use Rattle.blob_store.specs.declared.error.BlobError.TheVariants.{TooLarge, HashDiffers, Full}
+use Rattle.blob_store.specs.declared.error.BlobError.TheVariants.{Memory}
 
 -- The store after a blob was used: it is first. No bytes stand nowhere, and move nothing.
 abbrev pub used : Kept (List ℕ) → List ℕ → Kept (List ℕ)
@@ -21,8 +23,8 @@ blob_put s h (x ∷ xs) =
     else entered bytes_eq s h (x ∷ xs)
 
 -- why a put is refused, if it is
-abbrev pub refusal_of : Kept (List ℕ) → List ℕ → List ℕ → Option BlobError
-refusal_of s h b =
+abbrev pub refused_put : Kept (List ℕ) → List ℕ → List ℕ → Option BlobError
+refused_put s h b =
     if nat_lt greatest_blob (length b) then Some TooLarge
     else (if not (bytes_eq (sha256 b) h) then Some HashDiffers
     else (if is_none (blob_put s h b) then Some Full else None))

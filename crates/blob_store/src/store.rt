@@ -1,10 +1,13 @@
-ghost use Rattle.std.specs.Prelude.{◌≡◌, ◌↔◌, ◌⊎◌, ◌<◌, ◌^◌, [], map, true, false, bytes_eq, Err, IfOk, IfErr, OnOk, OnErr, Some, None, option_copied};
+ghost use Rattle.std.specs.Prelude.{◌≡◌, ◌↔◌, ◌⊎◌, ◌<◌, ◌^◌, [], map, true, false, bytes_eq, Err};
+ghost use Rattle.std.specs.Prelude.{IfOk, IfErr, OnOk, OnErr, Some, None, option_copied};
 ghost use Rattle.std.specs.Borrow.{sem};
 ghost use Rattle.std.specs.List.{IsDistinct};
 ghost use Rattle.eviction.specs.Kept.{IsKept, total_cost, touched};
-ghost use Rattle.eviction.specs.Pinning.{CanPinMore, pins_of, is_held as is_stored, all_pinned, pinned_all, unpinned_all};
-ghost use Rattle.blob_store.specs.Blobs.{is_empty, is_held, all_held, held_under, hashes_of, found_in, AreBlobs};
-ghost use Rattle.blob_store.specs.Storing.{blob_put, used, refusal_of, IsRefusal};
+ghost use Rattle.eviction.specs.Pinning.{CanPinMore, pins_of, is_held as is_stored, all_pinned};
+ghost use Rattle.eviction.specs.Pinning.{pinned_all, unpinned_all};
+ghost use Rattle.blob_store.specs.Blobs.{is_empty, is_held, all_held, held_under, hashes_of};
+ghost use Rattle.blob_store.specs.Blobs.{found_in, AreBlobs};
+ghost use Rattle.blob_store.specs.Storing.{blob_put, used, refused_put, IsRefusal};
 ghost use Rattle.sha2.specs.Sha256.{sha256};
 
 use crate::error::BlobError;
@@ -126,8 +129,8 @@ impl<A: Allocator + Copy> BlobStore<A> {
     /// another hash, or that doesn't fit beside the pinned ones.
     pub fn put(&mut self, hash: [u8; 32], bytes: Vec<u8, A>) -> Result<(), BlobError>
         ensures ok { OnOk result (blob_put self.old hash bytes.items ≡ Some self.new) }
-        ensures passed { OnOk result (refusal_of self.old hash bytes.items ≡ None) }
-        ensures refused { IfErr result (IsRefusal (refusal_of self.old hash bytes.items)) }
+        ensures passed { OnOk result (refused_put self.old hash bytes.items ≡ None) }
+        ensures refused { IfErr result (IsRefusal (refused_put self.old hash bytes.items)) }
         ensures err { OnErr result (self.new ≡ self.old) }
     {
         if bytes.len() > GREATEST_BLOB {
@@ -139,8 +142,8 @@ impl<A: Allocator + Copy> BlobStore<A> {
     /// Puts a blob whose digest is known already, as `put` does. It hashes nothing again.
     pub fn put_sealed(&mut self, hash: [u8; 32], sealed: Sealed<A>) -> Result<(), BlobError>
         ensures ok { OnOk result (blob_put self.old hash sealed ≡ Some self.new) }
-        ensures passed { OnOk result (refusal_of self.old hash sealed ≡ None) }
-        ensures refused { IfErr result (IsRefusal (refusal_of self.old hash sealed)) }
+        ensures passed { OnOk result (refused_put self.old hash sealed ≡ None) }
+        ensures refused { IfErr result (IsRefusal (refused_put self.old hash sealed)) }
         ensures err { OnErr result (self.new ≡ self.old) }
     {
         if sealed.as_slice().len() > GREATEST_BLOB {
@@ -215,8 +218,8 @@ impl<A: Allocator + Copy> BlobStore<A> {
         digests.iter().all(|digest| self.contains(digest))
     }
 
-    /// Pins each of the blobs once more; their hashes are distinct, and no count is at its greatest.
-    /// The digest of no bytes is left out. Refusal `NotHeld` where one isn't held.
+    /// Pins each of the blobs once more; their hashes are distinct, and no count is at its
+    /// greatest. The digest of no bytes is left out. Refusal `NotHeld` where one isn't held.
     pub fn pin_all(&mut self, alloc: A, digests: &[Digest]) -> Result<(), BlobError>
         requires distinct { IsDistinct bytes_eq (hashes_of digests.now) }
         requires counts { CanPinMore bytes_eq self.old.entries (hashes_of digests.now) }

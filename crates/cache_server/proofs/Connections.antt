@@ -5,7 +5,7 @@ use Rattle.std.specs.Io.KnownBytes.{Appends, Consumes, Keeps, IsAtEnd}
 use Rattle.std.proofs.KnownBytes.{Appends-nil, Appends-trans, Consumes-nil, Consumes-trans, Consumes-kept}
 use Rattle.http_core.specs.Event.{EventValue}
 use Rattle.http_core.specs.Stream.{Cuts}
-use Rattle.http_core.specs.Session.{State, Closed, SessionValue, Stands, Feeds, Leaves, Holds}
+use Rattle.http_core.specs.Session.{SessionState, Closed, SessionValue, Stands, Feeds, Leaves, Holds}
 use Rattle.http_core.proofs.Cutting.{cut_within, HasMore, empty_partial}
 use Rattle.cache_server.specs.Cache.{CacheValue}
 use Rattle.cache_server.specs.Serving.{ServesAll}
@@ -18,7 +18,7 @@ pub stands_cut : (session : SessionValue) (stream : List ℕ) (events : List Eve
 unfolding Stands
 stands_cut session stream events (left, cut, leaves) = (left, cut)
 
-closed_left : (prefix : List ℕ) (state : State) (stream : List ℕ) (events : List EventValue) (left : Option (List ℕ)) → state ≡ Closed → Cuts prefix stream events left → Leaves prefix state left → Cuts prefix stream events None
+closed_left : (prefix : List ℕ) (state : SessionState) (stream : List ℕ) (events : List EventValue) (left : Option (List ℕ)) → state ≡ Closed → Cuts prefix stream events left → Leaves prefix state left → Cuts prefix stream events None
 closed_left prefix state stream events None e c l = c
 closed_left prefix state stream events (Some rest) e c l = absurd (let k : Holds prefix Closed rest = subst (λ z. Holds prefix z rest) e l in k)
 

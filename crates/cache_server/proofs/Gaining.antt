@@ -6,7 +6,7 @@ use Rattle.http_core.specs.Stream.{Cuts}
 use Rattle.http_core.proofs.Cutting.{cut_once, cut_within, HasMore}
 use Rattle.cache_server.specs.Cache.{CacheValue}
 use Rattle.cache_server.specs.Serving.{ServesAll}
-use Rattle.cache_server.specs.History.{HistoryEntry, Piece, Fail, End, is_end, is_fail, bytes_over, stream_of, has_failed, Gains, Brings, BringsAll, CacheAfter, Answers}
+use Rattle.cache_server.specs.History.{HistoryEntry, Piece, Fail, End, is_end, is_fail, bytes_over, stream_of, has_failed, Gains, Brings, BringsAll, CacheAfter, AnswersTo}
 use Rattle.cache_server.proofs.Histories.{stream_more}
 use Rattle.cache_server.proofs.Serving.{serves_join}
 
@@ -25,8 +25,8 @@ cache_more prefix opening before after history entry events text (earlier, told,
     (earlier ++ events, told ++ text, completes_more prefix [] history entry earlier events all c, serves_join opening before after earlier events told text served s)
 
 pub answers_are : (prefix : List ℕ) (opening before after : CacheValue) (history : List HistoryEntry) (entry : HistoryEntry) (events : List EventValue) (text : List ℕ)
-    → CacheAfter prefix opening history before → Brings prefix history entry events → ServesAll before events text after → Answers prefix opening history entry text
-unfolding Answers
+    → CacheAfter prefix opening history before → Brings prefix history entry events → ServesAll before events text after → AnswersTo prefix opening history entry text
+unfolding AnswersTo
 answers_are prefix opening before after history entry events text b c s = (events, before, after, b, c, s)
 
 same_key : (k : ℕ) → (k == k) ≡ true

@@ -6,7 +6,7 @@ use Rattle.http_core.specs.Reply.{ReplyValue, reply_text}
 use Rattle.http_core.proofs.Cutting.{cut_once}
 use Rattle.cache_server.specs.Cache.{CacheValue}
 use Rattle.cache_server.specs.Serving.{ServesAll, ServesOne, Replies}
-use Rattle.cache_server.specs.History.{HistoryEntry, Piece, Fail, End, stream_of, Gains, Brings, BringsAll, CacheAfter, Answers}
+use Rattle.cache_server.specs.History.{HistoryEntry, Piece, Fail, End, stream_of, Gains, Brings, BringsAll, CacheAfter, AnswersTo}
 use Rattle.cache_server.proofs.StepOnce.{step_once}
 
 gains_once : (prefix : List ℕ) (k : ℕ) (before : List HistoryEntry) (entry : HistoryEntry) (x y : List EventValue) → Gains prefix k before entry x → Gains prefix k before entry y → x ≡ y
@@ -56,7 +56,7 @@ pub cache_once : (prefix : List ℕ) (opening : CacheValue) (history : List Hist
 unfolding CacheAfter
 cache_once prefix opening history a b (x, t, p, s) (y, u, q, r) = (served_once opening opening x y t u a b refl (all_once prefix [] history x y p q) s r).1
 
-pub answers_once : (prefix : List ℕ) (opening : CacheValue) (history : List HistoryEntry) (entry : HistoryEntry) (x y : List ℕ) → Answers prefix opening history entry x → Answers prefix opening history entry y → x ≡ y
-unfolding Answers
+pub answers_once : (prefix : List ℕ) (opening : CacheValue) (history : List HistoryEntry) (entry : HistoryEntry) (x y : List ℕ) → AnswersTo prefix opening history entry x → AnswersTo prefix opening history entry y → x ≡ y
+unfolding AnswersTo
 answers_once prefix opening history entry x y (e, a, b, p, c, s) (f, g, h, q, d, r) =
     (served_once a g e f x y b h (cache_once prefix opening history a g p q) (completes_once prefix history entry e f c d) s r).0

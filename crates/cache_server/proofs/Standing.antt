@@ -8,7 +8,7 @@ use Rattle.http_core.specs.Session.{SessionValue, IsClosed, Leaves}
 use Rattle.http_core.specs.Session as sessions
 use Rattle.cache_server.specs.Cache.{CacheValue}
 use Rattle.cache_server.specs.Serving.{ServesAll, ServesFront}
-use Rattle.cache_server.specs.History.{HistoryEntry, Piece, Fail, End, is_end, is_fail, bytes_over, since_end, until_fail, stream_of, has_failed, Gains, BringsAll, CacheAfter, Answers}
+use Rattle.cache_server.specs.History.{HistoryEntry, Piece, Fail, End, is_end, is_fail, bytes_over, since_end, until_fail, stream_of, has_failed, Gains, BringsAll, CacheAfter, AnswersTo}
 use Rattle.cache_server.specs.Server.{ServerValue, session_at, StandsSo, KeepsSession, ServerStands, StandsOrFails}
 use Rattle.cache_server.specs.Sessions.{KeepsOthers, IsSessionFor, FeedsAt, IsClosedAt, ClosesAt}
 use Rattle.cache_server.proofs.Histories.{stream_aside, failed_more, failed_now, stream_ended, failed_ended}
@@ -115,7 +115,7 @@ stands_fed opening old mid new k history piece events text feeds serves p m stan
 
 pub answers_fed : (opening : CacheValue) (old mid : ServerValue) (after : CacheValue) (k : ℕ) (history : List HistoryEntry) (piece : List ℕ) (events : List EventValue) (text : List ℕ)
     → FeedsAt old k piece events mid → ServesAll mid.cache events text after
-    → ServerStands opening old history → Answers old.prefix opening history (Piece k piece) text
+    → ServerStands opening old history → AnswersTo old.prefix opening history (Piece k piece) text
 answers_fed opening old mid after k history piece events text feeds serves stands =
     let x : IsFed old.prefix k history piece events feeds.after = fed old.prefix (session_at old k) k history piece events feeds.before feeds.after (stands.sessions k) feeds.held feeds.feeds in
     answers_are old.prefix opening old.cache after history (Piece k piece) events text stands.cache x.gains (subst (λ z. ServesAll z events text after) feeds.kept.cache serves)

@@ -78,8 +78,8 @@ CacheAfter prefix opening history cache =
     × BringsAll prefix [] history events × ServesAll opening events text cache
 
 -- the answers to an entry after the history
-unfoldable pub Answers : List ℕ → CacheValue → List HistoryEntry → HistoryEntry → List ℕ → Type 0
-Answers prefix opening history entry text =
+unfoldable pub AnswersTo : List ℕ → CacheValue → List HistoryEntry → HistoryEntry → List ℕ → Type 0
+AnswersTo prefix opening history entry text =
     (events : List EventValue) × (before : CacheValue) × (cache : CacheValue)
     × CacheAfter prefix opening history before × Brings prefix history entry events
     × ServesAll before events text cache

@@ -4,7 +4,7 @@ use Rattle.http_core.specs.Event.{EventValue}
 use Rattle.http_core.specs.Stream.{Cuts}
 use Rattle.cache_server.specs.Cache.{CacheValue}
 use Rattle.cache_server.specs.Serving.{ServesAll}
-use Rattle.cache_server.specs.History.{HistoryEntry, CacheAfter, Answers}
+use Rattle.cache_server.specs.History.{HistoryEntry, CacheAfter, AnswersTo}
 use Rattle.cache_server.specs.Connection.{IsAnswered}
 
 -- a history leads to one cache
@@ -18,7 +18,7 @@ abbrev pub HasOneAnswer : Type 0
 HasOneAnswer =
     (prefix : List ℕ) (opening : CacheValue)
     (history : List HistoryEntry) (entry : HistoryEntry) (x y : List ℕ)
-    → Answers prefix opening history entry x → Answers prefix opening history entry y → x ≡ y
+    → AnswersTo prefix opening history entry x → AnswersTo prefix opening history entry y → x ≡ y
 
 -- whatever the cache, any events are answered
 abbrev pub AnswersAny : Type 0

@@ -3,7 +3,8 @@ use Rattle.std.specs.Prelude.{◌≡◌, ℕ, Some, Result, Ok, Err, option_map}
 use Rattle.action_cache.specs.declared.error.CacheError.{CacheError}
 use Rattle.action_cache.specs.declared.error.CacheError.TheVariants.{Memory}
 use Rattle.action_cache.specs.CacheError.{refusal_of}
-use Rattle.action_cache.specs.Machine.{Refusal, too_large, hash_differs, full, not_held, not_pinned, bad_result, pinned_differs, incomplete}
+use Rattle.action_cache.specs.Machine.{Refusal, too_large, hash_differs, full, not_held, not_pinned}
+use Rattle.action_cache.specs.Machine.{bad_result, pinned_differs, incomplete}
 
 abbrev pub status_of : Refusal → ℕ
 status_of too_large = 413

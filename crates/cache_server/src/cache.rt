@@ -1,4 +1,5 @@
-ghost use Rattle.std.specs.Prelude.{◌≡◌, ◌<◌, ◌^◌, [], length, IfOk, IfErr, OnOk, OnErr, option_copied, option_map};
+ghost use Rattle.std.specs.Prelude.{◌≡◌, ◌<◌, ◌^◌, [], length, IfOk, IfErr, OnOk, OnErr};
+ghost use Rattle.std.specs.Prelude.{option_copied, option_map};
 ghost use Rattle.eviction.specs.Kept.{total};
 ghost use Rattle.http_core.specs.Event.{Get, Put, ask_of};
 ghost use Rattle.http_core.specs.declared.event.Area.TheVariants.{Ac, Cas};

@@ -1,4 +1,5 @@
-ghost use Rattle.cache_server.specs.Laws.{LeadsToOneCache, HasOneAnswer, AnswersAny, BeginsTheAnswers};
+ghost use Rattle.cache_server.specs.Laws.{LeadsToOneCache, HasOneAnswer, AnswersAny};
+ghost use Rattle.cache_server.specs.Laws.{BeginsTheAnswers};
 
 /// A history leads to one cache, and a piece after it has one text of answers. A law: it does
 /// nothing.

@@ -1,7 +1,7 @@
 ghost use Rattle.std.specs.Prelude.{◌≡◌, ℕ, List, ◌∷◌, ◌++◌, [], IfOk, OnErr, OnOk, None, IsSome};
 ghost use Rattle.http_core.specs.Event.{events_of};
 ghost use Rattle.cache_server.specs.Cache.{CacheValue};
-ghost use Rattle.cache_server.specs.History.{HistoryEntry, Piece, End, Answers};
+ghost use Rattle.cache_server.specs.History.{HistoryEntry, Piece, End, AnswersTo};
 ghost use Rattle.cache_server.specs.Server.{session_at, ServerStands, StandsOrFails};
 ghost use Rattle.cache_server.specs.Sessions.{FeedsAt, ClosesAt, ForgetsAt, HoldsAt};
 
@@ -48,8 +48,8 @@ impl<A: Allocator + Copy> Server<A> {
     }
 
     /// The answers to the next piece on the connection, which is a new one where none has the
-    /// number. After an `Err` the connection is closed, or still unknown where it was a new one, the
-    /// answers are lost, and the cache is as some of the requests left it, from the first on.
+    /// number. After an `Err` the connection is closed, or still unknown where it was a new one,
+    /// the answers are lost, and the cache is as some of the requests left it, from the first on.
     pub fn event(
         &mut self,
         alloc: A,
@@ -58,7 +58,7 @@ impl<A: Allocator + Copy> Server<A> {
     ) -> Result<Vec<u8, A>, AllocError>
         ensures answers { IfOk result (λ text. (opening : CacheValue) (history : List HistoryEntry)
             → ServerStands opening self.old history
-            → Answers self.old.prefix opening history (Piece connection piece.now) text.items) }
+            → AnswersTo self.old.prefix opening history (Piece connection piece.now) text.items) }
         ensures ok { OnOk result ((opening : CacheValue) (history : List HistoryEntry)
             → ServerStands opening self.old history
             → ServerStands opening self.new (history ++ Piece connection piece.now ∷ [])) }

@@ -4,7 +4,7 @@ use Rattle.std.specs.List.{AllByRecursion}
 use Rattle.std.specs.List.Sorted.{IsStrictlyIncreasing}
 use Rattle.std.proofs.lemmas.Bool.{ltb-true, ltb-false}
 use Rattle.canonical.specs.declared.shape.Entry.{Entry}
-use Rattle.canonical.specs.Shape.{ascends_behind, is_shape}
+use Rattle.canonical.specs.Shape.{is_ascending_past, is_shape}
 
 -- the entries have numbers above n, and each a greater one than the entry before
 abbrev pub Ascends : ℕ → List Entry → Type 0
@@ -31,25 +31,25 @@ true_not false h = refl
 record Steps (n : ℕ) (entry : Entry) (entries : List Entry) : Type 0 where
   above : n < entry.number
   most : entry.number ≤ 536870911
-  rest : ascends_behind entry.number entries ≡ true
+  rest : is_ascending_past entry.number entries ≡ true
 
-steps : (n : ℕ) (entry : Entry) (entries : List Entry) → ascends_behind n (entry ∷ entries) ≡ true → Steps n entry entries
+steps : (n : ℕ) (entry : Entry) (entries : List Entry) → is_ascending_past n (entry ∷ entries) ≡ true → Steps n entry entries
 steps n entry entries h =
-    let both = and_first (ltb n entry.number && not (ltb 536870911 entry.number)) (ascends_behind entry.number entries) h in
+    let both = and_first (ltb n entry.number && not (ltb 536870911 entry.number)) (is_ascending_past entry.number entries) h in
     record {
       above = ltb-true n entry.number (and_first (ltb n entry.number) (not (ltb 536870911 entry.number)) both);
       most = ltb-false 536870911 entry.number (true_not _ (and_second (ltb n entry.number) (not (ltb 536870911 entry.number)) both));
-      rest = and_second (ltb n entry.number && not (ltb 536870911 entry.number)) (ascends_behind entry.number entries) h;
+      rest = and_second (ltb n entry.number && not (ltb 536870911 entry.number)) (is_ascending_past entry.number entries) h;
     }
 
-ascends_in : (n : ℕ) (entries : List Entry) → ascends_behind n entries ≡ true → Ascends n entries
+ascends_in : (n : ℕ) (entries : List Entry) → is_ascending_past n entries ≡ true → Ascends n entries
 ascends_in n [] h = tt
 ascends_in n (entry ∷ entries) h = let s = steps n entry entries h in (s.above, ascends_in entry.number entries s.rest)
 
 pub ascends : (entries : List Entry) → is_shape entries ≡ true → Ascends 0 entries
 ascends entries h = ascends_in 0 entries h
 
-numbered_in : (n : ℕ) (entries : List Entry) → ascends_behind n entries ≡ true → AllByRecursion IsNumbered entries
+numbered_in : (n : ℕ) (entries : List Entry) → is_ascending_past n entries ≡ true → AllByRecursion IsNumbered entries
 numbered_in n [] h = tt
 numbered_in n (entry ∷ entries) h = let s = steps n entry entries h in let above = s.above in (record { least = omega arith; most = s.most }, numbered_in entry.number entries s.rest)
 

@@ -20,7 +20,7 @@ use Rattle.canonical.specs.declared.error.CanonError.TheVariants as errors
 use Rattle.canonical.specs.declared.shape.Entry.{Entry}
 use Rattle.canonical.specs.Checking.{GivesUnlessMemory}
 use Rattle.canonical.specs.Known.{SpellsEach, IsFieldOf, is_skipped, AreKnown, any_refusals_of, any_entry_kept, any_kept_if, any_field_kept, any_checked, any_fields_checked}
-use Rattle.canonical.specs.Shape.{entry_of, has_wire_type, keeps_text}
+use Rattle.canonical.specs.Shape.{shape_entry, has_wire_type, keeps_text}
 use Rattle.std.proofs.Math.ListN.{drop_of_length-le}
 use Rattle.canonical.proofs.Behind.{with_front, with_none, as_items}
 use Rattle.canonical.proofs.Columns.{none_holds}
@@ -57,7 +57,7 @@ not_true : (b : Bool) → not b ≡ false → b ≡ true
 not_true true e = refl
 not_true false e = absurd cc
 
-field_facts : (entries : List Entry) (r : Record) (o : Option Entry) → entry_of r.number entries ≡ o → any_kept_if r o ≡ Ok tt → IsFieldOf entries r
+field_facts : (entries : List Entry) (r : Record) (o : Option Entry) → shape_entry r.number entries ≡ o → any_kept_if r o ≡ Ok tt → IsFieldOf entries r
 unfolding any_entry_kept
 field_facts entries r None is e = absurd cc
 field_facts entries r (Some entry) is e =
@@ -68,9 +68,9 @@ known_facts : (entries : List Entry) (skipped : List ℕ) (r : Record) → any_f
 unfolding any_field_kept
 known_facts entries skipped r e = by (is_skipped skipped r.number) refl e
   where
-    by : (b : Bool) → is_skipped skipped r.number ≡ b → cond {A = Result (Unit {0}) CanonError} b (Ok tt) (any_kept_if r (entry_of r.number entries)) ≡ Ok tt → (is_skipped skipped r.number ≡ true) ⊎ IsFieldOf entries r
+    by : (b : Bool) → is_skipped skipped r.number ≡ b → cond {A = Result (Unit {0}) CanonError} b (Ok tt) (any_kept_if r (shape_entry r.number entries)) ≡ Ok tt → (is_skipped skipped r.number ≡ true) ⊎ IsFieldOf entries r
     by true is h = inl is
-    by false is h = inr (field_facts entries r (entry_of r.number entries) refl h)
+    by false is h = inr (field_facts entries r (shape_entry r.number entries) refl h)
 
 entry_given : (entry : Entry) (r : Record) → has_wire_type entry.kind r.value ≡ true → keeps_text entry.kind r.value ≡ true → any_entry_kept entry r ≡ Ok tt
 unfolding any_entry_kept
@@ -83,7 +83,7 @@ either false x e = e
 pub known_given : (entries : List Entry) (skipped : List ℕ) (r : Record) → (is_skipped skipped r.number ≡ true) ⊎ IsFieldOf entries r → any_field_kept entries skipped r ≡ Ok tt
 unfolding any_field_kept
 known_given entries skipped r (inl is) = rw is refl
-known_given entries skipped r (inr f) = either (is_skipped skipped r.number) (any_kept_if r (entry_of r.number entries)) (ap (any_kept_if r) f.listed ∙ entry_given f.entry r f.wire f.text)
+known_given entries skipped r (inr f) = either (is_skipped skipped r.number) (any_kept_if r (shape_entry r.number entries)) (ap (any_kept_if r) f.listed ∙ entry_given f.entry r f.wire f.text)
 
 -- ---- all records
 

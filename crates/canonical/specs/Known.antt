@@ -1,6 +1,7 @@
--- Messages that are read tolerantly: the records may stand in any order and any number, numbers in any groups, and some field
--- numbers are skipped.
-use Rattle.std.specs.Prelude.{◌≡◌, ◌⊎◌, ℕ, Bool, true, ◌==◌, not, List, [], ◌∷◌, ◌++◌, Option, Some, None, Result, Ok, Err, if◌then◌else◌}
+-- Messages that are read tolerantly: the records may stand in any order and any number, numbers in
+-- any groups, and some field numbers are skipped.
+use Rattle.std.specs.Prelude.{◌≡◌, ◌⊎◌, ℕ, Bool, true, ◌==◌, not, List, [], ◌∷◌, ◌++◌, Option, Some}
+use Rattle.std.specs.Prelude.{None, Result, Ok, Err, if◌then◌else◌}
 use Rattle.std.specs.List.{AllByRecursion, flat_map, list_any}
 use Rattle.wire.specs.declared.error.WireError.{WireError}
 use Rattle.wire.specs.declared.error.WireError.TheVariants.{BadWireType}
@@ -12,7 +13,7 @@ use Rattle.canonical.specs.declared.error.CanonError.{CanonError}
 use Rattle.canonical.specs.declared.error.CanonError.TheVariants.{Wire, UnknownField, BadUtf8}
 use Rattle.canonical.specs.declared.shape.Entry.{Entry}
 use Rattle.canonical.specs.Checking.{first_refusal}
-use Rattle.canonical.specs.Shape.{entry_of, has_wire_type, keeps_text}
+use Rattle.canonical.specs.Shape.{shape_entry, has_wire_type, keeps_text}
 
 -- the records of several texts, each cut by itself, one after another
 abbrev pub SpellsEach : List (List ℕ) → List Record → Type 0
@@ -24,7 +25,7 @@ SpellsEach (text ∷ texts) rs =
 -- a record of a field of the shape: it has the wire type of its kind, and a string is UTF-8
 pub record IsFieldOf (entries : List Entry) (r : Record) : Type 0 where
   pub entry : Entry
-  pub listed : entry_of r.number entries ≡ Some entry
+  pub listed : shape_entry r.number entries ≡ Some entry
   pub wire : has_wire_type entry.kind r.value ≡ true
   pub text : keeps_text entry.kind r.value ≡ true
 
@@ -69,7 +70,7 @@ any_kept_if r (Some entry) = any_entry_kept entry r
 
 unfoldable pub any_field_kept : List Entry → List ℕ → Record → Result (Unit {0}) CanonError
 any_field_kept entries skipped r =
-    if is_skipped skipped r.number then Ok tt else any_kept_if r (entry_of r.number entries)
+    if is_skipped skipped r.number then Ok tt else any_kept_if r (shape_entry r.number entries)
 
 -- the records, up to the first that can't be read or breaks a rule
 unfoldable pub any_checked : List Entry → List ℕ → List (Result Record WireError)

@@ -26,7 +26,8 @@ pub fn check_any<'a, A: Allocator>(
     skipped: &[u32],
     texts: &[&'a [u8]],
 ) -> Result<Vec<Field<'a>, A>, CanonError>
-    // What is accepted is spelled by records that are known, and what such records spell is accepted.
+    // What is accepted is spelled by records that are known, and what such records spell is
+    // accepted.
     ensures found { AllByRecursion IsBytes (slices texts.now)
         → IfOk result (λ v. AreRead shape.now skipped.now (slices texts.now) (records_of v.items)) }
     ensures only { (rs : List Record) → AllByRecursion IsBytes (slices texts.now)

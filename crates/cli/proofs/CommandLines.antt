@@ -5,8 +5,8 @@ use Rattle.std.specs.Option.{option_map_or}
 use Rattle.std.proofs.lemmas.Bool.{iff_false}
 use Rattle.clap.specs.Words.{Row, Text}
 use Rattle.verifier.specs.Verdict.{IsYes}
-use Rattle.command_lines.specs.CommandLine.{Calls, options_of}
-use Rattle.cli.specs.Printed.{Does, GetsBlob, LacksBlob, PrintsVerdict, PrintsYes, PrintsNo, WritesBlob}
+use Rattle.command_lines.specs.CommandLine.{CallsCommand, options_of}
+use Rattle.cli.specs.Printed.{IsCalledAndDone, GetsBlob, LacksBlob, PrintsVerdict, PrintsYes, PrintsNo, WritesBlob}
 
 -- the rows of the subcommand that was found are those of the one that the words call
 pub options_found : (found called : Option (Text × List Row)) (rows : List Row) → found ≡ called → Some rows ≡ option_map (λ p. p.1) found → rows ≡ option_map_or (λ p. p.1) called []
@@ -23,20 +23,20 @@ IsAnswer rows old new positive = (prints : PrintsVerdict rows old new) × (IsTru
 said : (words : List Text) {rows : List Row} {old new : Option (List ℕ)} {positive : Bool} → rows ≡ options_of words → IsAnswer rows old new positive → IsAnswer (options_of words) old new positive
 said words {rows} {old} {new} {positive} is h = subst (λ (options : List Row). IsAnswer options old new positive) is h
 
-pub yes_printed : (words : List Text) {rows : List Row} {old new : Option (List ℕ)} {positive : Bool} → Calls words (codes "verify") → rows ≡ options_of words → IsAnswer rows old new positive → positive ≡ true → PrintsYes words old new
+pub yes_printed : (words : List Text) {rows : List Row} {old new : Option (List ℕ)} {positive : Bool} → CallsCommand words (codes "verify") → rows ≡ options_of words → IsAnswer rows old new positive → positive ≡ true → PrintsYes words old new
 yes_printed words called is h true_is = let s = said words is h in record { called = called; prints = s.0; positive = s.1.0 true_is }
 
-pub no_printed : (words : List Text) {rows : List Row} {old new : Option (List ℕ)} {positive : Bool} → Calls words (codes "verify") → rows ≡ options_of words → IsAnswer rows old new positive → positive ≡ false → PrintsNo words old new
+pub no_printed : (words : List Text) {rows : List Row} {old new : Option (List ℕ)} {positive : Bool} → CallsCommand words (codes "verify") → rows ≡ options_of words → IsAnswer rows old new positive → positive ≡ false → PrintsNo words old new
 no_printed words called is h false_is = let s = said words is h in record { called = called; prints = s.0; negative = iff_false s.1 false_is }
 
-pub did : (command : Text) (done : List Row → Option (List ℕ) → Option (List ℕ) → Type 0) (words : List Text) {rows : List Row} {old new : Option (List ℕ)} → Calls words command → rows ≡ options_of words → done rows old new → Does command done words old new
+pub did : (command : Text) (done : List Row → Option (List ℕ) → Option (List ℕ) → Type 0) (words : List Text) {rows : List Row} {old new : Option (List ℕ)} → CallsCommand words command → rows ≡ options_of words → done rows old new → IsCalledAndDone command done words old new
 did command done words {rows} {old} {new} called is h = record { called = called; is = subst (λ (options : List Row). done options old new) is h }
 
 got : (words : List Text) {rows : List Row} {old new : Option (List ℕ)} {found b : Bool} → rows ≡ options_of words → GetsBlob rows old new found → found ≡ b → GetsBlob (options_of words) old new b
 got words {rows} {old} {new} {found} is h found_is = subst (λ (b : Bool). GetsBlob (options_of words) old new b) found_is (subst (λ (options : List Row). GetsBlob options old new found) is h)
 
-pub blob_written : (words : List Text) {rows : List Row} {old new : Option (List ℕ)} {found : Bool} → Calls words (codes "get") → rows ≡ options_of words → GetsBlob rows old new found → found ≡ true → WritesBlob words old new
+pub blob_written : (words : List Text) {rows : List Row} {old new : Option (List ℕ)} {found : Bool} → CallsCommand words (codes "get") → rows ≡ options_of words → GetsBlob rows old new found → found ≡ true → WritesBlob words old new
 blob_written words called is h true_is = record { called = called; is = got words is h true_is }
 
-pub blob_lacked : (words : List Text) {rows : List Row} {old new : Option (List ℕ)} {found : Bool} → Calls words (codes "get") → rows ≡ options_of words → GetsBlob rows old new found → found ≡ false → LacksBlob words old new
+pub blob_lacked : (words : List Text) {rows : List Row} {old new : Option (List ℕ)} {found : Bool} → CallsCommand words (codes "get") → rows ≡ options_of words → GetsBlob rows old new found → found ≡ false → LacksBlob words old new
 blob_lacked words called is h false_is = record { called = called; is = got words is h false_is }

@@ -9,12 +9,15 @@ use Rattle.remote.specs.declared.files.FileError.{FileError}
 use Rattle.remote.specs.declared.files.FileError.TheVariants as files
 use Rattle.std.specs.declared.alloc.Global.{Global}
 use Rattle.cli.specs.declared.error.CliError.{CliError}
-use Rattle.cli.specs.declared.error.CliError.TheVariants.{Words, Digest, File, NotAFile, TooLarge, Output, Memory}
+use Rattle.cli.specs.declared.error.CliError.TheVariants.{Words, Digest, File, NotAFile, TooLarge}
+use Rattle.cli.specs.declared.error.CliError.TheVariants.{Output, Memory}
 
 -- the text of an option spells no digest, or memory ran out
 abbrev pub IsDigestFault : List ℕ → List ℕ → CliError → Type 0
 IsDigestFault option text (Digest o t fault) =
-    (o.now ≡ option) × (string_bytes t ≡ text) × ((d : DigestValue) → IsDigest d → ¬ (text ≡ digest_text d)) × ((fault ≡ BadHex) ↔ ¬ BeginsWithHash text)
+    (o.now ≡ option) × (string_bytes t ≡ text)
+    × ((d : DigestValue) → IsDigest d → ¬ (text ≡ digest_text d))
+    × ((fault ≡ BadHex) ↔ ¬ BeginsWithHash text)
 IsDigestFault option text Memory = Unit {0}
 IsDigestFault option text _ = ⊥
 
@@ -33,7 +36,8 @@ IsFileFault path (TooLarge p) = string_bytes p ≡ path
 IsFileFault path Memory = Unit {0}
 IsFileFault path _ = ⊥
 
--- where clap gave no matches: the words are at fault, or help or the version could not be printed, or memory ran out
+-- where clap gave no matches: the words are at fault, or help or the version could not be printed,
+-- or memory ran out
 abbrev pub IsShownFault : ErrorKind → CliError → Type 0
 IsShownFault kind (Words text) = (kind ≢ DisplayHelp) × (kind ≢ DisplayVersion)
 IsShownFault kind (Output fault) = (kind ≡ DisplayHelp) ⊎ (kind ≡ DisplayVersion)

@@ -1,5 +1,6 @@
 -- What a command prints, and what it was asked.
-use Rattle.std.specs.Prelude.{◌≡◌, ◌⊎◌, ℕ, true, Bool, false, List, [], ◌∷◌, ◌++◌, Option, None, IsSome, codes}
+use Rattle.std.specs.Prelude.{◌≡◌, ◌⊎◌, ℕ, true, Bool, false, List, [], ◌∷◌, ◌++◌, Option, None}
+use Rattle.std.specs.Prelude.{IsSome, codes}
 use Rattle.std.specs.Io.KnownBytes.{Appends}
 use Rattle.std.specs.declared.alloc.Global.{Global}
 use Rattle.blob_digest.specs.Digest.{DigestValue}
@@ -12,9 +13,9 @@ use Rattle.blob_source.specs.Source.{Telling}
 use Rattle.verifier.specs.declared.verdict.Verdict.{Verdict}
 use Rattle.verifier.specs.Verdict.{IsYes}
 use Rattle.text_verifier.specs.Answered.{IsJudged}
-use Rattle.text_verifier.specs.Texts.{HasTexts, Question, Spells}
+use Rattle.text_verifier.specs.Texts.{HasTexts, Question, IsDigestText}
 use Rattle.cli.specs.Got.{Writes}
-use Rattle.command_lines.specs.CommandLine.{Calls, AsksForHelp, option_text, options_of}
+use Rattle.command_lines.specs.CommandLine.{CallsCommand, AsksForHelp, option_text, options_of}
 
 -- the options name a store folder, and nothing of a server
 pub record NamesStore (options : List Row) : Type 0 where
@@ -50,35 +51,36 @@ pub record PrintsVerdict (options : List Row) (old new : Option (List ℕ)) : Ty
 
 -- the words call `verify`, and the line of its yes was printed
 pub record PrintsYes (words : List Text) (old new : Option (List ℕ)) : Type 0 where
-  pub called : Calls words (codes "verify")
+  pub called : CallsCommand words (codes "verify")
   pub prints : PrintsVerdict (options_of words) old new
   pub positive : IsYes prints.verdict
 
 -- the words call `verify`, and the line of its no was printed
 pub record PrintsNo (words : List Text) (old new : Option (List ℕ)) : Type 0 where
-  pub called : Calls words (codes "verify")
+  pub called : CallsCommand words (codes "verify")
   pub prints : PrintsVerdict (options_of words) old new
   pub negative : ¬ IsYes prints.verdict
 
 -- the blob was written, or a server told that there is none, whose digest the options spell
 pub record GetsBlob (options : List Row) (old new : Option (List ℕ)) (found : Bool) : Type 0 where
   pub digest : DigestValue
-  pub spelled : Spells (option_text options (codes "digest")) digest
+  pub spelled : IsDigestText (option_text options (codes "digest")) digest
   pub writes : Writes digest old new found
 
 -- the words call this command, and this was done
-pub record Does (command : Text) (done : List Row → Option (List ℕ) → Option (List ℕ) → Type 0)
+pub record IsCalledAndDone (command : Text)
+    (done : List Row → Option (List ℕ) → Option (List ℕ) → Type 0)
     (words : List Text) (old new : Option (List ℕ)) : Type 0 where
-  pub called : Calls words command
+  pub called : CallsCommand words command
   pub is : done (options_of words) old new
 
 -- the words call `get`, and the bytes of the blob with the digest were written
 abbrev pub WritesBlob : List Text → Option (List ℕ) → Option (List ℕ) → Type 0
-WritesBlob = Does (codes "get") (λ options old new. GetsBlob options old new true)
+WritesBlob = IsCalledAndDone (codes "get") (λ options old new. GetsBlob options old new true)
 
 -- the words call `get`, a server told that it has no such blob, and nothing was written
 abbrev pub LacksBlob : List Text → Option (List ℕ) → Option (List ℕ) → Type 0
-LacksBlob = Does (codes "get") (λ options old new. GetsBlob options old new false)
+LacksBlob = IsCalledAndDone (codes "get") (λ options old new. GetsBlob options old new false)
 
 -- the line of a digest was printed, under which a server was then told to have the blob that has it
 pub record PrintsDigest (options : List Row) (old new : Option (List ℕ)) : Type 0 where
@@ -89,7 +91,7 @@ pub record PrintsDigest (options : List Row) (old new : Option (List ℕ)) : Typ
 
 -- the words call `put`, and the line of the digest of what was put was printed
 abbrev pub PrintsPut : List Text → Option (List ℕ) → Option (List ℕ) → Type 0
-PrintsPut = Does (codes "put") PrintsDigest
+PrintsPut = IsCalledAndDone (codes "put") PrintsDigest
 
 -- an address was printed, to listen on
 pub record PrintsAddress (old new : Option (List ℕ)) : Type 0 where
@@ -98,7 +100,7 @@ pub record PrintsAddress (old new : Option (List ℕ)) : Type 0 where
 
 -- the words call `serve`, and the line of an address was printed
 abbrev pub PrintsListening : List Text → Option (List ℕ) → Option (List ℕ) → Type 0
-PrintsListening = Does (codes "serve") (λ options old new. PrintsAddress old new)
+PrintsListening = IsCalledAndDone (codes "serve") (λ options old new. PrintsAddress old new)
 
 -- the line of a yes was printed, or a blob was written, or the digest printed of one that was put,
 -- or the address that was served, or nothing but help or the version was asked for

@@ -6,7 +6,7 @@ use Rattle.tree.specs.Form.{NodeValue, root}
 use Rattle.tree.specs.Tree.{Tree}
 
 -- the digest of the tree whose list the entries are
-pub record IsRootOf (entries : FlatValue) (digest : DigestValue) : Type 0 where
+pub record IsFolderRoot (entries : FlatValue) (digest : DigestValue) : Type 0 where
   pub tree : Tree NodeValue
   pub list : IsListOf entries tree
   pub is : digest ≡ root tree

@@ -13,7 +13,8 @@ use Rattle.text_verifier.specs.Refused.{IsNoDigest, IsSpelled}
 use Rattle.text_verifier.specs.Texts.{HasPlan, HasTexts, Question}
 use Rattle.command_lines.specs.CommandLine.{option_text}
 use Rattle.cli.specs.declared.error.CliError.{CliError}
-use Rattle.cli.specs.declared.error.CliError.TheVariants.{Words, Number, Unlike, Digest, Text, Memory}
+use Rattle.cli.specs.declared.error.CliError.TheVariants.{Words, Number, Unlike, Digest, Text}
+use Rattle.cli.specs.declared.error.CliError.TheVariants.{Memory}
 use Rattle.cli.specs.Faults.{IsFileFault}
 use Rattle.cli.specs.Printed.{NamesPlace}
 use Rattle.cli.specs.Status.{status_of}
@@ -44,12 +45,12 @@ pub record HasQuestion (options : List Row) : Type 0 where
 -- ---- faults
 
 -- the words name no place, or say a number, an address or a prefix that is none
-abbrev pub IsWordsFault : CliError → Type 0
-IsWordsFault (Words text) = Unit {0}
-IsWordsFault (Number option greatest text) = Unit {0}
-IsWordsFault (Unlike option wanted text) = Unit {0}
-IsWordsFault Memory = Unit {0}
-IsWordsFault _ = ⊥
+abbrev pub IsCommandFault : CliError → Type 0
+IsCommandFault (Words text) = Unit {0}
+IsCommandFault (Number option greatest text) = Unit {0}
+IsCommandFault (Unlike option wanted text) = Unit {0}
+IsCommandFault Memory = Unit {0}
+IsCommandFault _ = ⊥
 
 -- the text of an option spells no digest
 pub record IsNoDigestOf (options : List Row) (option text : List ℕ) (fault : DigestError)
@@ -60,7 +61,8 @@ pub record IsNoDigestOf (options : List Row) (option text : List ℕ) (fault : D
 -- the digest of the sources is at fault, or else that of the claim
 abbrev pub FailsDigests : List Row → CliError → Type 0
 FailsDigests options (Digest option text fault) =
-    ((option.now ≡ codes "sources") × IsNoDigestOf options (codes "sources") (string_bytes text) fault)
+    ((option.now ≡ codes "sources")
+    × IsNoDigestOf options (codes "sources") (string_bytes text) fault)
     ⊎ ((option.now ≡ codes "claim") × IsSpelled (option_text options (codes "sources"))
     × IsNoDigestOf options (codes "claim") (string_bytes text) fault)
 FailsDigests options Memory = Unit {0}
@@ -82,7 +84,7 @@ FailsRecord options plan e = IsFileFault (option_text options (codes "record")) 
 
 -- the first fault: what comes before it has none
 pub data FailsVerify (options : List Row) (e : CliError) : Type 0 where
-  in_words : IsWordsFault e → FailsVerify options e
+  in_words : IsCommandFault e → FailsVerify options e
   in_digests : NamesPlace options → FailsDigests options e → FailsVerify options e
   in_plan : HasDigests options → FailsPlan options e → FailsVerify options e
   in_record : (plan : PlanValue) → HasPlanToo options plan → FailsRecord options plan e
@@ -90,7 +92,7 @@ pub data FailsVerify (options : List Row) (e : CliError) : Type 0 where
   in_work : HasQuestion options → status_of e ≡ 3 → FailsVerify options e
 
 -- an error with this status is the first fault
-pub record IsRefused (options : List Row) (status : ℕ) : Type 0 where
+pub record EndsRefused (options : List Row) (status : ℕ) : Type 0 where
   pub error : CliError
   pub first : FailsVerify options error
   pub status_is : status_of error ≡ status
@@ -99,9 +101,11 @@ pub record IsRefused (options : List Row) (status : ℕ) : Type 0 where
 
 abbrev pub IsToldAs : List Row → TextError → CliError → Type 0
 IsToldAs options (texts.Sources fault) (Digest option text f) =
-    (option.now ≡ codes "sources") × (string_bytes text ≡ option_text options (codes "sources")) × (f ≡ fault)
+    (option.now ≡ codes "sources") × (string_bytes text ≡ option_text options (codes "sources"))
+    × (f ≡ fault)
 IsToldAs options (texts.Claim fault) (Digest option text f) =
-    (option.now ≡ codes "claim") × (string_bytes text ≡ option_text options (codes "claim")) × (f ≡ fault)
+    (option.now ≡ codes "claim") × (string_bytes text ≡ option_text options (codes "claim"))
+    × (f ≡ fault)
 IsToldAs options (texts.Plan fault) (Text path f) =
     (string_bytes path ≡ option_text options (codes "plan")) × (f ≡ fault)
 IsToldAs options (texts.Record fault) (Text path f) =

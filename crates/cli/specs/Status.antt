@@ -1,10 +1,13 @@
 -- The statuses of a command that ends without its answer.
 use Rattle.std.specs.Prelude.{ℕ}
 use Rattle.cli.specs.declared.error.CliError.{CliError}
-use Rattle.cli.specs.declared.error.CliError.TheVariants.{Words, Digest, Number, Text, Unlike, File, NotAFile, TooLarge, Entry, Connection, Server, WrongBytes, Address, Random, Output, Memory}
+use Rattle.cli.specs.declared.error.CliError.TheVariants.{Words, Digest, Number, Text, Unlike, File}
+use Rattle.cli.specs.declared.error.CliError.TheVariants.{NotAFile, TooLarge, Entry, Connection}
+use Rattle.cli.specs.declared.error.CliError.TheVariants.{Server, WrongBytes, Address, Random}
+use Rattle.cli.specs.declared.error.CliError.TheVariants.{Output, Memory}
 
--- 2 where the words or the texts that they name are at fault, and 3 where a file, a socket, a server,
--- the output or memory is
+-- 2 where the words or the texts that they name are at fault, and 3 where a file, a socket, a
+-- server, the output or memory is
 abbrev pub status_of : CliError → ℕ
 status_of (Words text) = 2
 status_of (Digest option text fault) = 2

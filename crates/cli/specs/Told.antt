@@ -1,7 +1,7 @@
 -- What standard error is told.
-use Rattle.std.specs.Prelude.{◌≡◌, ◌≢◌, ℕ, List, [], ◌∷◌, ◌++◌, Option, codes}
-use Rattle.std.specs.List.{All}
+use Rattle.std.specs.Prelude.{◌≡◌, ℕ, ◌<◌, List, [], ◌∷◌, ◌++◌, length, Option, codes}
 use Rattle.std.specs.Io.KnownBytes.{Appends}
+use Rattle.report.specs.Line.{HasNoNewline}
 
 -- a text was appended up to this rest of it
 pub record AppendsUpTo (old new : Option (List ℕ)) (text rest : List ℕ) : Type 0 where
@@ -14,10 +14,22 @@ pub record AppendsBeginning (old new : Option (List ℕ)) (text : List ℕ) : Ty
   pub rest : List ℕ
   pub up_to : AppendsUpTo old new text rest
 
+-- a beginning of a text was appended, and not the whole
+pub record AppendsPart (old new : Option (List ℕ)) (text : List ℕ) : Type 0 where
+  pub rest : List ℕ
+  pub some : 0 < length rest
+  pub up_to : AppendsUpTo old new text rest
+
+-- what was printed has no newline, so that no line is whole
+pub record PrintsNoLine (old new : Option (List ℕ)) : Type 0 where
+  pub text : List ℕ
+  pub unbroken : HasNoNewline text
+  pub printed : Appends old new text
+
 -- one line, which begins `error: `
 pub record IsErrorLine (line : List ℕ) : Type 0 where
   pub told : List ℕ
-  pub one : All (λ b. b ≢ 10) told
+  pub one : HasNoNewline told
   pub line_is : line ≡ codes "error: " ++ (told ++ 10 ∷ [])
 
 -- one such line was appended, or a beginning of it

@@ -3,7 +3,7 @@ ghost use Rattle.blob_digest.specs.Digest.{digest_of};
 ghost use Rattle.blob_source.specs.Sink.{HasRight};
 ghost use Rattle.clap.specs.Words.{found_of, rows_of};
 ghost use Rattle.command_lines.specs.CommandLine.{option_text};
-ghost use Rattle.cli.specs.Refusal.{IsWordsFault};
+ghost use Rattle.cli.specs.Refusal.{IsCommandFault};
 ghost use Rattle.cli.specs.Status.{status_of};
 ghost use Rattle.remote.specs.Remote.{IsFreshRemote, telling_of};
 
@@ -52,7 +52,7 @@ fn is_address(text: &str) -> bool {
 
 fn read_host(alloc: Global, address: &str) -> Result<Host<Global>, CliError>
     ensures host { IfOk result (λ host. host ≡ address.now) }
-    ensures fault { IfErr result IsWordsFault }
+    ensures fault { IfErr result IsCommandFault }
 {
     let host = Host::read(alloc, address)?;
     match host {
@@ -62,7 +62,7 @@ fn read_host(alloc: Global, address: &str) -> Result<Host<Global>, CliError>
 }
 
 fn read_timeout(alloc: Global, matches: &ArgMatches<'_>) -> Result<Option<Duration>, CliError>
-    ensures { IfErr result IsWordsFault }
+    ensures { IfErr result IsCommandFault }
 {
     let Some(text) = option_of(matches, "timeout") else {
         return Ok(Some(Duration::from_secs(SILENT)));
@@ -79,8 +79,9 @@ pub(crate) fn read_prefix(
     alloc: Global,
     matches: &ArgMatches<'_>,
 ) -> Result<Prefix<Global>, CliError>
-    ensures prefix { IfOk result (λ prefix. prefix ≡ option_text (rows_of (found_of matches.now)) (codes "prefix")) }
-    ensures fault { IfErr result IsWordsFault }
+    ensures prefix { IfOk result
+        (λ prefix. prefix ≡ option_text (rows_of (found_of matches.now)) (codes "prefix")) }
+    ensures fault { IfErr result IsCommandFault }
 {
     let text = text_of(matches, "prefix");
     match Prefix::read(alloc, text.as_bytes())? {
@@ -96,8 +97,9 @@ pub(crate) fn read_server<'a>(
     address: &'a str,
 ) -> Result<Server<'a>, CliError>
     ensures host { IfOk result (λ server. server.host ≡ address.now) }
-    ensures prefix { IfOk result (λ server. server.prefix ≡ option_text (rows_of (found_of matches.now)) (codes "prefix")) }
-    ensures fault { IfErr result IsWordsFault }
+    ensures prefix { IfOk result
+        (λ server. server.prefix ≡ option_text (rows_of (found_of matches.now)) (codes "prefix")) }
+    ensures fault { IfErr result IsCommandFault }
 {
     let host = read_host(alloc, address)?;
     let timeout = read_timeout(alloc, matches)?;

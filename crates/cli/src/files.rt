@@ -44,7 +44,8 @@ pub(crate) fn file_error<R: AllocGlobal>(
 ) -> Result<CliError, CliError>
     ensures fault { MatchResult result (IsFileFault path.now) (IsFileFault path.now) }
     ensures memory { error_kind fault ≡ ErrorKind.OutOfMemory → result ≡ Ok CliError.Memory }
-    ensures other { error_kind fault ≢ ErrorKind.OutOfMemory → IfOk result (λ told. told ≢ CliError.Memory) }
+    ensures other { error_kind fault ≢ ErrorKind.OutOfMemory
+        → IfOk result (λ told. told ≢ CliError.Memory) }
 {
     if fault.kind() == ErrorKind::OutOfMemory {
         return Ok(CliError::Memory);

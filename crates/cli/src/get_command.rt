@@ -41,7 +41,8 @@ fn write_blob<S: Stream + Drop, O: Write>(
     }
 }
 
-/// Writes the bytes of the blob whose digest the words spell, and answers whether the server has it.
+/// Writes the bytes of the blob whose digest the words spell, and answers whether the server has
+/// it.
 pub(crate) fn run_get<R, O: Write>(
     rt: &R,
     matches: &ArgMatches<'_>,
@@ -49,8 +50,10 @@ pub(crate) fn run_get<R, O: Write>(
 ) -> Result<bool, CliError>
 where
     R: AllocGlobal + Net<Stream = TcpStream>,
-    ensures answered { IfOk result (GetsBlob (rows_of (found_of matches.now)) (O.contents out.old) (O.contents out.new)) }
-    ensures unprinted { IfErr result (λ fault. status_of fault ≡ 2 → O.contents out.new ≡ O.contents out.old) }
+    ensures answered { IfOk result
+        (GetsBlob (rows_of (found_of matches.now)) (O.contents out.old) (O.contents out.new)) }
+    ensures unprinted { IfErr result
+        (λ fault. status_of fault ≡ 2 → O.contents out.new ≡ O.contents out.old) }
 {
     let server = read_server(rt.alloc(), matches, text_of(matches, "server"))?;
     let digest = read_digest(rt.alloc(), matches, "digest")?;

@@ -2,8 +2,8 @@ ghost use Rattle.std.specs.Prelude.{IfErr, IfOk};
 ghost use Rattle.clap.specs.Words.{found_of, rows_of};
 ghost use Rattle.command_lines.specs.CommandLine.{option_text};
 ghost use Rattle.cli.specs.Faults.{IsDigestFault};
-ghost use Rattle.cli.specs.Refusal.{IsWordsFault};
-ghost use Rattle.text_verifier.specs.Texts.{Spells};
+ghost use Rattle.cli.specs.Refusal.{IsCommandFault};
+ghost use Rattle.text_verifier.specs.Texts.{IsDigestText};
 
 use crate::error::CliError;
 use blob_digest::Digest;
@@ -17,8 +17,10 @@ pub(crate) fn read_digest(
     matches: &ArgMatches<'_>,
     option: &'static str,
 ) -> Result<Digest, CliError>
-    ensures found { IfOk result (Spells (option_text (rows_of (found_of matches.now)) option.now)) }
-    ensures fault { IfErr result (IsDigestFault option.now (option_text (rows_of (found_of matches.now)) option.now)) }
+    ensures found { IfOk result
+        (IsDigestText (option_text (rows_of (found_of matches.now)) option.now)) }
+    ensures fault { IfErr result
+        (IsDigestFault option.now (option_text (rows_of (found_of matches.now)) option.now)) }
 {
     let text = text_of(matches, option);
     match Digest::read_text(text.as_bytes()) {
@@ -38,7 +40,7 @@ pub(crate) fn unlike(
     wanted: &'static str,
     text: &str,
 ) -> Result<CliError, AllocError>
-    ensures { IfOk result IsWordsFault }
+    ensures { IfOk result IsCommandFault }
 {
     Ok(CliError::Unlike {
         option,

@@ -4,7 +4,7 @@ ghost use Rattle.blob_digest.specs.Text.{digest_text};
 ghost use Rattle.blob_source.specs.Sink.{HasRight};
 ghost use Rattle.clap.specs.Words.{found_of, rows_of};
 ghost use Rattle.cli.specs.Printed.{PrintsDigest};
-ghost use Rattle.cli.specs.Put.{IsRootOf};
+ghost use Rattle.cli.specs.Put.{IsFolderRoot};
 ghost use Rattle.cli.specs.Status.{status_of};
 ghost use Rattle.remote.specs.Remote.{telling_of};
 
@@ -184,7 +184,7 @@ fn put_directories<S: Stream + Drop>(
     client: &mut Client<'_, S>,
     tree: &FlatTree<Global>,
 ) -> Result<Digest, CliError>
-    ensures root { IfOk result (IsRootOf tree.now) }
+    ensures root { IfOk result (IsFolderRoot tree.now) }
     ensures held { IfOk result (HasRight (telling_of client.new.remote).blobs) }
 {
     let folded = fold(alloc, tree)?;
@@ -221,7 +221,8 @@ fn put_path<R: Files + AllocGlobal, S: Stream + Drop>(
 
 /// Prints the line of a digest.
 fn print_digest<O: Write>(alloc: Global, digest: &Digest, out: &mut O) -> Result<(), CliError>
-    ensures printed { OnOk result (Appends (O.contents out.old) (O.contents out.new) (digest_text digest.now ++ 10 ∷ [])) }
+    ensures printed { OnOk result
+        (Appends (O.contents out.old) (O.contents out.new) (digest_text digest.now ++ 10 ∷ [])) }
     ensures fault { IfErr result (λ e. status_of e ≡ 3) }
 {
     let mut line = digest.write_text(alloc)?;
@@ -239,8 +240,10 @@ pub(crate) fn run_put<R, O: Write>(
 ) -> Result<(), CliError>
 where
     R: AllocGlobal + Files + Net<Stream = TcpStream>,
-    ensures printed { OnOk result (PrintsDigest (rows_of (found_of matches.now)) (O.contents out.old) (O.contents out.new)) }
-    ensures unprinted { IfErr result (λ fault. status_of fault ≡ 2 → O.contents out.new ≡ O.contents out.old) }
+    ensures printed { OnOk result
+        (PrintsDigest (rows_of (found_of matches.now)) (O.contents out.old) (O.contents out.new)) }
+    ensures unprinted { IfErr result
+        (λ fault. status_of fault ≡ 2 → O.contents out.new ≡ O.contents out.old) }
 {
     let server = read_server(rt.alloc(), matches, text_of(matches, "server"))?;
     let mut client = open(rt, &server)?;

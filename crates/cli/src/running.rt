@@ -1,11 +1,12 @@
-ghost use Rattle.std.specs.Prelude.{◌≡◌, ◌⊎◌, ◌<◌, ◌≤◌, Err, IfErr, IfOk, codes, map, string_bytes};
+ghost use Rattle.std.specs.Prelude.{◌≡◌, ◌≢◌, ◌⊎◌, ◌<◌, ◌≤◌, Err, IfErr, IfOk, OnErr, codes, map};
+ghost use Rattle.std.specs.Prelude.{string_bytes};
 ghost use Rattle.clap.specs.Words.{kind_of};
 ghost use Rattle.cli.specs.Faults.{IsShownFault};
 ghost use Rattle.cli.specs.Printed.{IsDone, IsNo};
-ghost use Rattle.cli.specs.Refusal.{FailsVerify, IsRefused};
+ghost use Rattle.cli.specs.Refusal.{FailsVerify, EndsRefused};
 ghost use Rattle.cli.specs.Status.{status_of};
-ghost use Rattle.cli.specs.Told.{TellsError};
-ghost use Rattle.command_lines.specs.CommandLine.{Calls, options_of};
+ghost use Rattle.cli.specs.Told.{PrintsNoLine, TellsError};
+ghost use Rattle.command_lines.specs.CommandLine.{CallsCommand, options_of};
 
 use crate::error::CliError;
 use crate::get_command::run_get;
@@ -40,18 +41,23 @@ where
     // With status 0, the words ask for help, or the line of their yes, the blob that they name, the
     // digest of what they put or the address that was served went to standard output, and nothing
     // else.
-    ensures done { result ≡ 0 → IsDone (map string_bytes words.now) (O.contents out.old) (O.contents out.new) }
+    ensures done { result ≡ 0
+        → IsDone (map string_bytes words.now) (O.contents out.old) (O.contents out.new) }
     // With status 1, the line of their no, or the blob that they name isn't there.
-    ensures no { result ≡ 1 → IsNo (map string_bytes words.now) (O.contents out.old) (O.contents out.new) }
+    ensures no { result ≡ 1
+        → IsNo (map string_bytes words.now) (O.contents out.old) (O.contents out.new) }
     // With status 2, nothing was printed.
     ensures unprinted { result ≡ 2 → O.contents out.new ≡ O.contents out.old }
     // With an answer, standard error stays as it was.
     ensures quiet { result < 2 → E.contents err.new ≡ E.contents err.old }
     // With another status it grew by one line that begins `error: `, or by a beginning of it.
     ensures told { 2 ≤ result → TellsError (E.contents err.old) (E.contents err.new) }
-    // And where the words call `verify`, the error is for the first fault, in its order.
-    ensures refused { 2 ≤ result → Calls (map string_bytes words.now) (codes "verify")
-        → IsRefused (options_of (map string_bytes words.now)) result }
+    // Where the words call `verify`, it printed no whole line then,
+    ensures unended { 2 ≤ result → CallsCommand (map string_bytes words.now) (codes "verify")
+        → PrintsNoLine (O.contents out.old) (O.contents out.new) }
+    // and the error is for the first fault, in its order.
+    ensures refused { 2 ≤ result → CallsCommand (map string_bytes words.now) (codes "verify")
+        → EndsRefused (options_of (map string_bytes words.now)) result }
 {
     match run(rt, words, out) {
         Ok(Ended::Done) => 0,
@@ -67,10 +73,18 @@ fn run<R, O: Write>(rt: &R, words: &[String], out: &mut O) -> Result<Ended, CliE
 where
     R: AllocGlobal + Clock + Files + Log + RandomSource,
     R: Net<Listener = TcpListener, Stream = TcpStream>,
-    ensures done { IfOk result (λ ended. ended ≡ Ended.Done → IsDone (map string_bytes words.now) (O.contents out.old) (O.contents out.new)) }
-    ensures no { IfOk result (λ ended. ended ≡ Ended.No → IsNo (map string_bytes words.now) (O.contents out.old) (O.contents out.new)) }
-    ensures unprinted { IfErr result (λ fault. status_of fault ≡ 2 → O.contents out.new ≡ O.contents out.old) }
-    ensures refused { IfErr result (λ fault. Calls (map string_bytes words.now) (codes "verify")
+    ensures done { IfOk result
+        (λ ended. ended ≡ Ended.Done
+        → IsDone (map string_bytes words.now) (O.contents out.old) (O.contents out.new)) }
+    ensures no { IfOk result
+        (λ ended. ended ≡ Ended.No
+        → IsNo (map string_bytes words.now) (O.contents out.old) (O.contents out.new)) }
+    ensures unprinted { IfErr result
+        (λ fault. status_of fault ≡ 2 → O.contents out.new ≡ O.contents out.old) }
+    ensures unended { OnErr result (CallsCommand (map string_bytes words.now) (codes "verify")
+        → PrintsNoLine (O.contents out.old) (O.contents out.new)) }
+    ensures refused { IfErr result
+        (λ fault. CallsCommand (map string_bytes words.now) (codes "verify")
         → FailsVerify (options_of (map string_bytes words.now)) fault) }
 {
     let matches = match parse(rt.alloc(), words) {
@@ -109,10 +123,15 @@ where
 
 /// What clap answers in place of matches: help and version are printed, and a mistake is told.
 fn shown<R: AllocGlobal, O: Write>(rt: &R, error: Error, out: &mut O) -> Result<Ended, CliError>
-    ensures done { IfOk result (λ ended. (ended ≡ Ended.Done) × ((kind_of error ≡ ErrorKind.DisplayHelp) ⊎ (kind_of error ≡ ErrorKind.DisplayVersion))) }
+    ensures done { IfOk result
+        (λ ended. (ended ≡ Ended.Done)
+        × ((kind_of error ≡ ErrorKind.DisplayHelp) ⊎ (kind_of error ≡ ErrorKind.DisplayVersion))) }
     ensures memory { kind_of error ≡ ErrorKind.OutOfMemory → result ≡ Err CliError.Memory }
+    ensures kept { kind_of error ≢ ErrorKind.DisplayHelp → kind_of error ≢ ErrorKind.DisplayVersion
+        → O.contents out.new ≡ O.contents out.old }
     ensures fault { IfErr result (IsShownFault (kind_of error)) }
-    ensures unprinted { IfErr result (λ fault. status_of fault ≡ 2 → O.contents out.new ≡ O.contents out.old) }
+    ensures unprinted { IfErr result
+        (λ fault. status_of fault ≡ 2 → O.contents out.new ≡ O.contents out.old) }
 {
     if error.kind() == ErrorKind::OutOfMemory {
         return Err(CliError::Memory);

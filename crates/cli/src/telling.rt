@@ -1,35 +1,44 @@
-ghost use Rattle.std.specs.Prelude.{◌≢◌, IfOk};
-ghost use Rattle.std.specs.List.{All};
-ghost use Rattle.cli.specs.Told.{AppendsBeginning, IsErrorLine, TellsError};
+ghost use Rattle.std.specs.Prelude.{◌≡◌, IfOk, IfErr, OnOk, OnErr};
+ghost use Rattle.std.specs.Io.KnownBytes.{Appends};
+ghost use Rattle.cli.specs.Status.{status_of};
+ghost use Rattle.cli.specs.Told.{AppendsPart, IsErrorLine, TellsError};
+ghost use Rattle.report.specs.Line.{HasNoNewline};
 
 use crate::error::CliError;
 use std::alloc::{AllocError, Global};
 use std::io::{ErrorKind, Write};
 
-/// Writes the bytes, or a beginning of them where writing fails.
-fn write_beginning<O: Write>(out: &mut O, bytes: &[u8])
-    ensures { AppendsBeginning (O.contents out.old) (O.contents out.new) bytes.now }
+/// Writes the bytes. Where writing fails, a beginning of them was written, and not all of them.
+pub(crate) fn write_bytes<O: Write>(out: &mut O, bytes: &[u8]) -> Result<(), CliError>
+    ensures written { OnOk result (Appends (O.contents out.old) (O.contents out.new) bytes.now) }
+    ensures part { OnErr result (AppendsPart (O.contents out.old) (O.contents out.new) bytes.now) }
+    ensures fault { IfErr result (λ e. status_of e ≡ 3) }
 {
     let mut rest = bytes;
     for _ in 0..u64::MAX {
         if rest.is_empty() {
-            return;
+            return Ok(());
         }
         match out.write(rest) {
-            Ok(0) => return,
+            Ok(0) => return Err(CliError::Output(ErrorKind::WriteZero.into())),
             Ok(count) => rest = &rest[count..],
             Err(fault) => {
                 if fault.kind() != ErrorKind::Interrupted {
-                    return;
+                    return Err(CliError::Output(fault));
                 }
             }
         }
+    }
+    if rest.is_empty() {
+        Ok(())
+    } else {
+        Err(CliError::Output(ErrorKind::Interrupted.into()))
     }
 }
 
 /// The text in one line: a space stands for each newline.
 fn in_one_line(alloc: Global, text: &[u8]) -> Result<Vec<u8>, AllocError>
-    ensures { IfOk result (λ line. All (λ b. b ≢ 10) line.items) }
+    ensures { IfOk result (λ line. HasNoNewline line.items) }
 {
     let mut line = Vec::new(alloc);
     for byte in text {
@@ -56,9 +65,9 @@ fn error_line(alloc: Global, error: &CliError) -> Result<Vec<u8>, AllocError>
 pub(crate) fn tell<E: Write>(alloc: Global, error: &CliError, err: &mut E)
     ensures { TellsError (E.contents err.old) (E.contents err.new) }
 {
-    match error_line(alloc, error) {
-        Ok(line) => write_beginning(err, &line),
-        Err(_e) => write_beginning(err, b"error: out of memory\n"),
-    }
+    let _ = match error_line(alloc, error) {
+        Ok(line) => write_bytes(err, &line),
+        Err(_e) => write_bytes(err, b"error: out of memory\n"),
+    };
     let _ = err.flush();
 }

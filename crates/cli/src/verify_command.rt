@@ -1,19 +1,24 @@
-ghost use Rattle.std.specs.Prelude.{◌≡◌, ◌↔◌, ℕ, List, IfErr, IfNone, IfOk, IsTrue, None, OnOk, codes, string_bytes};
+ghost use Rattle.std.specs.Prelude.{◌≡◌, ◌↔◌, ℕ, List, IfErr, IfNone, IfOk, IsTrue, None};
+ghost use Rattle.std.specs.Prelude.{OnErr, OnOk, codes, string_bytes};
 ghost use Rattle.std.specs.Io.KnownBytes.{Appends};
 ghost use Rattle.blob_source.specs.Source.{Telling};
 ghost use Rattle.clap.specs.Words.{found_of, first_of, rows_of};
 ghost use Rattle.cli.specs.Printed.{NamesPlace, PrintsVerdict};
-ghost use Rattle.cli.specs.Refusal.{FailsDigests, FailsPlan, FailsRecord, FailsVerify, IsToldAs, IsWordsFault};
+ghost use Rattle.cli.specs.Refusal.{FailsDigests, FailsPlan, FailsRecord, FailsVerify, IsToldAs};
+ghost use Rattle.cli.specs.Refusal.{IsCommandFault};
 ghost use Rattle.cli.specs.Status.{status_of};
+ghost use Rattle.cli.specs.Told.{PrintsNoLine};
 ghost use Rattle.command_lines.specs.CommandLine.{option_text};
 ghost use Rattle.plan.specs.Record.{Fits};
+ghost use Rattle.report.specs.Line.{IsOneLine};
 ghost use Rattle.text_verifier.specs.Answered.{IsAnswer};
-ghost use Rattle.text_verifier.specs.Texts.{HasPlan, HasRecord, Spells, question_of};
+ghost use Rattle.text_verifier.specs.Texts.{HasPlan, HasRecord, IsDigestText, question_of};
 ghost use Rattle.verifier.specs.Verdict.{IsYes};
 
 use crate::connecting::{Server, open, read_server};
 use crate::error::CliError;
 use crate::files::read_file;
+use crate::telling::write_bytes;
 use clap::ArgMatches;
 use command_lines::{option_of, text_of};
 use plan::{Plan, Record};
@@ -68,9 +73,9 @@ fn text_error(
 /// The digests that the words spell.
 fn typed_digests(alloc: Global, matches: &ArgMatches<'_>) -> Result<Digests, CliError>
     ensures sources { IfOk result (λ digests.
-        Spells (option_text (rows_of (found_of matches.now)) (codes "sources")) digests.sources) }
+        IsDigestText (option_text (rows_of (found_of matches.now)) (codes "sources")) digests.sources) }
     ensures claim { IfOk result (λ digests.
-        Spells (option_text (rows_of (found_of matches.now)) (codes "claim")) digests.claim) }
+        IsDigestText (option_text (rows_of (found_of matches.now)) (codes "claim")) digests.claim) }
     ensures fault { IfErr result (FailsDigests (rows_of (found_of matches.now))) }
 {
     let sources = text_of(matches, "sources");
@@ -123,7 +128,7 @@ fn record_in_file<R: Files + AllocGlobal>(
 /// Where the words say that the recorded build is: a store folder or a server, and not both.
 fn read_place<'a>(alloc: Global, matches: &ArgMatches<'a>) -> Result<Place<'a>, CliError>
     ensures place { OnOk result (NamesPlace (rows_of (found_of matches.now))) }
-    ensures fault { IfErr result IsWordsFault }
+    ensures fault { IfErr result IsCommandFault }
 {
     let fault = match (option_of(matches, "store"), option_of(matches, "server")) {
         (Some(folder), None) => match remote_option(matches) {
@@ -141,8 +146,10 @@ fn read_place<'a>(alloc: Global, matches: &ArgMatches<'a>) -> Result<Place<'a>, 
 
 /// An option that says something of a server.
 fn remote_option(matches: &ArgMatches<'_>) -> Option<&'static str>
-    ensures prefix { IfNone result (first_of (codes "prefix") (rows_of (found_of matches.now)) ≡ None) }
-    ensures timeout { IfNone result (first_of (codes "timeout") (rows_of (found_of matches.now)) ≡ None) }
+    ensures prefix { IfNone result
+        (first_of (codes "prefix") (rows_of (found_of matches.now)) ≡ None) }
+    ensures timeout { IfNone result
+        (first_of (codes "timeout") (rows_of (found_of matches.now)) ≡ None) }
 {
     if option_of(matches, "prefix").is_some() {
         return Some("prefix");
@@ -215,16 +222,20 @@ fn judge<R: AllocGlobal + Files + Net<Stream = TcpStream>>(
     }
 }
 
-/// Prints the line of the answer.
+/// Prints the line of the answer, its newline last and alone, so that what an error leaves printed
+/// is no line.
 fn print_line<O: Write>(answer: &Answer<Global>, out: &mut O) -> Result<(), CliError>
+    requires { IsOneLine (string_bytes answer.now.line) }
     ensures printed { OnOk result (Appends (O.contents out.old) (O.contents out.new)
         (string_bytes answer.now.line)) }
+    ensures unended { OnErr result (PrintsNoLine (O.contents out.old) (O.contents out.new)) }
     ensures fault { IfErr result (λ e. status_of e ≡ 3) }
 {
-    out.write_all(answer.line.as_bytes())
-        .map_err(CliError::Output)?;
+    let line = answer.line.as_bytes();
+    let (text, newline) = line.split_at(line.len() - 1);
+    write_bytes(out, text)?;
     out.flush().map_err(CliError::Output)?;
-    Ok(())
+    write_bytes(out, newline)
 }
 
 /// Prints the verdict's line, and answers whether it is yes. The steps are those of
@@ -238,9 +249,12 @@ pub(crate) fn run_verify<R, O: Write>(
 where
     R: AllocGlobal + Files + Net<Stream = TcpStream>,
     ensures printed { IfOk result (λ positive.
-        (prints : PrintsVerdict (rows_of (found_of matches.now)) (O.contents out.old) (O.contents out.new))
+        (prints : PrintsVerdict (rows_of (found_of matches.now)) (O.contents out.old)
+        (O.contents out.new))
         × (IsTrue positive ↔ IsYes prints.verdict)) }
-    ensures unprinted { IfErr result (λ fault. status_of fault ≡ 2 → O.contents out.new ≡ O.contents out.old) }
+    ensures unprinted { IfErr result
+        (λ fault. status_of fault ≡ 2 → O.contents out.new ≡ O.contents out.old) }
+    ensures unended { OnErr result (PrintsNoLine (O.contents out.old) (O.contents out.new)) }
     // A refusal is for the first fault: what comes before it has none.
     ensures refused { IfErr result (FailsVerify (rows_of (found_of matches.now))) }
 {

@@ -1,14 +1,17 @@
 -- The program's command line, and what its words ask for.
-use Rattle.std.specs.Prelude.{◌≡◌, ◌⊎◌, true, List, [], ◌∷◌, ◌++◌, Some, codes, option_map, unwrap_or}
+use Rattle.std.specs.Prelude.{◌≡◌, ◌⊎◌, true, List, [], ◌∷◌, ◌++◌, Some, codes, option_map}
+use Rattle.std.specs.Prelude.{unwrap_or}
 use Rattle.std.specs.Option.{option_map_or}
 use Rattle.clap.specs.Simple.{on_top}
-use Rattle.clap.specs.Words.{App, IsAmong, Row, Rule, Text, fault_of, first_of, new_app, new_rule, subcommand_of, with_rule, with_subcommand}
+use Rattle.clap.specs.Words.{App, IsAmong, Row, Rule, Text, fault_of, first_of, new_app, new_rule}
+use Rattle.clap.specs.Words.{subcommand_of, with_rule, with_subcommand}
 use Rattle.clap.specs.declared.builder.action.ArgAction.TheVariants.{Set}
 use Rattle.clap.specs.declared.error.kind.ErrorKind.TheVariants.{DisplayHelp, DisplayVersion}
 
 -- an option `--NAME VALUE`, and one that a command cannot do without
 abbrev pub optional_option : Text → Rule
-optional_option name = record (new_rule name) { long = Some name; value_names = 1; action = Some Set }
+optional_option name =
+    record (new_rule name) { long = Some name; value_names = 1; action = Some Set }
 
 abbrev pub required_option : Text → Rule
 required_option name =
@@ -31,20 +34,26 @@ takes_word app name = with_rule app (required_word name)
 -- a command that is a client of a server
 abbrev pub client_line : Text → App
 client_line name =
-    may_have (may_have (must_have (new_app name) (codes "server")) (codes "prefix")) (codes "timeout")
+    may_have (may_have (must_have (new_app name) (codes "server")) (codes "prefix"))
+    (codes "timeout")
 
 -- `verify` and its options
 abbrev pub verify_line : App
 verify_line =
     must_have (must_have (must_have (must_have
-    (may_have (may_have (may_have (may_have (new_app (codes "verify")) (codes "server")) (codes "store")) (codes "prefix")) (codes "timeout"))
+    (may_have
+    (may_have (may_have (may_have (new_app (codes "verify")) (codes "server")) (codes "store"))
+    (codes "prefix")) (codes "timeout"))
     (codes "sources")) (codes "plan")) (codes "record")) (codes "claim")
 
 -- `serve` and its options
 abbrev pub serve_line : App
 serve_line =
     may_have (may_have
-    (must_have (must_have (must_have (must_have (new_app (codes "serve")) (codes "listen")) (codes "connections")) (codes "limit")) (codes "result-limit"))
+    (must_have
+    (must_have
+    (must_have (must_have (new_app (codes "serve")) (codes "listen")) (codes "connections"))
+    (codes "limit")) (codes "result-limit"))
     (codes "prefix")) (codes "idle")
 
 -- `put` with a file or a folder, and `get` with a digest
@@ -58,13 +67,19 @@ get_line = takes_word (client_line (codes "get")) (codes "digest")
 abbrev pub program_line : App
 program_line =
     with_subcommand (with_subcommand (with_subcommand (with_subcommand
-    (on_top (λ s. record s { has_version = true; no_binary_name = true; subcommand_required = true; disable_help_subcommand = true }) (new_app (codes "buildcache")))
+    (on_top (λ s.
+    record s {
+      has_version = true;
+      no_binary_name = true;
+      subcommand_required = true;
+      disable_help_subcommand = true;
+    }) (new_app (codes "buildcache")))
     serve_line.top) verify_line.top) put_line.top) get_line.top
 
 -- ---- what the words ask for
 
 -- the words are not at fault, and call this command
-pub record Calls (words : List Text) (command : Text) : Type 0 where
+pub record CallsCommand (words : List Text) (command : Text) : Type 0 where
   pub faultless : fault_of program_line words ≡ []
   pub command_is : option_map (λ p. p.0) (subcommand_of program_line words) ≡ Some command
 
@@ -78,18 +93,21 @@ option_text options name = unwrap_or (first_of name options) []
 
 -- in place of a command's work, the words ask for help or for the version
 abbrev pub AsksForHelp : List Text → Type 0
-AsksForHelp words = IsAmong DisplayHelp (fault_of program_line words) ⊎ IsAmong DisplayVersion (fault_of program_line words)
+AsksForHelp words =
+    IsAmong DisplayHelp (fault_of program_line words)
+    ⊎ IsAmong DisplayVersion (fault_of program_line words)
 
 -- ---- examples
 
 -- `verify`, with each option and its text in one word
 abbrev pub verify_words : Text → Text → Text → Text → Text → List Text
 verify_words store sources plan noted claim =
-    codes "verify" ∷ (codes "--store=" ++ store) ∷ (codes "--sources=" ++ sources) ∷ (codes "--plan=" ++ plan) ∷ (codes "--record=" ++ noted) ∷ (codes "--claim=" ++ claim) ∷ []
+    codes "verify" ∷ (codes "--store=" ++ store) ∷ (codes "--sources=" ++ sources) ∷
+    (codes "--plan=" ++ plan) ∷ (codes "--record=" ++ noted) ∷ (codes "--claim=" ++ claim) ∷ []
 
 -- the words call `verify` with these texts for its options
 pub record AsksVerify (words : List Text) (store sources plan noted claim : Text) : Type 0 where
-  pub called : Calls words (codes "verify")
+  pub called : CallsCommand words (codes "verify")
   pub store_is : option_text (options_of words) (codes "store") ≡ store
   pub sources_are : option_text (options_of words) (codes "sources") ≡ sources
   pub plan_is : option_text (options_of words) (codes "plan") ≡ plan

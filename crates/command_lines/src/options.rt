@@ -6,7 +6,8 @@ use clap::ArgMatches;
 
 /// The text of an option, where it is there.
 pub fn option_of<'a>(matches: &ArgMatches<'a>, option: &'static str) -> Option<&'a str>
-    ensures { option_map (λ s. s.now) result ≡ first_of option.now (rows_of (found_of matches.now)) }
+    ensures { option_map (λ s. s.now) result
+        ≡ first_of option.now (rows_of (found_of matches.now)) }
 {
     matches.get_str(option)
 }

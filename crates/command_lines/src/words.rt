@@ -1,6 +1,9 @@
 ghost use Rattle.std.specs.Prelude.{◌≡◌, IfOk, map, string_bytes, false};
-ghost use Rattle.clap.specs.Words.{FailsBy, app_of, fault_of, rule_of, subcommand_of, subcommand_rows_of};
-ghost use Rattle.command_lines.specs.CommandLine.{optional_option, required_option, required_word, client_line, verify_line, serve_line, put_line, get_line, program_line};
+ghost use Rattle.clap.specs.Words.{FailsBy, app_of, fault_of, rule_of, subcommand_of};
+ghost use Rattle.clap.specs.Words.{subcommand_rows_of};
+ghost use Rattle.command_lines.specs.CommandLine.{optional_option, required_option, required_word};
+ghost use Rattle.command_lines.specs.CommandLine.{client_line, verify_line, serve_line, put_line};
+ghost use Rattle.command_lines.specs.CommandLine.{get_line, program_line};
 
 use clap::{Arg, ArgAction, ArgMatches, Command, Error};
 use std::alloc::{AllocError, Global};
@@ -203,7 +206,8 @@ fn program<'a>(alloc: Global) -> Result<Command<'a>, AllocError>
 /// The program's words, read.
 pub fn parse<'a>(alloc: Global, words: &'a [String]) -> Result<ArgMatches<'a>, Error>
     // The subcommand that they call, and what was found for its options.
-    ensures called { IfOk result (λ m. subcommand_rows_of m ≡ subcommand_of program_line (map string_bytes words.now)) }
+    ensures called { IfOk result
+        (λ m. subcommand_rows_of m ≡ subcommand_of program_line (map string_bytes words.now)) }
     // What they are at fault with, or ask for in place of a command.
     ensures fails { FailsBy (fault_of program_line (map string_bytes words.now)) result }
 {

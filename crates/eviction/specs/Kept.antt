@@ -1,5 +1,6 @@
 -- What a bounded store holds, as contracts see it.
-use Rattle.std.specs.Prelude.{◌≡◌, ℕ, ◌+◌, ◌≤◌, ◌<◌, ◌^◌, Bool, not, nat_lt, List, [], ◌∷◌, length, ◌++◌, Option, option_map}
+use Rattle.std.specs.Prelude.{◌≡◌, ℕ, ◌+◌, ◌≤◌, ◌<◌, ◌^◌, Bool, not, nat_lt, List, [], ◌∷◌, length}
+use Rattle.std.specs.Prelude.{◌++◌, Option, option_map}
 use Rattle.std.specs.List.{filter, IsDistinct}
 use Rattle.std.specs.Map.{keys_of, lookup}
 

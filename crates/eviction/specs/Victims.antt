@@ -1,5 +1,6 @@
 -- What the one pass from the least recent entry picks: words of private functions.
-use Rattle.std.specs.Prelude.{◌≡◌, ℕ, ◌+◌, ◌-◌, Bool, not, ◌||◌, ◌==◌, nat_lt, List, [], ◌∷◌, if◌then◌else◌}
+use Rattle.std.specs.Prelude.{◌≡◌, ℕ, ◌+◌, ◌-◌, Bool, not, ◌||◌, ◌==◌, nat_lt, List, [], ◌∷◌}
+use Rattle.std.specs.Prelude.{if◌then◌else◌}
 use Rattle.std.specs.List.{filter}
 use Rattle.eviction.specs.Kept.{Held, is_pinned, cost_of, total_cost, pinned_cost, others}
 use Rattle.eviction.specs.Pinning.{is_among, pins_of}

@@ -1,9 +1,11 @@
-ghost use Rattle.std.specs.Prelude.{◌≡◌, ◌↔◌, ◌⊎◌, ◌<◌, ◌^◌, [], Some, Err, true, false, IfOk, IfErr, OnOk, OnErr, option_copied};
+ghost use Rattle.std.specs.Prelude.{◌≡◌, ◌↔◌, ◌⊎◌, ◌<◌, ◌^◌, [], Some, Err, true, false, IfOk};
+ghost use Rattle.std.specs.Prelude.{IfErr, OnOk, OnErr, option_copied};
 ghost use Rattle.std.specs.Borrow.{sem};
 ghost use Rattle.std.specs.List.{IsDistinct};
 ghost use Rattle.eviction.specs.Kept.{IsKept, total_cost, touched, bytes_under};
 ghost use Rattle.eviction.specs.Entering.{entered, can_enter};
-ghost use Rattle.eviction.specs.Pinning.{CanPinMore, pins_of, is_held, all_held, all_pinned, pinned_all, unpinned_all};
+ghost use Rattle.eviction.specs.Pinning.{CanPinMore, pins_of, is_held, all_held, all_pinned};
+ghost use Rattle.eviction.specs.Pinning.{pinned_all, unpinned_all};
 
 use crate::entry::{Entry, part_of_pinned, standing_under};
 use crate::error::BoundedError;

@@ -1,7 +1,8 @@
 ghost use Rattle.std.specs.Prelude.{◌≡◌, ℕ, List, ◌∷◌, Some, true};
 ghost use Rattle.std.specs.List.{filter};
 ghost use Rattle.eviction.specs.Kept.{Kept, is_pinned, others};
-ghost use Rattle.eviction.specs.Entering.{entered, can_enter, given_up, new_entry, FitsWithout, IsLeast};
+ghost use Rattle.eviction.specs.Entering.{entered, can_enter, given_up, new_entry, FitsWithout};
+ghost use Rattle.eviction.specs.Entering.{IsLeast};
 
 use std::hash::Hash;
 

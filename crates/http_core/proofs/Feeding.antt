@@ -8,7 +8,7 @@ use Rattle.http_core.specs.declared.judging.Judgement.TheVariants as judgements
 use Rattle.http_core.specs.Event.{EventValue}
 use Rattle.http_core.specs.Judging.{Judges}
 use Rattle.http_core.specs.Stream.{Cuts}
-use Rattle.http_core.specs.Session.{State, Reading, Taking, Closed, SessionValue, Holds, Leaves, Stands, FeedsAll}
+use Rattle.http_core.specs.Session.{SessionState, Reading, Taking, Closed, SessionValue, Holds, Leaves, Stands, FeedsAll}
 use Rattle.http_core.proofs.Blocks.{one_block}
 use Rattle.http_core.proofs.Judged.{judges_once}
 use Rattle.http_core.proofs.Cutting.{cut_once}
@@ -28,7 +28,7 @@ prefix_fed old new [] events (none, same) = ap (λ (s : SessionValue). s.prefix)
 prefix_fed old new (piece ∷ pieces) events (first, mid, others, fed, more, whole) = prefix_fed mid new pieces others more ∙ fed.prefix
 
 -- the state that a judgement leads to, with these bytes of the body
-abbrev taking_of : Judgement → List ℕ → State
+abbrev taking_of : Judgement → List ℕ → SessionState
 taking_of (judgements.Put area hash size close) body = Taking area hash size close body
 taking_of (judgements.Get area hash close) body = Closed
 taking_of (judgements.Refuse status close) body = Closed
@@ -45,7 +45,7 @@ one_taking prefix a b hash other m n c d body rest whole (block, e, ends, fits, 
     by_parts : (i j : Judgement) (x y : List ℕ) → i ≡ j → x ≡ y → taking_of i x ≡ taking_of j y
     by_parts i j x y e f = ap (λ z. taking_of z x) e ∙ ap (λ z. taking_of j z) f
 
-holds_once : (prefix : List ℕ) (a b : State) (rest : List ℕ) → Holds prefix a rest → Holds prefix b rest → a ≡ b
+holds_once : (prefix : List ℕ) (a b : SessionState) (rest : List ℕ) → Holds prefix a rest → Holds prefix b rest → a ≡ b
 holds_once prefix (Reading x) (Reading y) rest (e, none, few) (f, also, less) = ap Reading (sym e ∙ f)
 holds_once prefix (Reading x) (Taking area hash size close body) rest (e, none, few) (block, f, ends, fits, judged, less) = absurd (none block body (sym e ∙ f) ends.ends)
 holds_once prefix (Taking area hash size close body) (Reading x) rest (block, f, ends, fits, judged, less) (e, none, few) = absurd (none block body (sym e ∙ f) ends.ends)
@@ -54,7 +54,7 @@ holds_once prefix Closed b rest h k = absurd h
 holds_once prefix (Reading x) Closed rest h k = absurd k
 holds_once prefix (Taking area hash size close body) Closed rest h k = absurd k
 
-leaves_once : (prefix : List ℕ) (a b : State) (left : Option (List ℕ)) → Leaves prefix a left → Leaves prefix b left → a ≡ b
+leaves_once : (prefix : List ℕ) (a b : SessionState) (left : Option (List ℕ)) → Leaves prefix a left → Leaves prefix b left → a ≡ b
 leaves_once prefix a b None e f = e ∙ sym f
 leaves_once prefix a b (Some rest) h k = holds_once prefix a b rest h k
 

@@ -7,9 +7,9 @@ use Rattle.http_core.specs.declared.event.Area.TheVariants.{Ac, Cas, Pin, Unpin}
 use Rattle.http_core.specs.declared.judging.Judgement.{Judgement}
 use Rattle.http_core.specs.declared.judging.Judgement.TheVariants as judgements
 use Rattle.http_core.specs.Connection.{closes_of}
-use Rattle.http_core.specs.Head.{Parts, parts_of}
+use Rattle.http_core.specs.Head.{Parts, head_parts}
 use Rattle.http_core.specs.Judging.{Judges}
-use Rattle.http_core.specs.Rules.{first_status, rules_of, refusal_of, is_put, length_of, size_of, asked, Targets, Judged, is_served}
+use Rattle.http_core.specs.Rules.{first_status, rules_of, refused_status, is_put, length_of, size_of, asked, Targets, Judged, is_served}
 use Rattle.http_core.specs.Event.{EventValue, Asked, Get, Put, IsServed, IsLawful, IsLawfulIfAny}
 use Rattle.http_core.specs.Session.{IsAllowed, first_event}
 
@@ -21,8 +21,8 @@ none_apply ((false, status) ∷ rules) e = (refl, none_apply rules e)
 not_more : (n : ℕ) → nat_lt greatest_blob n ≡ false → n ≤ greatest_blob
 not_more n e = grind arith
 
-pub size_fits : (minor : ℕ) (method : List ℕ) (fields : List (List ℕ × List ℕ)) → refusal_of minor method fields ≡ None → size_of (length_of fields) ≤ greatest_blob
-unfolding refusal_of
+pub size_fits : (minor : ℕ) (method : List ℕ) (fields : List (List ℕ × List ℕ)) → refused_status minor method fields ≡ None → size_of (length_of fields) ≤ greatest_blob
+unfolding refused_status
 size_fits minor method fields e =
     let all : AllByRecursion (λ r. r.0 ≡ false) (rules_of minor method fields) = none_apply (rules_of minor method fields) e in
     not_more (size_of (length_of fields)) all.1.1.1.1.1.1.1.0
@@ -43,7 +43,7 @@ targets_allowed : (prefix : List ℕ) (put close : Bool) (target : List ℕ) (si
 targets_allowed prefix put close target size j h (inl (area, hash, m, e)) = subst IsAllowed (sym e) (asked_allowed put close size area hash h m.served)
 targets_allowed prefix put close target size j h (inr (none, e)) = subst IsAllowed (sym e) tt
 
-judged_allowed : (prefix : List ℕ) (p : Parts) (status : Option ℕ) (j : Judgement) → refusal_of p.minor p.method p.fields ≡ status → Judged prefix p status j → IsAllowed j
+judged_allowed : (prefix : List ℕ) (p : Parts) (status : Option ℕ) (j : Judgement) → refused_status p.minor p.method p.fields ≡ status → Judged prefix p status j → IsAllowed j
 judged_allowed prefix p (Some status) j e h = subst IsAllowed (sym h) tt
 judged_allowed prefix p None j e h = targets_allowed prefix (is_put p.method) (closes_of p.fields) p.target (size_of (length_of p.fields)) j (size_fits p.minor p.method p.fields e) h
 
@@ -52,8 +52,8 @@ unfolding Judges
 allowed prefix block j (inl x) = subst IsAllowed (sym x.1) tt
 allowed prefix block j (inr (inl x)) = subst IsAllowed (sym x.2) tt
 allowed prefix block j (inr (inr x)) =
-    let p : Parts = parts_of x.1 in
-    judged_allowed prefix p (refusal_of p.minor p.method p.fields) j refl x.3
+    let p : Parts = head_parts x.1 in
+    judged_allowed prefix p (refused_status p.minor p.method p.fields) j refl x.3
 
 empty_fits : (size : ℕ) (b : Bool) (area : Area) (hash : List ℕ) (close : Bool) → IsLawfulIfAny (if b then Some (Asked (Put area hash []) close) else None)
 empty_fits size true area hash close = none_fits

@@ -9,10 +9,10 @@ use Rattle.blob_digest.proofs.HexTexts.{hash_given}
 use Rattle.http_core.specs.declared.event.Area.{Area}
 use Rattle.http_core.specs.declared.event.Area.TheVariants.{Ac, Cas, Pin, Unpin}
 use Rattle.http_core.specs.declared.judging.Judgement.{Judgement}
-use Rattle.http_core.specs.Head.{Parts, parts_of}
+use Rattle.http_core.specs.Head.{Parts, head_parts}
 use Rattle.http_core.specs.Connection.{closes_of}
 use Rattle.http_core.specs.Judging.{Judges, pairs}
-use Rattle.http_core.specs.Rules.{area_text, Names, asked, Targets, Judged, JudgesParts, refusal_of, is_put, size_of, length_of}
+use Rattle.http_core.specs.Rules.{area_text, Names, asked, Targets, Judged, JudgesParts, refused_status, is_put, size_of, length_of}
 
 ok_is : (a b : List ℕ) → ◌≡◌ {A = Result (List ℕ) FromHexError} (Ok a) (Ok b) → a ≡ b
 ok_is a b e = cc
@@ -86,6 +86,6 @@ judges_once prefix block i j (inr (inr x)) (inl y) = absurd (few_many (pairs blo
 judges_once prefix block i j (inr (inr x)) (inr (inl y)) = absurd (y.1 x.1 x.2)
 judges_once prefix block i j (inr (inr x)) (inr (inr y)) =
     let same : x.1 ≡ y.1 = (request_unique block x.1 y.1 [] [] x.2.0 y.2.0).0 in
-    let p : Parts = parts_of y.1 in
-    let z : JudgesParts prefix p i = subst (λ h. JudgesParts prefix (parts_of h) i) same x.3 in
-    judged_once prefix p (refusal_of p.minor p.method p.fields) i j z y.3
+    let p : Parts = head_parts y.1 in
+    let z : JudgesParts prefix p i = subst (λ h. JudgesParts prefix (head_parts h) i) same x.3 in
+    judged_once prefix p (refused_status p.minor p.method p.fields) i j z y.3

@@ -4,7 +4,7 @@ use Rattle.std.proofs.Math.Seq.{take-add}
 use Rattle.std.proofs.lemmas.List.{map-append, take_all, take-append-drop}
 use Rattle.http_core.specs.declared.event.Event.{Event}
 use Rattle.http_core.specs.Event.{EventValue, event_of, events_of, IsLawful}
-use Rattle.http_core.specs.Session.{State, Reading, Taking, Closed, SessionValue, Stands, Moves}
+use Rattle.http_core.specs.Session.{SessionState, Reading, Taking, Closed, SessionValue, Stands, Moves}
 use Rattle.std.specs.List.{AllByRecursion}
 use Rattle.http_core.proofs.Fitting.{lawful_with}
 use Rattle.http_core.proofs.Standing.{stands_on, stands_event, stands_closed}
@@ -38,7 +38,7 @@ pub piece_done : (s : SessionValue) (stream piece : List ℕ) (at : ℕ) (before
     → Stands s (stream ++ take at piece) before → Stands s (stream ++ piece) before
 piece_done s stream piece at before all h = subst (λ z. Stands s (stream ++ z) before) (take_all at piece all) h
 
-pub not_open : (state : State) → (state ≢ Closed → ⊥) → state ≡ Closed
+pub not_open : (state : SessionState) → (state ≢ Closed → ⊥) → state ≡ Closed
 not_open (Reading bytes) h = absurd (h (λ e. cc))
 not_open (Taking area hash size close body) h = absurd (h (λ e. cc))
 not_open Closed h = refl

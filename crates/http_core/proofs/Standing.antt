@@ -8,7 +8,7 @@ use Rattle.http_core.specs.Block.{empty_line, HasNoBlock, IsBlock}
 use Rattle.http_core.specs.Event.{EventValue, Asked, Refused, closes, Get, Put}
 use Rattle.http_core.specs.Judging.{Judges}
 use Rattle.http_core.specs.Stream.{body_length, outcome, IsRequest, Completes, IsPartial, Cuts}
-use Rattle.http_core.specs.Session.{State, Reading, Taking, Closed, SessionValue, Holds, Leaves, Stands, Follows, Moves, ended, first_event, first_state}
+use Rattle.http_core.specs.Session.{SessionState, Reading, Taking, Closed, SessionValue, Holds, Leaves, Stands, Follows, Moves, ended, first_event, first_state}
 use Rattle.http_core.proofs.Blocks.{one_block, no_block_within}
 use Rattle.http_core.proofs.Judged.{judges_once}
 use Rattle.http_core.proofs.Cutting.{cuts_join, cuts_closed}
@@ -39,7 +39,7 @@ partial_taking prefix block body area hash size close ends fits judged small fro
 partial_taking prefix block body area hash size close ends fits judged small front rest event h (inr q) =
     taking_request prefix block body rest event area hash size close front ends judged small h q
 
-pub holds_partial : (prefix : List ℕ) (state : State) (bytes : List ℕ) → Holds prefix state bytes → IsPartial prefix bytes
+pub holds_partial : (prefix : List ℕ) (state : SessionState) (bytes : List ℕ) → Holds prefix state bytes → IsPartial prefix bytes
 holds_partial prefix (Reading front) bytes (e, none, small) = subst (IsPartial prefix) (sym e) (partial_reading prefix front none small)
 holds_partial prefix (Taking area hash size close body) bytes (block, e, ends, fits, judged, small) = subst (IsPartial prefix) (sym e) (partial_taking prefix block body area hash size close ends fits judged small)
 holds_partial prefix Closed bytes h = absurd h
@@ -62,19 +62,19 @@ pub option_list : Option EventValue → List EventValue
 option_list None = []
 option_list (Some event) = event ∷ []
 
-cut_one : (prefix bytes : List ℕ) (event : EventValue) (state : State) (b : Bool) → b ≡ closes event → Completes prefix bytes event → state ≡ ended b
+cut_one : (prefix bytes : List ℕ) (event : EventValue) (state : SessionState) (b : Bool) → b ≡ closes event → Completes prefix bytes event → state ≡ ended b
     → (left : Option (List ℕ)) × Cuts prefix bytes (event ∷ []) left × Leaves prefix state left
 unfolding Cuts
 cut_one prefix bytes event state true is done e = (None, (bytes, [], sym (append-nil bytes), done, inl (sym is, refl, refl)), e)
 cut_one prefix bytes event state false is done e = (Some [], (bytes, [], sym (append-nil bytes), done, inr (sym is, (holds_partial prefix (Reading []) [] (nothing_held prefix), refl))), subst (λ z. Holds prefix z []) (sym e) (nothing_held prefix))
 
-cut_following : (prefix bytes : List ℕ) (event : Option EventValue) (state : State) → Follows prefix bytes event state
+cut_following : (prefix bytes : List ℕ) (event : Option EventValue) (state : SessionState) → Follows prefix bytes event state
     → (left : Option (List ℕ)) × Cuts prefix bytes (option_list event) left × Leaves prefix state left
 unfolding Cuts option_list
 cut_following prefix bytes None state h = (Some bytes, (holds_partial prefix state bytes h, refl), h)
 cut_following prefix bytes (Some event) state (done, e) = cut_one prefix bytes event state (closes event) refl done e
 
-standing : (prefix stream more : List ℕ) (before : List EventValue) (event : Option EventValue) (old new : State)
+standing : (prefix stream more : List ℕ) (before : List EventValue) (event : Option EventValue) (old new : SessionState)
     → old ≢ Closed → ((rest : List ℕ) → Holds prefix old rest → Follows prefix (rest ++ more) event new)
     → (left : Option (List ℕ)) → Cuts prefix stream before left → Leaves prefix old left
     → Stands (record { prefix = prefix; state = new }) (stream ++ more) (before ++ option_list event)
@@ -104,7 +104,7 @@ pub stands_event : (old new : SessionValue) (stream more : List ℕ) (before : L
 unfolding option_list
 stands_event old new stream more before event e open_ moves s = stands_moved old new stream more before (Some event) e open_ moves s
 
-closed_leaves : (prefix : List ℕ) (state : State) (rest : List ℕ) → state ≡ Closed → Holds prefix state rest → ⊥
+closed_leaves : (prefix : List ℕ) (state : SessionState) (rest : List ℕ) → state ≡ Closed → Holds prefix state rest → ⊥
 closed_leaves prefix state rest e h = subst (λ z. Holds prefix z rest) e h
 
 stands_none : (s : SessionValue) (stream more : List ℕ) (before : List EventValue) (left : Option (List ℕ)) → s.state ≡ Closed

@@ -5,11 +5,11 @@ use Rattle.http_core.specs.declared.judging.Judgement.{Judgement}
 use Rattle.http_core.specs.declared.judging.Judgement.TheVariants as judgements
 use Rattle.http_core.specs.declared.session.Stage.{Stage}
 use Rattle.http_core.specs.declared.session.Stage.TheVariants as stages
-use Rattle.http_core.specs.Block.{EndsBlock, HasNoBlock, IsBlock, IsLine}
+use Rattle.http_core.specs.Block.{EndsBlock, HasNoBlock, IsBlock, IsHeadLine}
 use Rattle.http_core.specs.Event.{EventValue, Asked, Refused, Put}
 use Rattle.http_core.specs.Judging.{Judges}
 use Rattle.http_core.specs.Stream.{Completes}
-use Rattle.http_core.specs.Session.{State, Reading, Taking, Closed, Holds, Follows, first_event, first_state, state_of, IsReading}
+use Rattle.http_core.specs.Session.{SessionState, Reading, Taking, Closed, Holds, Follows, first_event, first_state, state_of, IsReading}
 use Rattle.http_core.proofs.Blocks.{block_with, no_block_with, no_block_through}
 use Rattle.http_core.proofs.Standing.{block_follows}
 
@@ -17,7 +17,7 @@ use Rattle.http_core.proofs.Standing.{block_follows}
 one_longer : (bytes : List ℕ) (byte : ℕ) → length (bytes ++ byte ∷ []) ≡ length bytes + 1
 one_longer bytes byte = length-append bytes (byte ∷ [])
 
-reads_on : (prefix : List ℕ) (old new : State) (stage : Stage) (bytes body line : List ℕ) (event : Option EventValue)
+reads_on : (prefix : List ℕ) (old new : SessionState) (stage : Stage) (bytes body line : List ℕ) (event : Option EventValue)
     → state_of stage bytes body ≡ old → IsReading old
     → (HasNoBlock bytes → length bytes < 16384 → Follows prefix (bytes ++ line) event new)
     → (rest : List ℕ) → Holds prefix old rest → Follows prefix (rest ++ line) event new
@@ -27,12 +27,12 @@ reads_on prefix old new stages.Block bytes body line event is reading goes rest 
 reads_on prefix old new (stages.Body area hash size close) bytes body line event is reading goes rest h = absurd (subst IsReading (sym is) reading)
 reads_on prefix old new stages.Closed bytes body line event is reading goes rest h = absurd (subst IsReading (sym is) reading)
 
-pub line_some : (line : List ℕ) → IsLine line → 0 < length line
+pub line_some : (line : List ℕ) → IsHeadLine line → 0 < length line
 line_some line (front, last, whole, plain) = let n : length line ≡ length front + 1 = ap length whole ∙ one_longer front last in omega arith
 
 -- the bytes of a line, of which the last may end the block
-line_follows : (prefix bytes line more : List ℕ) (room : ℕ) (event : Option EventValue) (new : State)
-    → IsLine line → more ≡ bytes ++ line → (length line ≤ room) ⊎ (length line ≡ 1) → room ≤ 16384 - length bytes
+line_follows : (prefix bytes line more : List ℕ) (room : ℕ) (event : Option EventValue) (new : SessionState)
+    → IsHeadLine line → more ≡ bytes ++ line → (length line ≤ room) ⊎ (length line ≡ 1) → room ≤ 16384 - length bytes
     → ((front : List ℕ) (last : ℕ) → more ≡ front ++ last ∷ [] → HasNoBlock front → length front < 16384 → Follows prefix (front ++ last ∷ []) event new)
     → HasNoBlock bytes → length bytes < 16384 → Follows prefix (bytes ++ line) event new
 line_follows prefix bytes line more room event new (front, last, whole, plain) e most fits goes none few =
@@ -42,21 +42,21 @@ line_follows prefix bytes line more room event new (front, last, whole, plain) e
     let small : length (bytes ++ front) < 16384 = elim most [ inl some ↦ omega arith | inr one ↦ omega arith ] in
     subst (λ z. Follows prefix z event new) (sym k ∙ e) (goes (bytes ++ front) last k (no_block_through bytes front none plain) small)
 
-pub reads_line : (prefix : List ℕ) (old new : State) (stage : Stage) (bytes body line more piece : List ℕ) (room : ℕ) (event : Option EventValue)
+pub reads_line : (prefix : List ℕ) (old new : SessionState) (stage : Stage) (bytes body line more piece : List ℕ) (room : ℕ) (event : Option EventValue)
     → state_of stage bytes body ≡ old → IsReading old
-    → IsLine line → more ≡ bytes ++ line → (length line ≤ room) ⊎ (length line ≡ 1) → room ≤ 16384 - length bytes → line ≡ take (length line) piece
+    → IsHeadLine line → more ≡ bytes ++ line → (length line ≤ room) ⊎ (length line ≡ 1) → room ≤ 16384 - length bytes → line ≡ take (length line) piece
     → ((front : List ℕ) (last : ℕ) → more ≡ front ++ last ∷ [] → HasNoBlock front → length front < 16384 → Follows prefix (front ++ last ∷ []) event new)
     → (rest : List ℕ) → Holds prefix old rest → Follows prefix (rest ++ take (length line) piece) event new
 reads_line prefix old new stage bytes body line more piece room event is reading line_is e most fits front goes rest h =
     subst (λ z. Follows prefix (rest ++ z) event new) front
     (reads_on prefix old new stage bytes body line event is reading (line_follows prefix bytes line more room event new line_is e most fits goes) rest h)
 
-pub still_reading : (stage : Stage) (bytes more body : List ℕ) (old : State) → state_of stage bytes body ≡ old → IsReading old → state_of stage more body ≡ Reading more
+pub still_reading : (stage : Stage) (bytes more body : List ℕ) (old : SessionState) → state_of stage bytes body ≡ old → IsReading old → state_of stage more body ≡ Reading more
 still_reading stages.Block bytes more body old is reading = refl
 still_reading (stages.Body area hash size close) bytes more body old is reading = absurd (subst IsReading (sym is) reading)
 still_reading stages.Closed bytes more body old is reading = absurd (subst IsReading (sym is) reading)
 
-pub at_block : (prefix bytes more : List ℕ) (byte : ℕ) (j : Judgement) (event : Option EventValue) (new : State)
+pub at_block : (prefix bytes more : List ℕ) (byte : ℕ) (j : Judgement) (event : Option EventValue) (new : SessionState)
     → more ≡ bytes ++ byte ∷ [] → EndsBlock more → Judges prefix more j → event ≡ first_event j → new ≡ first_state j
     → HasNoBlock bytes → length bytes < 16384 → Follows prefix (bytes ++ byte ∷ []) event new
 at_block prefix bytes more byte j event new e ends judged gives leads none small =
@@ -65,14 +65,14 @@ at_block prefix bytes more byte j event new e ends judged gives leads none small
     let f : Follows prefix (bytes ++ byte ∷ []) (first_event j) (first_state j) = block_follows prefix (bytes ++ byte ∷ []) j b (omega arith) (subst (λ z. Judges prefix z j) e judged) in
     subst (λ z. Follows prefix (bytes ++ byte ∷ []) z new) (sym gives) (subst (λ z. Follows prefix (bytes ++ byte ∷ []) (first_event j) z) (sym leads) f)
 
-pub within_block : (prefix bytes more : List ℕ) (byte : ℕ) (new : State)
+pub within_block : (prefix bytes more : List ℕ) (byte : ℕ) (new : SessionState)
     → more ≡ bytes ++ byte ∷ [] → (EndsBlock more → ⊥) → new ≡ Reading more → length more < 16384
     → HasNoBlock bytes → length bytes < 16384 → Follows prefix (bytes ++ byte ∷ []) None new
 within_block prefix bytes more byte new e not_ends is few none small =
     let h : Holds prefix (Reading more) (bytes ++ byte ∷ []) = (sym e, subst HasNoBlock (sym e) (no_block_with bytes byte none (λ k. not_ends (subst EndsBlock (sym e) k))), few) in
     subst (λ z. Holds prefix z (bytes ++ byte ∷ [])) (sym is) h
 
-pub past_block : (prefix bytes more : List ℕ) (byte : ℕ) (new : State)
+pub past_block : (prefix bytes more : List ℕ) (byte : ℕ) (new : SessionState)
     → more ≡ bytes ++ byte ∷ [] → (EndsBlock more → ⊥) → new ≡ Closed → 16384 ≤ length more
     → HasNoBlock bytes → length bytes < 16384 → Follows prefix (bytes ++ byte ∷ []) (Some (Refused 431 true)) new
 past_block prefix bytes more byte new e not_ends is many none small =
@@ -80,7 +80,7 @@ past_block prefix bytes more byte new e not_ends is many none small =
     let m : length more ≡ length (bytes ++ byte ∷ []) = ap length e in
     (inl (record { size = omega arith; none = no_block_with bytes byte none (λ k. not_ends (subst EndsBlock (sym e) k)); gives = refl }), is)
 
-pub takes_some : (prefix : List ℕ) (old new : State) (stage : Stage) (block body piece more : List ℕ) (area : Area) (hash : List ℕ) (size : ℕ) (close : Bool)
+pub takes_some : (prefix : List ℕ) (old new : SessionState) (stage : Stage) (block body piece more : List ℕ) (area : Area) (hash : List ℕ) (size : ℕ) (close : Bool)
     → state_of stage block body ≡ old → stage ≡ stages.Body area hash size close → length piece < size - length body
     → more ≡ body ++ piece → new ≡ state_of stage block more
     → (rest : List ℕ) → Holds prefix old rest → Holds prefix new (rest ++ take (length piece) piece)
@@ -97,7 +97,7 @@ takes_some prefix old new stage block body piece more area hash size close is at
     take-all [] = refl
     take-all (b ∷ l) = ap (λ z. b ∷ z) (take-all l)
 
-pub takes_all : (prefix : List ℕ) (old : State) (stage : Stage) (block body front more : List ℕ) (area : Area) (hash : List ℕ) (size : ℕ) (close : Bool)
+pub takes_all : (prefix : List ℕ) (old : SessionState) (stage : Stage) (block body front more : List ℕ) (area : Area) (hash : List ℕ) (size : ℕ) (close : Bool)
     → state_of stage block body ≡ old → stage ≡ stages.Body area hash size close → length front ≡ size - length body
     → more ≡ body ++ front
     → (rest : List ℕ) → Holds prefix old rest → Completes prefix (rest ++ front) (Asked (Put area hash more) close)

@@ -14,8 +14,8 @@ abbrev pub HasNoBlock : List ℕ → Type 0
 HasNoBlock bytes = (front rest : List ℕ) → bytes ≡ front ++ rest → EndsBlock front → ⊥
 
 -- no line feed but at the end
-abbrev pub IsLine : List ℕ → Type 0
-IsLine bytes =
+abbrev pub IsHeadLine : List ℕ → Type 0
+IsHeadLine bytes =
     (front : List ℕ) × (last : ℕ) × (bytes ≡ front ++ last ∷ [])
     × AllByRecursion (λ b. b ≢ 10) front
 

@@ -12,8 +12,8 @@ pub record Parts : Type 0 where
   pub target : List ℕ
   pub fields : List (List ℕ × List ℕ)
 
-abbrev pub parts_of : RequestHead → Parts
-parts_of h = record {
+abbrev pub head_parts : RequestHead → Parts
+head_parts h = record {
   minor = h.minor;
   method = h.method;
   target = h.target;

@@ -1,11 +1,12 @@
 -- What a block asks for.
-use Rattle.std.specs.Prelude.{◌≡◌, ℕ, ◌+◌, ◌<◌, ◌≤◌, ◌==◌, ◌&&◌, ◌⊎◌, Bool, true, false, List, [], ◌∷◌, length, if◌then◌else◌}
+use Rattle.std.specs.Prelude.{◌≡◌, ℕ, ◌+◌, ◌<◌, ◌≤◌, ◌==◌, ◌&&◌, ◌⊎◌, Bool, true, false, List, []}
+use Rattle.std.specs.Prelude.{◌∷◌, length, if◌then◌else◌}
 use Rattle.httparse.specs.Grammar.{RequestHead, ReadsRequest}
 use Rattle.httparse.specs.Spans.{IsRequestWithin}
 use Rattle.http_core.specs.declared.judging.Judgement.{Judgement}
 use Rattle.http_core.specs.declared.judging.Judgement.TheVariants.{Refuse}
 use Rattle.http_core.specs.declared.judging.Head.{Head}
-use Rattle.http_core.specs.Head.{parts_of, parts_at}
+use Rattle.http_core.specs.Head.{head_parts, parts_at}
 use Rattle.http_core.specs.Rules.{JudgesParts}
 
 -- how many LF follow a CR at once, where one may stand in front
@@ -23,7 +24,7 @@ IsHeadOf block h = ReadsRequest block h [] × (length h.fields ≤ 64)
 -- the parts of the head lie there in the block
 pub record Shows (block : List ℕ) (x : Head) (h : RequestHead) : Type 0 where
   pub within : IsRequestWithin block x.headers x.spans
-  pub parts : parts_at block x.headers x.spans ≡ parts_of h
+  pub parts : parts_at block x.headers x.spans ≡ head_parts h
 
 -- some head, and this shows it
 abbrev pub ShowsHead : List ℕ → Head → Type 0
@@ -36,4 +37,4 @@ Judges prefix block j =
     ((66 < pairs block) × (j ≡ Refuse 431 true))
     ⊎ ((pairs block ≤ 66) × ((h : RequestHead) → IsHeadOf block h → ⊥) × (j ≡ Refuse 400 true))
     ⊎ ((pairs block ≤ 66)
-    × (h : RequestHead) × IsHeadOf block h × JudgesParts prefix (parts_of h) j)
+    × (h : RequestHead) × IsHeadOf block h × JudgesParts prefix (head_parts h) j)

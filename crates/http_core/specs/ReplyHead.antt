@@ -1,6 +1,7 @@
 -- The head of a reply, as a client reads it (RFC 9112, sections 4, 6.3 and 9; RFC 9110, section
 -- 8.6).
-use Rattle.std.specs.Prelude.{◌≡◌, ℕ, ◌==◌, ◌≤◌, nat_lt, List, [], length, map, take, codes, Option, Some, None, if◌then◌else◌}
+use Rattle.std.specs.Prelude.{◌≡◌, ℕ, ◌==◌, ◌≤◌, nat_lt, List, [], length, map, take, codes, Option}
+use Rattle.std.specs.Prelude.{Some, None, if◌then◌else◌}
 use Rattle.httparse.specs.Grammar.{ResponseHead, ReadsResponse, status_code}
 use Rattle.httparse.specs.Spans.{IsResponseWithin, header_bytes, name_and_value}
 use Rattle.blob_digest.specs.Body.{greatest_blob}

@@ -1,5 +1,7 @@
 -- The rules of heads, in their order (RFC 9112, sections 3, 6 and 9; RFC 9110, sections 9 and 10).
-use Rattle.std.specs.Prelude.{◌≡◌, ℕ, ◌==◌, ◌&&◌, ◌||◌, not, nat_lt, nat_le, ◌⊎◌, Bool, true, false, List, [], ◌∷◌, ◌++◌, length, map, count_by, codes, if◌then◌else◌, Option, Some, None}
+use Rattle.std.specs.Prelude.{◌≡◌, ℕ, ◌==◌, ◌&&◌, ◌||◌, not, nat_lt, nat_le, ◌⊎◌, Bool, true, false}
+use Rattle.std.specs.Prelude.{List, [], ◌∷◌, ◌++◌, length, map, count_by, codes, if◌then◌else◌}
+use Rattle.std.specs.Prelude.{Option, Some, None}
 use Rattle.std.specs.Str.{bytes_eq}
 use Rattle.std.specs.Str.Parse.{digits_value}
 use Rattle.std.specs.Char.{is_ascii_digit}
@@ -82,8 +84,8 @@ rules_of minor method fields =
     ∷ (is_get method && nat_lt 0 (size_of (length_of fields)), 400)
     ∷ []
 
-unfoldable pub refusal_of : ℕ → List ℕ → List (List ℕ × List ℕ) → Option ℕ
-refusal_of minor method fields = first_status (rules_of minor method fields)
+unfoldable pub refused_status : ℕ → List ℕ → List (List ℕ × List ℕ) → Option ℕ
+refused_status minor method fields = first_status (rules_of minor method fields)
 
 abbrev pub area_text : Area → List ℕ
 area_text Ac = codes "/ac/"
@@ -129,4 +131,4 @@ Judged prefix p None j =
     Targets prefix (is_put p.method) (closes_of p.fields) p.target (size_of (length_of p.fields)) j
 
 abbrev pub JudgesParts : List ℕ → Parts → Judgement → Type 0
-JudgesParts prefix p j = Judged prefix p (refusal_of p.minor p.method p.fields) j
+JudgesParts prefix p j = Judged prefix p (refused_status p.minor p.method p.fields) j

@@ -1,5 +1,6 @@
 -- What a session keeps of a stream.
-use Rattle.std.specs.Prelude.{◌≡◌, ◌≢◌, ℕ, ◌<◌, ◌≤◌, ◌==◌, Bool, true, false, List, [], ◌∷◌, ◌++◌, length, take, Option, Some, None, ⊤, if◌then◌else◌}
+use Rattle.std.specs.Prelude.{◌≡◌, ◌≢◌, ℕ, ◌<◌, ◌≤◌, ◌==◌, Bool, true, false, List, [], ◌∷◌, ◌++◌}
+use Rattle.std.specs.Prelude.{length, take, Option, Some, None, ⊤, if◌then◌else◌}
 use Rattle.http_core.specs.declared.event.Area.{Area}
 use Rattle.http_core.specs.declared.judging.Judgement.{Judgement}
 use Rattle.http_core.specs.declared.judging.Judgement.TheVariants as judgements
@@ -8,22 +9,23 @@ use Rattle.http_core.specs.declared.session.Stage.TheVariants as stages
 use Rattle.std.specs.List.{AllByRecursion}
 use Rattle.blob_digest.specs.Body.{greatest_blob}
 use Rattle.http_core.specs.Block.{HasNoBlock, IsBlock}
-use Rattle.http_core.specs.Event.{Get, Put, EventValue, Asked, Refused, closes, IsServed, IsLawful, IsLawfulIfAny}
+use Rattle.http_core.specs.Event.{Get, Put, EventValue, Asked, Refused, closes, IsServed, IsLawful}
+use Rattle.http_core.specs.Event.{IsLawfulIfAny}
 use Rattle.http_core.specs.Judging.{Judges}
 use Rattle.http_core.specs.Stream.{Completes, Cuts}
 
 -- the bytes of a block so far, or the body so far of a PUT whose head has come
-pub data State : Type 0 where
-  Reading : List ℕ → State
-  Taking : Area → List ℕ → ℕ → Bool → List ℕ → State
-  Closed : State
+pub data SessionState : Type 0 where
+  Reading : List ℕ → SessionState
+  Taking : Area → List ℕ → ℕ → Bool → List ℕ → SessionState
+  Closed : SessionState
 
 pub record SessionValue : Type 0 where
   pub prefix : List ℕ
-  pub state : State
+  pub state : SessionState
 
 -- with these bytes of a block, or these of a body
-abbrev pub state_of : Stage → List ℕ → List ℕ → State
+abbrev pub state_of : Stage → List ℕ → List ℕ → SessionState
 state_of stages.Block block body = Reading block
 state_of (stages.Body area hash size close) block body = Taking area hash size close body
 state_of stages.Closed block body = Closed
@@ -41,7 +43,7 @@ IsWanting (stages.Body area hash size close) body = (length body < size) × (siz
 IsWanting stages.Closed body = ⊤
 
 -- the state behind these bytes of a request that isn't whole
-abbrev pub Holds : List ℕ → State → List ℕ → Type 0
+abbrev pub Holds : List ℕ → SessionState → List ℕ → Type 0
 Holds prefix (Reading bytes) rest = (rest ≡ bytes) × HasNoBlock bytes × (length bytes < 16384)
 Holds prefix (Taking area hash size close body) rest =
     (block : List ℕ) × (rest ≡ block ++ body) × IsBlock block × (length block ≤ 16384)
@@ -49,7 +51,7 @@ Holds prefix (Taking area hash size close body) rest =
 Holds prefix Closed rest = ⊥
 
 -- the state is that of what a cut leaves
-abbrev pub Leaves : List ℕ → State → Option (List ℕ) → Type 0
+abbrev pub Leaves : List ℕ → SessionState → Option (List ℕ) → Type 0
 Leaves prefix state None = state ≡ Closed
 Leaves prefix state (Some rest) = Holds prefix state rest
 
@@ -59,12 +61,12 @@ Stands s stream events =
     (left : Option (List ℕ)) × Cuts s.prefix stream events left × Leaves s.prefix s.state left
 
 -- the state behind a request
-abbrev pub ended : Bool → State
+abbrev pub ended : Bool → SessionState
 ended true = Closed
 ended false = Reading []
 
 -- the state behind these bytes of a request, which make the event if there is one
-abbrev pub Follows : List ℕ → List ℕ → Option EventValue → State → Type 0
+abbrev pub Follows : List ℕ → List ℕ → Option EventValue → SessionState → Type 0
 Follows prefix bytes None state = Holds prefix state bytes
 Follows prefix bytes (Some event) state =
     Completes prefix bytes event × (state ≡ ended (closes event))
@@ -97,18 +99,18 @@ first_event (judgements.Get area hash close) = Some (Asked (Get area hash) close
 first_event (judgements.Put area hash size close) =
     if size == 0 then Some (Asked (Put area hash []) close) else None
 
-abbrev pub first_state : Judgement → State
+abbrev pub first_state : Judgement → SessionState
 first_state (judgements.Refuse status close) = ended close
 first_state (judgements.Get area hash close) = ended close
 first_state (judgements.Put area hash size close) =
     if size == 0 then ended close else Taking area hash size close []
 
-abbrev pub IsReading : State → Type 0
+abbrev pub IsReading : SessionState → Type 0
 IsReading (Reading bytes) = Unit {0}
 IsReading (Taking area hash size close body) = ⊥
 IsReading Closed = ⊥
 
-abbrev pub IsTaking : State → Type 0
+abbrev pub IsTaking : SessionState → Type 0
 IsTaking (Reading bytes) = ⊥
 IsTaking (Taking area hash size close body) = Unit {0}
 IsTaking Closed = ⊥

@@ -1,5 +1,6 @@
 -- Whole streams, and the events that they are cut into.
-use Rattle.std.specs.Prelude.{◌≡◌, ℕ, ◌≤◌, ◌⊎◌, true, false, List, [], ◌∷◌, ◌++◌, length, Option, Some, None}
+use Rattle.std.specs.Prelude.{◌≡◌, ℕ, ◌≤◌, ◌⊎◌, true, false, List, [], ◌∷◌, ◌++◌, length, Option}
+use Rattle.std.specs.Prelude.{Some, None}
 use Rattle.http_core.specs.declared.judging.Judgement.{Judgement}
 use Rattle.http_core.specs.declared.judging.Judgement.TheVariants as judgements
 use Rattle.http_core.specs.Block.{HasNoBlock, IsBlock}

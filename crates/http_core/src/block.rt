@@ -1,10 +1,10 @@
 ghost use Rattle.std.specs.Prelude.{◌≡◌, ◌≤◌, ◌<◌, ◌⊎◌, ◌↔◌, length, take, IsTrue};
-ghost use Rattle.http_core.specs.Block.{EndsBlock, IsLine};
+ghost use Rattle.http_core.specs.Block.{EndsBlock, IsHeadLine};
 
 /// The bytes up to the first line feed and with it: at most so many, but at least one.
 pub(crate) fn first_line(bytes: &[u8], most: usize) -> &[u8]
     requires { 0 < length bytes.now }
-    ensures line { IsLine result.now }
+    ensures line { IsHeadLine result.now }
     ensures most { (length result.now ≤ most) ⊎ (length result.now ≡ 1) }
     ensures front { result.now ≡ take (length result.now) bytes.now }
     ensures within { length result.now ≤ length bytes.now }

@@ -1,4 +1,5 @@
-ghost use Rattle.http_core.specs.Laws.{IsCutInOneWay, CutsGoOn, PiecesGiveTheWhole, PiecesMakeNoDifference};
+ghost use Rattle.http_core.specs.Laws.{IsCutInOneWay, CutsGoOn, PiecesGiveTheWhole};
+ghost use Rattle.http_core.specs.Laws.{PiecesMakeNoDifference};
 
 /// A stream is cut into one list of events, with one rest. A law: it does nothing.
 pub fn a_stream_is_cut_in_one_way()

@@ -1,7 +1,8 @@
 ghost use Rattle.std.specs.Prelude.{◌≡◌, ℕ, IfSome, IfNone, map, take};
 ghost use Rattle.httparse.specs.Grammar.{ResponseHead};
 ghost use Rattle.httparse.specs.Spans.{IsResponseWithin, header_bytes};
-ghost use Rattle.http_core.specs.ReplyHead.{IsReplyHead, IsResponseOf, ShowsResponse, most_body, reply_length, reply_of};
+ghost use Rattle.http_core.specs.ReplyHead.{IsReplyHead, IsResponseOf, ShowsResponse, most_body};
+ghost use Rattle.http_core.specs.ReplyHead.{reply_length, reply_of};
 
 use crate::connection::closes;
 use crate::judging::{MAX_PAIRS, count_pairs};

@@ -1,10 +1,13 @@
-ghost use Rattle.std.specs.Prelude.{true, false, ◌≡◌, ℕ, ◌≤◌, ◌<◌, ◌++◌, List, length, take, All, count_by, map, IfSome, IfNone};
+ghost use Rattle.std.specs.Prelude.{true, false, ◌≡◌, ℕ, ◌≤◌, ◌<◌, ◌++◌, List, length, take, All};
+ghost use Rattle.std.specs.Prelude.{count_by, map, IfSome, IfNone};
 ghost use Rattle.std.specs.Char.{is_ascii_digit};
 ghost use Rattle.std.specs.List.{list_all};
 ghost use Rattle.httparse.specs.Spans.{IsHeaderWithin, IsRequestWithin, header_bytes, span_bytes};
 ghost use Rattle.blob_digest.specs.DigestValue.{IsHash};
 ghost use Rattle.http_core.specs.Names.{same_name};
-ghost use Rattle.http_core.specs.Rules.{count_of, length_of, read_length, is_length, is_bad, is_absent, size_of, refusal_of, area_text, target_text, Names, Targets, JudgesParts};
+ghost use Rattle.http_core.specs.Rules.{count_of, length_of, read_length, is_length, is_bad};
+ghost use Rattle.http_core.specs.Rules.{is_absent, size_of, refused_status, area_text, target_text};
+ghost use Rattle.http_core.specs.Rules.{Names, Targets, JudgesParts};
 ghost use Rattle.http_core.specs.Head.{parts_at};
 
 use crate::connection::closes;
@@ -114,7 +117,7 @@ pub(crate) fn body_length(block: &[u8], headers: &[HeaderSpan]) -> Length
 }
 
 /// The status of the first rule that applies to the head, but for its target.
-#[tactic(auto, unfolding(crate::specs::Rules::refusal_of))]
+#[tactic(auto, unfolding(crate::specs::Rules::refused_status))]
 fn refusal(
     minor: u8,
     method: &[u8],
@@ -124,7 +127,7 @@ fn refusal(
 ) -> Option<u16>
     requires within { All (IsHeaderWithin (length block.now)) headers.now }
     requires body { body ≡ length_of (map (header_bytes block.now) headers.now) }
-    ensures { result ≡ refusal_of minor method.now (map (header_bytes block.now) headers.now) }
+    ensures { result ≡ refused_status minor method.now (map (header_bytes block.now) headers.now) }
 {
     let get = method == b"GET".as_slice();
     let put = method == b"PUT".as_slice();

@@ -1,6 +1,9 @@
-ghost use Rattle.std.specs.Prelude.{◌≡◌, ◌↔◌, ℕ, ◌<◌, ◌≤◌, ◌++◌, ◌∷◌, List, [], length, take, IsTrue, IfOk, OnErr, OnOk, Option};
+ghost use Rattle.std.specs.Prelude.{◌≡◌, ◌↔◌, ℕ, ◌<◌, ◌≤◌, ◌++◌, ◌∷◌, List, [], length, take};
+ghost use Rattle.std.specs.Prelude.{IsTrue, IfOk, OnErr, OnOk, Option};
 ghost use Rattle.http_core.specs.Event.{EventValue, events_of, option_event};
-ghost use Rattle.http_core.specs.Session.{SessionValue, Stands, Feeds, IsOpen, IsClosed, Holds, Takes, IsAllowed, IsReading, IsTaking, first_event, first_state, ended};
+ghost use Rattle.http_core.specs.Session.{SessionValue, Stands, Feeds, IsOpen, IsClosed, Holds};
+ghost use Rattle.http_core.specs.Session.{Takes, IsAllowed, IsReading, IsTaking, first_event};
+ghost use Rattle.http_core.specs.Session.{first_state, ended};
 
 use crate::block::{ends_block, first_line};
 use crate::event::{Area, Ask, Event};

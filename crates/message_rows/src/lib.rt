@@ -1,5 +1,6 @@
 //! Vectors and rows of messages, trees, outcomes and plans.
-//! They stand apart from the crates that they run, since a crate with tests is proved once more for them.
+//! They stand apart from the crates that they run, since a crate with tests is proved once more for
+//! them.
 #![tactic(auto)]
 
 #[cfg(test)]

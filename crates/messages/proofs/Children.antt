@@ -8,7 +8,7 @@ use Rattle.messages.specs.declared.node.Node.TheVariants.{File, Link, Dir}
 use Rattle.messages.specs.FileNode.{FileNodeValue}
 use Rattle.messages.specs.DirectoryNode.{DirectoryNodeValue}
 use Rattle.messages.specs.SymlinkNode.{SymlinkNodeValue}
-use Rattle.messages.specs.Order.{AreApart}
+use Rattle.messages.specs.Order.{ShareNone}
 use Rattle.messages.specs.DirectoryRules.{DirectoryValue, IsDirectory, AreNames, file_names, directory_names, symlink_names}
 use Rattle.messages.specs.Node.{IsChild, or_else, of_file, of_directory, of_symlink, child}
 use Rattle.messages.proofs.Searches.{named, of_contained, found_there, there_found, none_there, none_found}
@@ -24,7 +24,7 @@ absent name (other ∷ names) none =
     (λ same. none (0, some, sym same), absent name names (λ there. let lt : suc there.0 < length (other ∷ names) = let less = there.1 in omega arith in none (suc there.0, lt, there.2)))
 
 -- of two lists that share no name, the first hasn't a name of the second
-apart_from : {X : Type 0} (key : X → List ℕ) (others : List (List ℕ)) (xs : List X) (x : X) → AreApart others (map key xs) → Contains xs x → AllByRecursion (λ other. key x ≢ other) others
+apart_from : {X : Type 0} (key : X → List ℕ) (others : List (List ℕ)) (xs : List X) (x : X) → ShareNone others (map key xs) → Contains xs x → AllByRecursion (λ other. key x ≢ other) others
 apart_from key [] xs x all there = tt
 apart_from key (other ∷ others) xs x all there = (λ same. of_contained key (λ n. other ≢ n) xs x all.0 there (sym same), apart_from key others xs x all.1 there)
 

@@ -27,10 +27,10 @@ use Rattle.messages.specs.FileNode.{IsFileNode, file_node_bytes, decoded_file_no
 use Rattle.messages.specs.DirectoryNode.{IsDirectoryNode, directory_node_bytes, decoded_directory_node}
 use Rattle.messages.specs.SymlinkNode.{IsSymlinkNode, symlink_node_bytes, decoded_symlink_node}
 use Rattle.messages.specs.Order.{ordered_behind, share_name}
-use Rattle.messages.specs.DirectoryRules.{DirectoryValue, IsDirectory, AreNames, file_names, directory_names, symlink_names, none_shared, names_ordered, directory_of}
+use Rattle.messages.specs.DirectoryRules.{DirectoryValue, IsDirectory, AreNames, file_names, directory_names, symlink_names, none_shared, names_ordered, directory_checked}
 use Rattle.messages.specs.Directory.{directory_shape, directory_bytes, directory_in, decoded_directory}
 use Rattle.messages.proofs.Choices.{or_false}
-use Rattle.messages.proofs.Orders.{ascending, ordered_behind-from, AreApart-from, share_name-from}
+use Rattle.messages.proofs.Orders.{ascending, ordered_behind-from, ShareNone-from, share_name-from}
 use Rattle.messages.proofs.FileNodeCodec.{file_node_codec}
 use Rattle.messages.proofs.DirectoryNodeCodec.{directory_node_codec}
 use Rattle.messages.proofs.SymlinkNodeCodec.{symlink_node_codec}
@@ -57,9 +57,9 @@ names_of_ordered files directories symlinks e =
       files_ascend = ascending files a.1;
       directories_ascend = ascending directories b.1;
       symlinks_ascend = ascending symlinks c.1;
-      files_apart = AreApart-from files directories n1.0;
-      links_apart = AreApart-from files symlinks n1.1;
-      symlinks_apart = AreApart-from directories symlinks n2.1;
+      files_apart = ShareNone-from files directories n1.0;
+      links_apart = ShareNone-from files symlinks n1.1;
+      symlinks_apart = ShareNone-from directories symlinks n2.1;
     }
 
 pub ordered_of_names : (files directories symlinks : List (List ℕ)) → AreNames files directories symlinks → names_ordered files directories symlinks ≡ Ok tt
@@ -84,14 +84,14 @@ err_not_ok (Err x) e o = cc o
 pub names_refused : (files directories symlinks : List (List ℕ)) (e : MessageError) → names_ordered files directories symlinks ≡ Err e → AreNames files directories symlinks → ⊥
 names_refused files directories symlinks e given n = let o = ordered_of_names files directories symlinks n in cc (sym o ∙ given)
 
-lists_found : (e x : DirectoryValue) → directory_of e ≡ Ok x → AreNames (file_names e.files) (directory_names e.directories) (symlink_names e.symlinks) × (e ≡ x)
-unfolding directory_of
+lists_found : (e x : DirectoryValue) → directory_checked e ≡ Ok x → AreNames (file_names e.files) (directory_names e.directories) (symlink_names e.symlinks) × (e ≡ x)
+unfolding directory_checked
 lists_found e x h =
     let a = bind_ok (names_ordered (file_names e.files) (directory_names e.directories) (symlink_names e.symlinks)) (λ _. Ok e) x h in
     (names_of_ordered (file_names e.files) (directory_names e.directories) (symlink_names e.symlinks) a.1, ok_is {E = MessageError} e x a.2)
 
-lists_given : (e : DirectoryValue) → AreNames (file_names e.files) (directory_names e.directories) (symlink_names e.symlinks) → directory_of e ≡ Ok e
-unfolding directory_of
+lists_given : (e : DirectoryValue) → AreNames (file_names e.files) (directory_names e.directories) (symlink_names e.symlinks) → directory_checked e ≡ Ok e
+unfolding directory_checked
 lists_given e h = let o = ordered_of_names (file_names e.files) (directory_names e.directories) (symlink_names e.symlinks) h in rw o refl
 
 pub no_texts : (xs : List (List ℕ)) → AllByRecursion (λ x. (not false || is_utf8 x) ≡ true) xs

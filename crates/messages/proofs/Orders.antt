@@ -8,7 +8,7 @@ use Rattle.std.specs.Cmp.Lexicographic.{nat_list_cmp_total}
 use Rattle.std.proofs.lemmas.Map.Lookups.{exact_bytes}
 use Rattle.std.specs.List.{AllByRecursion}
 use Rattle.wire.proofs.Steps.{bind_ok}
-use Rattle.messages.specs.Order.{bytes_cmp, IsAscending, AreApart, pair_ordered, ordered_behind, is_equal, has_name, share_name}
+use Rattle.messages.specs.Order.{bytes_cmp, IsAscending, ShareNone, pair_ordered, ordered_behind, is_equal, has_name, share_name}
 use Rattle.messages.proofs.Choices.{or_false, or_neither}
 
 total : IsTotalOrder bytes_cmp
@@ -80,13 +80,13 @@ pub none_has : (names : List (List ℕ)) (name : List ℕ) → AllByRecursion (�
 none_has [] name h = refl
 none_has (first ∷ names) name h = or_neither (is_equal (bytes_cmp first name)) (has_name names name) (not_equal first name (bytes_cmp first name) refl h.0) (none_has names name h.1)
 
-pub AreApart-from : (names others : List (List ℕ)) → share_name names others ≡ false → AreApart names others
-AreApart-from [] others e = tt
-AreApart-from (name ∷ names) others e =
+pub ShareNone-from : (names others : List (List ℕ)) → share_name names others ≡ false → ShareNone names others
+ShareNone-from [] others e = tt
+ShareNone-from (name ∷ names) others e =
     let o = or_false (has_name others name) (share_name names others) e in
-    (has_none others name o.0, AreApart-from names others o.1)
+    (has_none others name o.0, ShareNone-from names others o.1)
 
-pub share_name-from : (names others : List (List ℕ)) → AreApart names others → share_name names others ≡ false
+pub share_name-from : (names others : List (List ℕ)) → ShareNone names others → share_name names others ≡ false
 share_name-from [] others h = refl
 share_name-from (name ∷ names) others h = or_neither (has_name others name) (share_name names others) (none_has others name h.0) (share_name-from names others h.1)
 

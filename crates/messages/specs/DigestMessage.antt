@@ -1,6 +1,8 @@
 -- The message Digest of remote_execution.proto: what names a blob.
--- Fields: 1 `hash` (string), the hash in lower-case hex; 2 `size_bytes` (int64), the length of the blob.
-use Rattle.std.specs.Prelude.{ℕ, ℤ, pos, negsuc, List, [], ◌∷◌, ◌++◌, Result, Ok, Err, if◌then◌else◌}
+-- Fields: 1 `hash` (string), the hash in lower-case hex; 2 `size_bytes` (int64), the length of the
+-- blob.
+use Rattle.std.specs.Prelude.{ℕ, ℤ, pos, negsuc, List, [], ◌∷◌, ◌++◌, Result, Ok, Err}
+use Rattle.std.specs.Prelude.{if◌then◌else◌}
 use Rattle.std.specs.List.{list_all}
 use Rattle.hex.specs.Hex.{encode_lower, decode_sized}
 use Rattle.hex.specs.declared.error.FromHexError.{FromHexError}
@@ -33,7 +35,9 @@ bytes_of_hex (Err e) = Err (BadDigest BadHex)
 
 -- the hash of 64 lower-case hex digits
 unfoldable pub hash_of : List ℕ → Result (List ℕ) MessageError
-hash_of text = if list_all is_lower_hex text then bytes_of_hex (decode_sized text 32) else Err (BadDigest BadHex)
+hash_of text =
+    if list_all is_lower_hex text then bytes_of_hex (decode_sized text 32)
+    else Err (BadDigest BadHex)
 
 abbrev pub size_of : ℤ → Result ℕ MessageError
 size_of (pos n) = Ok n

@@ -1,5 +1,6 @@
--- The message DirectoryNode of remote_execution.proto: a directory in a directory. Its `name` and its `digest` have to be there.
--- Fields: 1 `name` (string); 2 `digest` (Digest), that of the encoding of its Directory.
+-- The message DirectoryNode of remote_execution.proto: a directory in a directory. Its `name` and
+-- its `digest` have to be there. Fields: 1 `name` (string); 2 `digest` (Digest), that of the
+-- encoding of its Directory.
 use Rattle.std.specs.Prelude.{ℕ, List, [], ◌∷◌, ◌++◌, Some, Result, Ok}
 use Rattle.wire.specs.Record.{Record}
 use Rattle.wire.specs.Spelling.{spelling}
@@ -28,7 +29,8 @@ directory_node_shape = single 1 kinds.String ∷ single 2 kinds.Message ∷ []
 
 -- the one encoding of a directory in a directory
 abbrev pub directory_node_bytes : DirectoryNodeValue → List ℕ
-directory_node_bytes d = spelling (bytes_field 1 d.name ++ message_field 2 (Some (digest_bytes d.digest)))
+directory_node_bytes d =
+    spelling (bytes_field 1 d.name ++ message_field 2 (Some (digest_bytes d.digest)))
 
 -- ---- what bytes say, or the first refusal: the shape, the digest, whether it is there, the name
 

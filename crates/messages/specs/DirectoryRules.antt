@@ -1,5 +1,5 @@
--- What stands in a directory (remote_execution.proto, message Directory), and the rules: each list is sorted by name,
--- and no two children of any kind have one name.
+-- What stands in a directory (remote_execution.proto, message Directory), and the rules: each list
+-- is sorted by name, and no two children of any kind have one name.
 use Rattle.std.specs.Prelude.{ℕ, ◌||◌, List, map, None, Result, Ok, Err, if◌then◌else◌}
 use Rattle.std.specs.List.{AllByRecursion}
 use Rattle.wire.specs.Steps.{◌>>=◌}
@@ -8,7 +8,7 @@ use Rattle.messages.specs.declared.error.MessageError.TheVariants.{SameName}
 use Rattle.messages.specs.FileNode.{FileNodeValue, IsFileNode}
 use Rattle.messages.specs.DirectoryNode.{DirectoryNodeValue, IsDirectoryNode}
 use Rattle.messages.specs.SymlinkNode.{SymlinkNodeValue, IsSymlinkNode}
-use Rattle.messages.specs.Order.{IsAscending, AreApart, ordered_behind, share_name}
+use Rattle.messages.specs.Order.{IsAscending, ShareNone, ordered_behind, share_name}
 
 pub record DirectoryValue : Type 0 where
   pub files : List FileNodeValue
@@ -16,8 +16,10 @@ pub record DirectoryValue : Type 0 where
   pub symlinks : List SymlinkNodeValue
 
 -- the directory of three lists
-abbrev pub directory_with : List FileNodeValue → List DirectoryNodeValue → List SymlinkNodeValue → DirectoryValue
-directory_with files directories symlinks = record { files = files; directories = directories; symlinks = symlinks }
+abbrev pub directory_with : List FileNodeValue → List DirectoryNodeValue → List SymlinkNodeValue
+    → DirectoryValue
+directory_with files directories symlinks =
+    record { files = files; directories = directories; symlinks = symlinks }
 
 abbrev pub file_names : List FileNodeValue → List (List ℕ)
 file_names nodes = map (λ n. n.name) nodes
@@ -33,25 +35,33 @@ pub record AreNames (files directories symlinks : List (List ℕ)) : Type 0 wher
   pub files_ascend : IsAscending files
   pub directories_ascend : IsAscending directories
   pub symlinks_ascend : IsAscending symlinks
-  pub files_apart : AreApart files directories
-  pub links_apart : AreApart files symlinks
-  pub symlinks_apart : AreApart directories symlinks
+  pub files_apart : ShareNone files directories
+  pub links_apart : ShareNone files symlinks
+  pub symlinks_apart : ShareNone directories symlinks
 
 pub record IsDirectory (d : DirectoryValue) : Type 0 where
   pub files : AllByRecursion IsFileNode d.files
   pub directories : AllByRecursion IsDirectoryNode d.directories
   pub symlinks : AllByRecursion IsSymlinkNode d.symlinks
-  pub names : AreNames (file_names d.files) (directory_names d.directories) (symlink_names d.symlinks)
+  pub names : AreNames (file_names d.files) (directory_names d.directories)
+      (symlink_names d.symlinks)
 
 -- ---- the first refusal: the order of each list, and then names of two kinds
 
-abbrev pub none_shared : List (List ℕ) → List (List ℕ) → List (List ℕ) → Result (Unit {0}) MessageError
-none_shared files directories symlinks = if share_name files directories || share_name files symlinks || share_name directories symlinks then Err SameName else Ok tt
+abbrev pub none_shared : List (List ℕ) → List (List ℕ) → List (List ℕ)
+    → Result (Unit {0}) MessageError
+none_shared files directories symlinks =
+    if share_name files directories || share_name files symlinks || share_name directories symlinks
+    then Err SameName else Ok tt
 
-abbrev pub names_ordered : List (List ℕ) → List (List ℕ) → List (List ℕ) → Result (Unit {0}) MessageError
+abbrev pub names_ordered : List (List ℕ) → List (List ℕ) → List (List ℕ)
+    → Result (Unit {0}) MessageError
 names_ordered files directories symlinks =
-    ordered_behind None files >>= λ _. ordered_behind None directories >>= λ _. ordered_behind None symlinks >>= λ _. none_shared files directories symlinks
+    ordered_behind None files >>= λ _. ordered_behind None directories >>= λ _.
+    ordered_behind None symlinks >>= λ _. none_shared files directories symlinks
 
 -- the directory, or the first refusal
-unfoldable pub directory_of : DirectoryValue → Result DirectoryValue MessageError
-directory_of d = names_ordered (file_names d.files) (directory_names d.directories) (symlink_names d.symlinks) >>= λ _. Ok d
+unfoldable pub directory_checked : DirectoryValue → Result DirectoryValue MessageError
+directory_checked d =
+    names_ordered (file_names d.files) (directory_names d.directories)
+    (symlink_names d.symlinks) >>= λ _. Ok d

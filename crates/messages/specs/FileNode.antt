@@ -1,12 +1,14 @@
--- The message FileNode of remote_execution.proto: a file in a directory. Its `name` and its `digest` have to be there.
--- Fields: 1 `name` (string); 2 `digest` (Digest), that of the content; 4 `is_executable` (bool).
+-- The message FileNode of remote_execution.proto: a file in a directory. Its `name` and its
+-- `digest` have to be there. Fields: 1 `name` (string); 2 `digest` (Digest), that of the content; 4
+-- `is_executable` (bool).
 use Rattle.std.specs.Prelude.{ℕ, Bool, List, [], ◌∷◌, ◌++◌, Option, Some, None, Result, Ok, Err}
 use Rattle.wire.specs.Record.{Record}
 use Rattle.wire.specs.Spelling.{spelling}
 use Rattle.wire.specs.Steps.{◌>>=◌}
 use Rattle.canonical.specs.declared.shape.Kind.TheVariants as kinds
 use Rattle.canonical.specs.declared.shape.Entry.{Entry}
-use Rattle.canonical.specs.Fields.{bytes_field, message_field, bool_field, bytes_at, message_at, bool_at}
+use Rattle.canonical.specs.Fields.{bytes_field, message_field, bool_field, bytes_at, message_at}
+use Rattle.canonical.specs.Fields.{bool_at}
 use Rattle.blob_digest.specs.DigestValue.{DigestValue, IsDigest}
 use Rattle.messages.specs.declared.error.MessageError.{MessageError}
 use Rattle.messages.specs.declared.error.MessageError.TheVariants.{MissingField}
@@ -29,7 +31,9 @@ file_node_shape = single 1 kinds.String ∷ single 2 kinds.Message ∷ single 4 
 
 -- the one encoding of a file
 abbrev pub file_node_bytes : FileNodeValue → List ℕ
-file_node_bytes f = spelling (bytes_field 1 f.name ++ message_field 2 (Some (digest_bytes f.digest)) ++ bool_field 4 f.executable)
+file_node_bytes f =
+    spelling (bytes_field 1 f.name ++ message_field 2 (Some (digest_bytes f.digest))
+    ++ bool_field 4 f.executable)
 
 -- ---- what bytes say, or the first refusal: the shape, the digest, whether it is there, the name
 

@@ -1,6 +1,7 @@
--- Names of files, directories and symbolic links (remote_execution.proto, `name` of the three nodes: one path
--- segment). The limits are this product's profile.
-use Rattle.std.specs.Prelude.{◌≡◌, ◌≢◌, ℕ, ◌<◌, ◌≤◌, Bool, true, false, ◌==◌, ◌&&◌, not, nat_lt, List, [], ◌∷◌, length, Result, Ok, Err, if◌then◌else◌}
+-- Names of files, directories and symbolic links (remote_execution.proto, `name` of the three
+-- nodes: one path segment). The limits are this product's profile.
+use Rattle.std.specs.Prelude.{◌≡◌, ◌≢◌, ℕ, ◌<◌, ◌≤◌, Bool, true, false, ◌==◌, ◌&&◌, not, nat_lt}
+use Rattle.std.specs.Prelude.{List, [], ◌∷◌, length, Result, Ok, Err, if◌then◌else◌}
 use Rattle.std.specs.List.{AllByRecursion, list_any}
 use Rattle.std.specs.Str.{is_utf8}
 use Rattle.messages.specs.declared.error.MessageError.{MessageError}
@@ -29,7 +30,9 @@ is_dots (a ∷ b ∷ []) = (a == 46) && (b == 46)
 is_dots (a ∷ b ∷ c ∷ rest) = false
 
 abbrev pub is_segment : List ℕ → Bool
-is_segment text = not (length text == 0) && nat_lt (length text) 256 && not (list_any (λ b. b == 47) text) && not (list_any (λ b. b == 0) text) && not (is_dots text)
+is_segment text =
+    not (length text == 0) && nat_lt (length text) 256 && not (list_any (λ b. b == 47) text)
+    && not (list_any (λ b. b == 0) text) && not (is_dots text)
 
 -- the name, or the refusal
 abbrev pub name_of : List ℕ → Result (List ℕ) MessageError

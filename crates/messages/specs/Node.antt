@@ -7,15 +7,20 @@ use Rattle.messages.specs.declared.node.Node.TheVariants.{File, Link, Dir}
 use Rattle.messages.specs.FileNode.{FileNodeValue}
 use Rattle.messages.specs.DirectoryNode.{DirectoryNodeValue}
 use Rattle.messages.specs.SymlinkNode.{SymlinkNodeValue}
-use Rattle.messages.specs.DirectoryRules.{DirectoryValue, file_names, directory_names, symlink_names}
+use Rattle.messages.specs.DirectoryRules.{DirectoryValue, file_names, directory_names}
+use Rattle.messages.specs.DirectoryRules.{symlink_names}
 
--- What stands under a name: a file, a directory or a symbolic link of that name in its list; or nothing, where no list
--- has the name.
+-- What stands under a name: a file, a directory or a symbolic link of that name in its list; or
+-- nothing, where no list has the name.
 abbrev pub IsChild : {A : Type 0} → List ℕ → DirectoryValue → Option (Node A) → Type 0
-IsChild name d (Some (File digest executable)) = Contains d.files (record { name = name; digest = digest; executable = executable })
+IsChild name d (Some (File digest executable)) =
+    Contains d.files (record { name = name; digest = digest; executable = executable })
 IsChild name d (Some (Link target)) = Contains d.symlinks (record { name = name; target = target })
-IsChild name d (Some (Dir digest)) = Contains d.directories (record { name = name; digest = digest })
-IsChild name d None = ¬ Contains (file_names d.files) name × ¬ Contains (directory_names d.directories) name × ¬ Contains (symlink_names d.symlinks) name
+IsChild name d (Some (Dir digest)) =
+    Contains d.directories (record { name = name; digest = digest })
+IsChild name d None =
+    ¬ Contains (file_names d.files) name × ¬ Contains (directory_names d.directories) name
+    × ¬ Contains (symlink_names d.symlinks) name
 
 -- ---- the same by looking
 

@@ -1,5 +1,6 @@
 -- The order of names in a list, by their bytes, and names that two lists share.
-use Rattle.std.specs.Prelude.{◌≡◌, ◌≢◌, ℕ, Bool, true, false, ◌||◌, List, [], ◌∷◌, Option, Some, None, Result, Ok, Err}
+use Rattle.std.specs.Prelude.{◌≡◌, ◌≢◌, ℕ, Bool, true, false, ◌||◌, List, [], ◌∷◌, Option, Some}
+use Rattle.std.specs.Prelude.{None, Result, Ok, Err}
 use Rattle.std.specs.List.{AllByRecursion}
 use Rattle.std.specs.Ordering.{nat_cmp}
 use Rattle.std.specs.Cmp.Lexicographic.{slice_cmp}
@@ -16,11 +17,13 @@ bytes_cmp = slice_cmp nat_cmp
 -- each name comes before all that stand behind it
 abbrev pub IsAscending : List (List ℕ) → Type 0
 IsAscending [] = Unit {0}
-IsAscending (name ∷ names) = AllByRecursion (λ other. bytes_cmp name other ≡ Less) names × IsAscending names
+IsAscending (name ∷ names) =
+    AllByRecursion (λ other. bytes_cmp name other ≡ Less) names × IsAscending names
 
 -- no name stands in both lists
-abbrev pub AreApart : List (List ℕ) → List (List ℕ) → Type 0
-AreApart names others = AllByRecursion (λ name. AllByRecursion (λ other. name ≢ other) others) names
+abbrev pub ShareNone : List (List ℕ) → List (List ℕ) → Type 0
+ShareNone names others =
+    AllByRecursion (λ name. AllByRecursion (λ other. name ≢ other) others) names
 
 -- ---- the first refusal
 
@@ -33,7 +36,8 @@ pair_ordered Greater = Err Unsorted
 abbrev pub ordered_behind : Option (List ℕ) → List (List ℕ) → Result (Unit {0}) MessageError
 ordered_behind before [] = Ok tt
 ordered_behind None (name ∷ names) = ordered_behind (Some name) names
-ordered_behind (Some before) (name ∷ names) = pair_ordered (bytes_cmp before name) >>= λ _. ordered_behind (Some name) names
+ordered_behind (Some before) (name ∷ names) =
+    pair_ordered (bytes_cmp before name) >>= λ _. ordered_behind (Some name) names
 
 abbrev pub is_equal : Ordering → Bool
 is_equal Less = false

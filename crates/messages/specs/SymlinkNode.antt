@@ -1,5 +1,5 @@
--- The message SymlinkNode of remote_execution.proto: a symbolic link in a directory. Its `name` and its `target` have to be there.
--- Fields: 1 `name` (string); 2 `target` (string).
+-- The message SymlinkNode of remote_execution.proto: a symbolic link in a directory. Its `name` and
+-- its `target` have to be there. Fields: 1 `name` (string); 2 `target` (string).
 use Rattle.std.specs.Prelude.{ℕ, List, [], ◌∷◌, ◌++◌, Result, Ok}
 use Rattle.wire.specs.Record.{Record}
 use Rattle.wire.specs.Spelling.{spelling}

@@ -1,5 +1,7 @@
--- Targets of symbolic links (remote_execution.proto, `target` of SymlinkNode). The limit is this product's profile.
-use Rattle.std.specs.Prelude.{◌≡◌, ◌≢◌, ℕ, ◌<◌, ◌≤◌, Bool, true, ◌==◌, ◌&&◌, not, nat_lt, List, length, Result, Ok, Err, if◌then◌else◌}
+-- Targets of symbolic links (remote_execution.proto, `target` of SymlinkNode). The limit is this
+-- product's profile.
+use Rattle.std.specs.Prelude.{◌≡◌, ◌≢◌, ℕ, ◌<◌, ◌≤◌, Bool, true, ◌==◌, ◌&&◌, not, nat_lt, List}
+use Rattle.std.specs.Prelude.{length, Result, Ok, Err, if◌then◌else◌}
 use Rattle.std.specs.List.{AllByRecursion, list_any}
 use Rattle.std.specs.Str.{is_utf8}
 use Rattle.messages.specs.declared.error.MessageError.{MessageError}
@@ -19,7 +21,8 @@ pub record IsTarget (text : List ℕ) : Type 0 where
 -- ---- the test
 
 abbrev pub is_link : List ℕ → Bool
-is_link text = not (length text == 0) && nat_lt (length text) 4097 && not (list_any (λ b. b == 0) text)
+is_link text =
+    not (length text == 0) && nat_lt (length text) 4097 && not (list_any (λ b. b == 0) text)
 
 -- the target, or the refusal
 abbrev pub target_of : List ℕ → Result (List ℕ) MessageError

@@ -1,5 +1,5 @@
--- Messages that are read tolerantly, by the texts of their occurrences: the records of all of them, each cut by itself, one
--- after another.
+-- Messages that are read tolerantly, by the texts of their occurrences: the records of all of them,
+-- each cut by itself, one after another.
 use Rattle.std.specs.Prelude.{ℕ, List, [], ◌∷◌, Option, Some, None, Result, Ok}
 use Rattle.wire.specs.Record.{Record}
 use Rattle.wire.specs.Steps.{◌>>=◌}

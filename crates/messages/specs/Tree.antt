@@ -1,7 +1,9 @@
--- The message Tree of remote_execution.proto: a directory with all directories below it. Its `root` has to be there.
--- Its `children` are those whose digests a DirectoryNode in it names, in any order, and equal ones may come again.
--- Fields: 1 `root` (Directory); 2 `children` (repeated Directory).
-use Rattle.std.specs.Prelude.{ℕ, Bool, ◌==◌, ◌&&◌, bytes_eq, List, [], ◌∷◌, ◌++◌, map, Option, Some, None, Result, Ok, Err, if◌then◌else◌}
+-- The message Tree of remote_execution.proto: a directory with all directories below it. Its `root`
+-- has to be there. Its `children` are those whose digests a DirectoryNode in it names, in any
+-- order, and equal ones may come again. Fields: 1 `root` (Directory); 2 `children` (repeated
+-- Directory).
+use Rattle.std.specs.Prelude.{ℕ, Bool, ◌==◌, ◌&&◌, bytes_eq, List, [], ◌∷◌, ◌++◌, map, Option, Some}
+use Rattle.std.specs.Prelude.{None, Result, Ok, Err, if◌then◌else◌}
 use Rattle.std.specs.List.{AllByRecursion, Contains, list_any, list_all}
 use Rattle.wire.specs.Record.{Record}
 use Rattle.wire.specs.Spelling.{spelling}
@@ -62,9 +64,12 @@ tree_shape = single 1 kinds.Message ∷ repeated 2 kinds.Message ∷ []
 
 -- the one encoding of a tree
 unfoldable pub tree_bytes : TreeValue → List ℕ
-tree_bytes t = spelling (message_field 1 (Some (directory_bytes t.root)) ++ element_fields 2 (map directory_bytes t.children))
+tree_bytes t =
+    spelling (message_field 1 (Some (directory_bytes t.root))
+    ++ element_fields 2 (map directory_bytes t.children))
 
--- ---- what bytes say, or the first refusal: the shape, the directories in the order of the bytes, whether the root
+-- ---- what bytes say, or the first refusal: the shape, the directories in the order of the bytes,
+-- whether the root
 -- is there, the rule of children
 
 abbrev pub same_digest : DigestValue → DigestValue → Bool
@@ -77,8 +82,10 @@ is_among digests d = list_any (λ e. same_digest e d) digests
 abbrev pub all_among : List DigestValue → List DigestValue → Bool
 all_among digests others = list_all (is_among others) digests
 
-unfoldable pub children_checked : List DigestValue → List DigestValue → Result (Unit {0}) MessageError
-children_checked named held = if all_among named held && all_among held named then Ok tt else Err BadTree
+unfoldable pub children_checked : List DigestValue → List DigestValue
+    → Result (Unit {0}) MessageError
+children_checked named held =
+    if all_among named held && all_among held named then Ok tt else Err BadTree
 
 -- the tree, or the refusal
 unfoldable pub tree_of : TreeValue → Result TreeValue MessageError

@@ -5,7 +5,9 @@ ghost use Rattle.messages.specs.FileNode.{IsFileNode};
 ghost use Rattle.messages.specs.DirectoryNode.{IsDirectoryNode};
 ghost use Rattle.messages.specs.SymlinkNode.{IsSymlinkNode};
 ghost use Rattle.messages.specs.Gives.{GivesUnlessMemory};
-ghost use Rattle.messages.specs.DirectoryRules.{DirectoryValue, IsDirectory, AreNames, file_names, directory_names, symlink_names, names_ordered, directory_with, directory_of};
+ghost use Rattle.messages.specs.DirectoryRules.{DirectoryValue, IsDirectory, AreNames, file_names};
+ghost use Rattle.messages.specs.DirectoryRules.{directory_names, symlink_names, names_ordered};
+ghost use Rattle.messages.specs.DirectoryRules.{directory_with, directory_checked};
 ghost use Rattle.messages.specs.declared.node.Node.{Node};
 ghost use Rattle.messages.specs.Node.{IsChild, child};
 ghost use Rattle.messages.specs.Directory.{directory_bytes, decoded_directory};
@@ -35,9 +37,18 @@ impl<A: Allocator> Model for Directory<A> {
 
     ghost Value = { DirectoryValue };
 
-    ghost view = { λ a. record { files = a.files.items; directories = a.directories.items; symlinks = a.symlinks.items } };
+    ghost view = { λ a. record {
+      files = a.files.items;
+      directories = a.directories.items;
+      symlinks = a.symlinks.items;
+    } };
 
-    ghost invariant = { λ a. IsDirectory (record { files = a.files.items; directories = a.directories.items; symlinks = a.symlinks.items }) };
+    ghost invariant = { λ a. IsDirectory
+        (record {
+          files = a.files.items;
+          directories = a.directories.items;
+          symlinks = a.symlinks.items;
+        }) };
 }
 
 /// Whether the names of the three lists keep the rules; else the first refusal.
@@ -68,7 +79,7 @@ fn check_names<A: Allocator>(
 impl<A: Allocator> Directory<A> {
     /// The directory of these three lists. Refusals: 33 and 34 by the order of each list in turn,
     /// then 34 where two children of two kinds have one name.
-    #[tactic(auto, unfolding(crate::specs::DirectoryRules::directory_of))]
+    #[tactic(auto, unfolding(crate::specs::DirectoryRules::directory_checked))]
     pub fn new(
         files: Vec<FileNode<A>, A>,
         directories: Vec<DirectoryNode<A>, A>,
@@ -78,7 +89,7 @@ impl<A: Allocator> Directory<A> {
             ↔ AreNames (file_names files.items) (directory_names directories.items)
             (symlink_names symlinks.items) }
         ensures exact { Gives (λ d. d) result
-            (directory_of (directory_with files.items directories.items symlinks.items)) }
+            (directory_checked (directory_with files.items directories.items symlinks.items)) }
     {
         check_names(&files, &directories, &symlinks)?;
         Ok(Directory {

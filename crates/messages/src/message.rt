@@ -1,4 +1,5 @@
-ghost use Rattle.std.specs.Prelude.{◌≡◌, ◌≤◌, ◌++◌, List, ℕ, Result, IfOk, OnOk, OnErr, option_map, map, take, length};
+ghost use Rattle.std.specs.Prelude.{◌≡◌, ◌≤◌, ◌++◌, List, ℕ, Result, IfOk, OnOk, OnErr, option_map};
+ghost use Rattle.std.specs.Prelude.{map, take, length};
 ghost use Rattle.wire.specs.Spelling.{spelling};
 ghost use Rattle.canonical.specs.Fields.{element_fields};
 ghost use Rattle.wire.specs.Bytes.{AreBytes};
@@ -80,8 +81,8 @@ pub fn read_optional<A: Allocator + Copy, M: Message<A>>(
     }
 }
 
-/// Writes the messages as the elements of a field, in order, behind what stands in the buffer. Where
-/// memory runs out, the buffer is as it was.
+/// Writes the messages as the elements of a field, in order, behind what stands in the buffer.
+/// Where memory runs out, the buffer is as it was.
 pub fn write_each<A: Allocator + Copy, M: Encode<A>>(
     alloc: A,
     out: &mut Vec<u8, A>,

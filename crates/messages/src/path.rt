@@ -1,10 +1,12 @@
-ghost use Rattle.std.specs.Prelude.{◌≡◌, ◌↔◌, ℕ, List, [], ◌∷◌, ◌++◌, IsTrue, IfOk, Ok, Err, nat_lt, length, if◌then◌else◌};
+ghost use Rattle.std.specs.Prelude.{◌≡◌, ◌↔◌, ℕ, List, [], ◌∷◌, ◌++◌, IsTrue, IfOk, Ok, Err};
+ghost use Rattle.std.specs.Prelude.{nat_lt, length, if◌then◌else◌};
 ghost use Rattle.std.specs.List.{list_all};
 ghost use Rattle.messages.specs.declared.error.MessageError.TheVariants as errors;
 ghost use Rattle.messages.specs.Gives.{GivesUnlessMemory, RefusesBeforeMemory};
 ghost use Rattle.messages.specs.Name.{is_segment};
 ghost use Rattle.std.specs.Str.Iter.{split_text, split_has_more, split_pattern};
-ghost use Rattle.messages.specs.Path.{path_below, IsPath, LiesUnder, Overlap, is_path, parts_of, path_of, path_text, text_cmp};
+ghost use Rattle.messages.specs.Path.{path_below, IsPath, LiesUnder, Overlap, is_path, parts_of};
+ghost use Rattle.messages.specs.Path.{path_of, path_text, text_cmp};
 
 use crate::error::MessageError;
 use crate::name::{Name, is_segment};

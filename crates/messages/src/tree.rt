@@ -7,7 +7,9 @@ ghost use Rattle.blob_digest.specs.DigestValue.{DigestValue};
 ghost use Rattle.messages.specs.Gives.{GivesUnlessMemory};
 ghost use Rattle.messages.specs.DirectoryRules.{IsDirectory};
 ghost use Rattle.messages.specs.Directory.{directory_bytes, decoded_directory};
-ghost use Rattle.messages.specs.Tree.{TreeValue, IsTree, tree_with, node_digests, named_by, digests_of, child_digests, is_among, all_among, children_checked, tree_of, tree_bytes, decoded_tree};
+ghost use Rattle.messages.specs.Tree.{TreeValue, IsTree, tree_with, node_digests, named_by};
+ghost use Rattle.messages.specs.Tree.{digests_of, child_digests, is_among, all_among};
+ghost use Rattle.messages.specs.Tree.{children_checked, tree_of, tree_bytes, decoded_tree};
 ghost use Rattle.blob_digest.specs.Digest.{digest_cmp, digest_of};
 
 use crate::directory::Directory;

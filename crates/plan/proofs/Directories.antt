@@ -14,7 +14,7 @@ use Rattle.plan.specs.Line.{line_text, Begins, IsStepName}
 use Rattle.plan.specs.Lines.{in_line, IsWrittenOrigin, in_words, written_origin, step_name}
 use Rattle.plan.specs.Plan.{AreLines, AreSteps, HaveApartTargets, lines_text}
 use Rattle.plan.specs.Reading.{FaultyUnlessMemory}
-use Rattle.plan.specs.Targets.{OverlapsAny, Takes}
+use Rattle.plan.specs.Targets.{OverlapsAny, TakesTarget}
 use Rattle.plan.specs.Values.{OriginValue, source, output, LineValue, StepValue, IsOrigin, IsLine}
 
 -- ---- one more line
@@ -171,11 +171,11 @@ many_fault steps first text rest behind good line number e h cut lawful at is f 
 
 pub overlap_fault : (steps : List StepValue) (first : ℕ) (text rest behind : List ℕ) (good : List LineValue) (line : LineValue) (number : ℕ) (targets new : List (List (List ℕ))) (target : List (List ℕ)) (taken : Bool) (e : ReadError)
     → AreNamed steps → text ≡ lines_text steps good ++ rest → AreLines (length steps) good → number ≡ first + length good → IsLine (length steps) line → rest ≡ line_text (in_words steps line) ++ behind
-    → length good ≢ 65536 → AreTargets targets good → target ≡ line.target → taken ≡ false → Takes taken target targets new → e ≡ Faulty (record { line = number; fault = faults.Overlap })
+    → length good ≢ 65536 → AreTargets targets good → target ≡ line.target → taken ≡ false → TakesTarget taken target targets new → e ≡ Faulty (record { line = number; fault = faults.Overlap })
     → FaultyUnlessMemory (IsLinesFault steps first text) e
 overlap_fault steps first text rest behind good line number targets new target taken e h cut lawful at is f room same target_is refused takes told =
     let few = lawful.few in
-    let refusal : Takes false target targets new = subst (λ (t : Bool). Takes t target targets new) refused takes in
+    let refusal : TakesTarget false target targets new = subst (λ (t : Bool). TakesTarget t target targets new) refused takes in
     let overlaps = overlaps_lines targets good line.target same (subst (λ (p : List (List ℕ)). OverlapsAny p targets) target_is refusal.0) in
     lines_fault steps first text rest good number faults.Overlap e cut lawful at
     (inr (line.target, written_origin steps line.origin, begins_in steps line rest behind h is f, (not_later steps line.origin is.origin, omega arith, overlaps))) told

@@ -7,7 +7,7 @@ use Rattle.std.specs.Cmp.{IsTotalOrder}
 use Rattle.std.specs.Cmp.Lexicographic.{slice_cmp, lists_total, nat_list_cmp_total}
 use Rattle.std.specs.FinMap.{slice_cmp-IsAntisymmetric, nat_cmp-IsAntisymmetric}
 use Rattle.messages.specs.Path.{Overlap}
-use Rattle.plan.specs.Targets.{names_cmp, BeginsWith}
+use Rattle.plan.specs.Targets.{names_cmp, IsAtOrBelow}
 
 pub names_cmp_total : IsTotalOrder names_cmp
 names_cmp_total = lists_total nat_list_cmp_total
@@ -36,14 +36,14 @@ before_longer [] (n ∷ r) = refl
 before_longer (n ∷ p) r = rw (name_itself n) (before_longer p r)
 
 -- what stands between a path and what begins with it begins with it
-pub between : (p q r : List (List ℕ)) → is_gt (names_cmp p q) ≡ false → is_gt (names_cmp q (p ++ r)) ≡ false → BeginsWith q p
+pub between : (p q r : List (List ℕ)) → is_gt (names_cmp p q) ≡ false → is_gt (names_cmp q (p ++ r)) ≡ false → IsAtOrBelow q p
 between [] q r h k = (q, refl)
 between (n ∷ p) [] r h k = cc h
 between (n ∷ p) (m ∷ q) r h k = by (slice_cmp nat_cmp n m) (slice_cmp nat_cmp m n) refl refl (nat_list_cmp_total.antisymm m n) h k (between p q r)
   where
     by : (o t : Ordering) → slice_cmp nat_cmp n m ≡ o → slice_cmp nat_cmp m n ≡ t → slice_cmp nat_cmp m n ≡ ordering_reverse (slice_cmp nat_cmp n m)
         → is_gt (ordering_then o (names_cmp p q)) ≡ false → is_gt (ordering_then t (names_cmp q (p ++ r))) ≡ false
-        → (is_gt (names_cmp p q) ≡ false → is_gt (names_cmp q (p ++ r)) ≡ false → BeginsWith q p) → BeginsWith (m ∷ q) (n ∷ p)
+        → (is_gt (names_cmp p q) ≡ false → is_gt (names_cmp q (p ++ r)) ≡ false → IsAtOrBelow q p) → IsAtOrBelow (m ∷ q) (n ∷ p)
     by Less Less e f a h k ih = let back : slice_cmp nat_cmp m n ≡ Greater = a ∙ ap ordering_reverse e in cc (sym f ∙ back)
     by Less Equal e f a h k ih = let back : slice_cmp nat_cmp m n ≡ Greater = a ∙ ap ordering_reverse e in cc (sym f ∙ back)
     by Less Greater e f a h k ih = cc k
@@ -63,15 +63,15 @@ not_behind p q h = turned (names_cmp q p) (names_cmp p q) (names_cmp_total.antis
 
 -- ---- overlaps, by beginnings
 
-pub begins_from : (p q : List (List ℕ)) → Overlap p q → BeginsWith p q ⊎ BeginsWith q p
+pub begins_from : (p q : List (List ℕ)) → Overlap p q → IsAtOrBelow p q ⊎ IsAtOrBelow q p
 begins_from p q (inl e) = inl ([], e ∙ sym (append-nil q))
 begins_from p q (inr (inl (n, r, e))) = inl (n ∷ r, e)
 begins_from p q (inr (inr (n, r, e))) = inr (n ∷ r, e)
 
-pub overlap_under : (p q : List (List ℕ)) → BeginsWith p q → Overlap p q
+pub overlap_under : (p q : List (List ℕ)) → IsAtOrBelow p q → Overlap p q
 overlap_under p q ([], e) = inl (e ∙ append-nil q)
 overlap_under p q (n ∷ r, e) = inr (inl (n, r, e))
 
-pub overlap_above : (p q : List (List ℕ)) → BeginsWith q p → Overlap p q
+pub overlap_above : (p q : List (List ℕ)) → IsAtOrBelow q p → Overlap p q
 overlap_above p q ([], e) = inl (sym (e ∙ append-nil p))
 overlap_above p q (n ∷ r, e) = inr (inr (n, r, e))

@@ -8,7 +8,7 @@ use Rattle.std.specs.List.{Contains}
 use Rattle.std.specs.BTreeSet.{BTreeSet, contains, IsKeyRangeOf, Updates}
 use Rattle.std.proofs.lemmas.Map.Views.{btree_set_contains_iff}
 use Rattle.messages.specs.Path.{Overlap}
-use Rattle.plan.specs.Targets.{names_cmp, BeginsWith, AreApart, OverlapsAny}
+use Rattle.plan.specs.Targets.{names_cmp, IsAtOrBelow, AreTargetsApart, OverlapsAny}
 use Rattle.plan.proofs.NamesOrder.{names_cmp_total, names_same, names_itself, before_longer, between, not_behind, begins_from, overlap_under, overlap_above}
 
 abbrev Key : Type 0
@@ -20,10 +20,10 @@ found s k = btree_set_contains_iff names_cmp_total names_same s k
 -- ---- the target before a path
 
 abbrev pub HasBeginning : List Key → Key → Type 0
-HasBeginning targets names = (above : Key) × Contains targets above × BeginsWith names above
+HasBeginning targets names = (above : Key) × Contains targets above × IsAtOrBelow names above
 
-pub beginning_answer : (s : BTreeSet Key) (names before : Key) (r t : List Key) (b : Bool) → AreApart s.keys → IsKeyRangeOf names_cmp Unbounded (Included names) s r
-    → r ≡ t ++ before ∷ [] → IsTrue b ↔ BeginsWith names before → IsTrue b ↔ HasBeginning s.keys names
+pub beginning_answer : (s : BTreeSet Key) (names before : Key) (r t : List Key) (b : Bool) → AreTargetsApart s.keys → IsKeyRangeOf names_cmp Unbounded (Included names) s r
+    → r ≡ t ++ before ∷ [] → IsTrue b ↔ IsAtOrBelow names before → IsTrue b ↔ HasBeginning s.keys names
 beginning_answer s names before r t b apart range last test =
     let inside = range.3 before t last in
     let there = (found s before).0 inside.1 in (
@@ -35,7 +35,7 @@ beginning_answer s names before r t b apart range last test =
           let within = subst (λ (p : Key). is_gt (names_cmp before p) ≡ false) w.2.1 inside.0.1 in
           let begins = between w.0 before w.2.0 behind within in
           let same = apart before w.0 there w.1 (overlap_under before w.0 begins) in
-          test.1 (subst (BeginsWith names) (sym same) w.2),
+          test.1 (subst (IsAtOrBelow names) (sym same) w.2),
     )
 
 pub no_beginning : (s : BTreeSet Key) (names : Key) (r : List Key) → IsKeyRangeOf names_cmp Unbounded (Included names) s r → r ≡ [] → HasBeginning s.keys names → ⊥
@@ -48,10 +48,10 @@ no_beginning s names r range empty w =
 -- ---- the target behind a path
 
 abbrev pub HasLonger : List Key → Key → Type 0
-HasLonger targets names = (below : Key) × Contains targets below × BeginsWith below names
+HasLonger targets names = (below : Key) × Contains targets below × IsAtOrBelow below names
 
 pub longer_answer : (s : BTreeSet Key) (names after : Key) (r t : List Key) (b : Bool) → IsKeyRangeOf names_cmp (Included names) Unbounded s r
-    → r ≡ after ∷ t → IsTrue b ↔ BeginsWith after names → IsTrue b ↔ HasLonger s.keys names
+    → r ≡ after ∷ t → IsTrue b ↔ IsAtOrBelow after names → IsTrue b ↔ HasLonger s.keys names
 longer_answer s names after r t b range first test =
     let at = subst (λ (l : List Key). IsKeyRangeOf names_cmp (Included names) Unbounded s l) first range in
     let there = (found s after).0 at.1.1 in (
@@ -111,7 +111,7 @@ back p q (inl e) = inl (sym e)
 back p q (inr (inl u)) = inr (inr u)
 back p q (inr (inr u)) = inr (inl u)
 
-pub still_apart : (s n : BTreeSet Key) (k : Key) → Updates names_cmp s n k true → AreApart s.keys → (OverlapsAny k s.keys → ⊥) → AreApart n.keys
+pub still_apart : (s n : BTreeSet Key) (k : Key) → Updates names_cmp s n k true → AreTargetsApart s.keys → (OverlapsAny k s.keys → ⊥) → AreTargetsApart n.keys
 still_apart s n k updates apart new p q has also overlap = by (with_forth s n k p updates has) (with_forth s n k q updates also)
   where
     by : (p ≡ k) ⊎ Contains s.keys p → (q ≡ k) ⊎ Contains s.keys q → p ≡ q
@@ -134,7 +134,7 @@ pub taken_with : (s n : BTreeSet Key) (old : List Key) (names target : Key) → 
 taken_with s n old names target view e updates p =
     subst (λ (ks : List Key). Contains n.keys p ↔ ((p ≡ target) ⊎ Contains ks p)) view (subst (λ (t : Key). Contains n.keys p ↔ ((p ≡ t) ⊎ Contains s.keys p)) e (with_target s n names updates p))
 
-pub taken_apart : (s n : BTreeSet Key) (old : List Key) (names target : Key) → s.keys ≡ old → names ≡ target → Updates names_cmp s n names true → AreApart s.keys → (OverlapsAny target old → ⊥)
-    → AreApart n.keys
+pub taken_apart : (s n : BTreeSet Key) (old : List Key) (names target : Key) → s.keys ≡ old → names ≡ target → Updates names_cmp s n names true → AreTargetsApart s.keys → (OverlapsAny target old → ⊥)
+    → AreTargetsApart n.keys
 taken_apart s n old names target view e updates apart free =
     still_apart s n names updates apart (λ w. free (subst (λ (ks : List Key). OverlapsAny target ks) view (subst (λ (p : Key). OverlapsAny p s.keys) e w)))

@@ -1,6 +1,7 @@
--- Percent-encoded paths (RFC 3986, sections 2.1 to 2.3). Of its spellings this product has one: a byte is escaped exactly
--- where it is neither unreserved nor `/`, with upper-case digits.
-use Rattle.std.specs.Prelude.{ℕ, ◌+◌, ◌/◌, ◌%◌, Bool, ◌&&◌, ◌||◌, ◌==◌, nat_le, nat_lt, List, [], ◌∷◌, if◌then◌else◌}
+-- Percent-encoded paths (RFC 3986, sections 2.1 to 2.3). Of its spellings this product has one: a
+-- byte is escaped exactly where it is neither unreserved nor `/`, with upper-case digits.
+use Rattle.std.specs.Prelude.{ℕ, ◌+◌, ◌/◌, ◌%◌, Bool, ◌&&◌, ◌||◌, ◌==◌, nat_le, nat_lt, List, []}
+use Rattle.std.specs.Prelude.{◌∷◌, if◌then◌else◌}
 use Rattle.std.specs.List.{flat_map}
 use Rattle.messages.specs.Path.{path_text}
 

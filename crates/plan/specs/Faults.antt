@@ -5,15 +5,16 @@ use Rattle.plan.specs.declared.error.PlanError.{PlanError}
 use Rattle.plan.specs.declared.error.Fault.{Fault}
 use Rattle.plan.specs.declared.error.Fault.TheVariants as faults
 use Rattle.plan.specs.Line.{line_text, Begins}
-use Rattle.plan.specs.Lines.{WrittenOrigin, from_source, from_step, WrittenLine, step_line, root_line, in_line, IsWrittenLine, written_words}
+use Rattle.plan.specs.Lines.{WrittenOrigin, from_source, from_step, WrittenLine, step_line}
+use Rattle.plan.specs.Lines.{root_line, in_line, IsWrittenLine, written_words}
 use Rattle.plan.specs.Plan.{IsStep, AreSteps, IsPlan, plan_header, step_text, plan_text}
 use Rattle.plan.specs.Targets.{OverlapsAny}
 use Rattle.plan.specs.Values.{LineValue, StepValue}
 
 -- ---- beginnings
 
--- What may stand in front of a line: the header; or it, whole steps, and a step with its lines so far; or it, all steps,
--- and the lines of the root so far.
+-- What may stand in front of a line: the header; or it, whole steps, and a step with its lines so
+-- far; or it, all steps, and the lines of the root so far.
 pub data Beginning : Type 0 where
   at_start : Beginning
   in_step : List StepValue → StepValue → Beginning
@@ -22,12 +23,14 @@ pub data Beginning : Type 0 where
 -- nothing in it is at fault
 abbrev pub IsBeginning : Beginning → Type 0
 IsBeginning at_start = Unit {0}
-IsBeginning (in_step earlier step) = (length earlier < 4096) × AreSteps [] earlier × IsStep earlier step
+IsBeginning (in_step earlier step) =
+    (length earlier < 4096) × AreSteps [] earlier × IsStep earlier step
 IsBeginning (in_root steps lines) = IsPlan (record { steps = steps; root_lines = lines })
 
 abbrev pub beginning_text : Beginning → List ℕ
 beginning_text at_start = plan_header
-beginning_text (in_step earlier step) = plan_header ++ (flat_map (step_text earlier) earlier ++ step_text earlier step)
+beginning_text (in_step earlier step) =
+    plan_header ++ (flat_map (step_text earlier) earlier ++ step_text earlier step)
 beginning_text (in_root steps lines) = plan_text (record { steps = steps; root_lines = lines })
 
 -- how many lines steps are
@@ -47,7 +50,8 @@ next_number (in_root steps lines) = 3 + line_count steps + length lines
 abbrev pub BeginsWithLine : WrittenLine → List ℕ → Type 0
 BeginsWithLine line text = IsWrittenLine line × Begins (line_text (written_words line)) text
 
--- where a line may stand: an `in` line in a step or the root, a `step` or `root` line in front of the root
+-- where a line may stand: an `in` line in a step or the root, a `step` or `root` line in front of
+-- the root
 abbrev pub MayStand : Beginning → WrittenLine → Type 0
 MayStand at_start (step_line name frame) = Unit {0}
 MayStand at_start root_line = Unit {0}
@@ -67,30 +71,38 @@ abbrev pub IsLater : List StepValue → WrittenOrigin → Type 0
 IsLater steps (from_source path) = ⊥
 IsLater steps (from_step name path) = ¬ HasStep steps name
 
--- The faults of a step of this name behind these steps: one of them has its name, or else they are as many as may be.
+-- The faults of a step of this name behind these steps: one of them has its name, or else they are
+-- as many as may be.
 abbrev pub IsStepFault : List StepValue → List ℕ → Fault → Type 0
 IsStepFault steps name faults.SameStep = HasStep steps name
 IsStepFault steps name faults.TooMany = (¬ HasStep steps name) × (length steps ≡ 4096)
 IsStepFault steps name _ = ⊥
 
--- The faults of a line behind these lines of a directory, in front of which these steps stand: it reads a later step; or
--- else the lines are as many as may be; or else its target overlaps that of one of them.
-abbrev pub IsInFault : List StepValue → List LineValue → List (List ℕ) → WrittenOrigin → Fault → Type 0
+-- The faults of a line behind these lines of a directory, in front of which these steps stand: it
+-- reads a later step; or else the lines are as many as may be; or else its target overlaps that of
+-- one of them.
+abbrev pub IsInFault : List StepValue → List LineValue → List (List ℕ) → WrittenOrigin → Fault
+    → Type 0
 IsInFault earlier lines target origin faults.LaterStep = IsLater earlier origin
-IsInFault earlier lines target origin faults.TooMany = (¬ IsLater earlier origin) × (length lines ≡ 65536)
+IsInFault earlier lines target origin faults.TooMany =
+    (¬ IsLater earlier origin) × (length lines ≡ 65536)
 IsInFault earlier lines target origin faults.Overlap =
-    (¬ IsLater earlier origin) × (length lines < 65536) × OverlapsAny target (map (λ other. other.target) lines)
+    (¬ IsLater earlier origin) × (length lines < 65536)
+    × OverlapsAny target (map (λ other. other.target) lines)
 IsInFault earlier lines target origin _ = ⊥
 
 -- the faults of a line that may stand behind the beginning
 abbrev pub IsLineFault : Beginning → WrittenLine → Fault → Type 0
 IsLineFault at_start line fault = ⊥
-IsLineFault (in_step earlier step) (step_line name frame) fault = IsStepFault (earlier ++ step ∷ []) name fault
+IsLineFault (in_step earlier step) (step_line name frame) fault =
+    IsStepFault (earlier ++ step ∷ []) name fault
 IsLineFault (in_step earlier step) root_line fault = ⊥
-IsLineFault (in_step earlier step) (in_line target origin) fault = IsInFault earlier step.lines target origin fault
+IsLineFault (in_step earlier step) (in_line target origin) fault =
+    IsInFault earlier step.lines target origin fault
 IsLineFault (in_root steps lines) (step_line name frame) fault = ⊥
 IsLineFault (in_root steps lines) root_line fault = ⊥
-IsLineFault (in_root steps lines) (in_line target origin) fault = IsInFault steps lines target origin fault
+IsLineFault (in_root steps lines) (in_line target origin) fault =
+    IsInFault steps lines target origin fault
 
 -- a plan may end here
 abbrev pub MayEnd : Beginning → Type 0
@@ -100,12 +112,15 @@ MayEnd (in_root steps lines) = Unit {0}
 
 -- the text is not that of no more lines, and begins with no line that may stand here
 abbrev pub NoLineStands : Beginning → List ℕ → Type 0
-NoLineStands start rest = (MayEnd start → rest ≢ []) × ((line : WrittenLine) → MayStand start line → ¬ BeginsWithLine line rest)
+NoLineStands start rest =
+    (MayEnd start → rest ≢ [])
+    × ((line : WrittenLine) → MayStand start line → ¬ BeginsWithLine line rest)
 
 -- what is wrong with the text behind a beginning
 abbrev pub IsNextFault : Beginning → List ℕ → Fault → Type 0
 IsNextFault start rest fault =
-    ((fault ≡ faults.BadLine) × NoLineStands start rest) ⊎ ((line : WrittenLine) × BeginsWithLine line rest × IsLineFault start line fault)
+    ((fault ≡ faults.BadLine) × NoLineStands start rest)
+    ⊎ ((line : WrittenLine) × BeginsWithLine line rest × IsLineFault start line fault)
 
 -- The text begins with a beginning of a plan, and the next line is at fault.
 pub record IsFaultBehind (text : List ℕ) (e : PlanError) : Type 0 where
@@ -118,4 +133,6 @@ pub record IsFaultBehind (text : List ℕ) (e : PlanError) : Type 0 where
 
 -- why a text is no plan: the first line at fault
 abbrev pub IsPlanFault : List ℕ → PlanError → Type 0
-IsPlanFault text e = ((e ≡ record { line = 1; fault = faults.BadHeader }) × ¬ Begins plan_header text) ⊎ IsFaultBehind text e
+IsPlanFault text e =
+    ((e ≡ record { line = 1; fault = faults.BadHeader }) × ¬ Begins plan_header text)
+    ⊎ IsFaultBehind text e

@@ -1,5 +1,6 @@
 -- Texts of lines: each ends with one newline, and its words are parted by one space.
-use Rattle.std.specs.Prelude.{◌≡◌, ℕ, ◌<◌, ◌≤◌, Bool, ◌&&◌, ◌||◌, ◌==◌, nat_le, List, [], ◌∷◌, ◌++◌, length, codes}
+use Rattle.std.specs.Prelude.{◌≡◌, ℕ, ◌<◌, ◌≤◌, Bool, ◌&&◌, ◌||◌, ◌==◌, nat_le, List, [], ◌∷◌, ◌++◌}
+use Rattle.std.specs.Prelude.{length, codes}
 use Rattle.std.specs.List.{AllPass}
 use Rattle.blob_digest.specs.Digest.{DigestValue}
 use Rattle.blob_digest.specs.Text.{digest_text}
@@ -14,7 +15,8 @@ Begins front text = (rest : List ℕ) × (text ≡ front ++ rest)
 
 -- `a` to `z`, `0` to `9`, `_` and `-`
 abbrev pub is_step_name_byte : ℕ → Bool
-is_step_name_byte c = (nat_le 97 c && nat_le c 122) || (nat_le 48 c && nat_le c 57) || (c == 95) || (c == 45)
+is_step_name_byte c =
+    (nat_le 97 c && nat_le c 122) || (nat_le 48 c && nat_le c 57) || (c == 95) || (c == 45)
 
 -- the name of a step: 1 to 64 of these bytes
 pub record IsStepName (name : List ℕ) : Type 0 where

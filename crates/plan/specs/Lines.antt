@@ -31,7 +31,8 @@ IsWrittenLine (step_line name frame) = IsStepName name × IsDigest frame
 IsWrittenLine root_line = Unit {0}
 IsWrittenLine (in_line target origin) = IsPath target × IsWrittenOrigin origin
 
--- `src .` for the whole source tree, `src PATH` for a path of it, `out STEP PATH` for a path of a step's outputs
+-- `src .` for the whole source tree, `src PATH` for a path of it, `out STEP PATH` for a path of a
+-- step's outputs
 abbrev pub written_origin_words : WrittenOrigin → List ℕ
 written_origin_words (from_source []) = codes "src ."
 written_origin_words (from_source (name ∷ path)) = codes "src " ++ escaped_path (name ∷ path)
@@ -41,7 +42,8 @@ written_origin_words (from_step name path) = codes "out " ++ (name ++ 32 ∷ esc
 abbrev pub written_words : WrittenLine → List ℕ
 written_words (step_line name frame) = step_words name frame
 written_words root_line = codes "root"
-written_words (in_line target origin) = codes "in " ++ (escaped_path target ++ 32 ∷ written_origin_words origin)
+written_words (in_line target origin) =
+    codes "in " ++ (escaped_path target ++ 32 ∷ written_origin_words origin)
 
 -- ---- lines as values
 

@@ -8,7 +8,8 @@ use Rattle.plan.specs.declared.error.Fault.{Fault}
 use Rattle.plan.specs.declared.error.Fault.TheVariants as faults
 use Rattle.plan.specs.Faults.{line_count, BeginsWithLine, IsLater, IsInFault}
 use Rattle.plan.specs.Line.{Begins}
-use Rattle.plan.specs.Lines.{WrittenOrigin, step_line, in_line, IsWrittenOrigin, IsWrittenLine, written_origin_words, written_words}
+use Rattle.plan.specs.Lines.{WrittenOrigin, step_line, in_line, IsWrittenOrigin, IsWrittenLine}
+use Rattle.plan.specs.Lines.{written_origin_words, written_words}
 use Rattle.plan.specs.Plan.{AreLines, AreSteps, lines_text, step_text}
 use Rattle.plan.specs.Values.{LineValue, StepValue}
 
@@ -18,35 +19,47 @@ items_of texts = map (λ v. v.items) texts
 
 -- why words are no origin of a line behind these steps
 abbrev pub IsOriginFault : List StepValue → List ℕ → Fault → Type 0
-IsOriginFault steps words faults.BadLine = (origin : WrittenOrigin) → IsWrittenOrigin origin → words ≢ written_origin_words origin
+IsOriginFault steps words faults.BadLine =
+    (origin : WrittenOrigin) → IsWrittenOrigin origin → words ≢ written_origin_words origin
 IsOriginFault steps words faults.LaterStep =
-    (origin : WrittenOrigin) × IsWrittenOrigin origin × (words ≡ written_origin_words origin) × IsLater steps origin
+    (origin : WrittenOrigin) × IsWrittenOrigin origin × (words ≡ written_origin_words origin)
+    × IsLater steps origin
 IsOriginFault steps words _ = ⊥
 
 -- why words are no line of a directory behind these steps
 abbrev pub IsWordsFault : List StepValue → List ℕ → Fault → Type 0
 IsWordsFault steps words faults.BadLine =
-    (target : List (List ℕ)) (origin : WrittenOrigin) → IsWrittenLine (in_line target origin) → words ≢ written_words (in_line target origin)
+    (target : List (List ℕ)) (origin : WrittenOrigin) → IsWrittenLine (in_line target origin)
+    → words ≢ written_words (in_line target origin)
 IsWordsFault steps words faults.LaterStep =
-    (target : List (List ℕ)) × (origin : WrittenOrigin) × IsWrittenLine (in_line target origin) × (words ≡ written_words (in_line target origin))
+    (target : List (List ℕ)) × (origin : WrittenOrigin) × IsWrittenLine (in_line target origin)
+    × (words ≡ written_words (in_line target origin))
     × IsLater steps origin
 IsWordsFault steps words _ = ⊥
 
 -- why a text begins with no line of a directory behind these steps
 abbrev pub IsFirstFault : List StepValue → List ℕ → Fault → Type 0
-IsFirstFault steps text faults.BadLine = (target : List (List ℕ)) (origin : WrittenOrigin) → ¬ BeginsWithLine (in_line target origin) text
+IsFirstFault steps text faults.BadLine =
+    (target : List (List ℕ)) (origin : WrittenOrigin)
+    → ¬ BeginsWithLine (in_line target origin) text
 IsFirstFault steps text faults.LaterStep =
-    (target : List (List ℕ)) × (origin : WrittenOrigin) × BeginsWithLine (in_line target origin) text × IsLater steps origin
+    (target : List (List ℕ)) × (origin : WrittenOrigin)
+    × BeginsWithLine (in_line target origin) text × IsLater steps origin
 IsFirstFault steps text _ = ⊥
 
 -- what is wrong with an `in` line behind these lines
 abbrev pub IsNextInFault : List StepValue → List LineValue → List ℕ → Fault → Type 0
 IsNextInFault steps good rest fault =
-    ((fault ≡ faults.BadLine) × Begins (codes "in ") rest × ((target : List (List ℕ)) (origin : WrittenOrigin) → ¬ BeginsWithLine (in_line target origin) rest))
-    ⊎ ((target : List (List ℕ)) × (origin : WrittenOrigin) × BeginsWithLine (in_line target origin) rest × IsInFault steps good target origin fault)
+    ((fault ≡ faults.BadLine) × Begins (codes "in ") rest
+    × ((target : List (List ℕ)) (origin : WrittenOrigin)
+    → ¬ BeginsWithLine (in_line target origin) rest))
+    ⊎ ((target : List (List ℕ)) × (origin : WrittenOrigin)
+    × BeginsWithLine (in_line target origin) rest × IsInFault steps good target origin fault)
 
--- The text begins with lines of a directory behind these steps, of which the first has this number, and the next `in` line is at fault.
-pub record IsLinesFault (steps : List StepValue) (first : ℕ) (text : List ℕ) (e : PlanError) : Type 0 where
+-- The text begins with lines of a directory behind these steps, of which the first has this number,
+-- and the next `in` line is at fault.
+pub record IsLinesFault (steps : List StepValue) (first : ℕ) (text : List ℕ)
+    (e : PlanError) : Type 0 where
   pub good : List LineValue
   pub rest : List ℕ
   pub lawful : AreLines (length steps) good
@@ -54,8 +67,10 @@ pub record IsLinesFault (steps : List StepValue) (first : ℕ) (text : List ℕ)
   pub number : e.line ≡ first + length good
   pub fault : IsNextInFault steps good rest e.fault
 
--- The text, behind the header, begins with these steps, and with no further one. The next line has this number.
-pub record IsFront (text : List ℕ) (steps : List StepValue) (rest : List ℕ) (number : ℕ) : Type 0 where
+-- The text, behind the header, begins with these steps, and with no further one. The next line has
+-- this number.
+pub record IsFront (text : List ℕ) (steps : List StepValue) (rest : List ℕ)
+    (number : ℕ) : Type 0 where
   pub few : length steps ≤ 4096
   pub lawful : AreSteps [] steps
   pub cut : text ≡ flat_map (step_text steps) steps ++ rest

@@ -12,7 +12,8 @@ use Rattle.plan.specs.Values.{LineValue, StepValue, PlanValue, IsLine}
 -- no two of the lines have targets that overlap
 abbrev pub HaveApartTargets : List LineValue → Type 0
 HaveApartTargets [] = Unit {0}
-HaveApartTargets (line ∷ lines) = AllByRecursion (λ other. ¬ Overlap line.target other.target) lines × HaveApartTargets lines
+HaveApartTargets (line ∷ lines) =
+    AllByRecursion (λ other. ¬ Overlap line.target other.target) lines × HaveApartTargets lines
 
 -- the lines of one directory, in front of which so many steps stand
 pub record AreLines (before : ℕ) (lines : List LineValue) : Type 0 where
@@ -53,4 +54,6 @@ step_text steps step = line_text (step_words step.name step.frame) ++ lines_text
 -- the header, the steps, and the lines of the root behind `root`
 abbrev pub plan_text : PlanValue → List ℕ
 plan_text plan =
-    plan_header ++ (flat_map (step_text plan.steps) plan.steps ++ (line_text (codes "root") ++ lines_text plan.steps plan.root_lines))
+    plan_header
+    ++ (flat_map (step_text plan.steps) plan.steps
+    ++ (line_text (codes "root") ++ lines_text plan.steps plan.root_lines))

@@ -37,20 +37,24 @@ record_header = line_text (codes "buildrecord 1")
 abbrev pub entries_text : List (List ℕ) → List DigestValue → List ℕ
 entries_text [] digests = []
 entries_text (name ∷ names) [] = []
-entries_text (name ∷ names) (digest ∷ digests) = line_text (step_words name digest) ++ entries_text names digests
+entries_text (name ∷ names) (digest ∷ digests) =
+    line_text (step_words name digest) ++ entries_text names digests
 
 abbrev pub record_text : RecordValue → List ℕ
 record_text record_of = record_header ++ entries_text record_of.names record_of.digests
 
 -- ---- faults
 
--- What is wrong with the text where these names are left: it begins with no line of a record; or with one of another
--- step; or it ends too early.
+-- What is wrong with the text where these names are left: it begins with no line of a record; or
+-- with one of another step; or it ends too early.
 abbrev pub IsNextEntryFault : List (List ℕ) → List ℕ → Fault → Type 0
-IsNextEntryFault left rest BadLine = (rest ≢ []) × ((name : List ℕ) (digest : DigestValue) → ¬ BeginsWithLine (step_line name digest) rest)
+IsNextEntryFault left rest BadLine =
+    (rest ≢ [])
+    × ((name : List ℕ) (digest : DigestValue) → ¬ BeginsWithLine (step_line name digest) rest)
 IsNextEntryFault left rest RecordDiffers =
     ((rest ≡ []) × (left ≢ []))
-    ⊎ ((name : List ℕ) × (digest : DigestValue) × BeginsWithLine (step_line name digest) rest × ((more : List (List ℕ)) → left ≢ name ∷ more))
+    ⊎ ((name : List ℕ) × (digest : DigestValue) × BeginsWithLine (step_line name digest) rest
+    × ((more : List (List ℕ)) → left ≢ name ∷ more))
 IsNextEntryFault left rest _ = ⊥
 
 -- The text has a line of a record for each of the first names, and the next line is at fault.
@@ -67,4 +71,6 @@ pub record IsEntryFault (names : List (List ℕ)) (text : List ℕ) (e : PlanErr
 
 -- why a text is no record of a plan with these names: the first line at fault
 abbrev pub IsRecordFault : List (List ℕ) → List ℕ → PlanError → Type 0
-IsRecordFault names text e = ((e ≡ record { line = 1; fault = BadHeader }) × ¬ Begins record_header text) ⊎ IsEntryFault names text e
+IsRecordFault names text e =
+    ((e ≡ record { line = 1; fault = BadHeader }) × ¬ Begins record_header text)
+    ⊎ IsEntryFault names text e

@@ -11,13 +11,16 @@ abbrev pub OverlapsAny : List (List ℕ) → List (List (List ℕ)) → Type 0
 OverlapsAny path targets = (other : List (List ℕ)) × Contains targets other × Overlap path other
 
 -- no two of the targets overlap
-abbrev pub AreApart : List (List (List ℕ)) → Type 0
-AreApart targets = (p q : List (List ℕ)) → Contains targets p → Contains targets q → Overlap p q → p ≡ q
+abbrev pub AreTargetsApart : List (List (List ℕ)) → Type 0
+AreTargetsApart targets =
+    (p q : List (List ℕ)) → Contains targets p → Contains targets q → Overlap p q → p ≡ q
 
 -- A target is taken where it overlaps none, and then is one of the targets; else nothing changes.
-abbrev pub Takes : Bool → List (List ℕ) → List (List (List ℕ)) → List (List (List ℕ)) → Type 0
-Takes true path old new = (¬ OverlapsAny path old) × ((p : List (List ℕ)) → Contains new p ↔ ((p ≡ path) ⊎ Contains old p))
-Takes false path old new = OverlapsAny path old × (new ≡ old)
+abbrev pub TakesTarget : Bool → List (List ℕ) → List (List (List ℕ)) → List (List (List ℕ)) → Type 0
+TakesTarget true path old new =
+    (¬ OverlapsAny path old)
+    × ((p : List (List ℕ)) → Contains new p ↔ ((p ≡ path) ⊎ Contains old p))
+TakesTarget false path old new = OverlapsAny path old × (new ≡ old)
 
 -- ---- what the code keeps
 
@@ -26,5 +29,5 @@ abbrev pub names_cmp : List (List ℕ) → List (List ℕ) → Ordering
 names_cmp = slice_cmp (slice_cmp nat_cmp)
 
 -- the other path, or one above it
-abbrev pub BeginsWith : List (List ℕ) → List (List ℕ) → Type 0
-BeginsWith path above = (rest : List (List ℕ)) × (path ≡ above ++ rest)
+abbrev pub IsAtOrBelow : List (List ℕ) → List (List ℕ) → Type 0
+IsAtOrBelow path above = (rest : List (List ℕ)) × (path ≡ above ++ rest)

@@ -3,8 +3,8 @@ use Rattle.std.specs.Prelude.{◌≡◌, ◌⊎◌, ◌<◌, ℕ, List, []}
 use Rattle.blob_digest.specs.Digest.{DigestValue}
 use Rattle.messages.specs.Path.{IsPath}
 
--- Where the content of a line comes from: a path of the source tree, where no names are the whole tree; or a path of
--- what an earlier step made, by the number of the step, counted from 0.
+-- Where the content of a line comes from: a path of the source tree, where no names are the whole
+-- tree; or a path of what an earlier step made, by the number of the step, counted from 0.
 pub data OriginValue : Type 0 where
   source : List (List ℕ) → OriginValue
   output : ℕ → List (List ℕ) → OriginValue

@@ -13,8 +13,10 @@ pub fn spells_one_plan()
 
 /// A text has one first fault at most, and the text of a plan has none. It does nothing.
 pub fn faults_are_single_valued()
-    ensures once { (text : List ℕ) (e f : PlanError) → IsPlanFault text e → IsPlanFault text f → e ≡ f }
-    ensures none { (plan : PlanValue) (e : PlanError) → IsPlan plan → ¬ IsPlanFault (plan_text plan) e }
+    ensures once { (text : List ℕ) (e f : PlanError) → IsPlanFault text e → IsPlanFault text f
+        → e ≡ f }
+    ensures none { (plan : PlanValue) (e : PlanError) → IsPlan plan
+        → ¬ IsPlanFault (plan_text plan) e }
 {}
 
 /// No text is that of two records of one plan. It does nothing.
@@ -27,8 +29,10 @@ pub fn spells_one_record()
 /// A text has one first fault at most as a record of a plan with these names, and the text of such
 /// a record has none. It does nothing.
 pub fn record_faults_are_single_valued()
-    ensures once { (names : List (List ℕ)) (text : List ℕ) (e f : PlanError) → IsRecordFault names text e
+    ensures once { (names : List (List ℕ)) (text : List ℕ) (e f : PlanError)
+        → IsRecordFault names text e
         → IsRecordFault names text f
         → e ≡ f }
-    ensures none { (r : RecordValue) (e : PlanError) → IsRecord r → ¬ IsRecordFault r.names (record_text r) e }
+    ensures none { (r : RecordValue) (e : PlanError) → IsRecord r
+        → ¬ IsRecordFault r.names (record_text r) e }
 {}

@@ -2,7 +2,8 @@ ghost use Rattle.std.specs.Prelude.{◌≡◌, ◌++◌, IfOk, OnOk, MatchResult
 ghost use Rattle.std.specs.List.{AllByRecursion};
 ghost use Rattle.plan.specs.Parts.{IsOriginFault, IsWordsFault, IsFirstFault};
 ghost use Rattle.plan.specs.Line.{line_text};
-ghost use Rattle.plan.specs.Lines.{from_source, from_step, written_origin_words, origin_words, in_words, origin_value};
+ghost use Rattle.plan.specs.Lines.{from_source, from_step, written_origin_words, origin_words};
+ghost use Rattle.plan.specs.Lines.{in_words, origin_value};
 ghost use Rattle.plan.specs.Plan.{lines_text};
 ghost use Rattle.plan.specs.Values.{IsOrigin, IsLine};
 
@@ -92,7 +93,8 @@ fn read_origin<A: Allocator + Copy>(
     words: &[u8],
 ) -> Result<Result<Origin<A>, Fault>, AllocError>
     ensures { IfOk result (λ read. MatchResult read
-        (λ origin. IsOrigin (length steps.now) (origin_value origin) × (words.now ≡ origin_words steps.now (origin_value origin)))
+        (λ origin. IsOrigin (length steps.now) (origin_value origin)
+        × (words.now ≡ origin_words steps.now (origin_value origin)))
         (IsOriginFault steps.now words.now)) }
 {
     if let Some(path) = strip(words, b"src ") {
@@ -136,7 +138,8 @@ pub(crate) fn first_line<'a, A: Allocator + Copy>(
     text: &'a [u8],
 ) -> Result<Result<(Line<A>, &'a [u8]), Fault>, AllocError>
     ensures { IfOk result (λ read. MatchResult read
-        (λ r. IsLine (length steps.now) r.0 × (text.now ≡ line_text (in_words steps.now r.0) ++ r.1.now))
+        (λ r. IsLine (length steps.now) r.0
+        × (text.now ≡ line_text (in_words steps.now r.0) ++ r.1.now))
         (IsFirstFault steps.now text.now)) }
 {
     let Some((words, behind)) = split_once(text, b'\n') else {
@@ -206,7 +209,8 @@ fn write_line<A: Allocator + Copy>(
     line: &Line<A>,
 ) -> Result<(), AllocError>
     requires { IsLine (length steps.now) line.now }
-    ensures { OnOk result (text.new.items ≡ text.old.items ++ line_text (in_words steps.now line.now)) }
+    ensures { OnOk result
+        (text.new.items ≡ text.old.items ++ line_text (in_words steps.now line.now)) }
 {
     text.extend_from_slice(b"in ")?;
     text.extend_from_slice(write_path(alloc, &line.target)?.as_bytes())?;

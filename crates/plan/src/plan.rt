@@ -1,9 +1,11 @@
-ghost use Rattle.std.specs.Prelude.{◌≡◌, ◌+◌, ◌<◌, ◌≤◌, ◌^◌, ◌++◌, [], Err, IfOk, IfErr, OnOk, length, codes};
+ghost use Rattle.std.specs.Prelude.{◌≡◌, ◌+◌, ◌<◌, ◌≤◌, ◌^◌, ◌++◌, [], Err, IfOk, IfErr, OnOk};
+ghost use Rattle.std.specs.Prelude.{length, codes};
 ghost use Rattle.std.specs.List.{AllByRecursion, flat_map};
 ghost use Rattle.plan.specs.Faults.{IsFaultBehind, IsPlanFault};
 ghost use Rattle.plan.specs.Parts.{IsLinesFault, IsFront};
 ghost use Rattle.plan.specs.Line.{Begins};
-ghost use Rattle.plan.specs.Plan.{AreLines, AreSteps, IsPlan, plan_header, lines_text, step_text, plan_text};
+ghost use Rattle.plan.specs.Plan.{AreLines, AreSteps, IsPlan, plan_header, lines_text, step_text};
+ghost use Rattle.plan.specs.Plan.{plan_text};
 ghost use Rattle.plan.specs.Reading.{FaultyUnlessMemory, GivesUnlessMemory, bad_header};
 ghost use Rattle.plan.specs.Values.{PlanValue, IsLine};
 
@@ -66,7 +68,9 @@ fn read_lines<'a, A: Allocator + Copy>(
 ) -> Result<(Vec<Line<A>, A>, &'a [u8]), ReadError>
     requires lawful { AreSteps [] steps.now }
     requires first_fits { first < 2 ^ 62 }
-    ensures found { IfOk result (λ r. AreLines (length steps.now) r.0.items × (text.now ≡ lines_text steps.now r.0.items ++ r.1.now)) }
+    ensures found { IfOk result
+        (λ r. AreLines (length steps.now) r.0.items
+        × (text.now ≡ lines_text steps.now r.0.items ++ r.1.now)) }
     ensures none { IfOk result (λ r. ¬ Begins (codes "in ") r.1.now) }
     ensures fault { IfErr result (FaultyUnlessMemory (IsLinesFault steps.now first text.now)) }
 {
@@ -93,7 +97,8 @@ fn read_lines<'a, A: Allocator + Copy>(
 
 /// The steps in front of the root, the first line of which is line 2.
 fn read_steps<A: Allocator + Copy>(alloc: A, text: &[u8]) -> Result<Front<'_, A>, ReadError>
-    ensures found { IfOk result (λ front. IsFront text.now front.steps front.rest.now front.number) }
+    ensures found { IfOk result
+        (λ front. IsFront text.now front.steps front.rest.now front.number) }
     ensures fault { IfErr result (FaultyUnlessMemory (IsFaultBehind (plan_header ++ text.now))) }
 {
     let mut steps = Steps::new(alloc);

@@ -1,8 +1,11 @@
-ghost use Rattle.std.specs.Prelude.{◌≡◌, ◌≢◌, ◌↔◌, ◌≤◌, [], ◌∷◌, ◌++◌, List, ℕ, Err, IfOk, IfErr, MatchResult, IsTrue, length, map};
+ghost use Rattle.std.specs.Prelude.{◌≡◌, ◌≢◌, ◌↔◌, ◌≤◌, [], ◌∷◌, ◌++◌, List, ℕ, Err, IfOk, IfErr};
+ghost use Rattle.std.specs.Prelude.{MatchResult, IsTrue, length, map};
 ghost use Rattle.std.specs.List.{AllByRecursion};
 ghost use Rattle.blob_digest.specs.Digest.{IsDigest};
 ghost use Rattle.plan.specs.Line.{Begins, IsStepName, line_text, step_words};
-ghost use Rattle.plan.specs.Record.{RecordValue, IsRecord, IsNextEntryFault, IsEntryFault, names_of, Fits, entries_text, record_header, record_text, IsRecordFault};
+ghost use Rattle.plan.specs.Record.{RecordValue, IsRecord, IsNextEntryFault, IsEntryFault};
+ghost use Rattle.plan.specs.Record.{names_of, Fits, entries_text, record_header, record_text};
+ghost use Rattle.plan.specs.Record.{IsRecordFault};
 ghost use Rattle.plan.specs.Reading.{FaultyUnlessMemory, GivesUnlessMemory, bad_header};
 
 use crate::error::{Fault, ReadError};
@@ -37,7 +40,8 @@ impl<A: Allocator> Model for Record<A> {
 /// The entry of this name that the text begins with.
 fn read_entry<'a>(text: &'a [u8], name: &[u8]) -> Result<StepLine<'a>, Fault>
     ensures { MatchResult result
-        (λ line. IsDigest line.digest × (text.now ≡ line_text (step_words name.now line.digest) ++ line.behind.now))
+        (λ line. IsDigest line.digest
+        × (text.now ≡ line_text (step_words name.now line.digest) ++ line.behind.now))
         (λ fault. (more : List (List ℕ)) → IsNextEntryFault (name.now ∷ more) text.now fault) }
 {
     if text.is_empty() {
@@ -63,9 +67,13 @@ fn read_entries<A: Allocator + Copy>(
 ) -> Result<Vec<Digest, A>, ReadError>
     requires lawful { AllByRecursion (λ s. IsStepName s.name) steps.now }
     requires few { length steps.now ≤ 4096 }
-    ensures found { IfOk result (λ digests. IsRecord (record { names = map (λ s. s.name) steps.now; digests = digests.items })
+    ensures found { IfOk result
+        (λ digests. IsRecord
+        (record { names = map (λ s. s.name) steps.now; digests = digests.items })
         × (text.now ≡ entries_text (map (λ s. s.name) steps.now) digests.items)) }
-    ensures fault { IfErr result (FaultyUnlessMemory (IsEntryFault (map (λ s. s.name) steps.now) (record_header ++ text.now))) }
+    ensures fault { IfErr result
+        (FaultyUnlessMemory
+        (IsEntryFault (map (λ s. s.name) steps.now) (record_header ++ text.now))) }
 {
     let mut digests = Vec::new(alloc);
     let mut rest = text;
@@ -112,7 +120,8 @@ impl<A: Allocator + Copy> Record<A> {
     /// The record of the plan with these digests, one a step.
     pub fn new(alloc: A, plan: &Plan<A>, digests: Vec<Digest, A>) -> Result<Record<A>, AllocError>
         requires { length digests.items ≡ length plan.now.steps }
-        ensures { IfOk result (λ r. r ≡ record { names = names_of plan.now; digests = digests.items }) }
+        ensures { IfOk result
+            (λ r. r ≡ record { names = names_of plan.now; digests = digests.items }) }
     {
         Ok(Record {
             names: copy_names(alloc, plan.steps())?,
@@ -124,12 +133,14 @@ impl<A: Allocator + Copy> Record<A> {
     /// 92), then whether the plan's next step is another (97).
     pub fn read(alloc: A, text: &[u8], plan: &Plan<A>) -> Result<Record<A>, ReadError>
         // The text is that of the record, which is of the plan.
-        ensures found { IfOk result (λ r. IsRecord r × Fits r plan.now × (text.now ≡ record_text r)) }
+        ensures found { IfOk result
+            (λ r. IsRecord r × Fits r plan.now × (text.now ≡ record_text r)) }
         // The record whose text it is is answered.
         ensures only { (r : RecordValue) → IsRecord r → Fits r plan.now → text.now ≡ record_text r
             → GivesUnlessMemory result r }
         // Which line is at fault, and how.
-        ensures fault { IfErr result (FaultyUnlessMemory (IsRecordFault (names_of plan.now) text.now)) }
+        ensures fault { IfErr result
+            (FaultyUnlessMemory (IsRecordFault (names_of plan.now) text.now)) }
         // A text without the header takes no memory to refuse.
         ensures header { ¬ Begins record_header text.now → result ≡ Err bad_header }
     {

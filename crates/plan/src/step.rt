@@ -110,7 +110,8 @@ pub(crate) fn write_step_line<A: Allocator + Copy>(
     name: &StepName<A>,
     digest: &Digest,
 ) -> Result<(), AllocError>
-    ensures { OnOk result (text.new.items ≡ text.old.items ++ line_text (step_words name.now digest.now)) }
+    ensures { OnOk result
+        (text.new.items ≡ text.old.items ++ line_text (step_words name.now digest.now)) }
 {
     text.extend_from_slice(b"step ")?;
     text.extend_from_slice(name.as_bytes())?;

@@ -1,6 +1,6 @@
 ghost use Rattle.std.specs.Prelude.{◌≡◌, ◌↔◌, List, ℕ, [], IsTrue, IfOk, OnErr};
 ghost use Rattle.std.specs.List.{Contains};
-ghost use Rattle.plan.specs.Targets.{BeginsWith, Takes};
+ghost use Rattle.plan.specs.Targets.{IsAtOrBelow, TakesTarget};
 
 use messages::{Name, Path};
 use std::alloc::{AllocError, Allocator};
@@ -47,7 +47,8 @@ impl<A: Allocator> Eq for Names<A> {
 
 impl<A: Allocator> Ord for Names<A> {
     ghost use Rattle.std.specs.Ordering.{nat_cmp};
-    ghost use Rattle.std.specs.Cmp.Lexicographic.{slice_cmp, lists_total, lists_ties, nat_list_cmp_total, texts_ties};
+    ghost use Rattle.std.specs.Cmp.Lexicographic.{slice_cmp, lists_total, lists_ties};
+    ghost use Rattle.std.specs.Cmp.Lexicographic.{nat_list_cmp_total, texts_ties};
     ghost use Rattle.std.proofs.Common.{rules};
     ghost use Rattle.std.specs.Cmp.Rules.{comparing};
     ghost use Rattle.plan.specs.Targets.{names_cmp};
@@ -68,7 +69,8 @@ impl<A: Allocator> Ord for Names<A> {
 impl<A: Allocator> PartialOrd for Names<A> {
     ghost use Rattle.std.specs.Ordering.{nat_cmp, as_partial_cmp};
     ghost use Rattle.std.specs.Cmp.{po};
-    ghost use Rattle.std.specs.Cmp.Lexicographic.{slice_cmp, lists_total, lists_ties, nat_list_cmp_total, texts_ties};
+    ghost use Rattle.std.specs.Cmp.Lexicographic.{slice_cmp, lists_total, lists_ties};
+    ghost use Rattle.std.specs.Cmp.Lexicographic.{nat_list_cmp_total, texts_ties};
     ghost use Rattle.plan.specs.Targets.{names_cmp};
 
     ghost partial_cmp = { as_partial_cmp names_cmp };
@@ -88,17 +90,17 @@ pub(crate) struct Targets<A: Allocator> {
 
 impl<A: Allocator> Model for Targets<A> {
     ghost use Rattle.std.specs.Prelude.{List, ℕ};
-    ghost use Rattle.plan.specs.Targets.{AreApart};
+    ghost use Rattle.plan.specs.Targets.{AreTargetsApart};
 
     ghost Value = { List (List (List ℕ)) };
 
     ghost view = { λ a. a.names.keys };
 
-    ghost invariant = { λ a. AreApart a.names.keys };
+    ghost invariant = { λ a. AreTargetsApart a.names.keys };
 }
 
 fn begins_with<A: Allocator>(names: &Names<A>, above: &Names<A>) -> bool
-    ensures { IsTrue result ↔ BeginsWith names.now above.now }
+    ensures { IsTrue result ↔ IsAtOrBelow names.now above.now }
 {
     names.names.starts_with(&above.names)
 }
@@ -116,7 +118,7 @@ impl<A: Allocator + Copy> Targets<A> {
     /// Whether one of the targets is this path or lies above it: it is the one before the path.
     fn has_beginning(&self, names: &Names<A>) -> bool
         ensures { IsTrue result ↔
-            ((above : List (List ℕ)) × Contains self.now above × BeginsWith names.now above) }
+            ((above : List (List ℕ)) × Contains self.now above × IsAtOrBelow names.now above) }
     {
         match self.names.range(..=names).next_back() {
             Some(before) => begins_with(names, before),
@@ -127,7 +129,7 @@ impl<A: Allocator + Copy> Targets<A> {
     /// Whether one of the targets is this path or lies under it: it is the one behind the path.
     fn has_longer(&self, names: &Names<A>) -> bool
         ensures { IsTrue result ↔
-            ((below : List (List ℕ)) × Contains self.now below × BeginsWith below names.now) }
+            ((below : List (List ℕ)) × Contains self.now below × IsAtOrBelow below names.now) }
     {
         match self.names.range(names..).next() {
             Some(after) => begins_with(after, names),
@@ -141,7 +143,7 @@ impl<A: Allocator + Copy> Targets<A> {
         alloc: A,
         target: &Path<B>,
     ) -> Result<bool, AllocError>
-        ensures takes { IfOk result (λ taken. Takes taken target.now self.old self.new) }
+        ensures takes { IfOk result (λ taken. TakesTarget taken target.now self.old self.new) }
         ensures unchanged { OnErr result (self.new ≡ self.old) }
     {
         let names = Names {

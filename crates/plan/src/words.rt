@@ -9,14 +9,16 @@ use blob_digest::Digest;
 
 /// What stands behind these bytes at the front.
 pub(crate) fn strip<'a>(text: &'a [u8], front: &[u8]) -> Option<&'a [u8]>
-    ensures { MatchOption result (¬ Begins front.now text.now) (λ rest. text.now ≡ front.now ++ rest.now) }
+    ensures { MatchOption result (¬ Begins front.now text.now)
+        (λ rest. text.now ≡ front.now ++ rest.now) }
 {
     text.strip_prefix(front)
 }
 
 /// What stands before the first such byte, and what behind it.
 pub(crate) fn split_once(text: &[u8], byte: u8) -> Option<(&[u8], &[u8])>
-    ensures { MatchOption result (¬ Contains text.now byte) (λ parts. (text.now ≡ parts.0.now ++ byte ∷ parts.1.now) × ¬ Contains parts.0.now byte) }
+    ensures { MatchOption result (¬ Contains text.now byte)
+        (λ parts. (text.now ≡ parts.0.now ++ byte ∷ parts.1.now) × ¬ Contains parts.0.now byte) }
 {
     let place = text.iter().position(|b| *b == byte)?;
     let (front, rest) = text.split_at(place);
@@ -26,7 +28,8 @@ pub(crate) fn split_once(text: &[u8], byte: u8) -> Option<(&[u8], &[u8])>
 /// The name and the digest of the words `step NAME HASH/SIZE`.
 fn read_step_words(words: &[u8]) -> Option<(&[u8], Digest)>
     ensures { MatchOption result
-        ((name : List ℕ) (digest : DigestValue) → IsStepName name → IsDigest digest → ¬ (words.now ≡ step_words name digest))
+        ((name : List ℕ) (digest : DigestValue) → IsStepName name → IsDigest digest
+        → ¬ (words.now ≡ step_words name digest))
         (λ r. IsStepName r.0.now × IsDigest r.1 × (words.now ≡ step_words r.0.now r.1)) }
 {
     let rest = strip(words, b"step ")?;
@@ -53,7 +56,8 @@ pub(crate) struct StepLine<'a> {
 pub(crate) fn first_step(text: &[u8]) -> Option<StepLine<'_>>
     ensures { MatchOption result
         ((name : List ℕ) (digest : DigestValue) → ¬ BeginsWithLine (step_line name digest) text.now)
-        (λ r. IsStepName r.name.now × IsDigest r.digest × (text.now ≡ line_text (step_words r.name.now r.digest) ++ r.behind.now)) }
+        (λ r. IsStepName r.name.now × IsDigest r.digest
+        × (text.now ≡ line_text (step_words r.name.now r.digest) ++ r.behind.now)) }
 {
     let (words, behind) = split_once(text, b'\n')?;
     match read_step_words(words) {

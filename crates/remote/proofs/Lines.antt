@@ -7,7 +7,7 @@ use Rattle.remote.specs.declared.fault.Fault.TheVariants.{Status}
 use Rattle.remote.specs.Line.{ConnectionValue, Request, IsSameServer, IsUncounted, IsReplied, IsConnectionFault, RefusesRequest, is_answer, text_of}
 use Rattle.remote.specs.Flow.{SendsFront}
 use Rattle.remote.proofs.Flows.{fronts_all, fronts_from, fronts_then}
-use Rattle.remote.specs.Reply.{ReplyValue, RoundTrip}
+use Rattle.remote.specs.Reply.{ReceivedReply, RoundTrip}
 use Rattle.remote.specs.Steps.{Fails, Starves}
 
 pub memory_failed : Memory ≡ Failed → ⊥
@@ -49,13 +49,13 @@ refuses_starved old mid new request e still none server sent h = record {
 }
 
 -- what was sent is the one request
-sends_trip : {old mid : ConnectionValue} {request : Request} {reply : ReplyValue} → IsReplied old mid request reply → SendsFront old.flow mid.flow (text_of old request)
+sends_trip : {old mid : ConnectionValue} {request : Request} {reply : ReceivedReply} → IsReplied old mid request reply → SendsFront old.flow mid.flow (text_of old request)
 sends_trip {old} {mid} {request} asks =
     fronts_from old.flow asks.stream mid.flow (text_of old request) asks.next.sent
     (fronts_all asks.stream asks.trip.between mid.flow (text_of old request) asks.trip.asks asks.trip.answers.read.sent)
 
 -- the reply has a status that is no answer
-pub refuses_status : (old mid new : ConnectionValue) (request : Request) (reply : ReplyValue) (n : ℕ) (e : FetchError)
+pub refuses_status : (old mid new : ConnectionValue) (request : Request) (reply : ReceivedReply) (n : ℕ) (e : FetchError)
     → IsReplied old mid request reply → reply.status ≡ n → is_answer request.body n ≡ false → Fails mid new (Status n) e → RefusesRequest old new request e
 refuses_status old mid new request reply n e asks is no_answer h =
     refuses_fault old mid new request (Status n) e asks.unbroken (record { count = asks.failures; fault = asks.fault }) asks.server
@@ -63,7 +63,7 @@ refuses_status old mid new request reply n e asks is no_answer h =
     (record { unbroken = asks.unbroken; stream = asks.stream; next = asks.next; reply = reply; trip = subst (λ f. RoundTrip asks.stream f (text_of old request) reply) (sym h.flow) asks.trip; is = is; refused = no_answer }) h
 
 -- what a reply brought isn't kept for want of memory
-pub refuses_unkept : (old mid new : ConnectionValue) (request : Request) (reply : ReplyValue) (e : FetchError) → IsReplied old mid request reply → Starves mid new e → RefusesRequest old new request e
+pub refuses_unkept : (old mid new : ConnectionValue) (request : Request) (reply : ReceivedReply) (e : FetchError) → IsReplied old mid request reply → Starves mid new e → RefusesRequest old new request e
 refuses_unkept old mid new request reply e asks h =
     refuses_starved old mid new request e (λ shut. absurd (true_false old.broken asks.unbroken shut)) (record { count = asks.failures; fault = asks.fault }) asks.server
     (sends_trip asks) h

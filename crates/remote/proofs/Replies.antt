@@ -8,7 +8,7 @@ use Rattle.http_core.proofs.Lists.{same_fronts}
 use Rattle.http_core.proofs.Replies.{reply_head_once}
 use Rattle.std.proofs.lemmas.List.{append_cancel_left}
 use Rattle.remote.specs.Flow.{Flow, Receives}
-use Rattle.remote.specs.Reply.{ReplyValue, IsReply, NextReply}
+use Rattle.remote.specs.Reply.{ReceivedReply, IsReply, NextReply}
 use Rattle.remote.proofs.Flows.{receives_then}
 
 -- a block was read, and then the body that its head asks for
@@ -27,14 +27,14 @@ next_reply old mid new block shown body head first second ends fits same lawful 
   read = receives_then old mid new block body first second;
 }
 
-head_of : ReplyValue → ReplyHead
+head_of : ReceivedReply → ReplyHead
 head_of r = record { status = r.status; length = length r.body; close = r.close }
 
-value_of : ReplyHead → List ℕ → ReplyValue
+value_of : ReplyHead → List ℕ → ReceivedReply
 value_of h body = record { status = h.status; body = body; close = h.close }
 
 -- at the front of a stream stands one reply at most
-pub one_reply : (a x b y : List ℕ) (r s : ReplyValue) → IsReply a r → IsReply b s → a ++ x ≡ b ++ y → (a ≡ b) × (r ≡ s)
+pub one_reply : (a x b y : List ℕ) (r s : ReceivedReply) → IsReply a r → IsReply b s → a ++ x ≡ b ++ y → (a ≡ b) × (r ≡ s)
 unfolding head_of value_of
 one_reply a x b y r s p q e =
     let f : p.block ++ (r.body ++ x) ≡ q.block ++ (s.body ++ y) = sym (append_assoc p.block r.body x) ∙ ap (λ z. z ++ x) (sym p.whole) ∙ e ∙ ap (λ z. z ++ y) q.whole ∙ append_assoc q.block s.body y in

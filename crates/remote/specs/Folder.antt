@@ -1,5 +1,6 @@
 -- A store in a folder: what it tells, and what a look-up in it does.
-use Rattle.std.specs.Prelude.{◌≡◌, ℕ, List, [], ◌∷◌, ◌++◌, take, Option, None, Result, IfOk, IfSome, IsErrOf, OnErr, string_bytes}
+use Rattle.std.specs.Prelude.{◌≡◌, ℕ, List, [], ◌∷◌, ◌++◌, take, Option, None, Result, IfOk, IfSome}
+use Rattle.std.specs.Prelude.{IsErrOf, OnErr, string_bytes}
 use Rattle.std.specs.declared.vec.Vec.{Vec}
 use Rattle.blob_digest.specs.Digest.{DigestValue}
 use Rattle.blob_digest.specs.Text.{digest_text}

@@ -1,5 +1,6 @@
 -- A connection: its stream, and what it does with requests.
-use Rattle.std.specs.Prelude.{◌≡◌, ◌≢◌, ℕ, ◌+◌, ◌==◌, ◌≤◌, ◌||◌, ◌⊎◌, Bool, true, false, List, Option, Some, None}
+use Rattle.std.specs.Prelude.{◌≡◌, ◌≢◌, ℕ, ◌+◌, ◌==◌, ◌≤◌, ◌||◌, ◌⊎◌, Bool, true, false, List}
+use Rattle.std.specs.Prelude.{Option, Some, None}
 use Rattle.http_core.specs.declared.event.Area.{Area}
 use Rattle.http_core.specs.Request.{request_text}
 use Rattle.blob_source.specs.Source.{greatest_count}
@@ -9,7 +10,7 @@ use Rattle.remote.specs.declared.fault.Fault.{Fault}
 use Rattle.remote.specs.declared.fault.Fault.TheVariants.{Io, BadReply, Status, Broken}
 use Rattle.remote.specs.declared.line.Line.{Line}
 use Rattle.remote.specs.Flow.{Flow, SendsFront}
-use Rattle.remote.specs.Reply.{ReplyValue, RoundTrip, RoundTripForNone}
+use Rattle.remote.specs.Reply.{ReceivedReply, RoundTrip, RoundTripForNone}
 
 -- a connection, where its stream stands as this tells
 pub record ConnectionValue : Type 0 where
@@ -72,7 +73,7 @@ pub record IsNextStream (line : ConnectionValue) (stream : Flow) : Type 0 where
   pub sent : stream.sent ≡ line.flow.sent
 
 -- The one request was sent, and the next reply in its stream is this one, which may have closed it.
-pub record IsReplied (old new : ConnectionValue) (request : Request) (reply : ReplyValue)
+pub record IsReplied (old new : ConnectionValue) (request : Request) (reply : ReceivedReply)
     : Type 0 where
   pub unbroken : old.broken ≡ false
   pub stream : Flow
@@ -98,7 +99,7 @@ pub record ComesStatus (old new : ConnectionValue) (request : Request) (status :
   pub unbroken : old.broken ≡ false
   pub stream : Flow
   pub next : IsNextStream old stream
-  pub reply : ReplyValue
+  pub reply : ReceivedReply
   pub trip : RoundTrip stream new.flow (text_of old request) reply
   pub is : reply.status ≡ status
   pub refused : is_answer request.body status ≡ false
@@ -142,7 +143,7 @@ pub record RefusesRequest (old new : ConnectionValue) (request : Request) (e : F
   pub server : IsSameServer old new
 
 -- the answer of a reply: its body with status 200, and none with status 404
-abbrev pub IsAnswerOf : ReplyValue → Option (List ℕ) → Type 0
+abbrev pub IsAnswerOf : ReceivedReply → Option (List ℕ) → Type 0
 IsAnswerOf reply answer =
     ((reply.status ≡ 200) × (answer ≡ Some reply.body))
     ⊎ ((reply.status ≡ 404) × (answer ≡ None))
@@ -150,12 +151,12 @@ IsAnswerOf reply answer =
 -- the answer to a GET is that of the reply
 pub record Gets (old new : ConnectionValue) (area : Area) (hash : List ℕ) (answer : Option (List ℕ))
     : Type 0 where
-  pub reply : ReplyValue
+  pub reply : ReceivedReply
   pub asks : IsReplied old new (get area hash) reply
   pub is : IsAnswerOf reply answer
 
 -- the PUT of these bytes was answered with status 200, 201, 202 or 204
 pub record Puts (old new : ConnectionValue) (area : Area) (hash body : List ℕ) : Type 0 where
-  pub reply : ReplyValue
+  pub reply : ReceivedReply
   pub asks : IsReplied old new (put area hash body) reply
   pub is : is_taken reply.status ≡ true

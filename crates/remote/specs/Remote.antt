@@ -1,5 +1,6 @@
 -- What a remote tells, and how it asks its server.
-use Rattle.std.specs.Prelude.{◌≡◌, List, [], ℕ, false, Option, None, Result, IfOk, IfErr, OnErr, OnOk}
+use Rattle.std.specs.Prelude.{◌≡◌, List, [], ℕ, false, Option, None, Result, IfOk, IfErr, OnErr}
+use Rattle.std.specs.Prelude.{OnOk}
 use Rattle.std.specs.declared.vec.Vec.{Vec}
 use Rattle.blob_digest.specs.Digest.{DigestValue}
 use Rattle.http_core.specs.declared.event.Area.{Area}

@@ -6,17 +6,17 @@ use Rattle.http_core.specs.declared.reply_head.ReplyHead.{ReplyHead}
 use Rattle.remote.specs.declared.reply.Reply.{Reply}
 use Rattle.remote.specs.Flow.{Flow, Sends, Receives}
 
-pub record ReplyValue : Type 0 where
+pub record ReceivedReply : Type 0 where
   pub status : ℕ
   pub body : List ℕ
   pub close : Bool
 
-abbrev pub reply_value : {A : Type 0} → Reply A → ReplyValue
+abbrev pub reply_value : {A : Type 0} → Reply A → ReceivedReply
 reply_value r = record { status = r.status; body = r.body.items; close = r.close }
 
 -- These bytes, and none of them too many, are the reply: a block, whose head is lawful, and a body
 -- of the length that it says.
-pub record IsReply (bytes : List ℕ) (reply : ReplyValue) : Type 0 where
+pub record IsReply (bytes : List ℕ) (reply : ReceivedReply) : Type 0 where
   pub block : List ℕ
   pub whole : bytes ≡ block ++ reply.body
   pub ends : IsBlock block
@@ -25,13 +25,13 @@ pub record IsReply (bytes : List ℕ) (reply : ReplyValue) : Type 0 where
       (record { status = reply.status; length = length reply.body; close = reply.close })
 
 -- the next reply in the stream was read, and nothing else
-pub record NextReply (old new : Flow) (reply : ReplyValue) : Type 0 where
+pub record NextReply (old new : Flow) (reply : ReceivedReply) : Type 0 where
   pub text : List ℕ
   pub is : IsReply text reply
   pub read : Receives old new text
 
 -- the one request was sent, and then the next reply in the stream was read
-pub record RoundTrip (old new : Flow) (request : List ℕ) (reply : ReplyValue) : Type 0 where
+pub record RoundTrip (old new : Flow) (request : List ℕ) (reply : ReceivedReply) : Type 0 where
   pub between : Flow
   pub asks : Sends old between request
   pub answers : NextReply between new reply
@@ -57,5 +57,5 @@ pub record RoundTripForNone (old new : Flow) (request : List ℕ) : Type 0 where
 -- at the front of a stream stands one reply at most
 abbrev pub NextIsOne : Type 0
 NextIsOne =
-    (a x b y : List ℕ) (r s : ReplyValue) → IsReply a r → IsReply b s → a ++ x ≡ b ++ y
+    (a x b y : List ℕ) (r s : ReceivedReply) → IsReply a r → IsReply b s → a ++ x ≡ b ++ y
     → (a ≡ b) × (r ≡ s)

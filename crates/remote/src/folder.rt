@@ -2,7 +2,8 @@ ghost use Rattle.std.specs.Prelude.{◌≡◌, ◌≢◌, ◌+◌, ◌≤◌, If
 ghost use Rattle.std.specs.Prelude.{codes, string_bytes};
 ghost use Rattle.blob_source.specs.Called.{Calls};
 ghost use Rattle.blob_source.specs.Source.{AsksBlob, AsksResult, GrowsAt, bytes_of, greatest_count};
-ghost use Rattle.remote.specs.Folder.{IsErrorOf, IsFaultAt, IsFreshFolder, LooksInFolder, entry_path};
+ghost use Rattle.remote.specs.Folder.{IsErrorOf, IsFaultAt, IsFreshFolder, LooksInFolder};
+ghost use Rattle.remote.specs.Folder.{entry_path};
 ghost use Rattle.remote.specs.Folder.{blobs_of, error_of, place_of, results_of, telling_of};
 ghost use Rattle.remote.specs.Table.{HasAnswer, IsSameBut, KeepsAnswers, told_by};
 ghost use Rattle.remote.specs.declared.files.FileError.TheVariants as errors;

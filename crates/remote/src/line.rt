@@ -1,6 +1,7 @@
 ghost use Rattle.std.specs.Prelude.{◌≡◌, true, false, IfOk, IfErr, OnOk, option_map};
 ghost use Rattle.blob_source.specs.Source.{bytes_of};
-ghost use Rattle.remote.specs.Line.{IsReplied, Gets, Puts, RefusesRequest, get, is_taken, line_of, put, request};
+ghost use Rattle.remote.specs.Line.{IsReplied, Gets, Puts, RefusesRequest, get, is_taken, line_of};
+ghost use Rattle.remote.specs.Line.{put, request};
 ghost use Rattle.remote.specs.Reply.{reply_value};
 ghost use Rattle.remote.specs.Steps.{Fails, Opens, Starves};
 

@@ -3,7 +3,8 @@ ghost use Rattle.blob_digest.specs.Digest.{digest_of};
 ghost use Rattle.blob_source.specs.Called.{Calls};
 ghost use Rattle.blob_source.specs.Sink.{PutsBlob, PutsResult, IsPut};
 ghost use Rattle.blob_source.specs.Source.{AsksBlob, AsksResult, bytes_of};
-ghost use Rattle.remote.specs.Remote.{IsFreshRemote, LooksUp, Stores, blobs_of, connection_of, results_of, telling_of};
+ghost use Rattle.remote.specs.Remote.{IsFreshRemote, LooksUp, Stores, blobs_of, connection_of};
+ghost use Rattle.remote.specs.Remote.{results_of, telling_of};
 
 use crate::asking::{keep_bytes, look_up};
 use crate::fault::Fault;

@@ -1,6 +1,8 @@
 -- The one line that tells a verdict (docs/FORMATS.md).
-use Rattle.std.specs.Prelude.{ℕ, List, [], ◌∷◌, ◌++◌, codes, decimal}
+use Rattle.std.specs.Prelude.{◌≡◌, ℕ, List, [], ◌∷◌, ◌++◌, codes, decimal}
+use Rattle.std.specs.List.{Contains}
 use Rattle.std.specs.Fmt.{signed_decimal}
+use Rattle.blob_digest.specs.Digest.{DigestValue}
 use Rattle.blob_digest.specs.Text.{digest_text}
 use Rattle.plan.specs.Escape.{escaped_path}
 use Rattle.verifier.specs.declared.verdict.Verdict.{Verdict}
@@ -36,7 +38,26 @@ abbrev pub place_text : {A : Type 0} → Place A → List ℕ
 place_text (Step name) = named (codes "step") name
 place_text Root = codes "root"
 
--- `yes HASH/SIZE steps N`, or `no`, the place, `cause` and the cause
+-- `yes HASH/SIZE steps N`
+abbrev pub yes_text : DigestValue → ℕ → List ℕ
+yes_text root steps =
+    codes "yes " ++ (digest_text root ++ (codes " steps " ++ (decimal steps ++ 10 ∷ [])))
+
+-- `no`, the place, `cause` and the cause
+abbrev pub no_text : {A : Type 0} → Place A → Cause A → List ℕ
+no_text place cause =
+    codes "no " ++ (place_text place ++ (codes " cause " ++ (cause_text cause ++ 10 ∷ [])))
+
 abbrev pub report_line : {A : Type 0} → Verdict A → List ℕ
-report_line (Yes root steps) = codes "yes " ++ (digest_text root ++ (codes " steps " ++ (decimal steps ++ 10 ∷ [])))
-report_line (No place cause) = codes "no " ++ (place_text place ++ (codes " cause " ++ (cause_text cause ++ 10 ∷ [])))
+report_line (Yes root steps) = yes_text root steps
+report_line (No place cause) = no_text place cause
+
+-- no newline stands in the text
+abbrev pub HasNoNewline : List ℕ → Type 0
+HasNoNewline text = ¬ Contains text 10
+
+-- a text without a newline, and then its newline
+pub record IsOneLine (line : List ℕ) : Type 0 where
+  pub text : List ℕ
+  pub unbroken : HasNoNewline text
+  pub ended : line ≡ text ++ 10 ∷ []

@@ -1,17 +1,21 @@
 ghost use Rattle.std.specs.Prelude.{◌≡◌, ◌↔◌, IfOk, IsTrue, string_bytes};
-ghost use Rattle.report.specs.Line.{place_text, report_line};
+ghost use Rattle.report.specs.Line.{HasNoNewline, IsOneLine, no_text, place_text};
+ghost use Rattle.report.specs.Line.{report_line, yes_text};
 ghost use Rattle.verifier.specs.Verdict.{IsYes};
 
 use crate::cause::cause_text;
+use blob_digest::Digest;
 use std::alloc::{AllocError, Allocator};
-use verifier::{Place, Verdict};
+use verifier::{Cause, Place, Verdict};
 
+#[tactic(auto, using(crate::proofs::Unbroken::none_seen, crate::proofs::Unbroken::none_named, crate::proofs::Unbroken::none_in_name))]
 /// Where a fault stands: `step`, a space and the step's name, or `root`.
 fn place_text<A: Allocator + Copy, B: Allocator>(
     alloc: A,
     place: &Place<B>,
 ) -> Result<String<A>, AllocError>
-    ensures { IfOk result (λ text. string_bytes text ≡ place_text place.now) }
+    ensures value { IfOk result (λ text. string_bytes text ≡ place_text place.now) }
+    ensures unbroken { IfOk result (λ text. HasNoNewline (place_text place.now)) }
 {
     match place {
         Place::Step(name) => {
@@ -22,24 +26,48 @@ fn place_text<A: Allocator + Copy, B: Allocator>(
     }
 }
 
+/// `yes`, the root and the number of steps.
+fn yes_line<A: Allocator + Copy>(
+    alloc: A,
+    root: &Digest,
+    steps: u64,
+) -> Result<String<A>, AllocError>
+    ensures value { IfOk result (λ text. string_bytes text ≡ yes_text root.now steps) }
+    ensures one { IfOk result (λ text. IsOneLine (yes_text root.now steps)) }
+{
+    // A read for the prover: a digest's hash has 32 bytes.
+    let _ = root.hash();
+    let root = root.write_text(alloc)?;
+    format!(in alloc; "yes {root} steps {steps}\n")
+}
+
+/// `no`, the place and the cause.
+fn no_line<A: Allocator + Copy, B: Allocator>(
+    alloc: A,
+    place: &Place<B>,
+    cause: &Cause<B>,
+) -> Result<String<A>, AllocError>
+    ensures value { IfOk result (λ text. string_bytes text ≡ no_text place.now cause.now) }
+    ensures one { IfOk result (λ text. IsOneLine (no_text place.now cause.now)) }
+{
+    let place = place_text(alloc, place)?;
+    let cause = cause_text(alloc, cause)?;
+    format!(in alloc; "no {place} cause {cause}\n")
+}
+
 /// The verdict's one line, with its newline: `yes`, the root and the number of steps, or `no`, the
 /// place and the cause.
 pub fn report<A: Allocator + Copy, B: Allocator>(
     alloc: A,
     verdict: &Verdict<B>,
 ) -> Result<String<A>, AllocError>
-    ensures { IfOk result (λ text. string_bytes text ≡ report_line verdict.now) }
+    ensures value { IfOk result (λ text. string_bytes text ≡ report_line verdict.now) }
+    // No newline stands before the one at its end.
+    ensures one { IfOk result (λ text. IsOneLine (report_line verdict.now)) }
 {
     match verdict {
-        Verdict::Yes { root, steps } => {
-            let root = root.write_text(alloc)?;
-            format!(in alloc; "yes {root} steps {steps}\n")
-        }
-        Verdict::No(place, cause) => {
-            let place = place_text(alloc, place)?;
-            let cause = cause_text(alloc, cause)?;
-            format!(in alloc; "no {place} cause {cause}\n")
-        }
+        Verdict::Yes { root, steps } => yes_line(alloc, root, *steps),
+        Verdict::No(place, cause) => no_line(alloc, place, cause),
     }
 }
 

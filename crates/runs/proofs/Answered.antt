@@ -26,7 +26,7 @@ use Rattle.blob_source.specs.Told.{IsTold, TellsDirectory, FailsDirectory}
 use Rattle.tree.specs.Lookup.{found, LooksFrom, IsValue}
 use Rattle.tree.proofs.GraftRoots.{root-graft}
 use Rattle.tree.proofs.TreeDigests.{IsDigest-digest_of}
-use Rattle.verifier.specs.Accepted.{LooksAt, Resolves}
+use Rattle.verifier.specs.Accepted.{LooksUpOrigin, Resolves}
 use Rattle.verifier.specs.AsRecorded.{IsAsRecorded, AreAsRecorded, IsPlanAsRecorded}
 use Rattle.verifier.specs.Build.{Meaning, ActionMeaning, action_digest, Outcome, output_at, Event, State, origin_at, origins, graft_of, action_of}
 use Rattle.verifier.specs.Headline.{IsBlobOfAction, IsBlobOfOutcome, IsConcerned}
@@ -159,7 +159,7 @@ module _ (B C : Blobs) (e : EngineValue) (t : Tree Leaf) (meaning : Meaning) (X 
 
   -- a line
   origin_found : (before : List OutcomeValue) → AreServed before → (o : OriginValue) (y : Entry Leaf) → IsOrigin (length before) o → ((p : List Name) → o ≡ source p → TellsWay B t p)
-      → origin_at t s o ≡ Some y → LooksAt B e.sources before o (found (entry_node y))
+      → origin_at t s o ≡ Some y → LooksUpOrigin B e.sources before o (found (entry_node y))
   origin_found before all (source p) y lawful tells is =
       subst (λ d. LooksFrom (TellsDirectory B) (FailsDirectory B) p (Some (Dir d)) (found (entry_node y))) k.mirrors.sources
       (way_found B p (Some (whole t)) y k.ordered (tells p refl) is)

@@ -8,7 +8,7 @@ use Rattle.action_messages.specs.Command.{CommandValue}
 use Rattle.actions.specs.Outcome.{OutcomeValue, IsOutcome}
 use Rattle.tree.specs.Tree.{Tree, Leaf}
 use Rattle.verifier.specs.Build.{Meaning, ActionMeaning, action_digest, Outcome, Event, finish, State, outcome_of, job_of, action_of, finished, happens, Obeys}
-use Rattle.runs.specs.Engine.{JobValue, FinishedValue, EngineValue, IsTaken, IsEngine, at_number, finished_in, job_in}
+use Rattle.runs.specs.Engine.{JobValue, FinishedValue, EngineValue, TakesOutcome, IsEngine, at_number, finished_in, job_in}
 use Rattle.runs.specs.Calls.{Disagrees, first_kept, with_finished, IsFinished, IsOutcomeFault, IsFinishFault}
 use Rattle.runs.specs.declared.error.RunsError.{RunsError}
 use Rattle.runs.specs.declared.error.RunsError.TheVariants as errors
@@ -41,7 +41,7 @@ module _ (e : EngineValue) (w : ℕ) (j : JobValue) (v : OutcomeValue) (k : IsEn
   step_within : j.step < length e.finished
   step_within = subst (λ n. j.step < n) (sym k.count) (k.running w j is)
 
-  finished_engine : ((c : CommandValue) → slice_get e.commands j.step ≡ Some c → IsTaken c v) → IsEngine (with_finished w j v e)
+  finished_engine : ((c : CommandValue) → slice_get e.commands j.step ≡ Some c → TakesOutcome c v) → IsEngine (with_finished w j v e)
   finished_engine taken =
       let F : FinishedValue = record { action = j.action; outcome = v } in
       let o = finished_in j.step e in
@@ -53,12 +53,12 @@ module _ (e : EngineValue) (w : ℕ) (j : JobValue) (v : OutcomeValue) (k : IsEn
         running = λ u l at. k.running u l (set_at e.jobs w u None l at (λ h. cc));
       }
     where
-      here : (f : FinishedValue) (c : CommandValue) → slice_get e.commands j.step ≡ Some c → (g : FinishedValue) → ((finished_in j.step e ≡ None) × (g ≡ record { action = j.action; outcome = v })) ⊎ (finished_in j.step e ≡ Some g) → g ≡ f → IsTaken c f.outcome
-      here f c command g (inl h) same = subst (λ (f : FinishedValue). IsTaken c f.outcome) (sym h.1 ∙ same) (taken c command)
-      here f c command g (inr h) same = subst (λ (f : FinishedValue). IsTaken c f.outcome) same (k.taken j.step g c h command)
+      here : (f : FinishedValue) (c : CommandValue) → slice_get e.commands j.step ≡ Some c → (g : FinishedValue) → ((finished_in j.step e ≡ None) × (g ≡ record { action = j.action; outcome = v })) ⊎ (finished_in j.step e ≡ Some g) → g ≡ f → TakesOutcome c f.outcome
+      here f c command g (inl h) same = subst (λ (f : FinishedValue). TakesOutcome c f.outcome) (sym h.1 ∙ same) (taken c command)
+      here f c command g (inr h) same = subst (λ (f : FinishedValue). TakesOutcome c f.outcome) same (k.taken j.step g c h command)
 
       by : (i : ℕ) (f : FinishedValue) (c : CommandValue) → slice_get e.commands i ≡ Some c → (((i == j.step) ≡ true) × (i ≡ j.step)) ⊎ (((i == j.step) ≡ false) × (i ≢ j.step))
-          → at_number (first_kept (finished_in j.step e) e.finished j.step (record { action = j.action; outcome = v })) i ≡ Some f → IsTaken c f.outcome
+          → at_number (first_kept (finished_in j.step e) e.finished j.step (record { action = j.action; outcome = v })) i ≡ Some f → TakesOutcome c f.outcome
       by i f c command (inr h) at = k.taken i f c (sym (kept_other e.finished j.step (record { action = j.action; outcome = v }) step_within (finished_in j.step e) i h.1) ∙ at) command
       by i f c command (inl h) at =
           let g = kept_here e.finished j.step (record { action = j.action; outcome = v }) step_within (finished_in j.step e) refl in
@@ -186,7 +186,7 @@ module _ (e : EngineValue) (w : ℕ) (j : JobValue) (v : OutcomeValue) (k : IsEn
 
 -- ---- what the call says
 
-pub finished_is_engine : (e : EngineValue) (w : ℕ) (j : JobValue) (v : OutcomeValue) → IsEngine e → job_in w e ≡ Some j → ((c : CommandValue) → slice_get e.commands j.step ≡ Some c → IsTaken c v) → IsEngine (with_finished w j v e)
+pub finished_is_engine : (e : EngineValue) (w : ℕ) (j : JobValue) (v : OutcomeValue) → IsEngine e → job_in w e ≡ Some j → ((c : CommandValue) → slice_get e.commands j.step ≡ Some c → TakesOutcome c v) → IsEngine (with_finished w j v e)
 finished_is_engine e w j v k is taken = finished_engine e w j v k is taken
 
 pub finish_event : (e new : EngineValue) (w : ℕ) (v : OutcomeValue) → IsEngine e → IsFinished w v e new → IsFinish e w v new

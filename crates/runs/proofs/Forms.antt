@@ -12,7 +12,7 @@ use Rattle.action_messages.specs.Command.{CommandValue}
 use Rattle.actions.specs.declared.outcome.Output.{Output}
 use Rattle.actions.specs.Outcome.{OutputValue, OutcomeValue, output_value, output_node, outputs_in, outputs_form, output_paths}
 use Rattle.tree.specs.Form.{NodeValue}
-use Rattle.runs.specs.Engine.{FinishedValue, IsLawfulOutput, AreLawful}
+use Rattle.runs.specs.Engine.{FinishedValue, IsLawfulOutput, HoldLawfulTrees}
 use Rattle.runs.specs.Calls.{IsOther, IsFirstUnlisted, IsUnlisted, IsOutcomeFault, first_kept}
 use Rattle.runs.specs.declared.error.RunsError.{RunsError}
 use Rattle.runs.specs.declared.error.RunsError.TheVariants as errors
@@ -69,7 +69,7 @@ module _ {A : Type 0} where
 
   pub record ListsOn (c : CommandValue) (xs rest : List (List (List ℕ) × Output A)) : Type 0 where
     pub listed : AllByRecursion (Contains c.output_paths) (paths_of rest) → AllByRecursion (Contains c.output_paths) (paths_of xs)
-    pub lawful : AreLawful (outputs_in rest) → AreLawful (outputs_in xs)
+    pub lawful : HoldLawfulTrees (outputs_in rest) → HoldLawfulTrees (outputs_in xs)
     pub unlisted : (p : List (List ℕ)) → IsFirstUnlisted c (paths_of rest) p → IsFirstUnlisted c (paths_of xs) p
 
   pub lists_first : (c : CommandValue) (xs : List (List (List ℕ) × Output A)) → ListsOn c xs xs
@@ -89,7 +89,7 @@ module _ {A : Type 0} where
   pub lists_end : (c : CommandValue) (xs : List (List (List ℕ) × Output A)) (i : ℕ) → length xs ≤ i → ListsOn c xs (drop i xs) → AllByRecursion (Contains c.output_paths) (paths_of xs)
   lists_end c xs i le goes = (subst (ListsOn c xs) (drop_all i xs le) goes).listed tt
 
-  pub lawful_end : (c : CommandValue) (xs : List (List (List ℕ) × Output A)) (i : ℕ) → length xs ≤ i → ListsOn c xs (drop i xs) → AreLawful (outputs_in xs)
+  pub lawful_end : (c : CommandValue) (xs : List (List (List ℕ) × Output A)) (i : ℕ) → length xs ≤ i → ListsOn c xs (drop i xs) → HoldLawfulTrees (outputs_in xs)
   lawful_end c xs i le goes = (subst (ListsOn c xs) (drop_all i xs le) goes).lawful tt
 
 -- ---- other outcomes

@@ -25,7 +25,7 @@ use Rattle.actions.proofs.TreeLookups.{behind}
 use Rattle.actions.proofs.Rooms.{inserted_apart}
 use Rattle.blob_source.specs.Source.{Blobs, IsBlobUnder}
 use Rattle.verifier.proofs.FreshRuns.{one_answer}
-use Rattle.runs.specs.Engine.{FinishedValue, EngineValue, IsEngine, AreLawful, finished_in}
+use Rattle.runs.specs.Engine.{FinishedValue, EngineValue, IsEngine, HoldLawfulTrees, finished_in}
 use Rattle.runs.specs.Served.{HoldsTrees, IsKeptOf}
 use Rattle.runs.proofs.Places.{has_one, taken_within}
 use Rattle.runs.specs.Results.{recorded_output, recorded_outputs, no_stream, result_of}
@@ -151,7 +151,7 @@ result_checked o is r same =
     let given = paths_given (file_paths (result_of o).files) (directory_paths (result_of o).directories) (symlink_paths (result_of o).symlinks) k.0 k.1 k.2 (kept_paths o is) in
     subst (λ q. action_result_of q ≡ Ok q) (sym same) (rw given refl)
 
-stand_for : (B : Blobs) (es : List (List (List ℕ) × OutputValue)) → AreLawful es
+stand_for : (B : Blobs) (es : List (List (List ℕ) × OutputValue)) → HoldLawfulTrees es
     → ((p : List (List ℕ)) (t : TreeValue) → Contains es (p, outputs.Tree t) → IsBlobUnder B (digest_of (tree_bytes t)) (tree_bytes t))
     → StandForAll B (recorded_outputs es) es
 stand_for B [] lawful held = refl
@@ -160,7 +160,7 @@ stand_for B ((p, outputs.Link target) ∷ es) lawful held = (refl, refl, stand_f
 stand_for B ((p, outputs.Tree u) ∷ es) lawful held =
     (refl, (u, record { lawful = lawful.0; blob = held p u (0, omega arith, refl) }, refl), stand_for B es lawful.1 (λ q t at. held q t (behind (p, outputs.Tree u) es (q, outputs.Tree t) at)))
 
-pub recorded_again : (B : Blobs) (o : OutcomeValue) → IsOutcome o → AreLawful o.outputs → HoldsTrees B o → IsRecorded B (result_of o) o
+pub recorded_again : (B : Blobs) (o : OutcomeValue) → IsOutcome o → HoldLawfulTrees o.outputs → HoldsTrees B o → IsRecorded B (result_of o) o
 recorded_again B o is lawful held = record {
   lawful = is;
   exit_code = refl;
@@ -234,7 +234,7 @@ step_kept e i f engine at r is lawful = record {
       (r, held, o, subst (λ q. IsRecorded B q o) (sym of_g) (recorded_again B o taken.0 taken.1 trees), record { exit_code = refl; outputs = refl });
 }
   where
-    taken_of : (g : FinishedValue) → finished_in i e ≡ Some g → IsOutcome g.outcome × AreLawful g.outcome.outputs
+    taken_of : (g : FinishedValue) → finished_in i e ≡ Some g → IsOutcome g.outcome × HoldLawfulTrees g.outcome.outputs
     taken_of g there =
         let within : i < length e.finished = taken_within e.finished i g there in
         let c = has_one e.commands i (subst (λ n. i < n) (engine.count ∙ sym engine.stand.commands_count) within) in

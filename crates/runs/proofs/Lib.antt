@@ -18,6 +18,7 @@ pub mod Counted
 pub mod OneAction
 pub mod Starts
 pub mod Looks
+pub mod Needs
 pub mod Ended
 pub mod Kept
 pub mod TwoStepsServed

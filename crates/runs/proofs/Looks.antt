@@ -15,7 +15,7 @@ use Rattle.verifier.proofs.Lines.{found_still}
 use Rattle.runs.specs.declared.error.RunsError.{RunsError}
 use Rattle.runs.specs.declared.error.RunsError.TheVariants as errors
 use Rattle.runs.specs.Engine.{FinishedValue, EngineValue, finished_in}
-use Rattle.runs.specs.Looking.{IsThere, AreThere, LooksAt, Resolves, Refuses, LineFault, FirstFault, Explains, IsRefusalOf}
+use Rattle.runs.specs.Looking.{IsThere, AreThere, LooksUpOrigin, Resolves, Refuses, LineFault, FirstFault, Explains, IsRefusalOf}
 
 module _ {A : Type 0} where
   pub source_explained : (B : Blobs) (e : EngineValue) (l : LineValue) (p : List Name) (error : TreeError A) (why : RunsError A) → l.origin ≡ source p → ExplainsLookup B e.sources p error → IsRefusalOf error why → Explains (LineFault B e l) why
@@ -25,7 +25,7 @@ module _ {A : Type 0} where
       P = Explains (LineFault B e l)
 
       stands : (r : Looked) (w : RunsError A) → Looks B e.sources p r → Refuses (source p) r w → LineFault B e l w
-      stands r w look gives = (r, subst (λ o. LooksAt B e o r) (sym from) look, subst (λ o. Refuses o r w) (sym from) gives)
+      stands r w look gives = (r, subst (λ o. LooksUpOrigin B e o r) (sym from) look, subst (λ o. Refuses o r w) (sym from) gives)
 
       by : (error : TreeError A) → ExplainsLookup B e.sources p error → IsRefusalOf error why → Explains (LineFault B e l) why
       by (tree.Absent q) h is = subst P (sym is) (stands nothing (errors.Origin q) h.1 (ap (λ q. errors.Origin q) h.0))
@@ -54,14 +54,14 @@ module _ {A : Type 0} where
   explains_map P Q errors.Memory by h = h
 
   pub output_missing : (B : Blobs) (e : EngineValue) (l : LineValue) (j : ℕ) (p q : List Name) (f : FinishedValue) → l.origin ≡ output j p → finished_in j e ≡ Some f → LooksIn f.outcome p nothing → q ≡ p → LineFault {A = A} B e l (errors.Origin q)
-  output_missing B e l j p q f from is look same = (nothing, subst (λ o. LooksAt B e o nothing) (sym from) (f, is, look), subst (λ o. Refuses {A = A} o nothing (errors.Origin q)) (sym from) (ap (λ q. errors.Origin q) same))
+  output_missing B e l j p q f from is look same = (nothing, subst (λ o. LooksUpOrigin B e o nothing) (sym from) (f, is, look), subst (λ o. Refuses {A = A} o nothing (errors.Origin q)) (sym from) (ap (λ q. errors.Origin q) same))
 
-pub output_found : (B : Blobs) (e : EngineValue) (l : LineValue) (j : ℕ) (p : List Name) (f : FinishedValue) (x : NodeValue) → l.origin ≡ output j p → finished_in j e ≡ Some f → LooksIn f.outcome p (found x) → LooksAt B e l.origin (found x)
-output_found B e l j p f x from is look = subst (λ o. LooksAt B e o (found x)) (sym from) (f, is, look)
+pub output_found : (B : Blobs) (e : EngineValue) (l : LineValue) (j : ℕ) (p : List Name) (f : FinishedValue) (x : NodeValue) → l.origin ≡ output j p → finished_in j e ≡ Some f → LooksIn f.outcome p (found x) → LooksUpOrigin B e l.origin (found x)
+output_found B e l j p f x from is look = subst (λ o. LooksUpOrigin B e o (found x)) (sym from) (f, is, look)
 
 -- ---- one after another
 
-still : (B C : Blobs) (e : EngineValue) (o : OriginValue) (x : NodeValue) → Grows B C → LooksAt B e o (found x) → LooksAt C e o (found x)
+pub still : (B C : Blobs) (e : EngineValue) (o : OriginValue) (x : NodeValue) → Grows B C → LooksUpOrigin B e o (found x) → LooksUpOrigin C e o (found x)
 still B C e (source p) x g h = found_still B C e.sources [] (source p) x g h
 still B C e (output j p) x g h = h
 
@@ -74,10 +74,10 @@ module _ {A : Type 0} where
   lines_first B e ls = record { resolves = λ later g ys h. h; faults = λ later g w h. h }
 
   pub lines_next : (B C : Blobs) (e : EngineValue) (ls : List LineValue) (xs : List (List Name × NodeValue)) (i : ℕ) (l : LineValue) (x : NodeValue) → i < length ls → l ≡ get_or ls i l
-      → LinesGoOn A B e ls xs (drop i ls) → Grows B C → LooksAt C e l.origin (found x) → LinesGoOn A C e ls (xs ++ (l.target, x) ∷ []) (drop (i + 1) ls)
+      → LinesGoOn A B e ls xs (drop i ls) → Grows B C → LooksUpOrigin C e l.origin (found x) → LinesGoOn A C e ls (xs ++ (l.target, x) ∷ []) (drop (i + 1) ls)
   lines_next B C e ls xs i l x lt is goes grows look =
       let split : drop i ls ≡ l ∷ drop (i + 1) ls = rw (add-one, drop-cons ls i l lt) (ap (λ k. k ∷ drop (suc i) ls) (sym is)) in
-      let holds : (later : Blobs) → Grows C later → LooksAt later e l.origin (found x) = λ later g. still C later e l.origin x g look in
+      let holds : (later : Blobs) → Grows C later → LooksUpOrigin later e l.origin (found x) = λ later g. still C later e l.origin x g look in
       let both : (later : Blobs) → Grows C later → Grows B later = λ later g d b q. g d b (grows d b q) in
       record {
         resolves = λ later g ys h. rw append_assoc (goes.resolves later (both later g) ((l.target, x) ∷ ys) (subst (λ q. Resolves later e q ((l.target, x) ∷ ys)) (sym split) (x, holds later g, ys, h, refl)));

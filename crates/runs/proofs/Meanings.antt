@@ -12,7 +12,7 @@ use Rattle.blob_source.specs.Told.{IsTold}
 use Rattle.tree.proofs.Descent.{told_still}
 use Rattle.runs.specs.declared.error.OpenError.{OpenError}
 use Rattle.runs.specs.declared.error.OpenError.TheVariants as opening
-use Rattle.runs.specs.Calls.{TellsStep, AreTold, AreToldBefore, IsStepFault, IsOpenFault}
+use Rattle.runs.specs.Calls.{TellsStep, AreTold, AreToldBefore, IsOpeningFault, IsOpenFault}
 use Rattle.verifier.proofs.FreshRuns.{one_answer}
 use Rattle.runs.proofs.Places.{element_at, has_one}
 
@@ -81,7 +81,7 @@ told_before B C steps i fs cs so g k s lt at =
     (f.0, c.0, step_still B C s f.0 c.0 g told.0, told.1)
 
 pub open_fault : {A : Type 0} (B C : Blobs) (steps : List StepValue) (i : ℕ) (fs : List FrameValue) (cs : List CommandValue) (s : StepValue) (why : OpenError A) → i < length steps → s ≡ get_or steps i s → ToldSoFar B steps i fs cs → Grows B C
-    → IsStepFault C i s why → IsOpenFault C steps why
+    → IsOpeningFault C i s why → IsOpenFault C steps why
 open_fault B C steps i fs cs s opening.Memory lt is so g h = tt
 open_fault B C steps i fs cs s (opening.Source j e) lt is so g h = (i, s, element_at steps i s lt is, told_before B C steps i fs cs so g, h)
 open_fault B C steps i fs cs s (opening.DoNotCache j) lt is so g h = (i, s, element_at steps i s lt is, told_before B C steps i fs cs so g, h)

@@ -9,13 +9,13 @@ use Rattle.blob_source.specs.Source.{Blobs}
 use Rattle.blob_source.specs.Told.{missing, wrong, malformed}
 use Rattle.tree.specs.Lookup.{Looked, fault, nothing, found}
 use Rattle.verifier.specs.Build.{origin_at}
-use Rattle.verifier.specs.Faults.{path_of}
+use Rattle.verifier.specs.Faults.{origin_path}
 use Rattle.runs.specs.declared.error.RunsError.{RunsError}
 use Rattle.runs.specs.declared.error.RunsError.TheVariants as errors
-use Rattle.runs.specs.Calls.{IsReady, HasRoom, IsStartFault}
+use Rattle.runs.specs.Calls.{IsReady, HasRoomForJob, IsStartFault}
 use Rattle.runs.specs.Engine.{EngineValue, IsEngine}
-use Rattle.runs.specs.Looking.{LooksAt, Refuses, FirstFault, Explains}
-use Rattle.runs.specs.Ties.{IsMissing, TellsMissing}
+use Rattle.runs.specs.Looking.{LooksUpOrigin, Refuses, FirstFault, Explains}
+use Rattle.runs.specs.Ties.{IsWithoutOrigin, TellsMissing}
 use Rattle.runs.proofs.Resolved.{origin_agrees}
 
 no_entry : (o : Option (Entry Leaf)) → option_map entry_node o ≡ None → o ≡ None
@@ -23,7 +23,7 @@ no_entry None h = refl
 no_entry (Some x) h = cc
 
 module _ (A : Type 0) (B : Blobs) (e : EngineValue) (engine : IsEngine e) where
-  line_missing : (l : LineValue) (ls : List LineValue) (p : List Name) (r : Looked) → LooksAt B e l.origin r → Refuses {A = A} l.origin r (errors.Origin p) → IsMissing B e (l ∷ ls) p
+  line_missing : (l : LineValue) (ls : List LineValue) (p : List Name) (r : Looked) → LooksUpOrigin B e l.origin r → Refuses {A = A} l.origin r (errors.Origin p) → IsWithoutOrigin B e (l ∷ ls) p
   line_missing l ls p (fault (missing d)) look gives = cc
   line_missing l ls p (fault (wrong d)) look gives = cc
   line_missing l ls p (fault (malformed d)) look gives = cc
@@ -31,11 +31,11 @@ module _ (A : Type 0) (B : Blobs) (e : EngineValue) (engine : IsEngine e) where
   line_missing l ls p nothing look gives = record {
     line = l;
     inside = (0, omega arith, refl);
-    path = (let same : p ≡ path_of l.origin = cc in same);
+    path = (let same : p ≡ origin_path l.origin = cc in same);
     of_run = λ t meaning X es s k. no_entry (origin_at t s l.origin) (origin_agrees B e t meaning X es s engine k l.origin nothing look);
   }
 
-  pub first_missing : (ls : List LineValue) (p : List Name) → FirstFault {A = A} B e ls (errors.Origin p) → IsMissing B e ls p
+  pub first_missing : (ls : List LineValue) (p : List Name) → FirstFault {A = A} B e ls (errors.Origin p) → IsWithoutOrigin B e ls p
   first_missing [] p h = elim h [ ]
   first_missing (l ∷ ls) p (inl h) = line_missing l ls p h.0 h.1 h.2
   first_missing (l ∷ ls) p (inr h) =
@@ -55,7 +55,7 @@ module _ (A : Type 0) (B : Blobs) (e : EngineValue) (engine : IsEngine e) where
 
 -- ---- why a step isn't started
 
-pub start_fault : {A : Type 0} (B : Blobs) (e : EngineValue) (i : ℕ) → IsReady e i → HasRoom e → (why : RunsError A) → ((step : StepValue) → slice_get e.plan.steps i ≡ Some step → Explains (FirstFault B e step.lines) why)
+pub start_fault : {A : Type 0} (B : Blobs) (e : EngineValue) (i : ℕ) → IsReady e i → HasRoomForJob e → (why : RunsError A) → ((step : StepValue) → slice_get e.plan.steps i ≡ Some step → Explains (FirstFault B e step.lines) why)
     → (step : StepValue) → slice_get e.plan.steps i ≡ Some step → IsStartFault B e i why
 start_fault B e i ready room errors.NotReady h step at = elim (h step at) [ ]
 start_fault B e i ready room errors.NoSuchJob h step at = (ready, room, h)

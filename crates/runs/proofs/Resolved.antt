@@ -19,7 +19,7 @@ use Rattle.tree.proofs.OrderLemmas.{IsOrderedAt, ordered_at}
 use Rattle.verifier.specs.Build.{Meaning, ActionMeaning, Outcome, output_at, Event, State, outcome_of, origin_at, origins, graft_of}
 use Rattle.verifier.proofs.OutputLookups.{HoldsOutput}
 use Rattle.runs.specs.Engine.{FinishedValue, EngineValue, IsLawfulOutput, IsEngine, finished_in}
-use Rattle.runs.specs.Looking.{LooksAt, Resolves}
+use Rattle.runs.specs.Looking.{LooksUpOrigin, Resolves}
 use Rattle.runs.specs.Mirrors.{IsConcernedIn, IsMirrored}
 use Rattle.runs.proofs.Places.{has_one, taken_within}
 use Rattle.runs.proofs.Steady.{Steady}
@@ -52,7 +52,7 @@ module _ (B : Blobs) (e : EngineValue) (t : Tree Leaf) (meaning : Meaning) (X : 
           let c = has_one e.commands i (subst (λ n. i < n) (engine.count ∙ sym engine.stand.commands_count) (taken_within e.finished i f is)) in
           (engine.taken i f c.0 is c.1).outputs
 
-  pub origin_agrees : (o : OriginValue) (r : Looked) → LooksAt B e o r → AgreesWith (option_map entry_node (origin_at t s o)) r
+  pub origin_agrees : (o : OriginValue) (r : Looked) → LooksUpOrigin B e o r → AgreesWith (option_map entry_node (origin_at t s o)) r
   origin_agrees (source p) r look =
       looks_from (TellsDirectory B) (FailsDirectory B) S (told_reads B S (λ b q. inl (inl (inl q))) k.apart) p (Some (whole t)) r k.ordered (λ b q. inl (inr (inl (inl q))))
       (subst (λ d. LooksFrom (TellsDirectory B) (FailsDirectory B) p (Some (Dir d)) r) (sym k.mirrors.sources) look)

@@ -18,7 +18,7 @@ use Rattle.tree.specs.declared.error.TreeError.TheVariants as tree
 use Rattle.runs.specs.declared.error.RunsError.{RunsError}
 use Rattle.runs.specs.declared.error.RunsError.TheVariants as errors
 use Rattle.runs.specs.Engine.{EngineValue}
-use Rattle.runs.specs.Looking.{LooksAt, Refuses, error_of, FirstFault, Explains, StandsIn}
+use Rattle.runs.specs.Looking.{LooksUpOrigin, Refuses, fault_error, FirstFault, Explains, StandsIn}
 
 from_sources : (B : Blobs) (p : List Name) (o : Option NodeValue) (f : Fault) → LooksFrom (TellsDirectory B) (FailsDirectory B) p o (fault f) → (d : DigestValue) × FailsDirectory B d f
 from_sources B p None f h = cc
@@ -48,17 +48,17 @@ none_in : (v : OutcomeValue) (p : List Name) (f : Fault) → LooksIn v p (fault 
 none_in v p f (inl h) = none_below h.0.1 h.2 f h.4
 none_in v p f (inr h) = let is : fault f ≡ nothing = h.1 in cc
 
-at_origin : (B : Blobs) (e : EngineValue) (o : OriginValue) (f : Fault) → LooksAt B e o (fault f) → (d : DigestValue) × FailsDirectory B d f
+at_origin : (B : Blobs) (e : EngineValue) (o : OriginValue) (f : Fault) → LooksUpOrigin B e o (fault f) → (d : DigestValue) × FailsDirectory B d f
 at_origin B e (source p) f h = from_sources B p (Some (Dir e.sources)) f h
 at_origin B e (output j p) f h = absurd (none_in h.0.outcome p f h.2)
 
 module _ (A : Type 0) (B : Blobs) (e : EngineValue) where
-  named : (f : Fault) → ((d : DigestValue) × FailsDirectory B d f) → StandsIn {A = A} B (errors.Source (error_of f))
+  named : (f : Fault) → ((d : DigestValue) × FailsDirectory B d f) → StandsIn {A = A} B (errors.Source (fault_error f))
   named (missing d) h = (refl, subst (IsMissing B) (sym h.1.0) h.1.1)
   named (wrong d) h = (refl, subst (IsWrong B) (sym h.1.0) h.1.1)
   named (malformed d) h = (refl, subst (IsMalformed IsDirectory directory_bytes B) (sym h.1.0) h.1.1)
 
-  at_line : (o : OriginValue) (r : Looked) (why : RunsError A) → LooksAt B e o r → Refuses o r why → StandsIn B why
+  at_line : (o : OriginValue) (r : Looked) (why : RunsError A) → LooksUpOrigin B e o r → Refuses o r why → StandsIn B why
   at_line o (fault f) why look is = subst (StandsIn B) (sym is) (named f (at_origin B e o f look))
   at_line o nothing why look is = subst (StandsIn B) (sym is) tt
   at_line o (found x) why look is = elim is [ ]

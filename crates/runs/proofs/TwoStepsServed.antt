@@ -21,7 +21,7 @@ use Rattle.verifier.proofs.TwoSteps.{sources_named, input_named, newline_named, 
 use Rattle.verifier.proofs.TwoStepsRecorded.{tree_kept, gen_action_told, use_action_told, gen_command_told, use_command_told, gen_result_held, use_result_held, gen_recorded, use_recorded}
 use Rattle.verifier.proofs.TwoStepsRun.{is_run, gen_digest, use_digest}
 use Rattle.verifier.proofs.TwoStepsBlobs.{no_clash}
-use Rattle.runs.specs.Engine.{FinishedValue, AllStand, IsTaken, IsEngine, finished_in}
+use Rattle.runs.specs.Engine.{FinishedValue, AllStand, TakesOutcome, IsEngine, finished_in}
 use Rattle.runs.specs.Mirrors.{IsFormOf, IsFinishedAs, Mirrors, IsConcernedIn, IsMirrored}
 use Rattle.runs.specs.Served.{IsLineOf, Keeps, Serves}
 use Rattle.runs.specs.TwoSteps as example
@@ -44,24 +44,24 @@ stand = record { frames_count = refl; commands_count = refl; each = each }
         let commands : h.1 ≡ c = one_answer (slice_get two.meaning.commands i) h.1 c h.3 cs in
         (subst (λ d. StepFits s.frame f d) commands (subst (λ g. StepFits s.frame g h.1) frames h.4), uncached i f fs)
 
-gen_taken : IsTaken two.gen.0.command example.gen_outcome
+gen_taken : TakesOutcome two.gen.0.command example.gen_outcome
 gen_taken = record { lawful = record { paths = (out_path, tt); ascend = (tt, tt); apart = (tt, tt) }; outputs = (gen_tree_lawful, tt); exit_code = refl; listed = ((0, omega arith, refl), tt) }
 
-use_taken : IsTaken two.uses.0.command example.use_outcome
+use_taken : TakesOutcome two.uses.0.command example.use_outcome
 use_taken = record { lawful = record { paths = (res_path, tt); ascend = (tt, tt); apart = (tt, tt) }; outputs = (tt, tt); exit_code = refl; listed = ((0, omega arith, refl), tt) }
 
 pub engine_lawful : IsEngine example.engine
 engine_lawful = record { stand = stand; count = refl; taken = taken; few = omega arith; running = λ w j is. absurd cc }
   where
-    taken : (i : ℕ) (f : FinishedValue) (c : CommandValue) → finished_in i example.engine ≡ Some f → slice_get two.meaning.commands i ≡ Some c → IsTaken c f.outcome
+    taken : (i : ℕ) (f : FinishedValue) (c : CommandValue) → finished_in i example.engine ≡ Some f → slice_get two.meaning.commands i ≡ Some c → TakesOutcome c f.outcome
     taken zero f c at cs =
         let same : example.gen_finished ≡ f = cc in
         let command : two.gen.0.command ≡ c = cc in
-        subst (λ (g : FinishedValue). IsTaken c g.outcome) same (subst (λ d. IsTaken d example.gen_outcome) command gen_taken)
+        subst (λ (g : FinishedValue). TakesOutcome c g.outcome) same (subst (λ d. TakesOutcome d example.gen_outcome) command gen_taken)
     taken (suc zero) f c at cs =
         let same : example.use_finished ≡ f = cc in
         let command : two.uses.0.command ≡ c = cc in
-        subst (λ (g : FinishedValue). IsTaken c g.outcome) same (subst (λ d. IsTaken d example.use_outcome) command use_taken)
+        subst (λ (g : FinishedValue). TakesOutcome c g.outcome) same (subst (λ d. TakesOutcome d example.use_outcome) command use_taken)
     taken (suc (suc i)) f c at cs = absurd cc
 
 -- ---- it mirrors the end of the run

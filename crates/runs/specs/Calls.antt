@@ -1,5 +1,7 @@
 -- What each call of an engine does, by digests alone.
-use Rattle.std.specs.Prelude.{zero, suc, ◌≡◌, ◌≢◌, ◌⊎◌, ℕ, ◌+◌, ◌<◌, ◌==◌, if◌then◌else◌, pos, true, false, List, [], ◌∷◌, length, Option, Some, None, option_map, slice_get, set, IsSome, Contains}
+use Rattle.std.specs.Prelude.{zero, suc, ◌≡◌, ◌≢◌, ◌⊎◌, ℕ, ◌+◌, ◌<◌, ◌==◌, if◌then◌else◌, pos, true}
+use Rattle.std.specs.Prelude.{false, List, [], ◌∷◌, length, Option, Some, None, option_map}
+use Rattle.std.specs.Prelude.{slice_get, set, IsSome, Contains}
 use Rattle.std.specs.List.{AllByRecursion}
 use Rattle.blob_digest.specs.Digest.{DigestValue, digest_of}
 use Rattle.action_messages.specs.Action.{action_bytes}
@@ -21,7 +23,8 @@ use Rattle.runs.specs.declared.error.OpenError.TheVariants as opening
 use Rattle.tree.specs.declared.error.TreeError.TheVariants as tree
 use Rattle.tree.specs.TreeError.{Explains}
 use Rattle.runs.specs.declared.starting.Job.{Job}
-use Rattle.runs.specs.Engine.{FinishedValue, JobValue, EngineValue, IsTaken, at_number, finished_in, job_in}
+use Rattle.runs.specs.Engine.{FinishedValue, JobValue, EngineValue, TakesOutcome, at_number}
+use Rattle.runs.specs.Engine.{finished_in, job_in}
 use Rattle.runs.specs.Looking as looking
 use Rattle.runs.specs.Looking.{AreThere, Resolves, FirstFault}
 
@@ -57,26 +60,26 @@ AreToldBefore B steps i = (k : ℕ) (s : StepValue) → k < i → slice_get step
 
 -- A message of a step isn't told: the fault that stands there, unless the source failed or memory
 -- ran out.
-abbrev pub IsUnread : {A : Type 0} → ℕ → (Fault → Type 0) → OpenError A → Type 0
-IsUnread i Fails (opening.Source j tree.Memory) = ⊥
-IsUnread i Fails (opening.Source j why) = (j ≡ i) × Explains Fails why
-IsUnread i Fails (opening.DoNotCache j) = ⊥
-IsUnread i Fails opening.Memory = Unit {0}
+abbrev pub IsUntold : {A : Type 0} → ℕ → (Fault → Type 0) → OpenError A → Type 0
+IsUntold i Fails (opening.Source j tree.Memory) = ⊥
+IsUntold i Fails (opening.Source j why) = (j ≡ i) × Explains Fails why
+IsUntold i Fails (opening.DoNotCache j) = ⊥
+IsUntold i Fails opening.Memory = Unit {0}
 
 -- why a step has no meaning: its frame isn't told, or isn't to be cached, or its command isn't told
-abbrev pub IsStepFault : {A : Type 0} → Blobs → ℕ → StepValue → OpenError A → Type 0
-IsStepFault B i s why =
-    IsUnread i (IsFault IsFrame frame_bytes B s.frame) why
+abbrev pub IsOpeningFault : {A : Type 0} → Blobs → ℕ → StepValue → OpenError A → Type 0
+IsOpeningFault B i s why =
+    IsUntold i (IsFault IsFrame frame_bytes B s.frame) why
     ⊎ ((f : FrameValue) × IsTold IsFrame frame_bytes B s.frame f
     × (((f.do_not_cache ≡ true) × (why ≡ opening.DoNotCache i))
     ⊎ ((f.do_not_cache ≡ false)
-    × IsUnread i (IsFault IsCommand command_bytes B f.command) why)))
+    × IsUntold i (IsFault IsCommand command_bytes B f.command) why)))
 
 -- why there is no engine: the fault of the first step that has no meaning, unless memory ran out
 abbrev pub IsOpenFault : {A : Type 0} → Blobs → List StepValue → OpenError A → Type 0
 IsOpenFault B steps opening.Memory = Unit {0}
 IsOpenFault B steps why = (i : ℕ) × (s : StepValue) × (slice_get steps i ≡ Some s)
-    × AreToldBefore B steps i × IsStepFault B i s why
+    × AreToldBefore B steps i × IsOpeningFault B i s why
 
 -- ---- losing
 
@@ -161,7 +164,7 @@ with_finished w j v e = record e {
 pub record IsFinished (w : ℕ) (v : OutcomeValue) (old new : EngineValue) : Type 0 where
   pub job : JobValue
   pub is : job_in w old ≡ Some job
-  pub taken : (c : CommandValue) → slice_get old.commands job.step ≡ Some c → IsTaken c v
+  pub taken : (c : CommandValue) → slice_get old.commands job.step ≡ Some c → TakesOutcome c v
   pub agrees : Disagrees old.finished job.step job.action v → ⊥
   pub after : new ≡ with_finished w job v old
 
@@ -170,7 +173,7 @@ pub record IsFinished (w : ℕ) (v : OutcomeValue) (old new : EngineValue) : Typ
 abbrev pub IsFinishFault : {A : Type 0} → EngineValue → ℕ → OutcomeValue → RunsError A → Type 0
 IsFinishFault e w v errors.NoSuchJob = job_in w e ≡ None
 IsFinishFault e w v errors.Disagrees = (j : JobValue) × (job_in w e ≡ Some j)
-    × ((c : CommandValue) → slice_get e.commands j.step ≡ Some c → IsTaken c v)
+    × ((c : CommandValue) → slice_get e.commands j.step ≡ Some c → TakesOutcome c v)
     × Disagrees e.finished j.step j.action v
 IsFinishFault e w v errors.Memory = (j : JobValue) × (job_in w e ≡ Some j)
 IsFinishFault e w v why = (j : JobValue) × (job_in w e ≡ Some j) × (c : CommandValue)
@@ -226,15 +229,15 @@ abbrev pub IsReady : EngineValue → ℕ → Type 0
 IsReady e i = (step : StepValue) → slice_get e.plan.steps i ≡ Some step → AreThere e step.lines
 
 -- fewer than 4,096 jobs run
-abbrev pub HasRoom : EngineValue → Type 0
-HasRoom e = (id : ℕ) × IsLeastFree e id × (id < 4096)
+abbrev pub HasRoomForJob : EngineValue → Type 0
+HasRoomForJob e = (id : ℕ) × IsLeastFree e id × (id < 4096)
 
 -- Why a step isn't started: the first of a step that its lines read that hasn't finished, 4,096
 -- jobs, and the fault of the first line that has no origin.
 abbrev pub IsStartFault : {A : Type 0} → Blobs → EngineValue → ℕ → RunsError A → Type 0
 IsStartFault B e i errors.NotReady = IsReady e i → ⊥
 IsStartFault B e i errors.Full = IsReady e i × IsLeastFree e 4096
-IsStartFault B e i why = IsReady e i × HasRoom e
+IsStartFault B e i why = IsReady e i × HasRoomForJob e
     × ((step : StepValue) → slice_get e.plan.steps i ≡ Some step
     → looking.Explains (FirstFault B e step.lines) why)
 

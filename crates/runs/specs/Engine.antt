@@ -1,6 +1,7 @@
 -- An engine as contracts see it: a plan with the frames and commands of its steps, what has
 -- finished, and the jobs that run.
-use Rattle.std.specs.Prelude.{◌≡◌, ◌<◌, ◌≤◌, ℕ, pos, false, List, length, Option, Some, slice_get, option_and_then, Contains}
+use Rattle.std.specs.Prelude.{◌≡◌, ◌<◌, ◌≤◌, ℕ, pos, false, List, length, Option, Some, slice_get}
+use Rattle.std.specs.Prelude.{option_and_then, Contains}
 use Rattle.blob_digest.specs.Digest.{DigestValue}
 use Rattle.action_messages.specs.Command.{CommandValue}
 use Rattle.action_messages.specs.Frame.{FrameValue}
@@ -61,13 +62,13 @@ IsLawfulOutput (outputs.File d executable) = Unit {0}
 IsLawfulOutput (outputs.Link target) = Unit {0}
 IsLawfulOutput (outputs.Tree t) = IsTree t
 
-abbrev pub AreLawful : List (List (List ℕ) × OutputValue) → Type 0
-AreLawful es = AllByRecursion (λ e. IsLawfulOutput e.1) es
+abbrev pub HoldLawfulTrees : List (List (List ℕ) × OutputValue) → Type 0
+HoldLawfulTrees es = AllByRecursion (λ e. IsLawfulOutput e.1) es
 
 -- an outcome that isn't refused: its exit code is 0, and each output is one that the command lists
-pub record IsTaken (c : CommandValue) (o : OutcomeValue) : Type 0 where
+pub record TakesOutcome (c : CommandValue) (o : OutcomeValue) : Type 0 where
   pub lawful : IsOutcome o
-  pub outputs : AreLawful o.outputs
+  pub outputs : HoldLawfulTrees o.outputs
   pub exit_code : o.exit_code ≡ pos 0
   pub listed : AllByRecursion (Contains c.output_paths) (output_paths o.outputs)
 
@@ -75,6 +76,6 @@ pub record IsEngine (e : EngineValue) : Type 0 where
   pub stand : AllStand e.plan.steps e.frames e.commands
   pub count : length e.finished ≡ length e.plan.steps
   pub taken : (i : ℕ) (f : FinishedValue) (c : CommandValue) → finished_in i e ≡ Some f
-      → slice_get e.commands i ≡ Some c → IsTaken c f.outcome
+      → slice_get e.commands i ≡ Some c → TakesOutcome c f.outcome
   pub few : length e.jobs ≤ 4096
   pub running : (w : ℕ) (j : JobValue) → job_in w e ≡ Some j → j.step < length e.plan.steps

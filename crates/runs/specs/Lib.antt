@@ -2,6 +2,7 @@ pub mod Engine
 pub mod Looking
 pub mod Mirrors
 pub mod Calls
+pub mod LooksAt
 pub mod Ties
 pub mod Served
 pub mod OneAction

@@ -10,7 +10,7 @@ use Rattle.blob_source.specs.Told.{Fault, missing, wrong, malformed, FailsDirect
 use Rattle.tree.specs.Lookup.{Looked, fault, nothing, found, Looks}
 use Rattle.tree.specs.declared.error.TreeError.{TreeError}
 use Rattle.tree.specs.declared.error.TreeError.TheVariants as tree
-use Rattle.verifier.specs.Faults.{path_of}
+use Rattle.verifier.specs.Faults.{origin_path}
 use Rattle.runs.specs.declared.error.RunsError.{RunsError}
 use Rattle.runs.specs.declared.error.RunsError.TheVariants as errors
 use Rattle.runs.specs.Engine.{FinishedValue, EngineValue, at_number, finished_in}
@@ -28,41 +28,41 @@ abbrev pub AreThere : EngineValue → List LineValue → Type 0
 AreThere e lines = AllByRecursion (λ (l : LineValue). IsThere e l.origin) lines
 
 -- what a look-up of an origin comes to: in the source tree, or in what a step came to
-abbrev pub LooksAt : Blobs → EngineValue → OriginValue → Looked → Type 0
-LooksAt B e (source p) r = Looks B e.sources p r
-LooksAt B e (output j p) r = (f : FinishedValue) × (finished_in j e ≡ Some f)
+abbrev pub LooksUpOrigin : Blobs → EngineValue → OriginValue → Looked → Type 0
+LooksUpOrigin B e (source p) r = Looks B e.sources p r
+LooksUpOrigin B e (output j p) r = (f : FinishedValue) × (finished_in j e ≡ Some f)
     × LooksIn f.outcome p r
 
 -- each line's node, by look-up
 abbrev pub Resolves : Blobs → EngineValue → List LineValue → List (List Name × NodeValue) → Type 0
 Resolves B e [] xs = xs ≡ []
 Resolves B e (l ∷ ls) xs =
-    (x : NodeValue) × LooksAt B e l.origin (found x) × (rest : List (List Name × NodeValue))
+    (x : NodeValue) × LooksUpOrigin B e l.origin (found x) × (rest : List (List Name × NodeValue))
     × Resolves B e ls rest × (xs ≡ (l.target, x) ∷ rest)
 
 -- ---- faults
 
 -- the error that tells of a fault
-abbrev pub error_of : {A : Type 0} → Fault → TreeError A
-error_of (missing d) = tree.BlobMissing d
-error_of (wrong d) = tree.BlobWrong d
-error_of (malformed d) = tree.BlobMalformed d
+abbrev pub fault_error : {A : Type 0} → Fault → TreeError A
+fault_error (missing d) = tree.BlobMissing d
+fault_error (wrong d) = tree.BlobWrong d
+fault_error (malformed d) = tree.BlobMalformed d
 
 -- the refusal of a look-up that finds no node: the fault on the way, or that nothing is there
 abbrev pub Refuses : {A : Type 0} → OriginValue → Looked → RunsError A → Type 0
-Refuses o (fault f) e = e ≡ errors.Source (error_of f)
-Refuses o nothing e = e ≡ errors.Origin (path_of o)
+Refuses o (fault f) e = e ≡ errors.Source (fault_error f)
+Refuses o nothing e = e ≡ errors.Origin (origin_path o)
 Refuses o (found x) e = ⊥
 
 -- why a line has no origin
 abbrev pub LineFault : {A : Type 0} → Blobs → EngineValue → LineValue → RunsError A → Type 0
-LineFault B e l why = (r : Looked) × LooksAt B e l.origin r × Refuses l.origin r why
+LineFault B e l why = (r : Looked) × LooksUpOrigin B e l.origin r × Refuses l.origin r why
 
 -- the fault of the first line that has no origin
 abbrev pub FirstFault : {A : Type 0} → Blobs → EngineValue → List LineValue → RunsError A → Type 0
 FirstFault B e [] why = ⊥
 FirstFault B e (l ∷ ls) why = LineFault B e l why
-    ⊎ ((x : NodeValue) × LooksAt B e l.origin (found x) × FirstFault B e ls why)
+    ⊎ ((x : NodeValue) × LooksUpOrigin B e l.origin (found x) × FirstFault B e ls why)
 
 -- A refusal is explained by a fault, unless the source failed or memory ran out.
 abbrev pub Explains : {A : Type 0} → (RunsError A → Type 0) → RunsError A → Type 0

@@ -1,5 +1,6 @@
 -- When an engine mirrors a state of a run, and the blobs that the two are about.
-use Rattle.std.specs.Prelude.{◌≡◌, ◌↔◌, ◌⊎◌, ℕ, List, [], ◌∷◌, Option, Some, None, option_map, slice_get, Contains}
+use Rattle.std.specs.Prelude.{◌≡◌, ◌↔◌, ◌⊎◌, ℕ, List, [], ◌∷◌, Option, Some, None, option_map}
+use Rattle.std.specs.Prelude.{slice_get, Contains}
 use Rattle.blob_digest.specs.Digest.{NoClash}
 use Rattle.messages.specs.DirectoryRules.{DirectoryValue}
 use Rattle.messages.specs.Directory.{directory_bytes}
@@ -11,7 +12,9 @@ use Rattle.plan.specs.Values.{StepValue}
 use Rattle.tree.specs.Tree.{Name, Tree, Leaf, IsOrdered}
 use Rattle.tree.specs.Form.{NodeValue, form, root}
 use Rattle.blob_source.specs.Source.{Blobs}
-use Rattle.verifier.specs.Build.{Meaning, ActionMeaning, action_digest, Outcome, Event, State, opening, outcome_of, job_of, action_of, MeaningFits, IsTable, IsRun}
+use Rattle.verifier.specs.Build.{Meaning, ActionMeaning, action_digest, Outcome, Event, State}
+use Rattle.verifier.specs.Build.{opening, outcome_of, job_of, action_of, MeaningFits, IsTable}
+use Rattle.verifier.specs.Build.{IsRun}
 use Rattle.verifier.specs.Headline.{IsConcerned}
 use Rattle.verifier.specs.Recorded.{entries_form}
 use Rattle.runs.specs.Engine.{FinishedValue, JobValue, EngineValue, finished_in, job_in}

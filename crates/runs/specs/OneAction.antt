@@ -2,7 +2,8 @@
 use Rattle.std.specs.Prelude.{◌≡◌, ℕ, List, Some, Contains}
 use Rattle.plan.specs.Values.{PlanValue}
 use Rattle.tree.specs.Tree.{Tree, Leaf}
-use Rattle.verifier.specs.Build.{Meaning, ActionMeaning, Outcome, Event, State, opening, outcome_of, job_of, action_of, IsRun}
+use Rattle.verifier.specs.Build.{Meaning, ActionMeaning, Outcome, Event, State, opening, outcome_of}
+use Rattle.verifier.specs.Build.{job_of, action_of, IsRun}
 
 -- In a state each job runs the action that its step has there, and a step that has finished came to
 -- the table's outcome for it.

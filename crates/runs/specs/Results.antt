@@ -5,7 +5,8 @@ use Rattle.messages.specs.Tree.{tree_bytes}
 use Rattle.actions.specs.declared.outcome.Output.TheVariants as outputs
 use Rattle.action_messages.specs.ActionResult.{ActionResultValue}
 use Rattle.actions.specs.Outcome.{OutputValue, OutcomeValue}
-use Rattle.action_messages.specs.Outputs.{RecordedValue, file, directory, link, files_among, directories_among, links_among}
+use Rattle.action_messages.specs.Outputs.{RecordedValue, file, directory, link, files_among}
+use Rattle.action_messages.specs.Outputs.{directories_among, links_among}
 use Rattle.action_messages.specs.Stream.{StreamValue}
 
 -- an output as a result has it: a whole directory by the digest of its Tree

@@ -14,7 +14,8 @@ use Rattle.tree.specs.Tree.{Name, Tree, Leaf, whole, tree_at}
 use Rattle.tree.specs.Form.{form, directory_of, root}
 use Rattle.blob_source.specs.Source.{Blobs, Telling, Grows, IsBlobUnder}
 use Rattle.blob_source.specs.Told.{TellsDirectory}
-use Rattle.verifier.specs.Build.{Meaning, ActionMeaning, action_digest, Outcome, Event, State, action_of}
+use Rattle.verifier.specs.Build.{Meaning, ActionMeaning, action_digest, Outcome, Event, State}
+use Rattle.verifier.specs.Build.{action_of}
 use Rattle.verifier.specs.Headline.{IsConcerned}
 use Rattle.verifier.specs.Holding.{HoldsResult}
 use Rattle.verifier.specs.Recorded.{Agrees}

@@ -1,5 +1,6 @@
 -- How the calls of an engine are tied to runs.
-use Rattle.std.specs.Prelude.{◌≡◌, ◌↔◌, ◌⊎◌, ℕ, ◌+◌, ◌==◌, if◌then◌else◌, Bool, List, [], ◌∷◌, Option, Some, None, IsSome, IsTrue, IsSomeAnd, slice_get, Contains}
+use Rattle.std.specs.Prelude.{◌≡◌, ◌↔◌, ◌⊎◌, ℕ, ◌+◌, ◌==◌, if◌then◌else◌, Bool, List, [], ◌∷◌}
+use Rattle.std.specs.Prelude.{Option, Some, None, IsSome, IsTrue, IsSomeAnd, slice_get, Contains}
 use Rattle.std.specs.List.{AllByRecursion}
 use Rattle.plan.specs.Record.{RecordValue}
 use Rattle.plan.specs.Values.{LineValue, StepValue}
@@ -9,9 +10,11 @@ use Rattle.tree.specs.Tree.{Name, Tree, Leaf}
 use Rattle.tree.specs.Form.{form, root}
 use Rattle.tree.specs.Lookup.{IsValue}
 use Rattle.blob_source.specs.Source.{Blobs}
-use Rattle.verifier.specs.Build.{Meaning, ActionMeaning, action_digest, Outcome, Event, start, finish, State, opening, outcome_of, happens, action_of, origin_at, graft_of, MeaningFits, Obeys, HasFinishedAll}
+use Rattle.verifier.specs.Build.{Meaning, ActionMeaning, action_digest, Outcome, Event, start}
+use Rattle.verifier.specs.Build.{finish, State, opening, outcome_of, happens, action_of, origin_at}
+use Rattle.verifier.specs.Build.{graft_of, MeaningFits, Obeys, HasFinishedAll}
 use Rattle.verifier.specs.Headline.{IsBlobOfMeaning, HasFinished}
-use Rattle.verifier.specs.Faults.{path_of}
+use Rattle.verifier.specs.Faults.{origin_path}
 use Rattle.runs.specs.declared.error.RunsError.{RunsError}
 use Rattle.runs.specs.declared.error.RunsError.TheVariants as errors
 use Rattle.runs.specs.Engine.{EngineValue}
@@ -107,16 +110,16 @@ pub record IsRootOf (B : Blobs) (e : EngineValue) (d : DigestValue) : Type 0 whe
 
 -- whatever run the engine mirrors, one of the lines has no origin after it, and this is the
 -- origin's path
-pub record IsMissing (B : Blobs) (e : EngineValue) (lines : List LineValue)
+pub record IsWithoutOrigin (B : Blobs) (e : EngineValue) (lines : List LineValue)
     (named : List Name) : Type 0 where
   pub line : LineValue
   pub inside : Contains lines line
-  pub path : named ≡ path_of line.origin
+  pub path : named ≡ origin_path line.origin
   pub of_run : (t : Tree Leaf) (meaning : Meaning) (X : List (ActionMeaning × Outcome))
       (es : List Event) (s : State) → IsMirrored B e t meaning X es s
       → origin_at t s line.origin ≡ None
 
 -- a refusal that nothing stands at an origin is so in each run that the engine mirrors
 abbrev pub TellsMissing : {A : Type 0} → Blobs → EngineValue → List LineValue → RunsError A → Type 0
-TellsMissing B e lines (errors.Origin path) = IsMissing B e lines path
+TellsMissing B e lines (errors.Origin path) = IsWithoutOrigin B e lines path
 TellsMissing B e lines why = Unit {0}

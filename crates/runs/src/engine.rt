@@ -1,4 +1,5 @@
-ghost use Rattle.std.specs.Prelude.{◌≡◌, ◌↔◌, ◌<◌, ◌≤◌, None, Some, IsTrue, IsSome, IsErr, IfOk, IfErr, option_map, OnOk, OnErr, length, slice_get};
+ghost use Rattle.std.specs.Prelude.{◌≡◌, ◌↔◌, ◌<◌, ◌≤◌, None, Some, IsTrue, IsSome, IsErr, IfOk};
+ghost use Rattle.std.specs.Prelude.{IfErr, option_map, OnOk, OnErr, length, slice_get};
 ghost use Rattle.std.specs.List.{AllByRecursion};
 ghost use Rattle.plan.specs.Lines.{origin_value};
 ghost use Rattle.plan.specs.Values.{StepValue, IsOrigin, IsLine};

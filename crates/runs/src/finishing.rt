@@ -1,10 +1,13 @@
-ghost use Rattle.std.specs.Prelude.{◌≡◌, ◌↔◌, ◌⊎◌, ◌<◌, ℕ, IsTrue, IsErrOf, IfOk, IfErr, OnOk, OnErr, length};
+ghost use Rattle.std.specs.Prelude.{◌≡◌, ◌↔◌, ◌⊎◌, ◌<◌, ℕ, IsTrue, IsErrOf, IfOk, IfErr, OnOk};
+ghost use Rattle.std.specs.Prelude.{OnErr, length};
 ghost use Rattle.std.specs.List.{AllByRecursion, Contains};
 ghost use Rattle.messages.specs.Directory.{directory_bytes};
 ghost use Rattle.blob_digest.specs.Digest.{digest_of};
-ghost use Rattle.actions.specs.Outcome.{output_value, output_node, outputs_in, outputs_form, output_paths};
-ghost use Rattle.runs.specs.Engine.{IsTaken, IsLawfulOutput, AreLawful, at_number};
-ghost use Rattle.runs.specs.Calls.{HaveOneForm, IsOther, Disagrees, first_kept, IsUnlisted, IsOutcomeFault, IsFinished, IsFinishFault};
+ghost use Rattle.actions.specs.Outcome.{output_value, output_node, outputs_in, outputs_form};
+ghost use Rattle.actions.specs.Outcome.{output_paths};
+ghost use Rattle.runs.specs.Engine.{TakesOutcome, IsLawfulOutput, HoldLawfulTrees, at_number};
+ghost use Rattle.runs.specs.Calls.{HaveOneForm, IsOther, Disagrees, first_kept, IsUnlisted};
+ghost use Rattle.runs.specs.Calls.{IsOutcomeFault, IsFinished, IsFinishFault};
 ghost use Rattle.runs.specs.Ties.{IsFinish, IsForeign};
 
 use crate::engine::{Engine, Finished, job_at};
@@ -167,7 +170,7 @@ fn check_outcome<A: Allocator + Copy>(
     command: &Command<A>,
     outcome: &Outcome<A>,
 ) -> Result<(), RunsError<A>>
-    ensures taken { OnOk result (IsTaken command.now outcome.now) }
+    ensures taken { OnOk result (TakesOutcome command.now outcome.now) }
     ensures refused { IfErr result (IsOutcomeFault command.now outcome.now) }
 {
     let exit_code = outcome.exit_code();
@@ -193,7 +196,7 @@ fn check_listed<A: Allocator + Copy>(
 ) -> Result<(), RunsError<A>>
     ensures listed { OnOk result (AllByRecursion (Contains command.now.output_paths)
         (output_paths (outputs_in outputs.now))) }
-    ensures lawful { OnOk result (AreLawful (outputs_in outputs.now)) }
+    ensures lawful { OnOk result (HoldLawfulTrees (outputs_in outputs.now)) }
     ensures refused { IfErr result
         (IsUnlisted command.now (output_paths (outputs_in outputs.now))) }
 {

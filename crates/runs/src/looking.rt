@@ -5,13 +5,17 @@ ghost use Rattle.plan.specs.Lines.{origin_value};
 ghost use Rattle.tree.specs.Form.{node_value};
 ghost use Rattle.tree.specs.Lines.{lines_of};
 ghost use Rattle.tree.specs.Lookup.{found};
+ghost use Rattle.tree.specs.Memo.{IsKnownOf, WasRefused, Learns, known_by};
+ghost use Rattle.verifier.specs.LooksAt.{OriginLooksAt};
 ghost use Rattle.blob_source.specs.Called.{Called};
 ghost use Rattle.verifier.specs.Answers.{IsTooDeep};
 ghost use Rattle.runs.specs.Calls.{HaveAllFinished, IsGraftedRoot, IsRootFault};
 ghost use Rattle.runs.specs.Ties.{IsRootOf, TellsMissing};
 ghost use Rattle.runs.specs.Served.{IsServedYes};
 ghost use Rattle.std.specs.List.{AllByRecursion};
-ghost use Rattle.runs.specs.Looking.{IsThere, AreThere, LooksAt, Resolves, LineFault, FirstFault, Explains, StandsIn, IsRefusalOf};
+ghost use Rattle.runs.specs.LooksAt.{LinesNeed, RootNeeds};
+ghost use Rattle.runs.specs.Looking.{IsThere, AreThere, LooksUpOrigin, Resolves, LineFault};
+ghost use Rattle.runs.specs.Looking.{FirstFault, Explains, StandsIn, IsRefusalOf};
 
 use crate::engine::{Engine, Finished};
 use crate::error::RunsError;
@@ -19,7 +23,7 @@ use blob_digest::Digest;
 use messages::Path;
 use plan::{Line, Origin};
 use std::alloc::Allocator;
-use tree::{BlobSource, Node, TreeError, graft, lookup};
+use tree::{BlobSource, Memo, Node, TreeError, graft};
 
 /// The refusal that an error of a look-up is.
 fn refusal_of<A: Allocator>(error: TreeError<A>) -> RunsError<A>
@@ -40,19 +44,25 @@ impl<A: Allocator + Copy> Engine<A> {
         &self,
         alloc: A,
         line: &Line<A>,
+        memo: &mut Memo<A>,
         source: &mut S,
     ) -> Result<Node<A>, RunsError<A>>
-        requires { IsThere self.now line.now.origin }
+        requires there { IsThere self.now line.now.origin }
+        requires known { IsKnownOf (known_by memo.old) (S.tells source.old) }
         ensures told { IfOk result
-            (λ node. LooksAt (S.tells source.new).blobs self.now line.now.origin
+            (λ node. LooksUpOrigin (S.tells source.new).blobs self.now line.now.origin
             (found (node_value node))) }
         ensures faulty { IfErr result
             (Explains (LineFault (S.tells source.new).blobs self.now line.now)) }
         ensures called { Called (S.tells source.old) (S.tells source.new)
             (IsErrOf result (RunsError.Source TreeError.Fetch)) }
+        ensures learned { Learns (OriginLooksAt (S.tells source.new).blobs self.now.sources
+            line.now.origin)
+            (WasRefused result)
+            (known_by memo.old) (known_by memo.new) (S.tells source.old) (S.tells source.new) }
     {
         match &line.origin {
-            Origin::Source(path) => match lookup(alloc, &self.sources, path.as_ref(), source) {
+            Origin::Source(path) => match memo.lookup(alloc, &self.sources, path.as_ref(), source) {
                 Ok(node) => Ok(node),
                 Err(error) => Err(refusal_of(error)),
             },
@@ -88,9 +98,11 @@ impl<A: Allocator + Copy> Engine<A> {
         &self,
         alloc: A,
         lines: &[Line<A>],
+        memo: &mut Memo<A>,
         source: &mut S,
     ) -> Result<Vec<(Path<A>, Node<A>), A>, RunsError<A>>
-        requires { AreThere self.now lines.now }
+        requires there { AreThere self.now lines.now }
+        requires known { IsKnownOf (known_by memo.old) (S.tells source.old) }
         ensures told { IfOk result
             (λ nodes. Resolves (S.tells source.new).blobs self.now lines.now
             (lines_of nodes.items)) }
@@ -98,10 +110,13 @@ impl<A: Allocator + Copy> Engine<A> {
             (Explains (FirstFault (S.tells source.new).blobs self.now lines.now)) }
         ensures called { Called (S.tells source.old) (S.tells source.new)
             (IsErrOf result (RunsError.Source TreeError.Fetch)) }
+        ensures learned { Learns (LinesNeed (S.tells source.new).blobs self.now lines.now)
+            (WasRefused result)
+            (known_by memo.old) (known_by memo.new) (S.tells source.old) (S.tells source.new) }
     {
         let mut nodes = Vec::new(alloc);
         for line in lines {
-            let node = self.find_origin(alloc, line, source)?;
+            let node = self.find_origin(alloc, line, memo, source)?;
             nodes.push((Path::copy_of(alloc, &line.target)?, node))?;
         }
         Ok(nodes)
@@ -122,21 +137,37 @@ fn have_all_finished<A: Allocator>(finished: &[Option<Finished<A>>]) -> bool
 
 impl<A: Allocator + Copy> Engine<A> {
     /// The digest of the graft of the root's lines.
-    fn graft_root<S: BlobSource<A>>(&self, alloc: A, source: &mut S) -> Result<Digest, RunsError<A>>
-        requires { AreThere self.now self.now.plan.root_lines }
+    fn graft_root<S: BlobSource<A>>(
+        &self,
+        alloc: A,
+        memo: &mut Memo<A>,
+        source: &mut S,
+    ) -> Result<Digest, RunsError<A>>
+        requires there { AreThere self.now self.now.plan.root_lines }
+        requires known { IsKnownOf (known_by memo.old) (S.tells source.old) }
         ensures told { IfOk result (λ d. IsGraftedRoot (S.tells source.new).blobs self.now d) }
         ensures faulty { IfErr result
             (Explains (FirstFault (S.tells source.new).blobs self.now self.now.plan.root_lines)) }
         ensures called { Called (S.tells source.old) (S.tells source.new)
             (IsErrOf result (RunsError.Source TreeError.Fetch)) }
+        ensures learned { Learns (LinesNeed (S.tells source.new).blobs self.now
+            self.now.plan.root_lines)
+            (WasRefused result)
+            (known_by memo.old) (known_by memo.new) (S.tells source.old) (S.tells source.new) }
     {
-        let nodes = self.resolve(alloc, self.plan().root(), source)?;
+        let nodes = self.resolve(alloc, self.plan().root(), memo, source)?;
         Ok(graft(alloc, &nodes)?.root)
     }
 
     /// The digest of the tree in which the build ends. Refusals 101 while a step hasn't finished,
-    /// 106 and 107.
-    pub fn root<S: BlobSource<A>>(&self, alloc: A, source: &mut S) -> Result<Digest, RunsError<A>>
+    /// 106 and 107. A Directory that the memo knows isn't fetched, and one that is fetched is kept.
+    pub fn root<S: BlobSource<A>>(
+        &self,
+        alloc: A,
+        memo: &mut Memo<A>,
+        source: &mut S,
+    ) -> Result<Digest, RunsError<A>>
+        requires { IsKnownOf (known_by memo.old) (S.tells source.old) }
         ensures told { IfOk result (IsGraftedRoot (S.tells source.new).blobs self.now) }
         ensures complete { IfOk result (λ _. HaveAllFinished self.now) }
         // It is the root of the end of every run that the engine mirrors.
@@ -150,11 +181,16 @@ impl<A: Allocator + Copy> Engine<A> {
             (TellsMissing (S.tells source.new).blobs self.now self.now.plan.root_lines) }
         ensures called { Called (S.tells source.old) (S.tells source.new)
             (IsErrOf result (RunsError.Source TreeError.Fetch)) }
+        // Of what the lines need, the source is asked at most once for each that isn't known; and
+        // nothing else is learned.
+        ensures learned { Learns (RootNeeds (S.tells source.new).blobs self.now)
+            (WasRefused result)
+            (known_by memo.old) (known_by memo.new) (S.tells source.old) (S.tells source.new) }
     {
         let _ = self.plan.root();
         if !have_all_finished(&self.finished) {
             return Err(RunsError::NotReady);
         }
-        self.graft_root(alloc, source)
+        self.graft_root(alloc, memo, source)
     }
 }

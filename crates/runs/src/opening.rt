@@ -5,7 +5,8 @@ ghost use Rattle.action_messages.specs.Command.{IsCommand, command_bytes};
 ghost use Rattle.action_messages.specs.Frame.{IsFrame, frame_bytes};
 ghost use Rattle.blob_source.specs.Called.{Called};
 ghost use Rattle.blob_source.specs.Told.{IsTold, IsFault};
-ghost use Rattle.runs.specs.Calls.{TellsStep, AreTold, IsUnread, IsStepFault, IsOpened, IsOpenFault};
+ghost use Rattle.runs.specs.Calls.{TellsStep, AreTold, IsUntold, IsOpeningFault, IsOpened};
+ghost use Rattle.runs.specs.Calls.{IsOpenFault};
 
 use crate::engine::{Engine, Finished};
 use crate::error::OpenError;
@@ -26,7 +27,7 @@ fn read_message<A: Allocator + Copy, S: BlobSource<A>, M: Message<A>>(
     ensures told { IfOk result
         (λ m. IsTold M.keeps M.spells (S.tells source.new).blobs digest.now m) }
     ensures faulty { IfErr result
-        (IsUnread number (IsFault M.keeps M.spells (S.tells source.new).blobs digest.now)) }
+        (IsUntold number (IsFault M.keeps M.spells (S.tells source.new).blobs digest.now)) }
     ensures called { Called (S.tells source.old) (S.tells source.new)
         ((i : ℕ) × IsErrOf result (OpenError.Source i TreeError.Fetch)) }
 {
@@ -54,7 +55,8 @@ fn read_step<A: Allocator + Copy, S: BlobSource<A>>(
     ensures told { IfOk result
         (λ m. TellsStep (S.tells source.new).blobs step.now m.frame m.command) }
     ensures cached { IfOk result (λ m. m.frame.do_not_cache ≡ false) }
-    ensures faulty { IfErr result (λ e. IsStepFault (S.tells source.new).blobs number step.now e) }
+    ensures faulty { IfErr result
+        (λ e. IsOpeningFault (S.tells source.new).blobs number step.now e) }
     ensures called { Called (S.tells source.old) (S.tells source.new)
         ((i : ℕ) × IsErrOf result (OpenError.Source i TreeError.Fetch)) }
 {

@@ -1,8 +1,11 @@
-ghost use Rattle.std.specs.Prelude.{◌≡◌, ◌<◌, ◌≤◌, Some, IfOk, IfErr, IsErrOf, OnOk, OnErr, length, slice_get};
+ghost use Rattle.std.specs.Prelude.{◌≡◌, ◌<◌, ◌≤◌, Some, IfOk, IfErr, IsErrOf, OnOk, OnErr, length};
+ghost use Rattle.std.specs.Prelude.{slice_get};
 ghost use Rattle.plan.specs.Values.{StepValue};
+ghost use Rattle.tree.specs.Memo.{IsKnownOf, WasRefused, Learns, known_by};
 ghost use Rattle.blob_source.specs.Called.{Called};
 ghost use Rattle.runs.specs.Calls.{IsLeastIn, placed, IsPrepared, IsStarted, IsReady, IsStartFault};
 ghost use Rattle.runs.specs.Ties.{IsStart, TellsMissing};
+ghost use Rattle.runs.specs.LooksAt.{LinesNeed, StartNeeds};
 ghost use Rattle.runs.specs.Looking.{AreThere, FirstFault, Explains, StandsIn};
 
 use crate::engine::{Engine, Running};
@@ -10,7 +13,7 @@ use crate::error::RunsError;
 use actions::{Action, Command, Frame};
 use blob_digest::Digest;
 use std::alloc::{AllocError, Allocator};
-use tree::{BlobSource, Folded, TreeError, graft};
+use tree::{BlobSource, Folded, Memo, TreeError, graft};
 
 /// A job that was started.
 #[derive(Drop)]
@@ -64,19 +67,24 @@ impl<A: Allocator + Copy> Engine<A> {
         alloc: A,
         step: usize,
         id: u64,
+        memo: &mut Memo<A>,
         source: &mut S,
     ) -> Result<Job<A>, RunsError<A>>
         requires within { step < length self.now.plan.steps }
         requires there { IsReady self.now step }
+        requires known { IsKnownOf (known_by memo.old) (S.tells source.old) }
         ensures prepared { IfOk result (IsPrepared (S.tells source.new).blobs self.now step id) }
         ensures faulty { (s : StepValue) → slice_get self.now.plan.steps step ≡ Some s
             → IfErr result (Explains (FirstFault (S.tells source.new).blobs self.now s.lines)) }
         ensures called { Called (S.tells source.old) (S.tells source.new)
             (IsErrOf result (RunsError.Source TreeError.Fetch)) }
+        ensures learned { (s : StepValue) → slice_get self.now.plan.steps step ≡ Some s
+            → Learns (LinesNeed (S.tells source.new).blobs self.now s.lines) (WasRefused result)
+            (known_by memo.old) (known_by memo.new) (S.tells source.old) (S.tells source.new) }
     {
         let steps = self.plan.steps();
         let planned = &steps[step];
-        let nodes = self.resolve(alloc, &planned.lines, source)?;
+        let nodes = self.resolve(alloc, &planned.lines, memo, source)?;
         let input = graft(alloc, &nodes)?;
         let frames = self.frames.as_slice();
         let frame = Frame::copy_of(alloc, &frames[step])?;
@@ -101,14 +109,17 @@ const MOST_JOBS: usize = 4096;
 impl<A: Allocator + Copy> Engine<A> {
     /// Starts a step as a job, also one that runs or has finished. The first refusal is that of the
     /// first of: a step that its lines read hasn't finished (101), 4,096 jobs run (109), and the
-    /// first line without an origin (106, 107).
+    /// first line without an origin (106, 107). A Directory that the memo knows isn't fetched, and
+    /// one that is fetched is kept.
     pub fn start<S: BlobSource<A>>(
         &mut self,
         alloc: A,
         step: usize,
+        memo: &mut Memo<A>,
         source: &mut S,
     ) -> Result<Job<A>, RunsError<A>>
-        requires { step < length self.old.plan.steps }
+        requires within { step < length self.old.plan.steps }
+        requires known { IsKnownOf (known_by memo.old) (S.tells source.old) }
         ensures started { IfOk result
             (IsStarted (S.tells source.new).blobs step self.old self.new) }
         // It is the event that the step starts.
@@ -123,6 +134,11 @@ impl<A: Allocator + Copy> Engine<A> {
         ensures unchanged { OnErr result (self.new ≡ self.old) }
         ensures called { Called (S.tells source.old) (S.tells source.new)
             (IsErrOf result (RunsError.Source TreeError.Fetch)) }
+        // Of what the step's lines need, the source is asked at most once for each that isn't
+        // known; and nothing else is learned.
+        ensures learned { Learns (StartNeeds (S.tells source.new).blobs self.old step)
+            (WasRefused result)
+            (known_by memo.old) (known_by memo.new) (S.tells source.old) (S.tells source.new) }
     {
         if !self.ready(step) {
             return Err(RunsError::NotReady);
@@ -131,7 +147,7 @@ impl<A: Allocator + Copy> Engine<A> {
         if number >= MOST_JOBS {
             return Err(RunsError::Full);
         }
-        let job = self.prepare(alloc, step, number as u64, source)?;
+        let job = self.prepare(alloc, step, number as u64, memo, source)?;
         let running = Running {
             step,
             action: job.digest,

@@ -1,6 +1,6 @@
 -- Answers of the verifier as lines.
 use Rattle.std.specs.Prelude.{◌≡◌, ◌↔◌, ℕ, List, IsTrue, string_bytes}
-use Rattle.report.specs.Line.{report_line}
+use Rattle.report.specs.Line.{IsOneLine, report_line}
 use Rattle.blob_source.specs.Source.{Telling}
 use Rattle.tree.specs.Memo.{Asked}
 use Rattle.verifier.specs.declared.verdict.Verdict.{Verdict}
@@ -18,16 +18,17 @@ pub record IsJudged {A : Type 0} (told : Telling) (q : Question) (v : Verdict A)
       → EveryRunEndsIn told.blobs told.results q.sources q.plan q.noted.digests q.claim
   pub unstuck : IsYes v → NoRunIsStuck told.blobs told.results q.sources q.plan q.noted.digests
 
--- the verdict's line, and whether it is yes
-pub record Tells {A : Type 0} (answer : Answer A) (v : Verdict A) : Type 0 where
+-- the verdict's line, which is one line, and whether it is yes
+pub record TellsVerdict {A : Type 0} (answer : Answer A) (v : Verdict A) : Type 0 where
   pub line : string_bytes answer.line ≡ report_line v
+  pub one : IsOneLine (report_line v)
   pub positive : IsTrue answer.is_yes ↔ IsYes v
 
 -- it tells the verdict on the question
 pub record IsAnswer {A : Type 0} (told : Telling) (q : Question) (answer : Answer A) : Type 0 where
   pub verdict : Verdict A
   pub judged : IsJudged told q verdict
-  pub tells : Tells answer verdict
+  pub tells : TellsVerdict answer verdict
 
 -- the texts ask a question, and this is the answer to it
 pub record AnswersTexts {A : Type 0} (told : Telling) (sources claim plan noted : List ℕ)
@@ -37,5 +38,5 @@ pub record AnswersTexts {A : Type 0} (told : Telling) (sources claim plan noted 
   pub is : IsAnswer told question answer
 
 -- what the verifier looks at for a question, up to the first fault
-abbrev pub LooksAt : (A : Type 0) → Telling → Question → Asked → Type 0
-LooksAt A told q = PlanLooksAt A told q.sources q.plan q.noted.digests
+abbrev pub AnswerLooksAt : (A : Type 0) → Telling → Question → Asked → Type 0
+AnswerLooksAt A told q = PlanLooksAt A told q.sources q.plan q.noted.digests

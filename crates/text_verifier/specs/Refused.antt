@@ -11,8 +11,9 @@ use Rattle.plan.specs.Values.{PlanValue}
 use Rattle.verifier.specs.declared.error.VerifyError.{VerifyError}
 use Rattle.verifier.specs.declared.error.VerifyError.TheVariants as verifying
 use Rattle.text_verifier.specs.declared.error.TextError.{TextError}
-use Rattle.text_verifier.specs.declared.error.TextError.TheVariants.{Sources, Claim, Plan, Record, Fetch, Memory}
-use Rattle.text_verifier.specs.Texts.{HasPlan, HasTexts, Question, Spells}
+use Rattle.text_verifier.specs.declared.error.TextError.TheVariants.{Sources, Claim, Plan, Record}
+use Rattle.text_verifier.specs.declared.error.TextError.TheVariants.{Fetch, Memory}
+use Rattle.text_verifier.specs.Texts.{HasPlan, HasTexts, Question, IsDigestText}
 
 abbrev pub of_verify : VerifyError → TextError
 of_verify verifying.Fetch = Fetch
@@ -22,12 +23,12 @@ of_verify verifying.Memory = Memory
 
 -- why a text spells no digest
 pub record IsNoDigest (text : List ℕ) (fault : DigestError) : Type 0 where
-  pub none : (digest : DigestValue) → ¬ Spells text digest
+  pub none : (digest : DigestValue) → ¬ IsDigestText text digest
   pub hex : (fault ≡ BadHex) ↔ ¬ BeginsWithHash text
 
 -- the text spells some digest
 abbrev pub IsSpelled : List ℕ → Type 0
-IsSpelled text = (digest : DigestValue) × Spells text digest
+IsSpelled text = (digest : DigestValue) × IsDigestText text digest
 
 -- the text of the sources' digest is none; or else that of the claim's
 abbrev pub IsDigestRefusal : List ℕ → List ℕ → TextError → Type 0

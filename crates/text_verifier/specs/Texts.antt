@@ -7,7 +7,7 @@ use Rattle.plan.specs.Record.{RecordValue, IsRecord, Fits, record_text}
 use Rattle.plan.specs.Values.{PlanValue}
 
 -- the text spells the digest
-pub record Spells (text : List ℕ) (digest : DigestValue) : Type 0 where
+pub record IsDigestText (text : List ℕ) (digest : DigestValue) : Type 0 where
   pub lawful : IsDigest digest
   pub text_is : text ≡ digest_text digest
 
@@ -37,7 +37,7 @@ pub record HasRecord (plan : PlanValue) (text : List ℕ) (noted : RecordValue) 
 -- These texts ask the question: its digests are spelled, the plan is the one of its text, and so is
 -- the record, which is of that plan.
 pub record HasTexts (sources claim plan noted : List ℕ) (question : Question) : Type 0 where
-  pub sources_spelled : Spells sources question.sources
-  pub claim_spelled : Spells claim question.claim
+  pub sources_spelled : IsDigestText sources question.sources
+  pub claim_spelled : IsDigestText claim question.claim
   pub plan_is : HasPlan plan question.plan
   pub noted_is : HasRecord question.plan noted question.noted

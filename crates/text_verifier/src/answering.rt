@@ -1,7 +1,7 @@
 ghost use Rattle.std.specs.Prelude.{◌≤◌, ◌+◌, List, IfOk, IfErr, IsErrOf, length};
 ghost use Rattle.blob_source.specs.Called.{Called};
 ghost use Rattle.plan.specs.Record.{Fits};
-ghost use Rattle.text_verifier.specs.Answered.{IsAnswer, LooksAt};
+ghost use Rattle.text_verifier.specs.Answered.{IsAnswer, AnswerLooksAt};
 ghost use Rattle.text_verifier.specs.Refused.{IsNoFault};
 ghost use Rattle.text_verifier.specs.Texts.{question_of};
 ghost use Rattle.tree.specs.Memo.{Asked, Covers};
@@ -42,7 +42,7 @@ pub fn answer_question<A: Allocator + Copy, S: BlobSource<A>>(
     ensures called { Called (S.tells source.old) (S.tells source.new)
         (IsErrOf result TextError.Fetch) }
     ensures few { (list : List Asked)
-        → Covers (LooksAt A (S.tells source.new)
+        → Covers (AnswerLooksAt A (S.tells source.new)
         (question_of digests.now.sources digests.now.claim plan.now noted.now)) list
         → (S.tells source.new).calls ≤ (S.tells source.old).calls + length list }
 {

@@ -3,8 +3,9 @@ ghost use Rattle.blob_digest.specs.Digest.{DigestValue};
 ghost use Rattle.plan.specs.Plan.{IsPlan, plan_text};
 ghost use Rattle.plan.specs.Record.{IsRecord, Fits, RecordValue, names_of, record_text};
 ghost use Rattle.plan.specs.Values.{PlanValue};
-ghost use Rattle.text_verifier.specs.Refused.{GivesUnlessMemory, IsDigestRefusal, IsPlanRefusal, IsRecordRefusal};
-ghost use Rattle.text_verifier.specs.Texts.{Spells};
+ghost use Rattle.text_verifier.specs.Refused.{GivesUnlessMemory, IsDigestRefusal, IsPlanRefusal};
+ghost use Rattle.text_verifier.specs.Refused.{IsRecordRefusal};
+ghost use Rattle.text_verifier.specs.Texts.{IsDigestText};
 
 use crate::error::TextError;
 use blob_digest::Digest;
@@ -22,10 +23,10 @@ pub struct Digests {
 
 /// The digests of these texts. That of the sources is read first.
 pub fn read_digests(sources: &[u8], claim: &[u8]) -> Result<Digests, TextError>
-    ensures sources { IfOk result (λ digests. Spells sources.now digests.sources) }
-    ensures claim { IfOk result (λ digests. Spells claim.now digests.claim) }
+    ensures sources { IfOk result (λ digests. IsDigestText sources.now digests.sources) }
+    ensures claim { IfOk result (λ digests. IsDigestText claim.now digests.claim) }
     // The digests whose texts these are are answered.
-    ensures only { (s c : DigestValue) → Spells sources.now s → Spells claim.now c
+    ensures only { (s c : DigestValue) → IsDigestText sources.now s → IsDigestText claim.now c
         → result ≡ Ok (record { sources = s; claim = c }) }
     ensures fault { IfErr result (IsDigestRefusal sources.now claim.now) }
 {

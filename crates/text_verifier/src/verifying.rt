@@ -1,6 +1,6 @@
 ghost use Rattle.std.specs.Prelude.{◌≡◌, ◌≤◌, ◌+◌, List, IfOk, IfErr, IsErrOf, length};
 ghost use Rattle.blob_source.specs.Called.{Called};
-ghost use Rattle.text_verifier.specs.Answered.{AnswersTexts, LooksAt};
+ghost use Rattle.text_verifier.specs.Answered.{AnswersTexts, AnswerLooksAt};
 ghost use Rattle.text_verifier.specs.Refused.{FailsTexts, IsNoFault, IsTextFault};
 ghost use Rattle.text_verifier.specs.Texts.{HasTexts, Question};
 ghost use Rattle.tree.specs.Memo.{Asked, Covers};
@@ -36,7 +36,7 @@ pub fn verify_texts<A: Allocator + Copy, S: BlobSource<A>>(
         (IsErrOf result TextError.Fetch) }
     ensures few { (question : Question) (list : List Asked)
         → HasTexts sources.now claim.now plan.now noted.now question
-        → Covers (LooksAt A (S.tells source.new) question) list
+        → Covers (AnswerLooksAt A (S.tells source.new) question) list
         → (S.tells source.new).calls ≤ (S.tells source.old).calls + length list }
     ensures unasked { IfErr result (λ e.
         IsTextFault e → S.tells source.new ≡ S.tells source.old) }

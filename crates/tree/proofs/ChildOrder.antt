@@ -13,7 +13,7 @@ use Rattle.messages.specs.FileNode.{FileNodeValue}
 use Rattle.messages.specs.DirectoryNode.{DirectoryNodeValue}
 use Rattle.messages.specs.SymlinkNode.{SymlinkNodeValue}
 use Rattle.messages.specs.DirectoryRules.{DirectoryValue, directory_with, file_names, directory_names, symlink_names}
-use Rattle.messages.specs.Order.{IsAscending, AreApart}
+use Rattle.messages.specs.Order.{IsAscending, ShareNone}
 use Rattle.tree.specs.Tree.{Name, name_cmp, IsBelowAll, IsOrdered}
 use Rattle.tree.specs.Form.{NodeValue, node_value, no_children, with_child, directory_of}
 use Rattle.tree.specs.Visiting.{joined}
@@ -129,7 +129,7 @@ less_apart name n [] h = tt
 less_apart name n (x ∷ xs) h = ((λ e. (let own = name_itself n in let less : name_cmp n n ≡ Less = ap (λ m. name_cmp m n) (sym e) ∙ h.0 in cc)), less_apart name n xs h.1)
 
 -- a name of the first list is none of the second
-pub apart_at : {X Y : Type 0} (name : X → Name) (other : Y → Name) (xs : List X) (ys : List Y) (i : ℕ) (x : X) → AreApart (map name xs) (map other ys) → i < length xs → AllByRecursion (λ y. other y ≢ name (get_or xs i x)) ys
+pub apart_at : {X Y : Type 0} (name : X → Name) (other : Y → Name) (xs : List X) (ys : List Y) (i : ℕ) (x : X) → ShareNone (map name xs) (map other ys) → i < length xs → AllByRecursion (λ y. other y ≢ name (get_or xs i x)) ys
 apart_at name other [] ys i x h lt = absurd (omega arith)
 apart_at name other (z ∷ xs) ys zero x h lt = each ys h.0
   where
@@ -174,7 +174,7 @@ module _ {A : Type 0} where
   more es fs n v is sorted new last = ap made is ∙ ap (λ cs. directory_of (leaves cs)) (values_inserted es n v) ∙ inserted_child (child_values es) n (node_value v) (ordered_leaves es sorted) new last
 
   pub more_files : (es fs : List (Name × Node A)) (files : List FileNodeValue) (ds : List DirectoryNodeValue) (ls : List SymlinkNodeValue) (i : ℕ) (f : FileNodeValue) (v : Node A) (n : Name)
-      → i < length files → f ≡ get_or files i f → n ≡ f.name → node_value v ≡ File f.digest f.executable → IsAscending (file_names files) → AreApart (file_names files) (directory_names ds) → AreApart (file_names files) (symlink_names ls)
+      → i < length files → f ≡ get_or files i f → n ≡ f.name → node_value v ≡ File f.digest f.executable → IsAscending (file_names files) → ShareNone (file_names files) (directory_names ds) → ShareNone (file_names files) (symlink_names ls)
       → IsStrictlySortedBy name_cmp (keys_of es) → fs ≡ insert_entry name_cmp es n v → made es ≡ directory_with (take i files) ds ls → made fs ≡ directory_with (take (i + 1) files) ds ls
   more_files es fs files ds ls i f v n lt is name value up apart_ds apart_ls sorted at h =
       let before : AllByRecursion (λ y. name_cmp y.name n ≡ Less) (take i files) = subst (λ m. AllByRecursion (λ y. name_cmp y.name m ≡ Less) (take i files)) (ap (λ g. g.name) (sym is) ∙ sym name) (before_last (λ f. f.name) files i f up lt) in
@@ -192,7 +192,7 @@ module _ {A : Type 0} where
       step ∙ ap (λ x. joined (made es) (with_child n x no_children)) value ∙ ap (λ m. joined m (with_child n (File f.digest f.executable) no_children)) h ∙ (λ j. record { files = front j; directories = dirs j; symlinks = links j })
 
   pub more_directories : (es fs : List (Name × Node A)) (files : List DirectoryNodeValue) (ls : List SymlinkNodeValue) (i : ℕ) (f : DirectoryNodeValue) (v : Node A) (n : Name)
-      → i < length files → f ≡ get_or files i f → n ≡ f.name → node_value v ≡ Dir f.digest → IsAscending (directory_names files) → AreApart (directory_names files) (symlink_names ls)
+      → i < length files → f ≡ get_or files i f → n ≡ f.name → node_value v ≡ Dir f.digest → IsAscending (directory_names files) → ShareNone (directory_names files) (symlink_names ls)
       → IsStrictlySortedBy name_cmp (keys_of es) → fs ≡ insert_entry name_cmp es n v → made es ≡ directory_with [] (take i files) ls → made fs ≡ directory_with [] (take (i + 1) files) ls
   more_directories es fs files ls i f v n lt is name value up apart_ls sorted at h =
       let before : AllByRecursion (λ y. name_cmp y.name n ≡ Less) (take i files) = subst (λ m. AllByRecursion (λ y. name_cmp y.name m ≡ Less) (take i files)) (ap (λ g. g.name) (sym is) ∙ sym name) (before_last (λ f. f.name) files i f up lt) in

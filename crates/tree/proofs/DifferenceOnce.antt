@@ -12,7 +12,7 @@ use Rattle.tree.specs.Tree.{Name, name_cmp}
 use Rattle.tree.specs.Form.{NodeValue}
 use Rattle.blob_source.specs.Source.{Blobs}
 use Rattle.blob_source.specs.Told.{Fault}
-use Rattle.tree.specs.Difference.{IsFirstOf, IsNoneOf, Reads, FailsToRead, Differing, unread, child_of, IsFirstName, FindsAt, Finds, FindsFirst}
+use Rattle.tree.specs.Difference.{IsFirstOf, IsNoneOf, ReadsDirectory, FailsToRead, Differing, unread, child_of, IsFirstName, FindsAt, Finds, FindsFirst}
 use Rattle.tree.proofs.TreeLemmas.{name_same, name_greater}
 use Rattle.tree.proofs.DirectoryBytes.{directory_bytes_injective}
 use Rattle.tree.proofs.TreeDigests.{lawful_digests}
@@ -39,13 +39,13 @@ first_or_none : (own : List (List ℕ)) (d : DigestValue) (x : List ℕ) → IsF
 first_or_none own d x h k = none_there d h.before x h.behind (subst (λ bs. IsNoneOf bs d) h.stands k) h.right
 
 module _ (own : List (List ℕ)) (B : Blobs) where
-  pub reads_once : (d : DigestValue) (m n : DirectoryValue) → Reads own B d m → Reads own B d n → m ≡ n
+  pub reads_once : (d : DigestValue) (m n : DirectoryValue) → ReadsDirectory own B d m → ReadsDirectory own B d n → m ≡ n
   reads_once d m n (inl h) (inl k) = directory_bytes_injective m n (lawful_digests m h.0) (lawful_digests n k.0) (first_once own d (directory_bytes m) (directory_bytes n) h.1 k.1)
   reads_once d m n (inl h) (inr k) = absurd (first_or_none own d (directory_bytes m) h.1 k.0)
   reads_once d m n (inr h) (inl k) = absurd (first_or_none own d (directory_bytes n) k.1 h.0)
   reads_once d m n (inr h) (inr k) = told_once B d m n h.1 k.1
 
-  pub reads_or_fails : (d : DigestValue) (m : DirectoryValue) (f : Fault) → Reads own B d m → FailsToRead own B d f → ⊥
+  pub reads_or_fails : (d : DigestValue) (m : DirectoryValue) (f : Fault) → ReadsDirectory own B d m → FailsToRead own B d f → ⊥
   reads_or_fails d m f (inl h) k = first_or_none own d (directory_bytes m) h.1 k.0
   reads_or_fails d m f (inr h) k = told_or_fault IsDirectory directory_bytes B d m f h.1 k.1
 

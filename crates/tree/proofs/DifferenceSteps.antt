@@ -14,12 +14,12 @@ use Rattle.blob_source.specs.Told.{Fault, missing, wrong, malformed}
 use Rattle.tree.specs.Lookup.{names_in}
 use Rattle.tree.specs.TreeError.{Explains}
 use Rattle.tree.specs.Unfolding.{ExplainsChild}
-use Rattle.tree.specs.Difference.{Reads, FailsToRead, Differing, unexplained, absent, differs, unread, child_of, IsFirstName, FindsAt, Finds, ExplainsDifference}
+use Rattle.tree.specs.Difference.{ReadsDirectory, FailsToRead, Differing, unexplained, absent, differs, unread, child_of, IsFirstName, FindsAt, Finds, ExplainsDifference}
 use Rattle.tree.specs.Comparing.{AreDirectories, IsUnlike}
 use Rattle.tree.proofs.Descent.{told_still}
 
 -- what was read is read later too
-pub reads_still : {B C : Blobs} (own : List (List ℕ)) (d : DigestValue) (m : DirectoryValue) → Grows B C → Reads own B d m → Reads own C d m
+pub reads_still : {B C : Blobs} (own : List (List ℕ)) (d : DigestValue) (m : DirectoryValue) → Grows B C → ReadsDirectory own B d m → ReadsDirectory own C d m
 reads_still own d m g (inl h) = inl h
 reads_still own d m g (inr h) = inr (h.0, told_still g h.1)
 
@@ -53,8 +53,8 @@ module _ (Next : DigestValue → DigestValue → Type 0) (path : List Name) wher
 
 -- the Directories of a graft's directory g and of a recorded one r are read
 pub record ReadsBoth (own : List (List ℕ)) (B : Blobs) (g r : DigestValue) (n : Name) (k m : DirectoryValue) : Type 0 where
-  pub recorded : Reads own B r m
-  pub grafted : Reads own B g k
+  pub recorded : ReadsDirectory own B r m
+  pub grafted : ReadsDirectory own B g k
   pub first : IsFirstName k m n
 
 pub reads_both : {B C : Blobs} (own : List (List ℕ)) (g r : DigestValue) (n : Name) (k m : DirectoryValue) → Grows B C → ReadsBoth own B g r n k m → ReadsBoth own C g r n k m
@@ -120,7 +120,7 @@ module _ (own : List (List ℕ)) (B : Blobs) (above : List Name) (g r : DigestVa
   pub recorded_fault : {A : Type 0} (deeper : ℕ) (e : TreeError A) → 0 < deeper → Explains (FailsToRead own B r) e → ExplainsDifference (Finds own B deeper above g r) e
   recorded_fault deeper e some h = of_fault deeper (FailsToRead own B r) e (λ f k. subst (λ j. Finds own B j above g r (unread f)) (sym (less_one deeper some)) (inl (f, k, refl))) h
 
-  pub grafted_fault : {A : Type 0} (deeper : ℕ) (m : DirectoryValue) (e : TreeError A) → 0 < deeper → Reads own B r m → Explains (FailsToRead own B g) e → ExplainsDifference (Finds own B deeper above g r) e
+  pub grafted_fault : {A : Type 0} (deeper : ℕ) (m : DirectoryValue) (e : TreeError A) → 0 < deeper → ReadsDirectory own B r m → Explains (FailsToRead own B g) e → ExplainsDifference (Finds own B deeper above g r) e
   grafted_fault deeper m e some read h = of_fault deeper (FailsToRead own B g) e (λ f k. subst (λ j. Finds own B j above g r (unread f)) (sym (less_one deeper some)) (inr (m, read, inl (f, k, refl)))) h
 
 -- a path of 64 names has no room below it

@@ -22,7 +22,7 @@ use Rattle.tree.specs.Form.{NodeValue}
 use Rattle.blob_source.specs.Source.{Blobs}
 use Rattle.blob_source.specs.Told.{Fault}
 use Rattle.tree.specs.Comparing.{IsEncoding}
-use Rattle.tree.specs.Difference.{IsFirstOf, IsNoneOf, Reads, FailsToRead, Differing, unexplained, absent, differs, unread, child_of, IsFirstName, FindsAt, Finds, FindsFirst}
+use Rattle.tree.specs.Difference.{IsFirstOf, IsNoneOf, ReadsDirectory, FailsToRead, Differing, unexplained, absent, differs, unread, child_of, IsFirstName, FindsAt, Finds, FindsFirst}
 use Rattle.tree.proofs.TreeLemmas.{name_itself, name_trans}
 use Rattle.tree.proofs.Totals.{told_or_faulty}
 
@@ -182,7 +182,7 @@ first_own d before (b ∷ own) none lawful one nowhere =
 
 module _ (own : List (List ℕ)) (B : Blobs) (lawful : AllByRecursion IsEncoding own) where
   -- a Directory is read, or there is a fault
-  reads_or_fails : (d : DigestValue) → ((m : DirectoryValue) → IsDirectory m → digest_of (directory_bytes m) ≡ d → Reads own B d m → ⊥) → ((f : Fault) → FailsToRead own B d f → ⊥) → ⊥
+  reads_or_fails : (d : DigestValue) → ((m : DirectoryValue) → IsDirectory m → digest_of (directory_bytes m) ≡ d → ReadsDirectory own B d m → ⊥) → ((f : Fault) → FailsToRead own B d f → ⊥) → ⊥
   reads_or_fails d reads fails = first_own d [] own tt lawful
       (λ b encoding first.
       let right : digest_of (directory_bytes encoding.0) ≡ d = ap digest_of (sym encoding.2) ∙ first.right in

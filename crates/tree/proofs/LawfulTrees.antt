@@ -9,13 +9,13 @@ use Rattle.messages.specs.declared.node.Node.{Node}
 use Rattle.messages.specs.declared.node.Node.TheVariants.{File, Link, Dir}
 use Rattle.messages.specs.DirectoryRules.{DirectoryValue, IsDirectory}
 use Rattle.messages.specs.Name.{IsName}
-use Rattle.messages.specs.Order.{AreApart}
+use Rattle.messages.specs.Order.{ShareNone}
 use Rattle.tree.specs.Tree.{Name, name_cmp, Tree, empty, leaf, folder, IsBelowAll, IsOrdered}
 use Rattle.tree.specs.Form.{NodeValue, node_value, with_child, directory_of, top, root}
 use Rattle.tree.specs.declared.folding.Folded.{Folded}
 use Rattle.tree.specs.Folded.{IsNode, AreLawful, IsFoldOfLawful, IsFoldOf, tops_below, unseen, first_visits}
 use Rattle.tree.specs.Graft.{sole, put, graft}
-use Rattle.tree.specs.Lines.{lines_of, IsLine}
+use Rattle.tree.specs.Lines.{lines_of, IsGraftLine}
 use Rattle.tree.specs.Difference.{made_by}
 use Rattle.tree.specs.Comparing.{IsEncoding}
 use Rattle.tree.proofs.TreeLemmas.{name_itself, ordered-graft}
@@ -43,7 +43,7 @@ all_other : (n : Name) (others : List Name) → AllByRecursion (λ other. name_c
 all_other n [] h = tt
 all_other n (m ∷ others) h = (later_other n m h.0, all_other n others h.1)
 
-apart_more : (n : Name) (names others : List Name) → AllByRecursion (λ name. name_cmp n name ≡ Less) names → AreApart names others → AreApart names (n ∷ others)
+apart_more : (n : Name) (names others : List Name) → AllByRecursion (λ name. name_cmp n name ≡ Less) names → ShareNone names others → ShareNone names (n ∷ others)
 apart_more n [] others h k = tt
 apart_more n (m ∷ names) others h k = (((λ e. later_other n m h.0 (sym e)), k.0), apart_more n names others h.1 k.1)
 
@@ -157,16 +157,16 @@ lawful_put (n ∷ p) x (folder m below rest) p_is x_is h =
       | Greater ↦ (h.0, lawful_put (n ∷ p) x rest p_is x_is h.1)
     ]
 
-lawful_graft : (ls : List (List Name × NodeValue)) → AllByRecursion IsLine ls → AreLawful (graft ls)
+lawful_graft : (ls : List (List Name × NodeValue)) → AllByRecursion IsGraftLine ls → AreLawful (graft ls)
 lawful_graft [] h = tt
 lawful_graft (l ∷ ls) h = lawful_put l.0 l.1 (graft ls) h.0.0 h.0.1 (lawful_graft ls h.1)
 
 -- what such a graft made are encodings of Directories
-pub lawful_visits : (ls : List (List Name × NodeValue)) → AllByRecursion IsLine ls → AllByRecursion IsEncoding (first_visits (graft ls))
+pub lawful_visits : (ls : List (List Name × NodeValue)) → AllByRecursion IsGraftLine ls → AllByRecursion IsEncoding (first_visits (graft ls))
 lawful_visits ls h =
     all_unseen IsEncoding [] (top (graft ls) ∷ tops_below (graft ls)) (lawful_top (graft ls) (ordered-graft ls) (lawful_graft ls h), lawful_tops (graft ls) (ordered-graft ls) (lawful_graft ls h))
 
-pub fold_of_lawful : {A : Type 0} (f : Folded A) (ls : List (List Name × NodeValue)) → AllByRecursion IsLine ls → IsFoldOf (graft ls) f → IsFoldOfLawful f
+pub fold_of_lawful : {A : Type 0} (f : Folded A) (ls : List (List Name × NodeValue)) → AllByRecursion IsGraftLine ls → IsFoldOf (graft ls) f → IsFoldOfLawful f
 fold_of_lawful f ls h fold = record { tree = graft ls; ordered = ordered-graft ls; lawful = lawful_graft ls h; fold = fold }
 
 -- ---- lines, one after another
@@ -179,10 +179,10 @@ lines_pushed : {A : Type 0} (ls : List (List Name × Node A)) (l : List Name × 
 lines_pushed [] l = refl
 lines_pushed (k ∷ ls) l = ap (λ r. (k.0, node_value k.1) ∷ r) (lines_pushed ls l)
 
-pub lawful_more : {A : Type 0} (ls : List (List Name × Node A)) (i : ℕ) (l : List Name × Node A) → i < length ls → l ≡ get_or ls i l → AllByRecursion IsLine (lines_of (take i ls)) → IsLine (l.0, node_value l.1) → AllByRecursion IsLine (lines_of (take (i + 1) ls))
+pub lawful_more : {A : Type 0} (ls : List (List Name × Node A)) (i : ℕ) (l : List Name × Node A) → i < length ls → l ≡ get_or ls i l → AllByRecursion IsGraftLine (lines_of (take i ls)) → IsGraftLine (l.0, node_value l.1) → AllByRecursion IsGraftLine (lines_of (take (i + 1) ls))
 lawful_more ls i l lt is h k =
     let split : take i ls ++ l ∷ [] ≡ take (i + 1) ls = ap (λ x. take i ls ++ x ∷ []) is ∙ take_one ls i l lt in
-    subst (AllByRecursion IsLine) (sym (lines_pushed (take i ls) l) ∙ ap lines_of split) (all_pushed IsLine (lines_of (take i ls)) (l.0, node_value l.1) h k)
+    subst (AllByRecursion IsGraftLine) (sym (lines_pushed (take i ls) l) ∙ ap lines_of split) (all_pushed IsGraftLine (lines_of (take i ls)) (l.0, node_value l.1) h k)
 
-pub lawful_all : {A : Type 0} (ls : List (List Name × Node A)) (i : ℕ) → length ls ≤ i → AllByRecursion IsLine (lines_of (take i ls)) → AllByRecursion IsLine (lines_of ls)
-lawful_all ls i le h = subst (λ k. AllByRecursion IsLine (lines_of k)) (take_all i ls le) h
+pub lawful_all : {A : Type 0} (ls : List (List Name × Node A)) (i : ℕ) → length ls ≤ i → AllByRecursion IsGraftLine (lines_of (take i ls)) → AllByRecursion IsGraftLine (lines_of ls)
+lawful_all ls i le h = subst (λ k. AllByRecursion IsGraftLine (lines_of k)) (take_all i ls le) h

@@ -3,7 +3,7 @@ use Rattle.std.proofs.Common.{◌≡◌, ℕ, zero, suc, ◌+◌, ◌≤◌, Lis
 use Rattle.std.specs.Prelude.{◌⊎◌, Option, Some, None, Contains, Result, Ok, Err}
 use Rattle.std.specs.Result.{IsErrAnd}
 use Rattle.blob_source.specs.Source.{Telling, Grows}
-use Rattle.tree.specs.Memo.{Asked, blob, result, Known, IsKnownOf, one_if_none, unknown, Learns, KnowsNothing, IsRefused, IsWithout}
+use Rattle.tree.specs.Memo.{Asked, blob, result, Known, IsKnownOf, one_if_none, unknown, Learns, KnowsNothing, WasRefused, IsWithout}
 use Rattle.tree.proofs.Descent.{under_still}
 
 -- ---- lists of what is asked for
@@ -64,6 +64,7 @@ pub learns_none : {Looks : Asked → Type 0} {refused : Type 0} {known : Known} 
 learns_none {known = known} {t = t} h = record {
   known = h;
   kept = λ a b is. is;
+  others = λ a not other. refl;
   once = λ list covers. omega arith;
   learned = λ no list covers. omega arith;
 }
@@ -75,6 +76,7 @@ pub learns_then : {first next both : Asked → Type 0} {rejected refused : Type 
 learns_then to on passed h k = record {
   known = k.known;
   kept = λ a b is. k.kept a b (h.kept a b is);
+  others = λ a not other. k.others a (λ at. not (on a at)) other ∙ h.others a (λ at. not (to a at)) other;
   once = λ list covers.
       let early = h.learned passed list (λ a at. covers a (to a at)) in
       let late = k.once list (λ a at. covers a (on a at)) in
@@ -91,6 +93,7 @@ pub learns_more : {few many : Asked → Type 0} {rejected refused : Type 0} {k0 
 learns_more to by h = record {
   known = h.known;
   kept = h.kept;
+  others = λ a not other. h.others a (λ at. not (to a at)) other;
   once = λ list covers. h.once list (λ a at. covers a (to a at));
   learned = λ none list covers. h.learned (by none) list (λ a at. covers a (to a at));
 }
@@ -101,7 +104,7 @@ pub learns_refused : {few many : Asked → Type 0} {rejected refused : Type 0} {
 learns_refused to is h = learns_more to (λ none q. none is) h
 
 -- the exit of a `?` is a refusal
-pub refused_exit : {U E : Type 0} (r : Result U E) (P : E → Type 0) → IsErrAnd r P → IsRefused r
+pub refused_exit : {U E : Type 0} (r : Result U E) (P : E → Type 0) → IsErrAnd r P → WasRefused r
 refused_exit (Ok x) P exit = exit
 refused_exit (Err e) P exit = tt
 

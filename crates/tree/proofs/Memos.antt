@@ -90,6 +90,7 @@ module _ {d : DigestValue} {old new : Known} {before after : Telling} (known : I
   learns_blob {b} unasked asked held too = record {
     known = now;
     kept = kept;
+    others = λ a not other. too.others a (λ is. not (is, λ empty. other (is ∙ ap blob empty)));
     once = λ list covers. let most = by_once list (λ other. covers (blob d) (refl, other)) (same_or_other d empty_digest) asked in omega (arith, most);
     learned = λ none list covers. by_once list (λ other. covers (blob d) (refl, other)) (same_or_other d empty_digest) asked;
   }
@@ -145,6 +146,7 @@ module _ {old new : Known} {before after : Telling} (known : IsKnownOf old befor
   learns_no_blob {d} unasked asked is = record {
     known = same_known;
     kept = λ a x k. same a ∙ k;
+    others = λ a not other. same a;
     once = λ list covers. by list (λ other. covers (blob d) (refl, other)) (same_or_other d empty_digest) asked;
     learned = λ none list covers. absurd (none is);
   }
@@ -158,6 +160,7 @@ module _ {old new : Known} {before after : Telling} (known : IsKnownOf old befor
   learns_no_result {d} none is = record {
     known = same_known;
     kept = λ a x k. same a ∙ k;
+    others = λ a not other. same a;
     once = λ list covers. let one = one_unknown old (result d) list none (covers (result d) refl) in let most = asks.most_calls in omega (arith, one, most);
     learned = λ not list covers. absurd (not is);
   }
@@ -169,6 +172,7 @@ pub learns_result : {d : DigestValue} {old new : Known} {before after : Telling}
 learns_result {d} {old} {new} {before} {after} {b} known asks none held too = record {
   known = now;
   kept = kept;
+  others = λ a not other. too.others a not;
   once = λ list covers.
       let one = one_fewer old new kept (result d) b list none too.held (covers (result d) refl) in
       let most = asks.most_calls in

@@ -12,7 +12,7 @@ use Rattle.tree.specs.Tree.{Name, name_cmp, path_cmp}
 use Rattle.tree.specs.Form.{NodeValue}
 use Rattle.blob_source.specs.Source.{Blobs}
 use Rattle.tree.specs.Lookup.{Looked, fault, nothing, found, LooksFrom}
-use Rattle.tree.specs.Difference.{Reads, FailsToRead, Differing, unexplained, absent, differs, unread, child_of, IsFirstName, FindsAt, Finds, FindsFirst}
+use Rattle.tree.specs.Difference.{ReadsDirectory, FailsToRead, Differing, unexplained, absent, differs, unread, child_of, IsFirstName, FindsAt, Finds, FindsFirst}
 use Rattle.tree.specs.TrueDifference.{LooksBeside, AreAlike, StandFirst, IsTrueDifference}
 use Rattle.tree.proofs.TreeLemmas.{name_same}
 use Rattle.tree.proofs.DifferenceOnce.{reads_once, reads_or_fails, fails_once}
@@ -24,7 +24,7 @@ never_less (a ∷ q) h = cc
 module _ (own : List (List ℕ)) (B : Blobs) where
   -- a look-up from a node
   abbrev LooksOn : List Name → Option NodeValue → Looked → Type 0
-  LooksOn p o r = LooksFrom (Reads own B) (FailsToRead own B) p o r
+  LooksOn p o r = LooksFrom (ReadsDirectory own B) (FailsToRead own B) p o r
 
   looks_on_once : (p : List Name) (o : Option NodeValue) (r s : Looked) → LooksOn p o r → LooksOn p o s → r ≡ s
   looks_on_once p None r s h k = h ∙ sym k
@@ -37,13 +37,13 @@ module _ (own : List (List ℕ)) (B : Blobs) where
   looks_on_once (n ∷ p) (Some (Dir d)) r s (inr h) (inr k) = h.2 ∙ ap fault (fails_once own B d h.0 k.0 h.1 k.1) ∙ sym k.2
 
   -- the look-up goes on from the child of the Directory that is read
-  from_child : (d : DigestValue) (c : DirectoryValue) → Reads own B d c → (a : Name) (q : List Name) (v : Looked) → LooksBeside own B d (a ∷ q) v → LooksOn q (child a c) v
+  from_child : (d : DigestValue) (c : DirectoryValue) → ReadsDirectory own B d c → (a : Name) (q : List Name) (v : Looked) → LooksBeside own B d (a ∷ q) v → LooksOn q (child a c) v
   from_child d c read a q v (inl h) = subst (λ m. LooksOn q (child a m) v) (reads_once own B d h.0 c h.1 read) h.2
   from_child d c read a q v (inr h) = absurd (reads_or_fails own B d c h.0 read h.1)
 
   -- ---- at one directory of each
 
-  module _ (g r : DigestValue) (c m : DirectoryValue) (grafted : Reads own B g c) (recorded : Reads own B r m) (n : Name) (first : IsFirstName c m n) where
+  module _ (g r : DigestValue) (c m : DirectoryValue) (grafted : ReadsDirectory own B g c) (recorded : ReadsDirectory own B r m) (n : Name) (first : IsFirstName c m n) where
     before_at : (p : List Name) → ((q : List Name) (v w : Looked) → path_cmp q p ≡ Less → LooksOn q (child n c) v → LooksOn q (child n m) w → AreAlike v w)
         → (q : List Name) (v w : Looked) → path_cmp q (n ∷ p) ≡ Less → LooksBeside own B g q v → LooksBeside own B r q w → AreAlike v w
     before_at p below [] v w less h k = inr (g, r, h, k)
@@ -79,7 +79,7 @@ module _ (own : List (List ℕ)) (B : Blobs) where
   IsTrueBelow above g r (differs path) = (p : List Name) × (path ≡ above ++ p) × (x y : NodeValue) × (x ≢ y) × StandFirst own B g r p (found x) (found y)
   IsTrueBelow above g r (unread f) = (d : DigestValue) × FailsToRead own B d f
 
-  module _ (above : List Name) (g r : DigestValue) (c m : DirectoryValue) (grafted : Reads own B g c) (recorded : Reads own B r m) (n : Name) (first : IsFirstName c m n) where
+  module _ (above : List Name) (g r : DigestValue) (c m : DirectoryValue) (grafted : ReadsDirectory own B g c) (recorded : ReadsDirectory own B r m) (n : Name) (first : IsFirstName c m n) where
     true_below : (a b : DigestValue) (x : Differing) → child_of n c ≡ Some (Dir a) → child_of n m ≡ Some (Dir b) → IsTrueBelow (above ++ n ∷ []) a b x → IsTrueBelow above g r x
     true_below a b (unexplained path) e f h = (n ∷ h.0, h.1 ∙ append_assoc above (n ∷ []) h.0, h.2, stands_below g r c m grafted recorded n first a b h.0 _ _ e f h.3)
     true_below a b (absent path) e f h = (n ∷ h.0, h.1 ∙ append_assoc above (n ∷ []) h.0, h.2, stands_below g r c m grafted recorded n first a b h.0 _ _ e f h.3)

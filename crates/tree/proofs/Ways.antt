@@ -10,7 +10,7 @@ use Rattle.tree.specs.Tree.{Name}
 use Rattle.tree.specs.Form.{NodeValue, node_value}
 use Rattle.blob_source.specs.Source.{Blobs, Telling, Grows}
 use Rattle.blob_source.specs.Told.{TellsDirectory}
-use Rattle.tree.specs.Difference.{Reads, child_of}
+use Rattle.tree.specs.Difference.{ReadsDirectory, child_of}
 use Rattle.tree.specs.declared.difference.Unlike.TheVariants.{Directories}
 use Rattle.tree.specs.Comparing.{IsUnlike}
 use Rattle.tree.specs.Memo.{Asked, Known, LooksAtBlob, Learns}
@@ -100,7 +100,7 @@ module _ (own : List (List ℕ)) (B : Blobs) (g r : DigestValue) (deeper : ℕ) 
   compares_recorded h = subst (λ j. Compares own B j g r a) (sym less) (inl h)
 
   -- and then the graft's
-  pub compares_grafted : (m : DirectoryValue) → Reads own B r m → LooksAtOther own g a → Compares own B deeper g r a
+  pub compares_grafted : (m : DirectoryValue) → ReadsDirectory own B r m → LooksAtOther own g a → Compares own B deeper g r a
   compares_grafted m read h = subst (λ j. Compares own B j g r a) (sym less) (inr (m, read, inl h))
 
   at_both : (o p : Option NodeValue) (d e : DigestValue) (Next : DigestValue → DigestValue → Type 0) → o ≡ Some (Dir d) → p ≡ Some (Dir e) → Next d e → ComparesBoth o p Next
@@ -114,7 +114,7 @@ module _ (own : List (List ℕ)) (B : Blobs) (g r : DigestValue) (deeper : ℕ) 
       (inr (m, h.recorded, inr (k, h.grafted, n, h.first, at_both (child_of n k) (child_of n m) d e (λ x y. Compares own B (deeper - 1) x y a) at.0 at.1 below)))
 
 -- two Directories that were read
-pub learns_both : {rejected refused : Type 0} {k0 k1 k2 : Known} {t0 t1 t2 : Telling} (own : List (List ℕ)) (g r : DigestValue) (deeper : ℕ) (m : DirectoryValue) → 0 < deeper → Reads own t2.blobs r m
+pub learns_both : {rejected refused : Type 0} {k0 k1 k2 : Known} {t0 t1 t2 : Telling} (own : List (List ℕ)) (g r : DigestValue) (deeper : ℕ) (m : DirectoryValue) → 0 < deeper → ReadsDirectory own t2.blobs r m
     → (rejected → ⊥) → Learns (LooksAtOther own r) rejected k0 k1 t0 t1 → Learns (LooksAtOther own g) refused k1 k2 t1 t2 → Learns (Compares own t2.blobs deeper g r) refused k0 k2 t0 t2
 learns_both {t2 = t2} own g r deeper m some read passed h k =
     learns_then (λ a. compares_recorded own t2.blobs g r deeper some a) (λ a. compares_grafted own t2.blobs g r deeper some a m read) passed h k

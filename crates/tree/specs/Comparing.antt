@@ -1,4 +1,5 @@
--- What the private functions that find the first difference speak of: a graft's own Directories, and two Directories name by name.
+-- What the private functions that find the first difference speak of: a graft's own Directories,
+-- and two Directories name by name.
 use Rattle.std.specs.Prelude.{◌≡◌, ◌≢◌, ℕ, List, map, Option, Some, None}
 use Rattle.std.specs.List.{AllByRecursion}
 use Rattle.blob_digest.specs.Digest.{digest_of}
@@ -7,7 +8,8 @@ use Rattle.messages.specs.DirectoryRules.{DirectoryValue, IsDirectory}
 use Rattle.messages.specs.Directory.{directory_bytes}
 use Rattle.tree.specs.declared.comparing.OwnDirectories.{OwnDirectories}
 use Rattle.tree.specs.declared.difference.Unlike.{Unlike}
-use Rattle.tree.specs.declared.difference.Unlike.TheVariants.{OnlyRecorded, OnlyGrafted, Directories, Others}
+use Rattle.tree.specs.declared.difference.Unlike.TheVariants.{OnlyRecorded, OnlyGrafted}
+use Rattle.tree.specs.declared.difference.Unlike.TheVariants.{Directories, Others}
 use Rattle.tree.specs.declared.difference.FirstName.{FirstName}
 use Rattle.tree.specs.Form.{NodeValue}
 use Rattle.tree.specs.Visiting.{items_of}
@@ -37,7 +39,8 @@ abbrev pub IsUnlike : Option NodeValue → Option NodeValue → Unlike → Type 
 IsUnlike g r OnlyRecorded = (g ≡ None) × (y : NodeValue) × (r ≡ Some y)
 IsUnlike g r OnlyGrafted = (x : NodeValue) × (g ≡ Some x) × (r ≡ None)
 IsUnlike g r (Directories d e) = (g ≡ Some (Dir d)) × (r ≡ Some (Dir e)) × (d ≢ e)
-IsUnlike g r Others = (x y : NodeValue) × (g ≡ Some x) × (r ≡ Some y) × (x ≢ y) × ¬ AreDirectories x y
+IsUnlike g r Others =
+    (x y : NodeValue) × (g ≡ Some x) × (r ≡ Some y) × (x ≢ y) × ¬ AreDirectories x y
 
 abbrev pub IsUnlikeIfAny : NodeValue → NodeValue → Option Unlike → Type 0
 IsUnlikeIfAny x y None = x ≡ y

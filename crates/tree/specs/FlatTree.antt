@@ -1,5 +1,7 @@
--- A tree as a list: what stands at each of its paths, a directory before what is below it, names in order.
-use Rattle.std.specs.Prelude.{◌≡◌, ◌≢◌, ◌⊎◌, ℕ, ◌<◌, ◌≤◌, List, [], ◌∷◌, ◌++◌, map, length, take, Option, Some, None, if◌then◌else◌}
+-- A tree as a list: what stands at each of its paths, a directory before what is below it, names in
+-- order.
+use Rattle.std.specs.Prelude.{◌≡◌, ◌≢◌, ◌⊎◌, ℕ, ◌<◌, ◌≤◌, List, [], ◌∷◌, ◌++◌, map, length, take}
+use Rattle.std.specs.Prelude.{Option, Some, None, if◌then◌else◌}
 use Rattle.std.specs.List.{AllByRecursion}
 use Rattle.std.specs.Ordering.{eq_by_cmp}
 use Rattle.std.specs.declared.vec.Vec.{Vec}
@@ -7,7 +9,8 @@ use Rattle.messages.specs.declared.node.Node.TheVariants as nodes
 use Rattle.messages.specs.Path.{IsPath}
 use Rattle.tree.specs.declared.flat_tree.FlatEntry.{FlatEntry}
 use Rattle.tree.specs.declared.flat_tree.FlatEntry.TheVariants.{File, Link, Dir}
-use Rattle.tree.specs.Tree.{Name, path_cmp, Tree, empty, leaf, folder, Standing, nothing, a_leaf, a_directory, IsOrdered}
+use Rattle.tree.specs.Tree.{Name, path_cmp, Tree, empty, leaf, folder, Standing, nothing, a_leaf}
+use Rattle.tree.specs.Tree.{a_directory, IsOrdered}
 use Rattle.tree.specs.Form.{NodeValue}
 use Rattle.tree.specs.Folded.{IsFoldOf}
 use Rattle.tree.specs.declared.folding.Folded.{Folded}
@@ -49,18 +52,23 @@ pub record IsFoldOfList {A : Type 0} (entries : FlatValue) (folded : Folded A) :
 
 -- ---- one entry more
 
--- What stands at a path leaves room for no other entry there: something stands at the path, or a file or a link above it.
+-- What stands at a path leaves room for no other entry there: something stands at the path, or a
+-- file or a link above it.
 abbrev pub IsTaken : FlatValue → List Name → Type 0
 IsTaken entries p =
     (standing_in entries p ≢ nothing)
-    ⊎ ((k : ℕ) × (0 < k) × (k < length p) × (x : NodeValue) × (standing_in entries (take k p) ≡ a_leaf x))
+    ⊎ ((k : ℕ) × (0 < k) × (k < length p) × (x : NodeValue)
+    × (standing_in entries (take k p) ≡ a_leaf x))
 
--- After an entry is added at a path it stands there, and directories at the paths above it, of which those with fewer than
--- `first` names were there. All else is as it was.
-pub record IsAdded (first : ℕ) (p : List Name) (s : Standing NodeValue) (old new : FlatValue) : Type 0 where
+-- After an entry is added at a path it stands there, and directories at the paths above it, of
+-- which those with fewer than `first` names were there. All else is as it was.
+pub record IsAdded (first : ℕ) (p : List Name) (s : Standing NodeValue)
+    (old new : FlatValue) : Type 0 where
   pub at : standing_in new p ≡ s
   pub above : (k : ℕ) → first ≤ k → k < length p → standing_in new (take k p) ≡ a_directory
-  pub others : (q : List Name) → (q ≡ p → ⊥) → ((k : ℕ) → first ≤ k → k < length p → q ≡ take k p → ⊥) → standing_in new q ≡ standing_in old q
+  pub others : (q : List Name) → (q ≡ p → ⊥)
+      → ((k : ℕ) → first ≤ k → k < length p → q ≡ take k p → ⊥)
+      → standing_in new q ≡ standing_in old q
 
 -- The first names of a path, so many that nothing stands at them, while directories stand at fewer.
 pub record IsFirstMissing (entries : FlatValue) (p : List Name) (depth : ℕ) : Type 0 where

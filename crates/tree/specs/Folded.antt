@@ -23,12 +23,14 @@ visited t = top t ∷ tops_below t
 -- each once, where it first stands, but for those that were seen before
 abbrev pub unseen : List (List ℕ) → List (List ℕ) → List (List ℕ)
 unseen seen [] = []
-unseen seen (b ∷ bs) = if list_any (bytes_eq b) seen then unseen seen bs else b ∷ unseen (seen ++ b ∷ []) bs
+unseen seen (b ∷ bs) =
+    if list_any (bytes_eq b) seen then unseen seen bs else b ∷ unseen (seen ++ b ∷ []) bs
 
 abbrev pub first_visits : Tree NodeValue → List (List ℕ)
 first_visits t = unseen [] (visited t)
 
--- the digest of a tree's root, and its Directories, each distinct one once, in the order of their first visits
+-- the digest of a tree's root, and its Directories, each distinct one once, in the order of their
+-- first visits
 pub record IsFoldOf {A : Type 0} (t : Tree NodeValue) (f : Folded A) : Type 0 where
   pub root : f.root ≡ root t
   pub directories : map (λ (v : Vec ℕ A). v.items) f.directories.items ≡ first_visits t

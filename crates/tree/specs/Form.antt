@@ -38,15 +38,18 @@ no_children = record { files = []; directories = []; symlinks = [] }
 
 -- the directory with one more child, before the others of its kind
 abbrev pub with_child : Name → NodeValue → DirectoryValue → DirectoryValue
-with_child n (File d executable) m = record m { files = record { name = n; digest = d; executable = executable } ∷ m.files }
-with_child n (Link target) m = record m { symlinks = record { name = n; target = target } ∷ m.symlinks }
+with_child n (File d executable) m =
+    record m { files = record { name = n; digest = d; executable = executable } ∷ m.files }
+with_child n (Link target) m =
+    record m { symlinks = record { name = n; target = target } ∷ m.symlinks }
 with_child n (Dir d) m = record m { directories = record { name = n; digest = d } ∷ m.directories }
 
 -- the Directory of what stands at the top: a directory below it by the digest of its own Directory
 abbrev pub directory_of : Tree NodeValue → DirectoryValue
 directory_of empty = no_children
 directory_of (leaf n x rest) = with_child n x (directory_of rest)
-directory_of (folder n below rest) = with_child n (Dir (digest_of (directory_bytes (directory_of below)))) (directory_of rest)
+directory_of (folder n below rest) =
+    with_child n (Dir (digest_of (directory_bytes (directory_of below)))) (directory_of rest)
 
 -- its encoding
 abbrev pub top : Tree NodeValue → List ℕ
@@ -70,7 +73,8 @@ IsContent (link target) b = ⊥
 abbrev pub IsBlobBelow : Tree Leaf → List ℕ → Type 0
 IsBlobBelow empty b = ⊥
 IsBlobBelow (leaf n x rest) b = IsContent x b ⊎ IsBlobBelow rest b
-IsBlobBelow (folder n below rest) b = ((b ≡ top (form below)) ⊎ IsBlobBelow below b) ⊎ IsBlobBelow rest b
+IsBlobBelow (folder n below rest) b =
+    ((b ≡ top (form below)) ⊎ IsBlobBelow below b) ⊎ IsBlobBelow rest b
 
 abbrev pub IsBlobOf : Tree Leaf → List ℕ → Type 0
 IsBlobOf t b = (b ≡ top (form t)) ⊎ IsBlobBelow t b

@@ -11,5 +11,5 @@ abbrev pub lines_of : {A : Type 0} → List (List Name × Node A) → List (List
 lines_of lines = map (λ l. (l.0, node_value l.1)) lines
 
 -- a lawful line
-abbrev pub IsLine : List Name × NodeValue → Type 0
-IsLine l = AllByRecursion IsName l.0 × IsNode l.1
+abbrev pub IsGraftLine : List Name × NodeValue → Type 0
+IsGraftLine l = AllByRecursion IsName l.0 × IsNode l.1

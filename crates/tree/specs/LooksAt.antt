@@ -8,7 +8,7 @@ use Rattle.tree.specs.Tree.{Name}
 use Rattle.tree.specs.Form.{NodeValue}
 use Rattle.blob_source.specs.Source.{Blobs}
 use Rattle.blob_source.specs.Told.{TellsDirectory}
-use Rattle.tree.specs.Difference.{IsNoneOf, Reads, child_of, IsFirstName}
+use Rattle.tree.specs.Difference.{IsNoneOf, ReadsDirectory, child_of, IsFirstName}
 use Rattle.tree.specs.Memo.{Asked, LooksAtBlob}
 
 -- on the way of a look-up of names from a node: each directory that has a name below it
@@ -40,7 +40,7 @@ abbrev pub Compares : List (List ℕ) → Blobs → ℕ → DigestValue → Dige
 Compares own B zero g r a = ⊥
 Compares own B (suc deeper) g r a =
     LooksAtOther own r a
-    ⊎ ((m : DirectoryValue) × Reads own B r m
+    ⊎ ((m : DirectoryValue) × ReadsDirectory own B r m
     × (LooksAtOther own g a
-    ⊎ ((k : DirectoryValue) × Reads own B g k × (n : Name) × IsFirstName k m n
+    ⊎ ((k : DirectoryValue) × ReadsDirectory own B g k × (n : Name) × IsFirstName k m n
     × ComparesBoth (child_of n k) (child_of n m) (λ x y. Compares own B deeper x y a))))

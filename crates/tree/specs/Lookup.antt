@@ -16,18 +16,21 @@ pub data Looked : Type 0 where
   nothing : Looked
   found : NodeValue → Looked
 
--- From a node the names of the path are taken one after another. Only a directory has names below it:
--- the Directory that is read under its digest must have a child of that name. `Reads` and `Fails` say
--- which Directory stands under a digest, or why none does.
-abbrev pub LooksFrom : (DigestValue → DirectoryValue → Type 0) → (DigestValue → Fault → Type 0) → List Name → Option NodeValue → Looked → Type 0
+-- From a node the names of the path are taken one after another. Only a directory has names below
+-- it: the Directory that is read under its digest must have a child of that name. `Reads` and
+-- `Fails` say which Directory stands under a digest, or why none does.
+abbrev pub LooksFrom : (DigestValue → DirectoryValue → Type 0) → (DigestValue → Fault → Type 0)
+    → List Name → Option NodeValue → Looked → Type 0
 LooksFrom Reads Fails p None r = r ≡ nothing
 LooksFrom Reads Fails [] (Some x) r = r ≡ found x
 LooksFrom Reads Fails (n ∷ p) (Some (File d executable)) r = r ≡ nothing
 LooksFrom Reads Fails (n ∷ p) (Some (Link target)) r = r ≡ nothing
 LooksFrom Reads Fails (n ∷ p) (Some (Dir d)) r =
-    ((m : DirectoryValue) × Reads d m × LooksFrom Reads Fails p (child n m) r) ⊎ ((f : Fault) × Fails d f × (r ≡ fault f))
+    ((m : DirectoryValue) × Reads d m × LooksFrom Reads Fails p (child n m) r)
+    ⊎ ((f : Fault) × Fails d f × (r ≡ fault f))
 
--- from the directory with a digest, in what a source tells. Without names it is that directory, and nothing is read
+-- from the directory with a digest, in what a source tells. Without names it is that directory, and
+-- nothing is read
 abbrev pub Looks : Blobs → DigestValue → List Name → Looked → Type 0
 Looks B d p r = LooksFrom (TellsDirectory B) (FailsDirectory B) p (Some (Dir d)) r
 
@@ -46,7 +49,8 @@ AgreesWith o (found x) = o ≡ Some x
 -- Of every tree with this digest, a look-up tells what stands at the path, if no two blobs of the
 -- source and the tree share a digest.
 pub record TellsOfTrees (B : Blobs) (d : DigestValue) (p : List Name) (r : Looked) : Type 0 where
-  pub of_tree : (t : Tree Leaf) → IsOrdered t → root (form t) ≡ d → NoClash (λ b. IsValue B b ⊎ IsBlobOf t b)
+  pub of_tree : (t : Tree Leaf) → IsOrdered t → root (form t) ≡ d
+      → NoClash (λ b. IsValue B b ⊎ IsBlobOf t b)
       → AgreesWith (option_map entry_node (tree_at t p)) r
 
 -- the names of a path, and none where there is no path

@@ -1,5 +1,6 @@
 -- What is known of a source without asking it, and how often calls over that ask it.
-use Rattle.std.specs.Prelude.{◌≡◌, ◌≢◌, ℕ, ◌+◌, ◌≤◌, List, [], ◌∷◌, Option, Some, None, option_map, Contains, Result, Ok, Err}
+use Rattle.std.specs.Prelude.{◌≡◌, ◌≢◌, ℕ, ◌+◌, ◌≤◌, List, [], ◌∷◌, Option, Some, None, option_map}
+use Rattle.std.specs.Prelude.{Contains, Result, Ok, Err}
 use Rattle.std.specs.BTreeMap.{get}
 use Rattle.blob_digest.specs.Digest.{DigestValue, digest_cmp, empty_digest}
 use Rattle.messages.specs.Directory.{directory_bytes}
@@ -27,7 +28,8 @@ Known = Asked → Option (List ℕ)
 -- it is what the source told, and each blob has its digest
 pub record IsKnownOf (known : Known) (tells : Telling) : Type 0 where
   pub blobs : (d : DigestValue) (b : List ℕ) → known (blob d) ≡ Some b → IsBlobUnder tells.blobs d b
-  pub results : (d : DigestValue) (b : List ℕ) → known (result d) ≡ Some b → tells.results d ≡ Some b
+  pub results : (d : DigestValue) (b : List ℕ) → known (result d) ≡ Some b
+      → tells.results d ≡ Some b
 
 -- ---- what a memo keeps
 
@@ -69,21 +71,23 @@ abbrev pub Covers : (Asked → Type 0) → List Asked → Type 0
 Covers Looks list = (a : Asked) → Looks a → Contains list a
 
 -- Calls that look at these alone. What was known stays known, and what is known is what the source
--- told. Of a list with all that they look at, the source is asked at most once for each that isn't
--- known; and, unless they are refused, what it was asked for is known then.
+-- told. Nothing else is known then that wasn't; but the empty blob, which is always there, may be.
+-- Of a list with all that they look at, the source is asked at most once for each that isn't known;
+-- and, unless they are refused, what it was asked for is known then.
 pub record Learns (Looks : Asked → Type 0) (refused : Type 0) (old new : Known)
     (before after : Telling) : Type 0 where
   pub known : IsKnownOf new after
   pub kept : (a : Asked) (b : List ℕ) → old a ≡ Some b → new a ≡ Some b
+  pub others : (a : Asked) → (Looks a → ⊥) → a ≢ blob empty_digest → new a ≡ old a
   pub once : (list : List Asked) → Covers Looks list
       → after.calls ≤ before.calls + unknown old list
   pub learned : (refused → ⊥) → (list : List Asked) → Covers Looks list
       → after.calls + unknown new list ≤ before.calls + unknown old list
 
 -- a call was refused
-abbrev pub IsRefused : {T E : Type 0} → Result T E → Type 0
-IsRefused (Ok x) = ⊥
-IsRefused (Err e) = Unit {0}
+abbrev pub WasRefused : {T E : Type 0} → Result T E → Type 0
+WasRefused (Ok x) = ⊥
+WasRefused (Err e) = Unit {0}
 
 -- a call came to nothing
 abbrev pub IsWithout : {T E : Type 0} → Result (Option T) E → Type 0

@@ -18,7 +18,8 @@ name_cmp = bytes_cmp
 abbrev pub path_cmp : List Name → List Name → Ordering
 path_cmp = slice_cmp name_cmp
 
--- A directory, entry by entry in the order of names. An entry is a leaf or a directory below it; `rest` are the entries after it.
+-- A directory, entry by entry in the order of names. An entry is a leaf or a directory below it;
+-- `rest` are the entries after it.
 pub data Tree (L : Type 0) : Type 0 where
   empty : Tree L
   leaf : (n : Name) (x : L) (rest : Tree L) → Tree L
@@ -32,7 +33,8 @@ pub data Entry (L : Type 0) : Type 0 where
 abbrev pub entry_of : {L : Type 0} → Name → Tree L → Option (Entry L)
 entry_of n empty = None
 entry_of n (leaf m x rest) = if eq_by_cmp name_cmp n m then Some (single x) else entry_of n rest
-entry_of n (folder m below rest) = if eq_by_cmp name_cmp n m then Some (whole below) else entry_of n rest
+entry_of n (folder m below rest) =
+    if eq_by_cmp name_cmp n m then Some (whole below) else entry_of n rest
 
 -- name by name; only a directory has names below it
 abbrev pub below_entry : {L : Type 0} → List Name → Option (Entry L) → Option (Entry L)
@@ -45,7 +47,8 @@ below_entry (n ∷ p) (Some (whole t)) = below_entry p (entry_of n t)
 abbrev pub tree_at : {L : Type 0} → Tree L → List Name → Option (Entry L)
 tree_at t p = below_entry p (Some (whole t))
 
--- What stands at a path: nothing, a leaf, or a directory. A tree is the finite map of what stands at its paths.
+-- What stands at a path: nothing, a leaf, or a directory. A tree is the finite map of what stands
+-- at its paths.
 pub data Standing (L : Type 0) : Type 0 where
   nothing : Standing L
   a_leaf : L → Standing L

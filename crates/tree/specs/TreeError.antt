@@ -8,7 +8,8 @@ use Rattle.blob_source.specs.declared.fetching.MessageFetchError.TheVariants as 
 use Rattle.tree.specs.declared.error.TreeError.{TreeError}
 use Rattle.tree.specs.declared.error.AddError.{AddError}
 use Rattle.tree.specs.declared.error.AddError.TheVariants as adding
-use Rattle.tree.specs.declared.error.TreeError.TheVariants.{Absent, BlobMissing, BlobWrong, BlobMalformed, TooDeep, Fetch, Memory}
+use Rattle.tree.specs.declared.error.TreeError.TheVariants.{Absent, BlobMissing, BlobWrong}
+use Rattle.tree.specs.declared.error.TreeError.TheVariants.{BlobMalformed, TooDeep, Fetch, Memory}
 use Rattle.tree.specs.Tree.{Name}
 use Rattle.blob_source.specs.Source.{Blobs}
 use Rattle.blob_source.specs.Told.{Fault, missing, wrong, malformed}

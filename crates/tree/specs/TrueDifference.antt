@@ -3,7 +3,8 @@ use Rattle.std.specs.Prelude.{◌≡◌, ◌≢◌, ◌⊎◌, ℕ, List, Some}
 use Rattle.std.specs.declared.cmp.Ordering.TheVariants.{Less}
 use Rattle.blob_digest.specs.Digest.{DigestValue}
 use Rattle.messages.specs.declared.node.Node.TheVariants.{Dir}
-use Rattle.tree.specs.Difference.{Reads, FailsToRead, Differing, unexplained, absent, differs, unread}
+use Rattle.tree.specs.Difference.{ReadsDirectory, FailsToRead, Differing, unexplained, absent}
+use Rattle.tree.specs.Difference.{differs, unread}
 use Rattle.tree.specs.Form.{NodeValue}
 use Rattle.tree.specs.Lookup.{Looked, nothing, found, LooksFrom}
 use Rattle.blob_source.specs.Source.{Blobs}
@@ -11,7 +12,7 @@ use Rattle.tree.specs.Tree.{Name, path_cmp}
 
 -- a look-up, where Directories are read from those that a graft made, and else from the source
 abbrev pub LooksBeside : List (List ℕ) → Blobs → DigestValue → List Name → Looked → Type 0
-LooksBeside own B d p r = LooksFrom (Reads own B) (FailsToRead own B) p (Some (Dir d)) r
+LooksBeside own B d p r = LooksFrom (ReadsDirectory own B) (FailsToRead own B) p (Some (Dir d)) r
 
 -- the same in both, or a directory in both
 abbrev pub AreAlike : Looked → Looked → Type 0

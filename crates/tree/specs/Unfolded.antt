@@ -4,7 +4,8 @@ use Rattle.blob_digest.specs.Digest.{DigestValue}
 use Rattle.messages.specs.declared.node.Node.TheVariants.{Dir}
 use Rattle.messages.specs.DirectoryRules.{DirectoryValue}
 use Rattle.tree.specs.declared.error.TreeError.{TreeError}
-use Rattle.tree.specs.declared.error.TreeError.TheVariants.{Absent, BlobMissing, BlobWrong, BlobMalformed, TooDeep, Fetch, Memory}
+use Rattle.tree.specs.declared.error.TreeError.TheVariants.{Absent, BlobMissing, BlobWrong}
+use Rattle.tree.specs.declared.error.TreeError.TheVariants.{BlobMalformed, TooDeep, Fetch, Memory}
 use Rattle.tree.specs.Tree.{Name, Tree, empty, leaf, folder, Standing, nothing, a_leaf, a_directory}
 use Rattle.tree.specs.Form.{NodeValue, no_children, directory_of, root}
 use Rattle.blob_source.specs.Source.{Blobs}
@@ -16,7 +17,8 @@ use Rattle.tree.specs.FlatTree.{FlatValue, IsListOf}
 abbrev pub TellsBelow : Blobs → Tree NodeValue → Type 0
 TellsBelow B empty = Unit {0}
 TellsBelow B (leaf n x rest) = TellsBelow B rest
-TellsBelow B (folder n below rest) = (TellsDirectory B (root below) (directory_of below) × TellsBelow B below) × TellsBelow B rest
+TellsBelow B (folder n below rest) =
+    (TellsDirectory B (root below) (directory_of below) × TellsBelow B below) × TellsBelow B rest
 
 -- Every Directory of the tree is told, that of its top under the digest.
 pub record TellsTree (B : Blobs) (d : DigestValue) (t : Tree NodeValue) : Type 0 where

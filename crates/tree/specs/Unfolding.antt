@@ -1,11 +1,13 @@
--- What the private functions that unfold a tree speak of: the children of a Directory by their names, and entries below a path.
+-- What the private functions that unfold a tree speak of: the children of a Directory by their
+-- names, and entries below a path.
 use Rattle.std.specs.Prelude.{◌≡◌, List, [], ◌∷◌, ◌++◌, length, map, Option, Some, None}
 use Rattle.std.specs.List.{AllByRecursion}
 use Rattle.messages.specs.declared.node.Node.{Node}
 use Rattle.messages.specs.DirectoryRules.{DirectoryValue}
 use Rattle.messages.specs.Path.{IsPath}
 use Rattle.tree.specs.declared.error.TreeError.{TreeError}
-use Rattle.tree.specs.declared.error.TreeError.TheVariants.{Absent, BlobMissing, BlobWrong, BlobMalformed, TooDeep, Fetch, Memory}
+use Rattle.tree.specs.declared.error.TreeError.TheVariants.{Absent, BlobMissing, BlobWrong}
+use Rattle.tree.specs.declared.error.TreeError.TheVariants.{BlobMalformed, TooDeep, Fetch, Memory}
 use Rattle.blob_source.specs.Source.{Blobs}
 use Rattle.blob_digest.specs.Digest.{DigestValue}
 use Rattle.tree.specs.Tree.{Name, Tree, empty, leaf, IsOrdered}
@@ -49,8 +51,10 @@ ExplainsChild above Memory = Unit {0}
 abbrev pub prefixed : List Name → FlatValue → FlatValue
 prefixed above entries = map (λ e. (above ++ e.0, e.1)) entries
 
--- behind the entries that were there stand those of the tree that is told under a digest, below a path
-pub record Appends (B : Blobs) (d : DigestValue) (above : List Name) (old new : FlatValue) : Type 0 where
+-- behind the entries that were there stand those of the tree that is told under a digest, below a
+-- path
+pub record Appends (B : Blobs) (d : DigestValue) (above : List Name)
+    (old new : FlatValue) : Type 0 where
   pub tree : Tree NodeValue
   pub ordered : IsOrdered tree
   pub told : TellsTree B d tree

@@ -1,6 +1,7 @@
 -- What the private functions that make a graft's Directories speak of: lines in the order of their
 -- targets' names, and the children of a directory that is being made.
-use Rattle.std.specs.Prelude.{◌≡◌, ◌≢◌, ℕ, ◌+◌, List, [], ◌∷◌, ◌++◌, map, length, nat_eq, if◌then◌else◌}
+use Rattle.std.specs.Prelude.{◌≡◌, ◌≢◌, ℕ, ◌+◌, List, [], ◌∷◌, ◌++◌, map, length, nat_eq}
+use Rattle.std.specs.Prelude.{if◌then◌else◌}
 use Rattle.std.specs.List.{AllByRecursion}
 use Rattle.std.specs.Cmp.Lexicographic.{pointwise}
 use Rattle.std.specs.declared.cmp.Ordering.TheVariants.{Less}
@@ -32,9 +33,11 @@ Apart (n ∷ p) (m ∷ q) = n ≡ m → Apart p q
 -- no target equals another or lies under it
 abbrev pub HaveApart : {X : Type 0} → List (List Name × X) → Type 0
 HaveApart [] = Unit {0}
-HaveApart (l ∷ ls) = (l.0 ≢ []) × AllByRecursion (λ k. Apart l.0 k.0 × Apart k.0 l.0) ls × HaveApart ls
+HaveApart (l ∷ ls) =
+    (l.0 ≢ []) × AllByRecursion (λ k. Apart l.0 k.0 × Apart k.0 l.0) ls × HaveApart ls
 
-abbrev pub first_under : {X : Type 0} → Name → List Name → X → List (List Name × X) → List (List Name × X)
+abbrev pub first_under : {X : Type 0} → Name → List Name → X → List (List Name × X)
+    → List (List Name × X)
 first_under n [] x rest = []
 first_under n (m ∷ p) x rest = if pointwise nat_eq m n then (p, x) ∷ rest else []
 
@@ -68,10 +71,17 @@ items_of encodings = map (λ v. v.items) encodings
 
 -- the children of one directory, and behind them those of another
 abbrev pub joined : DirectoryValue → DirectoryValue → DirectoryValue
-joined a b = record { files = a.files ++ b.files; directories = a.directories ++ b.directories; symlinks = a.symlinks ++ b.symlinks }
+joined a b =
+    record {
+      files = a.files ++ b.files;
+      directories = a.directories
+          ++ b.directories;
+      symlinks = a.symlinks ++ b.symlinks;
+    }
 
-abbrev pub directory_in : {A : Type 0} → Children A → DirectoryValue
-directory_in c = record { files = c.files.items; directories = c.directories.items; symlinks = c.symlinks.items }
+abbrev pub children_directory : {A : Type 0} → Children A → DirectoryValue
+children_directory c =
+    record { files = c.files.items; directories = c.directories.items; symlinks = c.symlinks.items }
 
 abbrev pub tops_in : {A : Type 0} → Children A → List (List ℕ)
 tops_in c = items_of c.below.items

@@ -3,14 +3,14 @@ ghost use Rattle.std.specs.Prelude.{MatchOption, IsNone, IfOk, IfErr, IfSome, Is
 ghost use Rattle.std.specs.List.{AllWithin, HoldsAt};
 ghost use Rattle.blob_digest.specs.Digest.{digest_of};
 ghost use Rattle.tree.specs.Comparing.{encodings_in, AreOwn};
-ghost use Rattle.tree.specs.Difference.{Reads, FailsToRead, LeavesOwn, Finds, FindsFirst};
+ghost use Rattle.tree.specs.Difference.{ReadsDirectory, FailsToRead, LeavesOwn, Finds, FindsFirst};
 ghost use Rattle.tree.specs.Difference.{made_by, differing, ExplainsDifference};
 ghost use Rattle.tree.specs.Folded.{IsFoldOfLawful};
 ghost use Rattle.tree.specs.Lookup.{names_in};
 ghost use Rattle.blob_source.specs.Source.{Asks};
 ghost use Rattle.blob_source.specs.Called.{Calls};
 ghost use Rattle.tree.specs.LooksAt.{Compares, LooksAtOther};
-ghost use Rattle.tree.specs.Memo.{IsKnownOf, IsRefused, Learns, known_by};
+ghost use Rattle.tree.specs.Memo.{IsKnownOf, WasRefused, Learns, known_by};
 ghost use Rattle.tree.specs.TreeError.{Explains};
 
 use crate::difference::{Difference, FirstName, Unlike, first_name};
@@ -65,14 +65,14 @@ fn read_directory<A: Allocator + Copy, S: BlobSource<A>>(
     requires own { AreOwn own.now }
     requires known { IsKnownOf (known_by memo.old) (S.tells source.old) }
     ensures told { IfOk result
-        (Reads (encodings_in own.now) (S.tells source.new).blobs digest.now) }
+        (ReadsDirectory (encodings_in own.now) (S.tells source.new).blobs digest.now) }
     ensures faulty { IfErr result (Explains
         (FailsToRead (encodings_in own.now) (S.tells source.new).blobs digest.now)) }
     ensures called { Calls (Asks 1) (S.tells source.old) (S.tells source.new)
         (IsErrOf result TreeError.Fetch) }
     ensures unasked { LeavesOwn (encodings_in own.now)
         (S.tells source.old).blobs (S.tells source.new).blobs }
-    ensures learned { Learns (LooksAtOther (encodings_in own.now) digest.now) (IsRefused result)
+    ensures learned { Learns (LooksAtOther (encodings_in own.now) digest.now) (WasRefused result)
         (known_by memo.old) (known_by memo.new) (S.tells source.old) (S.tells source.new) }
 {
     let Some(place) = place_of(own.digests, digest) else {
@@ -112,7 +112,7 @@ fn difference_below<A: Allocator + Copy, S: BlobSource<A>>(
     ensures unasked { LeavesOwn (encodings_in own.now)
         (S.tells source.old).blobs (S.tells source.new).blobs }
     ensures learned { Learns (Compares (encodings_in own.now) (S.tells source.new).blobs deeper
-        grafted.now recorded.now) (IsRefused result)
+        grafted.now recorded.now) (WasRefused result)
         (known_by memo.old) (known_by memo.new) (S.tells source.old) (S.tells source.new) }
 {
     let there = read_directory(alloc, own, recorded, memo, source)?;
@@ -164,7 +164,7 @@ pub fn first_difference_with<A: Allocator + Copy, S: BlobSource<A>>(
     ensures unasked_own { LeavesOwn (made_by grafted.now)
         (S.tells source.old).blobs (S.tells source.new).blobs }
     ensures learned { Learns (Compares (made_by grafted.now) (S.tells source.new).blobs 64
-        grafted.now.root recorded.now) (IsRefused result)
+        grafted.now.root recorded.now) (WasRefused result)
         (known_by memo.old) (known_by memo.new) (S.tells source.old) (S.tells source.new) }
 {
     if *recorded == grafted.root {

@@ -1,7 +1,10 @@
-ghost use Rattle.std.specs.Prelude.{◌≡◌, ◌↔◌, ◌⊎◌, ◌==◌, ◌-◌, ℕ, IsTrue, ◌<◌, ◌≤◌, [], IfOk, IfErr, IfNone, IfSome, OnOk, OnErr, IsErr, length, take, option_copied};
+ghost use Rattle.std.specs.Prelude.{◌≡◌, ◌↔◌, ◌⊎◌, ◌==◌, ◌-◌, ℕ, IsTrue, ◌<◌, ◌≤◌, [], IfOk, IfErr};
+ghost use Rattle.std.specs.Prelude.{IfNone, IfSome, OnOk, OnErr, IsErr, length, take};
+ghost use Rattle.std.specs.Prelude.{option_copied};
 ghost use Rattle.messages.specs.Path.{IsPath};
 ghost use Rattle.tree.specs.Tree.{nothing, a_directory};
-ghost use Rattle.tree.specs.FlatTree.{standing_in, IsFlatTree, IsTaken, IsAdded, IsFirstMissing, entry_value, found_value, flat_value, path_values};
+ghost use Rattle.tree.specs.FlatTree.{standing_in, IsFlatTree, IsTaken, IsAdded, IsFirstMissing};
+ghost use Rattle.tree.specs.FlatTree.{entry_value, found_value, flat_value, path_values};
 ghost use Rattle.messages.specs.Path.{IsPath};
 ghost use Rattle.tree.specs.TreeError.{IsOverlapAt};
 
@@ -102,10 +105,15 @@ fn grow<A: Allocator + Copy>(
     requires some { 0 < depth }
     requires within { depth ≤ length names.now }
     requires lawful { IsPath names.now }
-    requires parent { (depth ≡ 1) ⊎ (standing_in (flat_value entries.old.entries) (take (depth - 1) names.now) ≡ a_directory) }
-    requires free { (k : ℕ) → depth ≤ k → k ≤ length names.now → standing_in (flat_value entries.old.entries) (take k names.now) ≡ nothing }
+    requires parent { (depth ≡ 1)
+        ⊎ (standing_in (flat_value entries.old.entries) (take (depth - 1) names.now)
+        ≡ a_directory) }
+    requires free { (k : ℕ) → depth ≤ k → k ≤ length names.now
+        → standing_in (flat_value entries.old.entries) (take k names.now) ≡ nothing }
     ensures flat { OnOk result (IsFlatTree (flat_value entries.new.entries)) }
-    ensures added { OnOk result (IsAdded depth names.now (entry_value entry) (flat_value entries.old.entries) (flat_value entries.new.entries)) }
+    ensures added { OnOk result
+        (IsAdded depth names.now (entry_value entry) (flat_value entries.old.entries)
+        (flat_value entries.new.entries)) }
     ensures err { OnErr result (entries.new.entries ≡ entries.old.entries) }
 {
     let key = copy_names(alloc, &names[..depth])?;
@@ -139,7 +147,8 @@ impl<A: Allocator + Copy> FlatTree<A> {
         alloc: A,
         path: &Path<B>,
     ) -> Result<Option<&FlatEntry<A>>, AllocError>
-        ensures value { IfOk result (λ found. found_value (option_copied found) ≡ standing_in self.now path.now) }
+        ensures value { IfOk result
+            (λ found. found_value (option_copied found) ≡ standing_in self.now path.now) }
         ensures flat { IsFlatTree self.now }
     {
         let entries = &self.entries;

@@ -59,7 +59,8 @@ fn visit_entries<A: Allocator + Copy>(
     entries: &[Line<'_, A, FlatEntry<A>>],
 ) -> Result<Visited<A>, AllocError>
     requires { (t : Tree NodeValue) × IsListOf (line_entries entries.now) t }
-    ensures { IfOk result (λ v. (t : Tree NodeValue) → IsListOf (line_entries entries.now) t → IsVisitOf t v) }
+    ensures { IfOk result
+        (λ v. (t : Tree NodeValue) → IsListOf (line_entries entries.now) t → IsVisitOf t v) }
 {
     let mut children = Children::new(alloc);
     let mut start = 0;

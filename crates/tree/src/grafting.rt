@@ -2,7 +2,7 @@ ghost use Rattle.std.specs.Prelude.{◌≡◌, IfOk};
 ghost use Rattle.tree.specs.Graft.{graft, HaveApartTargets};
 ghost use Rattle.std.specs.List.{AllByRecursion};
 ghost use Rattle.tree.specs.Form.{node_value};
-ghost use Rattle.tree.specs.Lines.{lines_of, IsLine};
+ghost use Rattle.tree.specs.Lines.{lines_of, IsGraftLine};
 ghost use Rattle.tree.specs.Folded.{IsNode, IsFoldOf, IsFoldOfLawful};
 ghost use Rattle.tree.specs.Visiting.{Ascend, HaveApart, line_values, entry_lines, IsVisitOf};
 
@@ -76,7 +76,7 @@ fn sort_lines<A: Allocator + Copy>(
     ensures grafts { IfOk result (λ m. graft (entry_lines m.entries) ≡ graft (lines_of lines.now)) }
     ensures ascend { IfOk result (λ m. Ascend (entry_lines m.entries)) }
     ensures apart { IfOk result (λ m. HaveApart (entry_lines m.entries)) }
-    ensures lawful { IfOk result (λ m. AllByRecursion IsLine (lines_of lines.now)) }
+    ensures lawful { IfOk result (λ m. AllByRecursion IsGraftLine (lines_of lines.now)) }
 {
     let mut sorted = BTreeMap::new(alloc);
     for line in lines {

@@ -1,4 +1,5 @@
-ghost use Rattle.std.specs.Prelude.{◌≡◌, ◌⊎◌, List, ℕ, Some, None, Option, IfOk, IfErr, OnOk, OnErr};
+ghost use Rattle.std.specs.Prelude.{◌≡◌, ◌⊎◌, List, ℕ, Some, None, Option, IfOk, IfErr, OnOk};
+ghost use Rattle.std.specs.Prelude.{OnErr};
 ghost use Rattle.std.specs.Prelude.{IsErrOf, IfSome, IsNone, IsTrue, length, option_map};
 ghost use Rattle.std.specs.BTreeMap.{get};
 ghost use Rattle.blob_digest.specs.Digest.{empty_digest, digest_cmp};
@@ -7,7 +8,7 @@ ghost use Rattle.messages.specs.Node.{child};
 ghost use Rattle.blob_source.specs.Source.{Asks, Blobs, GrowsAt, IsBlobUnder, Telling, bytes_of};
 ghost use Rattle.blob_source.specs.Called.{Calls};
 ghost use Rattle.blob_source.specs.Told.{IsTold, IsFault, TellsDirectory, FailsDirectory};
-ghost use Rattle.tree.specs.Memo.{IsKnownOf, IsRefused, IsSame, IsWithout, KnowsNothing};
+ghost use Rattle.tree.specs.Memo.{IsKnownOf, WasRefused, IsSame, IsWithout, KnowsNothing};
 ghost use Rattle.tree.specs.Memo.{KnowsToo, Learns, LooksAtBlob, LooksAtResult};
 ghost use Rattle.tree.specs.Memo.{blob, kept_bytes, known_by};
 ghost use Rattle.tree.specs.TreeError.{Explains};
@@ -151,7 +152,7 @@ impl<A: Allocator + Copy> Memo<A> {
         ensures called { Calls (Asks 1) (S.tells source.old) (S.tells source.new)
             (IsErrOf result TreeError.Fetch) }
         ensures only { GrowsAt digest.now (S.tells source.old).blobs (S.tells source.new).blobs }
-        ensures learned { Learns (LooksAtBlob digest.now) (IsRefused result)
+        ensures learned { Learns (LooksAtBlob digest.now) (WasRefused result)
             (known_by self.old) (known_by self.new) (S.tells source.old) (S.tells source.new) }
         ensures unchanged { OnErr result (IsSame (known_by self.old) (known_by self.new)) }
     {
@@ -215,7 +216,7 @@ impl<A: Allocator + Copy> Memo<A> {
             (FailsDirectory (S.tells source.new).blobs digest.now)) }
         ensures called { Calls (Asks 1) (S.tells source.old) (S.tells source.new)
             (IsErrOf result TreeError.Fetch) }
-        ensures learned { Learns (LooksAtBlob digest.now) (IsRefused result)
+        ensures learned { Learns (LooksAtBlob digest.now) (WasRefused result)
             (known_by self.old) (known_by self.new) (S.tells source.old) (S.tells source.new) }
         ensures unchanged { OnErr result (IsSame (known_by self.old) (known_by self.new)) }
     {
@@ -242,7 +243,7 @@ impl<A: Allocator + Copy> Memo<A> {
             (FailsDirectory (S.tells source.new).blobs digest.now)) }
         ensures called { Calls (Asks 1) (S.tells source.old) (S.tells source.new)
             (IsErrOf result TreeError.Fetch) }
-        ensures learned { Learns (LooksAtBlob digest.now) (IsRefused result)
+        ensures learned { Learns (LooksAtBlob digest.now) (WasRefused result)
             (known_by self.old) (known_by self.new) (S.tells source.old) (S.tells source.new) }
     {
         self.learn_directory(alloc, source, digest)?;

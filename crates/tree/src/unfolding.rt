@@ -3,7 +3,7 @@ ghost use Rattle.std.specs.Prelude.{option_map};
 ghost use Rattle.std.specs.List.{AllByRecursion};
 ghost use Rattle.messages.specs.DirectoryRules.{directory_with};
 ghost use Rattle.messages.specs.DirectoryRules.{file_names, directory_names, symlink_names};
-ghost use Rattle.messages.specs.Order.{IsAscending, AreApart};
+ghost use Rattle.messages.specs.Order.{IsAscending, ShareNone};
 ghost use Rattle.messages.specs.Path.{IsPath};
 ghost use Rattle.blob_source.specs.Called.{Called};
 ghost use Rattle.tree.specs.FlatTree.{IsFlatTree, flat_value};
@@ -52,7 +52,7 @@ fn insert_directories<A: Allocator + Copy>(
     requires none { made children.old.entries
         ≡ directory_with [] [] (made children.old.entries).symlinks }
     requires ascend { IsAscending (directory_names directories.now) }
-    requires apart { AreApart (directory_names directories.now)
+    requires apart { ShareNone (directory_names directories.now)
         (symlink_names (made children.old.entries).symlinks) }
     ensures { OnOk result (made children.new.entries
         ≡ directory_with [] directories.now (made children.old.entries).symlinks) }
@@ -73,9 +73,9 @@ fn insert_files<A: Allocator + Copy>(
 ) -> Result<(), AllocError>
     requires none { (made children.old.entries).files ≡ [] }
     requires ascend { IsAscending (file_names files.now) }
-    requires directories { AreApart (file_names files.now)
+    requires directories { ShareNone (file_names files.now)
         (directory_names (made children.old.entries).directories) }
-    requires symlinks { AreApart (file_names files.now)
+    requires symlinks { ShareNone (file_names files.now)
         (symlink_names (made children.old.entries).symlinks) }
     ensures { OnOk result (made children.new.entries ≡ directory_with files.now
         (made children.old.entries).directories (made children.old.entries).symlinks) }

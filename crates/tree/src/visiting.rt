@@ -3,7 +3,8 @@ ghost use Rattle.blob_digest.specs.Digest.{digest_of};
 ghost use Rattle.messages.specs.declared.node.Node.TheVariants.{File, Link, Dir};
 ghost use Rattle.messages.specs.Directory.{directory_bytes};
 ghost use Rattle.tree.specs.Form.{node_value, no_children, with_child};
-ghost use Rattle.tree.specs.Visiting.{led, lines_seen, items_of, joined, directory_in, tops_in};
+ghost use Rattle.tree.specs.Visiting.{led, lines_seen, items_of, joined, children_directory};
+ghost use Rattle.tree.specs.Visiting.{tops_in};
 
 use blob_digest::Digest;
 use messages::{DirectoryNode, FileNode, Name, Node, SymlinkNode, Target, write_each};
@@ -35,7 +36,7 @@ pub(crate) struct Children<A: Allocator> {
 
 impl<A: Allocator + Copy> Children<A> {
     pub(crate) fn new(alloc: A) -> Children<A>
-        ensures directory { directory_in result ≡ no_children }
+        ensures directory { children_directory result ≡ no_children }
         ensures tops { tops_in result ≡ [] }
     {
         Children {
@@ -54,7 +55,10 @@ impl<A: Allocator + Copy> Children<A> {
         digest: Digest,
         executable: bool,
     ) -> Result<(), AllocError>
-        ensures directory { OnOk result (directory_in self.new ≡ joined (directory_in self.old) (with_child name.now (File digest executable) no_children)) }
+        ensures directory { OnOk result
+            (children_directory self.new
+            ≡ joined (children_directory self.old)
+            (with_child name.now (File digest executable) no_children)) }
         ensures tops { OnOk result (tops_in self.new ≡ tops_in self.old) }
     {
         self.files.push(FileNode {
@@ -72,7 +76,10 @@ impl<A: Allocator + Copy> Children<A> {
         name: &Name<A>,
         target: &Target<A>,
     ) -> Result<(), AllocError>
-        ensures directory { OnOk result (directory_in self.new ≡ joined (directory_in self.old) (with_child name.now (Link target.now) no_children)) }
+        ensures directory { OnOk result
+            (children_directory self.new
+            ≡ joined (children_directory self.old)
+            (with_child name.now (Link target.now) no_children)) }
         ensures tops { OnOk result (tops_in self.new ≡ tops_in self.old) }
     {
         self.symlinks.push(SymlinkNode {
@@ -89,7 +96,10 @@ impl<A: Allocator + Copy> Children<A> {
         name: &Name<A>,
         node: &Node<A>,
     ) -> Result<(), AllocError>
-        ensures directory { OnOk result (directory_in self.new ≡ joined (directory_in self.old) (with_child name.now (node_value node.now) no_children)) }
+        ensures directory { OnOk result
+            (children_directory self.new
+            ≡ joined (children_directory self.old)
+            (with_child name.now (node_value node.now) no_children)) }
         ensures tops { OnOk result (tops_in self.new ≡ tops_in self.old) }
     {
         match node {
@@ -114,8 +124,12 @@ impl<A: Allocator + Copy> Children<A> {
         name: &Name<A>,
         mut below: Visited<A>,
     ) -> Result<(), AllocError>
-        ensures directory { OnOk result (directory_in self.new ≡ joined (directory_in self.old) (with_child name.now (Dir below.root) no_children)) }
-        ensures tops { OnOk result (tops_in self.new ≡ tops_in self.old ++ items_of below.encodings.items) }
+        ensures directory { OnOk result
+            (children_directory self.new
+            ≡ joined (children_directory self.old)
+            (with_child name.now (Dir below.root) no_children)) }
+        ensures tops { OnOk result
+            (tops_in self.new ≡ tops_in self.old ++ items_of below.encodings.items) }
     {
         self.directories.push(DirectoryNode {
             name: Name::copy_of(alloc, name)?,
@@ -126,8 +140,11 @@ impl<A: Allocator + Copy> Children<A> {
 
     /// The Directory of these children, and those below it.
     pub(crate) fn close(mut self, alloc: A) -> Result<Visited<A>, AllocError>
-        ensures root { IfOk result (λ v. v.root ≡ digest_of (directory_bytes (directory_in self))) }
-        ensures tops { IfOk result (λ v. items_of v.encodings.items ≡ directory_bytes (directory_in self) ∷ tops_in self) }
+        ensures root { IfOk result
+            (λ v. v.root ≡ digest_of (directory_bytes (children_directory self))) }
+        ensures tops { IfOk result
+            (λ v. items_of v.encodings.items
+            ≡ directory_bytes (children_directory self) ∷ tops_in self) }
     {
         let mut top = Vec::new(alloc);
         write_each(alloc, &mut top, 1, &self.files)?;

@@ -15,7 +15,7 @@ use Rattle.tree.specs.Tree.{Name}
 use Rattle.tree.specs.Form.{NodeValue}
 use Rattle.blob_source.specs.Source.{Telling, Grows}
 use Rattle.blob_source.proofs.Calling.{called_none, called_ok, called_exit}
-use Rattle.tree.specs.Memo.{Asked, Known, IsKnownOf, IsRefused, Learns, LooksAtBlob}
+use Rattle.tree.specs.Memo.{Asked, Known, IsKnownOf, WasRefused, Learns, LooksAtBlob}
 use Rattle.tree.proofs.Descent.{told_still}
 use Rattle.tree.proofs.Learning.{learns_none, learns_then, learns_more, learns_refused, refused_exit}
 use Rattle.tree.proofs.Ways.{compares_still}
@@ -166,7 +166,7 @@ module _ {A V : Type 0} where
       memory_no_fetch e = cc
 
   pub checks_both : (stage : Telling → Stage (Cause A) V) {look : Telling → Asked → Type 0} {known later : Known} (old new : Telling) (r : Result V (Fault A)) → Answers (stage new) r → Called old new (IsErrOf r faults.Fetch)
-      → Learns (look new) (IsRefused r) known later old new → Checks stage look known later old new r
+      → Learns (look new) (WasRefused r) known later old new → Checks stage look known later old new r
   checks_both stage old new r h k l = record { checked = h; called = k; learned = l }
 
 module _ {A V W : Type 0} where

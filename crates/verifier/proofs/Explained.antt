@@ -22,7 +22,7 @@ use Rattle.verifier.specs.declared.fault.Fault.{Fault}
 use Rattle.verifier.specs.declared.fault.Fault.TheVariants as faults
 use Rattle.messages.specs.declared.node.Node.{Node}
 use Rattle.tree.specs.Lines.{lines_of}
-use Rattle.verifier.specs.Accepted.{LooksAt, Resolves}
+use Rattle.verifier.specs.Accepted.{LooksUpOrigin, Resolves}
 use Rattle.verifier.specs.Answers.{IsFaultOf, IsDifference}
 use Rattle.verifier.specs.Stage.{Explains}
 use Rattle.verifier.specs.Faults.{cause_of, IsCauseOfLook, LineFault}
@@ -58,7 +58,7 @@ module _ {A : Type 0} where
   line_explained B d os l p error f from h is = by error h is
     where
       stands : (r : Looked) (c : Cause A) → Looks B d p r → IsCauseOfLook (source p) r c → f ≡ faults.Cause c → Explains (LineFault B d os l) f
-      stands r c look gives is = subst (Explains (LineFault B d os l)) (sym is) (r, subst (λ o. LooksAt B d os o r) (sym from) look, subst (λ o. IsCauseOfLook o r c) (sym from) gives)
+      stands r c look gives is = subst (Explains (LineFault B d os l)) (sym is) (r, subst (λ o. LooksUpOrigin B d os o r) (sym from) look, subst (λ o. IsCauseOfLook o r c) (sym from) gives)
 
       by : (error : TreeError A) → ExplainsLookup B d p error → IsFaultOf error f → Explains (LineFault B d os l) f
       by (tree.Absent q) h is = stands nothing (OriginMissing q) h.1 (ap OriginMissing h.0) is
@@ -79,14 +79,14 @@ named_outcome : (os : List OutcomeValue) (l : LineValue) (step : ℕ) (p : List 
 named_outcome os l step p o line from is = item_there os step o (subst (IsOrigin (length os)) from line.origin).0 is
 
 pub output_found : (B : Blobs) (d : DigestValue) (os : List OutcomeValue) (l : LineValue) (step : ℕ) (p : List Name) (o : OutcomeValue) (x : NodeValue) → IsLine (length os) l → l.origin ≡ output step p → o ≡ get_or os step o
-    → LooksIn o p (found x) → LooksAt B d os l.origin (found x)
-output_found B d os l step p o x line from is look = subst (λ origin. LooksAt B d os origin (found x)) (sym from) (o, named_outcome os l step p o line from is, look)
+    → LooksIn o p (found x) → LooksUpOrigin B d os l.origin (found x)
+output_found B d os l step p o x line from is look = subst (λ origin. LooksUpOrigin B d os origin (found x)) (sym from) (o, named_outcome os l step p o line from is, look)
 
 pub output_missing : {A : Type 0} (B : Blobs) (d : DigestValue) (os : List OutcomeValue) (l : LineValue) (step : ℕ) (p : List Name) (o : OutcomeValue) (q : List Name) → IsLine (length os) l → l.origin ≡ output step p → o ≡ get_or os step o
     → LooksIn o p nothing → q ≡ p → LineFault {A = A} B d os l (OriginMissing q)
 output_missing {A} B d os l step p o q line from is look same = (
   nothing,
-  subst (λ origin. LooksAt B d os origin nothing) (sym from) (o, named_outcome os l step p o line from is, look),
+  subst (λ origin. LooksUpOrigin B d os origin nothing) (sym from) (o, named_outcome os l step p o line from is, look),
   subst (λ origin. IsCauseOfLook {A = A} origin nothing (OriginMissing q)) (sym from) (ap OriginMissing same),
 )
 

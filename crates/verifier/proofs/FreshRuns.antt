@@ -34,7 +34,7 @@ use Rattle.tree.proofs.LookupLemmas.{looks_from, told_reads}
 use Rattle.tree.proofs.OrderLemmas.{IsOrderedAt, ordered_at, ordered_grafted}
 use Rattle.tree.proofs.SameRoot.{same_root}
 use Rattle.tree.proofs.TreeDigests.{IsDigest-digest_of, only_empty}
-use Rattle.verifier.specs.Accepted.{LooksAt, Resolves}
+use Rattle.verifier.specs.Accepted.{LooksUpOrigin, Resolves}
 use Rattle.verifier.specs.AsRecorded.{IsPlanAsRecorded}
 use Rattle.verifier.specs.Build.{Meaning, ActionMeaning, action_digest, Outcome, output_at, output_from, below_path, StepFits, MeaningFits, Event, start, finish, lose, State, opening, outcome_of, job_of, origin_at, origins, graft_of, step_action, action_of, started, finished, lost, happens, IsTable, Obeys, IsRun, HasFinishedAll}
 use Rattle.verifier.specs.Headline.{IsDirectoryInTree, IsBlobOfAction, IsBlobOfEvent, IsBlobOfEvents, IsBlobOfChosen, HasFinished, IsNotStuck, IsAsChosen}
@@ -170,7 +170,7 @@ module _ (S : List ℕ → Type 0) (apart : NoClash S) where
       origin_step j v e = get_other h.outcomes plan.steps j v (as_many B C src plan.steps ds h.outcomes h.steps) e
 
       -- an origin has the node that was looked up
-      origin_tells : (s : State) → Keeps s → (o : OriginValue) (x : NodeValue) → LooksAt B src h.outcomes o (found x) → HasFinished s o → option_map entry_node (origin_at t s o) ≡ Some x
+      origin_tells : (s : State) → Keeps s → (o : OriginValue) (x : NodeValue) → LooksUpOrigin B src h.outcomes o (found x) → HasFinished s o → option_map entry_node (origin_at t s o) ≡ Some x
       origin_tells s keeps (source p) x look done =
           looks_from (TellsDirectory B) (FailsDirectory B) S (told_reads B S within.values apart) p (Some (whole t)) (found x) ordered within.own
           (subst (λ d. LooksFrom (TellsDirectory B) (FailsDirectory B) p (Some (Dir d)) (found x)) (sym sources) look)
@@ -358,7 +358,7 @@ module _ (S : List ℕ → Type 0) (apart : NoClash S) where
       finished_all end all [] xs r = tt
       finished_all end all (l ∷ ls) xs r = (one l.origin r.1, finished_all end all ls r.2 r.3)
         where
-          one : (o : OriginValue) → LooksAt B src h.outcomes o (found r.0) → HasFinished end o
+          one : (o : OriginValue) → LooksUpOrigin B src h.outcomes o (found r.0) → HasFinished end o
           one (source p) look = tt
           one (output j p) look = let step = origin_step j look.0 look.1 in all j step.0 step.1
 

@@ -15,7 +15,7 @@ use Rattle.blob_source.specs.Told.{TellsDirectory, FailsDirectory}
 use Rattle.tree.specs.Lookup.{found, LooksFrom}
 use Rattle.tree.proofs.Descent.{told_still}
 use Rattle.verifier.specs.declared.verdict.Cause.{Cause}
-use Rattle.verifier.specs.Accepted.{LooksAt, Resolves}
+use Rattle.verifier.specs.Accepted.{LooksUpOrigin, Resolves}
 use Rattle.verifier.specs.Faults.{LineFault, FirstFault}
 
 -- a node that was found is found from then on
@@ -27,7 +27,7 @@ found_from B C (n ∷ p) (Some (Link t)) x g h = h
 found_from B C (n ∷ p) (Some (Dir d)) x g (inl h) = inl (h.0, told_still g h.1, found_from B C p (child n h.0) x g h.2)
 found_from B C (n ∷ p) (Some (Dir d)) x g (inr h) = cc h.2
 
-pub found_still : (B C : Blobs) (d : DigestValue) (os : List OutcomeValue) (o : OriginValue) (x : NodeValue) → Grows B C → LooksAt B d os o (found x) → LooksAt C d os o (found x)
+pub found_still : (B C : Blobs) (d : DigestValue) (os : List OutcomeValue) (o : OriginValue) (x : NodeValue) → Grows B C → LooksUpOrigin B d os o (found x) → LooksUpOrigin C d os o (found x)
 found_still B C d os (source p) x g h = found_from B C p (Some (Dir d)) x g h
 found_still B C d os (output step p) x g h = h
 
@@ -41,10 +41,10 @@ module _ {A : Type 0} where
   lines_first B d os ls = record { resolves = λ later g ys h. h; faults = λ later g c h. h }
 
   pub lines_next : (B C : Blobs) (d : DigestValue) (os : List OutcomeValue) (ls : List LineValue) (xs : List (List Name × NodeValue)) (i : ℕ) (l : LineValue) (x : NodeValue) → i < length ls → l ≡ get_or ls i l
-      → LinesGoOn A B d os ls xs (drop i ls) → Grows B C → LooksAt C d os l.origin (found x) → LinesGoOn A C d os ls (xs ++ (l.target, x) ∷ []) (drop (i + 1) ls)
+      → LinesGoOn A B d os ls xs (drop i ls) → Grows B C → LooksUpOrigin C d os l.origin (found x) → LinesGoOn A C d os ls (xs ++ (l.target, x) ∷ []) (drop (i + 1) ls)
   lines_next B C d os ls xs i l x lt is goes grows look =
       let split : drop i ls ≡ l ∷ drop (i + 1) ls = rw (add-one, drop-cons ls i l lt) (ap (λ k. k ∷ drop (suc i) ls) (sym is)) in
-      let still : (later : Blobs) → Grows C later → LooksAt later d os l.origin (found x) = λ later g. found_still C later d os l.origin x g look in
+      let still : (later : Blobs) → Grows C later → LooksUpOrigin later d os l.origin (found x) = λ later g. found_still C later d os l.origin x g look in
       let both : (later : Blobs) → Grows C later → Grows B later = λ later g e b q. g e b (grows e b q) in
       record {
         resolves = λ later g ys h. rw append_assoc (goes.resolves later (both later g) ((l.target, x) ∷ ys) (subst (λ q. Resolves later d os q ((l.target, x) ∷ ys)) (sym split) (x, still later g, ys, h, refl)));

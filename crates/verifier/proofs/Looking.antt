@@ -18,7 +18,7 @@ use Rattle.tree.specs.Tree.{Name}
 use Rattle.tree.proofs.Learning.{learns_more}
 use Rattle.tree.proofs.Ways.{way_still}
 use Rattle.blob_source.specs.Source.{Blobs, Telling, Grows}
-use Rattle.verifier.specs.Accepted.{LooksAt}
+use Rattle.verifier.specs.Accepted.{LooksUpOrigin}
 use Rattle.verifier.specs.LooksAt.{OriginLooksAt, LinesLookAt, OutputsLookAt}
 use Rattle.verifier.proofs.Checking.{recorded_next}
 use Rattle.verifier.proofs.Lines.{found_still}
@@ -48,7 +48,7 @@ module _ (B C : Blobs) (d : DigestValue) (os : List OutcomeValue) (ls : List Lin
   pub lines_look_here : (a : Asked) → OriginLooksAt C d l.origin a → LinesLookAt C d os ls a
   lines_look_here a h = on.look C grows a (subst (λ q. LinesLookAt C d os q a) (sym split) (inl h))
 
-  pub lines_look_next : (x : NodeValue) → LooksAt C d os l.origin (found x) → LinesLookOn C d os ls (drop (i + 1) ls)
+  pub lines_look_next : (x : NodeValue) → LooksUpOrigin C d os l.origin (found x) → LinesLookOn C d os ls (drop (i + 1) ls)
   lines_look_next x there = record {
     look = λ later g a h. on.look later (λ e b q. g e b (grows e b q)) a
         (subst (λ q. LinesLookAt later d os q a) (sym split) (inr (x, found_still C later d os l.origin x g there, h)));

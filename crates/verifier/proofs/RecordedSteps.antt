@@ -9,7 +9,7 @@ use Rattle.tree.specs.Tree.{Name}
 use Rattle.tree.specs.Form.{NodeValue}
 use Rattle.blob_source.specs.Source.{Blobs}
 use Rattle.tree.specs.Lookup.{Looked}
-use Rattle.verifier.specs.Accepted.{LooksAt, Resolves}
+use Rattle.verifier.specs.Accepted.{LooksUpOrigin, Resolves}
 use Rattle.verifier.specs.AsRecorded.{IsAsRecorded, AreAsRecorded}
 
 -- ---- elements by their numbers
@@ -33,7 +33,7 @@ get_other (x ∷ xs) (y ∷ ys) (suc i) z same e = let rest : length xs ≡ leng
 -- ---- more outcomes
 
 module _ (B C : Blobs) (src : DigestValue) where
-  looks_more : (before more : List OutcomeValue) (o : OriginValue) (r : Looked) → LooksAt B src before o r → LooksAt B src (before ++ more) o r
+  looks_more : (before more : List OutcomeValue) (o : OriginValue) (r : Looked) → LooksUpOrigin B src before o r → LooksUpOrigin B src (before ++ more) o r
   looks_more before more (source p) r h = h
   looks_more before more (output j p) r h = (h.0, get_left before more j h.0 h.1, h.2)
 

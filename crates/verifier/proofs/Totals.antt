@@ -33,8 +33,8 @@ use Rattle.tree.specs.Lookup.{Looked, fault, nothing, found}
 use Rattle.tree.proofs.Totals.{told_or_faulty, looks_on, looks_total}
 use Rattle.verifier.specs.declared.verdict.Cause.{Cause}
 use Rattle.verifier.specs.declared.verdict.Cause.TheVariants.{OriginMissing, ResultMissing, ResultMalformed, OutputUnlisted}
-use Rattle.verifier.specs.Accepted.{LooksAt, Resolves}
-use Rattle.verifier.specs.Faults.{cause_of, path_of, FirstFault}
+use Rattle.verifier.specs.Accepted.{LooksUpOrigin, Resolves}
+use Rattle.verifier.specs.Faults.{cause_of, origin_path, FirstFault}
 use Rattle.verifier.specs.StepChecks.{OutputFault, message, resolved, held, read}
 use Rattle.verifier.proofs.StageTotals.{IsTotal}
 
@@ -111,7 +111,7 @@ lawful_outcome_there (x ∷ os) zero o h e = let same : x ≡ o = cc in subst Ar
 lawful_outcome_there (x ∷ os) (suc i) o h e = lawful_outcome_there os i o h.1 e
 
 module _ (B : Blobs) (sources : DigestValue) (os : List OutcomeValue) (lawful : AllByRecursion AreLawfulOutputs os) where
-  looks_at : (o : OriginValue) → IsOrigin (length os) o → ((r : Looked) → LooksAt B sources os o r → ⊥) → ⊥
+  looks_at : (o : OriginValue) → IsOrigin (length os) o → ((r : Looked) → LooksUpOrigin B sources os o r → ⊥) → ⊥
   looks_at (source p) is k = looks_total B sources p k
   looks_at (output i p) is k =
       let o = outcome_there os i is.0 in
@@ -119,9 +119,9 @@ module _ (B : Blobs) (sources : DigestValue) (os : List OutcomeValue) (lawful : 
 
 module _ {A : Type 0} (B : Blobs) (sources : DigestValue) (os : List OutcomeValue) (lawful : AllByRecursion AreLawfulOutputs os) where
   line_total : (l : LineValue) (ls : List LineValue) → (((xs : List (List Name × NodeValue)) → Resolves B sources os ls xs → ⊥) → ((c : Cause A) → FirstFault B sources os ls c → ⊥) → ⊥)
-      → ((xs : List (List Name × NodeValue)) → Resolves B sources os (l ∷ ls) xs → ⊥) → ((c : Cause A) → FirstFault B sources os (l ∷ ls) c → ⊥) → (r : Looked) → LooksAt B sources os l.origin r → ⊥
+      → ((xs : List (List Name × NodeValue)) → Resolves B sources os (l ∷ ls) xs → ⊥) → ((c : Cause A) → FirstFault B sources os (l ∷ ls) c → ⊥) → (r : Looked) → LooksUpOrigin B sources os l.origin r → ⊥
   line_total l ls rest passes fails (found x) h = rest (λ xs q. passes ((l.target, x) ∷ xs) (x, h, xs, q, refl)) (λ c q. fails c (inr (x, h, q)))
-  line_total l ls rest passes fails nothing h = fails (OriginMissing (path_of l.origin)) (inl (nothing, h, refl))
+  line_total l ls rest passes fails nothing h = fails (OriginMissing (origin_path l.origin)) (inl (nothing, h, refl))
   line_total l ls rest passes fails (fault f) h = fails (cause_of f) (inl (fault f, h, refl))
 
   lines_total : (ls : List LineValue) → AllByRecursion (IsLine (length os)) ls → ((xs : List (List Name × NodeValue)) → Resolves B sources os ls xs → ⊥) → ((c : Cause A) → FirstFault B sources os ls c → ⊥) → ⊥

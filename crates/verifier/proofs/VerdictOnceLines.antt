@@ -14,7 +14,7 @@ use Rattle.blob_source.specs.Told.{missing, wrong, malformed}
 use Rattle.tree.specs.Lookup.{Looked, fault, nothing, found}
 use Rattle.tree.proofs.LookupOnce.{looks_once}
 use Rattle.verifier.specs.declared.verdict.Cause.{Cause}
-use Rattle.verifier.specs.Accepted.{LooksAt, Resolves}
+use Rattle.verifier.specs.Accepted.{LooksUpOrigin, Resolves}
 use Rattle.verifier.specs.Faults.{IsCauseOfLook, LineFault, FirstFault}
 
 abbrev pub AreLawful : List OutcomeValue → Type 0
@@ -36,7 +36,7 @@ lawful_there (x ∷ os) zero o h e = subst IsOutcome (some_is x o e) h.0
 lawful_there (x ∷ os) (suc step) o h e = lawful_there os step o h.1 e
 
 module _ (B : Blobs) (d : DigestValue) (os : List OutcomeValue) (lawful : AreLawful os) where
-  looks_at_once : (o : OriginValue) (r s : Looked) → LooksAt B d os o r → LooksAt B d os o s → r ≡ s
+  looks_at_once : (o : OriginValue) (r s : Looked) → LooksUpOrigin B d os o r → LooksUpOrigin B d os o s → r ≡ s
   looks_at_once (source p) r s h k = looks_once B d p r s h k
   looks_at_once (output step p) r s h k =
       looked_once h.0 p r s (lawful_there os step h.0 lawful h.1) h.2 (subst (λ o. LooksIn o p s) (one_there os step k.0 h.0 k.1 h.1) k.2)
@@ -59,7 +59,7 @@ module _ (B : Blobs) (d : DigestValue) (os : List OutcomeValue) (lawful : AreLaw
     line_once : (l : LineValue) (c e : Cause A) → LineFault B d os l c → LineFault B d os l e → c ≡ e
     line_once l c e h k = gives_once l.origin h.0 c e h.2 (subst (λ r. IsCauseOfLook l.origin r e) (looks_at_once l.origin k.0 h.0 k.1 h.1) k.2)
 
-    line_found : (l : LineValue) (c : Cause A) (x : NodeValue) → LineFault B d os l c → LooksAt B d os l.origin (found x) → ⊥
+    line_found : (l : LineValue) (c : Cause A) (x : NodeValue) → LineFault B d os l c → LooksUpOrigin B d os l.origin (found x) → ⊥
     line_found l c x h k = subst (λ r. IsCauseOfLook l.origin r c) (looks_at_once l.origin h.0 (found x) h.1 k) h.2
 
     -- one fault is the first

@@ -35,7 +35,7 @@ use Rattle.tree.proofs.Totals.{looks_lawful, child_lawful}
 use Rattle.tree.proofs.TreeDigests.{IsDigest-digest_of}
 use Rattle.verifier.specs.declared.verdict.Verdict.{Verdict}
 use Rattle.verifier.specs.declared.verdict.Verdict.TheVariants.{Yes, No}
-use Rattle.verifier.specs.Accepted.{LooksAt, Resolves}
+use Rattle.verifier.specs.Accepted.{LooksUpOrigin, Resolves}
 use Rattle.verifier.specs.Stage.{◌and_then◌}
 use Rattle.verifier.specs.StepChecks.{difference_cause, grafted, step_check}
 use Rattle.verifier.specs.Verdict.{root_check, steps_check, plan_check, IsVerdict}
@@ -73,7 +73,7 @@ lawful_at (x ∷ os) zero o h e = let same : x ≡ o = cc in subst AreLawfulOutp
 lawful_at (x ∷ os) (suc i) o h e = lawful_at os i o h.1 e
 
 module _ (B : Blobs) (sources : DigestValue) (is : IsDigest sources) (os : List OutcomeValue) (lawful : AllByRecursion AreLawfulOutputs os) where
-  at_lawful : (o : OriginValue) (y : NodeValue) → LooksAt B sources os o (found y) → IsNode y
+  at_lawful : (o : OriginValue) (y : NodeValue) → LooksUpOrigin B sources os o (found y) → IsNode y
   at_lawful (source p) y h = looks_lawful (TellsDirectory B) (FailsDirectory B) (λ d m told. told.lawful) p _ (λ x e. subst IsNode (some_is e) is) y h
     where
       some_is : {a b : NodeValue} → ◌≡◌ {A = Option NodeValue} (Some a) (Some b) → a ≡ b
@@ -81,9 +81,9 @@ module _ (B : Blobs) (sources : DigestValue) (is : IsDigest sources) (os : List 
   at_lawful (output i p) y h = in_lawful h.0 (lawful_at os i h.0 lawful h.1) p y h.2
 
   -- the lines that a graft is made of
-  lawful_lines : (ls : List LineValue) (xs : List (List Name × NodeValue)) → AllByRecursion (IsLine (length os)) ls → Resolves B sources os ls xs → AllByRecursion lines.IsLine xs
-  lawful_lines [] xs all h = subst (AllByRecursion lines.IsLine) (sym h) tt
-  lawful_lines (l ∷ ls) xs all h = subst (AllByRecursion lines.IsLine) (sym h.4) ((all.0.target.each, at_lawful l.origin h.0 h.1), lawful_lines ls h.2 all.1 h.3)
+  lawful_lines : (ls : List LineValue) (xs : List (List Name × NodeValue)) → AllByRecursion (IsLine (length os)) ls → Resolves B sources os ls xs → AllByRecursion lines.IsGraftLine xs
+  lawful_lines [] xs all h = subst (AllByRecursion lines.IsGraftLine) (sym h) tt
+  lawful_lines (l ∷ ls) xs all h = subst (AllByRecursion lines.IsGraftLine) (sym h.4) ((all.0.target.each, at_lawful l.origin h.0 h.1), lawful_lines ls h.2 all.1 h.3)
 
 -- ---- outcomes that a step passes with keep their rules
 
@@ -107,7 +107,7 @@ module _ (A : Type 0) (t : Telling) (sources : DigestValue) (is : IsDigest sourc
 
   -- ---- the checks
 
-  total_grafted : (a : ActionValue) (xs : List (List Name × NodeValue)) → AllByRecursion lines.IsLine xs → IsTotal (grafted {A = A} t.blobs a xs)
+  total_grafted : (a : ActionValue) (xs : List (List Name × NodeValue)) → AllByRecursion lines.IsGraftLine xs → IsTotal (grafted {A = A} t.blobs a xs)
   total_grafted a xs lawful = record {
     ends = λ passes fails.
         let other : root (graft xs) ≢ a.input = λ e. passes tt e in

@@ -13,9 +13,9 @@ use Rattle.tree.specs.Lookup.{Looked, found, Looks}
 
 -- what a look-up of an origin comes to: in the source tree, or in the recorded outcome of an
 -- earlier step
-abbrev pub LooksAt : Blobs → DigestValue → List OutcomeValue → OriginValue → Looked → Type 0
-LooksAt blobs sources outcomes (source p) r = Looks blobs sources p r
-LooksAt blobs sources outcomes (output step p) r = (o : OutcomeValue)
+abbrev pub LooksUpOrigin : Blobs → DigestValue → List OutcomeValue → OriginValue → Looked → Type 0
+LooksUpOrigin blobs sources outcomes (source p) r = Looks blobs sources p r
+LooksUpOrigin blobs sources outcomes (output step p) r = (o : OutcomeValue)
     × (slice_get outcomes step ≡ Some o) × LooksIn o p r
 
 -- each line's node, by look-up
@@ -23,7 +23,7 @@ abbrev pub Resolves : Blobs → DigestValue → List OutcomeValue → List LineV
     → List (List Name × NodeValue) → Type 0
 Resolves blobs sources outcomes [] xs = xs ≡ []
 Resolves blobs sources outcomes (l ∷ ls) xs =
-    (x : NodeValue) × LooksAt blobs sources outcomes l.origin (found x)
+    (x : NodeValue) × LooksUpOrigin blobs sources outcomes l.origin (found x)
     × (rest : List (List Name × NodeValue)) × Resolves blobs sources outcomes ls rest
     × (xs ≡ (l.target, x) ∷ rest)
 

@@ -12,7 +12,8 @@ use Rattle.tree.specs.Difference.{Differing, FindsFirst, differing}
 use Rattle.verifier.specs.declared.fault.Fault.{Fault}
 use Rattle.verifier.specs.declared.fault.Fault.TheVariants as faults
 use Rattle.verifier.specs.declared.verdict.Cause.{Cause}
-use Rattle.verifier.specs.declared.verdict.Cause.TheVariants.{BlobMissing, BlobWrong, BlobMalformed, OriginMissing}
+use Rattle.verifier.specs.declared.verdict.Cause.TheVariants.{BlobMissing, BlobWrong, BlobMalformed}
+use Rattle.verifier.specs.declared.verdict.Cause.TheVariants.{OriginMissing}
 use Rattle.verifier.specs.declared.verdict.Place.TheVariants.{Step}
 use Rattle.verifier.specs.declared.verifying.Checked.{Checked}
 use Rattle.verifier.specs.declared.verifying.Checked.TheVariants.{Outcomes, First}

@@ -1,5 +1,6 @@
 -- What a build is: the meaning of a plan's steps, their actions and outcomes, and runs of the plan.
-use Rattle.std.specs.Prelude.{◌≡◌, ◌==◌, ℕ, ℤ, bytes_eq, if◌then◌else◌, List, [], ◌∷◌, Option, Some, None, option_map, option_and_then, slice_get, Contains}
+use Rattle.std.specs.Prelude.{◌≡◌, ◌==◌, ℕ, ℤ, bytes_eq, if◌then◌else◌, List, [], ◌∷◌, Option, Some}
+use Rattle.std.specs.Prelude.{None, option_map, option_and_then, slice_get, Contains}
 use Rattle.std.specs.List.{AllByRecursion}
 use Rattle.std.specs.Map.{lookup, remove_entry}
 use Rattle.blob_digest.specs.Digest.{DigestValue, digest_of}
@@ -7,7 +8,8 @@ use Rattle.action_messages.specs.Command.{CommandValue, IsCommand, command_bytes
 use Rattle.action_messages.specs.Frame.{FrameValue, IsFrame, frame_bytes}
 use Rattle.action_messages.specs.Action.{with_input, action_bytes}
 use Rattle.plan.specs.Values.{OriginValue, source, output, LineValue, StepValue, PlanValue}
-use Rattle.tree.specs.Tree.{Name, Tree, Leaf, Entry, tree_at, below_entry, IsOrdered, IsOrderedEntry}
+use Rattle.tree.specs.Tree.{Name, Tree, Leaf, Entry, tree_at, below_entry, IsOrdered}
+use Rattle.tree.specs.Tree.{IsOrderedEntry}
 use Rattle.tree.specs.Form.{form, root}
 use Rattle.tree.specs.Graft.{graft, expand, HaveApartTargets}
 

@@ -2,7 +2,7 @@
 use Rattle.std.specs.Prelude.{Result, IsErrOf}
 use Rattle.blob_source.specs.Called.{Called}
 use Rattle.blob_source.specs.Source.{Telling}
-use Rattle.tree.specs.Memo.{Asked, Known, IsRefused, Learns}
+use Rattle.tree.specs.Memo.{Asked, Known, WasRefused, Learns}
 use Rattle.verifier.specs.declared.fault.Fault.{Fault}
 use Rattle.verifier.specs.declared.fault.Fault.TheVariants as faults
 use Rattle.verifier.specs.declared.verdict.Cause.{Cause}
@@ -14,4 +14,4 @@ pub record Checks {A V : Type 0} (check : Telling → Stage (Cause A) V)
     (r : Result V (Fault A)) : Type 0 where
   pub checked : Answers (check new) r
   pub called : Called old new (IsErrOf r faults.Fetch)
-  pub learned : Learns (looks new) (IsRefused r) known later old new
+  pub learned : Learns (looks new) (WasRefused r) known later old new

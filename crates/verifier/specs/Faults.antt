@@ -9,8 +9,9 @@ use Rattle.blob_source.specs.Source.{Blobs}
 use Rattle.blob_source.specs.Told.{Fault, missing, wrong, malformed}
 use Rattle.tree.specs.Lookup.{Looked, fault, nothing, found}
 use Rattle.verifier.specs.declared.verdict.Cause.{Cause}
-use Rattle.verifier.specs.declared.verdict.Cause.TheVariants.{BlobMissing, BlobWrong, BlobMalformed, OriginMissing}
-use Rattle.verifier.specs.Accepted.{LooksAt}
+use Rattle.verifier.specs.declared.verdict.Cause.TheVariants.{BlobMissing, BlobWrong, BlobMalformed}
+use Rattle.verifier.specs.declared.verdict.Cause.TheVariants.{OriginMissing}
+use Rattle.verifier.specs.Accepted.{LooksUpOrigin}
 
 -- the cause that a message isn't told
 abbrev pub cause_of : {A : Type 0} → Fault → Cause A
@@ -19,21 +20,22 @@ cause_of (wrong d) = BlobWrong d
 cause_of (malformed d) = BlobMalformed d
 
 -- the path of an origin
-abbrev pub path_of : OriginValue → List Name
-path_of (source p) = p
-path_of (output step p) = p
+abbrev pub origin_path : OriginValue → List Name
+origin_path (source p) = p
+origin_path (output step p) = p
 
 -- the cause that a look-up of an origin gives where it finds no node: the fault on the way, or that
 -- nothing is there
 abbrev pub IsCauseOfLook : {A : Type 0} → OriginValue → Looked → Cause A → Type 0
 IsCauseOfLook o (fault f) c = c ≡ cause_of f
-IsCauseOfLook o nothing c = c ≡ OriginMissing (path_of o)
+IsCauseOfLook o nothing c = c ≡ OriginMissing (origin_path o)
 IsCauseOfLook o (found x) c = ⊥
 
 -- why a line has no origin
 abbrev pub LineFault : {A : Type 0} → Blobs → DigestValue → List OutcomeValue → LineValue → Cause A
     → Type 0
-LineFault blobs sources outcomes l c = (r : Looked) × LooksAt blobs sources outcomes l.origin r
+LineFault blobs sources outcomes l c =
+    (r : Looked) × LooksUpOrigin blobs sources outcomes l.origin r
     × IsCauseOfLook l.origin r c
 
 -- the fault of the first line that has no origin
@@ -42,5 +44,5 @@ abbrev pub FirstFault : {A : Type 0} → Blobs → DigestValue → List OutcomeV
 FirstFault blobs sources outcomes [] c = ⊥
 FirstFault blobs sources outcomes (l ∷ ls) c =
     LineFault blobs sources outcomes l c
-    ⊎ ((x : NodeValue) × LooksAt blobs sources outcomes l.origin (found x)
+    ⊎ ((x : NodeValue) × LooksUpOrigin blobs sources outcomes l.origin (found x)
     × FirstFault blobs sources outcomes ls c)

@@ -1,6 +1,7 @@
 -- What a yes says: every complete run of the plan ends in exactly the claimed root, and no run is
 -- ever stuck.
-use Rattle.std.specs.Prelude.{◌≡◌, ◌⊎◌, ℕ, pos, List, [], ◌∷◌, Some, None, IsSomeAnd, slice_get, Contains}
+use Rattle.std.specs.Prelude.{◌≡◌, ◌⊎◌, ℕ, pos, List, [], ◌∷◌, Some, None, IsSomeAnd, slice_get}
+use Rattle.std.specs.Prelude.{Contains}
 use Rattle.std.specs.List.{AllByRecursion}
 use Rattle.blob_digest.specs.Digest.{DigestValue, NoClash}
 use Rattle.messages.specs.DirectoryRules.{DirectoryValue}
@@ -14,7 +15,9 @@ use Rattle.tree.specs.Tree.{Name, Tree, Leaf, Entry, single, whole, IsOrdered}
 use Rattle.tree.specs.Form.{form, root, IsContent, IsBlobOf}
 use Rattle.blob_source.specs.Source.{Blobs}
 use Rattle.tree.specs.Lookup.{IsValue}
-use Rattle.verifier.specs.Build.{Meaning, ActionMeaning, Outcome, Event, start, finish, lose, State, opening, outcome_of, job_of, happens, action_of, graft_of, MeaningFits, IsTable, IsRun, HasFinishedAll}
+use Rattle.verifier.specs.Build.{Meaning, ActionMeaning, Outcome, Event, start, finish, lose, State}
+use Rattle.verifier.specs.Build.{opening, outcome_of, job_of, happens, action_of, graft_of}
+use Rattle.verifier.specs.Build.{MeaningFits, IsTable, IsRun, HasFinishedAll}
 use Rattle.verifier.specs.Recorded.{Agrees}
 
 -- ---- the blobs that a run is about

@@ -18,9 +18,10 @@ use Rattle.tree.specs.Lookup.{found}
 use Rattle.tree.specs.LooksAt.{OnWay, Compares}
 use Rattle.tree.specs.Memo.{Asked, LooksAtBlob, LooksAtResult}
 use Rattle.blob_source.specs.Source.{Blobs, Telling}
-use Rattle.verifier.specs.Accepted.{LooksAt}
+use Rattle.verifier.specs.Accepted.{LooksUpOrigin}
 use Rattle.verifier.specs.Stage.{Stage}
-use Rattle.verifier.specs.StepChecks.{message, cached, framed, resolved, grafted, held, succeeded, step_check}
+use Rattle.verifier.specs.StepChecks.{message, cached, framed, resolved, grafted, held, succeeded}
+use Rattle.verifier.specs.StepChecks.{step_check}
 use Rattle.verifier.specs.Verdict.{steps_check}
 
 -- A check looks at some things, and where it passes those after it look at theirs.
@@ -44,7 +45,7 @@ abbrev pub LinesLookAt : Blobs → DigestValue → List OutcomeValue → List Li
 LinesLookAt B sources outcomes [] a = ⊥
 LinesLookAt B sources outcomes (l ∷ ls) a =
     OriginLooksAt B sources l.origin a
-    ⊎ ((x : NodeValue) × LooksAt B sources outcomes l.origin (found x)
+    ⊎ ((x : NodeValue) × LooksUpOrigin B sources outcomes l.origin (found x)
     × LinesLookAt B sources outcomes ls a)
 
 -- the comparison with the recorded input, where the graft of the lines isn't that

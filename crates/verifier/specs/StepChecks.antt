@@ -20,7 +20,11 @@ use Rattle.blob_source.specs.Source.{Blobs, Telling}
 use Rattle.blob_source.specs.Told.{Fault, IsTold, IsFault}
 use Rattle.tree.specs.Difference.{Differing, unexplained, absent, differs, unread, FindsFirst}
 use Rattle.verifier.specs.declared.verdict.Cause.{Cause}
-use Rattle.verifier.specs.declared.verdict.Cause.TheVariants.{DoNotCache, FrameDiffers, InputUnexplained, InputAbsent, InputDiffers, ResultMissing, ResultMalformed, ExitCode, OutputUnlisted}
+use Rattle.verifier.specs.declared.verdict.Cause.TheVariants.{DoNotCache, FrameDiffers}
+use Rattle.verifier.specs.declared.verdict.Cause.TheVariants.{InputUnexplained, InputAbsent}
+use Rattle.verifier.specs.declared.verdict.Cause.TheVariants.{InputDiffers, ResultMissing}
+use Rattle.verifier.specs.declared.verdict.Cause.TheVariants.{ResultMalformed, ExitCode}
+use Rattle.verifier.specs.declared.verdict.Cause.TheVariants.{OutputUnlisted}
 use Rattle.verifier.specs.Accepted.{Resolves}
 use Rattle.verifier.specs.Faults.{cause_of, FirstFault}
 use Rattle.verifier.specs.Holding.{HoldsResult}

@@ -1,7 +1,8 @@
 -- A build of two steps, and a run of it. The step `gen` makes a directory `out` with a file `a`;
 -- the step `use` has that file at `data/x` and makes a file `res`, which is the plan's `result`.
 -- The source tree is empty.
-use Rattle.std.specs.Prelude.{ℕ, pos, false, List, [], ◌∷◌, codes, Some, None, Result, Ok, Err, if◌then◌else◌}
+use Rattle.std.specs.Prelude.{ℕ, pos, false, List, [], ◌∷◌, codes, Some, None, Result, Ok, Err}
+use Rattle.std.specs.Prelude.{if◌then◌else◌}
 use Rattle.std.specs.Ordering.{is_eq}
 use Rattle.hex.specs.declared.error.FromHexError.{FromHexError}
 use Rattle.hex.specs.Hex.{decode_of}

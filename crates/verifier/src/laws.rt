@@ -14,20 +14,23 @@ ghost use Rattle.action_messages.specs.ActionResult.{ActionResultValue};
 ghost use Rattle.actions.specs.Outcome.{OutcomeValue, IsOutcome, outputs_form};
 ghost use Rattle.std.specs.List.{AllByRecursion};
 ghost use Rattle.actions.specs.Recorded.{IsRecorded};
-ghost use Rattle.verifier.specs.AsRecorded.{IsAsRecorded, AreAsRecorded, IsFirstUnlikeRecorded, IsPlanAsRecorded};
+ghost use Rattle.verifier.specs.AsRecorded.{IsAsRecorded, AreAsRecorded, IsFirstUnlikeRecorded};
+ghost use Rattle.verifier.specs.AsRecorded.{IsPlanAsRecorded};
 ghost use Rattle.verifier.specs.Accepted.{IsAccepted};
 ghost use Rattle.verifier.specs.StepChecks.{step_check};
 ghost use Rattle.verifier.specs.declared.verdict.Cause.{Cause};
-ghost use Rattle.verifier.specs.Build.{Outcome, IsTreeOutcome, output_at, opening, MeaningFits, IsTable, IsRun, HasFinishedAll};
-ghost use Rattle.verifier.specs.Headline.{IsConcerned, EveryRunEndsIn, EveryRunIsAsChosen, NoRunIsStuck};
+ghost use Rattle.verifier.specs.Build.{Outcome, IsTreeOutcome, output_at, opening, MeaningFits};
+ghost use Rattle.verifier.specs.Build.{IsTable, IsRun, HasFinishedAll};
+ghost use Rattle.verifier.specs.Headline.{IsConcerned, EveryRunEndsIn, EveryRunIsAsChosen};
+ghost use Rattle.verifier.specs.Headline.{NoRunIsStuck};
 ghost use Rattle.verifier.specs.Recorded.{RecordsAt, Agrees};
 ghost use Rattle.verifier.specs.TwoSteps as two;
 ghost use Rattle.verifier.specs.Verdict.{IsVerdict, IsYes};
 
 use std::alloc::Allocator;
 
-/// Every complete run of a plan that is as recorded ends in exactly the claimed root, no run of it is
-/// stuck, and each runs the recorded actions and comes to the recorded outcomes. A law: it does
+/// Every complete run of a plan that is as recorded ends in exactly the claimed root, no run of it
+/// is stuck, and each runs the recorded actions and comes to the recorded outcomes. A law: it does
 /// nothing.
 pub fn recorded_plans_end_in_the_claim()
     ensures ends { (blobs results : Blobs) (sources : DigestValue) (plan : PlanValue)
@@ -45,8 +48,8 @@ pub fn recorded_plans_end_in_the_claim()
 {}
 
 /// A verdict is yes exactly where each step is as recorded and the root is accepted, and there the
-/// verdict is that; where it is that the root differs, the plan is as recorded with that root. A law:
-/// it does nothing.
+/// verdict is that; where it is that the root differs, the plan is as recorded with that root. A
+/// law: it does nothing.
 pub fn yes_is_as_recorded<A: Allocator>()
     ensures yes { (tells : Telling) (sources : DigestValue) (plan : PlanValue)
         (recorded : List DigestValue) (claim : DigestValue) (v : Verdict A)
@@ -75,9 +78,9 @@ pub fn steps_are_as_recorded<A: Allocator>()
         → (o : OutcomeValue) → IsAsRecorded tells.blobs tells.results sources before step d o → ⊥ }
 {}
 
-/// Where the verdict is no at a step, every step before it is as recorded, and this one isn't; where
-/// it is no at the root, every step is as recorded, and the root isn't accepted. A law: it does
-/// nothing.
+/// Where the verdict is no at a step, every step before it is as recorded, and this one isn't;
+/// where it is no at the root, every step is as recorded, and the root isn't accepted. A law: it
+/// does nothing.
 pub fn no_is_unlike_recorded<A: Allocator>()
     ensures step { (tells : Telling) (sources : DigestValue) (plan : PlanValue)
         (recorded : List DigestValue) (claim : DigestValue) (name : List ℕ) (cause : Cause A)
@@ -91,8 +94,8 @@ pub fn no_is_unlike_recorded<A: Allocator>()
         × (IsAccepted tells.blobs sources outcomes plan.root_lines claim → ⊥) }
 {}
 
-/// Every lawful plan with as many recorded digests has a verdict, whatever the source tells: it can't
-/// be that none is one. A law: it does nothing.
+/// Every lawful plan with as many recorded digests has a verdict, whatever the source tells: it
+/// can't be that none is one. A law: it does nothing.
 pub fn plans_have_verdicts<A: Allocator>()
     ensures { (tells : Telling) (sources : DigestValue) (plan : PlanValue)
         (recorded : List DigestValue) (claim : DigestValue)

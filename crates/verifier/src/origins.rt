@@ -4,9 +4,9 @@ ghost use Rattle.std.specs.List.{AllByRecursion};
 ghost use Rattle.tree.specs.Form.{node_value};
 ghost use Rattle.tree.specs.Lines.{lines_of};
 ghost use Rattle.tree.specs.Lookup.{found};
-ghost use Rattle.verifier.specs.Accepted.{LooksAt, Resolves};
+ghost use Rattle.verifier.specs.Accepted.{LooksUpOrigin, Resolves};
 ghost use Rattle.blob_source.specs.Called.{Called};
-ghost use Rattle.tree.specs.Memo.{IsKnownOf, IsRefused, Learns, known_by};
+ghost use Rattle.tree.specs.Memo.{IsKnownOf, WasRefused, Learns, known_by};
 ghost use Rattle.verifier.specs.LooksAt.{LinesLookAt, OriginLooksAt};
 ghost use Rattle.verifier.specs.Stage.{Explains};
 ghost use Rattle.verifier.specs.Faults.{LineFault, FirstFault};
@@ -31,13 +31,13 @@ fn find_origin<A: Allocator + Copy, S: BlobSource<A>>(
 ) -> Result<Node<A>, Fault<A>>
     requires line { IsLine (length outcomes.now) line.now }
     requires known { IsKnownOf (known_by memo.old) (S.tells source.old) }
-    ensures told { IfOk result (λ node. LooksAt (S.tells source.new).blobs sources.now
+    ensures told { IfOk result (λ node. LooksUpOrigin (S.tells source.new).blobs sources.now
         outcomes.now line.now.origin (found (node_value node))) }
     ensures faulty { IfErr result (Explains (LineFault (S.tells source.new).blobs sources.now
         outcomes.now line.now)) }
     ensures called { Called (S.tells source.old) (S.tells source.new) (IsErrOf result Fault.Fetch) }
     ensures learned { Learns (OriginLooksAt (S.tells source.new).blobs sources.now line.now.origin)
-        (IsRefused result)
+        (WasRefused result)
         (known_by memo.old) (known_by memo.new) (S.tells source.old) (S.tells source.new) }
 {
     match &line.origin {
@@ -69,7 +69,7 @@ pub(crate) fn resolve<A: Allocator + Copy, S: BlobSource<A>>(
         outcomes.now lines.now)) }
     ensures called { Called (S.tells source.old) (S.tells source.new) (IsErrOf result Fault.Fetch) }
     ensures learned { Learns (LinesLookAt (S.tells source.new).blobs sources.now outcomes.now
-        lines.now) (IsRefused result)
+        lines.now) (WasRefused result)
         (known_by memo.old) (known_by memo.new) (S.tells source.old) (S.tells source.new) }
 {
     let mut nodes = Vec::new(alloc);

@@ -13,7 +13,7 @@ ghost use Rattle.tree.specs.Difference.{made_by};
 ghost use Rattle.tree.specs.Folded.{IsFoldOfLawful};
 ghost use Rattle.verifier.specs.Answers.{IsDifference, IsDifferenceCause};
 ghost use Rattle.blob_source.specs.Called.{Called};
-ghost use Rattle.tree.specs.Memo.{IsKnownOf, IsRefused, Learns, known_by};
+ghost use Rattle.tree.specs.Memo.{IsKnownOf, WasRefused, Learns, known_by};
 ghost use Rattle.tree.specs.Memo.{IsWithout, LooksAtResult};
 ghost use Rattle.tree.specs.LooksAt.{Compares};
 ghost use Rattle.verifier.specs.Checks.{Checks};
@@ -21,7 +21,8 @@ ghost use Rattle.verifier.specs.LooksAt.{InputLooksAt, OutputsLookAt, ResultLook
 ghost use Rattle.actions.specs.LooksAt.{OutputLooksAt};
 ghost use Rattle.verifier.specs.Stage.{Explains, Answers};
 ghost use Rattle.verifier.specs.declared.verdict.Cause.TheVariants as causes;
-ghost use Rattle.verifier.specs.StepChecks.{IsRefusedOutput, OutputFault, cached, framed, grafted, held, succeeded, read, step_check};
+ghost use Rattle.verifier.specs.StepChecks.{IsRefusedOutput, OutputFault, cached, framed, grafted};
+ghost use Rattle.verifier.specs.StepChecks.{held, succeeded, read, step_check};
 
 use crate::fault::{Fault, fault_of};
 use crate::origins::resolve;
@@ -104,7 +105,7 @@ fn check_input<A: Allocator + Copy, S: BlobSource<A>>(
         (lines_of nodes.now)) result }
     ensures called { Called (S.tells source.old) (S.tells source.new) (IsErrOf result Fault.Fetch) }
     ensures learned { Learns (InputLooksAt (S.tells source.new).blobs action.now
-        (lines_of nodes.now)) (IsRefused result)
+        (lines_of nodes.now)) (WasRefused result)
         (known_by memo.old) (known_by memo.new) (S.tells source.old) (S.tells source.new) }
 {
     let grafted = graft(alloc, nodes)?;
@@ -160,7 +161,7 @@ fn held_result<A: Allocator + Copy, S: BlobSource<A>>(
     requires { IsKnownOf (known_by memo.old) (S.tells source.old) }
     ensures checked { Answers (held (S.tells source.new).results recorded.now) result }
     ensures called { Called (S.tells source.old) (S.tells source.new) (IsErrOf result Fault.Fetch) }
-    ensures learned { Learns (LooksAtResult recorded.now) (IsRefused result)
+    ensures learned { Learns (LooksAtResult recorded.now) (WasRefused result)
         (known_by memo.old) (known_by memo.new) (S.tells source.old) (S.tells source.new) }
 {
     match memo.result(alloc, source, recorded)? {
@@ -206,7 +207,8 @@ fn read_outcome<A: Allocator + Copy, S: BlobSource<A>>(
     requires { IsKnownOf (known_by memo.old) (S.tells source.old) }
     ensures checked { Answers (read (S.tells source.new).blobs command.now made.now) result }
     ensures called { Called (S.tells source.old) (S.tells source.new) (IsErrOf result Fault.Fetch) }
-    ensures learned { Learns (ResultLooksAt (S.tells source.new).blobs command.now made.now) (IsRefused result)
+    ensures learned { Learns (ResultLooksAt (S.tells source.new).blobs command.now made.now)
+        (WasRefused result)
         (known_by memo.old) (known_by memo.new) (S.tells source.old) (S.tells source.new) }
 {
     let recorded = made.outputs(alloc)?;
@@ -231,7 +233,7 @@ fn read_outputs<A: Allocator + Copy, S: BlobSource<A>>(
         (recorded_values recorded.now))) }
     ensures called { Called (S.tells source.old) (S.tells source.new) (IsErrOf result Fault.Fetch) }
     ensures learned { Learns (OutputsLookAt (S.tells source.new).blobs command.now
-        (recorded_values recorded.now)) (IsRefused result)
+        (recorded_values recorded.now)) (WasRefused result)
         (known_by memo.old) (known_by memo.new) (S.tells source.old) (S.tells source.new) }
 {
     let mut outputs = Vec::new(alloc);
@@ -260,7 +262,7 @@ fn read_output<A: Allocator + Copy, S: BlobSource<A>>(
     ensures called { Called (S.tells source.old) (S.tells source.new) (IsErrOf result Fault.Fetch) }
     ensures learned { Learns (λ a. Contains command.now.output_paths
         (recorded_path (recorded_value output.now)) × OutputLooksAt (recorded_value output.now) a)
-        (IsRefused result)
+        (WasRefused result)
         (known_by memo.old) (known_by memo.new) (S.tells source.old) (S.tells source.new) }
 {
     if !command.lists(output.path()) {

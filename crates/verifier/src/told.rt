@@ -1,6 +1,6 @@
 ghost use Rattle.std.specs.Prelude.{IsErrOf};
 ghost use Rattle.blob_source.specs.Called.{Called};
-ghost use Rattle.tree.specs.Memo.{IsKnownOf, IsRefused, Learns, LooksAtBlob, known_by};
+ghost use Rattle.tree.specs.Memo.{IsKnownOf, WasRefused, Learns, LooksAtBlob, known_by};
 ghost use Rattle.verifier.specs.Stage.{Answers};
 ghost use Rattle.verifier.specs.StepChecks.{message};
 
@@ -21,7 +21,7 @@ pub(crate) fn told<A: Allocator + Copy, S: BlobSource<A>, M: Message<A>>(
     ensures checked { Answers (message M.keeps M.spells (S.tells source.new).blobs digest.now)
         result }
     ensures called { Called (S.tells source.old) (S.tells source.new) (IsErrOf result Fault.Fetch) }
-    ensures learned { Learns (LooksAtBlob digest.now) (IsRefused result)
+    ensures learned { Learns (LooksAtBlob digest.now) (WasRefused result)
         (known_by memo.old) (known_by memo.new) (S.tells source.old) (S.tells source.new) }
 {
     match memo.message(alloc, source, digest) {

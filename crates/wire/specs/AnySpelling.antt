@@ -1,21 +1,24 @@
--- All spellings of a list of records (Protocol Buffers encoding guide, "Base 128 Varints" and "Message Structure"): a varint
--- may have more groups than its number needs. The one spelling that is written is that of `Spells`.
-use Rattle.std.specs.Prelude.{◌≡◌, ◌≢◌, Bool, true, false, ℕ, ◌+◌, ◌*◌, ◌^◌, ◌<◌, ◌≤◌, List, [], ◌∷◌, ◌++◌, length}
+-- All spellings of a list of records (Protocol Buffers encoding guide, "Base 128 Varints" and
+-- "Message Structure"): a varint may have more groups than its number needs. The one spelling that
+-- is written is that of `Spells`.
+use Rattle.std.specs.Prelude.{◌≡◌, ◌≢◌, Bool, true, false, ℕ, ◌+◌, ◌*◌, ◌^◌, ◌<◌, ◌≤◌, List, []}
+use Rattle.std.specs.Prelude.{◌∷◌, ◌++◌, length}
 use Rattle.wire.specs.Record.{Value, Varint, Eight, Bytes, Four, Record}
 use Rattle.wire.specs.Spelling.{wire_type}
 use Rattle.wire.specs.declared.error.WireError.{WireError}
 use Rattle.wire.specs.declared.error.WireError.TheVariants.{NotMinimal}
 use Rattle.wire.specs.Varint.{varint, group_sum, AreGroups, HasVarintFault}
 
--- Groups of seven bits, ten at most, that make a number of 64 bits: the top bit is set in each byte but the last, and the last
--- groups may be nought.
+-- Groups of seven bits, ten at most, that make a number of 64 bits: the top bit is set in each byte
+-- but the last, and the last groups may be nought.
 pub record IsVarint (n : ℕ) (text : List ℕ) : Type 0 where
   pub form : AreGroups text
   pub sum : group_sum text ≡ n
   pub few : length text ≤ 10
   pub fits : n < 2 ^ 64
 
--- the faults, of which no bytes have two: those of a varint in its shortest form, but that it isn't in it
+-- the faults, of which no bytes have two: those of a varint in its shortest form, but that it isn't
+-- in it
 abbrev pub HasAnyVarintFault : WireError → List ℕ → Type 0
 HasAnyVarintFault e bytes = HasVarintFault e bytes × (e ≢ NotMinimal)
 

@@ -1,9 +1,12 @@
 -- Varints (Protocol Buffers encoding guide, "Base 128 Varints"): a number of at most 64 bits in
 -- groups of seven bits, the low group first.
-use Rattle.std.specs.Prelude.{◌≡◌, ℕ, zero, suc, ◌+◌, ◌-◌, ◌*◌, ◌/◌, ◌%◌, ◌<◌, ◌≤◌, Bool, true, false, nat_lt, ◌==◌, ◌&&◌, List, [], ◌∷◌, ◌++◌, length, Result, Ok, Err, if◌then◌else◌}
+use Rattle.std.specs.Prelude.{◌≡◌, ℕ, zero, suc, ◌+◌, ◌-◌, ◌*◌, ◌/◌, ◌%◌, ◌<◌, ◌≤◌, Bool, true}
+use Rattle.std.specs.Prelude.{false, nat_lt, ◌==◌, ◌&&◌, List, [], ◌∷◌, ◌++◌, length, Result, Ok}
+use Rattle.std.specs.Prelude.{Err, if◌then◌else◌}
 use Rattle.std.specs.List.{AllByRecursion}
 use Rattle.wire.specs.declared.error.WireError.{WireError}
-use Rattle.wire.specs.declared.error.WireError.TheVariants.{Truncated, VarintTooLong, NotMinimal, BadWireType, BadNumber}
+use Rattle.wire.specs.declared.error.WireError.TheVariants.{Truncated, VarintTooLong, NotMinimal}
+use Rattle.wire.specs.declared.error.WireError.TheVariants.{BadWireType, BadNumber}
 use Rattle.wire.specs.Steps.{◌>>=◌}
 
 -- ---- the spelling
@@ -32,7 +35,8 @@ AreGroups (b ∷ c ∷ bytes) = (128 ≤ b) × AreGroups (c ∷ bytes)
 pub record IsShortest (n : ℕ) (bytes : List ℕ) : Type 0 where
   pub form : AreGroups bytes
   pub sum : group_sum bytes ≡ n
-  pub least : (others : List ℕ) → AreGroups others → group_sum others ≡ n → length bytes ≤ length others
+  pub least : (others : List ℕ) → AreGroups others → group_sum others ≡ n
+      → length bytes ≤ length others
 
 -- ---- reading
 
@@ -40,12 +44,18 @@ pub record IsShortest (n : ℕ) (bytes : List ℕ) : Type 0 where
 -- most count and one come. The last is not nought where the shortest form is asked for.
 unfoldable pub groups_by : Bool → ℕ → List ℕ → Result (ℕ × List ℕ) WireError
 groups_by shortest count [] = Err Truncated
-groups_by shortest zero (b ∷ bytes) = if nat_lt 1 b then Err VarintTooLong else (if shortest && (b == 0) then Err NotMinimal else Ok (b, bytes))
-groups_by shortest (suc count) (b ∷ bytes) = if nat_lt b 128 then (if shortest && (b == 0) then Err NotMinimal else Ok (b, bytes)) else (groups_by shortest count bytes >>= λ high. Ok (b - 128 + 128 * high.0, high.1))
+groups_by shortest zero (b ∷ bytes) =
+    if nat_lt 1 b then Err VarintTooLong
+    else (if shortest && (b == 0) then Err NotMinimal else Ok (b, bytes))
+groups_by shortest (suc count) (b ∷ bytes) =
+    if nat_lt b 128 then (if shortest && (b == 0) then Err NotMinimal else Ok (b, bytes))
+    else (groups_by shortest count bytes >>= λ high. Ok (b - 128 + 128 * high.0, high.1))
 
 unfoldable pub varint_by : Bool → List ℕ → Result (ℕ × List ℕ) WireError
 varint_by shortest [] = Err Truncated
-varint_by shortest (b ∷ bytes) = if nat_lt b 128 then Ok (b, bytes) else (groups_by shortest 8 bytes >>= λ high. Ok (b - 128 + 128 * high.0, high.1))
+varint_by shortest (b ∷ bytes) =
+    if nat_lt b 128 then Ok (b, bytes)
+    else (groups_by shortest 8 bytes >>= λ high. Ok (b - 128 + 128 * high.0, high.1))
 
 -- in the shortest form, and in any
 abbrev pub varint_at : List ℕ → Result (ℕ × List ℕ) WireError
@@ -64,7 +74,9 @@ pub record StandsBehind (front : List ℕ) (b : ℕ) (bytes : List ℕ) : Type 0
 
 abbrev pub HasVarintFault : WireError → List ℕ → Type 0
 HasVarintFault Truncated bytes = (length bytes ≤ 9) × AllByRecursion (λ a. 128 ≤ a) bytes
-HasVarintFault VarintTooLong bytes = (front : List ℕ) × (b : ℕ) × (length front ≡ 9) × (1 < b) × StandsBehind front b bytes
-HasVarintFault NotMinimal bytes = (front : List ℕ) × (1 ≤ length front) × (length front ≤ 9) × StandsBehind front 0 bytes
+HasVarintFault VarintTooLong bytes =
+    (front : List ℕ) × (b : ℕ) × (length front ≡ 9) × (1 < b) × StandsBehind front b bytes
+HasVarintFault NotMinimal bytes =
+    (front : List ℕ) × (1 ≤ length front) × (length front ≤ 9) × StandsBehind front 0 bytes
 HasVarintFault BadWireType bytes = ⊥
 HasVarintFault BadNumber bytes = ⊥

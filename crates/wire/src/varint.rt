@@ -1,6 +1,8 @@
-ghost use Rattle.std.specs.Prelude.{◌≡◌, ℕ, ◌<◌, ◌≤◌, ◌^◌, ◌++◌, List, length, take, drop, Ok, IfOk, IfErr, OnOk, OnErr};
+ghost use Rattle.std.specs.Prelude.{◌≡◌, ℕ, ◌<◌, ◌≤◌, ◌^◌, ◌++◌, List, length, take, drop, Ok};
+ghost use Rattle.std.specs.Prelude.{IfOk, IfErr, OnOk, OnErr};
 ghost use Rattle.wire.specs.Steps.{Gives};
-ghost use Rattle.wire.specs.Varint.{varint, varint_at, any_varint_at, varint_by, IsShortest, HasVarintFault};
+ghost use Rattle.wire.specs.Varint.{varint, varint_at, any_varint_at, varint_by, IsShortest};
+ghost use Rattle.wire.specs.Varint.{HasVarintFault};
 ghost use Rattle.wire.specs.AnySpelling.{IsVarint, HasAnyVarintFault};
 
 use crate::error::WireError;
@@ -11,7 +13,8 @@ const MAX_LEN: usize = 10;
 
 /// The number at the front, and how many bytes it takes. What comes behind isn't looked at.
 pub fn read_varint(bytes: &[u8]) -> Result<(u64, usize), WireError>
-    ensures exact { Gives (λ found. (found.0, drop found.1 bytes.now)) result (varint_at bytes.now) }
+    ensures exact { Gives (λ found. (found.0, drop found.1 bytes.now)) result
+        (varint_at bytes.now) }
     ensures length { IfOk result (λ found. found.1 ≤ length bytes.now) }
 
     // What is read is the number's one spelling, and a number's spelling is read.

@@ -1,20 +1,18 @@
 -- Directories and files among entries, entry by entry.
-use Rattle.std.proofs.Common.{◌≡◌, ◌≢◌, ℕ, zero, suc, ◌<◌, Bool, List, [], ◌∷◌, ◌++◌, Option, Some, refl, ap, sym, ◌∙◌, subst, append_assoc, append-nil, length, arith}
+use Rattle.std.proofs.Common.{◌≡◌, ℕ, zero, suc, Bool, List, [], ◌∷◌, ◌++◌, refl, ap, sym, ◌∙◌, subst, append_assoc, append-nil, arith}
 use Rattle.std.specs.Prelude.{Contains}
 use Rattle.blob_digest.specs.Digest.{DigestValue}
 use Rattle.messages.specs.declared.node.Node.TheVariants as nodes
 use Rattle.blob_source.specs.Source.{Blobs, Grows, IsBlobUnder}
-use Rattle.tree.specs.Tree.{Name, Standing, nothing, a_leaf, a_directory}
+use Rattle.tree.specs.Tree.{Name, Standing, a_leaf, a_directory}
 use Rattle.tree.specs.Form.{NodeValue}
 use Rattle.tree.specs.FlatTree.{FlatValue}
-use Rattle.tree.specs.declared.error.TreeError.{TreeError}
-use Rattle.tree.specs.TreeError.{Explains}
 use Rattle.tree.proofs.Descent.{under_still}
 use Rattle.worker.specs.declared.laid.LayoutError.{LayoutError}
 use Rattle.worker.specs.declared.laid.LayoutError.TheVariants as laying
 use Rattle.worker.specs.Values.{LayoutValue}
 use Rattle.worker.specs.Layout.{folders_among, AreFiles, IsLinkAt, AreGathered}
-use Rattle.worker.specs.Refusals.{FailsBlob, IsContentFault, IsEntryFault}
+use Rattle.worker.specs.Refusals.{IsContentFault, StopsLayout}
 
 -- whatever the entries that are left come to, all come to it behind what is there
 pub record GoesOn (B : Blobs) (all : FlatValue) (folders : List (List Name)) (files : List (List Name × List ℕ)) (left : FlatValue) : Type 0 where
@@ -56,7 +54,7 @@ module _ (B : Blobs) (all : FlatValue) (folders : List (List Name)) (files : Lis
       inside = λ y h. g.inside y (there (p, a_leaf (nodes.File d x)) y left h);
     }
 
-    pub file_fault : {A : Type 0} (e : LayoutError A) → IsContentFault C d e → IsEntryFault C all e
+    pub file_fault : {A : Type 0} (e : LayoutError A) → IsContentFault C d e → StopsLayout C all e
     file_fault (laying.Source why) h = (p, d, x, g.inside (p, a_leaf (nodes.File d x)) (here (p, a_leaf (nodes.File d x)) left), h)
     file_fault (laying.LinkInput q) h = absurd h
     file_fault laying.Memory h = tt

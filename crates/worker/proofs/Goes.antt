@@ -1,21 +1,21 @@
 -- A build goes on.
-use Rattle.std.proofs.Common.{◌≡◌, ◌≢◌, ℕ, zero, suc, ◌+◌, ◌<◌, ◌≤◌, List, [], ◌∷◌, ◌++◌, length, length-append, set, Option, Some, None, refl, ap, sym, ◌∙◌, subst, arith, inl, inr}
+use Rattle.std.proofs.Common.{◌≡◌, ℕ, ◌<◌, ◌≤◌, List, [], ◌∷◌, ◌++◌, length, length-append, set, Some, None, refl, ap, sym, ◌∙◌, subst, arith, inl, inr}
 use Rattle.std.specs.Prelude.{◌⊎◌, ◌↔◌, Result, Ok, Err, IsErr, OnOk, slice_get}
 use Rattle.blob_digest.specs.Digest.{DigestValue}
 use Rattle.actions.specs.Outcome.{OutcomeValue}
 use Rattle.blob_source.specs.Source.{Blobs, Telling}
 use Rattle.blob_source.specs.Sink.{KeepsRight}
-use Rattle.runs.specs.Engine.{JobValue, EngineValue, at_number, job_in}
-use Rattle.runs.specs.Calls.{IsStarted, IsFinished, with_finished, without_job, with_job}
+use Rattle.runs.specs.Engine.{JobValue, EngineValue, job_in}
+use Rattle.runs.specs.Calls.{IsStarted, without_job}
 use Rattle.runs.specs.declared.starting.Job.{Job}
 use Rattle.runs.proofs.Places.{some_none}
 use Rattle.verifier.proofs.FreshRuns.{one_answer}
 use Rattle.worker.specs.declared.turns.Child.{Child}
 use Rattle.worker.specs.Values.{ProducedValue}
 use Rattle.worker.specs.Stores.{IsKept, IsKeptBut}
-use Rattle.worker.specs.Outcomes.{Yields, IsWithin, IsOwed, IsYielded, IsHeld}
-use Rattle.worker.specs.Calls.{running, Call, started, ran, taken, lost, HasRun, WasStarted, FinishedByChild, FinishedAsRecorded, IsLost, Does, Leads, IsLed}
-use Rattle.worker.specs.Going.{IsJobOf, AreJobsOf, IsOwnJob, IsGoing, IsBegun, IsRefused, IsLaunched, job_value, EndsWell, Ends}
+use Rattle.worker.specs.Outcomes.{Yields, YieldsNoMore, IsYielded}
+use Rattle.worker.specs.Calls.{running, Call, started, ran, taken, lost, HasRun, WasStarted, FinishedByChild, Does, Leads, IsLed}
+use Rattle.worker.specs.Going.{IsJobOf, AreJobsOf, IsOwnJob, IsGoing, IsBegun, CameToNothing, IsLaunched, job_value, EndsWell, Ends}
 use Rattle.worker.proofs.Keeping.{right_trans, right_still, all_right_still}
 use Rattle.worker.proofs.Telling.{layout_still, recorded_still}
 use Rattle.worker.proofs.Jobs.{least_within, jobs_added, jobs_back, jobs_count, jobs_map}
@@ -101,7 +101,7 @@ module _ (A : Type 0) (y : Yields) (t u : Telling) (more : List Call) (m : Moves
 
 -- ---- what is owed
 
-owed_still : {J : Type 0} {y z : Yields} {may : J → ProducedValue → Type 0} {B C : Blobs} {old new : EngineValue} → IsWithin y z → KeepsRight B C → new.commands ≡ old.commands
+owed_still : {J : Type 0} {y z : Yields} {may : J → ProducedValue → Type 0} {B C : Blobs} {old new : EngineValue} → YieldsNoMore y z → KeepsRight B C → new.commands ≡ old.commands
     → (c : Child J) (j : JobValue) → IsOwnJob y may B old c j → IsOwnJob z may C new c j
 owed_still {J} {y} {z} {may} {B} {C} {old} {new} within keeps same c j h =
     let k = h.owed in
@@ -215,7 +215,7 @@ module _ (A J : Type 0) (y : Yields) (may : J → ProducedValue → Type 0) (mos
           few = g.few;
         }
 
-  module _ (z : Yields) (within : IsWithin z y) where
+  module _ (z : Yields) (within : YieldsNoMore z y) where
     pub going_begun : (t u : Telling) (now new : EngineValue) (i : ℕ) (cs ds : List (Child J)) → IsKept t u → Goes t now cs → length cs < most → IsBegun A z may u i now new cs ds → Goes u new ds
     going_begun t u now new i cs ds k g room b = by b.goes
       where
@@ -244,7 +244,7 @@ module _ (A J : Type 0) (y : Yields) (may : J → ProducedValue → Type 0) (mos
               recorded = held.recorded;
             }))
 
-  pub going_refused : (t u : Telling) (now new : EngineValue) (i : ℕ) (cs : List (Child J)) → IsKept t u → Goes t now cs → length cs < most → IsRefused A u.blobs i now new → Goes u new cs
+  pub going_refused : (t u : Telling) (now new : EngineValue) (i : ℕ) (cs : List (Child J)) → IsKept t u → Goes t now cs → length cs < most → CameToNothing A u.blobs i now new → Goes u new cs
   going_refused t u now new i cs k g room (inl same) = going_kept t u now new cs k same g
   going_refused t u now new i cs k g room (inr (id, mid, w, gone)) =
       going_back t u now mid cs i id k g room w new (lost id) (ap (λ (e : EngineValue). e.jobs) gone) (ap (λ (e : EngineValue). e.commands) gone) (job_of w, job_is w, gone)
@@ -271,7 +271,7 @@ lose_goes (Ok x) id old new j none gone at = gone
 lose_goes (Err x) id old new j none gone at = absurd (some_none (job_in id old) j at (none.0 refl))
 
 pub refused : {A T E : Type 0} {B C : Blobs} {i : ℕ} {old mid now new : EngineValue} {job : Job A} (r : Result T E) → IsStarted B i old mid job → KeepsRight B C → now ≡ mid
-    → IsErr r ↔ (job_in job.id now ≡ None) → OnOk r (new ≡ without_job job.id now) → IsRefused A C i old new
+    → IsErr r ↔ (job_in job.id now ≡ None) → OnOk r (new ≡ without_job job.id now) → CameToNothing A C i old new
 refused {A} {T} {E} {B} {C} {i} {old} {mid} {now} {new} {job} r s keeps same none gone =
     let at : job_in job.id now ≡ Some (job_value job) = subst (λ (e : EngineValue). job_in job.id e ≡ Some (job_value job)) (sym same) (started_value s) in
     inr (job.id, mid, was_started s C keeps, lose_goes r job.id now new (job_value job) none gone at ∙ ap (without_job job.id) same)

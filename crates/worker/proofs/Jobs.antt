@@ -1,8 +1,8 @@
 -- The jobs of an engine and the children that run.
-use Rattle.std.proofs.Common.{◌≡◌, ◌≢◌, ℕ, zero, suc, ◌+◌, ◌<◌, ◌≤◌, List, [], ◌∷◌, ◌++◌, length, set, Option, Some, None, refl, ap, sym, ◌∙◌, subst, arith}
+use Rattle.std.proofs.Common.{◌≡◌, ◌≢◌, ℕ, zero, suc, ◌<◌, ◌≤◌, List, [], ◌∷◌, ◌++◌, length, set, Option, Some, None, refl, ap, sym, ◌∙◌, subst, arith}
 use Rattle.runs.specs.Engine.{JobValue, at_number}
 use Rattle.runs.specs.Calls.{IsLeastIn, placed}
-use Rattle.runs.proofs.Places.{taken_within, set_same, set_other, some_none}
+use Rattle.runs.proofs.Places.{taken_within, set_other, some_none}
 use Rattle.worker.specs.declared.turns.Child.{Child}
 use Rattle.worker.specs.Calls.{running}
 use Rattle.worker.specs.Going.{AreJobsOf}

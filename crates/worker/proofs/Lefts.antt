@@ -1,9 +1,9 @@
 -- Each turn leaves fewer.
-use Rattle.std.proofs.Common.{◌≡◌, ◌≢◌, ℕ, zero, suc, ◌+◌, ◌*◌, ◌<◌, ◌≤◌, true, false, List, [], ◌∷◌, ◌++◌, length, length-append, set, Option, Some, None, refl, ap, sym, ◌∙◌, subst, arith, inl, inr}
+use Rattle.std.proofs.Common.{◌≡◌, ◌≢◌, ℕ, zero, suc, ◌+◌, ◌<◌, ◌≤◌, true, false, List, [], ◌∷◌, length, length-append, set, Option, Some, None, refl, ap, sym, ◌∙◌, subst, arith, inl, inr}
 use Rattle.std.specs.Prelude.{◌⊎◌, ◌==◌, if◌then◌else◌, Result, Ok, Err, OnOk, IsSome}
 use Rattle.std.proofs.lemmas.Bool.Decides.{eqb_tells, Decides-eqb}
 use Rattle.actions.specs.Outcome.{OutcomeValue}
-use Rattle.blob_source.specs.Source.{Blobs, Telling}
+use Rattle.blob_source.specs.Source.{Telling}
 use Rattle.runs.specs.Engine.{FinishedValue, JobValue, EngineValue, IsEngine, at_number, finished_in, job_in}
 use Rattle.runs.specs.Calls.{IsFinished, first_kept, placed, runs_step, jobs_of, with_finished}
 use Rattle.runs.proofs.Places.{set_same, set_other}

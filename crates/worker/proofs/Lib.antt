@@ -1,4 +1,5 @@
 pub mod Keeping
+pub mod Knowing
 pub mod Telling
 pub mod Sorting
 pub mod Gathering

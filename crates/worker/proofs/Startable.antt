@@ -1,9 +1,9 @@
 -- Which step is started.
-use Rattle.std.proofs.Common.{◌≡◌, ◌≢◌, ◌↔◌, ℕ, zero, suc, ◌<◌, Bool, true, false, List, length, Option, Some, None, refl, sym, subst, ◌∙◌, ap, arith}
+use Rattle.std.proofs.Common.{◌≡◌, ◌≢◌, ◌↔◌, ℕ, Bool, true, false, Option, Some, None, refl, sym, ◌∙◌}
 use Rattle.std.specs.Prelude.{IsTrue, IsSome}
 use Rattle.runs.specs.Engine.{EngineValue, finished_in}
 use Rattle.runs.specs.Calls.{IsReady, jobs_of}
-use Rattle.worker.specs.Calls.{IsWaiting, IsStartable}
+use Rattle.worker.specs.Calls.{IsStartable}
 
 not_some : {X : Type 0} (o : Option X) → (IsSome o → ⊥) → o ≡ None
 not_some None none = refl

@@ -1,9 +1,9 @@
 -- What the start of a job leaves.
-use Rattle.std.proofs.Common.{◌≡◌, ℕ, suc, refl, ap, sym, ◌∙◌, subst, Some, None}
+use Rattle.std.proofs.Common.{◌≡◌, ℕ, suc, refl, ap, sym, ◌∙◌, subst, Some}
 use Rattle.std.specs.Prelude.{slice_get}
 use Rattle.blob_source.specs.Source.{Blobs}
 use Rattle.blob_source.specs.Sink.{KeepsRight}
-use Rattle.runs.specs.Engine.{JobValue, EngineValue, at_number, job_in}
+use Rattle.runs.specs.Engine.{JobValue, EngineValue, job_in}
 use Rattle.runs.specs.Calls.{IsStarted, IsLeastFree, with_job}
 use Rattle.runs.specs.declared.starting.Job.{Job}
 use Rattle.worker.specs.Calls.{running, WasStarted}

@@ -1,21 +1,20 @@
 -- A turn that is taken goes on.
-use Rattle.std.proofs.Common.{◌≡◌, ℕ, ◌+◌, ◌-◌, ◌<◌, ◌≤◌, List, [], ◌∷◌, length, None, set, refl, ap, sym, ◌∙◌, subst, arith, inl, inr}
-use Rattle.std.specs.Prelude.{◌⊎◌, ◌↔◌, Result, Ok, Err, IsErr, OnOk, OnErr}
+use Rattle.std.proofs.Common.{◌≡◌, ℕ, ◌+◌, ◌-◌, ◌<◌, List, ◌∷◌, length, None, ap, sym, subst, arith, inl, inr}
+use Rattle.std.specs.Prelude.{◌↔◌, Result, Ok, Err, IsErr, OnOk, OnErr}
 use Rattle.blob_source.specs.Source.{Telling}
 use Rattle.blob_source.specs.Sink.{KeepsRight}
-use Rattle.runs.specs.Engine.{JobValue, EngineValue, job_in}
+use Rattle.runs.specs.Engine.{EngineValue, job_in}
 use Rattle.runs.specs.Calls.{without_job}
 use Rattle.worker.specs.declared.turns.Child.{Child}
 use Rattle.worker.specs.Values.{ProducedValue}
 use Rattle.worker.specs.Stores.{IsKept, IsKeptBut}
-use Rattle.worker.specs.Outcomes.{Yields, IsWithin}
-use Rattle.worker.specs.Calls.{running}
-use Rattle.worker.specs.Going.{IsJobOf, AreJobsOf, IsGoing, IsBegun, IsRefused, EndsWell, Ends, HasEndedFirst}
+use Rattle.worker.specs.Outcomes.{Yields, YieldsNoMore}
+use Rattle.worker.specs.Going.{IsJobOf, AreJobsOf, IsGoing, IsBegun, CameToNothing, EndsWell, Ends, HasEndedFirst}
 use Rattle.worker.proofs.Keeping.{kept_more, all_right_still}
 use Rattle.worker.proofs.Goes.{going_begun, going_refused, going_ended, lose_goes}
 
 module _ (A J : Type 0) (y : Yields) (may : J → ProducedValue → Type 0) (t u : Telling) (most : ℕ) (first now new : EngineValue) (cs ds : List (Child J)) (g : IsGoing A y may t most first now cs) where
-  pub start_goes : {T E : Type 0} (r : Result T E) (z : Yields) (i : ℕ) → IsWithin z y → IsKept t u → length cs < most → OnOk r (IsBegun A z may u i now new cs ds) → OnErr r (IsRefused A u.blobs i now new) → OnErr r (ds ≡ cs) → IsGoing A y may u most first new ds
+  pub start_goes : {T E : Type 0} (r : Result T E) (z : Yields) (i : ℕ) → YieldsNoMore z y → IsKept t u → length cs < most → OnOk r (IsBegun A z may u i now new cs ds) → OnErr r (CameToNothing A u.blobs i now new) → OnErr r (ds ≡ cs) → IsGoing A y may u most first new ds
   start_goes (Ok x) z i within k room begun refused same = going_begun A J y may most first z within t u now new i cs ds k g room begun
   start_goes (Err x) z i within k room begun refused same = subst (IsGoing A y may u most first new) (sym same) (going_refused A J y may most first t u now new i cs k g room refused)
 

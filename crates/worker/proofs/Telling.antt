@@ -1,7 +1,6 @@
 -- What is told of a layout and of a result stays told where right bytes stay.
-use Rattle.std.proofs.Common.{◌≡◌, ◌≢◌, ℕ, Bool, List, [], ◌∷◌, Option, Some, refl, sym, subst, ◌∙◌, ap, inl, inr}
-use Rattle.std.specs.Prelude.{◌⊎◌}
-use Rattle.blob_digest.specs.Digest.{DigestValue, digest_of, empty_digest}
+use Rattle.std.proofs.Common.{ℕ, List, [], ◌∷◌, Some, sym, inl, inr}
+use Rattle.blob_digest.specs.Digest.{DigestValue}
 use Rattle.messages.specs.declared.node.Node.TheVariants as nodes
 use Rattle.blob_source.specs.Source.{Blobs, Telling, IsUnder, IsBlobUnder}
 use Rattle.blob_source.specs.Sink.{KeepsRight}
@@ -10,14 +9,14 @@ use Rattle.action_messages.specs.ActionResult.{ActionResultValue}
 use Rattle.action_messages.specs.Outputs.{RecordedValue, file, directory, link}
 use Rattle.actions.specs.Outcome.{OutputValue, OutcomeValue}
 use Rattle.actions.specs.Recorded.{StandsFor, StandForAll, IsRecorded}
-use Rattle.tree.specs.Tree.{Name, Tree, empty, leaf, folder, Standing, nothing, a_leaf, a_directory}
+use Rattle.tree.specs.Tree.{Name, Tree, empty, leaf, folder, nothing, a_leaf, a_directory}
 use Rattle.tree.specs.Form.{NodeValue}
 use Rattle.tree.specs.FlatTree.{FlatValue}
-use Rattle.tree.specs.Unfolded.{TellsBelow, TellsTree, IsUnfolded}
+use Rattle.tree.specs.Unfolded.{TellsBelow, IsUnfolded}
 use Rattle.worker.specs.Values.{LayoutValue}
 use Rattle.worker.specs.Stores.{IsKept}
 use Rattle.worker.specs.Outcomes.{IsHeld}
-use Rattle.worker.specs.Layout.{AreFiles, AreGathered, IsLayoutOf}
+use Rattle.worker.specs.Layout.{AreFiles, IsLayoutOf}
 
 module _ {B C : Blobs} (keeps : KeepsRight B C) where
   blob_still : {d : DigestValue} {b : List ℕ} → IsBlobUnder B d b → IsBlobUnder C d b

@@ -1,5 +1,5 @@
 -- The calls of an engine that lead from one to another.
-use Rattle.std.specs.Prelude.{zero, suc, ◌≡◌, ◌⊎◌, ◌≤◌, ℕ, List, [], ◌∷◌, Option, Some, None}
+use Rattle.std.specs.Prelude.{suc, ◌≡◌, ◌⊎◌, ◌≤◌, ℕ, List, [], ◌∷◌, Option, Some, None}
 use Rattle.blob_digest.specs.Digest.{DigestValue}
 use Rattle.action_messages.specs.ActionResult.{ActionResultValue}
 use Rattle.action_messages.specs.Reads.{Reads}
@@ -18,8 +18,9 @@ running [] = 0
 running (None ∷ js) = running js
 running (Some j ∷ js) = suc (running js)
 
--- A step is started as a job; a job finishes with what its child came to, or with what the store has for its action; a job
--- is lost. A job of an action whose child came to something has its result put under the action.
+-- A step is started as a job; a job finishes with what its child came to, or with what the store
+-- has for its action; a job is lost. A job of an action whose child came to something has its
+-- result put under the action.
 pub data Call : Type 0 where
   started : (step id : ℕ) → Call
   ran : (id : ℕ) (action : DigestValue) (v : OutcomeValue) → Call
@@ -47,8 +48,8 @@ pub record FinishedByChild (yields : Yields) (t : Telling) (id : ℕ) (d : Diges
   pub action : finished.job.action ≡ d
   pub yielded : IsYielded yields t.blobs old finished.job v
 
--- A job finished with what the store had recorded for its action. It has it at the end, unless a child of the same action
--- came to something later.
+-- A job finished with what the store had recorded for its action. It has it at the end, unless a
+-- child of the same action came to something later.
 pub record FinishedAsRecorded (t : Telling) (later : List Call) (id : ℕ) (d : DigestValue)
     (v : OutcomeValue) (old new : EngineValue) : Type 0 where
   pub finished : IsFinished id v old new
@@ -63,7 +64,8 @@ pub record FinishedAsRecorded (t : Telling) (later : List Call) (id : ℕ) (d : 
 abbrev pub IsLost : ℕ → EngineValue → EngineValue → Type 0
 IsLost id old new = (j : JobValue) × (job_in id old ≡ Some j) × (new ≡ without_job id old)
 
--- What a call does, by what the runner yields, what the store tells at the end, and the later calls.
+-- What a call does, by what the runner yields, what the store tells at the end, and the later
+-- calls.
 abbrev pub Does : (A : Type 0) → Yields → Telling → List Call → Call → EngineValue → EngineValue
     → Type 0
 Does A yields t later (started i id) old new = WasStarted A t.blobs i id old new
@@ -71,7 +73,8 @@ Does A yields t later (ran id d v) old new = FinishedByChild yields t id d v old
 Does A yields t later (taken id d v) old new = FinishedAsRecorded t later id d v old new
 Does A yields t later (lost id) old new = IsLost id old new
 
--- The calls, one after another, lead from one engine to the other, and at most so many jobs run after each.
+-- The calls, one after another, lead from one engine to the other, and at most so many jobs run
+-- after each.
 abbrev pub Leads : (A : Type 0) → Yields → Telling → ℕ → List Call → EngineValue → EngineValue
     → Type 0
 Leads A yields t most [] old new = new ≡ old

@@ -1,6 +1,7 @@
 -- A build that goes on: the children that run, and the engine.
-use Rattle.std.specs.Prelude.{zero, suc, ◌≡◌, ◌⊎◌, ◌+◌, ◌*◌, ◌<◌, ◌≤◌, ℕ, List, [], ◌∷◌, ◌++◌, length, set, slice_get, Option, Some, None}
-use Rattle.blob_digest.specs.Digest.{DigestValue, digest_of}
+use Rattle.std.specs.Prelude.{zero, suc, ◌≡◌, ◌⊎◌, ◌+◌, ◌*◌, ◌<◌, ◌≤◌, ℕ, List, [], ◌∷◌, ◌++◌}
+use Rattle.std.specs.Prelude.{length, set, slice_get, Option, Some, None}
+use Rattle.blob_digest.specs.Digest.{digest_of}
 use Rattle.action_messages.specs.Action.{action_bytes}
 use Rattle.actions.specs.Outcome.{OutcomeValue}
 use Rattle.blob_source.specs.Source.{Blobs, Telling}
@@ -20,7 +21,8 @@ pub record IsJobOf {J : Type 0} (c : Child J) (j : JobValue) : Type 0 where
   pub step : j.step ≡ c.step
   pub action : j.action ≡ c.action
 
--- Each job is that of one child, as a relation says. The first child's is taken away, and the others' are those of the rest.
+-- Each job is that of one child, as a relation says. The first child's is taken away, and the
+-- others' are those of the rest.
 abbrev pub AreJobsOf : {J : Type 0} → (Child J → JobValue → Type 0) → List (Option JobValue)
     → List (Child J) → Type 0
 AreJobsOf Is js [] = running js ≡ 0
@@ -68,11 +70,12 @@ pub record IsBegun (A : Type 0) {J : Type 0} (yields : Yields) (may : J → Prod
   pub goes : IsLaunched yields may t id job mid new before after
 
 -- A step was refused: it wasn't started, or its job was lost.
-abbrev pub IsRefused : (A : Type 0) → Blobs → ℕ → EngineValue → EngineValue → Type 0
-IsRefused A B i old new = (new ≡ old)
+abbrev pub CameToNothing : (A : Type 0) → Blobs → ℕ → EngineValue → EngineValue → Type 0
+CameToNothing A B i old new = (new ≡ old)
     ⊎ ((id : ℕ) × (mid : EngineValue) × WasStarted A B i id old mid × (new ≡ without_job id mid))
 
--- A child's job finished with what the child came to, whose blobs are in the store, where a result may have been put.
+-- A child's job finished with what the child came to, whose blobs are in the store, where a result
+-- may have been put.
 pub record EndsWell {J : Type 0} (may : J → ProducedValue → Type 0) (s t : Telling) (c : Child J)
     (old new : EngineValue) : Type 0 where
   pub produced : ProducedValue
@@ -95,7 +98,8 @@ pub record HasEndedFirst {J : Type 0} (ends : Child J → EngineValue → Engine
 
 -- ---- the turns
 
--- a turn that can be taken: a step may be started, while fewer children than the most run, or there is one to wait for
+-- a turn that can be taken: a step may be started, while fewer children than the most run, or there
+-- is one to wait for
 abbrev pub IsTurn : {J : Type 0} → ℕ → EngineValue → List (Child J) → Turn → Type 0
 IsTurn most e children (turns.Start i) =
     (length children < most) × (i < length e.plan.steps) × IsStartable e i

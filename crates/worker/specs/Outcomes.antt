@@ -1,5 +1,5 @@
 -- Where what a job comes to is from.
-use Rattle.std.specs.Prelude.{◌≡◌, ◌⊎◌, ℕ, List, Some, slice_get, Contains}
+use Rattle.std.specs.Prelude.{◌≡◌, ℕ, List, Some, slice_get}
 use Rattle.std.specs.List.{AllByRecursion}
 use Rattle.blob_digest.specs.Digest.{DigestValue, digest_of}
 use Rattle.action_messages.specs.ActionResult.{ActionResultValue}
@@ -18,12 +18,12 @@ abbrev pub Yields : Type 1
 Yields = LayoutValue → CommandValue → ProducedValue → Type 0
 
 -- what the one yields, the other does
-abbrev pub IsWithin : Yields → Yields → Type 0
-IsWithin some all =
+abbrev pub YieldsNoMore : Yields → Yields → Type 0
+YieldsNoMore some all =
     (l : LayoutValue) (c : CommandValue) (p : ProducedValue) → some l c p → all l c p
 
--- All that may come of a job's child, the runner yields for the layout that is told under the root of the job's input and for
--- the command of the job's step. The job's action is in the store.
+-- All that may come of a job's child, the runner yields for the layout that is told under the root
+-- of the job's input and for the command of the job's step. The job's action is in the store.
 pub record IsOwed (yields : Yields) (may : ProducedValue → Type 0) (B : Blobs) (e : EngineValue)
     (j : JobValue) : Type 0 where
   pub layout : LayoutValue
@@ -37,8 +37,9 @@ pub record IsOwed (yields : Yields) (may : ProducedValue → Type 0) (B : Blobs)
 abbrev pub HasAllRight : Blobs → List (List ℕ) → Type 0
 HasAllRight B = AllByRecursion (λ b. HasRight B (digest_of b))
 
--- A job came to an outcome that the runner yields for the layout that is told under the root of its input, and for the
--- command of its step. Its action is in the store, and the blobs that its child made.
+-- A job came to an outcome that the runner yields for the layout that is told under the root of its
+-- input, and for the command of its step. Its action is in the store, and the blobs that its child
+-- made.
 pub record IsYielded (yields : Yields) (B : Blobs) (e : EngineValue) (j : JobValue)
     (v : OutcomeValue) : Type 0 where
   pub layout : LayoutValue

@@ -1,8 +1,9 @@
 -- What calls of a store leave of what it told.
-use Rattle.std.specs.Prelude.{◌≡◌, ◌⊎◌, ℕ, List, Some}
+use Rattle.std.specs.Prelude.{◌≡◌, ◌⊎◌, ℕ, List, Some, None}
 use Rattle.blob_digest.specs.Digest.{DigestValue}
-use Rattle.blob_source.specs.Source.{Telling, Grows}
+use Rattle.blob_source.specs.Source.{Blobs, Telling, Grows, IsBlobUnder}
 use Rattle.blob_source.specs.Sink.{KeepsRight}
+use Rattle.tree.specs.Memo.{Known, blob, result}
 
 -- calls that put no result: results stay, and blobs that have their digests
 pub record IsKept (old new : Telling) : Type 0 where
@@ -14,3 +15,9 @@ pub record IsKeptBut (d : DigestValue) (old new : Telling) : Type 0 where
   pub blobs : KeepsRight old.blobs new.blobs
   pub results : (e : DigestValue) (b : List ℕ) → old.results e ≡ Some b
       → (new.results e ≡ Some b) ⊎ (e ≡ d)
+
+-- Blobs alone are known, and each is one that is told. Right bytes stay told when others are put,
+-- and so what is known stays so; a result may give way to another.
+pub record KnowsBlobs (known : Known) (B : Blobs) : Type 0 where
+  pub blobs : (d : DigestValue) (b : List ℕ) → known (blob d) ≡ Some b → IsBlobUnder B d b
+  pub results : (d : DigestValue) → known (result d) ≡ None

@@ -14,7 +14,8 @@ pub record ProducedValue : Type 0 where
   pub outcome : OutcomeValue
   pub blobs : List (List ℕ)
 
-abbrev pub contents_of : {A : Type 0} → List (List (List ℕ) × Vec ℕ A) → List (List (List ℕ) × List ℕ)
+abbrev pub contents_of : {A : Type 0} → List (List (List ℕ) × Vec ℕ A)
+    → List (List (List ℕ) × List ℕ)
 contents_of files = map (λ f. (f.0, f.1.items)) files
 
 abbrev pub blobs_of : {A : Type 0} → List (Vec ℕ A) → List (List ℕ)

@@ -3,6 +3,8 @@ ghost use Rattle.blob_source.specs.Source.{Telling};
 ghost use Rattle.blob_source.specs.Sink.{KeepsRight};
 ghost use Rattle.runs.specs.Engine.{EngineValue};
 ghost use Rattle.runs.specs.Calls.{HaveAllFinished};
+ghost use Rattle.tree.specs.Memo.{known_by};
+ghost use Rattle.worker.specs.Stores.{KnowsBlobs};
 ghost use Rattle.worker.specs.Calls.{running, IsLed};
 ghost use Rattle.worker.specs.Going.{AreJobsOf, IsJobOf, IsGoing};
 
@@ -12,7 +14,7 @@ use crate::turns::{Child, next_turn, take_turn};
 use runs::Engine;
 use std::alloc::Allocator;
 use std::collections::VecDeque;
-use tree::BlobSink;
+use tree::{BlobSink, Memo};
 
 /// Waits for all children, and loses their jobs.
 fn end_all<A: Allocator + Copy, N: Runner<A>>(
@@ -43,10 +45,12 @@ fn take_turns<A: Allocator + Copy, S: BlobSink<A>, N: Runner<A>>(
     engine: &mut Engine<A>,
     sink: &mut S,
     runner: &mut N,
+    memo: &mut Memo<A>,
     children: &mut VecDeque<Child<N::Job>, A>,
     jobs: usize,
 ) -> Result<(), BuildError<A>>
     requires some { 0 < jobs }
+    requires knows { KnowsBlobs (known_by memo.old) (S.tells sink.old).blobs }
     requires idle { running engine.old.jobs ≡ 0 }
     requires none { children.old.items ≡ [] }
     ensures going { IsGoing A (N.yields runner.old) N.may_give (S.tells sink.new) jobs
@@ -57,7 +61,7 @@ fn take_turns<A: Allocator + Copy, S: BlobSink<A>, N: Runner<A>>(
     ensures alive { N.alive runner.new ≡ N.alive runner.old + length children.new.items }
 {
     while let Some(turn) = next_turn(engine, children, jobs) {
-        take_turn(alloc, engine, sink, runner, children, turn)?;
+        take_turn(alloc, engine, sink, runner, memo, children, turn)?;
     }
     Ok(())
 }
@@ -66,7 +70,8 @@ fn take_turns<A: Allocator + Copy, S: BlobSink<A>, N: Runner<A>>(
 /// While fewer run, the least step that may be started is: its job finishes at once where the store
 /// has a result for its action, and a child runs for it otherwise. Else the child that was started
 /// first is waited for, its blobs are put and its job finishes, and then the result is put. On a
-/// refusal every child is waited for and its job lost.
+/// refusal every child is waited for and its job lost. A Directory of the sources that the starts
+/// look at is fetched once.
 pub fn build<A: Allocator + Copy, S: BlobSink<A>, N: Runner<A>>(
     alloc: A,
     engine: &mut Engine<A>,
@@ -85,8 +90,9 @@ pub fn build<A: Allocator + Copy, S: BlobSink<A>, N: Runner<A>>(
     ensures alive { N.alive runner.new ≡ N.alive runner.old }
     ensures right { KeepsRight (S.tells sink.old).blobs (S.tells sink.new).blobs }
 {
+    let mut memo = Memo::new(alloc);
     let mut children = VecDeque::new(alloc);
-    match take_turns(alloc, engine, sink, runner, &mut children, jobs) {
+    match take_turns(alloc, engine, sink, runner, &mut memo, &mut children, jobs) {
         Ok(()) => Ok(()),
         Err(error) => {
             end_all(alloc, engine, runner, children);

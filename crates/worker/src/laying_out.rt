@@ -5,7 +5,7 @@ ghost use Rattle.blob_source.specs.Source.{Asks, IsBlobUnder};
 ghost use Rattle.tree.specs.FlatTree.{path_values};
 ghost use Rattle.tree.specs.Unfolded.{IsUnfolded};
 ghost use Rattle.worker.specs.Layout.{AreGathered, IsLayoutOf};
-ghost use Rattle.worker.specs.Refusals.{IsContentFault, IsTreeFault, IsEntryFault, IsLayoutFault};
+ghost use Rattle.worker.specs.Refusals.{IsContentFault, IsTreeFault, StopsLayout, IsLayoutFault};
 
 use crate::laid::{Layout, LayoutError};
 use blob_digest::Digest;
@@ -61,7 +61,7 @@ fn gather<A: Allocator + Copy, S: BlobSource<A>>(
     ensures gathered { IfOk result
         (AreGathered (S.tells source.new).blobs (path_values entries.items)) }
     ensures refused { IfErr result
-        (IsEntryFault (S.tells source.new).blobs (path_values entries.items)) }
+        (StopsLayout (S.tells source.new).blobs (path_values entries.items)) }
     ensures called { Called (S.tells source.old) (S.tells source.new)
         (IsErrOf result (LayoutError.Source TreeError.Fetch)) }
 {

@@ -1,6 +1,6 @@
 ghost use Rattle.std.specs.Prelude.{◌≡◌, ◌+◌, ◌-◌, ◌<◌, ℕ, IfOk, IsErrOf, OnOk, OnErr};
 ghost use Rattle.worker.specs.declared.runner.RunError.TheVariants as errors;
-ghost use Rattle.worker.specs.Outcomes.{IsWithin};
+ghost use Rattle.worker.specs.Outcomes.{YieldsNoMore};
 ghost use Rattle.worker.specs.Values.{IsAbsolute};
 
 use crate::laid::Layout;
@@ -88,7 +88,7 @@ pub trait Runner<A: Allocator> {
     ) -> Result<Self::Job, RunError<A>>
         ensures gives { IfOk result (λ job. (p : ProducedValue)
             → may_give job p → yields self.new layout.now command.now p) }
-        ensures same { IsWithin (yields self.new) (yields self.old) }
+        ensures same { YieldsNoMore (yields self.new) (yields self.old) }
         ensures opened { OnOk result (alive self.new ≡ alive self.old + 1) }
         ensures unopened { OnErr result (alive self.new ≡ alive self.old) }
         ensures refused { IsErrOf result RunError.NotAbsolute → IsAbsolute command.now → ⊥ }
@@ -99,7 +99,7 @@ pub trait Runner<A: Allocator> {
     /// Waits for a child, which is spent also where the call is refused.
     fn finish(&mut self, alloc: A, job: Self::Job) -> Result<Produced<A>, RunError<A>>
         ensures gave { IfOk result (may_give job) }
-        ensures same { IsWithin (yields self.new) (yields self.old) }
+        ensures same { YieldsNoMore (yields self.new) (yields self.old) }
         ensures closed { alive self.new ≡ alive self.old - 1 }
         ensures failed { IsErrOf result RunError.Device → failures self.old < failures self.new }
         ensures unfailed { (IsErrOf result RunError.Device → ⊥)

@@ -1,4 +1,5 @@
-ghost use Rattle.std.specs.Prelude.{◌≡◌, ◌↔◌, ◌+◌, ◌-◌, ◌<◌, ◌≤◌, ℕ, [], Some, None, IsTrue, IsSome, IfSome, IfOk, OnOk, OnErr, length, slice_get};
+ghost use Rattle.std.specs.Prelude.{◌≡◌, ◌↔◌, ◌+◌, ◌-◌, ◌<◌, ◌≤◌, ℕ, [], Some, None, IsTrue};
+ghost use Rattle.std.specs.Prelude.{IsSome, IfSome, IfOk, OnOk, OnErr, length, slice_get};
 ghost use Rattle.blob_digest.specs.Digest.{digest_of};
 ghost use Rattle.action_messages.specs.Action.{action_bytes};
 ghost use Rattle.blob_source.specs.Sink.{HasRight, KeepsRight};
@@ -6,11 +7,14 @@ ghost use Rattle.plan.specs.Plan.{IsPlan};
 ghost use Rattle.runs.specs.Engine.{EngineValue, IsEngine, JobValue, finished_in, job_in};
 ghost use Rattle.runs.specs.Calls.{IsFinished};
 ghost use Rattle.worker.specs.Layout.{IsLayoutOf};
-ghost use Rattle.worker.specs.Stores.{IsKept, IsKeptBut};
-ghost use Rattle.worker.specs.Outcomes.{IsWithin, HasAllRight, IsHeld};
+ghost use Rattle.tree.specs.Memo.{known_by};
+ghost use Rattle.worker.specs.Stores.{IsKept, IsKeptBut, KnowsBlobs};
+ghost use Rattle.worker.specs.Outcomes.{YieldsNoMore, HasAllRight, IsHeld};
 ghost use Rattle.worker.specs.Values.{LayoutValue, ProducedValue, blobs_of};
 ghost use Rattle.worker.specs.Calls.{IsStartable};
-ghost use Rattle.worker.specs.Going.{AreJobsOf, IsJobOf, IsJobIn, job_value, IsBegun, IsRefused, IsLaunched, HasEndedFirst, EndsWell, Ends, IsTurn, IsGoing, turns_left};
+ghost use Rattle.worker.specs.Going.{AreJobsOf, IsJobOf, IsJobIn, job_value, IsBegun};
+ghost use Rattle.worker.specs.Going.{CameToNothing, IsLaunched, HasEndedFirst, EndsWell, Ends};
+ghost use Rattle.worker.specs.Going.{IsTurn, IsGoing, turns_left};
 
 use crate::error::{BuildError, Refusal};
 use crate::laying_out::layout;
@@ -21,7 +25,7 @@ use messages::{MessageError, Tree};
 use runs::{Engine, Job};
 use std::alloc::Allocator;
 use std::collections::VecDeque;
-use tree::{BlobSink, TreeError};
+use tree::{BlobSink, Memo, TreeError};
 
 /// A child that runs.
 #[derive(Drop)]
@@ -220,7 +224,7 @@ fn start_child<A: Allocator + Copy, S: BlobSink<A>, N: Runner<A>>(
     ensures owed { IfOk result (λ child. (l : LayoutValue)
         × IsLayoutOf (S.tells sink.new).blobs job.now.action.input l
         × ((p : ProducedValue) → N.may_give child p → N.yields runner.old l job.now.command p)) }
-    ensures same { IsWithin (N.yields runner.new) (N.yields runner.old) }
+    ensures same { YieldsNoMore (N.yields runner.new) (N.yields runner.old) }
     ensures opened { OnOk result (N.alive runner.new ≡ N.alive runner.old + 1) }
     ensures unopened { OnErr result (N.alive runner.new ≡ N.alive runner.old) }
 {
@@ -241,10 +245,11 @@ fn launch<A: Allocator + Copy, S: BlobSink<A>, N: Runner<A>>(
     requires { IsJobIn engine.old job.now }
     ensures kept { IsKept (S.tells sink.old) (S.tells sink.new) }
     ensures launched { OnOk result (IsLaunched (N.yields runner.old) N.may_give (S.tells sink.new)
-        job.now.id (job_value job.now) engine.old engine.new children.old.items children.new.items) }
+        job.now.id
+        (job_value job.now) engine.old engine.new children.old.items children.new.items) }
     ensures unchanged { OnErr result (engine.new ≡ engine.old) }
     ensures same { OnErr result (children.new.items ≡ children.old.items) }
-    ensures within { IsWithin (N.yields runner.new) (N.yields runner.old) }
+    ensures within { YieldsNoMore (N.yields runner.new) (N.yields runner.old) }
     ensures alive { N.alive runner.new + length children.old.items
         ≡ N.alive runner.old + length children.new.items }
 {
@@ -271,21 +276,24 @@ pub(crate) fn begin<A: Allocator + Copy, S: BlobSink<A>, N: Runner<A>>(
     engine: &mut Engine<A>,
     sink: &mut S,
     runner: &mut N,
+    memo: &mut Memo<A>,
     children: &mut VecDeque<Child<N::Job>, A>,
     step: usize,
 ) -> Result<(), BuildError<A>>
-    requires { step < length engine.old.plan.steps }
+    requires within { step < length engine.old.plan.steps }
+    requires knows { KnowsBlobs (known_by memo.old) (S.tells sink.old).blobs }
+    ensures knows { KnowsBlobs (known_by memo.new) (S.tells sink.new).blobs }
     ensures kept { IsKept (S.tells sink.old) (S.tells sink.new) }
     ensures begun { OnOk result (IsBegun A (N.yields runner.old) N.may_give (S.tells sink.new) step
         engine.old engine.new children.old.items children.new.items) }
     ensures refused { OnErr result
-        (IsRefused A (S.tells sink.new).blobs step engine.old engine.new) }
+        (CameToNothing A (S.tells sink.new).blobs step engine.old engine.new) }
     ensures same { OnErr result (children.new.items ≡ children.old.items) }
-    ensures within { IsWithin (N.yields runner.new) (N.yields runner.old) }
+    ensures within { YieldsNoMore (N.yields runner.new) (N.yields runner.old) }
     ensures alive { N.alive runner.new + length children.old.items
         ≡ N.alive runner.old + length children.new.items }
 {
-    let job = match engine.start(alloc, step, sink) {
+    let job = match engine.start(alloc, step, memo, sink) {
         Ok(job) => job,
         Err(error) => {
             return Err(BuildError {
@@ -313,7 +321,7 @@ fn collect<A: Allocator + Copy, S: BlobSink<A>, N: Runner<A>>(
     ensures kept { IsKept (S.tells sink.old) (S.tells sink.new) }
     ensures gave { IfOk result (λ v. (p : ProducedValue) × N.may_give job p × (v ≡ p.outcome)
         × HasAllRight (S.tells sink.new).blobs p.blobs) }
-    ensures within { IsWithin (N.yields runner.new) (N.yields runner.old) }
+    ensures within { YieldsNoMore (N.yields runner.new) (N.yields runner.old) }
     ensures closed { N.alive runner.new ≡ N.alive runner.old - 1 }
 {
     let Produced { outcome, blobs } = runner.finish(alloc, job)?;
@@ -334,7 +342,7 @@ fn take<A: Allocator + Copy, S: BlobSink<A>, N: Runner<A>>(
     ensures ended { OnOk result
         (EndsWell N.may_give (S.tells sink.old) (S.tells sink.new) child engine.old engine.new) }
     ensures unchanged { OnErr result (engine.new ≡ engine.old) }
-    ensures within { IsWithin (N.yields runner.new) (N.yields runner.old) }
+    ensures within { YieldsNoMore (N.yields runner.new) (N.yields runner.old) }
     ensures closed { N.alive runner.new ≡ N.alive runner.old - 1 }
 {
     let Child { id, job, .. } = child;
@@ -372,7 +380,7 @@ fn settle<A: Allocator + Copy, S: BlobSink<A>, N: Runner<A>>(
         (EndsWell N.may_give (S.tells sink.old) (S.tells sink.new) child engine.old engine.new) }
     ensures refused { OnErr result
         (Ends N.may_give (S.tells sink.old) (S.tells sink.new) child engine.old engine.new) }
-    ensures within { IsWithin (N.yields runner.new) (N.yields runner.old) }
+    ensures within { YieldsNoMore (N.yields runner.new) (N.yields runner.old) }
     ensures closed { N.alive runner.new ≡ N.alive runner.old - 1 }
 {
     let _ = engine.plan();
@@ -404,7 +412,7 @@ pub(crate) fn finish_first<A: Allocator + Copy, S: BlobSink<A>, N: Runner<A>>(
     ensures refused { OnErr result (HasEndedFirst
         (Ends N.may_give (S.tells sink.old) (S.tells sink.new))
         engine.old engine.new children.old.items children.new.items) }
-    ensures within { IsWithin (N.yields runner.new) (N.yields runner.old) }
+    ensures within { YieldsNoMore (N.yields runner.new) (N.yields runner.old) }
     ensures closed { N.alive runner.new ≡ N.alive runner.old - 1 }
 {
     let Some(child) = children.pop_front() else {
@@ -423,29 +431,32 @@ pub(crate) fn take_turn<A: Allocator + Copy, S: BlobSink<A>, N: Runner<A>>(
     engine: &mut Engine<A>,
     sink: &mut S,
     runner: &mut N,
+    memo: &mut Memo<A>,
     children: &mut VecDeque<Child<N::Job>, A>,
     turn: Turn,
 ) -> Result<(), BuildError<A>>
+    requires knows { KnowsBlobs (known_by memo.old) (S.tells sink.old).blobs }
     requires can { (most : ℕ) × IsTurn most engine.old children.old.items turn }
     requires there { AreJobsOf IsJobOf engine.old.jobs children.old.items }
     requires alive { length children.old.items ≤ N.alive runner.old }
     ensures going { (entry : N) (most : ℕ) (first : EngineValue)
-        → IsWithin (N.yields runner.old) (N.yields entry)
+        → YieldsNoMore (N.yields runner.old) (N.yields entry)
         → IsTurn most engine.old children.old.items turn
         → IsGoing A (N.yields entry) N.may_give (S.tells sink.old) most first
         engine.old children.old.items
         → IsGoing A (N.yields entry) N.may_give (S.tells sink.new) most first
         engine.new children.new.items }
+    ensures knows { KnowsBlobs (known_by memo.new) (S.tells sink.new).blobs }
     ensures fewer { OnOk result
         (turns_left engine.new children.new.items < turns_left engine.old children.old.items) }
     ensures right { KeepsRight (S.tells sink.old).blobs (S.tells sink.new).blobs }
-    ensures within { IsWithin (N.yields runner.new) (N.yields runner.old) }
+    ensures within { YieldsNoMore (N.yields runner.new) (N.yields runner.old) }
     ensures alive { N.alive runner.new + length children.old.items
         ≡ N.alive runner.old + length children.new.items }
 {
     let _ = engine.plan();
     match turn {
-        Turn::Start(step) => begin(alloc, engine, sink, runner, children, step),
+        Turn::Start(step) => begin(alloc, engine, sink, runner, memo, children, step),
         Turn::Finish => finish_first(alloc, engine, sink, runner, children),
     }
 }

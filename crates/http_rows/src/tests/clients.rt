@@ -11,7 +11,8 @@ use std::io;
 use std::test::Fail;
 
 /// A stream in memory that gives and takes at most so many bytes at once, and of which the call of
-/// this number fails; none where it is 0. What comes once it is opened anew, and whether it is open.
+/// this number fails; none where it is 0. What comes once it is opened anew, and whether it is
+/// open.
 #[derive(Drop)]
 struct Failing {
     inner: MemoryStream<Global>,

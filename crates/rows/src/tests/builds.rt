@@ -9,7 +9,7 @@ use refusing::Refusing;
 use runs::{Engine, OpenError, RunsError};
 use std::alloc::{AllocError, Allocator, Global};
 use std::test::Fail;
-use tree::{BlobSource, MemorySource, TreeError};
+use tree::{BlobSource, Memo, MemorySource, TreeError};
 
 /// What stands for the hash of each blob below, by Python's `hashlib`.
 static NAMES: [(&str, &str); 14] = [

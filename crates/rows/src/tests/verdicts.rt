@@ -8,8 +8,8 @@ use std::alloc::{AllocError, AllocFailed, Allocator};
 use tree::MemorySource;
 use verifier::{Cause, Verdict, VerifyError, verify};
 
-/// A Directory with one file, `a`, whose content is the bytes `123456789`: as protoc encodes it, with
-/// the hash that `sha256sum` prints.
+/// A Directory with one file, `a`, whose content is the bytes `123456789`: as protoc encodes it,
+/// with the hash that `sha256sum` prints.
 const SOURCES: &[u8] =
     b"\x0a\x49\x0a\x01a\x12\x44\x0a\x4015e2b0d3c33891ebb0f1ef609ec419420c20e320ce94c65fbc8c3312448eb225\x10\x09";
 

@@ -4,7 +4,7 @@ ghost use Rattle.blob_source.specs.Called.{Calls};
 ghost use Rattle.tree.specs.Form.{node_value};
 ghost use Rattle.tree.specs.Lookup.{Looks, TellsOfTrees, found, nothing, names_in, looked};
 ghost use Rattle.tree.specs.LooksAt.{OnWay};
-ghost use Rattle.tree.specs.Memo.{IsKnownOf, IsRefused, Learns, known_by};
+ghost use Rattle.tree.specs.Memo.{IsKnownOf, WasRefused, Learns, known_by};
 ghost use Rattle.tree.specs.TreeError.{ExplainsLookup, IsAbsent};
 
 use super::Memo;
@@ -37,7 +37,7 @@ impl<A: Allocator + Copy> Memo<A> {
         ensures called { Calls (Asks (length (names_in (option_map (λ p. p.now) path.entry))))
             (S.tells source.old) (S.tells source.new) (IsErrOf result TreeError.Fetch) }
         ensures learned { Learns (OnWay (S.tells source.new).blobs root.now
-            (names_in (option_map (λ p. p.now) path.entry))) (IsRefused result)
+            (names_in (option_map (λ p. p.now) path.entry))) (WasRefused result)
             (known_by self.old) (known_by self.new) (S.tells source.old) (S.tells source.new) }
     {
         match path {
@@ -61,7 +61,7 @@ impl<A: Allocator + Copy> Memo<A> {
         ensures called { Calls (Asks (length path.now)) (S.tells source.old) (S.tells source.new)
             (IsErrOf result TreeError.Fetch) }
         ensures learned { Learns (OnWay (S.tells source.new).blobs root.now path.now)
-            (IsRefused result) (known_by self.old) (known_by self.new)
+            (WasRefused result) (known_by self.old) (known_by self.new)
             (S.tells source.old) (S.tells source.new) }
     {
         let names = path.to_names(alloc)?;
@@ -87,7 +87,7 @@ impl<A: Allocator + Copy> Memo<A> {
         ensures called { Calls (Asks (length names.now)) (S.tells source.old) (S.tells source.new)
             (IsErrOf result TreeError.Fetch) }
         ensures learned { Learns (OnWay (S.tells source.new).blobs root.now names.now)
-            (IsRefused result) (known_by self.old) (known_by self.new)
+            (WasRefused result) (known_by self.old) (known_by self.new)
             (S.tells source.old) (S.tells source.new) }
     {
         let mut node = Node::Dir(*root);

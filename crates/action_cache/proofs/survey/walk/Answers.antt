@@ -1,7 +1,7 @@
 use Rattle.std.proofs.Common.{◌≡◌, List, [], Some, is_some, unwrap_or, ap, sym, subst, ◌∙◌}
 use Rattle.blob_store.specs.Blobs.{found_in}
 use Rattle.action_cache.specs.References.{Reference, references_by, references, first_fault_by, first_fault, outputs_of}
-use Rattle.action_cache.specs.Reading.{by_messages, outputs_in}
+use Rattle.action_cache.specs.Reading.{by_messages, references_in}
 use Rattle.action_cache.specs.Survey.{AreKnown, AreOnce, known}
 use Rattle.action_cache.proofs.Learned.{known_references, known_first_fault}
 use Rattle.action_cache.proofs.survey.walk.Goals as goal
@@ -12,7 +12,7 @@ returns g c =
     let b = c.args.bytes.now in
     let rs : List Reference = c.in-Some.outputs.items in
     let trees = c.in_ok-trees.trees in
-    let outs : outputs_in b ≡ Some rs = sym (rw c.in-Some.is at c.in_ok-outputs.ensures) in
+    let outs : references_in b ≡ Some rs = sym (rw c.in-Some.is at c.in_ok-outputs.ensures) in
     let at : outputs_of by_messages b ≡ rs = ap (λ o. unwrap_or o []) outs in
     let read : AreKnown trees found rs = subst (AreKnown trees found) c.deref.ensures.value c.in_ok-trees.ensures in
     let refs : c.in_ok-references.references.items ≡ references found by_messages (outputs_of by_messages b) =

@@ -3,7 +3,7 @@ use Rattle.std.specs.Int.{w32}
 use Rattle.std.proofs.lemmas.Int.{to_z-of_z}
 use Rattle.action_messages.specs.ActionResult.{ActionResultValue, IsActionResult}
 use Rattle.action_messages.specs.Overlaps.{ArePathsApart}
-use Rattle.action_messages.specs.Unordered.{IsOrdered, AreOutputsLawful, output_paths}
+use Rattle.action_messages.specs.Unordered.{IsOrderingOf, AreOutputsLawful, output_paths}
 use Rattle.action_messages.proofs.Decoding.{IsSortedResult, ordered_made, overlapping}
 use Rattle.action_messages.proofs.action_result.ordered.Goals as goal
 
@@ -26,7 +26,7 @@ returns-in-Ok-clause-found g c =
       stdout = c.read.inside.stdout;
       stderr = c.read.inside.stderr;
     } in
-    let o : IsOrdered u s = record {
+    let o : IsOrderingOf u s = record {
       files = c.sort_by_path.ensures.same;
       directories = c.sort_by_path-2.ensures.same;
       symlinks = c.sort_by_path-3.ensures.same;
@@ -34,7 +34,7 @@ returns-in-Ok-clause-found g c =
       stdout = refl;
       stderr = refl;
     } in
-    subst (λ (x : ActionResultValue). IsActionResult c.in-Ok.result × IsOrdered x c.in-Ok.result) c.read.view_is (ordered_made u s c.in-Ok.result o (rw code at c.in-Ok.ensures.exact) c.in-Ok.ensures.lawful)
+    subst (λ (x : ActionResultValue). IsActionResult c.in-Ok.result × IsOrderingOf x c.in-Ok.result) c.read.view_is (ordered_made u s c.in-Ok.result o (rw code at c.in-Ok.ensures.exact) c.in-Ok.ensures.lawful)
 
 pub returns-in-Err-clause-refused : goal.returns-in-Err-clause-refused
 returns-in-Err-clause-refused g c =
@@ -55,7 +55,7 @@ returns-in-Err-clause-refused g c =
       stdout = c.read.inside.stdout;
       stderr = c.read.inside.stderr;
     } in
-    let o : IsOrdered u s = record {
+    let o : IsOrderingOf u s = record {
       files = c.sort_by_path.ensures.same;
       directories = c.sort_by_path-2.ensures.same;
       symlinks = c.sort_by_path-3.ensures.same;

@@ -10,7 +10,8 @@ pub fn meaning(letter: u8) -> &'static [u8] {
         // The hash of the Tree below, and one under which results are put.
         b't' => b"b702720dfa91251d7827a7c362e98aec2fbb92800b4cd6d796eb0b8b84a40cb7",
         b'k' => b"0000000000000000000000000000000000000000000000000000000000000000",
-        // A Tree of a directory with the file `a`, a result with that Tree, and one with the file `f`.
+        // A Tree of a directory with the file `a`, a result with that Tree, and one with the file
+        // `f`.
         b'T' =>
             b"\x0a\x4b\x0a\x49\x0a\x01a\x12\x44\x0a\x4015e2b0d3c33891ebb0f1ef609ec419420c20e320ce94c65fbc8c3312448eb225\x10\x09",
         b'D' =>

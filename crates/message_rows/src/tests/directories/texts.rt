@@ -37,7 +37,8 @@ fn texts(rt: HostRuntime) -> Result<(), Fail> {
     Ok(())
 }
 
-/// Two paths: whether the first lies under the second, whether they overlap, and their order as text.
+/// Two paths: whether the first lies under the second, whether they overlap, and their order as
+/// text.
 static PAIRS: [(&str, &str, bool, bool, Ordering); 6] = [
     ("a/x", "a", true, true, Ordering::Greater),
     ("a", "a/x", false, true, Ordering::Less),

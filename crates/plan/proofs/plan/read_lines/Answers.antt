@@ -4,7 +4,7 @@ use Rattle.std.proofs.lemmas.Slice.Eq.{starts_is}
 use Rattle.plan.specs.Line.{line_text, Begins}
 use Rattle.plan.specs.Lines.{in_words}
 use Rattle.plan.specs.Plan.{AreLines, lines_text}
-use Rattle.plan.specs.Targets.{Takes}
+use Rattle.plan.specs.Targets.{TakesTarget}
 use Rattle.plan.specs.Values.{LineValue, IsLine}
 use Rattle.plan.proofs.Directories.{AreTargets, named, form_fault, many_fault, overlap_fault, lines_more, text_more, targets_more, free_of_lines}
 use Rattle.plan.proofs.plan.read_lines.Goals as goal
@@ -36,8 +36,8 @@ loop-alloc-preserved g c =
     let first : IsLine (length c.args.steps.now) c.in-Ok.read.0 × (c.loop-alloc.rest.now ≡ line_text (in_words c.args.steps.now c.in-Ok.read.0) ++ c.in-Ok.read.1.now) = rw c.in-Ok.is at (c.in_ok-read.ensures {u = tt}) in
     let room : length c.loop-alloc.lines.items ≢ 65536 = λ e. c.if-len-eq-MOST_LINES.false (omega (arith, e, c.len-in-loop-alloc.ensures, c.loop-alloc.lines.ok)) in
     let at : c.line.inside.target ≡ c.in-Ok.read.0.target = ap (λ (l : LineValue). l.target) c.line.view_is in
-    let took : Takes true c.line.inside.target c.loop-alloc.targets c.insert.new.self = subst (λ (t : Bool). Takes t c.line.inside.target c.loop-alloc.targets c.insert.new.self) c.if-not-branch.false c.in_ok-insert.ensures.takes in
-    let takes : Takes true c.in-Ok.read.0.target c.loop-alloc.targets c.insert.new.self = subst (λ (p : List (List ℕ)). Takes true p c.loop-alloc.targets c.insert.new.self) at took in
+    let took : TakesTarget true c.line.inside.target c.loop-alloc.targets c.insert.new.self = subst (λ (t : Bool). TakesTarget t c.line.inside.target c.loop-alloc.targets c.insert.new.self) c.if-not-branch.false c.in_ok-insert.ensures.takes in
+    let takes : TakesTarget true c.in-Ok.read.0.target c.loop-alloc.targets c.insert.new.self = subst (λ (p : List (List ℕ)). TakesTarget true p c.loop-alloc.targets c.insert.new.self) at took in
     let pushed = c.in_ok-push.ensures.items in
     let free = free_of_lines c.loop-alloc.targets c.loop-alloc.lines.items c.in-Ok.read.0.target c.loop-alloc.invariant.targets takes.0 in
     record {

@@ -1,3 +1,5 @@
+ghost use Rattle.tree.specs.Memo.{IsKnownOf, known_by};
+
 use super::*;
 
 /// What a job came to.
@@ -327,7 +329,8 @@ fn start_shown<A: Allocator + Copy>(
     if step >= engine.plan().steps().len() {
         return Ok(Some(String::from_str(global, "no such step")?));
     }
-    match engine.start(alloc, step, source) {
+    let mut memo = Memo::new(alloc);
+    match engine.start(alloc, step, &mut memo, source) {
         Err(error) => Ok(refusal_shown(global, error)?),
         Ok(job) => {
             let id = job.id;
@@ -347,6 +350,22 @@ fn ended_shown<A: Allocator>(
     }
 }
 
+fn root_shown<A: Allocator + Copy>(
+    global: Global,
+    alloc: A,
+    engine: &Engine<A>,
+    source: &mut MemorySource<A>,
+) -> Result<Option<String>, Fail> {
+    let mut memo = Memo::new(alloc);
+    match engine.root(alloc, &mut memo, source) {
+        Err(error) => Ok(refusal_shown(global, error)?),
+        Ok(root) => {
+            let digest = root.write_text(global)?;
+            Ok(Some(format!(in global; "root {digest}")?))
+        }
+    }
+}
+
 /// What the engine answers to a call, in which `outcome` is what a job came to; nothing for want of
 /// memory.
 fn answered<A: Allocator + Copy>(
@@ -362,13 +381,7 @@ fn answered<A: Allocator + Copy>(
         Call::Finish(id, _) => Ok(ended_shown(global, engine.finish(alloc, id, outcome))?),
         Call::Lose(id) => Ok(ended_shown(global, engine.lose(id))?),
         Call::Record => record_shown(global, alloc, engine),
-        Call::Root => match engine.root(alloc, source) {
-            Err(error) => Ok(refusal_shown(global, error)?),
-            Ok(root) => {
-                let digest = root.write_text(global)?;
-                Ok(Some(format!(in global; "root {digest}")?))
-            }
-        },
+        Call::Root => root_shown(global, alloc, engine, source),
         Call::Ready(step) | Call::Finished(step) | Call::Running(step) | Call::Result(step) => {
             asked(global, alloc, engine, call, step)
         }
@@ -470,5 +483,49 @@ fn jobs_up_to_the_limit(rt: HostRuntime) -> Result<(), Fail> {
     assert!(rt; is_text(&shown, "109"));
     let shown = asked(alloc, alloc, &engine, Call::Running(0), 0)?;
     assert!(rt; is_text(&shown, "4096"));
+    Ok(())
+}
+
+/// Whether the step has started, over what the memo knows.
+fn has_started<A: Allocator + Copy, S: BlobSource<A>>(
+    alloc: A,
+    engine: &mut Engine<A>,
+    step: usize,
+    memo: &mut Memo<A>,
+    source: &mut S,
+) -> bool
+    requires { IsKnownOf (known_by memo.old) (S.tells source.old) }
+    ensures { IsKnownOf (known_by memo.new) (S.tells source.new) }
+{
+    if step >= engine.plan().steps().len() {
+        return false;
+    }
+    engine.start(alloc, step, memo, source).is_ok()
+}
+
+/// A Directory of the sources is asked for once by starts over one memo, and again over another.
+#[test]
+fn starts_over_one_memo(rt: HostRuntime) -> Result<(), Fail> {
+    let alloc = rt.alloc();
+    let plan = spelled(alloc, READS_SOURCES)?;
+    let Ok(plan) = Plan::read(alloc, plan.as_bytes()) else {
+        return Err(Fail::from(AllocError));
+    };
+    let directory = spelled(alloc, "\x0a\x49\x0a\x01a\x12\x44\x0a\x40NINE\x10\x09")?;
+    let sources = Digest::of(directory.as_bytes());
+    let mut source = source_without(alloc, alloc, "")?;
+    source.hold_blob(sources, Vec::from_slice(alloc, directory.as_bytes())?)?;
+    let Ok(mut engine) = Engine::new(alloc, plan, sources, &mut source) else {
+        return Err(Fail::from(AllocError));
+    };
+    let calls = source.calls();
+    let mut memo = Memo::new(alloc);
+    assert!(rt; has_started(alloc, &mut engine, 0, &mut memo, &mut source));
+    assert_eq!(rt; source.calls(), calls.saturating_add(1));
+    assert!(rt; has_started(alloc, &mut engine, 0, &mut memo, &mut source));
+    assert_eq!(rt; source.calls(), calls.saturating_add(1));
+    let mut other = Memo::new(alloc);
+    assert!(rt; has_started(alloc, &mut engine, 0, &mut other, &mut source));
+    assert_eq!(rt; source.calls(), calls.saturating_add(2));
     Ok(())
 }

@@ -8,7 +8,7 @@ use Rattle.runs.proofs.Meanings.{frame_still}
 use Rattle.blob_source.proofs.Asking.{ok_no_error}
 use Rattle.blob_source.proofs.Calling.{called_no}
 use Rattle.runs.proofs.Fetching.{opening_ok, opening_exit}
-use Rattle.runs.specs.Calls.{IsUnread}
+use Rattle.runs.specs.Calls.{IsUntold}
 use Rattle.runs.proofs.opening.read_step.Goals as goal
 
 pub returns-in_err-command-clause-faulty : goal.returns-in_err-command-clause-faulty
@@ -18,7 +18,7 @@ returns-in_err-command-clause-faulty g c =
     rw (p.1, p.2) (inr (
       c.in_ok-frame.frame,
       frame_still (g.S.BlobSource.tells c.read_message.new.source).blobs (g.S.BlobSource.tells c.read_message-2.new.source).blobs c.args.step.now.frame c.in_ok-frame.frame c.read_message-2.ensures.called.asked.asks.blobs (subst (λ (s : StepValue). IsTold IsFrame frame_bytes (g.S.BlobSource.tells c.read_message.new.source).blobs s.frame c.in_ok-frame.frame) c.step.view_is c.in_ok-frame.ensures.told),
-      inr (search rules, subst (λ d. IsUnread c.args.number (IsFault IsCommand command_bytes tells.blobs d) c.in_err-command.field-0.0) c.command_digest.ensures.value c.in_err-command.ensures.faulty),
+      inr (search rules, subst (λ d. IsUntold c.args.number (IsFault IsCommand command_bytes tells.blobs d) c.in_err-command.field-0.0) c.command_digest.ensures.value c.in_err-command.ensures.faulty),
     ))
 
 pub returns-in_err-command-clause-called : goal.returns-in_err-command-clause-called

@@ -2,7 +2,7 @@ use Rattle.std.proofs.Common.{◌≡◌, subst, sym}
 use Rattle.std.proofs.lemmas.Result.{IfErr-weaker}
 use Rattle.plan.specs.Record.{Fits, names_of}
 use Rattle.tree.specs.Memo.{Covers}
-use Rattle.text_verifier.specs.Answered.{LooksAt}
+use Rattle.text_verifier.specs.Answered.{AnswerLooksAt}
 use Rattle.text_verifier.specs.Refused.{FailsTexts, IsNoFault}
 use Rattle.text_verifier.specs.Texts.{HasTexts, question_of}
 use Rattle.text_verifier.proofs.Questions.{answered_claim, answered_sources, one_question, unasked_exit}
@@ -39,4 +39,4 @@ returns-clause-few g c question list texts covers =
     let noted : c.in_ok-noted.noted ≡ question.noted = c.in_ok-noted.ensures.only question.noted texts.noted_is.lawful fits texts.noted_is.text_is in
     let same = one_question question digests.sources digests.claim c.in_ok-plan.plan c.in_ok-noted.noted
     (answered_sources digests question.sources question.claim given) (answered_claim digests question.sources question.claim given) plan noted in
-    c.answer_question.ensures.few list (subst (λ q. Covers (LooksAt g.row.A.Denot told q) list) (sym same) covers)
+    c.answer_question.ensures.few list (subst (λ q. Covers (AnswerLooksAt g.row.A.Denot told q) list) (sym same) covers)

@@ -2,7 +2,7 @@
 use Rattle.std.proofs.Common.{ap, sym, ◌∙◌, subst, inl, inr}
 use Rattle.blob_source.specs.Told.{TellsDirectory, FailsDirectory}
 use Rattle.tree.specs.Comparing.{encodings_in}
-use Rattle.tree.specs.Difference.{IsFirstOf, Reads, FailsToRead}
+use Rattle.tree.specs.Difference.{IsFirstOf, ReadsDirectory, FailsToRead}
 use Rattle.tree.specs.TreeError.{Explains}
 use Rattle.tree.proofs.OwnDirectories.{none_of, first_of, encoding_at, ok_more, err_more, explains_more, no_refusal}
 use Rattle.tree.proofs.Learning.{learns_more, learns_none}
@@ -12,7 +12,7 @@ use Rattle.tree.proofs.comparing.read_directory.Goals as goal
 pub returns-in_default-clause-told : goal.returns-in_default-clause-told
 returns-in_default-clause-told g c =
     let none = none_of (encodings_in c.args.own.now) c.args.own.now.digests.now c.args.digest.now c.requires.own.digests c.in_default.ensures in
-    ok_more (TellsDirectory _ c.args.digest.now) (Reads (encodings_in c.args.own.now) _ c.args.digest.now) c.message.result (λ m h. inr (none, h)) c.message.ensures.told
+    ok_more (TellsDirectory _ c.args.digest.now) (ReadsDirectory (encodings_in c.args.own.now) _ c.args.digest.now) c.message.result (λ m h. inr (none, h)) c.message.ensures.told
 
 pub returns-in_default-clause-faulty : goal.returns-in_default-clause-faulty
 returns-in_default-clause-faulty g c =

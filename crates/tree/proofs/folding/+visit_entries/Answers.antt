@@ -7,7 +7,7 @@ use Rattle.tree.specs.declared.visiting.Line.{Line}
 use Rattle.tree.specs.Tree.{Name, Standing, a_leaf, a_directory}
 use Rattle.tree.specs.Form.{NodeValue}
 use Rattle.tree.specs.FlatTree.{entry_value, IsListOf}
-use Rattle.tree.specs.Visiting.{led, line_entries, directory_in, tops_in}
+use Rattle.tree.specs.Visiting.{led, line_entries, children_directory, tops_in}
 use Rattle.tree.proofs.Sorted.{length_led}
 use Rattle.tree.proofs.FoldSteps.{Lists, lists_first, lists_same, lists_rest, lists_leaf, lists_folder, listed_below, no_root, entries_length, visit_of_list}
 use Rattle.tree.proofs.VisitSteps.{line_at, drop_line, drop_all, no_names, led_values, rest_of}
@@ -31,8 +31,8 @@ loop-start-preserved-in_ok-push_file-in-File g t c =
     let pushed = c.in_ok-push_file-in-File.ensures {u = tt} in
     record {
       within = omega (arith, c.loop-start-test.true);
-      lists = lists_same pushed.directory pushed.tops (lists_leaf (directory_in c.loop-start.children) (tops_in c.loop-start.children) c.in-Some.name.now c.in-Some.field-0-1.now _ (drop (k + 1) all) all
-          (subst (λ r. Lists (directory_in c.loop-start.children) (tops_in c.loop-start.children) r all) seen c.loop-start.invariant.lists));
+      lists = lists_same pushed.directory pushed.tops (lists_leaf (children_directory c.loop-start.children) (tops_in c.loop-start.children) c.in-Some.name.now c.in-Some.field-0-1.now _ (drop (k + 1) all) all
+          (subst (λ r. Lists (children_directory c.loop-start.children) (tops_in c.loop-start.children) r all) seen c.loop-start.invariant.lists));
     }
 
 pub loop-start-preserved-in_ok-push_symlink-in-Link :
@@ -47,8 +47,8 @@ loop-start-preserved-in_ok-push_symlink-in-Link g t c =
     let pushed = c.in_ok-push_symlink-in-Link.ensures {u = tt} in
     record {
       within = omega (arith, c.loop-start-test.true);
-      lists = lists_same pushed.directory pushed.tops (lists_leaf (directory_in c.loop-start.children) (tops_in c.loop-start.children) c.in-Some.name.now c.in-Some.field-0-1.now _ (drop (k + 1) all) all
-          (subst (λ r. Lists (directory_in c.loop-start.children) (tops_in c.loop-start.children) r all) seen c.loop-start.invariant.lists));
+      lists = lists_same pushed.directory pushed.tops (lists_leaf (children_directory c.loop-start.children) (tops_in c.loop-start.children) c.in-Some.name.now c.in-Some.field-0-1.now _ (drop (k + 1) all) all
+          (subst (λ r. Lists (children_directory c.loop-start.children) (tops_in c.loop-start.children) r all) seen c.loop-start.invariant.lists));
     }
 
 pub visit_entries-requires : goal.visit_entries-requires
@@ -91,8 +91,8 @@ loop-start-preserved-in-Dir g t c =
     let taken : length under ≡ c.len.result = omega (arith, a, c.len.ensures, c.deref.ensures.len) in
     let pushed = c.in_ok-push_folder-in-Dir.ensures {u = tt} in
     let visit = c.in_ok-visit_entries-in-Dir.ensures {u = tt} in
-    let more = lists_folder (directory_in c.loop-start.children) (tops_in c.loop-start.children) _ _ n c.in-Some.field-0-1.now (drop (k + 1) all) all under
-    (subst (λ r. Lists (directory_in c.loop-start.children) (tops_in c.loop-start.children) r all) seen c.loop-start.invariant.lists) led_is (λ u at. ((visit u at).root, (visit u at).encodings)) in
+    let more = lists_folder (children_directory c.loop-start.children) (tops_in c.loop-start.children) _ _ n c.in-Some.field-0-1.now (drop (k + 1) all) all under
+    (subst (λ r. Lists (children_directory c.loop-start.children) (tops_in c.loop-start.children) r all) seen c.loop-start.invariant.lists) led_is (λ u at. ((visit u at).root, (visit u at).encodings)) in
     record {
       within = omega (arith, few, count, a, b, rest, taken, c.loop-start-test.true);
       lists = lists_same pushed.directory pushed.tops (lists_rest (drop-drop (length under) (k + 1) all ∙ ap (λ j. drop (k + 1 + j) all) taken) more);
@@ -114,5 +114,5 @@ returns g t c =
     let all = line_entries c.args.entries.now in
     let value : Line _ (FlatEntry _) → List Name × Standing NodeValue = λ l. (l.names.now, entry_value l.item.now) in
     let none = drop_all value c.loop-start.start c.args.entries.now (omega (arith, c.loop-start-test.false)) in
-    visit_of_list c.close.result all (directory_in c.loop-start.children) (tops_in c.loop-start.children) (subst (λ r. Lists (directory_in c.loop-start.children) (tops_in c.loop-start.children) r all) none c.loop-start.invariant.lists)
+    visit_of_list c.close.result all (children_directory c.loop-start.children) (tops_in c.loop-start.children) (subst (λ r. Lists (children_directory c.loop-start.children) (tops_in c.loop-start.children) r all) none c.loop-start.invariant.lists)
     c.close.ensures.root c.close.ensures.tops

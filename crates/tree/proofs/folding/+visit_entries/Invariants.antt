@@ -1,5 +1,5 @@
 use Rattle.std.proofs.Common.{◌≤◌, ◌-◌, length, drop}
-use Rattle.tree.specs.Visiting.{line_entries, directory_in, tops_in}
+use Rattle.tree.specs.Visiting.{line_entries, children_directory, tops_in}
 use Rattle.tree.proofs.FoldSteps.{Lists}
 use Rattle.tree.proofs.folding.+visit_entries.Given as goal
 
@@ -9,7 +9,7 @@ decreases-visit_entries g l = length l.entries.now
 abbrev pub invariant-loop-start : goal.invariant-loop-start
 invariant-loop-start g l = record {
   within : l.start ≤ length l.entries;
-  lists : Lists (directory_in l.children) (tops_in l.children) (drop l.start (line_entries l.entries)) (line_entries l.entries);
+  lists : Lists (children_directory l.children) (tops_in l.children) (drop l.start (line_entries l.entries)) (line_entries l.entries);
 }
 
 abbrev pub decreases-loop-start : goal.decreases-loop-start

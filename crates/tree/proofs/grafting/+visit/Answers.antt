@@ -2,7 +2,7 @@
 use Rattle.std.proofs.Common.{◌≡◌, ◌+◌, [], ◌∷◌, length, drop, sym, ap, subst, refl, ◌∙◌, arith}
 use Rattle.std.proofs.lemmas.List.{drop-map, length-drop}
 use Rattle.tree.specs.Form.{node_value}
-use Rattle.tree.specs.Visiting.{led, line_values, directory_in, tops_in}
+use Rattle.tree.specs.Visiting.{led, line_values, children_directory, tops_in}
 use Rattle.tree.proofs.VisitSteps.{Makes, makes_first, makes_leaf, makes_at, makes_same, makes_end, folds_at, line_at, no_names, no_line, rest_of, drop_all, visit_of, values_length, led_values}
 use Rattle.tree.proofs.grafting.+visit.Goals as goal
 
@@ -28,8 +28,8 @@ loop-start-preserved-then-this-lt1 g t c =
     let pushed = c.in_ok-push-in-Some-default-empty.ensures {u = tt} in
     record {
       within = omega (arith, c.loop-start-test.true);
-      makes = makes_same pushed.directory pushed.tops (makes_leaf (directory_in c.loop-start.children) (tops_in c.loop-start.children) c.in-Some-default-empty.name.now (node_value line.item.now) (drop (k + 1) all) all
-          (subst (λ r. Makes (directory_in c.loop-start.children) (tops_in c.loop-start.children) r all) here c.loop-start.invariant.makes));
+      makes = makes_same pushed.directory pushed.tops (makes_leaf (children_directory c.loop-start.children) (tops_in c.loop-start.children) c.in-Some-default-empty.name.now (node_value line.item.now) (drop (k + 1) all) all
+          (subst (λ r. Makes (children_directory c.loop-start.children) (tops_in c.loop-start.children) r all) here c.loop-start.invariant.makes));
     }
 
 pub visit-requires : goal.visit-requires
@@ -39,7 +39,7 @@ visit-requires g t c κs within =
     let line = c.index-lines-start.result in
     let here = line_at (λ l. (l.names.now, node_value l.item.now)) k c.args.lines.now line c.in-Some.name.now c.in-Some.field-0-1.now line.names.now c.loop-start-test.true c.index-lines-start.is refl (c.in-Some.ensures {u = tt}).cases.0 in
     let led_is = ap line_values c.deref.ensures.value ∙ led_values node_value c.in-Some.name.now _ _ (c.in_ok-under-in-Some.ensures {u = tt}) ∙ ap (led c.in-Some.name.now) (ap line_values (rest_of k c.args.lines.now) ∙ sym (drop-map (λ l. (l.names.now, node_value l.item.now)) k c.args.lines.now)) in
-    let folds = folds_at (directory_in c.loop-start.children) (tops_in c.loop-start.children) c.in-Some.name.now c.in-Some.field-0-1.now (node_value line.item.now) k (drop (k + 1) all) all (line_values c.deref.result.now) c.in-Some.len_at_least here c.loop-start.invariant.makes led_is in
+    let folds = folds_at (children_directory c.loop-start.children) (tops_in c.loop-start.children) c.in-Some.name.now c.in-Some.field-0-1.now (node_value line.item.now) k (drop (k + 1) all) all (line_values c.deref.result.now) c.in-Some.len_at_least here c.loop-start.invariant.makes led_is in
     (omega (arith, folds.fewer, c.decreases), (within, (folds.ascend, folds.apart)))
 
 pub loop-start-smaller : goal.loop-start-smaller
@@ -49,7 +49,7 @@ loop-start-smaller g t c =
     let line = c.index-lines-start.result in
     let here = line_at (λ l. (l.names.now, node_value l.item.now)) k c.args.lines.now line c.in-Some.name.now c.in-Some.field-0-1.now line.names.now c.loop-start-test.true c.index-lines-start.is refl (c.in-Some.ensures {u = tt}).cases.0 in
     let led_is = ap line_values c.deref.ensures.value ∙ led_values node_value c.in-Some.name.now _ _ (c.in_ok-under-in-Some.ensures {u = tt}) ∙ ap (led c.in-Some.name.now) (ap line_values (rest_of k c.args.lines.now) ∙ sym (drop-map (λ l. (l.names.now, node_value l.item.now)) k c.args.lines.now)) in
-    let folds = folds_at (directory_in c.loop-start.children) (tops_in c.loop-start.children) c.in-Some.name.now c.in-Some.field-0-1.now (node_value line.item.now) k (drop (k + 1) all) all (line_values c.deref.result.now) c.in-Some.len_at_least here c.loop-start.invariant.makes led_is in
+    let folds = folds_at (children_directory c.loop-start.children) (tops_in c.loop-start.children) c.in-Some.name.now c.in-Some.field-0-1.now (node_value line.item.now) k (drop (k + 1) all) all (line_values c.deref.result.now) c.in-Some.len_at_least here c.loop-start.invariant.makes led_is in
     let count = values_length c.deref.result.now in
     let left = length-drop k all in
     let lines = values_length c.args.lines.now in
@@ -62,7 +62,7 @@ loop-start-preserved g t c =
     let line = c.index-lines-start.result in
     let here = line_at (λ l. (l.names.now, node_value l.item.now)) k c.args.lines.now line c.in-Some.name.now c.in-Some.field-0-1.now line.names.now c.loop-start-test.true c.index-lines-start.is refl (c.in-Some.ensures {u = tt}).cases.0 in
     let led_is = ap line_values c.deref.ensures.value ∙ led_values node_value c.in-Some.name.now _ _ (c.in_ok-under-in-Some.ensures {u = tt}) ∙ ap (led c.in-Some.name.now) (ap line_values (rest_of k c.args.lines.now) ∙ sym (drop-map (λ l. (l.names.now, node_value l.item.now)) k c.args.lines.now)) in
-    let folds = folds_at (directory_in c.loop-start.children) (tops_in c.loop-start.children) c.in-Some.name.now c.in-Some.field-0-1.now (node_value line.item.now) k (drop (k + 1) all) all (line_values c.deref.result.now) c.in-Some.len_at_least here c.loop-start.invariant.makes led_is in
+    let folds = folds_at (children_directory c.loop-start.children) (tops_in c.loop-start.children) c.in-Some.name.now c.in-Some.field-0-1.now (node_value line.item.now) k (drop (k + 1) all) all (line_values c.deref.result.now) c.in-Some.len_at_least here c.loop-start.invariant.makes led_is in
     let count = values_length c.deref.result.now in
     let left = length-drop k all in
     let lines = values_length c.args.lines.now in
@@ -72,12 +72,12 @@ loop-start-preserved g t c =
     record {
       within = omega (arith, folds.within, count, left, lines, c.loop-start-test.true, c.len.ensures, c.deref.ensures.len);
       makes = makes_same pushed.directory pushed.tops
-          (makes_at (directory_in c.loop-start.children) (tops_in c.loop-start.children) _ _ c.in-Some.name.now c.in-Some.field-0-1.now (node_value line.item.now) k c.len.result (drop (k + 1) all) all (line_values c.deref.result.now) c.in-Some.len_at_least here c.loop-start.invariant.makes led_is taken below.root below.encodings);
+          (makes_at (children_directory c.loop-start.children) (tops_in c.loop-start.children) _ _ c.in-Some.name.now c.in-Some.field-0-1.now (node_value line.item.now) k c.len.result (drop (k + 1) all) all (line_values c.deref.result.now) c.in-Some.len_at_least here c.loop-start.invariant.makes led_is taken below.root below.encodings);
     }
 
 pub returns : goal.returns
 returns g t c =
     let all = line_values c.args.lines.now in
     let none = drop_all (λ l. (l.names.now, node_value l.item.now)) c.loop-start.start c.args.lines.now (omega (arith, c.loop-start-test.false)) in
-    let ends = makes_end (directory_in c.loop-start.children) (tops_in c.loop-start.children) all (subst (λ r. Makes (directory_in c.loop-start.children) (tops_in c.loop-start.children) r all) none c.loop-start.invariant.makes) in
-    visit_of c.close.result _ (directory_in c.loop-start.children) (tops_in c.loop-start.children) ends.0 ends.1 c.close.ensures.root c.close.ensures.tops
+    let ends = makes_end (children_directory c.loop-start.children) (tops_in c.loop-start.children) all (subst (λ r. Makes (children_directory c.loop-start.children) (tops_in c.loop-start.children) r all) none c.loop-start.invariant.makes) in
+    visit_of c.close.result _ (children_directory c.loop-start.children) (tops_in c.loop-start.children) ends.0 ends.1 c.close.ensures.root c.close.ensures.tops

@@ -1,6 +1,5 @@
-use Rattle.std.proofs.Common.{subst}
-use Rattle.worker.specs.Going.{AreJobsOf, IsJobOf}
 use Rattle.worker.proofs.Goes.{own_jobs}
+use Rattle.worker.proofs.Knowing.{knows_nothing}
 use Rattle.worker.proofs.building.build.Goals as goal
 
 pub end_all-requires : goal.end_all-requires
@@ -8,8 +7,11 @@ end_all-requires g c = record {
   there = own_jobs g.row.A.Denot (g.N.Runner.yields c.args.runner.now) g.N.Runner.may_give (g.S.BlobSource.tells c.take_turns.new.sink) c.args.jobs c.args.engine.now c.take_turns.new.engine c.take_turns.new.children.items c.take_turns.ensures.going;
 }
 
-pub returns-in-Err-clause-led : goal.returns-in-Err-clause-led
-returns-in-Err-clause-led g c = c.end_all.ensures.led c.args.runner.now (g.S.BlobSource.tells c.take_turns.new.sink) c.args.jobs c.args.engine.now c.take_turns.ensures.going
+pub returns-clause-led : goal.returns-clause-led
+returns-clause-led g c = c.end_all.ensures.led c.args.runner.now (g.S.BlobSource.tells c.take_turns.new.sink) c.args.jobs c.args.engine.now c.take_turns.ensures.going
 
-pub returns-in-Err-clause-alive : goal.returns-in-Err-clause-alive
-returns-in-Err-clause-alive g c = c.end_all.ensures.alive (g.N.Runner.alive c.args.runner.now) c.take_turns.ensures.alive
+pub returns-clause-alive : goal.returns-clause-alive
+returns-clause-alive g c = c.end_all.ensures.alive (g.N.Runner.alive c.args.runner.now) c.take_turns.ensures.alive
+
+pub take_turns-requires-clause-knows : goal.take_turns-requires-clause-knows
+take_turns-requires-clause-knows g c = knows_nothing c.new-memo.ensures

@@ -1,4 +1,4 @@
-use Rattle.std.proofs.Common.{arith, length}
+use Rattle.std.proofs.Common.{arith}
 use Rattle.worker.proofs.Taking.{lost_child, lost_jobs, lost_goes, lost_count}
 use Rattle.worker.proofs.building.end_all.Goals as goal
 

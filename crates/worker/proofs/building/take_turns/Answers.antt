@@ -13,6 +13,7 @@ loop-turn-init g c =
           (going_none g.row.A.Denot g.row.N-Job.Denot (g.N.Runner.yields c.args.runner.now) g.N.Runner.may_give c.args.jobs c.args.engine.now t c.requires.idle);
       within = λ l d p h. h;
       right = λ e b at right. at;
+      knows = c.requires.knows;
       alive = let none = c.requires.none in let len = ap length none in omega (arith, len);
     }
 
@@ -20,6 +21,7 @@ pub take_turn-requires : goal.take_turn-requires
 take_turn-requires g c = record {
   can = (c.args.jobs, c.in-Some.ensures.turn);
   there = own_jobs g.row.A.Denot (g.N.Runner.yields c.args.runner.now) g.N.Runner.may_give (g.S.BlobSource.tells c.loop-turn.sink) c.args.jobs c.args.engine.now c.loop-turn.engine c.loop-turn.children.items c.loop-turn.invariant.going;
+  knows = c.loop-turn.invariant.knows;
   alive = let all = c.loop-turn.invariant.alive in omega (arith, all);
 }
 
@@ -28,6 +30,7 @@ loop-turn-preserved g c = record {
   going = c.take_turn.ensures.going c.args.runner.now c.args.jobs c.args.engine.now c.loop-turn.invariant.within c.in-Some.ensures.turn c.loop-turn.invariant.going;
   within = λ l d p h. c.loop-turn.invariant.within l d p (c.take_turn.ensures.within l d p h);
   right = right_trans c.loop-turn.invariant.right c.take_turn.ensures.right;
+  knows = c.take_turn.ensures.knows;
   alive = let now = c.take_turn.ensures.alive in let was = c.loop-turn.invariant.alive in omega (arith, now, was);
 }
 

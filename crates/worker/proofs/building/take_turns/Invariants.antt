@@ -1,6 +1,8 @@
-use Rattle.std.proofs.Common.{◌≡◌, ◌+◌, ℕ, length}
+use Rattle.std.proofs.Common.{◌≡◌, ◌+◌, length}
 use Rattle.blob_source.specs.Sink.{KeepsRight}
-use Rattle.worker.specs.Outcomes.{IsWithin}
+use Rattle.tree.specs.Memo.{known_by}
+use Rattle.worker.specs.Stores.{KnowsBlobs}
+use Rattle.worker.specs.Outcomes.{YieldsNoMore}
 use Rattle.worker.specs.Going.{IsGoing, turns_left}
 use Rattle.worker.proofs.building.take_turns.Given as goal
 
@@ -10,8 +12,9 @@ invariant-loop-turn g l =
     let yields = g.N.Runner.yields in
     record {
       going : IsGoing g.row.A.Denot (yields l.fn.runner) g.N.Runner.may_give (tells l.sink) l.jobs l.fn.engine l.engine l.children.items;
-      within : IsWithin (yields l.runner) (yields l.fn.runner);
+      within : YieldsNoMore (yields l.runner) (yields l.fn.runner);
       right : KeepsRight (tells l.fn.sink).blobs (tells l.sink).blobs;
+      knows : KnowsBlobs (known_by l.memo) (tells l.sink).blobs;
       alive : g.N.Runner.alive l.runner ≡ g.N.Runner.alive l.fn.runner + length l.children.items;
     }
 

@@ -1,10 +1,10 @@
 -- A tree that is told, and its entries.
-use Rattle.std.proofs.Common.{◌≡◌, subst, inr}
+use Rattle.std.proofs.Common.{subst, inr}
 use Rattle.std.proofs.lemmas.Result.{err_from_is_err_and}
 use Rattle.blob_source.proofs.Asking.{ok_no_error}
 use Rattle.blob_source.proofs.Calling.{called_ok, called_no, called_exit}
 use Rattle.worker.specs.Layout.{AreGathered}
-use Rattle.worker.specs.Refusals.{IsEntryFault}
+use Rattle.worker.specs.Refusals.{StopsLayout}
 use Rattle.worker.proofs.Telling.{unfolded_still}
 use Rattle.worker.proofs.laying_out.layout.Goals as goal
 
@@ -16,7 +16,7 @@ returns-in_err-gathered-clause-refused g c =
     rw (p.1, p.2) (inr (
       c.in_ok-tree.tree,
       unfolded_still (λ e b at right. grows e b at) c.in_ok-tree.ensures.told,
-      subst (λ es. IsEntryFault blobs es c.in_err-gathered.field-0.0) c.in_ok-into_entries.ensures.value c.in_err-gathered.ensures.refused,
+      subst (λ es. StopsLayout blobs es c.in_err-gathered.field-0.0) c.in_ok-into_entries.ensures.value c.in_err-gathered.ensures.refused,
     ))
 
 pub returns-in_err-gathered-clause-called : goal.returns-in_err-gathered-clause-called

@@ -1,6 +1,7 @@
 use Rattle.worker.proofs.Keeping.{kept_trans, kept_some}
 use Rattle.worker.proofs.Started.{started_in}
 use Rattle.worker.proofs.Goes.{begun, refused}
+use Rattle.worker.proofs.Knowing.{known_of, knows_still, knows_started}
 use Rattle.worker.proofs.turns.begin.Goals as goal
 
 pub launch-requires : goal.launch-requires
@@ -17,3 +18,15 @@ returns-clause-kept g c = kept_trans (kept_some c.start.ensures.called) c.launch
 
 pub returns-clause-refused : goal.returns-clause-refused
 returns-clause-refused g c = refused c.lose.result c.in-Ok.ensures.started c.launch.ensures.kept.blobs c.in-Err-launch.ensures.unchanged c.lose.ensures.no_job c.lose.ensures.lost
+
+pub start-requires-clause-known : goal.start-requires-clause-known
+start-requires-clause-known g c = known_of c.requires.knows
+
+pub returns-in-Err-clause-knows : goal.returns-in-Err-clause-knows
+returns-in-Err-clause-knows g c = knows_started c.args.engine.now c.args.step c.requires.knows c.start.ensures.learned
+
+pub returns-in-Ok-launch-clause-knows : goal.returns-in-Ok-launch-clause-knows
+returns-in-Ok-launch-clause-knows g c = knows_still c.launch.ensures.kept.blobs (knows_started c.args.engine.now c.args.step c.requires.knows c.start.ensures.learned)
+
+pub returns-clause-knows : goal.returns-clause-knows
+returns-clause-knows g c = knows_still c.launch.ensures.kept.blobs (knows_started c.args.engine.now c.args.step c.requires.knows c.start.ensures.learned)

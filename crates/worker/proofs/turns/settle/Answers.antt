@@ -1,8 +1,4 @@
-use Rattle.std.proofs.Common.{◌≡◌, sym, subst, ap, ◌∙◌, inl, inr}
-use Rattle.runs.specs.Calls.{without_job}
-use Rattle.runs.specs.Engine.{EngineValue, job_in}
-use Rattle.std.specs.Prelude.{Some}
-use Rattle.worker.proofs.Goes.{lose_goes}
+use Rattle.std.proofs.Common.{inl}
 use Rattle.worker.proofs.Lefts.{finished_there}
 use Rattle.worker.proofs.Taking.{ends_put, on_ok, on_err}
 use Rattle.worker.proofs.turns.settle.Goals as goal

@@ -2,6 +2,7 @@ use Rattle.std.proofs.Common.{subst}
 use Rattle.worker.specs.Going.{IsTurn}
 use Rattle.worker.proofs.Taking.{start_goes, finish_goes, finish_right}
 use Rattle.worker.proofs.Lefts.{start_less, finish_less}
+use Rattle.worker.proofs.Knowing.{knows_still}
 use Rattle.worker.proofs.turns.take_turn.Goals as goal
 
 pub returns-in-Start-clause-going : goal.returns-in-Start-clause-going
@@ -29,3 +30,6 @@ pub returns-in-Finish-clause-right : goal.returns-in-Finish-clause-right
 returns-in-Finish-clause-right g c =
     finish_right g.N.Runner.may_give (g.S.BlobSource.tells c.args.sink.now) (g.S.BlobSource.tells c.finish_first.new.sink) c.args.engine.now c.finish_first.new.engine c.args.children.now.items c.finish_first.new.children.items
     c.finish_first.result c.finish_first.ensures.ended c.finish_first.ensures.refused
+
+pub returns-in-Finish-clause-knows : goal.returns-in-Finish-clause-knows
+returns-in-Finish-clause-knows g c = knows_still (returns-in-Finish-clause-right g c) c.requires.knows

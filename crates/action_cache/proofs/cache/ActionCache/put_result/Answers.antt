@@ -11,7 +11,7 @@ use Rattle.action_cache.specs.Reading.{by_messages}
 use Rattle.action_cache.specs.Machine.{CacheState, Answer, done, refused, full, under, differs_pinned, put_result as result_put}
 use Rattle.action_cache.specs.Tied.{marks}
 use Rattle.action_cache.specs.State.{state_of, is_other}
-use Rattle.action_cache.specs.CacheError.{of_bounded, IsRefused, IsUnread}
+use Rattle.action_cache.specs.CacheError.{of_bounded, IsRefused, IsNoResult}
 use Rattle.action_cache.proofs.Said.{bad_told, not_bad}
 use Rattle.action_cache.proofs.Refusing.{unread_refused}
 use Rattle.action_cache.proofs.Mirrors.{told}
@@ -100,7 +100,7 @@ returns-in_err-read_result-clause-refused g c =
     let d = c.held_bytes-held.ensures.lawful.distinct in
     let st = state_of i.blobs.limit s.limit B s.entries in
     let e = c.in_err-read_result.field-0.0 in
-    let why : IsUnread e b = subst (IsUnread e) c.deref.ensures.value c.in_err-read_result.ensures.refused in
+    let why : IsNoResult e b = subst (IsNoResult e) c.deref.ensures.value c.in_err-read_result.ensures.refused in
     subst (λ (w : CacheState). IfErr c.from_residual.result (IsRefused w (result_put reader w h b))) c.self.view_is
     (told c.from_residual.result e (IsRefused st (result_put reader st h b)) c.from_residual.ensures.1
     (unread_refused st (result_put reader st h b) b e why (λ none. bad_put reader i.blobs.limit B s flat d h b (ap is_some none))))
@@ -108,8 +108,8 @@ returns-in_err-read_result-clause-refused g c =
 pub returns-in_err-read_result-clause-bad : goal.returns-in_err-read_result-clause-bad
 returns-in_err-read_result-clause-bad g c = λ e.
     let b = c.args.bytes.items in
-    let why : IsUnread c.in_err-read_result.field-0.0 b = subst (IsUnread c.in_err-read_result.field-0.0) c.deref.ensures.value c.in_err-read_result.ensures.refused in
-    bad_told c.from_residual.result e b (told c.from_residual.result c.in_err-read_result.field-0.0 (λ x. IsUnread x b) c.from_residual.ensures.1 why)
+    let why : IsNoResult c.in_err-read_result.field-0.0 b = subst (IsNoResult c.in_err-read_result.field-0.0) c.deref.ensures.value c.in_err-read_result.ensures.refused in
+    bad_told c.from_residual.result e b (told c.from_residual.result c.in_err-read_result.field-0.0 (λ x. IsNoResult x b) c.from_residual.ensures.1 why)
 
 bounded_not_bad : (e : BoundedError) (d : MessageError) → (e ≡ bounded.Full) ⊎ (e ≡ bounded.Memory) → of_bounded e ≡ BadResult d → ⊥
 bounded_not_bad e d (inl same) h = let no : cache.Full ≡ BadResult d = sym (ap of_bounded same) ∙ h in absurd cc

@@ -1,5 +1,5 @@
 use Rattle.std.proofs.Common.{refl, subst, sym}
-use Rattle.plan.specs.Targets.{AreApart, OverlapsAny}
+use Rattle.plan.specs.Targets.{AreTargetsApart, OverlapsAny}
 use Rattle.plan.proofs.TargetSets.{overlaps_beginning, overlaps_longer, refused, told_none, taken_with, taken_apart}
 use Rattle.plan.proofs.targets.Targets.insert.Goals as goal
 use Rattle.plan.proofs.targets.Targets.insert.Goals.{then-has_beginning-via-then-has_beginning, then-has_beginning-via-else-has_beginning+then-has_longer}
@@ -16,7 +16,7 @@ returns-then-has_beginning-clause-takes g c =
     )
 
 pub invariant_of-self : goal.invariant_of-self
-invariant_of-self g c = subst AreApart (sym c.in_err-insert.ensures.err) c.self.invariant
+invariant_of-self g c = subst AreTargetsApart (sym c.in_err-insert.ensures.err) c.self.invariant
 
 pub invariant_of-self-2 : goal.invariant_of-self-2
 invariant_of-self-2 g c =

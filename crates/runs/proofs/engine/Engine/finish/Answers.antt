@@ -1,7 +1,7 @@
 use Rattle.std.proofs.Common.{◌≡◌, ◌∙◌, ◌<◌, ap, sym, subst, length, true, false, Some, None, set, arith}
 use Rattle.std.specs.Prelude.{slice_get}
 use Rattle.std.proofs.lemmas.Result.{err_from_is_err_and}
-use Rattle.runs.specs.Engine.{EngineValue, IsTaken, at_number}
+use Rattle.runs.specs.Engine.{EngineValue, TakesOutcome, at_number}
 use Rattle.runs.specs.Calls.{IsFinished, Disagrees}
 use Rattle.runs.specs.Ties.{IsFinish, IsForeign}
 use Rattle.verifier.proofs.FreshRuns.{one_answer}
@@ -39,7 +39,7 @@ returns-then-branch-clause-refused g c =
     rw (← c.self.view_is) (
       record { step = c.job.inside.step; action = c.job.inside.action; input = c.job.inside.input },
       at,
-      λ other h. subst (λ d. IsTaken d c.args.outcome) (one_answer (slice_get c.self.inside.commands.items c.job.inside.step) c.index.result.now other command h) (c.in_ok-check_outcome.ensures {u = tt}).taken,
+      λ other h. subst (λ d. TakesOutcome d c.args.outcome) (one_answer (slice_get c.self.inside.commands.items c.job.inside.step) c.index.result.now other command h) (c.in_ok-check_outcome.ensures {u = tt}).taken,
       subst (λ fs. Disagrees fs c.job.inside.step c.job.inside.action c.args.outcome) c.deref-2.ensures.value ((c.in_ok-disagrees.ensures {u = tt}).0 c.if-branch.true),
     )
 
@@ -67,7 +67,7 @@ invariant_of-self g c =
     let lt = c.self.invariant.running c.args.id (record { step = c.job.inside.step; action = c.job.inside.action; input = c.job.inside.input }) at in
     let command = element_at c.self.inside.commands.items c.job.inside.step c.index.result.now (subst (λ n. c.job.inside.step < n) (sym c.self.invariant.stand.commands_count) lt) c.index.ensures in
     rw c.keep_first.ensures (finished_is_engine (record { plan = c.self.inside.plan; sources = c.self.inside.sources; frames = c.self.inside.frames.items; commands = c.self.inside.commands.items; finished = c.self.inside.finished.items; jobs = c.self.inside.jobs.items }) c.args.id (record { step = c.job.inside.step; action = c.job.inside.action; input = c.job.inside.input }) c.args.outcome c.self.invariant at
-    (λ other h. subst (λ d. IsTaken d c.args.outcome) (one_answer (slice_get c.self.inside.commands.items c.job.inside.step) c.index.result.now other command h) (c.in_ok-check_outcome.ensures {u = tt}).taken))
+    (λ other h. subst (λ d. TakesOutcome d c.args.outcome) (one_answer (slice_get c.self.inside.commands.items c.job.inside.step) c.index.result.now other command h) (c.in_ok-check_outcome.ensures {u = tt}).taken))
 
 pub returns-clause-finished : goal.returns-clause-finished
 returns-clause-finished g c =
@@ -77,7 +77,7 @@ returns-clause-finished g c =
     subst (λ e. IsFinished c.args.id c.args.outcome e (record { plan = c.self.inside.plan; sources = c.self.inside.sources; frames = c.self.inside.frames.items; commands = c.self.inside.commands.items; finished = c.keep_first.new.finished.items; jobs = set c.self.inside.jobs.items c.args.id None })) c.self.view_is (record {
       job = record { step = c.job.inside.step; action = c.job.inside.action; input = c.job.inside.input };
       is = at;
-      taken = λ other h. subst (λ d. IsTaken d c.args.outcome) (one_answer (slice_get c.self.inside.commands.items c.job.inside.step) c.index.result.now other command h) (c.in_ok-check_outcome.ensures {u = tt}).taken;
+      taken = λ other h. subst (λ d. TakesOutcome d c.args.outcome) (one_answer (slice_get c.self.inside.commands.items c.job.inside.step) c.index.result.now other command h) (c.in_ok-check_outcome.ensures {u = tt}).taken;
       agrees = λ h. let t = (c.in_ok-disagrees.ensures {u = tt}).1 (subst (λ fs. Disagrees fs c.job.inside.step c.job.inside.action c.args.outcome) (sym c.deref-2.ensures.value) h) in let f = c.if-branch.false in (let both : true ≡ false = sym t ∙ f in cc);
       after = λ i. record { plan = c.self.inside.plan; sources = c.self.inside.sources; frames = c.self.inside.frames.items; commands = c.self.inside.commands.items; finished = c.keep_first.ensures i; jobs = set c.self.inside.jobs.items c.args.id None };
     })

@@ -15,6 +15,8 @@ use Rattle.runs.proofs.Fetching.{fetching_memory}
 use Rattle.runs.specs.Looking.{Resolves}
 use Rattle.runs.proofs.Places.{element_at}
 use Rattle.runs.proofs.Ended.{lines_apart}
+use Rattle.tree.proofs.Learning.{learns_refused, refused_exit}
+use Rattle.runs.proofs.Needs.{step_needed}
 use Rattle.runs.proofs.engine.Engine.prepare.Goals as goal
 
 pub graft-requires : goal.graft-requires
@@ -79,3 +81,45 @@ returns-in_err-command-clause-called g c = fetching_memory c.from_residual-in_er
 
 pub returns-clause-called : goal.returns-clause-called
 returns-clause-called g c = called_no ok_no_error ok_no_error c.in_ok-nodes.ensures.called
+
+pub returns-in_err-nodes-clause-learned : goal.returns-in_err-nodes-clause-learned
+returns-in_err-nodes-clause-learned g c s at =
+    let lt = subst (λ (e : EngineValue). c.args.step < length e.plan.steps) (sym c.self.view_is) c.requires.within in
+    let is : c.index-steps-step.result ≡ get_or c.self.inside.plan.steps c.args.step c.index-steps-step.result = c.index-steps-step.is ∙ ap (λ ss. get_or ss c.args.step c.index-steps-step.result) c.steps-steps.ensures.value in
+    let there = ap (λ (e : EngineValue). slice_get e.plan.steps c.args.step) (sym c.self.view_is) ∙ element_at c.self.inside.plan.steps c.args.step c.index-steps-step.result lt is in
+    learns_refused (λ a h. h) (refused_exit _ _ c.from_residual.ensures.1) (step_needed c.args.self.now c.args.step c.index-steps-step.result s there at (c.deref.ensures.value ∙ ap (λ (s : StepValue). s.lines) c.planned.view_is) c.resolve.ensures.learned)
+
+pub returns-in_err-input-clause-learned : goal.returns-in_err-input-clause-learned
+returns-in_err-input-clause-learned g c s at =
+    let lt = subst (λ (e : EngineValue). c.args.step < length e.plan.steps) (sym c.self.view_is) c.requires.within in
+    let is : c.index-steps-step.result ≡ get_or c.self.inside.plan.steps c.args.step c.index-steps-step.result = c.index-steps-step.is ∙ ap (λ ss. get_or ss c.args.step c.index-steps-step.result) c.steps-steps.ensures.value in
+    let there = ap (λ (e : EngineValue). slice_get e.plan.steps c.args.step) (sym c.self.view_is) ∙ element_at c.self.inside.plan.steps c.args.step c.index-steps-step.result lt is in
+    learns_refused (λ a h. h) (refused_exit _ _ c.from_residual-in_err-input.ensures.1) (step_needed c.args.self.now c.args.step c.index-steps-step.result s there at (c.deref.ensures.value ∙ ap (λ (s : StepValue). s.lines) c.planned.view_is) c.resolve.ensures.learned)
+
+pub returns-in_err-frame-clause-learned : goal.returns-in_err-frame-clause-learned
+returns-in_err-frame-clause-learned g c s at =
+    let lt = subst (λ (e : EngineValue). c.args.step < length e.plan.steps) (sym c.self.view_is) c.requires.within in
+    let is : c.index-steps-step.result ≡ get_or c.self.inside.plan.steps c.args.step c.index-steps-step.result = c.index-steps-step.is ∙ ap (λ ss. get_or ss c.args.step c.index-steps-step.result) c.steps-steps.ensures.value in
+    let there = ap (λ (e : EngineValue). slice_get e.plan.steps c.args.step) (sym c.self.view_is) ∙ element_at c.self.inside.plan.steps c.args.step c.index-steps-step.result lt is in
+    learns_refused (λ a h. h) (refused_exit _ _ c.from_residual-in_err-frame.ensures.1) (step_needed c.args.self.now c.args.step c.index-steps-step.result s there at (c.deref.ensures.value ∙ ap (λ (s : StepValue). s.lines) c.planned.view_is) c.resolve.ensures.learned)
+
+pub returns-in_err-encode-clause-learned : goal.returns-in_err-encode-clause-learned
+returns-in_err-encode-clause-learned g c s at =
+    let lt = subst (λ (e : EngineValue). c.args.step < length e.plan.steps) (sym c.self.view_is) c.requires.within in
+    let is : c.index-steps-step.result ≡ get_or c.self.inside.plan.steps c.args.step c.index-steps-step.result = c.index-steps-step.is ∙ ap (λ ss. get_or ss c.args.step c.index-steps-step.result) c.steps-steps.ensures.value in
+    let there = ap (λ (e : EngineValue). slice_get e.plan.steps c.args.step) (sym c.self.view_is) ∙ element_at c.self.inside.plan.steps c.args.step c.index-steps-step.result lt is in
+    learns_refused (λ a h. h) (refused_exit _ _ c.from_residual-in_err-encode.ensures.1) (step_needed c.args.self.now c.args.step c.index-steps-step.result s there at (c.deref.ensures.value ∙ ap (λ (s : StepValue). s.lines) c.planned.view_is) c.resolve.ensures.learned)
+
+pub returns-in_err-command-clause-learned : goal.returns-in_err-command-clause-learned
+returns-in_err-command-clause-learned g c s at =
+    let lt = subst (λ (e : EngineValue). c.args.step < length e.plan.steps) (sym c.self.view_is) c.requires.within in
+    let is : c.index-steps-step.result ≡ get_or c.self.inside.plan.steps c.args.step c.index-steps-step.result = c.index-steps-step.is ∙ ap (λ ss. get_or ss c.args.step c.index-steps-step.result) c.steps-steps.ensures.value in
+    let there = ap (λ (e : EngineValue). slice_get e.plan.steps c.args.step) (sym c.self.view_is) ∙ element_at c.self.inside.plan.steps c.args.step c.index-steps-step.result lt is in
+    learns_refused (λ a h. h) (refused_exit _ _ c.from_residual-in_err-command.ensures.1) (step_needed c.args.self.now c.args.step c.index-steps-step.result s there at (c.deref.ensures.value ∙ ap (λ (s : StepValue). s.lines) c.planned.view_is) c.resolve.ensures.learned)
+
+pub returns-clause-learned : goal.returns-clause-learned
+returns-clause-learned g c s at =
+    let lt = subst (λ (e : EngineValue). c.args.step < length e.plan.steps) (sym c.self.view_is) c.requires.within in
+    let is : c.index-steps-step.result ≡ get_or c.self.inside.plan.steps c.args.step c.index-steps-step.result = c.index-steps-step.is ∙ ap (λ ss. get_or ss c.args.step c.index-steps-step.result) c.steps-steps.ensures.value in
+    let there = ap (λ (e : EngineValue). slice_get e.plan.steps c.args.step) (sym c.self.view_is) ∙ element_at c.self.inside.plan.steps c.args.step c.index-steps-step.result lt is in
+    (step_needed c.args.self.now c.args.step c.index-steps-step.result s there at (c.deref.ensures.value ∙ ap (λ (s : StepValue). s.lines) c.planned.view_is) c.in_ok-nodes.ensures.learned)

@@ -9,13 +9,18 @@ use Rattle.blob_source.proofs.Asking.{ok_no_error}
 use Rattle.blob_source.proofs.Calling.{called_none, called_no, called_on, called_exit}
 use Rattle.runs.proofs.Fetching.{fetching_on, fetching_memory}
 use Rattle.runs.proofs.Looks.{explains_map, LinesGoOn, lines_first, lines_next, lines_end, lines_fault, there_at}
+use Rattle.tree.proofs.Learning.{learns_none, learns_then, learns_refused, refused_exit}
+use Rattle.runs.proofs.Needs.{needs_first, needs_line, needs_next, needs_still}
 use Rattle.runs.proofs.engine.Engine.resolve.Goals as goal
 
-pub find_origin-requires : goal.find_origin-requires
-find_origin-requires g c = there_at c.args.self.now c.args.lines.now c.loop-line.line-index c.line-item.result c.loop-line-test.true c.line-item.is c.requires
+pub find_origin-requires-clause-there : goal.find_origin-requires-clause-there
+find_origin-requires-clause-there g c = there_at c.args.self.now c.args.lines.now c.loop-line.line-index c.line-item.result c.loop-line-test.true c.line-item.is c.requires.there
+
+pub find_origin-requires-clause-known : goal.find_origin-requires-clause-known
+find_origin-requires-clause-known g c = c.loop-line.invariant.learned.known
 
 pub loop-line-init : goal.loop-line-init
-loop-line-init g c = record { called = called_none (λ n. n); goes = subst (λ ns. LinesGoOn g.row.A.Denot (g.S.BlobSource.tells c.args.source.now).blobs c.args.self.now c.args.lines.now (lines_of ns) c.args.lines.now) (sym c.new-nodes.ensures.items) (lines_first _ _ _) }
+loop-line-init g c = record { called = called_none (λ n. n); goes = subst (λ ns. LinesGoOn g.row.A.Denot (g.S.BlobSource.tells c.args.source.now).blobs c.args.self.now c.args.lines.now (lines_of ns) c.args.lines.now) (sym c.new-nodes.ensures.items) (lines_first _ _ _); need = needs_first _ _ _; learned = learns_none c.requires.known }
 
 pub returns-in_err-node-clause-faulty : goal.returns-in_err-node-clause-faulty
 returns-in_err-node-clause-faulty g c =
@@ -45,7 +50,34 @@ loop-line-preserved g c =
       called = fetching_on c.loop-line.invariant.called c.in_ok-node.ensures.called;
       goes = subst (λ xs. LinesGoOn g.row.A.Denot (g.S.BlobSource.tells c.find_origin.new.source).blobs c.args.self.now c.args.lines.now xs (drop (c.loop-line.line-index + 1) c.args.lines.now)) (sym values)
           (lines_next _ _ c.args.self.now c.args.lines.now (lines_of c.loop-line.nodes.items) c.loop-line.line-index line (node_value c.in_ok-node.node) c.loop-line-test.true c.line-item.is c.loop-line.invariant.goes c.find_origin.ensures.called.asked.asks.blobs (c.in_ok-node.ensures {u = tt}).told);
+      need = needs_next _ _ c.args.self.now c.args.lines.now c.loop-line.line-index line c.loop-line-test.true c.line-item.is c.loop-line.invariant.need c.find_origin.ensures.called.asked.asks.blobs (node_value c.in_ok-node.node) (c.in_ok-node.ensures {u = tt}).told;
+      learned = learns_then {t1 = g.S.BlobSource.tells c.loop-line.source} (λ a. needs_still _ _ c.args.self.now c.args.lines.now a c.find_origin.ensures.called.asked.asks.blobs)
+          (needs_line _ _ c.args.self.now c.args.lines.now c.loop-line.line-index c.line-item.result c.loop-line-test.true c.line-item.is c.loop-line.invariant.need c.find_origin.ensures.called.asked.asks.blobs) (λ n. n)
+          c.loop-line.invariant.learned c.in_ok-node.ensures.learned;
     }
 
 pub returns-clause-told : goal.returns-clause-told
 returns-clause-told g c = lines_end {A = g.row.A.Denot} _ c.args.self.now c.args.lines.now (lines_of c.loop-line.nodes.items) c.loop-line.line-index c.loop-line-test.false c.loop-line.invariant.goes
+
+pub returns-in_err-node-clause-learned : goal.returns-in_err-node-clause-learned
+returns-in_err-node-clause-learned g c =
+    learns_then {t1 = g.S.BlobSource.tells c.loop-line.source} (λ a. needs_still _ _ c.args.self.now c.args.lines.now a c.find_origin.ensures.called.asked.asks.blobs)
+    (needs_line _ _ c.args.self.now c.args.lines.now c.loop-line.line-index c.line-item.result c.loop-line-test.true c.line-item.is c.loop-line.invariant.need c.find_origin.ensures.called.asked.asks.blobs) (λ n. n)
+    c.loop-line.invariant.learned (learns_refused (λ a h. h) (refused_exit _ _ c.from_residual.ensures.1) c.in_err-node.ensures.learned)
+
+pub returns-in_err-copy_of-clause-learned : goal.returns-in_err-copy_of-clause-learned
+returns-in_err-copy_of-clause-learned g c =
+    learns_refused (λ a h. h) (refused_exit _ _ c.from_residual-in_err-copy_of.ensures.1)
+    (learns_then {t1 = g.S.BlobSource.tells c.loop-line.source} (λ a. needs_still _ _ c.args.self.now c.args.lines.now a c.find_origin.ensures.called.asked.asks.blobs)
+    (needs_line _ _ c.args.self.now c.args.lines.now c.loop-line.line-index c.line-item.result c.loop-line-test.true c.line-item.is c.loop-line.invariant.need c.find_origin.ensures.called.asked.asks.blobs) (λ n. n)
+    c.loop-line.invariant.learned c.in_ok-node.ensures.learned)
+
+pub returns-in_err-push-clause-learned : goal.returns-in_err-push-clause-learned
+returns-in_err-push-clause-learned g c =
+    learns_refused (λ a h. h) (refused_exit _ _ c.from_residual-in_err-push.ensures.1)
+    (learns_then {t1 = g.S.BlobSource.tells c.loop-line.source} (λ a. needs_still _ _ c.args.self.now c.args.lines.now a c.find_origin.ensures.called.asked.asks.blobs)
+    (needs_line _ _ c.args.self.now c.args.lines.now c.loop-line.line-index c.line-item.result c.loop-line-test.true c.line-item.is c.loop-line.invariant.need c.find_origin.ensures.called.asked.asks.blobs) (λ n. n)
+    c.loop-line.invariant.learned c.in_ok-node.ensures.learned)
+
+pub returns-clause-learned : goal.returns-clause-learned
+returns-clause-learned g c = c.loop-line.invariant.learned

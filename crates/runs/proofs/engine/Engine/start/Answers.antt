@@ -1,7 +1,7 @@
 use Rattle.std.proofs.Common.{◌≡◌, ◌∙◌, ◌<◌, true, false, sym, subst, length, arith}
 use Rattle.std.proofs.lemmas.Result.{err_from_is_err_and}
 use Rattle.runs.specs.Engine.{EngineValue, IsEngine}
-use Rattle.runs.specs.Calls.{IsLeastIn, IsLeastFree, IsReady, HasRoom, IsPrepared, IsStarted}
+use Rattle.runs.specs.Calls.{IsLeastIn, IsLeastFree, IsReady, HasRoomForJob, IsPrepared, IsStarted}
 use Rattle.runs.specs.Ties.{IsStart}
 use Rattle.blob_source.proofs.Asking.{ok_no_error}
 use Rattle.runs.proofs.Fetching.{fetching_memory}
@@ -9,11 +9,12 @@ use Rattle.runs.proofs.Missing.{start_fault, tells_missing}
 use Rattle.runs.proofs.Standing.{stands_in}
 use Rattle.runs.proofs.Places.{has_one}
 use Rattle.runs.proofs.Starts.{started_engine, started_event, started_as, least_is_within}
+use Rattle.tree.proofs.Learning.{learns_more, learns_refused, refused_exit}
 use Rattle.runs.proofs.engine.Engine.start.Goals as goal
 
 pub returns-then-not-ready-clause-refused : goal.returns-then-not-ready-clause-refused
 returns-then-not-ready-clause-refused g c = λ all.
-    let s = has_one c.args.self.now.plan.steps c.args.step c.requires in
+    let s = has_one c.args.self.now.plan.steps c.args.step c.requires.within in
     let there : c.ready.result ≡ true = c.ready.ensures.value.1 all in
     let not : c.ready.result ≡ false = c.if-not-ready.true in
     let both : true ≡ false = sym there ∙ not in
@@ -33,10 +34,10 @@ pub returns-in_err-job-clause-refused : goal.returns-in_err-job-clause-refused
 returns-in_err-job-clause-refused g c =
     let p = err_from_is_err_and c.from_residual.result c.from_residual.ensures.1 in
     let tells = g.S.BlobSource.tells c.prepare.new.source in
-    let s = has_one c.args.self.now.plan.steps c.args.step c.requires in
+    let s = has_one c.args.self.now.plan.steps c.args.step c.requires.within in
     let ready : IsReady c.args.self.now c.args.step = c.ready.ensures.value.0 c.if-not-ready.false in
     let least : IsLeastFree c.args.self.now c.free_number-number.result = subst (λ (e : EngineValue). IsLeastIn e.jobs c.free_number-number.result) c.self.view_is (subst (λ js. IsLeastIn js c.free_number-number.result) c.deref.ensures.value c.free_number-number.ensures) in
-    let room : HasRoom c.args.self.now = (c.free_number-number.result, least, c.if-number-ge-MOST_JOBS.false) in
+    let room : HasRoomForJob c.args.self.now = (c.free_number-number.result, least, c.if-number-ge-MOST_JOBS.false) in
     rw (p.1, p.2) (start_fault tells.blobs c.args.self.now c.args.step ready room c.in_err-job.field-0.0 (λ s at. c.in_err-job.ensures.faulty s at) s.0 s.1)
 
 pub returns-in_err-job-clause-missing : goal.returns-in_err-job-clause-missing
@@ -51,7 +52,7 @@ returns-in_err-place-clause-refused g c =
     let p = err_from_is_err_and c.from_residual-in_err-place.result c.from_residual-in_err-place.ensures.1 in
     let ready : IsReady c.args.self.now c.args.step = c.ready.ensures.value.0 c.if-not-ready.false in
     let least : IsLeastFree c.args.self.now c.free_number-number.result = subst (λ (e : EngineValue). IsLeastIn e.jobs c.free_number-number.result) c.self.view_is (subst (λ js. IsLeastIn js c.free_number-number.result) c.deref.ensures.value c.free_number-number.ensures) in
-    let room : HasRoom c.args.self.now = (c.free_number-number.result, least, c.if-number-ge-MOST_JOBS.false) in
+    let room : HasRoomForJob c.args.self.now = (c.free_number-number.result, least, c.if-number-ge-MOST_JOBS.false) in
     rw (p.1, p.2) (ready, room, λ s at. tt)
 
 pub returns-in_err-place-clause-missing : goal.returns-in_err-place-clause-missing
@@ -67,7 +68,7 @@ place-requires g c =
 pub invariant_of-self-2 : goal.invariant_of-self-2
 invariant_of-self-2 g c =
     let least = subst (λ js. IsLeastIn js c.free_number-number.result) c.deref.ensures.value c.free_number-number.ensures in
-    let within = subst (λ (e : EngineValue). c.args.step < length e.plan.steps) (sym c.self.view_is) c.requires in
+    let within = subst (λ (e : EngineValue). c.args.step < length e.plan.steps) (sym c.self.view_is) c.requires.within in
     rw (c.in_ok-place.ensures {u = tt}).placed (started_engine (record { plan = c.self.inside.plan; sources = c.self.inside.sources; frames = c.self.inside.frames.items; commands = c.self.inside.commands.items; finished = c.self.inside.finished.items; jobs = c.self.inside.jobs.items }) c.free_number-number.result (record { step = c.args.step; action = c.in_ok-job.job.digest; input = c.input_root_digest.result }) c.self.invariant least c.if-number-ge-MOST_JOBS.false within)
 
 pub returns-clause-started : goal.returns-clause-started
@@ -88,8 +89,32 @@ pub returns-in_err-job-clause-stands : goal.returns-in_err-job-clause-stands
 returns-in_err-job-clause-stands g c =
     let p = err_from_is_err_and c.from_residual.result c.from_residual.ensures.1 in
     let tells = g.S.BlobSource.tells c.prepare.new.source in
-    let s = has_one c.args.self.now.plan.steps c.args.step c.requires in
+    let s = has_one c.args.self.now.plan.steps c.args.step c.requires.within in
     rw (p.1, p.2) (stands_in g.row.A.Denot tells.blobs c.args.self.now s.0.lines c.in_err-job.field-0.0 (c.in_err-job.ensures.faulty s.0 s.1))
 
 pub returns-in_err-place-clause-called : goal.returns-in_err-place-clause-called
 returns-in_err-place-clause-called g c = fetching_memory c.from_residual-in_err-place.ensures.1 ok_no_error c.in_ok-job.ensures.called
+
+pub returns-in_err-job-clause-learned : goal.returns-in_err-job-clause-learned
+returns-in_err-job-clause-learned g c =
+    let s = has_one c.args.self.now.plan.steps c.args.step c.requires.within in
+    let ready : IsReady c.args.self.now c.args.step = c.ready.ensures.value.0 c.if-not-ready.false in
+    let least : IsLeastFree c.args.self.now c.free_number-number.result = subst (λ (e : EngineValue). IsLeastIn e.jobs c.free_number-number.result) c.self.view_is (subst (λ js. IsLeastIn js c.free_number-number.result) c.deref.ensures.value c.free_number-number.ensures) in
+    let room : HasRoomForJob c.args.self.now = (c.free_number-number.result, least, c.if-number-ge-MOST_JOBS.false) in
+    learns_refused (λ a h. (s.0, s.1, ready, room, h)) (refused_exit _ _ c.from_residual.ensures.1) (c.prepare.ensures.learned s.0 s.1)
+
+pub returns-in_err-place-clause-learned : goal.returns-in_err-place-clause-learned
+returns-in_err-place-clause-learned g c =
+    let s = has_one c.args.self.now.plan.steps c.args.step c.requires.within in
+    let ready : IsReady c.args.self.now c.args.step = c.ready.ensures.value.0 c.if-not-ready.false in
+    let least : IsLeastFree c.args.self.now c.free_number-number.result = subst (λ (e : EngineValue). IsLeastIn e.jobs c.free_number-number.result) c.self.view_is (subst (λ js. IsLeastIn js c.free_number-number.result) c.deref.ensures.value c.free_number-number.ensures) in
+    let room : HasRoomForJob c.args.self.now = (c.free_number-number.result, least, c.if-number-ge-MOST_JOBS.false) in
+    learns_refused (λ a h. (s.0, s.1, ready, room, h)) (refused_exit _ _ c.from_residual-in_err-place.ensures.1) (c.prepare.ensures.learned s.0 s.1)
+
+pub returns-clause-learned : goal.returns-clause-learned
+returns-clause-learned g c =
+    let s = has_one c.args.self.now.plan.steps c.args.step c.requires.within in
+    let ready : IsReady c.args.self.now c.args.step = c.ready.ensures.value.0 c.if-not-ready.false in
+    let least : IsLeastFree c.args.self.now c.free_number-number.result = subst (λ (e : EngineValue). IsLeastIn e.jobs c.free_number-number.result) c.self.view_is (subst (λ js. IsLeastIn js c.free_number-number.result) c.deref.ensures.value c.free_number-number.ensures) in
+    let room : HasRoomForJob c.args.self.now = (c.free_number-number.result, least, c.if-number-ge-MOST_JOBS.false) in
+    learns_more (λ a h. (s.0, s.1, ready, room, h)) (λ n. n) (c.in_ok-job.ensures.learned s.0 s.1)

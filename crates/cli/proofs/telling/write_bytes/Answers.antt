@@ -1,8 +1,8 @@
 use Rattle.std.proofs.Common.{ap, sym, subst}
 use Rattle.cli.specs.Told.{AppendsUpTo}
 use Rattle.cli.proofs.Writing.{up_to_kept, up_to_more}
-use Rattle.cli.proofs.telling.write_beginning.Goals as goal
-use Rattle.cli.proofs.telling.write_beginning.Goals.{in-Ok, in-Err+else-ne}
+use Rattle.cli.proofs.telling.write_bytes.Goals as goal
+use Rattle.cli.proofs.telling.write_bytes.Goals.{in-Ok, in-Err+else-ne}
 
 pub loop-preserved : goal.loop-preserved
 loop-preserved g c =

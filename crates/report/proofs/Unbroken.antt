@@ -1,0 +1,109 @@
+-- The parts of a verdict's line have no newline.
+use Rattle.std.proofs.Common.{◌≡◌, ◌≢◌, ℕ, true, false, List, [], ◌∷◌, ◌++◌, sym, ap, ◌∙◌, inl, inr, arith, refl}
+use Rattle.std.specs.Prelude.{decimal, ◌==◌, ◌/◌, ◌%◌, ◌+◌, not, codes, nat_lt, if◌then◌else◌, Result, Ok, Err, IfOk}
+use Rattle.std.specs.Fmt.{signed_decimal}
+use Rattle.std.specs.Char.{is_ascii_digit}
+use Rattle.std.specs.List.{list_all}
+use Rattle.std.proofs.lemmas.List.Elements.{Contains-append_cases}
+use Rattle.std.proofs.lemmas.List.Sums.{AllPass-from_list_all}
+use Rattle.blob_digest.proofs.Decimals.{decimal-IsDecimal}
+use Rattle.blob_digest.proofs.DigestTexts.{all_pass-without, in_tail}
+use Rattle.plan.specs.Escape.{escaped, escaped_byte, escaped_path, hex_digit, is_plain}
+use Rattle.plan.specs.Line.{IsStepName, is_step_name_byte}
+use Rattle.messages.specs.Path.{path_text}
+use Rattle.blob_digest.specs.Digest.{DigestValue, IsDigest}
+use Rattle.blob_digest.specs.Text.{digest_text}
+use Rattle.blob_digest.proofs.DigestTexts.{digest_text-without}
+use Rattle.std.specs.Int.Signed.{mag}
+use Rattle.std.specs.Prelude.{ℤ, pos, negsuc, suc, ◌<◌, ◌^◌}
+use Rattle.verifier.specs.declared.verdict.Place.{Place}
+use Rattle.verifier.specs.declared.verdict.Cause.{Cause}
+use Rattle.std.proofs.lemmas.List.{append_assoc}
+use Rattle.report.specs.Line.{HasNoNewline, IsOneLine, cause_text, named, no_text, place_text, yes_text}
+
+-- what holds holds where a result is good
+pub where_ok : {P T E : Type 0} (result : Result T E) → P → IfOk result (λ x. P)
+where_ok (Ok x) holds = holds
+where_ok (Err e) holds = tt
+
+pub none_in_nil : HasNoNewline []
+none_in_nil (k, lt, e) = omega arith
+
+pub none_after : (b : ℕ) (text : List ℕ) → b ≢ 10 → HasNoNewline text → HasNoNewline (b ∷ text)
+none_after b text other rest has = elim (in_tail b text 10 has) [
+  | inl first ↦ other first
+  | inr later ↦ rest later
+]
+
+pub none_joined : (front back : List ℕ) → HasNoNewline front → HasNoNewline back → HasNoNewline (front ++ back)
+none_joined front back f b has = elim (Contains-append_cases front back 10 has) [
+  | inl early ↦ f early
+  | inr late ↦ b late
+]
+
+-- of a text that is known
+pub none_seen : (text : List ℕ) → list_all (λ b. not (b == 10)) text ≡ true → HasNoNewline text
+none_seen text all = all_pass-without (λ b. not (b == 10)) text 10 (AllPass-from_list_all (λ b. not (b == 10)) text all) refl
+
+pub none_named : (word text : List ℕ) → HasNoNewline word → HasNoNewline text → HasNoNewline (named word text)
+none_named word text w t = none_joined word (32 ∷ text) w (none_after 32 text (λ e. omega (arith, e)) t)
+
+pub none_in_number : (n : ℕ) → n < 2 ^ 64 → HasNoNewline (decimal n)
+none_in_number n small = all_pass-without is_ascii_digit (decimal n) 10 (decimal-IsDecimal n small).digits refl
+
+pub none_in_name : (name : List ℕ) → IsStepName name → HasNoNewline name
+none_in_name name lawful = all_pass-without is_step_name_byte name 10 lawful.bytes refl
+
+pub none_in_digest : (d : DigestValue) → IsDigest d → HasNoNewline (digest_text d)
+none_in_digest d lawful = digest_text-without d 10 lawful refl refl (λ e. omega (arith, e))
+
+pub none_in_signed : (z : ℤ) → mag z < 2 ^ 63 → HasNoNewline (signed_decimal z)
+none_in_signed (pos n) small = none_in_number n (omega (arith, small))
+none_in_signed (negsuc n) small = none_after 45 (decimal (suc n)) (λ e. omega (arith, e)) (none_in_number (suc n) (omega (arith, small)))
+
+no_digit : (n : ℕ) → hex_digit n ≢ 10
+no_digit n = elim (nat_lt n 10) as (λ small. (if small then 48 + n else 55 + n) ≢ 10) [
+  | true ↦ λ e. omega (arith, e)
+  | false ↦ λ e. omega (arith, e)
+]
+
+-- a byte that stands for itself, or `%` and two digits
+none_in_byte : (b : ℕ) → HasNoNewline (escaped_byte b)
+none_in_byte b =
+    let digits = none_after (hex_digit (b / 16)) (hex_digit (b % 16) ∷ []) (no_digit (b / 16)) (none_after (hex_digit (b % 16)) [] (no_digit (b % 16)) none_in_nil) in
+    elim (is_plain b) as (λ plain. is_plain b ≡ plain → HasNoNewline (if plain then b ∷ [] else 37 ∷ hex_digit (b / 16) ∷ hex_digit (b % 16) ∷ [])) [
+      | true ↦ λ plain. none_after b [] (λ e. cc (sym (ap is_plain e) ∙ plain)) none_in_nil
+      | false ↦ λ plain. none_after 37 (hex_digit (b / 16) ∷ hex_digit (b % 16) ∷ []) (λ e. omega (arith, e)) digits
+    ] refl
+
+none_in_text : (text : List ℕ) → HasNoNewline (escaped text)
+none_in_text [] = none_in_nil
+none_in_text (b ∷ text) = none_joined (escaped_byte b) (escaped text) (none_in_byte b) (none_in_text text)
+
+pub none_in_path : (path : List (List ℕ)) → HasNoNewline (escaped_path path)
+none_in_path path = none_in_text (path_text path)
+
+pub one_line : (text line : List ℕ) → HasNoNewline text → line ≡ text ++ 10 ∷ [] → IsOneLine line
+one_line text line unbroken e = record { text = text; unbroken = unbroken; ended = e }
+
+-- the two lines
+pub yes_line : (root : DigestValue) (steps : ℕ) → IsDigest root → steps < 2 ^ 64 → IsOneLine (yes_text root steps)
+yes_line root steps lawful small =
+    let number = none_joined (codes " steps ") (decimal steps) (none_seen (codes " steps ") refl) (none_in_number steps small) in
+    let text = none_joined (digest_text root) (codes " steps " ++ decimal steps) (none_in_digest root lawful) number in
+    record {
+      text = codes "yes " ++ (digest_text root ++ (codes " steps " ++ decimal steps));
+      unbroken = none_joined (codes "yes ") (digest_text root ++ (codes " steps " ++ decimal steps)) (none_seen (codes "yes ") refl) text;
+      ended = ap (λ l. codes "yes " ++ l) (ap (λ l. digest_text root ++ l) (sym (append_assoc (codes " steps ") (decimal steps) (10 ∷ []))) ∙ sym (append_assoc (digest_text root) (codes " steps " ++ decimal steps) (10 ∷ [])));
+    }
+
+pub no_line : {A : Type 0} (place : Place A) (cause : Cause A) → HasNoNewline (place_text place) → HasNoNewline (cause_text cause)
+    → IsOneLine (no_text place cause)
+no_line place cause p c =
+    let told = none_joined (codes " cause ") (cause_text cause) (none_seen (codes " cause ") refl) c in
+    let text = none_joined (place_text place) (codes " cause " ++ cause_text cause) p told in
+    record {
+      text = codes "no " ++ (place_text place ++ (codes " cause " ++ cause_text cause));
+      unbroken = none_joined (codes "no ") (place_text place ++ (codes " cause " ++ cause_text cause)) (none_seen (codes "no ") refl) text;
+      ended = ap (λ l. codes "no " ++ l) (ap (λ l. place_text place ++ l) (sym (append_assoc (codes " cause ") (cause_text cause) (10 ∷ []))) ∙ sym (append_assoc (place_text place) (codes " cause " ++ cause_text cause) (10 ∷ [])));
+    }

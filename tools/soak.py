@@ -1,0 +1,381 @@
+#!/usr/bin/env python3
+"""Asks a server of `buildcache serve` at random, and compares each answer with a model: soak.py PROGRAM [SECONDS [SEED]]
+
+For SECONDS (60) it sends GET and PUT of blobs and results, pin and unpin, to a server whose limits are small, so that
+entries are given up all the time. The model is the cache as docs/FORMATS.md has it, in lists: each answer has to be
+the model's, bytes and all. Connections are closed and opened at random, in the middle of a body too, which changes
+nothing. Then come clients that misbehave: one that sends a byte a second, one that never reads, one that resets in a
+body, 1,000 connections one after another, and the server killed in the middle of a PUT and started again. It prints
+what was asked, the answers by status, and the server's memory at the start and at the end; it ends with status 1 at
+the first answer that isn't the model's. Nothing outside this machine is asked.
+"""
+
+import collections
+import hashlib
+import random
+import socket
+import struct
+import subprocess
+import sys
+import time
+
+LIMIT = 1 << 20
+RESULT_LIMIT = 4000
+EMPTY = hashlib.sha256(b"").digest()
+
+
+def varint(number):
+    out = b""
+    while number >= 128:
+        out += bytes([number & 127 | 128])
+        number >>= 7
+    return out + bytes([number])
+
+
+def field(number, body):
+    return varint(number << 3 | 2) + varint(len(body)) + body
+
+
+def digest_message(blob):
+    size = b"\x10" + varint(len(blob)) if blob else b""
+    return field(1, hashlib.sha256(blob).hexdigest().encode()) + size
+
+
+def tree_of(files):
+    """A Tree of one Directory, with these files by name."""
+    nodes = b"".join(field(1, field(1, name) + field(2, digest_message(blob))) for name, blob in files)
+    return field(1, nodes)
+
+
+def result_of(files, trees):
+    """An ActionResult of output files and output directories by path."""
+    out = b"".join(field(2, field(1, path) + field(2, digest_message(blob))) for path, blob in files)
+    return out + b"".join(field(3, field(1, path) + field(3, digest_message(tree))) for path, tree in trees)
+
+
+class Result:
+    """The bytes of a result, and what it refers to: blobs of files, and Trees with the blobs of their files."""
+
+    def __init__(self, files, trees):
+        self.body = result_of(files, [(path, tree_of(below)) for path, below in trees])
+        self.files = [blob for _, blob in files]
+        self.trees = [(tree_of(below), [blob for _, blob in below]) for _, below in trees]
+
+
+class Model:
+    """The cache: blobs and results by hash, the most recently used first."""
+
+    def __init__(self):
+        self.blobs = []
+        self.results = []
+
+    def held(self, blob):
+        return not blob or any(it == blob for _, it in self.blobs)
+
+    def complete(self, result):
+        return all(map(self.held, result.files)) and all(
+            self.held(tree) and all(map(self.held, files)) for tree, files in result.trees
+        )
+
+    def references(self, result):
+        """The hashes of what a result refers to, in order; of a Tree's files only where the Tree is held."""
+        out = [hashlib.sha256(blob).digest() for blob in result.files]
+        for tree, files in result.trees:
+            out.append(hashlib.sha256(tree).digest())
+            if self.held(tree):
+                out += [hashlib.sha256(blob).digest() for blob in files]
+        return out
+
+    def enter(self, new, others, cost, pinned, limit):
+        """The new entry first, and the last unpinned others given up as far as need be. None: no room."""
+        kept = [new] + others
+        over = sum(map(cost, kept)) - limit
+        for entry in reversed(others):
+            if over <= 0:
+                break
+            if not pinned(entry):
+                kept.remove(entry)
+                over -= cost(entry)
+        return kept if over <= 0 else None
+
+    def front(self, hash):
+        self.blobs.sort(key=lambda it: it[0] != hash)
+
+    def get_blob(self, hash):
+        if hash == EMPTY:
+            return 200, b""
+        for found, blob in self.blobs:
+            if found == hash:
+                self.front(hash)
+                return 200, blob
+        return 404, b""
+
+    def put_blob(self, hash, blob):
+        if hashlib.sha256(blob).digest() != hash:
+            return 400, b""
+        if not blob:
+            return 200, b""
+        if any(it[0] == hash for it in self.blobs):
+            self.front(hash)
+            return 200, b""
+        pins = {it for _, result, on in self.results if on for it in self.references(result)}
+        kept = self.enter((hash, blob), self.blobs, lambda it: len(it[1]), lambda it: it[0] in pins, LIMIT)
+        if kept is None:
+            return 507, b""
+        self.blobs = kept
+        return 200, b""
+
+    def get_result(self, key):
+        for at, (found, result, on) in enumerate(self.results):
+            if found == key and self.complete(result):
+                self.results.insert(0, self.results.pop(at))
+                for hash in self.references(result):
+                    self.front(hash)
+                return 200, result.body
+        return 404, b""
+
+    def put_result(self, key, result):
+        before = next((it for it in self.results if it[0] == key), None)
+        if before and before[2] and before[1].body != result.body:
+            return 409, b""
+        others = [it for it in self.results if it[0] != key]
+        new = (key, result, bool(before and before[2]))
+        kept = self.enter(new, others, lambda it: len(it[1].body) + 64, lambda it: it[2], RESULT_LIMIT)
+        if kept is None:
+            return 507, b""
+        self.results = kept
+        return 200, b""
+
+    def pin(self, key, on):
+        for at, (found, result, pinned) in enumerate(self.results):
+            if found == key and (pinned if not on else self.complete(result)):
+                self.results[at] = (found, result, on)
+                return 200, b""
+        return 404, b""
+
+
+class Client:
+    """One connection."""
+
+    def __init__(self, port):
+        self.port = port
+        self.socket = None
+
+    def connect(self):
+        if self.socket is None:
+            self.socket = socket.create_connection(("127.0.0.1", self.port), timeout=60)
+            self.socket.setsockopt(socket.IPPROTO_TCP, socket.TCP_NODELAY, 1)
+        return self.socket
+
+    def close(self, reset=False):
+        if self.socket is not None:
+            if reset:
+                self.socket.setsockopt(socket.SOL_SOCKET, socket.SO_LINGER, struct.pack("ii", 1, 0))
+            self.socket.close()
+            self.socket = None
+
+    def ask(self, method, path, body):
+        head = f"{method} {path} HTTP/1.1\r\nHost: x\r\n"
+        if method == "PUT":
+            head += f"Content-Length: {len(body)}\r\n"
+        self.connect().sendall(head.encode() + b"\r\n" + body)
+        answer = b""
+        while b"\r\n\r\n" not in answer:
+            answer += self.piece()
+        head, _, rest = answer.partition(b"\r\n\r\n")
+        lines = head.decode().split("\r\n")
+        length = int(next(it for it in lines if it.startswith("Content-Length: "))[16:])
+        while len(rest) < length:
+            rest += self.piece()
+        if "Connection: close" in lines:
+            self.close()
+        return int(lines[0].split(" ")[1]), rest
+
+    def piece(self):
+        piece = self.socket.recv(1 << 20)
+        if not piece:
+            raise ConnectionError("the server closed the connection")
+        return piece
+
+
+class Server:
+    def __init__(self, program, idle=2):
+        self.process = subprocess.Popen(
+            [program, "serve", "--listen", "127.0.0.1:0", "--connections", "18446744073709551615", "--limit",
+             str(LIMIT), "--result-limit", str(RESULT_LIMIT), "--idle", str(idle)],
+            stdout=subprocess.PIPE, stderr=subprocess.DEVNULL,
+        )
+        self.port = int(self.process.stdout.readline().rsplit(b":", 1)[1])
+
+    def memory(self):
+        with open(f"/proc/{self.process.pid}/status", encoding="ascii") as status:
+            return next(int(line.split()[1]) for line in status if line.startswith("VmRSS"))
+
+    def end(self):
+        self.process.kill()
+        self.process.wait()
+
+
+class Soak:
+    def __init__(self, program, seed):
+        self.random = random.Random(seed)
+        self.server = Server(program)
+        self.client = Client(self.server.port)
+        self.model = Model()
+        self.seen = collections.Counter()
+        self.blobs = [self.random.randbytes(self.size()) for _ in range(300)]
+        names = [b"a", b"b", b"c"]
+        self.made = []
+        for _ in range(60):
+            files = [(name, self.random.choice(self.blobs)) for name in names[: self.random.randrange(4)]]
+            trees = [
+                (b"d" + name, [(it, self.random.choice(self.blobs)) for it in names[: self.random.randrange(4)]])
+                for name in names[: self.random.randrange(3)]
+            ]
+            self.made.append(Result(files, trees))
+        self.trees = [tree for result in self.made for tree, _ in result.trees]
+
+    def size(self):
+        return self.random.choice([0, 1, 100, 1000, 10000, 30000, 100000]) + self.random.randrange(50)
+
+    def turn(self):
+        """One request, and whether its answer is the model's."""
+        chance = self.random.random()
+        key = hashlib.sha256(bytes([self.random.randrange(40)])).digest()
+        blob = self.random.choice(self.blobs if chance < 0.5 else self.blobs[:60] + self.trees + [b""])
+        hash = hashlib.sha256(blob).digest()
+        kind = self.random.choices(
+            ["GET cas", "PUT cas", "PUT wrong", "GET ac", "PUT ac", "PUT bad", "PUT pin", "PUT unpin", "broken"],
+            [30, 30, 2, 20, 10, 1, 8, 3, 1],
+        )[0]
+        if kind == "GET cas":
+            ask, want = ("GET", f"/cas/{hash.hex()}", b""), self.model.get_blob(hash)
+        elif kind == "PUT cas":
+            ask, want = ("PUT", f"/cas/{hash.hex()}", blob), self.model.put_blob(hash, blob)
+        elif kind == "PUT wrong":
+            ask, want = ("PUT", f"/cas/{key.hex()}", blob), self.model.put_blob(key, blob)
+        elif kind == "GET ac":
+            ask, want = ("GET", f"/ac/{key.hex()}", b""), self.model.get_result(key)
+        elif kind == "PUT ac":
+            result = self.random.choice(self.made)
+            ask, want = ("PUT", f"/ac/{key.hex()}", result.body), self.model.put_result(key, result)
+        elif kind == "PUT bad":
+            ask, want = ("PUT", f"/ac/{key.hex()}", b"\xff"), (400, b"")
+        elif kind == "broken":
+            self.client.connect().sendall(
+                f"PUT /cas/{hash.hex()} HTTP/1.1\r\nHost: x\r\nContent-Length: {len(blob) + 1}\r\n\r\n".encode() + blob
+            )
+            self.client.close(reset=self.random.random() < 0.5)
+            self.seen["broken off"] += 1
+            return
+        else:
+            area = kind.split(" ")[1]
+            ask, want = ("PUT", f"/{area}/{key.hex()}", b""), self.model.pin(key, area == "pin")
+        got = self.client.ask(*ask)
+        self.seen[f"{kind} {got[0]}"] += 1
+        if got != want:
+            raise SystemExit(f"soak: {ask[0]} {ask[1]}: {got[0]} {got[1][:40]!r}, not {want[0]} {want[1][:40]!r}")
+        if self.random.random() < 0.01:
+            self.client.close()
+
+    def run(self, seconds):
+        first = None
+        end = time.monotonic() + seconds
+        asked = 0
+        while time.monotonic() < end:
+            self.turn()
+            asked += 1
+            if asked == 5000:
+                first = self.server.memory()
+        print(f"{asked} requests in {seconds} s, each answered as the model answers")
+        for kind in sorted(self.seen):
+            print(f"  {kind}: {self.seen[kind]}")
+        print(f"memory of the server after 5,000 requests: {first} kB, at the end: {self.server.memory()} kB")
+
+
+def tell(name, right):
+    print(f"{'ok    ' if right else 'FAILED'} {name}")
+    return 0 if right else 1
+
+
+def is_alive(port):
+    client = Client(port)
+    try:
+        return client.ask("GET", f"/cas/{EMPTY.hex()}", b"") == (200, b"")
+    finally:
+        client.close()
+
+
+def misbehave(program):
+    failed = 0
+    server = Server(program)
+    body = bytes(1 << 20)
+    hash = hashlib.sha256(body).hexdigest()
+    put = f"PUT /cas/{hash} HTTP/1.1\r\nHost: x\r\nContent-Length: {len(body)}\r\n\r\n".encode()
+
+    silent = socket.create_connection(("127.0.0.1", server.port))
+    began = time.monotonic()
+    failed += tell("a silent client is dropped, and the next one answered", is_alive(server.port))
+    print(f"       after {time.monotonic() - began:.1f} s, with --idle 2")
+    silent.close()
+
+    slow = socket.create_connection(("127.0.0.1", server.port))
+    slow.settimeout(10)
+    for byte in f"GET /cas/{EMPTY.hex()} HTTP/1.1\r\n"[:10].encode():
+        slow.sendall(bytes([byte]))
+        time.sleep(1)
+    slow.sendall(f"GET /cas/{EMPTY.hex()} HTTP/1.1\r\n"[10:].encode() + b"Host: x\r\n\r\n")
+    failed += tell("a client that sends a byte a second is answered", slow.recv(100).startswith(b"HTTP/1.1 200 "))
+    slow.close()
+
+    full = Client(server.port)
+    failed += tell("a blob of 1 MiB is put", full.ask("PUT", f"/cas/{hash}", body)[0] == 200)
+    deaf = full.connect()
+    try:
+        deaf.settimeout(1)
+        for _ in range(64):
+            deaf.sendall(f"GET /cas/{hash} HTTP/1.1\r\nHost: x\r\n\r\n".encode())
+    except OSError:
+        pass
+    began = time.monotonic()
+    failed += tell("after a client that never reads the next one is answered", is_alive(server.port))
+    print(f"       after {time.monotonic() - began:.1f} s, with --idle 2")
+    full.close()
+
+    broken = Client(server.port)
+    broken.connect().sendall(put + body[:1000])
+    broken.close(reset=True)
+    failed += tell("after a client that resets in a body the next one is answered", is_alive(server.port))
+
+    many = 1000
+    began = time.monotonic()
+    right = all(is_alive(server.port) for _ in range(many))
+    failed += tell(f"{many} connections one after another", right)
+    print(f"       in {time.monotonic() - began:.1f} s; memory {server.memory()} kB")
+
+    killed = Client(server.port)
+    killed.connect().sendall(put + body[:1000])
+    server.end()
+    killed.close()
+    again = Server(program)
+    failed += tell("a server killed in a PUT starts again, and holds nothing",
+                   Client(again.port).ask("GET", f"/cas/{hash}", b"")[0] == 404)
+    again.end()
+    return failed
+
+
+def main():
+    if len(sys.argv) not in (2, 3, 4):
+        raise SystemExit(__doc__)
+    program = sys.argv[1]
+    seconds = int(sys.argv[2]) if len(sys.argv) > 2 else 60
+    soak = Soak(program, int(sys.argv[3]) if len(sys.argv) > 3 else 1)
+    try:
+        soak.run(seconds)
+    finally:
+        soak.server.end()
+    sys.exit(1 if misbehave(program) else 0)
+
+
+if __name__ == "__main__":
+    main()
