@@ -4,7 +4,7 @@
 use cli::run_words;
 use std::alloc::AllocError;
 use std::env;
-use std::io::ErrorKind;
+use std::io::{ErrorKind, IsTerminal};
 use std::process::ExitCode;
 
 /// The words behind the program's name; `None` where one of them is no UTF-8.
@@ -23,6 +23,7 @@ fn main(rt: HostRuntime) -> ExitCode {
             words.as_slice(),
             &mut rt.stdout(),
             &mut rt.stderr(),
+            rt.stderr().is_terminal().then(|| rt.stderr()),
         )),
         Ok(None) => {
             let _ = eprintln!(rt; "error: a word of the command line is not UTF-8");

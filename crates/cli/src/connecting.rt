@@ -43,7 +43,7 @@ pub(crate) fn number_in(text: &str) -> Option<u64> {
 }
 
 /// Whether it is HOST:PORT.
-fn is_address(text: &str) -> bool {
+pub(crate) fn is_address(text: &str) -> bool {
     match text.rsplit_once(':') {
         None => false,
         Some((host, port)) => !host.is_empty() && number_in(port).is_some_and(|n| n < 65_536),

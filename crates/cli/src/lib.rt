@@ -7,6 +7,7 @@ mod error;
 mod files;
 mod get_command;
 mod options;
+mod progress;
 mod put_command;
 mod running;
 mod serve_command;

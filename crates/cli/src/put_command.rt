@@ -11,6 +11,7 @@ ghost use Rattle.remote.specs.Remote.{telling_of};
 use crate::connecting::{Client, open, read_server};
 use crate::error::CliError;
 use crate::files::{file_error, read_file};
+use crate::progress::Progress;
 use blob_digest::Digest;
 use clap::ArgMatches;
 use command_lines::text_of;
@@ -21,6 +22,7 @@ use std::fs;
 use std::io::Write;
 use std::net::{Net, TcpStream};
 use std::rt::Files;
+use std::time::Clock;
 use tree::{AddError, FlatEntry, FlatTree, fold};
 
 /// A folder whose entries aren't put yet: where it is, and where it stands in the tree, which has
@@ -90,9 +92,10 @@ fn path_below(
 
 /// Puts what stands at an entry of a folder. A link is only read; of a folder, what stands in it
 /// waits.
-fn put_entry<R: Files + AllocGlobal, S: Stream + Drop>(
+fn put_entry<R: Files + AllocGlobal + Clock, S: Stream + Drop, T: Write + Drop>(
     rt: &R,
     client: &mut Client<'_, S>,
+    progress: &mut Progress<T>,
     place: &str,
 ) -> Result<FlatEntry<Global>, CliError> {
     let alloc = rt.alloc();
@@ -117,7 +120,9 @@ fn put_entry<R: Files + AllocGlobal, S: Stream + Drop>(
         )?;
         return Ok(FlatEntry::Link { target });
     }
-    let digest = client.put(alloc, &read_file(rt, place)?)?;
+    let bytes = read_file(rt, place)?;
+    let digest = client.put(alloc, &bytes)?;
+    progress.count(rt, bytes.len());
     Ok(FlatEntry::File {
         digest,
         executable: false,
@@ -125,9 +130,10 @@ fn put_entry<R: Files + AllocGlobal, S: Stream + Drop>(
 }
 
 /// Puts the files in a folder, and adds its entries to the tree. The folders among them wait.
-fn put_entries<R: Files + AllocGlobal, S: Stream + Drop>(
+fn put_entries<R: Files + AllocGlobal + Clock, S: Stream + Drop, T: Write + Drop>(
     rt: &R,
     client: &mut Client<'_, S>,
+    progress: &mut Progress<T>,
     folder: &Folder,
     tree: &mut FlatTree<Global>,
     waiting: &mut Vec<Folder>,
@@ -137,7 +143,7 @@ fn put_entries<R: Files + AllocGlobal, S: Stream + Drop>(
     for name in names.iter() {
         let place = format!(in alloc; "{}/{}", folder.place, name)?;
         let path = path_below(alloc, folder, place.as_str(), name.as_str())?;
-        let entry = put_entry(rt, client, place.as_str())?;
+        let entry = put_entry(rt, client, progress, place.as_str())?;
         let below = Path::copy_of(alloc, &path)?;
         if entry.is_directory() {
             waiting.push(Folder {
@@ -157,9 +163,10 @@ fn put_entries<R: Files + AllocGlobal, S: Stream + Drop>(
 }
 
 /// Puts the files in a folder and below it; gives the tree of all that is there.
-fn put_files<R: Files + AllocGlobal, S: Stream + Drop>(
+fn put_files<R: Files + AllocGlobal + Clock, S: Stream + Drop, T: Write + Drop>(
     rt: &R,
     client: &mut Client<'_, S>,
+    progress: &mut Progress<T>,
     place: &str,
 ) -> Result<FlatTree<Global>, CliError> {
     let alloc = rt.alloc();
@@ -172,7 +179,9 @@ fn put_files<R: Files + AllocGlobal, S: Stream + Drop>(
     for _ in 0..u64::MAX {
         match waiting.pop() {
             None => return Ok(tree),
-            Some(folder) => put_entries(rt, client, &folder, &mut tree, &mut waiting)?,
+            Some(folder) => {
+                put_entries(rt, client, progress, &folder, &mut tree, &mut waiting)?;
+            }
         }
     }
     Err(entry_error(alloc, place, "too many folders")?)
@@ -200,9 +209,10 @@ fn put_directories<S: Stream + Drop>(
 }
 
 /// Puts a file, or a folder with all below it; gives its digest.
-fn put_path<R: Files + AllocGlobal, S: Stream + Drop>(
+fn put_path<R: Files + AllocGlobal + Clock, S: Stream + Drop, T: Write + Drop>(
     rt: &R,
     client: &mut Client<'_, S>,
+    progress: &mut Progress<T>,
     place: &str,
 ) -> Result<Digest, CliError>
     ensures held { IfOk result (HasRight (telling_of client.new.remote).blobs) }
@@ -212,7 +222,7 @@ fn put_path<R: Files + AllocGlobal, S: Stream + Drop>(
         Err(fault) => return Err(file_error(rt, place, fault)?),
     };
     if metadata.is_dir() {
-        let tree = put_files(rt, client, place)?;
+        let tree = put_files(rt, client, progress, place)?;
         put_directories(rt.alloc(), client, &tree)
     } else {
         client.put(rt.alloc(), &read_file(rt, place)?)
@@ -232,14 +242,16 @@ fn print_digest<O: Write>(alloc: Global, digest: &Digest, out: &mut O) -> Result
     Ok(())
 }
 
-/// Puts the file or the folder that the words name, and prints its digest.
-pub(crate) fn run_put<R, O: Write>(
+/// Puts the file or the folder that the words name, and prints its digest. On a terminal it tells
+/// how far it is, until it ends.
+pub(crate) fn run_put<R, O: Write, T: Write + Drop>(
     rt: &R,
     matches: &ArgMatches<'_>,
     out: &mut O,
+    terminal: Option<T>,
 ) -> Result<(), CliError>
 where
-    R: AllocGlobal + Files + Net<Stream = TcpStream>,
+    R: AllocGlobal + Clock + Files + Net<Stream = TcpStream>,
     ensures printed { OnOk result
         (PrintsDigest (rows_of (found_of matches.now)) (O.contents out.old) (O.contents out.new)) }
     ensures unprinted { IfErr result
@@ -247,7 +259,10 @@ where
 {
     let server = read_server(rt.alloc(), matches, text_of(matches, "server"))?;
     let mut client = open(rt, &server)?;
-    let digest = put_path(rt, &mut client, text_of(matches, "path"))?;
+    let mut progress = Progress::new(terminal);
+    let put = put_path(rt, &mut client, &mut progress, text_of(matches, "path"));
+    progress.clear();
+    let digest = put?;
     print_digest(rt.alloc(), &digest, out)?;
     Ok(())
 }

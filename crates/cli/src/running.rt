@@ -32,8 +32,15 @@ enum Ended {
 
 /// Runs the program on these words. Its answers go to `out`, and for statuses 2 and 3 one line
 /// beginning `error: ` goes to `err`. The status: 0 done or yes, 1 no, 2 where the words or the
-/// texts that they name are at fault, 3 where a file, the output or memory is.
-pub fn run_words<R, O: Write, E: Write>(rt: &R, words: &[String], out: &mut O, err: &mut E) -> u8
+/// texts that they name are at fault, 3 where a file, the output or memory is. On a terminal, where
+/// there is one, `put` tells how far it is.
+pub fn run_words<R, O: Write, E: Write, T: Write + Drop>(
+    rt: &R,
+    words: &[String],
+    out: &mut O,
+    err: &mut E,
+    terminal: Option<T>,
+) -> u8
 where
     R: AllocGlobal + Clock + Files + Log + RandomSource,
     R: Net<Listener = TcpListener, Stream = TcpStream>,
@@ -59,7 +66,7 @@ where
     ensures refused { 2 ≤ result → CallsCommand (map string_bytes words.now) (codes "verify")
         → EndsRefused (options_of (map string_bytes words.now)) result }
 {
-    match run(rt, words, out) {
+    match run(rt, words, out, terminal) {
         Ok(Ended::Done) => 0,
         Ok(Ended::No) => 1,
         Err(error) => {
@@ -69,7 +76,12 @@ where
     }
 }
 
-fn run<R, O: Write>(rt: &R, words: &[String], out: &mut O) -> Result<Ended, CliError>
+fn run<R, O: Write, T: Write + Drop>(
+    rt: &R,
+    words: &[String],
+    out: &mut O,
+    terminal: Option<T>,
+) -> Result<Ended, CliError>
 where
     R: AllocGlobal + Clock + Files + Log + RandomSource,
     R: Net<Listener = TcpListener, Stream = TcpStream>,
@@ -100,7 +112,7 @@ where
             }
         }
         Some(("put", inner)) => {
-            run_put(rt, inner, out)?;
+            run_put(rt, inner, out, terminal)?;
             Ok(Ended::Done)
         }
         Some(("get", inner)) => {

@@ -1,9 +1,11 @@
 ghost use Rattle.std.specs.Prelude.{◌≡◌, ◌≤◌, ◌<◌, ◌^◌, IfErr, IfOk, OnOk};
 ghost use Rattle.cli.specs.Printed.{PrintsAddress};
+ghost use Rattle.cli.specs.Refusal.{IsCommandFault};
 ghost use Rattle.cli.specs.Status.{status_of};
 
-use crate::connecting::{number_in, read_prefix};
+use crate::connecting::{is_address, number_in, read_prefix};
 use crate::error::CliError;
+use crate::options::unlike;
 use cache_server::Cache;
 use clap::ArgMatches;
 use command_lines::text_of;
@@ -25,7 +27,8 @@ const IDLE_SECONDS: u64 = 60;
 
 /// What the words of `serve` ask for.
 #[derive(Drop)]
-struct Asked {
+struct Asked<'a> {
+    address: &'a str,
     connections: u64,
     limit: u64,
     result_limit: u64,
@@ -53,6 +56,18 @@ fn read_number(
     }
 }
 
+/// Where the words say to listen.
+fn read_address<'a>(alloc: Global, matches: &ArgMatches<'a>) -> Result<&'a str, CliError>
+    ensures fault { IfErr result IsCommandFault }
+{
+    let text = text_of(matches, "listen");
+    if is_address(text) {
+        Ok(text)
+    } else {
+        Err(unlike(alloc, "listen", "HOST:PORT", text)?)
+    }
+}
+
 /// The number of seconds of `--idle`.
 fn read_idle(alloc: Global, matches: &ArgMatches<'_>) -> Result<u64, CliError> {
     match matches.get_str("idle") {
@@ -61,15 +76,17 @@ fn read_idle(alloc: Global, matches: &ArgMatches<'_>) -> Result<u64, CliError> {
     }
 }
 
-fn read_asked(alloc: Global, matches: &ArgMatches<'_>) -> Result<Asked, CliError>
+fn read_asked<'a>(alloc: Global, matches: &ArgMatches<'a>) -> Result<Asked<'a>, CliError>
     ensures { IfOk result (λ asked. (asked.limit < 2 ^ 63) × (asked.result_limit < 2 ^ 63)) }
 {
+    let address = read_address(alloc, matches)?;
     let connections = read_number(alloc, matches, "connections", u64::MAX)?;
     let limit = read_number(alloc, matches, "limit", GREATEST_LIMIT)?;
     let result_limit = read_number(alloc, matches, "result-limit", GREATEST_LIMIT)?;
     let idle = read_idle(alloc, matches)?;
     let prefix = read_prefix(alloc, matches)?;
     Ok(Asked {
+        address,
         connections,
         limit,
         result_limit,
@@ -132,7 +149,7 @@ where
     let asked = read_asked(alloc, matches)?;
     let state = RandomState::new(rt).map_err(CliError::Random)?;
     let mut cache: Cache<Global> = Cache::new(alloc, state, asked.limit, asked.result_limit)?;
-    let listener = listen(rt, text_of(matches, "listen"))?;
+    let listener = listen(rt, asked.address)?;
     print_address(alloc, &listener, out)?;
     let idle = match asked.idle {
         0 => None,

@@ -19,14 +19,14 @@ fn run(rt: &HostRuntime, line: &str) -> Result<(u8, String, String), Fail> {
     }
     let mut out = Vec::new(alloc);
     let mut err = Vec::new(alloc);
-    let status = run_words(rt, words.as_slice(), &mut out, &mut err);
+    let status = run_words(rt, words.as_slice(), &mut out, &mut err, None::<Vec<u8>>);
     let out = String::from_utf8(out)?;
     let err = String::from_utf8(err)?;
     Ok((status, out, err))
 }
 
 /// Command lines with the files of this test, and their status, output and error line.
-static ROWS: [(&str, u8, &str, &str); 26] = [
+static ROWS: [(&str, u8, &str, &str); 27] = [
     (
         "verify --store s --sources EMPTY --plan plan --record record --claim EMPTY",
         0,
@@ -110,6 +110,12 @@ static ROWS: [(&str, u8, &str, &str); 26] = [
         2,
         "",
         "error: the following required arguments were not provided: --connections <N> --limit <BYTES> --result-limit <BYTES>",
+    ),
+    (
+        "serve --listen x --connections 1 --limit 1 --result-limit 1",
+        2,
+        "",
+        "error: --listen: HOST:PORT is wanted, not \"x\"",
     ),
     (
         "verify --store s --sources x --plan none --record none --claim y",

@@ -5,6 +5,7 @@
 use cli::run_words;
 use std::alloc::AllocError;
 use std::env;
+use std::io::Stderr;
 use std::process::ExitCode;
 
 fn main(rt: HostRuntime) -> ExitCode {
@@ -18,6 +19,7 @@ fn main(rt: HostRuntime) -> ExitCode {
             words.as_slice(),
             &mut rt.stdout(),
             &mut rt.stderr(),
+            None::<Stderr>,
         )),
         Err(_e) => ExitCode::from(3),
     }
