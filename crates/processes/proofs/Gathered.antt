@@ -1,6 +1,6 @@
 -- What is collected so far, path by path.
-use Rattle.std.proofs.Common.{◌≡◌, ℕ, suc, ◌+◌, ◌<◌, length, take, get_or, List, [], ◌∷◌, ◌++◌, sym, subst, ◌∙◌, ap, refl, arith, inl, inr, Some}
-use Rattle.std.specs.Prelude.{◌⊎◌, Contains, map, ℤ}
+use Rattle.std.proofs.Common.{◌≡◌, ℕ, suc, ◌+◌, ◌<◌, length, take, get_or, List, [], ◌∷◌, ◌++◌, sym, subst, ◌∙◌, ap, refl, arith, inl, inr}
+use Rattle.std.specs.Prelude.{◌⊎◌, Contains, ℤ}
 use Rattle.std.specs.List.{AllByRecursion}
 use Rattle.std.proofs.lemmas.List.{map-append, take_more}
 use Rattle.std.proofs.lemmas.List.Elements.{Contains-append_left, Contains-append_right, Contains-append_cases}
@@ -10,7 +10,7 @@ use Rattle.actions.specs.Outcome.{OutputValue, OutcomeValue, AddsOutput, output_
 use Rattle.processes.specs.declared.workshop.Standing.TheVariants as standings
 use Rattle.processes.specs.Workshop.{Works}
 use Rattle.processes.specs.Laying.{place_below}
-use Rattle.processes.specs.Collected.{AreKept, IsOutputAt, IsFound, IsSettled, IsMore, AreOutputs}
+use Rattle.processes.specs.Collected.{AreKept, IsOutputAt, IsFound, IsSettled, IsMore}
 use Rattle.processes.proofs.Lists.{all_more, all_still}
 
 there : {X : Type 0} (y x : X) (ys : List X) → Contains ys x → Contains (y ∷ ys) x

@@ -1,5 +1,5 @@
 -- What is collected of a child.
-use Rattle.std.specs.Prelude.{◌≡◌, ◌⊎◌, ℕ, List, ◌∷◌, Some, Contains}
+use Rattle.std.specs.Prelude.{◌≡◌, ◌⊎◌, ℕ, List, Some, Contains}
 use Rattle.std.specs.List.{AllByRecursion}
 use Rattle.blob_digest.specs.Digest.{digest_of}
 use Rattle.messages.specs.Path.{path_text}

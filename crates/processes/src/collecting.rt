@@ -1,7 +1,6 @@
 ghost use Rattle.std.specs.Prelude.{◌≡◌, Err, IfOk, OnOk};
 ghost use Rattle.worker.specs.Values.{blobs_of};
 ghost use Rattle.processes.specs.Collected.{AreOutputs, IsMore};
-ghost use Rattle.processes.specs.Laying.{place_below};
 
 use crate::laying::place_below;
 use crate::trouble::Trouble;

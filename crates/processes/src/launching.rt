@@ -1,7 +1,8 @@
 ghost use Rattle.std.specs.Prelude.{◌≡◌, ℕ, List, [], ◌∷◌, ◌++◌, IfOk, OnOk, map, string_bytes};
 ghost use Rattle.std.specs.Prelude.{None, Some, true};
 ghost use Rattle.std.specs.Process.{command_program, command_args, command_var, command_dir};
-ghost use Rattle.std.specs.Process.{clears_env, SameProgramAndArgs, SameEnv, SameDir, SameOtherVars};
+ghost use Rattle.std.specs.Process.{clears_env, SameProgramAndArgs, SameEnv};
+ghost use Rattle.std.specs.Process.{SameDir, SameOtherVars};
 ghost use Rattle.processes.specs.Process.{IsProcessOf, said};
 
 use actions::{Command, EnvironmentVariable};

@@ -1,4 +1,5 @@
-ghost use Rattle.std.specs.Prelude.{◌≡◌, ◌+◌, Err, IfOk, IsTrue, Ok, OnErr, OnOk, Some, string_bytes};
+ghost use Rattle.std.specs.Prelude.{◌≡◌, ◌+◌, Err, IfOk, IsTrue, Ok};
+ghost use Rattle.std.specs.Prelude.{OnErr, OnOk, Some, string_bytes};
 ghost use Rattle.worker.specs.Values.{IsAbsolute};
 ghost use Rattle.messages.specs.Path.{begins_with_slash};
 ghost use Rattle.processes.specs.Collected.{AreOutputs};
@@ -6,7 +7,7 @@ ghost use Rattle.processes.specs.Laying.{folder_of};
 ghost use Rattle.processes.specs.Running.{IsLaunched, alive_of, failures_of, work_of, next_of};
 
 use crate::collecting::collect;
-use crate::laying::{lay_out, place_below, prepare, start_of};
+use crate::laying::{lay_out, prepare, start_of};
 use crate::tally::Tally;
 use crate::trouble::Trouble;
 use crate::workshop::Workshop;

@@ -1,8 +1,7 @@
-use Rattle.std.proofs.Common.{sym, subst, inl, inr}
+use Rattle.std.proofs.Common.{sym, subst, inr}
 use Rattle.worker.specs.Values.{blobs_of}
 use Rattle.actions.specs.Outcome.{AddsOutput, output_value}
 use Rattle.processes.specs.Collected.{AreKept, IsOutputAt}
-use Rattle.processes.proofs.Lists.{kept_none}
 use Rattle.processes.proofs.collecting.take_output.Goals as goal
 use Rattle.processes.proofs.collecting.take_output.Goals.{in-File+in_ok-digest-in-File, in-Folder+in_ok-keep_folder-in-Folder}
 

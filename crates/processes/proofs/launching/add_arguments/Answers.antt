@@ -1,4 +1,4 @@
-use Rattle.std.proofs.Common.{rules, ◌≡◌, ◌++◌, [], ◌∷◌, take, ap, ◌∙◌, sym, append_assoc}
+use Rattle.std.proofs.Common.{rules, ◌++◌, [], ◌∷◌, take, ap, ◌∙◌, sym, append_assoc}
 use Rattle.std.specs.Prelude.{map, string_bytes}
 use Rattle.std.specs.Process.{command_args}
 use Rattle.processes.proofs.Lists.{map_taken}

@@ -1,4 +1,4 @@
-use Rattle.std.proofs.Common.{◌≡◌, List, ℕ, [], ◌∷◌, ◌++◌, ◌-◌, length, take, drop, ap, sym, ◌∙◌, None}
+use Rattle.std.proofs.Common.{◌≡◌, ◌++◌, ◌-◌, length, take, drop, ap, sym, ◌∙◌, None}
 use Rattle.std.specs.Prelude.{map, string_bytes}
 use Rattle.std.specs.Process.{command_program, command_args}
 use Rattle.processes.specs.Process.{said}

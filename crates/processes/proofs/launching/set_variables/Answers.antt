@@ -1,4 +1,4 @@
-use Rattle.std.proofs.Common.{rules, ◌≡◌, subst, Some, ◌∙◌}
+use Rattle.std.proofs.Common.{rules, ◌≡◌, subst, Some}
 use Rattle.std.specs.Process.{command_var, SameOtherVars}
 use Rattle.processes.proofs.Saying.{said_step}
 use Rattle.processes.proofs.launching.set_variables.Goals as goal

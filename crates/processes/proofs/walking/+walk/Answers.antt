@@ -1,5 +1,4 @@
 use Rattle.std.proofs.Common.{sym, subst}
-use Rattle.std.specs.declared.vec.Vec.{Vec}
 use Rattle.worker.specs.Values.{blobs_of}
 use Rattle.processes.specs.Collected.{AreKept}
 use Rattle.processes.proofs.Lists.{kept_trans}

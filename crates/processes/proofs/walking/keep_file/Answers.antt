@@ -1,5 +1,4 @@
-use Rattle.std.proofs.Common.{subst, sym}
-use Rattle.processes.proofs.Lists.{kept_pushed, held_pushed, kept_none}
+use Rattle.processes.proofs.Lists.{kept_pushed}
 use Rattle.processes.proofs.walking.keep_file.Goals as goal
 
 pub returns-clause-kept : goal.returns-clause-kept
