@@ -1,6 +1,7 @@
 -- Where a job's files stand, and what is made before its process starts.
-use Rattle.std.specs.Prelude.{ℕ, List, ◌∷◌, ◌++◌, Option, Some, None, decimal}
+use Rattle.std.specs.Prelude.{ℕ, List, ◌∷◌, ◌++◌, Option, Some, None, IfSome, decimal}
 use Rattle.std.specs.List.{AllByRecursion}
+use Rattle.std.specs.Path.{path_parent}
 use Rattle.messages.specs.Path.{path_text}
 use Rattle.worker.specs.Values.{LayoutValue}
 use Rattle.processes.specs.Workshop.{Works}
@@ -34,3 +35,14 @@ pub record IsLaidOut {C : Type 0} (works : Works C) (folder : List ℕ) (l : Lay
   pub itself : works.made folder
   pub folders : AreMade works folder l.folders
   pub files : AreWritten works folder l.files
+
+-- the folder above a path was made: below the start, or the start itself
+abbrev pub HasParent : {C : Type 0} → Works C → List ℕ → List (List ℕ) → Type 0
+HasParent works start path =
+    IfSome (path_parent (path_text path)) (λ above. works.made (place_below start above))
+
+-- The folder that a command starts in was made, and the folders above its output paths.
+pub record IsPrepared {C : Type 0} (works : Works C) (start : List ℕ)
+    (outputs : List (List (List ℕ))) : Type 0 where
+  pub itself : works.made start
+  pub parents : AllByRecursion (HasParent works start) outputs

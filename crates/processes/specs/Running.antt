@@ -6,7 +6,7 @@ use Rattle.processes.specs.declared.tally.Tally.{Tally}
 use Rattle.processes.specs.declared.running.ProcessRunner.{ProcessRunner}
 use Rattle.processes.specs.declared.running.ProcessJob.{ProcessJob}
 use Rattle.processes.specs.Workshop.{Works}
-use Rattle.processes.specs.Laying.{start_of, IsLaidOut}
+use Rattle.processes.specs.Laying.{start_of, IsLaidOut, IsPrepared}
 use Rattle.processes.specs.Collected.{AreOutputs}
 
 -- how many children weren't waited for yet
@@ -38,13 +38,13 @@ pub record CameTo {C : Type 0} (works : Works C) (child : C) (start : List ℕ)
   pub outputs : AreOutputs works start paths p.outcome p.blobs
 
 -- A child was started for a command below a job's folder, where the layout was made, in the folder
--- that the command names, which was made too.
+-- that the command names, which was made too, as were the folders above the output paths.
 pub record IsLaunched {C : Type 0} (works : Works C) (l : LayoutValue) (c : CommandValue)
     (child : C) (start : List ℕ) : Type 0 where
   pub folder : List ℕ
   pub laid : IsLaidOut works folder l
   pub is_start : start ≡ start_of folder c.working_directory
-  pub made : works.made start
+  pub prepared : IsPrepared works start c.output_paths
   pub started : works.runs child c start
 
 -- A child was started so, and came to this.

@@ -1,6 +1,6 @@
 ghost use Rattle.std.specs.Prelude.{◌≡◌, IfOk, OnOk, string_bytes};
 ghost use Rattle.worker.specs.Values.{contents_of};
-ghost use Rattle.processes.specs.Laying.{AreMade, AreWritten, IsLaidOut};
+ghost use Rattle.processes.specs.Laying.{AreMade, AreWritten, HasParent, IsLaidOut, IsPrepared};
 ghost use Rattle.processes.specs.Laying.{place_below, start_of};
 
 use crate::trouble::Trouble;
@@ -82,18 +82,23 @@ pub(crate) fn lay_out<A: Allocator + Copy, W: Workshop>(
     write_files(alloc, workshop, folder, &layout.files)
 }
 
-/// Makes the folder above a path, where the path has more than one name.
+/// Makes the folder above a path, which is the start itself where the path has one name.
 fn make_parent<A: Allocator, W: Workshop>(
     alloc: A,
     workshop: &W,
     start: &str,
     path: &Path<A>,
-) -> Result<(), Trouble> {
-    if let Some((parent, _name)) = path.as_str().rsplit_once('/') {
-        let place = place_below(alloc, start, parent)?;
-        workshop.make_all(place.as_str())?;
+) -> Result<(), Trouble>
+    ensures { OnOk result (HasParent W.works start.now path.now) }
+{
+    match std::path::Path::new(path.as_str()).parent() {
+        Some(above) => {
+            let place = place_below(alloc, start, above.as_str())?;
+            workshop.make_all(place.as_str())?;
+            Ok(())
+        }
+        None => Ok(()),
     }
-    Ok(())
 }
 
 /// Makes the folder that a command starts in, and the folders above its output paths.
@@ -103,7 +108,7 @@ pub(crate) fn prepare<A: Allocator + Copy, W: Workshop>(
     start: &str,
     outputs: &[Path<A>],
 ) -> Result<(), Trouble>
-    ensures { OnOk result (W.works.made start.now) }
+    ensures { OnOk result (IsPrepared W.works start.now outputs.now) }
 {
     workshop.make_all(start)?;
     for path in outputs {
