@@ -1,7 +1,7 @@
 -- Jobs in a workshop, and what may come of them.
 use Rattle.std.specs.Prelude.{◌≡◌, ℕ, List, Some, string_bytes}
 use Rattle.action_messages.specs.Command.{CommandValue}
-use Rattle.worker.specs.Values.{LayoutValue, ProducedValue}
+use Rattle.worker.specs.Values.{LayoutValue, ProducedValue, IsAbsolute}
 use Rattle.processes.specs.declared.tally.Tally.{Tally}
 use Rattle.processes.specs.declared.running.ProcessRunner.{ProcessRunner}
 use Rattle.processes.specs.declared.running.ProcessJob.{ProcessJob}
@@ -47,9 +47,10 @@ pub record IsLaunched {C : Type 0} (works : Works C) (l : LayoutValue) (c : Comm
   pub prepared : IsPrepared works start c.output_paths
   pub started : works.runs child c start
 
--- A child was started so, and came to this.
+-- The command names its program from the root. A child was started so, and came to this.
 pub record IsRun {C : Type 0} (works : Works C) (l : LayoutValue) (c : CommandValue)
     (p : ProducedValue) : Type 0 where
+  pub absolute : IsAbsolute c
   pub child : C
   pub start : List ℕ
   pub launched : IsLaunched works l c child start

@@ -64,7 +64,8 @@ fn begins_with_slash(bytes: &[u8]) -> bool
 
 /// Whether the command names its program by a path from the root of the file system.
 fn is_absolute<A: Allocator>(command: &Command<A>) -> bool
-    ensures { IsAbsolute command.now → IsTrue result }
+    ensures some { IsAbsolute command.now → IsTrue result }
+    ensures only { IsTrue result → IsAbsolute command.now }
 {
     match command.arguments() {
         [program, ..] => begins_with_slash(program.as_bytes()),
