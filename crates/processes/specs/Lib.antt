@@ -1,0 +1,5 @@
+pub mod Workshop
+pub mod Laying
+pub mod Collected
+pub mod Running
+pub mod Process

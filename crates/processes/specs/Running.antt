@@ -1,0 +1,61 @@
+-- Jobs in a workshop, and what may come of them.
+use Rattle.std.specs.Prelude.{◌≡◌, ℕ, List, Some, string_bytes}
+use Rattle.action_messages.specs.Command.{CommandValue}
+use Rattle.worker.specs.Values.{LayoutValue, ProducedValue, IsAbsolute}
+use Rattle.processes.specs.declared.tally.Tally.{Tally}
+use Rattle.processes.specs.declared.running.ProcessRunner.{ProcessRunner}
+use Rattle.processes.specs.declared.running.ProcessJob.{ProcessJob}
+use Rattle.processes.specs.Workshop.{Works}
+use Rattle.processes.specs.Laying.{start_of, IsLaidOut, IsPrepared}
+use Rattle.processes.specs.Collected.{AreOutputs}
+
+-- how many children weren't waited for yet
+abbrev pub alive_in : Tally → ℕ
+alive_in t = t.alive
+
+-- how often something failed
+abbrev pub failures_in : Tally → ℕ
+failures_in t = t.failures
+
+abbrev pub alive_of : {W A : Type 0} → ProcessRunner W A → ℕ
+alive_of r = alive_in r.tally
+
+abbrev pub failures_of : {W A : Type 0} → ProcessRunner W A → ℕ
+failures_of r = failures_in r.tally
+
+-- the folder of all jobs, and the number of the next one
+abbrev pub work_of : {W A : Type 0} → ProcessRunner W A → List ℕ
+work_of r = string_bytes r.work
+
+abbrev pub next_of : {W A : Type 0} → ProcessRunner W A → ℕ
+next_of r = r.next
+
+-- A child came to this: it was waited for and ended with the exit code, and the outputs are what
+-- stood at the paths below the folder that it started in.
+pub record CameTo {C : Type 0} (works : Works C) (child : C) (start : List ℕ)
+    (paths : List (List (List ℕ))) (p : ProducedValue) : Type 0 where
+  pub ended : works.ended child (Some p.outcome.exit_code)
+  pub outputs : AreOutputs works start paths p.outcome p.blobs
+
+-- A child was started for a command below a job's folder, where the layout was made, in the folder
+-- that the command names, which was made too, as were the folders above the output paths.
+pub record IsLaunched {C : Type 0} (works : Works C) (l : LayoutValue) (c : CommandValue)
+    (child : C) (start : List ℕ) : Type 0 where
+  pub folder : List ℕ
+  pub laid : IsLaidOut works folder l
+  pub is_start : start ≡ start_of folder c.working_directory
+  pub prepared : IsPrepared works start c.output_paths
+  pub started : works.runs child c start
+
+-- The command names its program from the root. A child was started so, and came to this.
+pub record IsRun {C : Type 0} (works : Works C) (l : LayoutValue) (c : CommandValue)
+    (p : ProducedValue) : Type 0 where
+  pub absolute : IsAbsolute c
+  pub child : C
+  pub start : List ℕ
+  pub launched : IsLaunched works l c child start
+  pub came : CameTo works child start c.output_paths p
+
+-- what may come of a job
+abbrev pub may_come : {C A : Type 0} → Works C → ProcessJob C A → ProducedValue → Type 0
+may_come works job = CameTo works job.child (string_bytes job.start) job.outputs.items

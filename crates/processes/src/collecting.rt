@@ -1,0 +1,71 @@
+ghost use Rattle.std.specs.Prelude.{◌≡◌, Err, IfOk, OnOk};
+ghost use Rattle.worker.specs.Values.{blobs_of};
+ghost use Rattle.processes.specs.Collected.{AreOutputs, IsMore};
+
+use crate::laying::place_below;
+use crate::trouble::Trouble;
+use crate::walking::{keep_file, keep_folder};
+use crate::workshop::{Standing, Workshop};
+use actions::{Outcome, Output};
+use messages::Path;
+use std::alloc::Allocator;
+use worker::{Produced, RunError};
+
+/// Takes what stands at a place as the output of a path.
+fn take_output<A: Allocator + Copy, W: Workshop>(
+    alloc: A,
+    workshop: &W,
+    place: &str,
+    path: &Path<A>,
+    outcome: &mut Outcome<A>,
+    blobs: &mut Vec<Vec<u8, A>, A>,
+) -> Result<(), Trouble>
+    ensures { OnOk result (IsMore W.works place.now path.now outcome.old
+        (blobs_of blobs.old.items) outcome.new (blobs_of blobs.new.items)) }
+{
+    let output = match workshop.look(place)? {
+        Standing::Nothing => return Ok(()),
+        Standing::File { executable } => {
+            let digest = keep_file(alloc, workshop, place, blobs)?;
+            Output::File { digest, executable }
+        }
+        Standing::Folder => Output::Tree(keep_folder(alloc, workshop, place, blobs)?),
+        Standing::Other => return Err(Trouble::NoOutput),
+    };
+    outcome.add(alloc, Path::copy_of(alloc, path)?, output)?;
+    Ok(())
+}
+
+/// What stands at the paths below a folder, as the outcome of an exit code, and its blobs.
+pub(crate) fn collect<A: Allocator + Copy, W: Workshop>(
+    alloc: A,
+    workshop: &W,
+    folder: &str,
+    paths: &[Path<A>],
+    exit_code: i32,
+) -> Result<Produced<A>, RunError<A>>
+    ensures code { IfOk result (λ p. p.outcome.exit_code ≡ exit_code) }
+    ensures outputs { IfOk result
+        (λ p. AreOutputs W.works folder.now paths.now p.outcome p.blobs) }
+    ensures error { result ≡ Err RunError.NotAbsolute → ⊥ }
+{
+    let mut outcome = Outcome::new(alloc, exit_code);
+    let mut blobs = Vec::new(alloc);
+    for path in paths {
+        let Ok(place) = place_below(alloc, folder, path.as_str()) else {
+            return Err(RunError::Memory);
+        };
+        match take_output(
+            alloc,
+            workshop,
+            place.as_str(),
+            path,
+            &mut outcome,
+            &mut blobs,
+        ) {
+            Ok(()) => {}
+            Err(trouble) => return Err(trouble.at(alloc, path)),
+        }
+    }
+    Ok(Produced { outcome, blobs })
+}

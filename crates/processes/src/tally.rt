@@ -1,0 +1,86 @@
+ghost use Rattle.std.specs.Prelude.{◌≡◌, ◌+◌, ◌-◌, ◌<◌, IfOk, OnErr, OnOk};
+ghost use Rattle.processes.specs.Running.{alive_in, failures_in};
+
+use crate::workshop::Workshop;
+use actions::Command;
+use std::alloc::Allocator;
+use std::io;
+use std::io::ErrorKind;
+use worker::RunError;
+
+/// How many children weren't waited for yet, and how often something failed. Only what starts a
+/// child and what waits for one change the first.
+#[derive(Drop)]
+pub(crate) struct Tally {
+    alive: u64,
+    failures: u64,
+}
+
+impl Tally {
+    /// No child and no failure yet.
+    pub(crate) fn new() -> Tally
+        ensures alive { alive_in result ≡ 0 }
+        ensures failures { failures_in result ≡ 0 }
+    {
+        Tally {
+            alive: 0,
+            failures: 0,
+        }
+    }
+
+    /// Starts a child, and counts it.
+    pub(crate) fn start<A: Allocator + Copy, W: Workshop>(
+        &mut self,
+        alloc: A,
+        workshop: &W,
+        command: &Command<A>,
+        folder: &str,
+    ) -> io::Result<W::Child>
+        ensures runs { IfOk result (λ child. W.works.runs child command.now folder.now) }
+        ensures opened { OnOk result (alive_in self.new ≡ alive_in self.old + 1) }
+        ensures unopened { OnErr result (alive_in self.new ≡ alive_in self.old) }
+        ensures failures { failures_in self.new ≡ failures_in self.old }
+    {
+        let Some(more) = self.alive.checked_add(1) else {
+            return Err(io::Error::from(ErrorKind::OutOfMemory));
+        };
+        let child = workshop.spawn(alloc, command, folder)?;
+        self.alive = more;
+        Ok(child)
+    }
+
+    /// Waits for a child, which isn't counted any more.
+    pub(crate) fn wait<W: Workshop>(
+        &mut self,
+        workshop: &W,
+        child: W::Child,
+    ) -> io::Result<Option<i32>>
+        ensures ended { IfOk result (W.works.ended child) }
+        ensures closed { alive_in self.new ≡ alive_in self.old - 1 }
+        ensures failures { failures_in self.new ≡ failures_in self.old }
+    {
+        let ended = workshop.wait(child);
+        self.alive = self.alive.saturating_sub(1);
+        ended
+    }
+
+    /// The refusal, and a failure is counted. Where the count is full it is want of memory.
+    pub(crate) fn refuse<A: Allocator>(&mut self, error: RunError<A>) -> RunError<A>
+        ensures failed { result ≡ RunError.Device → failures_in self.old < failures_in self.new }
+        ensures unfailed { (result ≡ RunError.Device → ⊥)
+            → failures_in self.new ≡ failures_in self.old }
+        ensures same { result ≡ RunError.NotAbsolute → error ≡ RunError.NotAbsolute }
+        ensures alive { alive_in self.new ≡ alive_in self.old }
+    {
+        if !matches!(&error, RunError::Device) {
+            return error;
+        }
+        match self.failures.checked_add(1) {
+            Some(more) => {
+                self.failures = more;
+                RunError::Device
+            }
+            None => RunError::Memory,
+        }
+    }
+}

@@ -1,0 +1,164 @@
+ghost use Rattle.std.specs.Prelude.{◌≡◌, ℕ, List, Contains, IfOk, Some};
+ghost use Rattle.blob_digest.specs.Digest.{digest_of};
+ghost use Rattle.messages.specs.Directory.{directory_bytes};
+ghost use Rattle.worker.specs.Values.{blobs_of};
+ghost use Rattle.processes.specs.Collected.{AreKept};
+
+use crate::laying::place_below;
+use crate::trouble::Trouble;
+use crate::workshop::{Standing, Workshop};
+use blob_digest::{Digest, Sealed};
+use messages::{Directory, Name, Path, Tree};
+use std::alloc::Allocator;
+use tree::{FlatEntry, FlatTree, Folded, fold};
+
+/// The most folders below one another that are looked into.
+const GREATEST_DEPTH: usize = 65;
+
+/// Reads the file at a place, and keeps its content.
+pub(crate) fn keep_file<A: Allocator + Copy, W: Workshop>(
+    alloc: A,
+    workshop: &W,
+    place: &str,
+    blobs: &mut Vec<Vec<u8, A>, A>,
+) -> Result<Digest, Trouble>
+    ensures held { IfOk result (λ d. (b : List ℕ) × W.works.holds place.now (Some b)
+        × (d ≡ digest_of b) × Contains (blobs_of blobs.new.items) b) }
+    ensures kept { AreKept (blobs_of blobs.old.items) (blobs_of blobs.new.items) }
+{
+    let Some(bytes) = workshop.read(alloc, place)? else {
+        return Err(Trouble::NoOutput);
+    };
+    let sealed = Sealed::of(bytes);
+    let digest = sealed.digest();
+    blobs.push(sealed.into_bytes())?;
+    Ok(digest)
+}
+
+/// The path of one more name.
+fn path_below<A: Allocator + Copy>(
+    alloc: A,
+    above: &Option<Path<A>>,
+    name: &str,
+) -> Result<Path<A>, Trouble> {
+    let name = Name::new(alloc, name.as_bytes())?;
+    match above {
+        Some(above) => Ok(Path::below(alloc, above, &name)?),
+        None => Ok(Path::of_name(alloc, &name)?),
+    }
+}
+
+/// Adds what stands in the folder at a place, at the path above in a tree, and keeps the contents
+/// of the files. Folders are looked into to a depth.
+#[tactic(auto, using(crate::proofs::Lists::kept_none, crate::proofs::Lists::kept_trans))]
+fn walk<A: Allocator + Copy, W: Workshop>(
+    alloc: A,
+    workshop: &W,
+    place: &str,
+    above: &Option<Path<A>>,
+    depth: usize,
+    tree: &mut FlatTree<A>,
+    blobs: &mut Vec<Vec<u8, A>, A>,
+) -> Result<(), Trouble>
+    ensures { AreKept (blobs_of blobs.old.items) (blobs_of blobs.new.items) }
+{
+    if depth == 0 {
+        return Err(Trouble::NoOutput);
+    }
+    let Some(names) = workshop.list(alloc, place)? else {
+        return Err(Trouble::NoOutput);
+    };
+    for name in &names {
+        let path = path_below(alloc, above, name.as_str())?;
+        let place = place_below(alloc, place, name.as_str())?;
+        match workshop.look(place.as_str())? {
+            Standing::Nothing => {}
+            Standing::File { executable } => {
+                let digest = keep_file(alloc, workshop, place.as_str(), blobs)?;
+                tree.add(alloc, path, FlatEntry::File { digest, executable })?;
+            }
+            Standing::Folder => {
+                tree.add(alloc, Path::copy_of(alloc, &path)?, FlatEntry::Dir)?;
+                let above = Some(path);
+                walk(
+                    alloc,
+                    workshop,
+                    place.as_str(),
+                    &above,
+                    depth - 1,
+                    tree,
+                    blobs,
+                )?;
+            }
+            Standing::Other => return Err(Trouble::NoOutput),
+        }
+    }
+    Ok(())
+}
+
+/// Reads Directories, and keeps their encodings.
+#[tactic(auto, using(crate::proofs::Lists::kept_none, crate::proofs::Lists::kept_trans))]
+fn read_directories<A: Allocator + Copy>(
+    alloc: A,
+    encodings: Vec<Vec<u8, A>, A>,
+    blobs: &mut Vec<Vec<u8, A>, A>,
+) -> Result<Vec<Directory<A>, A>, Trouble>
+    ensures { AreKept (blobs_of blobs.old.items) (blobs_of blobs.new.items) }
+{
+    let mut directories = Vec::new(alloc);
+    for encoding in encodings {
+        directories.push(Directory::decode(alloc, &encoding)?)?;
+        blobs.push(encoding)?;
+    }
+    Ok(directories)
+}
+
+/// The Tree of Directories, of which the first is its root, and the encodings are kept.
+#[tactic(auto, using(crate::proofs::Lists::kept_none, crate::proofs::Lists::kept_trans))]
+fn tree_of<A: Allocator + Copy>(
+    alloc: A,
+    folded: Folded<A>,
+    blobs: &mut Vec<Vec<u8, A>, A>,
+) -> Result<Tree<A>, Trouble>
+    ensures held { IfOk result
+        (λ t. Contains (blobs_of blobs.new.items) (directory_bytes t.root)) }
+    ensures kept { AreKept (blobs_of blobs.old.items) (blobs_of blobs.new.items) }
+{
+    let mut encodings = folded.directories;
+    if encodings.is_empty() {
+        return Err(Trouble::NoOutput);
+    }
+    let first = encodings.remove(0);
+    let root = Directory::decode(alloc, &first)?;
+    let children = read_directories(alloc, encodings, blobs)?;
+    blobs.push(first)?;
+    Ok(Tree::new(alloc, root, children)?)
+}
+
+/// Reads the folder at a place as a Tree, and keeps the contents of its files and the encodings of
+/// its Directories.
+#[tactic(auto, using(crate::proofs::Lists::kept_none, crate::proofs::Lists::kept_trans))]
+pub(crate) fn keep_folder<A: Allocator + Copy, W: Workshop>(
+    alloc: A,
+    workshop: &W,
+    place: &str,
+    blobs: &mut Vec<Vec<u8, A>, A>,
+) -> Result<Tree<A>, Trouble>
+    ensures held { IfOk result
+        (λ t. Contains (blobs_of blobs.new.items) (directory_bytes t.root)) }
+    ensures kept { AreKept (blobs_of blobs.old.items) (blobs_of blobs.new.items) }
+{
+    let mut tree = FlatTree::new(alloc);
+    let top = None;
+    walk(
+        alloc,
+        workshop,
+        place,
+        &top,
+        GREATEST_DEPTH,
+        &mut tree,
+        blobs,
+    )?;
+    let folded = fold(alloc, &tree)?;
+    tree_of(alloc, folded, blobs)
+}
