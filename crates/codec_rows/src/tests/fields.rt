@@ -38,9 +38,9 @@ fn varints_of_each_length(rt: HostRuntime) -> Result<(), Fail> {
     for (value, bytes) in VARINTS {
         let mut text = Vec::new(rt.alloc());
         write_varint(&mut text, value)?;
-        assert_eq!(rt; text.as_slice(), bytes, "{value}");
+        assert!(rt; text.as_slice() == bytes, "{value}");
         text.push(0x80)?;
-        assert_eq!(rt; read_varint(&text), Ok((value, bytes.len())), "{value}");
+        assert!(rt; read_varint(&text) == Ok((value, bytes.len())), "{value}");
     }
     Ok(())
 }
@@ -70,7 +70,7 @@ fn varints_that_are_refused(rt: HostRuntime) {
         ),
     ];
     for (bytes, error) in rows {
-        assert_eq!(rt; read_varint(bytes), Err(error), "{bytes:?}");
+        assert!(rt; read_varint(bytes) == Err(error), "{bytes:?}");
     }
 }
 
@@ -87,9 +87,9 @@ fn records_of_each_wire_type(rt: HostRuntime) {
     ];
     let mut fields = Fields::new(bytes);
     for (number, payload) in rows {
-        assert_eq!(rt; fields.next(), Some(Ok(Field { number, payload })));
+        assert!(rt; fields.next() == Some(Ok(Field { number, payload })));
     }
-    assert_eq!(rt; fields.next(), None);
+    assert!(rt; fields.next().is_none());
 }
 
 #[test]
@@ -119,8 +119,8 @@ fn first_faults(rt: HostRuntime) {
     ];
     for (bytes, error) in rows {
         let mut fields = Fields::new(bytes);
-        assert_eq!(rt; fields.next(), Some(Err(error)), "{bytes:?}");
-        assert_eq!(rt; fields.next(), None, "{bytes:?}");
+        assert!(rt; fields.next() == Some(Err(error)), "{bytes:?}");
+        assert!(rt; fields.next().is_none(), "{bytes:?}");
     }
 }
 
@@ -143,13 +143,12 @@ fn records<A: Allocator>(alloc: A) -> Result<Vec<u8, A>, AllocError> {
 fn written_records(rt: HostRuntime) -> Result<(), Fail> {
     let expected =
         b"\x08\x96\x01\x11\x01\x02\x03\x04\x05\x06\x07\x08\x1a\x02hi\x25\x01\x02\x03\x04\xfa\xff\xff\xff\x0f\x100123456789abcdef\x01";
-    assert_eq!(rt; records(rt.alloc())?.as_slice(), expected.as_slice());
     let mut refused = 0u64;
     for number in 1..100u64 {
         let heap = Refusing::new(rt.alloc(), number);
         let answer = records(&heap);
         if !heap.has_refused() {
-            assert_eq!(rt; answer?.as_slice(), expected.as_slice());
+            assert!(rt; answer?.as_slice() == expected.as_slice());
             break;
         }
         assert!(rt; answer.is_err(), "request {number}");

@@ -8,7 +8,7 @@ use refusing::Refusing;
 use std::alloc::Allocator;
 
 /// What a fetch found: a blob of so many bytes, wrong bytes or none.
-#[derive(Clone, Copy, Debug, PartialEq, Eq)]
+#[derive(Clone, Copy, PartialEq, Eq)]
 enum Found {
     Missing,
     Wrong,
@@ -31,90 +31,87 @@ fn copied<A: Allocator + Copy>(alloc: A, bytes: &[u8]) -> Result<Vec<u8, A>, Fet
     Ok(Vec::from_slice(alloc, bytes)?)
 }
 
-/// A source with a right blob, one under a wrong length and a result, asked for each and more.
-fn asked<A: Allocator + Copy>(alloc: A) -> Result<([Found; 5], Option<usize>, u64), FetchError> {
-    let nine = Digest::of(b"123456789");
-    let eight = Digest::new(nine.hash(), 8);
+/// Whether the result under the digest has so many bytes.
+fn has_result<A: Allocator + Copy, S: BlobSource<A>>(
+    alloc: A,
+    source: &mut S,
+    digest: &Digest,
+    length: usize,
+) -> Result<bool, FetchError> {
+    match source.result(alloc, digest)? {
+        Some(bytes) => Ok(bytes.len() == length),
+        None => Ok(false),
+    }
+}
+
+/// A source with a right blob, one under a wrong length and a result.
+fn filled<A: Allocator + Copy>(
+    alloc: A,
+    nine: Digest,
+    eight: Digest,
+) -> Result<MemorySource<A>, FetchError> {
     let mut source = MemorySource::new(alloc);
     source.hold_blob(nine, copied(alloc, b"123456789")?)?;
     source.hold_blob(eight, copied(alloc, b"123456789")?)?;
     source.hold_blob(Digest::empty(), copied(alloc, b"x")?)?;
     source.hold_result(eight, copied(alloc, b"r")?)?;
-    let found = [
-        fetched(alloc, &mut source, &nine)?,
-        fetched(alloc, &mut source, &eight)?,
-        fetched(alloc, &mut source, &Digest::of(b"\n"))?,
-        fetched(alloc, &mut source, &Digest::empty())?,
-        fetched(alloc, &mut source, &nine)?,
-    ];
-    let result = source.result(alloc, &eight)?.map(|bytes| bytes.len());
-    let none = source.result(alloc, &nine)?;
-    Ok((found, result.filter(|_len| none.is_none()), source.calls()))
+    Ok(source)
 }
 
-#[test]
-fn each_request_for_memory_refused(rt: HostRuntime) {
-    let expected = [
-        Found::Right(9),
-        Found::Wrong,
-        Found::Missing,
+/// Whether the source has what it should have of each digest.
+fn asked<A: Allocator + Copy>(alloc: A) -> Result<bool, FetchError> {
+    let nine = Digest::of(b"123456789");
+    let eight = Digest::new(nine.hash(), 8);
+    let mut source = filled(alloc, nine, eight)?;
+    let rows = [
+        (nine, Found::Right(9)),
+        (eight, Found::Wrong),
+        (Digest::of(b"\n"), Found::Missing),
         // The empty blob is there whatever the source has, and isn't asked for.
-        Found::Right(0),
-        Found::Right(9),
+        (Digest::empty(), Found::Right(0)),
+        (nine, Found::Right(9)),
     ];
-    let mut refused = 0u64;
-    for number in 1..1000u64 {
-        let heap = Refusing::new(rt.alloc(), number);
-        let answer = asked(&heap);
-        if !heap.has_refused() {
-            assert_eq!(rt; answer, Ok((expected, Some(1), 6)));
-            break;
+    for (digest, expected) in rows {
+        if fetched(alloc, &mut source, &digest)? != expected {
+            return Ok(false);
         }
-        assert_eq!(rt; answer, Err(FetchError::Memory), "request {number}");
-        refused = refused.saturating_add(1);
     }
-    assert!(rt; refused >= 8);
+    let found = has_result(alloc, &mut source, &eight, 1)?;
+    let none = source.result(alloc, &nine)?.is_none();
+    Ok(found && none && source.calls() == 6)
 }
 
-/// What a sink has of a blob and a result that are put into it, the result twice.
-fn stored<A: Allocator + Copy, S: BlobSink<A>>(
-    alloc: A,
-    sink: &mut S,
-) -> Result<(Found, Option<usize>), FetchError> {
+/// Whether a sink has a blob and a result that are put into it, the result twice.
+fn stored<A: Allocator + Copy, S: BlobSink<A>>(alloc: A, sink: &mut S) -> Result<bool, FetchError> {
     let nine = sink.put_blob(alloc, b"123456789")?;
     sink.put_blob(alloc, b"123456789")?;
     sink.put_result(alloc, &nine, b"r")?;
     sink.put_result(alloc, &nine, b"rs")?;
-    let result = sink.result(alloc, &nine)?.map(|bytes| bytes.len());
-    Ok((fetched(alloc, sink, &nine)?, result))
+    let found = has_result(alloc, sink, &nine, 2)?;
+    Ok(found && fetched(alloc, sink, &nine)? == Found::Right(9))
 }
 
 /// A source with wrong bytes under the digest of the blob that is put.
-fn put<A: Allocator + Copy>(
-    alloc: A,
-) -> Result<((Found, Option<usize>), [bool; 2], u64), FetchError> {
+fn put<A: Allocator + Copy>(alloc: A) -> Result<bool, FetchError> {
     let nine = Digest::of(b"123456789");
-    let mut source = MemorySource::new(alloc);
-    source.hold_blob(nine, copied(alloc, b"x")?)?;
+    let mut source = holding(alloc, nine, Some(b"x"))?;
     let found = stored(alloc, &mut source)?;
     let puts = source.puts();
-    Ok((
-        found,
-        [puts.len() == 2, puts.contains(&nine)],
-        source.calls(),
-    ))
+    Ok(found && puts.len() == 2 && puts.contains(&nine) && source.calls() == 6)
 }
 
 #[test]
-fn puts_with_each_request_for_memory_refused(rt: HostRuntime) {
-    for number in 1..1000u64 {
-        let heap = Refusing::new(rt.alloc(), number);
-        let answer = put(&heap);
-        if !heap.has_refused() {
-            assert_eq!(rt; answer, Ok(((Found::Right(9), Some(2)), [true, true], 6)));
-            break;
+fn each_request_for_memory_refused(rt: HostRuntime) {
+    for puts in [false, true] {
+        for number in 1..1000u64 {
+            let heap = Refusing::new(rt.alloc(), number);
+            let answer = if puts { put(&heap) } else { asked(&heap) };
+            if !heap.has_refused() {
+                assert!(rt; answer == Ok(true) && number > 8, "request {number}");
+                break;
+            }
+            assert!(rt; answer == Err(FetchError::Memory), "request {number}");
         }
-        assert_eq!(rt; answer, Err(FetchError::Memory), "request {number}");
     }
 }
 
@@ -161,15 +158,18 @@ fn messages_by_digest(rt: HostRuntime) {
         ),
     ];
     for (digest, held, expected) in rows {
-        assert_eq!(rt; files(rt.alloc(), digest, held), expected);
+        assert!(rt; files(rt.alloc(), digest, held) == expected);
     }
     for number in 1..1000u64 {
         let heap = Refusing::new(rt.alloc(), number);
         let answer = files(&heap, one, Some(ONE_FILE));
         if !heap.has_refused() {
-            assert_eq!(rt; answer, Ok(1));
+            assert!(rt; answer == Ok(1));
             break;
         }
-        assert_eq!(rt; answer, Err(MessageFetchError::Memory), "request {number}");
+        assert!(rt;
+            answer == Err(MessageFetchError::Memory),
+            "request {number}"
+        );
     }
 }

@@ -2,6 +2,8 @@ mod readings;
 mod results;
 mod steps;
 
+use super::joined;
+use super::written::{Kind, Row, requests_of_all};
 use action_messages::*;
 use blob_digest::Digest;
 use messages::{MessageError, Path, Target};
@@ -17,69 +19,15 @@ pub const LINE: &[u8] = b"01ba4719c80b6fe911b091a7c05124b64eeece964e09c058ef8f98
 
 pub const EMPTY: &[u8] = b"e3b0c44298fc1c149afbf4c8996fb92427ae41e4649b934ca495991b7852b855";
 
-/// What is read, and whether it is written again.
-#[derive(Clone, Copy, Debug, PartialEq, Eq)]
-pub enum Kind {
-    Platform,
-    Command,
-    Frame,
-    Action,
-}
-
 /// The pieces of a result, and those of the one encoding of what it is read as.
 pub type Reading = (
     &'static [&'static [u8]],
     Result<&'static [&'static [u8]], MessageError>,
 );
 
-pub type Row = (Kind, &'static [&'static [u8]], Result<usize, MessageError>);
-
-fn joined<A: Allocator>(alloc: A, pieces: &[&[u8]]) -> Result<Vec<u8, A>, AllocError> {
-    let mut out = Vec::new(alloc);
-    for piece in pieces {
-        out.extend_from_slice(piece)?;
-    }
-    Ok(out)
-}
-
-/// The length of what is read and written again, if that is the same.
-fn again<A: Allocator + Copy>(alloc: A, kind: Kind, bytes: &[u8]) -> Result<usize, MessageError> {
-    let text = match kind {
-        Kind::Platform => Platform::decode(alloc, bytes)?.encode(alloc)?,
-        Kind::Command => Command::decode(alloc, bytes)?.encode(alloc)?,
-        Kind::Frame => Frame::decode(alloc, bytes)?.encode(alloc)?,
-        Kind::Action => Action::decode(alloc, bytes)?.encode(alloc)?,
-    };
-    if text.as_slice() == bytes {
-        Ok(text.len())
-    } else {
-        Err(MessageError::BadTree)
-    }
-}
-
-/// How many requests a row makes, if it is answered as it says where none is refused, and want of
-/// memory is told where one is.
-fn requests_of<A: Allocator + Copy>(alloc: A, row: Row) -> Result<u64, MessageError> {
-    let (kind, pieces, expected) = row;
-    let bytes = joined(alloc, pieces)?;
-    for number in 1..1000u64 {
-        let heap = Refusing::new(alloc, number);
-        let answer = again(&heap, kind, &bytes);
-        if !heap.has_refused() && answer == expected {
-            return Ok(number);
-        }
-        if answer != Err(MessageError::Memory) {
-            return Err(MessageError::BadTree);
-        }
-    }
-    Err(MessageError::BadTree)
-}
-
 #[test]
 fn messages_of_steps(rt: HostRuntime) -> Result<(), Fail> {
-    for row in STEPS {
-        assert!(rt; requests_of(rt.alloc(), row).is_ok(), "{row:?}");
-    }
+    assert!(rt; requests_of_all(rt.alloc(), &STEPS)? > 0);
     Ok(())
 }
 
@@ -198,10 +146,10 @@ fn messages_by_parts(rt: HostRuntime) -> Result<(), Fail> {
             let heap = Refusing::new(rt.alloc(), number);
             let answer = makes(&heap, made, &bytes);
             if !heap.has_refused() {
-                assert_eq!(rt; answer, Ok(bytes.len()));
+                assert!(rt; answer == Ok(bytes.len()));
                 break;
             }
-            assert_eq!(rt; answer, Err(MessageError::Memory), "request {number}");
+            assert!(rt; answer == Err(MessageError::Memory), "request {number}");
             refused = refused.saturating_add(1);
         }
     }
@@ -232,10 +180,10 @@ fn frames_and_actions(rt: HostRuntime) -> Result<(), Fail> {
     let without = joined(rt.alloc(), &[b"\x0a\x44\x0a\x40", LINE, b"\x10\x01"])?;
     let whole = joined(rt.alloc(), &[&without, b"\x12\x42\x0a\x40", EMPTY])?;
     let frame = frame_in(rt.alloc(), &whole)?;
-    assert_eq!(rt; frame.len(), 70);
+    assert!(rt; frame.len() == 70);
     assert!(rt; frame.as_slice() == without.as_slice());
     let action = action_of(rt.alloc(), &frame)?;
-    assert_eq!(rt; action.len(), 138);
+    assert!(rt; action.len() == 138);
     assert!(rt; action.as_slice() == whole.as_slice());
     Ok(())
 }
@@ -243,37 +191,37 @@ fn frames_and_actions(rt: HostRuntime) -> Result<(), Fail> {
 /// Whether the getters of the command made of parts show the parts.
 fn command_shows<A: Allocator + Copy>(alloc: A) -> Result<bool, MessageError> {
     let command = Command::decode(alloc, &command_by_parts(alloc)?)?;
-    let texts = command
-        .arguments()
-        .iter()
-        .all(|text| text.as_str() == "/bin/true");
-    let environment = command
-        .environment()
-        .iter()
-        .all(|v| v.name() == "A" && v.value() == "");
-    let outputs = command
-        .output_paths()
-        .iter()
-        .all(|path| path.as_str() == "out");
+    let texts = match command.arguments() {
+        [text] => text.as_str() == "/bin/true",
+        _ => false,
+    };
+    let environment = match command.environment() {
+        [variable] => variable.name() == "A" && variable.value() == "",
+        _ => false,
+    };
+    let outputs = match command.output_paths() {
+        [path] => path.as_str() == "out",
+        _ => false,
+    };
     let directory = match command.working_directory() {
         Some(path) => path.as_str() == "w",
         None => false,
     };
-    Ok(texts && environment && directory && outputs && command.arguments().len() == 1)
+    Ok(texts && environment && directory && outputs)
 }
 
-/// Which of these the command made of parts lists as an output path.
-fn command_lists<A: Allocator + Copy>(
-    alloc: A,
-    texts: [&[u8]; 4],
-) -> Result<[bool; 4], MessageError> {
+/// Whether a command with the output paths `a-b`, `a/b` and `a0` lists this one.
+fn command_lists<A: Allocator + Copy>(alloc: A, text: &[u8]) -> Result<bool, MessageError> {
     let command = Command::decode(alloc, b"\x0a\x09/bin/true\x3a\x03a-b\x3a\x03a/b\x3a\x02a0")?;
-    let mut listed = [false; 4];
-    for (place, text) in listed.iter_mut().zip(texts) {
-        *place = command.lists(&Path::new(alloc, text)?);
-    }
-    Ok(listed)
+    Ok(command.lists(&Path::new(alloc, text)?))
 }
+
+static LISTED: [(&[u8], bool); 4] = [
+    (b"a/b", true),
+    (b"a", false),
+    (b"a/b/c", false),
+    (b"a0", true),
+];
 
 /// Whether the getters of the action made of parts, and those of its frame, show the parts.
 fn action_shows<A: Allocator + Copy>(alloc: A) -> Result<bool, MessageError> {
@@ -305,42 +253,30 @@ fn result_shows<A: Allocator + Copy>(alloc: A) -> Result<bool, MessageError> {
 
 #[test]
 fn parts_shown(rt: HostRuntime) -> Result<(), Fail> {
-    assert_eq!(rt; command_shows(rt.alloc()), Ok(true));
-    assert_eq!(rt;
-        command_lists(rt.alloc(), [b"a/b", b"a", b"a/b/c", b"a0"]),
-        Ok([true, false, false, true])
-    );
-    assert_eq!(rt; action_shows(rt.alloc()), Ok(true));
-    assert_eq!(rt; result_shows(rt.alloc()), Ok(true));
+    assert!(rt; command_shows(rt.alloc())?);
+    assert!(rt; action_shows(rt.alloc())?);
+    assert!(rt; result_shows(rt.alloc())?);
+    for (text, expected) in LISTED {
+        assert!(rt; command_lists(rt.alloc(), text)? == expected, "{text:?}");
+    }
     Ok(())
 }
 
+/// A result with the file `a/b`, the directories `a!x` and `b`, and the link `a-b`.
+static OUTPUTS: [&[u8]; 8] = [
+    b"\x12\x4b\x0a\x03a/b\x12\x44\x0a\x40",
+    NINE,
+    b"\x10\x09\x1a\x4b\x0a\x03a!x\x1a\x44\x0a\x40",
+    NINE,
+    b"\x10\x09\x1a\x49\x0a\x01b\x1a\x44\x0a\x40",
+    NINE,
+    b"\x10\x09",
+    b"\x62\x08\x0a\x03a-b\x12\x01t",
+];
+
 /// The paths of a result's outputs of all kinds, joined by commas.
-fn ordered<A: Allocator + Copy>(alloc: A) -> Result<Vec<u8, A>, MessageError> {
-    let nine = Digest::of(b"123456789");
-    let mut files = Vec::new(alloc);
-    let mut directories = Vec::new(alloc);
-    let mut symlinks = Vec::new(alloc);
-    files.push(OutputFile {
-        path: Path::new(alloc, b"a/b")?,
-        digest: nine,
-        executable: false,
-    })?;
-    directories.push(OutputDirectory {
-        path: Path::new(alloc, b"a!x")?,
-        tree_digest: nine,
-    })?;
-    directories.push(OutputDirectory {
-        path: Path::new(alloc, b"b")?,
-        tree_digest: nine,
-    })?;
-    symlinks.push(OutputSymlink {
-        path: Path::new(alloc, b"a-b")?,
-        target: Target::new(alloc, b"t")?,
-    })?;
-    let none = Stream::new(Vec::new(alloc), None);
-    let nothing = Stream::new(Vec::new(alloc), None);
-    let result = ActionResult::new(files, directories, symlinks, 0, none, nothing)?;
+fn ordered<A: Allocator + Copy>(alloc: A, bytes: &[u8]) -> Result<Vec<u8, A>, MessageError> {
+    let result = ActionResult::decode(alloc, bytes)?;
     let mut paths = Vec::new(alloc);
     for output in result.outputs(alloc)? {
         paths.extend_from_slice(output.path().as_bytes())?;
@@ -351,7 +287,7 @@ fn ordered<A: Allocator + Copy>(alloc: A) -> Result<Vec<u8, A>, MessageError> {
 
 #[test]
 fn outputs_stand_in_one_order(rt: HostRuntime) -> Result<(), Fail> {
-    let paths = ordered(rt.alloc())?;
+    let paths = ordered(rt.alloc(), &joined(rt.alloc(), &OUTPUTS)?)?;
     assert!(rt; paths.as_slice() == b"a!x,a-b,a/b,b,".as_slice());
     Ok(())
 }

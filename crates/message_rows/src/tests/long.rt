@@ -1,5 +1,4 @@
-use action_messages::{ActionResult, Command, Platform};
-use messages::{Directory, MessageError, Tree};
+use super::written::{Kind, written};
 use std::alloc::{AllocError, Allocator};
 use std::test::Fail;
 
@@ -7,15 +6,6 @@ use std::test::Fail;
 const NINE: &[u8] = b"15e2b0d3c33891ebb0f1ef609ec419420c20e320ce94c65fbc8c3312448eb225";
 
 const EMPTY: &[u8] = b"e3b0c44298fc1c149afbf4c8996fb92427ae41e4649b934ca495991b7852b855";
-
-#[derive(Clone, Copy, Debug)]
-enum Kind {
-    Directory,
-    Tree,
-    Platform,
-    Command,
-    Result,
-}
 
 /// What stands at the front of a message, and what each of its 10,000 elements has before and after
 /// the digits of its number.
@@ -115,27 +105,12 @@ fn message_of<A: Allocator>(alloc: A, row: Row) -> Result<Vec<u8, A>, AllocError
     Ok(out)
 }
 
-/// What is read, written again.
-fn again<A: Allocator + Copy>(
-    alloc: A,
-    kind: Kind,
-    bytes: &[u8],
-) -> Result<Vec<u8, A>, MessageError> {
-    Ok(match kind {
-        Kind::Directory => Directory::decode(alloc, bytes)?.encode(alloc)?,
-        Kind::Tree => Tree::decode(alloc, bytes)?.encode(alloc)?,
-        Kind::Platform => Platform::decode(alloc, bytes)?.encode(alloc)?,
-        Kind::Command => Command::decode(alloc, bytes)?.encode(alloc)?,
-        Kind::Result => ActionResult::decode(alloc, bytes)?.encode(alloc)?,
-    })
-}
-
 /// No length is told as want of memory.
 #[test]
 fn long_fields(rt: HostRuntime) -> Result<(), Fail> {
     for row in ROWS {
         let bytes = message_of(rt.alloc(), row)?;
-        let text = again(rt.alloc(), row.0, &bytes)?;
+        let text = written(rt.alloc(), row.0, &bytes)?;
         assert!(rt; text.as_slice() == bytes.as_slice(), "{row:?}");
     }
     Ok(())

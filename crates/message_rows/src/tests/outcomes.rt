@@ -1,49 +1,16 @@
+use super::{Broken, joined};
 use actions::*;
 use blob_digest::Digest;
 use messages::{MessageError, Node, Path, Target, Tree};
 use refusing::Refusing;
-use std::alloc::{AllocError, AllocFailed, Allocator};
-use tree::{AddError, FetchError, MemorySource, TreeError};
+use std::alloc::Allocator;
+use tree::{AddError, MemorySource, TreeError};
 
 /// The hash of the bytes `123456789`, as `sha256sum` prints it.
 const NINE: &[u8] = b"15e2b0d3c33891ebb0f1ef609ec419420c20e320ce94c65fbc8c3312448eb225";
 
-/// Why a row doesn't answer.
-#[derive(Clone, Copy, Debug, PartialEq, Eq)]
-pub enum Broken {
-    Memory,
-    Refused,
-}
-
-impl From<AllocError> for Broken {
-    fn from(_e: AllocError) -> Broken {
-        Broken::Memory
-    }
-}
-
-impl<T: Drop> From<AllocFailed<T>> for Broken {
-    fn from(_e: AllocFailed<T>) -> Broken {
-        Broken::Memory
-    }
-}
-
-impl From<MessageError> for Broken {
-    fn from(e: MessageError) -> Broken {
-        match e {
-            MessageError::Memory => Broken::Memory,
-            _ => Broken::Refused,
-        }
-    }
-}
-
-impl From<FetchError> for Broken {
-    fn from(_e: FetchError) -> Broken {
-        Broken::Refused
-    }
-}
-
 /// What stands at a path, or why there is no outcome.
-#[derive(Clone, Copy, Debug, PartialEq, Eq)]
+#[derive(Clone, Copy, PartialEq, Eq)]
 enum Shown {
     Nothing,
     File(Digest, bool),
@@ -88,14 +55,6 @@ fn looked<A: Allocator + Copy>(
     Ok(show(outcome.lookup(alloc, &path)?))
 }
 
-fn joined<A: Allocator>(alloc: A, pieces: &[&[u8]]) -> Result<Vec<u8, A>, AllocError> {
-    let mut out = Vec::new(alloc);
-    for piece in pieces {
-        out.extend_from_slice(piece)?;
-    }
-    Ok(out)
-}
-
 /// A directory with a file `a`, and the tree that is this directory alone.
 fn directory<A: Allocator + Copy>(alloc: A) -> Result<Vec<u8, A>, Broken> {
     Ok(joined(
@@ -127,58 +86,53 @@ fn result<A: Allocator + Copy>(alloc: A, digest: &Digest) -> Result<ActionResult
     Ok(ActionResult::decode(alloc, &bytes)?)
 }
 
-/// What stands at `out`, `out/a`, `out/q`, `x`, `f` and `f/a` in what the result stands for; its
-/// exit code, and how often the source was asked.
-fn rows<A: Allocator + Copy>(alloc: A) -> Result<([Shown; 6], i32, u64), Broken> {
+/// What stands where in what the result stands for.
+fn expected(root: Digest) -> [(&'static [u8], Shown); 6] {
+    let nine = Digest::of(b"123456789");
+    [
+        (b"out", Shown::Dir(root)),
+        (b"out/a", Shown::File(nine, false)),
+        (b"out/q", Shown::Nothing),
+        (b"x", Shown::Nothing),
+        (b"f", Shown::File(nine, false)),
+        (b"f/a", Shown::Nothing),
+    ]
+}
+
+/// Whether all that stands where it should, the exit code is 3, and the source was asked once.
+fn is_recorded<A: Allocator + Copy>(alloc: A, root: Digest) -> Result<bool, Broken> {
     let bytes = tree_of_one(alloc)?;
     let digest = Digest::of(&bytes);
     let mut source = MemorySource::new(alloc);
     source.hold_blob(digest, bytes)?;
     let result = result(alloc, &digest)?;
-    match recorded(alloc, &result, &mut source) {
+    let outcome = match recorded(alloc, &result, &mut source) {
         Err(error) => {
-            let row = refused(error)?;
-            Ok(([row; 6], 0, source.calls()))
+            refused(error)?;
+            return Ok(false);
         }
-        Ok(outcome) => {
-            let row = [
-                looked(alloc, &outcome, b"out")?,
-                looked(alloc, &outcome, b"out/a")?,
-                looked(alloc, &outcome, b"out/q")?,
-                looked(alloc, &outcome, b"x")?,
-                looked(alloc, &outcome, b"f")?,
-                looked(alloc, &outcome, b"f/a")?,
-            ];
-            Ok((row, outcome.exit_code(), source.calls()))
-        }
+        Ok(outcome) => outcome,
+    };
+    let mut same = outcome.exit_code() == 3 && source.calls() == 1;
+    for (path, shown) in expected(root) {
+        same = same && looked(alloc, &outcome, path)? == shown;
     }
+    Ok(same)
 }
 
 #[test]
 fn outcome_is_recorded(rt: HostRuntime) -> Result<(), Broken> {
-    let nine = Digest::of(b"123456789");
     let root = Digest::of(&directory(rt.alloc())?);
-    assert_eq!(rt; root.size(), 75);
-    let expected = [
-        Shown::Dir(root),
-        Shown::File(nine, false),
-        Shown::Nothing,
-        Shown::Nothing,
-        Shown::File(nine, false),
-        Shown::Nothing,
-    ];
-    let mut refused = 0u64;
+    assert!(rt; root.size() == 75);
     for number in 1..5000u64 {
         let heap = Refusing::new(rt.alloc(), number);
-        let answer = rows(&heap);
+        let answer = is_recorded(&heap, root);
         if !heap.has_refused() {
-            assert_eq!(rt; answer, Ok((expected, 3, 1)));
+            assert!(rt; answer == Ok(true) && number > 30);
             break;
         }
-        assert_eq!(rt; answer, Err(Broken::Memory), "request {number}");
-        refused = refused.saturating_add(1);
+        assert!(rt; answer == Err(Broken::Memory), "request {number}");
     }
-    assert!(rt; refused >= 30, "{refused}");
     Ok(())
 }
 
@@ -202,10 +156,10 @@ fn faulty<A: Allocator + Copy>(
 fn trees_that_are_not_told(rt: HostRuntime) -> Result<(), Broken> {
     let alloc = rt.alloc();
     let digest = Digest::of(&tree_of_one(alloc)?);
-    assert_eq!(rt; digest.size(), 77);
-    assert_eq!(rt; faulty(alloc, &digest, None)?, Shown::Missing(digest));
+    assert!(rt; digest.size() == 77);
+    assert!(rt; faulty(alloc, &digest, None)? == Shown::Missing(digest));
     let wrong = directory(alloc)?;
-    assert_eq!(rt; faulty(alloc, &digest, Some(wrong))?, Shown::Wrong(digest));
+    assert!(rt; faulty(alloc, &digest, Some(wrong))? == Shown::Wrong(digest));
     // A tree that names a directory which it doesn't have.
     let absent = joined(
         alloc,
@@ -216,10 +170,7 @@ fn trees_that_are_not_told(rt: HostRuntime) -> Result<(), Broken> {
         ],
     )?;
     let other = Digest::of(&absent);
-    assert_eq!(rt;
-        faulty(alloc, &other, Some(absent))?,
-        Shown::Malformed(other)
-    );
+    assert!(rt; faulty(alloc, &other, Some(absent))? == Shown::Malformed(other));
     Ok(())
 }
 
@@ -263,29 +214,27 @@ fn filled<A: Allocator + Copy>(alloc: A) -> Result<Outcome<A>, Broken> {
     Ok(outcome)
 }
 
+fn is_ordered<A: Allocator>(outcome: &Outcome<A>) -> bool {
+    let outputs = outcome.outputs();
+    let mut same = outputs.len() == 5;
+    for (output, text) in outputs.iter().zip(ORDER) {
+        same = same && output.0.as_bytes() == text;
+    }
+    same
+}
+
 #[test]
-fn outputs_are_added(rt: HostRuntime) -> Result<(), Broken> {
-    let mut refused = 0u64;
+fn outputs_are_added(rt: HostRuntime) {
     for number in 1..5000u64 {
         let heap = Refusing::new(rt.alloc(), number);
         match filled(&heap) {
             Ok(outcome) => {
-                assert!(rt; !heap.has_refused());
-                let outputs = outcome.outputs();
-                assert_eq!(rt; outputs.len(), 5);
-                for (output, text) in outputs.iter().zip(ORDER) {
-                    assert!(rt; output.0.as_bytes() == text);
-                }
+                assert!(rt; !heap.has_refused() && is_ordered(&outcome) && number > 10);
                 break;
             }
-            Err(broken) => {
-                assert_eq!(rt; broken, Broken::Memory, "request {number}");
-                refused = refused.saturating_add(1);
-            }
+            Err(broken) => assert!(rt; broken == Broken::Memory, "request {number}"),
         }
     }
-    assert!(rt; refused >= 10, "{refused}");
-    Ok(())
 }
 
 /// The outcome with this exit code and a link at `l`.
@@ -300,9 +249,20 @@ fn with_link<A: Allocator + Copy>(alloc: A, exit_code: i32) -> Result<Outcome<A>
 #[test]
 fn outcome_of_outputs(rt: HostRuntime) -> Result<(), Broken> {
     let outcome = with_link(rt.alloc(), 7)?;
-    assert_eq!(rt; outcome.exit_code(), 7);
-    assert_eq!(rt; looked(rt.alloc(), &outcome, b"l")?, Shown::Link(1));
+    assert!(rt; outcome.exit_code() == 7);
+    assert!(rt; looked(rt.alloc(), &outcome, b"l")? == Shown::Link(1));
     Ok(())
+}
+
+/// What stands where in the tree of two levels, whose directory has this digest.
+fn expected_below(digest: Digest) -> [(&'static [u8], Shown); 5] {
+    [
+        (b"o/p/d", Shown::Dir(digest)),
+        (b"o/p/d/a", Shown::File(Digest::of(b"123456789"), false)),
+        (b"o/p/d/a/b", Shown::Nothing),
+        (b"o/p/e", Shown::Nothing),
+        (b"o", Shown::Nothing),
+    ]
 }
 
 /// A tree with two levels: `d` below the root has the file `a`, and equal children come twice.
@@ -331,14 +291,8 @@ fn trees_are_looked_into(rt: HostRuntime) -> Result<(), Broken> {
     {
         return Err(Broken::Refused);
     }
-    let nine = Digest::of(b"123456789");
-    assert_eq!(rt; looked(alloc, &outcome, b"o/p/d")?, Shown::Dir(digest));
-    assert_eq!(rt;
-        looked(alloc, &outcome, b"o/p/d/a")?,
-        Shown::File(nine, false)
-    );
-    assert_eq!(rt; looked(alloc, &outcome, b"o/p/d/a/b")?, Shown::Nothing);
-    assert_eq!(rt; looked(alloc, &outcome, b"o/p/e")?, Shown::Nothing);
-    assert_eq!(rt; looked(alloc, &outcome, b"o")?, Shown::Nothing);
+    for (path, shown) in expected_below(digest) {
+        assert!(rt; looked(alloc, &outcome, path)? == shown, "{path:?}");
+    }
     Ok(())
 }

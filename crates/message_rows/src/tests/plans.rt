@@ -155,13 +155,6 @@ fn answer(expected: Option<(u64, Fault)>) -> Result<bool, ReadError> {
     }
 }
 
-#[test]
-fn texts(rt: HostRuntime) {
-    for (text, expected) in PLANS {
-        assert_eq!(rt; again(rt.alloc(), text), answer(expected), "{text:?}");
-    }
-}
-
 /// The target, the number of the origin's step, and the origin's path.
 fn shown<'a, A: Allocator>(line: &'a Line<A>) -> (&'a str, Option<usize>, Option<&'a str>) {
     let (step, path) = match &line.origin {
@@ -180,11 +173,11 @@ fn lines_in_order(rt: HostRuntime) -> Result<(), Fail> {
         rt.alloc(),
         b"buildplan 1\nroot\nin b src a%20c\nin a src .\n",
     )?;
-    assert_eq!(rt; plan.steps().len(), 0);
+    assert!(rt; plan.steps().len() == 0);
     let lines = plan.root();
-    assert_eq!(rt; lines.len(), 2);
-    assert_eq!(rt; shown(&lines[0]), ("b", None, Some("a c")));
-    assert_eq!(rt; shown(&lines[1]), ("a", None, None));
+    assert!(rt; lines.len() == 2);
+    assert!(rt; shown(&lines[0]) == ("b", None, Some("a c")));
+    assert!(rt; shown(&lines[1]) == ("a", None, None));
     Ok(())
 }
 
@@ -195,21 +188,21 @@ const TWO_STEPS: &str =
 #[test]
 fn steps_by_number(rt: HostRuntime) -> Result<(), Fail> {
     let alloc = rt.alloc();
-    assert_eq!(rt; again(alloc, TWO_STEPS), Ok(true));
+    assert!(rt; again(alloc, TWO_STEPS) == Ok(true));
     let plan = Plan::read(alloc, TWO_STEPS.as_bytes())?;
     let steps = plan.steps();
-    assert_eq!(rt; steps.len(), 2);
+    assert!(rt; steps.len() == 2);
     let first = &steps[0];
-    assert_eq!(rt; first.name.as_str(), "gen");
-    assert_eq!(rt; first.frame.size(), 70);
-    assert_eq!(rt; first.lines.len(), 0);
+    assert!(rt; first.name.as_str() == "gen");
+    assert!(rt; first.frame.size() == 70);
+    assert!(rt; first.lines.len() == 0);
     let second = &steps[1];
-    assert_eq!(rt; second.name.as_bytes(), b"use".as_slice());
-    assert_eq!(rt; second.frame.hash(), [0xff; 32]);
-    assert_eq!(rt; second.lines.len(), 1);
-    assert_eq!(rt; shown(&second.lines[0]), ("data/x", Some(0), Some("out/a")));
-    assert_eq!(rt; plan.root().len(), 1);
-    assert_eq!(rt; shown(&plan.root()[0]), ("result", Some(1), Some("res")));
+    assert!(rt; second.name.as_bytes() == b"use".as_slice());
+    assert!(rt; second.frame.hash() == [0xff; 32]);
+    assert!(rt; second.lines.len() == 1);
+    assert!(rt; shown(&second.lines[0]) == ("data/x", Some(0), Some("out/a")));
+    assert!(rt; plan.root().len() == 1);
+    assert!(rt; shown(&plan.root()[0]) == ("result", Some(1), Some("res")));
     Ok(())
 }
 
@@ -234,11 +227,11 @@ static NAMES: [(&str, bool); 8] = [
 #[test]
 fn names_of_steps(rt: HostRuntime) -> Result<(), Fail> {
     for (text, expected) in NAMES {
-        assert_eq!(rt; is_step_name(text.as_bytes()), expected, "{text:?}");
+        assert!(rt; is_step_name(text.as_bytes()) == expected, "{text:?}");
         match StepName::new(rt.alloc(), text.as_bytes())? {
             Some(name) => {
                 assert!(rt; expected, "{text:?}");
-                assert_eq!(rt; StepName::copy_of(rt.alloc(), &name)?.as_str(), text);
+                assert!(rt; StepName::copy_of(rt.alloc(), &name)?.as_str() == text);
             }
             None => assert!(rt; !expected, "{text:?}"),
         }
@@ -253,7 +246,7 @@ fn refusals_say_where(rt: HostRuntime) -> Result<(), Fail> {
         fault: Fault::BadLine,
     };
     let text = error.to_string(rt.alloc())?;
-    assert_eq!(rt; text.as_str(), "line 3: not a line that may stand here");
+    assert!(rt; text.as_str() == "line 3: not a line that may stand here");
     Ok(())
 }
 
@@ -265,11 +258,11 @@ fn lines_up_to_the_limit(rt: HostRuntime) -> Result<(), Fail> {
         let line = format!(in alloc; "in {number} src y\n")?;
         text.push_str(line.as_str())?;
     }
-    assert_eq!(rt; again(alloc, text.as_str()), Ok(true));
+    assert!(rt; again(alloc, text.as_str()) == Ok(true));
     // It overlaps the first, but is one too many before all.
     text.push_str("in 0 src y\n")?;
     let refused = answer(Some((65_539, Fault::TooMany)));
-    assert_eq!(rt; again(alloc, text.as_str()), refused);
+    assert!(rt; again(alloc, text.as_str()) == refused);
     Ok(())
 }
 
@@ -283,13 +276,13 @@ fn steps_up_to_the_limit(rt: HostRuntime) -> Result<(), Fail> {
         text.push_str(line.as_str())?;
     }
     let whole = format!(in alloc; "{text}root\nin x out s4095 y\n")?;
-    assert_eq!(rt; again(alloc, whole.as_str()), Ok(true));
+    assert!(rt; again(alloc, whole.as_str()) == Ok(true));
     let more = format!(in alloc; "{text}step t {frame}\n")?;
     let refused = answer(Some((4098, Fault::TooMany)));
-    assert_eq!(rt; again(alloc, more.as_str()), refused);
+    assert!(rt; again(alloc, more.as_str()) == refused);
     let same = format!(in alloc; "{text}step s7 {frame}\n")?;
     let refused = answer(Some((4098, Fault::SameStep)));
-    assert_eq!(rt; again(alloc, same.as_str()), refused);
+    assert!(rt; again(alloc, same.as_str()) == refused);
     Ok(())
 }
 
@@ -301,10 +294,10 @@ fn each_request_for_memory_refused(rt: HostRuntime) {
             let heap = Refusing::new(rt.alloc(), number);
             let found = again(&heap, text);
             if !heap.has_refused() {
-                assert_eq!(rt; found, answer(expected), "{text:?}");
+                assert!(rt; found == answer(expected), "{text:?}");
                 break;
             }
-            assert_eq!(rt; found, Err(ReadError::Memory), "request {number}");
+            assert!(rt; found == Err(ReadError::Memory), "request {number}");
             refused = refused.saturating_add(1);
         }
     }

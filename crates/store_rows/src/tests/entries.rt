@@ -26,44 +26,100 @@ fn unpin<A: Allocator + Copy>(store: &mut Bounded<u64, A>, key: u64) -> Result<(
     store.unpin(&[key])
 }
 
-#[test]
-fn the_least_recent_goes(rt: HostRuntime) -> Result<(), Fail> {
-    let alloc = rt.alloc();
-    let mut store: Bounded<u64, Global> = Bounded::new(alloc, RandomState::new(&rt)?, 20, 0)?;
-    assert_eq!(rt; store.put(9, bytes(alloc, 9)?), Ok(()));
-    assert_eq!(rt; store.put(11, bytes(alloc, 11)?), Ok(()));
-    assert_eq!(rt; store.get(&9).map(|held| held.len()), Some(9));
-    assert_eq!(rt; store.put(1, bytes(alloc, 1)?), Ok(()));
-    assert_eq!(rt; store.peek(&9).map(|held| held.len()), Some(9));
-    assert!(rt; !store.contains(&11));
-    assert!(rt; !store.touch(&11));
-    assert!(rt; store.get(&11).is_none());
-    assert_eq!(rt; store.held_bytes(), 10);
-    assert_eq!(rt; store.put(21, bytes(alloc, 21)?), Err(BoundedError::Full));
-    assert_eq!(rt; store.held_bytes(), 10);
-    Ok(())
+/// What is done with a store of numbered entries.
+#[derive(Clone, Copy, Debug)]
+enum Act {
+    /// Puts an entry of so many bytes.
+    Put(u64, usize),
+    Pin(u64),
+    Unpin(u64),
+    Get(u64),
+    Peek(u64),
+    Touch(u64),
+    Contains(u64),
+    Pins(u64),
 }
 
+/// How many bytes are found: none where nothing is.
+fn length(found: Option<&[u8]>) -> u64 {
+    match found {
+        Some(bytes) => bytes.len() as u64,
+        None => 0,
+    }
+}
+
+/// What the store answers, or how many bytes are held afterwards.
+fn answer<A: Allocator + Copy>(
+    alloc: A,
+    store: &mut Bounded<u64, A>,
+    act: Act,
+) -> Result<u64, BoundedError> {
+    match act {
+        Act::Put(key, count) => store.put(key, bytes(alloc, count)?)?,
+        Act::Pin(key) => pin(store, key)?,
+        Act::Unpin(key) => unpin(store, key)?,
+        Act::Get(key) => return Ok(length(store.get(&key))),
+        Act::Peek(key) => return Ok(length(store.peek(&key))),
+        Act::Touch(key) => return Ok(store.touch(&key) as u64),
+        Act::Contains(key) => return Ok(store.contains(&key) as u64),
+        Act::Pins(key) => return Ok(store.pins(&key)),
+    }
+    Ok(store.held_bytes())
+}
+
+type Acts = &'static [(Act, Result<u64, BoundedError>)];
+
+/// What each entry costs beside its bytes, and what is done with a store of 20 bytes.
+static STORES: [(u64, Acts); 2] = [
+    // The least recent goes.
+    (
+        0,
+        &[
+            (Act::Put(9, 9), Ok(9)),
+            (Act::Put(11, 11), Ok(20)),
+            (Act::Get(9), Ok(9)),
+            (Act::Put(1, 1), Ok(10)),
+            (Act::Peek(9), Ok(9)),
+            (Act::Contains(11), Ok(0)),
+            (Act::Touch(11), Ok(0)),
+            (Act::Get(11), Ok(0)),
+            (Act::Put(21, 21), Err(BoundedError::Full)),
+            (Act::Put(1, 1), Ok(10)),
+        ],
+    ),
+    // Pinned entries are passed over.
+    (
+        1,
+        &[
+            (Act::Put(4, 4), Ok(5)),
+            (Act::Pin(4), Ok(5)),
+            (Act::Pin(4), Ok(5)),
+            (Act::Put(7, 7), Ok(13)),
+            (Act::Pin(11), Err(BoundedError::NotHeld)),
+            (Act::Put(14, 14), Ok(20)),
+            (Act::Contains(4), Ok(1)),
+            (Act::Contains(7), Ok(0)),
+            (Act::Put(15, 15), Err(BoundedError::Full)),
+            (Act::Unpin(14), Err(BoundedError::NotPinned)),
+            (Act::Unpin(4), Ok(20)),
+            (Act::Pins(4), Ok(1)),
+            (Act::Put(15, 15), Err(BoundedError::Full)),
+            (Act::Unpin(4), Ok(20)),
+            (Act::Put(15, 15), Ok(16)),
+        ],
+    ),
+];
+
 #[test]
-fn pinned_entries_are_passed_over(rt: HostRuntime) -> Result<(), Fail> {
+fn stores_after_each_act(rt: HostRuntime) -> Result<(), Fail> {
     let alloc = rt.alloc();
-    let mut store: Bounded<u64, Global> = Bounded::new(alloc, RandomState::new(&rt)?, 20, 1)?;
-    assert_eq!(rt; store.put(4, bytes(alloc, 4)?), Ok(()));
-    assert_eq!(rt; pin(&mut store, 4), Ok(()));
-    assert_eq!(rt; pin(&mut store, 4), Ok(()));
-    assert_eq!(rt; store.put(7, bytes(alloc, 7)?), Ok(()));
-    assert_eq!(rt; pin(&mut store, 11), Err(BoundedError::NotHeld));
-    assert_eq!(rt; store.put(14, bytes(alloc, 14)?), Ok(()));
-    assert!(rt; store.contains(&4) && !store.contains(&7));
-    assert_eq!(rt; store.held_bytes(), 20);
-    assert_eq!(rt; store.put(15, bytes(alloc, 15)?), Err(BoundedError::Full));
-    assert_eq!(rt; unpin(&mut store, 14), Err(BoundedError::NotPinned));
-    assert_eq!(rt; unpin(&mut store, 4), Ok(()));
-    assert_eq!(rt; store.pins(&4), 1);
-    assert_eq!(rt; store.put(15, bytes(alloc, 15)?), Err(BoundedError::Full));
-    assert_eq!(rt; unpin(&mut store, 4), Ok(()));
-    assert_eq!(rt; store.put(15, bytes(alloc, 15)?), Ok(()));
-    assert_eq!(rt; store.held_bytes(), 16);
+    let state = RandomState::new(&rt)?;
+    for (cost, acts) in STORES {
+        let mut store: Bounded<u64, Global> = Bounded::new(alloc, state, 20, cost)?;
+        for (act, expected) in acts {
+            assert!(rt; answer(alloc, &mut store, *act) == *expected, "{act:?}");
+        }
+    }
     Ok(())
 }
 
@@ -72,11 +128,10 @@ fn a_thousand_entries(rt: HostRuntime) -> Result<(), Fail> {
     let alloc = rt.alloc();
     let mut store: Bounded<u64, Global> = Bounded::new(alloc, RandomState::new(&rt)?, 2_000, 1)?;
     for key in 0..3_000u64 {
-        assert_eq!(rt; store.put(key, bytes(alloc, 1)?), Ok(()));
+        store.put(key, bytes(alloc, 1)?)?;
     }
-    assert_eq!(rt; store.held_bytes(), 2_000);
-    assert!(rt; store.contains(&2_000));
-    assert!(rt; !store.contains(&1_999));
+    assert!(rt; store.held_bytes() == 2_000);
+    assert!(rt; store.contains(&2_000) && !store.contains(&1_999));
     Ok(())
 }
 
@@ -99,12 +154,12 @@ fn each_request_for_memory_refused(rt: HostRuntime) -> Result<(), Fail> {
         let heap = Refusing::new(rt.alloc(), number);
         let answer = filled(&heap, state);
         if !heap.has_refused() {
-            assert_eq!(rt; answer, Ok(30));
+            assert!(rt; answer == Ok(30));
             break;
         }
         // A refused wish to shrink the table is no refusal.
         if answer != Ok(30) {
-            assert_eq!(rt; answer, Err(BoundedError::Memory), "request {number}");
+            assert!(rt; answer == Err(BoundedError::Memory), "request {number}");
             refused = refused.saturating_add(1);
         }
     }
@@ -123,11 +178,16 @@ fn no_memory_is_taken(rt: HostRuntime) -> Result<(), Fail> {
     )?;
     store.put(5, bytes(&heap, 5)?)?;
     heap.refuse(1);
-    assert!(rt; store.touch(&5) && store.contains(&5));
-    assert!(rt; store.get(&5).is_some() && store.peek(&5).is_some());
-    assert_eq!(rt; pin(&mut store, 5), Ok(()));
-    assert_eq!(rt; unpin(&mut store, 5), Ok(()));
-    assert_eq!(rt; store.held_bytes(), 5);
+    for act in [
+        Act::Touch(5),
+        Act::Contains(5),
+        Act::Get(5),
+        Act::Peek(5),
+        Act::Pin(5),
+    ] {
+        assert!(rt; answer(&heap, &mut store, act)? > 0, "{act:?}");
+    }
+    assert!(rt; answer(&heap, &mut store, Act::Unpin(5)) == Ok(5));
     assert!(rt; !heap.has_refused());
     Ok(())
 }

@@ -19,11 +19,6 @@ const TREE: &[&[u8]] = &[
     b"\x10\x09",
 ];
 
-/// Hashes under which results are put.
-static FIRST: [u8; 32] = [0; 32];
-
-static SECOND: [u8; 32] = [1; 32];
-
 fn joined<A: Allocator>(alloc: A, pieces: &[&[u8]]) -> Result<Vec<u8, A>, AllocError> {
     let mut out = Vec::new(alloc);
     for piece in pieces {
@@ -50,156 +45,248 @@ fn put<A: Allocator + Copy>(
     cache.put_blob(Digest::of(bytes).hash(), Vec::from_slice(alloc, bytes)?)
 }
 
-/// Puts the result with the file `f`.
-fn put_file_result<A: Allocator + Copy>(
-    cache: &mut ActionCache<A>,
+/// What is done with a cache: with blobs, each told by its bytes, and with results under hashes of
+/// 32 equal bytes.
+#[derive(Clone, Copy, Debug)]
+enum Act {
+    Put(&'static [u8]),
+    PutTree,
+    /// Puts the second bytes under the hash of the first, in either way.
+    PutAs(&'static [u8], &'static [u8]),
+    PutSealedAs(&'static [u8], &'static [u8]),
+    GetBlob(&'static [u8]),
+    /// Puts the result with the file `f`, that with the directory `out`, and bytes that are none.
+    PutFile(u8),
+    PutDirectory(u8),
+    PutBad(u8, &'static [u8]),
+    Pin(u8),
+    Unpin(u8),
+    GetDirectory(u8),
+}
+
+/// 1 where the bytes are found, 0 where none are, and 2 where it is others.
+fn same(found: Option<&[u8]>, bytes: &[u8]) -> u64 {
+    match found {
+        Some(found) => 2 - (found == bytes) as u64,
+        None => 0,
+    }
+}
+
+/// The same of the result with the directory `out`.
+fn same_directory<A: Allocator + Copy>(
     alloc: A,
-    hash: [u8; 32],
+    cache: &mut ActionCache<A>,
+    byte: u8,
+) -> Result<u64, CacheError> {
+    let expected = directory_result(alloc)?;
+    let found = cache.get_result(alloc, &[byte; 32])?;
+    Ok(match found {
+        Some(bytes) => same(Some(bytes.as_slice()), expected.as_slice()),
+        None => 0,
+    })
+}
+
+/// Puts the result of these pieces under the hash of this byte.
+fn put_result<A: Allocator + Copy>(
+    alloc: A,
+    cache: &mut ActionCache<A>,
+    byte: u8,
+    pieces: &[&[u8]],
 ) -> Result<(), CacheError> {
-    cache.put_result(alloc, hash, joined(alloc, FILE_RESULT)?)
+    cache.put_result(alloc, [byte; 32], joined(alloc, pieces)?)
 }
 
-#[test]
-fn a_result_is_answered_when_its_tree_and_files_are_held(rt: HostRuntime) -> Result<(), Fail> {
-    let alloc = rt.alloc();
-    let mut cache: ActionCache<Global> = ActionCache::new(
-        alloc,
-        RandomState::new(&rt)?,
+fn put_directory<A: Allocator + Copy>(
+    alloc: A,
+    cache: &mut ActionCache<A>,
+    byte: u8,
+) -> Result<(), CacheError> {
+    cache.put_result(alloc, [byte; 32], directory_result(alloc)?)
+}
+
+fn put_sealed<A: Allocator + Copy>(
+    alloc: A,
+    cache: &mut ActionCache<A>,
+    name: &[u8],
+    bytes: &[u8],
+) -> Result<(), CacheError> {
+    let sealed = Sealed::of(Vec::from_slice(alloc, bytes)?);
+    cache.put_sealed(Digest::of(name).hash(), sealed)
+}
+
+/// What the cache answers, or how many bytes of blobs are held afterwards.
+fn answer<A: Allocator + Copy>(
+    alloc: A,
+    cache: &mut ActionCache<A>,
+    act: Act,
+) -> Result<u64, CacheError> {
+    match act {
+        Act::Put(bytes) => put(cache, alloc, bytes)?,
+        Act::PutTree => put(cache, alloc, &joined(alloc, TREE)?)?,
+        Act::PutAs(name, bytes) => {
+            cache.put_blob(Digest::of(name).hash(), Vec::from_slice(alloc, bytes)?)?
+        }
+        Act::PutSealedAs(name, bytes) => put_sealed(alloc, cache, name, bytes)?,
+        Act::GetBlob(bytes) => return Ok(same(cache.get_blob(&Digest::of(bytes).hash()), bytes)),
+        Act::PutFile(byte) => put_result(alloc, cache, byte, FILE_RESULT)?,
+        Act::PutDirectory(byte) => put_directory(alloc, cache, byte)?,
+        Act::PutBad(byte, bytes) => put_result(alloc, cache, byte, &[bytes])?,
+        Act::Pin(byte) => cache.pin(alloc, &[byte; 32])?,
+        Act::Unpin(byte) => cache.unpin(alloc, &[byte; 32])?,
+        Act::GetDirectory(byte) => return same_directory(alloc, cache, byte),
+    }
+    Ok(cache.held_bytes())
+}
+
+/// What an act is to answer.
+#[derive(Clone, Copy)]
+enum Told {
+    As(u64),
+    Full,
+    HashDiffers,
+    PinnedDiffers,
+    NotHeld,
+    NotPinned,
+    Bad(MessageError),
+    /// That the blob of these bytes is wanting.
+    Incomplete(&'static [u8]),
+}
+
+fn is_told(answer: Result<u64, CacheError>, told: Told) -> bool {
+    match told {
+        Told::As(number) => answer == Ok(number),
+        Told::Full => answer == Err(CacheError::Full),
+        Told::HashDiffers => answer == Err(CacheError::HashDiffers),
+        Told::PinnedDiffers => answer == Err(CacheError::PinnedDiffers),
+        Told::NotHeld => answer == Err(CacheError::NotHeld),
+        Told::NotPinned => answer == Err(CacheError::NotPinned),
+        Told::Bad(error) => answer == Err(CacheError::BadResult(error)),
+        Told::Incomplete(bytes) => answer == Err(CacheError::Incomplete(Digest::of(bytes))),
+    }
+}
+
+type Acts = &'static [(Act, Told)];
+
+/// The limits of bytes of blobs and of results, and what is done with a cache under them.
+static CACHES: [(u32, u32, Acts); 6] = [
+    // A result is answered when its Tree and files are held.
+    (
         1000,
         1000,
-    )?;
-    let bytes = directory_result(alloc)?;
-    assert_eq!(rt; bytes.len(), 77);
-    assert_eq!(rt; cache.put_result(alloc, FIRST, bytes.clone()?), Ok(()));
-    assert_eq!(rt; cache.get_result(alloc, &FIRST)?, None);
-    assert_eq!(rt; put(&mut cache, alloc, &joined(alloc, TREE)?), Ok(()));
-    assert_eq!(rt; cache.get_result(alloc, &FIRST)?, None);
-    assert_eq!(rt;
-        cache.pin(alloc, &FIRST),
-        Err(CacheError::Incomplete(Digest::of(b"123456789")))
-    );
-    assert_eq!(rt; put(&mut cache, alloc, b"123456789"), Ok(()));
-    assert_eq!(rt; cache.get_result(alloc, &FIRST)?, Some(bytes));
-    Ok(())
-}
+        &[
+            (Act::PutDirectory(0), Told::As(0)),
+            (Act::GetDirectory(0), Told::As(0)),
+            (Act::PutTree, Told::As(77)),
+            (Act::GetDirectory(0), Told::As(0)),
+            (Act::Pin(0), Told::Incomplete(b"123456789")),
+            (Act::Put(b"123456789"), Told::As(86)),
+            (Act::GetDirectory(0), Told::As(1)),
+        ],
+    ),
+    // What a pinned result refers to stays.
+    (
+        20,
+        1000,
+        &[
+            (Act::Put(b"123456789"), Told::As(9)),
+            (Act::PutFile(0), Told::As(9)),
+            (Act::Pin(0), Told::As(9)),
+            (Act::Put(b"abcdefghijkl"), Told::Full),
+            (Act::Put(b"abcdefghijk"), Told::As(20)),
+            (Act::PutDirectory(0), Told::PinnedDiffers),
+            (Act::Unpin(0), Told::As(20)),
+            (Act::Unpin(0), Told::NotPinned),
+        ],
+    ),
+    // A blob that is got moves to the front.
+    (
+        20,
+        1000,
+        &[
+            (Act::Put(b"123456789"), Told::As(9)),
+            (Act::Put(b"abcdefghijk"), Told::As(20)),
+            (Act::GetBlob(b"123456789"), Told::As(1)),
+            (Act::Put(b"\n"), Told::As(10)),
+            (Act::GetBlob(b"123456789"), Told::As(1)),
+            (Act::GetBlob(b"abcdefghijk"), Told::As(0)),
+            (Act::GetBlob(b""), Told::As(1)),
+        ],
+    ),
+    // A blob of two pinned results.
+    (
+        20,
+        1000,
+        &[
+            (Act::Put(b"123456789"), Told::As(9)),
+            (Act::PutFile(0), Told::As(9)),
+            (Act::PutFile(1), Told::As(9)),
+            (Act::Pin(0), Told::As(9)),
+            (Act::Pin(1), Told::As(9)),
+            (Act::Unpin(0), Told::As(9)),
+            (Act::Put(b"abcdefghijkl"), Told::Full),
+            (Act::GetBlob(b"123456789"), Told::As(1)),
+            (Act::Unpin(1), Told::As(9)),
+            (Act::Put(b"abcdefghijkl"), Told::As(12)),
+            (Act::GetBlob(b"123456789"), Told::As(0)),
+            (Act::Pin(0), Told::Incomplete(b"123456789")),
+            (Act::Pin(2), Told::NotHeld),
+            (Act::Unpin(0), Told::NotPinned),
+        ],
+    ),
+    // Puts that are refused.
+    (20, 138, &[(Act::PutFile(0), Told::Full)]),
+    (
+        20,
+        139,
+        &[
+            (Act::PutFile(0), Told::As(0)),
+            (Act::PutAs(b"\n", b"123456789"), Told::HashDiffers),
+            (Act::PutSealedAs(b"\n", b"123456789"), Told::HashDiffers),
+            (
+                Act::PutBad(1, b"\x52\x00"),
+                Told::Bad(MessageError::Unsupported(10)),
+            ),
+        ],
+    ),
+];
 
 #[test]
-fn what_a_pinned_result_refers_to_stays(rt: HostRuntime) -> Result<(), Fail> {
-    let alloc = rt.alloc();
-    let mut cache: ActionCache<Global> = ActionCache::new(alloc, RandomState::new(&rt)?, 20, 1000)?;
-    assert_eq!(rt; put(&mut cache, alloc, b"123456789"), Ok(()));
-    assert_eq!(rt; put_file_result(&mut cache, alloc, FIRST), Ok(()));
-    assert_eq!(rt; cache.pin(alloc, &FIRST), Ok(()));
-    assert_eq!(rt;
-        put(&mut cache, alloc, b"abcdefghijkl"),
-        Err(CacheError::Full)
-    );
-    assert_eq!(rt; cache.held_bytes(), 9);
-    assert_eq!(rt; put(&mut cache, alloc, b"abcdefghijk"), Ok(()));
-    assert_eq!(rt; cache.held_bytes(), 20);
-    let other = directory_result(alloc)?;
-    assert_eq!(rt;
-        cache.put_result(alloc, FIRST, other),
-        Err(CacheError::PinnedDiffers)
-    );
-    assert_eq!(rt; cache.unpin(alloc, &FIRST), Ok(()));
-    assert_eq!(rt; cache.unpin(alloc, &FIRST), Err(CacheError::NotPinned));
-    Ok(())
-}
-
-#[test]
-fn a_blob_that_is_got_moves_to_the_front(rt: HostRuntime) -> Result<(), Fail> {
-    let alloc = rt.alloc();
-    let mut cache: ActionCache<Global> = ActionCache::new(alloc, RandomState::new(&rt)?, 20, 1000)?;
-    let nine = Digest::of(b"123456789").hash();
-    let eleven = Digest::of(b"abcdefghijk").hash();
-    assert_eq!(rt; put(&mut cache, alloc, b"123456789"), Ok(()));
-    assert_eq!(rt; put(&mut cache, alloc, b"abcdefghijk"), Ok(()));
-    assert_eq!(rt; cache.get_blob(&nine), Some(b"123456789".as_slice()));
-    assert_eq!(rt; put(&mut cache, alloc, b"\n"), Ok(()));
-    assert_eq!(rt; cache.get_blob(&nine), Some(b"123456789".as_slice()));
-    assert_eq!(rt; cache.get_blob(&eleven), None);
-    assert_eq!(rt;
-        cache.get_blob(&Digest::empty().hash()),
-        Some(b"".as_slice())
-    );
-    Ok(())
-}
-
-#[test]
-fn a_blob_of_two_pinned_results(rt: HostRuntime) -> Result<(), Fail> {
-    let alloc = rt.alloc();
-    let mut cache: ActionCache<Global> = ActionCache::new(alloc, RandomState::new(&rt)?, 20, 1000)?;
-    let nine = Digest::of(b"123456789");
-    assert_eq!(rt; put(&mut cache, alloc, b"123456789"), Ok(()));
-    assert_eq!(rt; put_file_result(&mut cache, alloc, FIRST), Ok(()));
-    assert_eq!(rt; put_file_result(&mut cache, alloc, SECOND), Ok(()));
-    assert_eq!(rt; cache.pin(alloc, &FIRST), Ok(()));
-    assert_eq!(rt; cache.pin(alloc, &SECOND), Ok(()));
-    assert_eq!(rt; cache.unpin(alloc, &FIRST), Ok(()));
-    assert_eq!(rt;
-        put(&mut cache, alloc, b"abcdefghijkl"),
-        Err(CacheError::Full)
-    );
-    assert!(rt; cache.get_blob(&nine.hash()).is_some());
-    assert_eq!(rt; cache.unpin(alloc, &SECOND), Ok(()));
-    assert_eq!(rt; put(&mut cache, alloc, b"abcdefghijkl"), Ok(()));
-    assert!(rt; cache.get_blob(&nine.hash()).is_none());
-    assert_eq!(rt; cache.held_bytes(), 12);
-    assert_eq!(rt; cache.pin(alloc, &FIRST), Err(CacheError::Incomplete(nine)));
-    assert_eq!(rt; cache.pin(alloc, &[2; 32]), Err(CacheError::NotHeld));
-    assert_eq!(rt; cache.unpin(alloc, &FIRST), Err(CacheError::NotPinned));
-    Ok(())
-}
-
-#[test]
-fn puts_that_are_refused(rt: HostRuntime) -> Result<(), Fail> {
+fn caches_after_each_act(rt: HostRuntime) -> Result<(), Fail> {
     let alloc = rt.alloc();
     let state = RandomState::new(&rt)?;
-    let mut small: ActionCache<Global> = ActionCache::new(alloc, state, 20, 138)?;
-    assert_eq!(rt;
-        put_file_result(&mut small, alloc, FIRST),
-        Err(CacheError::Full)
-    );
-    let mut cache: ActionCache<Global> = ActionCache::new(alloc, state, 20, 139)?;
-    assert_eq!(rt; put_file_result(&mut cache, alloc, FIRST), Ok(()));
-    let line = Digest::of(b"\n").hash();
-    assert_eq!(rt;
-        cache.put_blob(line, Vec::from_slice(alloc, b"123456789")?),
-        Err(CacheError::HashDiffers)
-    );
-    let sealed = Sealed::of(Vec::from_slice(alloc, b"123456789")?);
-    assert_eq!(rt;
-        cache.put_sealed(line, sealed),
-        Err(CacheError::HashDiffers)
-    );
-    assert_eq!(rt;
-        cache.put_result(alloc, SECOND, Vec::from_slice(alloc, b"\x52\x00")?),
-        Err(CacheError::BadResult(MessageError::Unsupported(10)))
-    );
+    for (blobs, results, acts) in CACHES {
+        let mut cache: ActionCache<Global> = ActionCache::new(
+            alloc,
+            state,
+            blobs as u64,
+            results as u64,
+        )?;
+        for (act, told) in acts {
+            assert!(rt; is_told(answer(alloc, &mut cache, *act), *told), "{act:?}");
+        }
+    }
     Ok(())
 }
 
-/// A result with its Tree and file, pinned, answered and unpinned; and what is held then.
-fn used<A: Allocator + Copy>(alloc: A, state: RandomState) -> Result<u64, CacheError> {
+/// A result with its Tree and file, pinned, answered and unpinned; what each act answers.
+static USE: [(Act, u64); 8] = [
+    (Act::Put(b"123456789"), 9),
+    (Act::PutSealedAs(b"\n", b"\n"), 10),
+    (Act::PutTree, 87),
+    (Act::PutDirectory(0), 87),
+    (Act::Pin(0), 87),
+    (Act::GetDirectory(0), 1),
+    (Act::Unpin(0), 87),
+    (Act::GetBlob(b"\n"), 1),
+];
+
+fn used<A: Allocator + Copy>(alloc: A, state: RandomState) -> Result<bool, CacheError> {
     let mut cache: ActionCache<A> = ActionCache::new(alloc, state, 100, 1000)?;
-    put(&mut cache, alloc, b"123456789")?;
-    cache.put_sealed(
-        Digest::of(b"\n").hash(),
-        Sealed::of(Vec::from_slice(alloc, b"\n")?),
-    )?;
-    let tree = joined(alloc, TREE)?;
-    put(&mut cache, alloc, &tree)?;
-    cache.put_result(alloc, FIRST, directory_result(alloc)?)?;
-    cache.pin(alloc, &FIRST)?;
-    let found = cache.get_result(alloc, &FIRST)?.is_some();
-    cache.unpin(alloc, &FIRST)?;
-    let lent = cache.get_blob(&Digest::of(b"\n").hash()).is_some();
-    if found && lent {
-        Ok(cache.held_bytes())
-    } else {
-        Err(CacheError::NotHeld)
+    let mut same = true;
+    for (act, number) in USE {
+        same = answer(alloc, &mut cache, act)? == number && same;
     }
+    Ok(same)
 }
 
 #[test]
@@ -210,12 +297,12 @@ fn each_request_for_memory_refused(rt: HostRuntime) -> Result<(), Fail> {
         let heap = Refusing::new(rt.alloc(), number);
         let answer = used(&heap, state);
         if !heap.has_refused() {
-            assert_eq!(rt; answer, Ok(87));
+            assert!(rt; answer == Ok(true));
             break;
         }
         // A refused wish to shrink the table is no refusal.
-        if answer != Ok(87) {
-            assert_eq!(rt; answer, Err(CacheError::Memory), "request {number}");
+        if answer != Ok(true) {
+            assert!(rt; answer == Err(CacheError::Memory), "request {number}");
             refused = refused.saturating_add(1);
         }
     }
@@ -230,7 +317,7 @@ fn no_memory_is_taken(rt: HostRuntime) -> Result<(), Fail> {
     let mut cache: ActionCache<&Refusing<Global>> = ActionCache::new(&heap, state, 20, 1000)?;
     put(&mut cache, &heap, b"123456789")?;
     heap.refuse(1);
-    assert_eq!(rt; cache.held_bytes(), 9);
+    assert!(rt; cache.held_bytes() == 9);
     assert!(rt; cache.get_blob(&Digest::of(b"123456789").hash()).is_some());
     assert!(rt; !heap.has_refused());
     Ok(())

@@ -23,13 +23,13 @@ static TEXTS: [(&str, bool, bool, bool); 12] = [
 #[test]
 fn texts(rt: HostRuntime) -> Result<(), Fail> {
     for (text, name, target, path) in TEXTS {
-        assert_eq!(rt; is_name(text), name, "{text}");
-        assert_eq!(rt; is_target(text), target, "{text}");
-        assert_eq!(rt; is_path(text), path, "{text}");
+        assert!(rt; is_name(text) == name, "{text}");
+        assert!(rt; is_target(text) == target, "{text}");
+        assert!(rt; is_path(text) == path, "{text}");
         let bytes = text.as_bytes();
-        assert_eq!(rt; Name::new(rt.alloc(), bytes).is_ok(), name);
-        assert_eq!(rt; Target::new(rt.alloc(), bytes).is_ok(), target);
-        assert_eq!(rt; Path::new(rt.alloc(), bytes).is_ok(), path);
+        assert!(rt; Name::new(rt.alloc(), bytes).is_ok() == name);
+        assert!(rt; Target::new(rt.alloc(), bytes).is_ok() == target);
+        assert!(rt; Path::new(rt.alloc(), bytes).is_ok() == path);
     }
     assert!(rt; matches!(Name::new(rt.alloc(), b"\xff"), Err(MessageError::BadName)));
     assert!(rt; matches!(Target::new(rt.alloc(), b"\xff"), Err(MessageError::BadPath)));
@@ -56,11 +56,11 @@ fn paths(rt: HostRuntime) -> Result<(), Fail> {
         let path = Path::new(&heap, first.as_bytes())?;
         let other = Path::new(&heap, second.as_bytes())?;
         heap.refuse(1);
-        assert_eq!(rt; path.lies_under(&other), under);
-        assert_eq!(rt; path.overlaps(&other), overlap);
-        assert_eq!(rt; path.is_same(&other), first == second);
+        assert!(rt; path.lies_under(&other) == under);
+        assert!(rt; path.overlaps(&other) == overlap);
+        assert!(rt; path.is_same(&other) == (first == second));
         assert!(rt; path.compare_text(&other) == order);
-        assert_eq!(rt; path.as_str(), first);
+        assert!(rt; path.as_str() == first);
         assert!(rt; path.names().all(|name| is_name(name)));
         assert!(rt; !heap.has_refused());
     }
@@ -80,18 +80,18 @@ fn deep<A: Allocator + Copy>(alloc: A, names: usize) -> Result<Path<A>, MessageE
 #[test]
 fn deep_paths(rt: HostRuntime) -> Result<(), Fail> {
     let path = deep(rt.alloc(), 64)?;
-    assert_eq!(rt; path.as_bytes().len(), 127);
-    assert_eq!(rt; path.names().count(), 64);
+    assert!(rt; path.as_bytes().len() == 127);
+    assert!(rt; path.names().count() == 64);
     assert!(rt; matches!(deep(rt.alloc(), 65), Err(MessageError::BadPath)));
     let mut refused = 0u64;
     for number in 1..1000u64 {
         let heap = Refusing::new(rt.alloc(), number);
         let answer = deep(&heap, 3).map(|path| path.as_bytes().len());
         if !heap.has_refused() {
-            assert_eq!(rt; answer, Ok(5));
+            assert!(rt; answer == Ok(5));
             break;
         }
-        assert_eq!(rt; answer, Err(MessageError::Memory), "request {number}");
+        assert!(rt; answer == Err(MessageError::Memory), "request {number}");
         refused = refused.saturating_add(1);
     }
     assert!(rt; refused > 4, "{refused}");

@@ -25,7 +25,7 @@ fn spellings(rt: HostRuntime) -> Result<(), Fail> {
     for (text, spelled) in SPELLED {
         let path = Path::new(rt.alloc(), text.as_bytes())?;
         let written = write_path(rt.alloc(), &path)?;
-        assert_eq!(rt; written.as_str(), spelled);
+        assert!(rt; written.as_str() == spelled);
         let read = read_path(rt.alloc(), spelled.as_bytes())?;
         assert!(rt; read.is_some_and(|read| read.is_same(&path)), "{spelled}");
     }
@@ -50,10 +50,10 @@ fn each_request_refused(rt: HostRuntime) {
         let heap = Refusing::new(rt.alloc(), number);
         let answer = again(&heap, b"a%20b/%C3%A9");
         if !heap.has_refused() {
-            assert_eq!(rt; answer, Ok(true));
+            assert!(rt; answer == Ok(true));
             break;
         }
-        assert_eq!(rt; answer, Err(AllocError), "request {number}");
+        assert!(rt; answer == Err(AllocError), "request {number}");
         refused = refused.saturating_add(1);
     }
     assert!(rt; refused >= 3, "{refused}");

@@ -6,7 +6,7 @@ use std::alloc::Allocator;
 use tree::{AddError, FlatEntry, FlatTree, MemorySource, TreeError, fold, unfold};
 
 /// What stands at a path.
-#[derive(Clone, Copy, Debug, PartialEq, Eq)]
+#[derive(Clone, Copy, PartialEq, Eq)]
 enum Stands {
     Nothing,
     File(Digest, bool),
@@ -16,7 +16,7 @@ enum Stands {
 
 /// What unfolding comes to: how many entries, or a refusal with its digest or the length of its
 /// path's text.
-#[derive(Clone, Copy, Debug, PartialEq, Eq)]
+#[derive(Clone, Copy, PartialEq, Eq)]
 enum Unfolded {
     Entries(usize),
     Missing(Digest),
@@ -75,58 +75,58 @@ fn filled<A: Allocator + Copy>(alloc: A) -> Result<FlatTree<A>, Broken> {
     Ok(tree)
 }
 
+/// What stands at paths of it.
+fn standing() -> [(&'static [u8], Stands); 6] {
+    let (digest, _) = nine(false);
+    [
+        (b"a", Stands::Dir),
+        (b"a/x", Stands::Link(1)),
+        (b"a/y", Stands::Dir),
+        (b"a-b", Stands::File(digest, false)),
+        (b"z", Stands::File(digest, true)),
+        (b"z/q", Stands::Nothing),
+    ]
+}
+
+/// What is there already, and what lies under a file or a link, leaves no room.
+static NO_ROOM: [&[u8]; 5] = [b"a", b"a/y", b"z", b"z/q", b"a/x/deeper/still"];
+
 #[test]
 fn entries_have_directories_above(rt: HostRuntime) -> Result<(), Broken> {
     let alloc = rt.alloc();
     let mut tree = filled(alloc)?;
-    let (digest, _) = nine(false);
-    assert!(rt; !tree.is_empty());
-    assert_eq!(rt; tree.len(), 5);
-    assert_eq!(rt; standing_at(alloc, &tree, b"a")?, Stands::Dir);
-    assert_eq!(rt; standing_at(alloc, &tree, b"a/x")?, Stands::Link(1));
-    assert_eq!(rt; standing_at(alloc, &tree, b"a/y")?, Stands::Dir);
-    assert_eq!(rt;
-        standing_at(alloc, &tree, b"a-b")?,
-        Stands::File(digest, false)
-    );
-    assert_eq!(rt;
-        standing_at(alloc, &tree, b"z")?,
-        Stands::File(digest, true)
-    );
-    assert_eq!(rt; standing_at(alloc, &tree, b"z/q")?, Stands::Nothing);
-    // What is there already, and what lies under a file or a link, leaves no room.
-    for path in [b"a".as_slice(), b"a/y", b"z", b"z/q", b"a/x/deeper/still"] {
-        assert!(rt; !add(alloc, &mut tree, path, FlatEntry::Dir)?);
+    for (path, stands) in standing() {
+        assert!(rt; standing_at(alloc, &tree, path)? == stands, "{path:?}");
     }
-    assert_eq!(rt; tree.len(), 5);
-    assert!(rt; add(alloc, &mut tree, b"a/y/q/r", file(false))?);
-    assert_eq!(rt; tree.len(), 7);
+    for path in NO_ROOM {
+        assert!(rt; !add(alloc, &mut tree, path, FlatEntry::Dir)?, "{path:?}");
+    }
+    assert!(rt; tree.len() == 5 && !tree.is_empty());
+    assert!(rt; add(alloc, &mut tree, b"a/y/q/r", file(false))? && tree.len() == 7);
     Ok(())
+}
+
+/// Whether the text is that of the digest.
+fn is_text_of(text: &[u8], digest: &Digest) -> bool {
+    Digest::read_text(text) == Ok(*digest)
 }
 
 /// The digests were computed with Python's `hashlib` from bytes written by hand.
 #[test]
 fn directories_by_first_visit(rt: HostRuntime) -> Result<(), Broken> {
-    let alloc = rt.alloc();
-    let folded = fold(alloc, &filled(alloc)?)?;
-    let Ok(root) = Digest::read_text(
-        b"2c5a427f8c1d37c5b545885a31adddf4a6739aba02ffb239408b31503887b2fc/229",
-    ) else {
-        return Err(Broken::Refused);
-    };
-    let Ok(below) = Digest::read_text(
-        b"3486b799ec4adac4065794714a1b9d1bd06eeaebde323ee00d23caa4790deede/81",
-    ) else {
-        return Err(Broken::Refused);
-    };
-    assert_eq!(rt; folded.root, root);
-    assert_eq!(rt; folded.directories.len(), 3);
-    assert_eq!(rt; Digest::of(&folded.directories[0]), root);
-    assert_eq!(rt; Digest::of(&folded.directories[1]), below);
-    assert!(rt; folded.directories[2].is_empty());
-    let nothing = fold(alloc, &FlatTree::new(alloc))?;
-    assert_eq!(rt; nothing.root, Digest::empty());
-    assert_eq!(rt; nothing.directories.len(), 1);
+    let root = b"2c5a427f8c1d37c5b545885a31adddf4a6739aba02ffb239408b31503887b2fc/229";
+    let below = b"3486b799ec4adac4065794714a1b9d1bd06eeaebde323ee00d23caa4790deede/81";
+    let folded = fold(rt.alloc(), &filled(rt.alloc())?)?;
+    assert!(rt; is_text_of(root, &folded.root));
+    match folded.directories.as_slice() {
+        [first, second, third] => {
+            assert!(rt; Digest::of(first) == folded.root);
+            assert!(rt; is_text_of(below, &Digest::of(second)) && third.is_empty());
+        }
+        _ => assert!(rt; false, "not three directories"),
+    }
+    let nothing = fold(rt.alloc(), &FlatTree::new(rt.alloc()))?;
+    assert!(rt; nothing.root == Digest::empty() && nothing.directories.len() == 1);
     Ok(())
 }
 
@@ -177,107 +177,104 @@ fn refused<A: Allocator>(error: TreeError<A>) -> Result<Unfolded, Broken> {
     }
 }
 
-/// A directory with the file `a`, unfolded, and folded again.
-fn there_and_back<A: Allocator + Copy>(alloc: A) -> Result<bool, Broken> {
+/// So many directories, one in another, unfolded, and folded again: whether there is the file at
+/// this path, and the same directories.
+fn there_and_back<A: Allocator + Copy>(
+    alloc: A,
+    directories: usize,
+    path: &[u8],
+) -> Result<bool, Broken> {
     let mut source = MemorySource::new(alloc);
-    let root = nested(alloc, &mut source, 2)?;
+    let root = nested(alloc, &mut source, directories)?;
     let Ok(tree) = unfold(alloc, &root, &mut source) else {
         return Err(Broken::Memory);
     };
     let (digest, executable) = nine(false);
     let folded = fold(alloc, &tree)?;
+    let stands = standing_at(alloc, &tree, path)?;
     Ok(
-        tree.len() == 2
-            && standing_at(alloc, &tree, b"a/a")? == Stands::File(digest, executable)
+        tree.len() == directories
+            && stands == Stands::File(digest, executable)
             && folded.root == root
-            && folded.directories.len() == 2,
+            && folded.directories.len() == directories,
     )
+}
+
+/// What the directory with this digest unfolds to, where a source holds these bytes under it.
+fn held_unfolds<A: Allocator + Copy>(
+    alloc: A,
+    digest: Digest,
+    held: Option<&[u8]>,
+) -> Result<Unfolded, Broken> {
+    let mut source = MemorySource::new(alloc);
+    if let Some(bytes) = held {
+        source.hold_blob(digest, Vec::from_slice(alloc, bytes)?)?;
+    }
+    unfolds_to(alloc, &mut source, &digest)
+}
+
+fn nested_unfolds<A: Allocator + Copy>(alloc: A, directories: usize) -> Result<Unfolded, Broken> {
+    let mut source = MemorySource::new(alloc);
+    let root = nested(alloc, &mut source, directories)?;
+    unfolds_to(alloc, &mut source, &root)
 }
 
 #[test]
 fn directories_are_unfolded(rt: HostRuntime) -> Result<(), Broken> {
-    let alloc = rt.alloc();
-    let mut source = MemorySource::new(alloc);
-    let one = nested(alloc, &mut source, 1)?;
-    let tree = match unfold(alloc, &one, &mut source) {
-        Ok(tree) => tree,
-        Err(_) => return Err(Broken::Refused),
-    };
-    let (digest, executable) = nine(false);
-    assert_eq!(rt; tree.len(), 1);
-    assert_eq!(rt;
-        standing_at(alloc, &tree, b"a")?,
-        Stands::File(digest, executable)
-    );
-    let folded = fold(alloc, &tree)?;
-    assert_eq!(rt; folded.root, one);
-    assert_eq!(rt; folded.directories.len(), 1);
-    assert!(rt; there_and_back(alloc)?);
-    assert_eq!(rt;
-        unfolds_to(alloc, &mut source, &Digest::empty())?,
-        Unfolded::Entries(0)
-    );
     let newline = Digest::of(b"\n");
-    assert_eq!(rt;
-        unfolds_to(alloc, &mut source, &newline)?,
-        Unfolded::Missing(newline)
-    );
-    source.hold_blob(newline, Vec::from_slice(alloc, b"\r")?)?;
-    assert_eq!(rt;
-        unfolds_to(alloc, &mut source, &newline)?,
-        Unfolded::Wrong(newline)
-    );
-    source.hold_blob(newline, Vec::from_slice(alloc, b"\n")?)?;
-    assert_eq!(rt;
-        unfolds_to(alloc, &mut source, &newline)?,
-        Unfolded::Malformed(newline)
-    );
-    let deep = nested(alloc, &mut source, 64)?;
-    assert_eq!(rt;
-        unfolds_to(alloc, &mut source, &deep)?,
-        Unfolded::Entries(64)
-    );
-    let deeper = nested(alloc, &mut source, 65)?;
-    assert_eq!(rt;
-        unfolds_to(alloc, &mut source, &deeper)?,
-        Unfolded::TooDeep(127)
-    );
+    let rows = [
+        (Digest::empty(), None, Unfolded::Entries(0)),
+        (newline, None, Unfolded::Missing(newline)),
+        (newline, Some(b"\r".as_slice()), Unfolded::Wrong(newline)),
+        (
+            newline,
+            Some(b"\n".as_slice()),
+            Unfolded::Malformed(newline),
+        ),
+    ];
+    for (digest, held, expected) in rows {
+        assert!(rt;
+            held_unfolds(rt.alloc(), digest, held)? == expected,
+            "{held:?}"
+        );
+    }
+    assert!(rt; nested_unfolds(rt.alloc(), 64)? == Unfolded::Entries(64));
+    assert!(rt; nested_unfolds(rt.alloc(), 65)? == Unfolded::TooDeep(127));
     Ok(())
 }
 
+/// The paths of the file under one directory and under two, and fewer than the requests for memory.
+static FILES: [(usize, &[u8], u64); 2] = [(1, b"a", 10), (2, b"a/a", 20)];
+
 #[test]
 fn each_request_for_memory_refused(rt: HostRuntime) {
-    let mut refused = 0u64;
-    for number in 1..4000u64 {
-        let heap = Refusing::new(rt.alloc(), number);
-        let answer = there_and_back(&heap);
-        if !heap.has_refused() {
-            assert_eq!(rt; answer, Ok(true));
-            break;
+    for (directories, path, few) in FILES {
+        for number in 1..4000u64 {
+            let heap = Refusing::new(rt.alloc(), number);
+            let answer = there_and_back(&heap, directories, path);
+            if !heap.has_refused() {
+                assert!(rt; answer == Ok(true) && number > few, "request {number}");
+                break;
+            }
+            assert!(rt; answer == Err(Broken::Memory), "request {number}");
         }
-        assert_eq!(rt; answer, Err(Broken::Memory), "request {number}");
-        refused = refused.saturating_add(1);
     }
-    assert!(rt; refused >= 20);
 }
 
 /// An addition that finds no memory leaves the tree as it was.
 #[test]
-fn a_refused_addition_changes_nothing(rt: HostRuntime) -> Result<(), Broken> {
-    let mut refused = 0u64;
+fn a_refused_addition_changes_nothing(rt: HostRuntime) {
     for number in 1..200u64 {
         let heap = Refusing::new(rt.alloc(), number);
         let mut tree = FlatTree::new(&heap);
         let answer = add(&heap, &mut tree, b"a/b/c/d", FlatEntry::Dir);
         if !heap.has_refused() {
-            assert_eq!(rt; answer, Ok(true));
-            assert_eq!(rt; tree.len(), 4);
+            assert!(rt; answer == Ok(true) && tree.len() == 4 && number > 8);
             break;
         }
-        assert_eq!(rt; answer, Err(Broken::Memory), "request {number}");
-        assert!(rt; tree.is_empty(), "request {number}");
-        refused = refused.saturating_add(1);
+        assert!(rt;
+            answer == Err(Broken::Memory) && tree.is_empty(),
+            "request {number}"
+        );
     }
-    assert!(rt; refused >= 8);
-    Ok(())
 }
