@@ -1,0 +1,5 @@
+use Rattle.tree.proofs.Learning.{known_nothing}
+use Rattle.builder.proofs.building.end.Goals as goal
+
+pub root-requires : goal.root-requires
+root-requires g c = known_nothing c.new-memo.ensures

@@ -1,0 +1,45 @@
+-- What a build came to.
+use Rattle.std.specs.Prelude.{◌≡◌, ℕ, Some}
+use Rattle.blob_digest.specs.Digest.{DigestValue}
+use Rattle.blob_source.specs.Sink.{KeepsRight}
+use Rattle.blob_source.specs.Source.{AsksSome, Telling}
+use Rattle.plan.specs.Record.{RecordValue}
+use Rattle.plan.specs.Values.{PlanValue}
+use Rattle.runs.specs.Calls.{HaveAllFinished, IsGraftedRoot, IsOpened, record_of}
+use Rattle.runs.specs.Engine.{EngineValue}
+use Rattle.runs.specs.Served.{IsServedYes}
+use Rattle.worker.specs.Calls.{IsLed}
+use Rattle.worker.specs.Outcomes.{Yields}
+
+-- the root, and the digests of the actions that finished
+pub record BuiltValue : Type 0 where
+  pub root : DigestValue
+  pub noted : RecordValue
+
+-- The root and the record are those of an engine in which each step has finished. The record is
+-- answered yes with this root, wherever blobs and results serve the build.
+pub record IsEnd (A : Type 0) (last : EngineValue) (told : Telling) (b : BuiltValue)
+    : Type 0 where
+  pub complete : HaveAllFinished last
+  pub root : IsGraftedRoot told.blobs last b.root
+  pub noted : record_of last ≡ Some b.noted
+  pub served : IsServedYes A told.blobs last b.root
+
+-- Calls led from an engine of the plan, as the store told it, to one in which each step has
+-- finished. What each step came to, the runner yielded or the store had recorded. The root and the
+-- record are that engine's.
+pub record IsBuilt (A : Type 0) (yields : Yields) (most : ℕ) (plan : PlanValue)
+    (sources : DigestValue) (told : Telling) (b : BuiltValue) : Type 0 where
+  pub opening : Telling
+  pub first : EngineValue
+  pub opened : IsOpened opening.blobs plan sources first
+  -- what the store told when the last step had finished
+  pub ending : Telling
+  pub still : KeepsRight opening.blobs ending.blobs
+  pub last : EngineValue
+  pub led : IsLed A yields ending most first last
+  pub of_plan : last.plan ≡ plan
+  pub of_sources : last.sources ≡ sources
+  -- the store is only asked after that
+  pub asked : AsksSome ending told
+  pub end : IsEnd A last told b

@@ -1,0 +1,4 @@
+pub mod Built
+pub mod Faults
+pub mod Lines
+pub mod Telling

@@ -1,0 +1,115 @@
+ghost use Rattle.std.specs.Prelude.{◌≡◌, ◌<◌, [], IfOk, OnOk};
+ghost use Rattle.blob_source.specs.Sink.{KeepsRight};
+ghost use Rattle.blob_source.specs.Source.{AsksSome};
+ghost use Rattle.builder.specs.Built.{IsBuilt, IsEnd};
+ghost use Rattle.runs.specs.Calls.{HaveAllFinished, IsOpened};
+ghost use Rattle.worker.specs.Calls.{IsLed, running};
+
+use crate::fault::{Fault, Place, of_opening, of_refusal, of_runs};
+use blob_digest::Digest;
+use plan::{Plan, Record};
+use runs::Engine;
+use std::alloc::Allocator;
+use std::marker::Model;
+use tree::{BlobSink, Memo};
+use worker::{Runner, build};
+
+/// What a build came to.
+#[derive(Drop)]
+pub struct Built<A: Allocator> {
+    /// The digest of the tree in which it ended.
+    pub root: Digest,
+    /// The digests of the actions that finished.
+    pub noted: Record<A>,
+}
+
+impl<A: Allocator> Model for Built<A> {
+    ghost use Rattle.builder.specs.Built.{BuiltValue};
+
+    ghost Value = { BuiltValue };
+
+    ghost view = { λ b. record { root = b.root; noted = b.noted } };
+}
+
+/// Opens an engine of the plan.
+fn open<A: Allocator + Copy, S: BlobSink<A>>(
+    alloc: A,
+    sources: Digest,
+    plan: Plan<A>,
+    sink: &mut S,
+) -> Result<Engine<A>, Fault>
+    ensures opened { IfOk result (IsOpened (S.tells sink.new).blobs plan sources) }
+    ensures asked { AsksSome (S.tells sink.old) (S.tells sink.new) }
+{
+    match Engine::new(alloc, plan, sources, sink) {
+        Ok(engine) => Ok(engine),
+        Err(error) => Err(of_opening(&error)),
+    }
+}
+
+/// Builds by the engine.
+fn run<A: Allocator + Copy, S: BlobSink<A>, N: Runner<A>>(
+    alloc: A,
+    engine: &mut Engine<A>,
+    sink: &mut S,
+    runner: &mut N,
+    jobs: usize,
+) -> Result<(), Fault>
+    requires some { 0 < jobs }
+    requires idle { running engine.old.jobs ≡ 0 }
+    ensures led { IsLed A (N.yields runner.old) (S.tells sink.new) jobs engine.old engine.new }
+    ensures done { OnOk result (HaveAllFinished engine.new) }
+    ensures alive { N.alive runner.new ≡ N.alive runner.old }
+    ensures right { KeepsRight (S.tells sink.old).blobs (S.tells sink.new).blobs }
+{
+    match build(alloc, engine, sink, runner, jobs) {
+        Ok(()) => Ok(()),
+        Err(error) => Err(of_refusal(Place::Step(error.step), &error.refusal)),
+    }
+}
+
+/// The root and the record of an engine in which each step has finished.
+fn end<A: Allocator + Copy, S: BlobSink<A>>(
+    alloc: A,
+    engine: &Engine<A>,
+    sink: &mut S,
+) -> Result<Built<A>, Fault>
+    ensures ended { IfOk result (IsEnd A engine.now (S.tells sink.new)) }
+    ensures asked { AsksSome (S.tells sink.old) (S.tells sink.new) }
+{
+    let mut memo = Memo::new(alloc);
+    let root = match engine.root(alloc, &mut memo, sink) {
+        Ok(root) => root,
+        Err(error) => return Err(of_runs(Place::Root, &error)),
+    };
+    match engine.record(alloc) {
+        Ok(Some(noted)) => Ok(Built { root, noted }),
+        Ok(None) => Err(Fault::Refused(Place::Root, 101)),
+        Err(_e) => Err(Fault::Memory),
+    }
+}
+
+/// Builds a plan over the sources with this digest, with as many children at once as `jobs` says.
+/// Whatever it answers, each child that was started was waited for, and what the store had under its
+/// own digest stays told.
+pub fn build_plan<A: Allocator + Copy, S: BlobSink<A>, N: Runner<A>>(
+    alloc: A,
+    sources: Digest,
+    plan: Plan<A>,
+    sink: &mut S,
+    runner: &mut N,
+    jobs: usize,
+) -> Result<Built<A>, Fault>
+    requires some { 0 < jobs }
+    // The root and the record are those of an engine of the plan in which each step has finished,
+    // with what the runner yielded or the store had recorded.
+    ensures built { IfOk result
+        (IsBuilt A (N.yields runner.old) jobs plan sources (S.tells sink.new)) }
+    // Each child that was started was waited for.
+    ensures alive { N.alive runner.new ≡ N.alive runner.old }
+    ensures right { KeepsRight (S.tells sink.old).blobs (S.tells sink.new).blobs }
+{
+    let mut engine = open(alloc, sources, plan, sink)?;
+    run(alloc, &mut engine, sink, runner, jobs)?;
+    end(alloc, &engine, sink)
+}

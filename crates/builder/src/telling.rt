@@ -1,0 +1,73 @@
+ghost use Rattle.std.specs.Prelude.{◌≡◌, ◌<◌, IfErr, IfOk};
+ghost use Rattle.blob_source.specs.Sink.{KeepsRight};
+ghost use Rattle.builder.specs.Faults.{HasNoNumber};
+ghost use Rattle.builder.specs.Telling.{IsTold};
+
+use crate::building::build_plan;
+use crate::fault::Fault;
+use crate::line::{built_line, failed_line};
+use blob_digest::Digest;
+use plan::{Plan, ReadError};
+use std::alloc::{AllocError, Allocator};
+use tree::BlobSink;
+use worker::Runner;
+
+/// What a build tells, with its line.
+#[derive(Drop)]
+pub enum Told<A: Allocator> {
+    /// It came to its root.
+    Built {
+        line: String<A>,
+        /// The record's text.
+        noted: Vec<u8, A>,
+    },
+    /// A step or the root was refused.
+    Failed {
+        line: String<A>,
+    },
+}
+
+/// A copy of the plan, read of its own text.
+fn copy_of<A: Allocator + Copy>(alloc: A, plan: &Plan<A>) -> Result<Plan<A>, AllocError>
+    ensures { IfOk result (λ copy. copy ≡ plan.now) }
+{
+    // A read for the prover: a plan is lawful.
+    let _ = plan.steps();
+    match Plan::read(alloc, &plan.write(alloc)?) {
+        Ok(copy) => Ok(copy),
+        Err(ReadError::Faulty(_) | ReadError::Memory) => Err(AllocError),
+    }
+}
+
+/// Builds a plan, as `build_plan` does, and tells what it came to in a line; and in the text of the
+/// record, where it came to its root.
+pub fn tell_build<A: Allocator + Copy, S: BlobSink<A>, N: Runner<A>>(
+    alloc: A,
+    sources: &Digest,
+    plan: &Plan<A>,
+    sink: &mut S,
+    runner: &mut N,
+    jobs: usize,
+) -> Result<Told<A>, Fault>
+    requires some { 0 < jobs }
+    // The line and the record are those of such a build, or the line tells a refusal's number.
+    ensures told { IfOk result
+        (IsTold (N.yields runner.old) jobs plan.now sources.now (S.tells sink.new)) }
+    // It fails where the store or the runner does, or memory runs out.
+    ensures failed { IfErr result HasNoNumber }
+    // Each child that was started was waited for.
+    ensures alive { N.alive runner.new ≡ N.alive runner.old }
+    ensures right { KeepsRight (S.tells sink.old).blobs (S.tells sink.new).blobs }
+{
+    let copy = copy_of(alloc, plan)?;
+    match build_plan(alloc, *sources, copy, sink, runner, jobs) {
+        Ok(built) => Ok(Told::Built {
+            line: built_line(alloc, &built.root, plan)?,
+            noted: built.noted.write(alloc)?,
+        }),
+        Err(Fault::Refused(place, number)) => Ok(Told::Failed {
+            line: failed_line(alloc, plan, place, number)?,
+        }),
+        Err(fault) => Err(fault),
+    }
+}
