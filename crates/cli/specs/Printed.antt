@@ -14,6 +14,7 @@ use Rattle.verifier.specs.declared.verdict.Verdict.{Verdict}
 use Rattle.verifier.specs.Verdict.{IsYes}
 use Rattle.text_verifier.specs.Answered.{IsJudged}
 use Rattle.text_verifier.specs.Texts.{HasTexts, Question, IsDigestText}
+use Rattle.cli.specs.Built.{PrintsBuild}
 use Rattle.cli.specs.Got.{Writes}
 use Rattle.command_lines.specs.CommandLine.{CallsCommand, AsksForHelp, option_text, options_of}
 
@@ -102,14 +103,25 @@ pub record PrintsAddress (old new : Option (List ℕ)) : Type 0 where
 abbrev pub PrintsListening : List Text → Option (List ℕ) → Option (List ℕ) → Type 0
 PrintsListening = IsCalledAndDone (codes "serve") (λ options old new. PrintsAddress old new)
 
+-- the words call `build`, and the line of its root was printed
+abbrev pub PrintsRoot : List Text → Option (List ℕ) → Option (List ℕ) → Type 0
+PrintsRoot = IsCalledAndDone (codes "build") (λ options old new. PrintsBuild options true old new)
+
+-- the words call `build`, and the line of the refusal that ended it was printed
+abbrev pub PrintsRefusal : List Text → Option (List ℕ) → Option (List ℕ) → Type 0
+PrintsRefusal =
+    IsCalledAndDone (codes "build") (λ options old new. PrintsBuild options false old new)
+
 -- the line of a yes was printed, or a blob was written, or the digest printed of one that was put,
--- or the address that was served, or nothing but help or the version was asked for
+-- or the address that was served, or the line of a build's root, or nothing but help or the version
+-- was asked for
 abbrev pub IsDone : List Text → Option (List ℕ) → Option (List ℕ) → Type 0
 IsDone words old new =
     PrintsYes words old new
     ⊎ (WritesBlob words old new ⊎ (PrintsPut words old new
-    ⊎ (PrintsListening words old new ⊎ AsksForHelp words)))
+    ⊎ (PrintsListening words old new ⊎ (AsksForHelp words ⊎ PrintsRoot words old new))))
 
--- the line of a no was printed, or a server has no such blob
+-- the line of a no was printed, or a server has no such blob, or a build was refused
 abbrev pub IsNo : List Text → Option (List ℕ) → Option (List ℕ) → Type 0
-IsNo words old new = PrintsNo words old new ⊎ LacksBlob words old new
+IsNo words old new =
+    PrintsNo words old new ⊎ (LacksBlob words old new ⊎ PrintsRefusal words old new)

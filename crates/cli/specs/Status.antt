@@ -4,7 +4,7 @@ use Rattle.cli.specs.declared.error.CliError.{CliError}
 use Rattle.cli.specs.declared.error.CliError.TheVariants.{Words, Digest, Number, Text, Unlike, File}
 use Rattle.cli.specs.declared.error.CliError.TheVariants.{NotAFile, TooLarge, Entry, Connection}
 use Rattle.cli.specs.declared.error.CliError.TheVariants.{Server, WrongBytes, Address, Random}
-use Rattle.cli.specs.declared.error.CliError.TheVariants.{Output, Memory}
+use Rattle.cli.specs.declared.error.CliError.TheVariants.{Output, Memory, Process}
 
 -- 2 where the words or the texts that they name are at fault, and 3 where a file, a socket, a
 -- server, the output or memory is
@@ -22,6 +22,7 @@ status_of (Connection server fault) = 3
 status_of (Server server asked digest fault) = 3
 status_of (WrongBytes server digest) = 3
 status_of (Address text fault) = 3
+status_of (Process place) = 3
 status_of (Random fault) = 3
 status_of (Output fault) = 3
 status_of Memory = 3

@@ -76,6 +76,10 @@ pub(crate) enum CliError {
         address: String,
         fault: io::Error,
     },
+    #[error("{place}: the process can't be run, or was ended by a signal")]
+    Process {
+        place: String,
+    },
     #[error("random bytes: {0}")]
     Random(io::Error),
     #[error("standard output: {0}")]
@@ -103,6 +107,7 @@ impl CliError {
             | CliError::Server { .. }
             | CliError::WrongBytes { .. }
             | CliError::Address { .. }
+            | CliError::Process { .. }
             | CliError::Random(_)
             | CliError::Output(_)
             | CliError::Memory => 3,

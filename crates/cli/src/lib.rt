@@ -2,6 +2,7 @@
 //! Nothing here ends the process or prints behind its caller's back.
 #![tactic(auto)]
 
+mod build_command;
 mod connecting;
 mod error;
 mod files;

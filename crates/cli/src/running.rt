@@ -8,6 +8,7 @@ ghost use Rattle.cli.specs.Status.{status_of};
 ghost use Rattle.cli.specs.Told.{PrintsNoLine, TellsError};
 ghost use Rattle.command_lines.specs.CommandLine.{CallsCommand, options_of};
 
+use crate::build_command::run_build;
 use crate::error::CliError;
 use crate::get_command::run_get;
 use crate::put_command::run_put;
@@ -21,7 +22,7 @@ use std::alloc::{AllocError, Global};
 use std::io::Write;
 use std::net::{Net, TcpListener, TcpStream};
 use std::random::RandomSource;
-use std::rt::Files;
+use std::rt::{Files, Processes};
 use std::time::Clock;
 
 /// What a command came to.
@@ -42,15 +43,16 @@ pub fn run_words<R, O: Write, E: Write, T: Write + Drop>(
     terminal: Option<T>,
 ) -> u8
 where
-    R: AllocGlobal + Clock + Files + Log + RandomSource,
+    R: AllocGlobal + Clock + Files + Log + Processes + RandomSource + Clone + Drop,
     R: Net<Listener = TcpListener, Stream = TcpStream>,
     ensures status { result < 4 }
     // With status 0, the words ask for help, or the line of their yes, the blob that they name, the
-    // digest of what they put or the address that was served went to standard output, and nothing
-    // else.
+    // digest of what they put, the address that was served or the line of a build's root went to
+    // standard output, and nothing else.
     ensures done { result ≡ 0
         → IsDone (map string_bytes words.now) (O.contents out.old) (O.contents out.new) }
-    // With status 1, the line of their no, or the blob that they name isn't there.
+    // With status 1, the line of their no, or of a build's refusal; or the blob that they name isn't
+    // there.
     ensures no { result ≡ 1
         → IsNo (map string_bytes words.now) (O.contents out.old) (O.contents out.new) }
     // With status 2, nothing was printed.
@@ -83,7 +85,7 @@ fn run<R, O: Write, T: Write + Drop>(
     terminal: Option<T>,
 ) -> Result<Ended, CliError>
 where
-    R: AllocGlobal + Clock + Files + Log + RandomSource,
+    R: AllocGlobal + Clock + Files + Log + Processes + RandomSource + Clone + Drop,
     R: Net<Listener = TcpListener, Stream = TcpStream>,
     ensures done { IfOk result
         (λ ended. ended ≡ Ended.Done
@@ -125,6 +127,13 @@ where
         Some(("serve", inner)) => {
             run_serve(rt, inner, out)?;
             Ok(Ended::Done)
+        }
+        Some(("build", inner)) => {
+            if run_build(rt, inner, out)? {
+                Ok(Ended::Done)
+            } else {
+                Ok(Ended::No)
+            }
         }
         _ => {
             let text = String::from_str(rt.alloc(), "no such command")?;

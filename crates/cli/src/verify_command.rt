@@ -87,7 +87,7 @@ fn typed_digests(alloc: Global, matches: &ArgMatches<'_>) -> Result<Digests, Cli
 }
 
 /// The plan in the file that the words name.
-fn plan_in_file<R: Files + AllocGlobal>(
+pub(crate) fn plan_in_file<R: Files + AllocGlobal>(
     rt: &R,
     matches: &ArgMatches<'_>,
 ) -> Result<Plan<Global>, CliError>

@@ -63,10 +63,16 @@ put_line = takes_word (client_line (codes "put")) (codes "path")
 abbrev pub get_line : App
 get_line = takes_word (client_line (codes "get")) (codes "digest")
 
+-- `build` and its options
+abbrev pub build_line : App
+build_line =
+    must_have (must_have (must_have (must_have (must_have (client_line (codes "build"))
+    (codes "sources")) (codes "plan")) (codes "record")) (codes "work")) (codes "jobs")
+
 -- the program: it has a version, and wants a command as its first word
 abbrev pub program_line : App
 program_line =
-    with_subcommand (with_subcommand (with_subcommand (with_subcommand
+    with_subcommand (with_subcommand (with_subcommand (with_subcommand (with_subcommand
     (on_top (λ s.
     record s {
       has_version = true;
@@ -74,7 +80,7 @@ program_line =
       subcommand_required = true;
       disable_help_subcommand = true;
     }) (new_app (codes "buildcache")))
-    serve_line.top) verify_line.top) put_line.top) get_line.top
+    serve_line.top) verify_line.top) put_line.top) get_line.top) build_line.top
 
 -- ---- what the words ask for
 

@@ -3,7 +3,7 @@ ghost use Rattle.clap.specs.Words.{FailsBy, app_of, fault_of, rule_of, subcomman
 ghost use Rattle.clap.specs.Words.{subcommand_rows_of};
 ghost use Rattle.command_lines.specs.CommandLine.{optional_option, required_option, required_word};
 ghost use Rattle.command_lines.specs.CommandLine.{client_line, verify_line, serve_line, put_line};
-ghost use Rattle.command_lines.specs.CommandLine.{get_line, program_line};
+ghost use Rattle.command_lines.specs.CommandLine.{build_line, get_line, program_line};
 
 use clap::{Arg, ArgAction, ArgMatches, Command, Error};
 use std::alloc::{AllocError, Global};
@@ -187,6 +187,36 @@ fn get_command<'a>(alloc: Global) -> Result<Command<'a>, AllocError>
     ))
 }
 
+fn build_command<'a>(alloc: Global) -> Result<Command<'a>, AllocError>
+    ensures { IfOk result (λ c. app_of c ≡ build_line) }
+{
+    client(
+        alloc,
+        "build",
+        "Build a plan: run its steps, or take their results from the server, and write the record",
+    )?
+    .arg(required(
+        alloc,
+        "sources",
+        "DIGEST",
+        "The digest of the source tree, as HASH/SIZE",
+    ))?
+    .arg(required(alloc, "plan", "FILE", "The plan"))?
+    .arg(required(
+        alloc,
+        "record",
+        "FILE",
+        "Where the record of the build is written",
+    ))?
+    .arg(required(
+        alloc,
+        "work",
+        "FOLDER",
+        "An empty folder, in which each step runs in a folder of its own",
+    ))?
+    .arg(required(alloc, "jobs", "J", "How many steps run at once"))
+}
+
 fn program<'a>(alloc: Global) -> Result<Command<'a>, AllocError>
     ensures { IfOk result (λ c. app_of c ≡ program_line) }
 {
@@ -200,7 +230,8 @@ fn program<'a>(alloc: Global) -> Result<Command<'a>, AllocError>
         .subcommand(serve_command(alloc)?)?
         .subcommand(verify_command(alloc)?)?
         .subcommand(put_command(alloc)?)?
-        .subcommand(get_command(alloc)?)
+        .subcommand(get_command(alloc)?)?
+        .subcommand(build_command(alloc)?)
 }
 
 /// The program's words, read.

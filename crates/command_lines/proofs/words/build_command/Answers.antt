@@ -1,0 +1,12 @@
+use Rattle.std.proofs.Common.{ap₂, ◌∙◌}
+use Rattle.std.proofs.lemmas.Result.{IfOk-weaker}
+use Rattle.clap.specs.Words.{with_rule}
+use Rattle.command_lines.proofs.words.build_command.Goals as goal
+
+pub returns : goal.returns
+returns c =
+    let with_1 = c.in_ok-arg.ensures.shape c.required.ensures.local ∙ ap₂ with_rule c.in_ok-client.ensures c.required.ensures.rule in
+    let with_2 = c.in_ok-arg-2.ensures.shape c.required-2.ensures.local ∙ ap₂ with_rule with_1 c.required-2.ensures.rule in
+    let with_3 = c.in_ok-arg-3.ensures.shape c.required-3.ensures.local ∙ ap₂ with_rule with_2 c.required-3.ensures.rule in
+    let with_4 = c.in_ok-arg-4.ensures.shape c.required-4.ensures.local ∙ ap₂ with_rule with_3 c.required-4.ensures.rule in
+    IfOk-weaker c.arg-5.result _ _ (λ r h. h.shape c.required-5.ensures.local ∙ ap₂ with_rule with_4 c.required-5.ensures.rule) c.arg-5.ensures
