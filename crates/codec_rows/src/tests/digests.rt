@@ -108,7 +108,7 @@ fn size_of(text: &str) -> Result<u64, DigestError> {
 
 #[test]
 fn digests_and_texts(rt: HostRuntime) -> Result<(), Fail> {
-    for (blob, text) in VECTORS {
+    for &(blob, text) in &VECTORS {
         let digest = Digest::of(blob);
         assert!(rt; digest.write_text(rt.alloc())?.as_str() == text);
         assert!(rt; Digest::read_text(text.as_bytes()) == Ok(digest));
@@ -121,7 +121,7 @@ fn digests_and_texts(rt: HostRuntime) -> Result<(), Fail> {
 
 #[test]
 fn pieces_do_not_matter(rt: HostRuntime) {
-    for (blob, _) in VECTORS {
+    for &(blob, _) in &VECTORS {
         for cut in 0..blob.len() {
             let (front, back) = blob.split_at(cut);
             let mut hasher = Hasher::new();
@@ -135,7 +135,7 @@ fn pieces_do_not_matter(rt: HostRuntime) {
 
 #[test]
 fn refused_texts(rt: HostRuntime) {
-    for (text, expected) in TEXTS {
+    for &(text, expected) in &TEXTS {
         assert!(rt; size_of(text) == expected, "{text}");
     }
     let hash = Some(Digest::of(b"123456789").hash());
@@ -181,7 +181,7 @@ fn sealed_in<A: Allocator + Copy>(
 
 #[test]
 fn bodies_in_pieces(rt: HostRuntime) -> Result<(), Fail> {
-    for (blob, _) in VECTORS {
+    for &(blob, _) in &VECTORS {
         for cut in 0..blob.len() {
             let (front, back) = blob.split_at(cut);
             let (digest, bytes) = sealed_in(rt.alloc(), &[front, back])?;

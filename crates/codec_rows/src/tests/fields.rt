@@ -35,7 +35,7 @@ static VARINTS: [(u64, &[u8]); 20] = [
 
 #[test]
 fn varints_of_each_length(rt: HostRuntime) -> Result<(), Fail> {
-    for (value, bytes) in VARINTS {
+    for &(value, bytes) in &VARINTS {
         let mut text = Vec::new(rt.alloc());
         write_varint(&mut text, value)?;
         assert!(rt; text.as_slice() == bytes, "{value}");

@@ -215,7 +215,7 @@ fn shapes(rt: HostRuntime) {
 #[test]
 fn messages_written_again(rt: HostRuntime) {
     let mut refused = 0u64;
-    for bytes in REWRITTEN {
+    for &bytes in &REWRITTEN {
         for number in 1..1000u64 {
             let heap = Refusing::new(rt.alloc(), number);
             let answer = rewritten(&heap, bytes);

@@ -177,7 +177,7 @@ static FIRST: [usize; 2] = [47, 100];
 #[test]
 fn goes_on_over_a_stream_opened_anew(rt: HostRuntime) -> Result<(), Fail> {
     let heap = rt.alloc();
-    for (first, open, number) in STREAMS {
+    for &(first, open, number) in &STREAMS {
         let (_, replies) = REPLIES.split_at(number * FIRST[0]);
         let (_, requests) = REQUESTS.split_at(number * FIRST[1]);
         let stream = Failing {
@@ -330,7 +330,7 @@ fn fetched(
 #[test]
 fn answers_and_faults_of_fetches(rt: HostRuntime) -> Result<(), Fail> {
     let heap = rt.alloc();
-    for (input, first, second) in FETCHES {
+    for &(input, first, second) in &FETCHES {
         let mut remote = remote(heap, heap, input, 1000, 0)?;
         let name = String::from_utf8_lossy(heap, input)?;
         assert_eq!(rt;
@@ -377,7 +377,7 @@ static PUTS: [(&[u8], Option<Fault>); 8] = [
 #[test]
 fn answers_and_faults_of_puts(rt: HostRuntime) -> Result<(), Fail> {
     let heap = rt.alloc();
-    for (input, fault) in PUTS {
+    for &(input, fault) in &PUTS {
         let mut remote = remote(heap, heap, input, 1000, 0)?;
         let name = String::from_utf8_lossy(heap, input)?;
         let put = remote.put_result(heap, &Digest::of(b"a"), b"result");

@@ -129,7 +129,7 @@ fn first_not_made(
 #[test]
 fn streams_in_pieces(rt: HostRuntime) -> Result<(), Fail> {
     let heap = rt.alloc();
-    for (text, expected) in ROWS {
+    for &(text, expected) in &ROWS {
         let stream = stream_of(heap, text)?;
         for length in [1, 2, 7, 64, 1000] {
             let name = String::from_utf8_lossy(heap, text)?;
@@ -246,7 +246,7 @@ fn a_body_in_pieces_is_hashed(rt: HostRuntime) -> Result<(), Fail> {
 
 #[test]
 fn prefixes(rt: HostRuntime) -> Result<(), Fail> {
-    for (text, lawful) in PREFIXES {
+    for &(text, lawful) in &PREFIXES {
         let prefix: Option<Prefix<Global>> = Prefix::read(rt.alloc(), text)?;
         assert_eq!(rt; prefix.is_some(), lawful);
     }
@@ -280,7 +280,7 @@ fn answer<A: Allocator + Copy>(
 #[test]
 fn texts_of_answers(rt: HostRuntime) -> Result<(), Fail> {
     let mut refused = 0u64;
-    for (status, body, close, expected) in ANSWERS {
+    for &(status, body, close, expected) in &ANSWERS {
         for number in 1..1000u64 {
             let heap = Refusing::new(rt.alloc(), number);
             let text = answer(&heap, status, body, close);

@@ -152,7 +152,7 @@ static STORES: [(u32, Acts); 4] = [
 fn stores_after_each_act(rt: HostRuntime) -> Result<(), Fail> {
     let alloc = rt.alloc();
     let state = RandomState::new(&rt)?;
-    for (limit, acts) in STORES {
+    for &(limit, acts) in &STORES {
         let mut store: BlobStore<Global> = BlobStore::new(alloc, state, limit as u64)?;
         for (act, expected) in acts {
             assert!(rt; answer(alloc, &mut store, *act) == *expected, "{act:?}");

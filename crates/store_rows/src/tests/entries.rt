@@ -114,7 +114,7 @@ static STORES: [(u64, Acts); 2] = [
 fn stores_after_each_act(rt: HostRuntime) -> Result<(), Fail> {
     let alloc = rt.alloc();
     let state = RandomState::new(&rt)?;
-    for (cost, acts) in STORES {
+    for &(cost, acts) in &STORES {
         let mut store: Bounded<u64, Global> = Bounded::new(alloc, state, 20, cost)?;
         for (act, expected) in acts {
             assert!(rt; answer(alloc, &mut store, *act) == *expected, "{act:?}");

@@ -254,7 +254,7 @@ static CACHES: [(u32, u32, Acts); 6] = [
 fn caches_after_each_act(rt: HostRuntime) -> Result<(), Fail> {
     let alloc = rt.alloc();
     let state = RandomState::new(&rt)?;
-    for (blobs, results, acts) in CACHES {
+    for &(blobs, results, acts) in &CACHES {
         let mut cache: ActionCache<Global> = ActionCache::new(
             alloc,
             state,
@@ -283,7 +283,7 @@ static USE: [(Act, u64); 8] = [
 fn used<A: Allocator + Copy>(alloc: A, state: RandomState) -> Result<bool, CacheError> {
     let mut cache: ActionCache<A> = ActionCache::new(alloc, state, 100, 1000)?;
     let mut same = true;
-    for (act, number) in USE {
+    for &(act, number) in &USE {
         same = answer(alloc, &mut cache, act)? == number && same;
     }
     Ok(same)

@@ -171,7 +171,7 @@ fn request<A: Allocator + Copy>(
 #[test]
 fn texts_of_requests(rt: HostRuntime) -> Result<(), Fail> {
     let mut refused = 0u64;
-    for (prefix, area, body, host, expected) in REQUESTS {
+    for &(prefix, area, body, host, expected) in &REQUESTS {
         for number in 1..1000u64 {
             let heap = Refusing::new(rt.alloc(), number);
             let text = request(&heap, prefix, area, body, host);
@@ -189,7 +189,7 @@ fn texts_of_requests(rt: HostRuntime) -> Result<(), Fail> {
 
 #[test]
 fn hosts(rt: HostRuntime) -> Result<(), Fail> {
-    for (text, lawful) in HOSTS {
+    for &(text, lawful) in &HOSTS {
         assert_eq!(rt; Host::read(rt.alloc(), text)?.is_some(), lawful, "{text}");
     }
     Ok(())
@@ -197,7 +197,7 @@ fn hosts(rt: HostRuntime) -> Result<(), Fail> {
 
 #[test]
 fn heads_of_replies(rt: HostRuntime) -> Result<(), Fail> {
-    for (block, expected) in HEADS {
+    for &(block, expected) in &HEADS {
         let head = read_reply_head(block).map(|head| (head.status, head.length, head.close));
         assert_eq!(rt;
             head,
