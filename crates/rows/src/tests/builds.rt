@@ -88,7 +88,7 @@ const PLAN: &str =
 /// The text with the hashes of what it names.
 fn spelled(alloc: Global, text: &str) -> Result<String, AllocError> {
     let mut told = String::from_str(alloc, text)?;
-    for (name, hash) in NAMES {
+    for &(name, hash) in &NAMES {
         told = told.replace(alloc, name, hash)?;
     }
     Ok(told)
@@ -105,7 +105,7 @@ fn source_without<A: Allocator + Copy>(
     lacking: &str,
 ) -> Result<MemorySource<A>, Fail> {
     let mut source = MemorySource::new(alloc);
-    for (name, bytes) in BLOBS {
+    for &(name, bytes) in &BLOBS {
         if name != lacking {
             let text = spelled(global, bytes)?;
             source.hold_blob(

@@ -56,7 +56,7 @@ fn insisted(global: Global, plan: &str, lacking: &str) -> Result<(String, u64), 
 fn engines_opened(rt: HostRuntime) -> Result<(), Fail> {
     let alloc = rt.alloc();
     let mut refused = 0u64;
-    for (plan, lacking, told) in REFUSED {
+    for &(plan, lacking, told) in &REFUSED {
         let (answer, requests) = insisted(alloc, plan, lacking)?;
         let told = spelled(alloc, told)?;
         assert_eq!(rt; answer.as_str(), told.as_str());

@@ -416,7 +416,7 @@ static ROWS: [(&[Change], &str); 43] = [
 /// The text with the hashes of what it names.
 pub fn spelled(alloc: Global, text: &str) -> Result<String, Fail> {
     let mut told = String::from_str(alloc, text)?;
-    for (name, hash) in NAMES {
+    for &(name, hash) in &NAMES {
         told = told.replace(alloc, name, hash)?;
     }
     Ok(told)
@@ -506,7 +506,7 @@ fn changed_source<A: Allocator + Copy>(
     changes: &[Change],
 ) -> Result<MemorySource<A>, Fail> {
     let mut source = MemorySource::new(alloc);
-    for (name, bytes) in BLOBS {
+    for &(name, bytes) in &BLOBS {
         if let Some(held) = changed_blob(changes, name, bytes) {
             let text = spelled(global, held)?;
             source.hold_blob(
@@ -515,7 +515,7 @@ fn changed_source<A: Allocator + Copy>(
             )?;
         }
     }
-    for (name, bytes) in RESULTS {
+    for &(name, bytes) in &RESULTS {
         if let Some(held) = changed_result(changes, name, bytes) {
             let text = spelled(global, held)?;
             source.hold_result(
@@ -593,7 +593,7 @@ fn verdict_shown<A: Allocator>(alloc: Global, verdict: &Verdict<A>) -> Result<St
 #[test]
 fn builds_of_two_steps(rt: HostRuntime) -> Result<(), Fail> {
     let alloc = rt.alloc();
-    for (changes, told) in ROWS {
+    for &(changes, told) in &ROWS {
         let told = spelled(alloc, told)?;
         let build = changed_build(alloc, changes)?;
         let mut source = changed_source(alloc, alloc, changes)?;
