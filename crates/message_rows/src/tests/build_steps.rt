@@ -140,7 +140,7 @@ static MADE: [(Made, &[&[u8]]); 3] = [
 #[test]
 fn messages_by_parts(rt: HostRuntime) -> Result<(), Fail> {
     let mut refused = 0u64;
-    for (made, pieces) in MADE {
+    for &(made, pieces) in &MADE {
         let bytes = joined(rt.alloc(), pieces)?;
         for number in 1..1000u64 {
             let heap = Refusing::new(rt.alloc(), number);
@@ -256,7 +256,7 @@ fn parts_shown(rt: HostRuntime) -> Result<(), Fail> {
     assert!(rt; command_shows(rt.alloc())?);
     assert!(rt; action_shows(rt.alloc())?);
     assert!(rt; result_shows(rt.alloc())?);
-    for (text, expected) in LISTED {
+    for &(text, expected) in &LISTED {
         assert!(rt; command_lists(rt.alloc(), text)? == expected, "{text:?}");
     }
     Ok(())

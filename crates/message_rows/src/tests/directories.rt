@@ -271,7 +271,7 @@ static CHILDREN: [&[u8]; 4] = [b"f", b"d", b"l", b"x"];
 
 #[test]
 fn children_by_name(rt: HostRuntime) -> Result<(), Fail> {
-    for name in CHILDREN {
+    for &name in &CHILDREN {
         for number in 0..100u64 {
             let heap = Refusing::new(rt.alloc(), number);
             let answer = has_child(&heap, name);

@@ -108,7 +108,7 @@ fn message_of<A: Allocator>(alloc: A, row: Row) -> Result<Vec<u8, A>, AllocError
 /// No length is told as want of memory.
 #[test]
 fn long_fields(rt: HostRuntime) -> Result<(), Fail> {
-    for row in ROWS {
+    for &row in &ROWS {
         let bytes = message_of(rt.alloc(), row)?;
         let text = written(rt.alloc(), row.0, &bytes)?;
         assert!(rt; text.as_slice() == bytes.as_slice(), "{row:?}");

@@ -206,7 +206,7 @@ static ORDER: [&[u8]; 5] = [b"a!x", b"a-b", b"a/b", b"a/c", b"b"];
 
 fn filled<A: Allocator + Copy>(alloc: A) -> Result<Outcome<A>, Broken> {
     let mut outcome = Outcome::new(alloc, 0);
-    for (path, expected) in ADDED {
+    for &(path, expected) in &ADDED {
         if added(alloc, &mut outcome, path)? != expected {
             return Err(Broken::Refused);
         }

@@ -226,7 +226,7 @@ static NAMES: [(&str, bool); 8] = [
 
 #[test]
 fn names_of_steps(rt: HostRuntime) -> Result<(), Fail> {
-    for (text, expected) in NAMES {
+    for &(text, expected) in &NAMES {
         assert!(rt; is_step_name(text.as_bytes()) == expected, "{text:?}");
         match StepName::new(rt.alloc(), text.as_bytes())? {
             Some(name) => {
@@ -289,7 +289,7 @@ fn steps_up_to_the_limit(rt: HostRuntime) -> Result<(), Fail> {
 #[test]
 fn each_request_for_memory_refused(rt: HostRuntime) {
     let mut refused = 0u64;
-    for (text, expected) in PLANS {
+    for &(text, expected) in &PLANS {
         for number in 1..1000u64 {
             let heap = Refusing::new(rt.alloc(), number);
             let found = again(&heap, text);

@@ -22,7 +22,7 @@ static TEXTS: [(&str, bool, bool, bool); 12] = [
 
 #[test]
 fn texts(rt: HostRuntime) -> Result<(), Fail> {
-    for (text, name, target, path) in TEXTS {
+    for &(text, name, target, path) in &TEXTS {
         assert!(rt; is_name(text) == name, "{text}");
         assert!(rt; is_target(text) == target, "{text}");
         assert!(rt; is_path(text) == path, "{text}");
@@ -51,7 +51,7 @@ static PAIRS: [(&str, &str, bool, bool, Ordering); 6] = [
 #[test]
 fn paths(rt: HostRuntime) -> Result<(), Fail> {
     let heap = Refusing::new(rt.alloc(), 0);
-    for (first, second, under, overlap, order) in PAIRS {
+    for &(first, second, under, overlap, order) in &PAIRS {
         heap.refuse(0);
         let path = Path::new(&heap, first.as_bytes())?;
         let other = Path::new(&heap, second.as_bytes())?;

@@ -22,14 +22,14 @@ static REFUSED: [&str; 16] = [
 
 #[test]
 fn spellings(rt: HostRuntime) -> Result<(), Fail> {
-    for (text, spelled) in SPELLED {
+    for &(text, spelled) in &SPELLED {
         let path = Path::new(rt.alloc(), text.as_bytes())?;
         let written = write_path(rt.alloc(), &path)?;
         assert!(rt; written.as_str() == spelled);
         let read = read_path(rt.alloc(), spelled.as_bytes())?;
         assert!(rt; read.is_some_and(|read| read.is_same(&path)), "{spelled}");
     }
-    for text in REFUSED {
+    for &text in &REFUSED {
         let read = read_path(rt.alloc(), text.as_bytes())?;
         assert!(rt; read.is_none(), "{text}");
     }

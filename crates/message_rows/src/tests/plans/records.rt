@@ -105,7 +105,7 @@ fn digests_in_order(rt: HostRuntime) -> Result<(), Fail> {
 #[test]
 fn each_request_for_memory_of_a_record_refused(rt: HostRuntime) {
     let mut refused = 0u64;
-    for (text, expected) in RECORDS {
+    for &(text, expected) in &RECORDS {
         for number in 1..1000u64 {
             let heap = Refusing::new(rt.alloc(), number);
             let found = again(&heap, text);

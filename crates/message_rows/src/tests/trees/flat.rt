@@ -98,7 +98,7 @@ fn entries_have_directories_above(rt: HostRuntime) -> Result<(), Broken> {
     for (path, stands) in standing() {
         assert!(rt; standing_at(alloc, &tree, path)? == stands, "{path:?}");
     }
-    for path in NO_ROOM {
+    for &path in &NO_ROOM {
         assert!(rt; !add(alloc, &mut tree, path, FlatEntry::Dir)?, "{path:?}");
     }
     assert!(rt; tree.len() == 5 && !tree.is_empty());
@@ -248,7 +248,7 @@ static FILES: [(usize, &[u8], u64); 2] = [(1, b"a", 10), (2, b"a/a", 20)];
 
 #[test]
 fn each_request_for_memory_refused(rt: HostRuntime) {
-    for (directories, path, few) in FILES {
+    for &(directories, path, few) in &FILES {
         for number in 1..4000u64 {
             let heap = Refusing::new(rt.alloc(), number);
             let answer = there_and_back(&heap, directories, path);
