@@ -26,7 +26,7 @@ fn run(rt: &HostRuntime, line: &str) -> Result<(u8, String, String), Fail> {
 }
 
 /// Command lines with the files of this test, and their status, output and error line.
-static ROWS: [(&str, u8, &str, &str); 27] = [
+static ROWS: [(&str, u8, &str, &str); 26] = [
     (
         "verify --store s --sources EMPTY --plan plan --record record --claim EMPTY",
         0,
@@ -110,12 +110,6 @@ static ROWS: [(&str, u8, &str, &str); 27] = [
         2,
         "",
         "error: the following required arguments were not provided: --connections <N> --limit <BYTES> --result-limit <BYTES>",
-    ),
-    (
-        "serve --listen x --connections 1 --limit 1 --result-limit 1",
-        2,
-        "",
-        "error: --listen: HOST:PORT is wanted, not \"x\"",
     ),
     (
         "verify --store s --sources x --plan none --record none --claim y",
