@@ -237,11 +237,11 @@ module _ (A J : Type 0) (y : Yields) (may : J → ProducedValue → Type 0) (mos
             (record {
               finished = f;
               action = ap (λ (j : JobValue). j.action) of_job;
-              bytes = held.bytes;
-              held = inl held.held;
-              result = held.result;
-              reads = held.reads;
-              recorded = held.recorded;
+              bytes = held.held.bytes;
+              held = inl held.held.held;
+              result = held.held.result;
+              reads = held.held.reads;
+              recorded = held.held.recorded;
             }))
 
   pub going_refused : (t u : Telling) (now new : EngineValue) (i : ℕ) (cs : List (Child J)) → IsKept t u → Goes t now cs → length cs < most → CameToNothing A u.blobs i now new → Goes u new cs

@@ -81,7 +81,7 @@ all_right_taken {A} B C bs i x lt is keeps held right =
 
 -- ---- which digest
 
-same_bytes : (xs ys : List ℕ) → (xs ≡ ys) ⊎ (xs ≢ ys)
+pub same_bytes : (xs ys : List ℕ) → (xs ≡ ys) ⊎ (xs ≢ ys)
 same_bytes [] [] = inl refl
 same_bytes [] (y ∷ ys) = inr (λ e. cc)
 same_bytes (x ∷ xs) [] = inr (λ e. cc)
@@ -92,7 +92,7 @@ same_bytes (x ∷ xs) (y ∷ ys) = by (eqb_tells x y) (same_bytes xs ys)
     by (inl h) (inr n) = inr (λ e. n cc)
     by (inr h) t = let other = h.1 in inr (λ e. other cc)
 
-same_digest : (d e : DigestValue) → (d ≡ e) ⊎ (d ≢ e)
+pub same_digest : (d e : DigestValue) → (d ≡ e) ⊎ (d ≢ e)
 same_digest d e = by (same_bytes d.hash e.hash) (eqb_tells d.size e.size)
   where
     by : (d.hash ≡ e.hash) ⊎ (d.hash ≢ e.hash) → (((d.size == e.size) ≡ true) × (d.size ≡ e.size)) ⊎ (((d.size == e.size) ≡ false) × (d.size ≢ e.size)) → (d ≡ e) ⊎ (d ≢ e)

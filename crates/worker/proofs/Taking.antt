@@ -1,16 +1,20 @@
 -- A turn that is taken goes on.
-use Rattle.std.proofs.Common.{◌≡◌, ℕ, ◌+◌, ◌-◌, ◌<◌, List, ◌∷◌, length, None, ap, sym, subst, arith, inl, inr}
+use Rattle.std.proofs.Common.{◌≡◌, ℕ, ◌+◌, ◌-◌, ◌<◌, List, ◌∷◌, length, None, ap, sym, ◌∙◌, subst, arith, inl, inr}
 use Rattle.std.specs.Prelude.{◌↔◌, Result, Ok, Err, IsErr, OnOk, OnErr}
 use Rattle.blob_source.specs.Source.{Telling}
-use Rattle.blob_source.specs.Sink.{KeepsRight}
-use Rattle.runs.specs.Engine.{EngineValue, job_in}
+use Rattle.blob_source.specs.Sink.{HasRight, KeepsRight}
+use Rattle.runs.specs.Engine.{JobValue, EngineValue, job_in}
 use Rattle.runs.specs.Calls.{without_job}
 use Rattle.worker.specs.declared.turns.Child.{Child}
 use Rattle.worker.specs.Values.{ProducedValue}
 use Rattle.worker.specs.Stores.{IsKept, IsKeptBut}
 use Rattle.worker.specs.Outcomes.{Yields, YieldsNoMore}
-use Rattle.worker.specs.Going.{IsJobOf, AreJobsOf, IsGoing, IsBegun, CameToNothing, EndsWell, Ends, HasEndedFirst}
-use Rattle.worker.proofs.Keeping.{kept_more, all_right_still}
+use Rattle.worker.specs.Stored.{HasResultOf, StoresSteps, IsHeldWhole}
+use Rattle.worker.specs.Going.{IsJobOf, AreJobsOf, IsOwnJob, IsGoing, IsBegun, IsLaunched, CameToNothing, EndsWell, Ends, HasEndedFirst, HasResultOfFirst}
+use Rattle.verifier.proofs.FreshRuns.{one_answer}
+use Rattle.worker.proofs.Started.{after}
+use Rattle.worker.proofs.Keeping.{kept_more, right_still, all_right_still}
+use Rattle.worker.proofs.Storing.{trees_still, steps_kept, steps_taken, steps_ran}
 use Rattle.worker.proofs.Goes.{going_begun, going_refused, going_ended, lose_goes}
 
 module _ (A J : Type 0) (y : Yields) (may : J → ProducedValue → Type 0) (t u : Telling) (most : ℕ) (first now new : EngineValue) (cs ds : List (Child J)) (g : IsGoing A y may t most first now cs) where
@@ -57,6 +61,7 @@ ends_put may s t u c old new e k = record {
   came = e.came;
   finished = e.finished;
   blobs = all_right_still t.blobs u.blobs e.produced.blobs k.blobs e.blobs;
+  trees = trees_still t.blobs u.blobs e.produced.outcome.outputs k.blobs e.trees;
   kept = kept_more e.kept k;
 }
 
@@ -67,3 +72,41 @@ on_ok (Err y) x = tt
 pub on_err : {T E : Type 0} {X : Type 0} (r : Result T E) → X → OnErr r X
 on_err (Ok y) x = tt
 on_err (Err y) x = x
+
+-- ---- what the store has
+
+module _ (A J : Type 0) (y : Yields) (may : J → ProducedValue → Type 0) (t u : Telling) (now new : EngineValue) (cs ds : List (Child J)) where
+  begun_stored : (i : ℕ) → IsKept t u → IsBegun A y may u i now new cs ds → StoresSteps t now → StoresSteps u new
+  begun_stored i k b h = by b.goes
+    where
+      mid : StoresSteps u b.mid
+      mid = steps_kept k (ap (λ (e : EngineValue). e.finished) (after b.started)) h
+
+      by : IsLaunched y may u b.id b.job b.mid new cs ds → StoresSteps u new
+      by (inl (c, id, own, same, grown)) = subst (StoresSteps u) (sym same) mid
+      by (inr (v, f, whole, same)) =
+          let of_job : f.job ≡ b.job = one_answer (job_in b.id b.mid) f.job b.job f.is b.is in
+          steps_taken f (subst (λ (j : JobValue). IsHeldWhole u j.action v) (sym of_job) whole) mid
+
+  pub start_stored : {T E N : Type 0} (ys : N → Yields) (r : Result T E) (i : ℕ) → IsKept t u → OnOk r (IsBegun A y may u i now new cs ds)
+      → OnOk r ((entry : N) (most : ℕ) (first : EngineValue) → IsGoing A (ys entry) may t most first now cs → StoresSteps t now → StoresSteps u new)
+  start_stored ys (Ok x) i k begun = λ entry most first going. begun_stored i k begun
+  start_stored ys (Err x) i k begun = tt
+
+  ended_stored : HasEndedFirst (EndsWell may t u) now new cs ds → HasResultOfFirst u new cs → (z : Yields) (most : ℕ) (first : EngineValue) → IsGoing A z may t most first now cs → StoresSteps t now → StoresSteps u new
+  ended_stored e put z most first going h =
+      let jobs : AreJobsOf (IsOwnJob z may t.blobs now) now.jobs (e.child ∷ ds) = subst (AreJobsOf (IsOwnJob z may t.blobs now) now.jobs) e.is going.jobs in
+      let f = e.end.finished in
+      let same : f.job ≡ jobs.0 = one_answer (job_in e.child.id now) f.job jobs.0 f.is jobs.1 in
+      let step : f.job.step ≡ e.child.step = ap (λ (j : JobValue). j.step) same ∙ jobs.2.of_child.step in
+      let action : f.job.action ≡ e.child.action = ap (λ (j : JobValue). j.action) same ∙ jobs.2.of_child.action in
+      let held : HasRight u.blobs f.job.action = subst (λ (j : JobValue). HasRight u.blobs j.action) (sym same) (right_still e.end.kept.blobs jobs.2.owed.action) in
+      let result : HasResultOf u new e.child.step e.child.action = subst (HasResultOfFirst u new) e.is put in
+      steps_ran f (subst (λ d. IsKeptBut d t u) (sym action) e.end.kept) held e.end.trees
+      (subst (λ i. HasResultOf u new i f.job.action) (sym step) (subst (HasResultOf u new e.child.step) (sym action) result)) h
+
+  pub finish_stored : {T E N : Type 0} (ys : N → Yields) (r : Result T E) → OnOk r (HasEndedFirst (EndsWell may t u) now new cs ds) → OnOk r (HasResultOfFirst u new cs)
+      → OnOk r ((entry : N) (most : ℕ) (first : EngineValue) → IsGoing A (ys entry) may t most first now cs → StoresSteps t now → StoresSteps u new)
+  finish_stored ys (Ok x) ended put = λ entry. ended_stored ended put (ys entry)
+  finish_stored ys (Err x) ended put = tt
+

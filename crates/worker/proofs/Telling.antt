@@ -19,14 +19,14 @@ use Rattle.worker.specs.Outcomes.{IsHeld}
 use Rattle.worker.specs.Layout.{AreFiles, IsLayoutOf}
 
 module _ {B C : Blobs} (keeps : KeepsRight B C) where
-  blob_still : {d : DigestValue} {b : List ℕ} → IsBlobUnder B d b → IsBlobUnder C d b
+  pub blob_still : {d : DigestValue} {b : List ℕ} → IsBlobUnder B d b → IsBlobUnder C d b
   blob_still {d} {b} h = record { held = by h.held; right = h.right }
     where
       by : IsUnder B d (Some b) → IsUnder C d (Some b)
       by (inl e) = inl e
       by (inr (n, at)) = inr (n, sym (keeps d b (sym at) h.right))
 
-  told_still : {M : Type 0} {rules : M → Type 0} {spells : M → List ℕ} {d : DigestValue} {m : M} → IsTold rules spells B d m → IsTold rules spells C d m
+  pub told_still : {M : Type 0} {rules : M → Type 0} {spells : M → List ℕ} {d : DigestValue} {m : M} → IsTold rules spells B d m → IsTold rules spells C d m
   told_still t = record { lawful = t.lawful; blob = blob_still t.blob }
 
   below_still : (t : Tree NodeValue) → TellsBelow B t → TellsBelow C t

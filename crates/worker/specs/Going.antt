@@ -13,7 +13,8 @@ use Rattle.worker.specs.declared.turns.Turn.{Turn}
 use Rattle.worker.specs.declared.turns.Turn.TheVariants as turns
 use Rattle.worker.specs.Values.{ProducedValue}
 use Rattle.worker.specs.Stores.{IsKept, IsKeptBut}
-use Rattle.worker.specs.Outcomes.{Yields, IsOwed, HasAllRight, IsHeld}
+use Rattle.worker.specs.Outcomes.{Yields, IsOwed, HasAllRight}
+use Rattle.worker.specs.Stored.{HasTrees, HasResultOf, IsHeldWhole}
 use Rattle.worker.specs.Calls.{running, WasStarted, IsLost, IsLed, IsStartable}
 
 -- the job is the child's
@@ -57,7 +58,7 @@ abbrev pub IsLaunched : {J : Type 0} → Yields → (J → ProducedValue → Typ
 IsLaunched yields may t id j old new before after =
     ((c : Child _) × (c.id ≡ id) × IsOwnJob yields may t.blobs old c j × (new ≡ old)
     × (after ≡ before ++ c ∷ []))
-    ⊎ ((v : OutcomeValue) × IsFinished id v old new × IsHeld t j.action v × (after ≡ before))
+    ⊎ ((v : OutcomeValue) × IsFinished id v old new × IsHeldWhole t j.action v × (after ≡ before))
 
 -- A step was started: a child runs for it, or its job finished at once.
 pub record IsBegun (A : Type 0) {J : Type 0} (yields : Yields) (may : J → ProducedValue → Type 0)
@@ -74,14 +75,15 @@ abbrev pub CameToNothing : (A : Type 0) → Blobs → ℕ → EngineValue → En
 CameToNothing A B i old new = (new ≡ old)
     ⊎ ((id : ℕ) × (mid : EngineValue) × WasStarted A B i id old mid × (new ≡ without_job id mid))
 
--- A child's job finished with what the child came to, whose blobs are in the store, where a result
--- may have been put.
+-- A child's job finished with what the child came to, whose blobs and Trees are in the store, where
+-- a result may have been put.
 pub record EndsWell {J : Type 0} (may : J → ProducedValue → Type 0) (s t : Telling) (c : Child J)
     (old new : EngineValue) : Type 0 where
   pub produced : ProducedValue
   pub came : may c.job produced
   pub finished : IsFinished c.id produced.outcome old new
   pub blobs : HasAllRight t.blobs produced.blobs
+  pub trees : HasTrees t.blobs produced.outcome
   pub kept : IsKeptBut c.action s t
 
 -- A child's job ended, well or lost.
@@ -95,6 +97,11 @@ pub record HasEndedFirst {J : Type 0} (ends : Child J → EngineValue → Engine
   pub child : Child J
   pub is : before ≡ child ∷ after
   pub end : ends child old new
+
+-- under the digest of the first child's action stands the result of its step
+abbrev pub HasResultOfFirst : {J : Type 0} → Telling → EngineValue → List (Child J) → Type 0
+HasResultOfFirst t e [] = ⊥
+HasResultOfFirst t e (c ∷ cs) = HasResultOf t e c.step c.action
 
 -- ---- the turns
 

@@ -5,3 +5,4 @@ pub mod Stores
 pub mod Outcomes
 pub mod Calls
 pub mod Going
+pub mod Stored

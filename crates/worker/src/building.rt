@@ -7,6 +7,7 @@ ghost use Rattle.tree.specs.Memo.{known_by};
 ghost use Rattle.worker.specs.Stores.{KnowsBlobs};
 ghost use Rattle.worker.specs.Calls.{running, IsLed};
 ghost use Rattle.worker.specs.Going.{AreJobsOf, IsJobOf, IsGoing};
+ghost use Rattle.worker.specs.Stored.{HasNoneFinished, IsStored, StoresSteps};
 
 use crate::error::BuildError;
 use crate::runner::Runner;
@@ -57,6 +58,8 @@ fn take_turns<A: Allocator + Copy, S: BlobSink<A>, N: Runner<A>>(
         engine.old engine.new children.new.items }
     ensures done { OnOk result (HaveAllFinished engine.new) }
     ensures ended { OnOk result (children.new.items ≡ []) }
+    ensures stored { OnOk result (StoresSteps (S.tells sink.old) engine.old
+        → StoresSteps (S.tells sink.new) engine.new) }
     ensures right { KeepsRight (S.tells sink.old).blobs (S.tells sink.new).blobs }
     ensures alive { N.alive runner.new ≡ N.alive runner.old + length children.new.items }
 {
@@ -85,6 +88,9 @@ pub fn build<A: Allocator + Copy, S: BlobSink<A>, N: Runner<A>>(
     // from the runner or from the store.
     ensures led { IsLed A (N.yields runner.old) (S.tells sink.new) jobs engine.old engine.new }
     ensures done { OnOk result (HaveAllFinished engine.new) }
+    // The store has what each step came to, from the first to the last.
+    ensures stored { OnOk result
+        (HasNoneFinished engine.old → IsStored (S.tells sink.new) engine.new) }
     ensures idle { running engine.new.jobs ≡ 0 }
     // Each child that was started was waited for.
     ensures alive { N.alive runner.new ≡ N.alive runner.old }

@@ -2,6 +2,7 @@ ghost use Rattle.std.specs.Prelude.{◌≡◌, ◌↔◌, ◌+◌, ◌-◌, ◌<
 ghost use Rattle.std.specs.Prelude.{IsSome, IfSome, IfOk, OnOk, OnErr, length, slice_get};
 ghost use Rattle.blob_digest.specs.Digest.{digest_of};
 ghost use Rattle.action_messages.specs.Action.{action_bytes};
+ghost use Rattle.wire.specs.Bytes.{IsBytes};
 ghost use Rattle.blob_source.specs.Sink.{HasRight, KeepsRight};
 ghost use Rattle.plan.specs.Plan.{IsPlan};
 ghost use Rattle.runs.specs.Engine.{EngineValue, IsEngine, JobValue, finished_in, job_in};
@@ -14,7 +15,8 @@ ghost use Rattle.worker.specs.Values.{LayoutValue, ProducedValue, blobs_of};
 ghost use Rattle.worker.specs.Calls.{IsStartable};
 ghost use Rattle.worker.specs.Going.{AreJobsOf, IsJobOf, IsJobIn, job_value, IsBegun};
 ghost use Rattle.worker.specs.Going.{CameToNothing, IsLaunched, HasEndedFirst, EndsWell, Ends};
-ghost use Rattle.worker.specs.Going.{IsTurn, IsGoing, turns_left};
+ghost use Rattle.worker.specs.Going.{HasResultOfFirst, IsTurn, IsGoing, turns_left};
+ghost use Rattle.worker.specs.Stored.{HasTrees, HasResultOf, StoresSteps};
 
 use crate::error::{BuildError, Refusal};
 use crate::laying_out::layout;
@@ -203,6 +205,7 @@ fn put_trees<A: Allocator + Copy, S: BlobSink<A>>(
     outcome: &Outcome<A>,
 ) -> Result<(), Refusal<A>>
     ensures kept { IsKept (S.tells sink.old) (S.tells sink.new) }
+    ensures held { OnOk result (HasTrees (S.tells sink.new).blobs outcome.now) }
 {
     for output in outcome.outputs() {
         if let Output::Tree(tree) = &output.1 {
@@ -321,6 +324,7 @@ fn collect<A: Allocator + Copy, S: BlobSink<A>, N: Runner<A>>(
     ensures kept { IsKept (S.tells sink.old) (S.tells sink.new) }
     ensures gave { IfOk result (λ v. (p : ProducedValue) × N.may_give job p × (v ≡ p.outcome)
         × HasAllRight (S.tells sink.new).blobs p.blobs) }
+    ensures trees { IfOk result (HasTrees (S.tells sink.new).blobs) }
     ensures within { YieldsNoMore (N.yields runner.new) (N.yields runner.old) }
     ensures closed { N.alive runner.new ≡ N.alive runner.old - 1 }
 {
@@ -351,6 +355,22 @@ fn take<A: Allocator + Copy, S: BlobSink<A>, N: Runner<A>>(
     Ok(())
 }
 
+/// Puts the encoding of a result under the digest of an action.
+fn put_encoded<A: Allocator + Copy, S: BlobSink<A>>(
+    alloc: A,
+    sink: &mut S,
+    action: &Digest,
+    bytes: &[u8],
+) -> Result<(), Refusal<A>>
+    ensures kept { IsKeptBut action.now (S.tells sink.old) (S.tells sink.new) }
+    ensures held { OnOk result ((S.tells sink.new).results action.now ≡ Some bytes.now) }
+    // For the prover: what is in a slice are bytes.
+    ensures bytes { IsBytes bytes.now }
+{
+    sink.put_result(alloc, action, bytes)?;
+    Ok(())
+}
+
 /// Puts the result of a step that has finished under the digest of an action.
 fn put_outcome<A: Allocator + Copy, S: BlobSink<A>>(
     alloc: A,
@@ -361,10 +381,10 @@ fn put_outcome<A: Allocator + Copy, S: BlobSink<A>>(
 ) -> Result<(), Refusal<A>>
     requires { IsSome (finished_in step engine.now) }
     ensures kept { IsKeptBut action.now (S.tells sink.old) (S.tells sink.new) }
+    ensures put { OnOk result (HasResultOf (S.tells sink.new) engine.now step action.now) }
 {
     let result = engine.result(alloc, step)?.encode(alloc)?;
-    sink.put_result(alloc, action, &result)?;
-    Ok(())
+    put_encoded(alloc, sink, action, &result)
 }
 
 /// Ends the job of a child, whatever comes.
@@ -378,6 +398,8 @@ fn settle<A: Allocator + Copy, S: BlobSink<A>, N: Runner<A>>(
     requires there { (j : JobValue) × (job_in child.id engine.old ≡ Some j) × IsJobOf child j }
     ensures ended { OnOk result
         (EndsWell N.may_give (S.tells sink.old) (S.tells sink.new) child engine.old engine.new) }
+    ensures put { OnOk result
+        (HasResultOf (S.tells sink.new) engine.new child.step child.action) }
     ensures refused { OnErr result
         (Ends N.may_give (S.tells sink.old) (S.tells sink.new) child engine.old engine.new) }
     ensures within { YieldsNoMore (N.yields runner.new) (N.yields runner.old) }
@@ -409,6 +431,8 @@ pub(crate) fn finish_first<A: Allocator + Copy, S: BlobSink<A>, N: Runner<A>>(
     ensures ended { OnOk result (HasEndedFirst
         (EndsWell N.may_give (S.tells sink.old) (S.tells sink.new))
         engine.old engine.new children.old.items children.new.items) }
+    ensures put { OnOk result
+        (HasResultOfFirst (S.tells sink.new) engine.new children.old.items) }
     ensures refused { OnErr result (HasEndedFirst
         (Ends N.may_give (S.tells sink.old) (S.tells sink.new))
         engine.old engine.new children.old.items children.new.items) }
@@ -446,6 +470,12 @@ pub(crate) fn take_turn<A: Allocator + Copy, S: BlobSink<A>, N: Runner<A>>(
         engine.old children.old.items
         → IsGoing A (N.yields entry) N.may_give (S.tells sink.new) most first
         engine.new children.new.items }
+    // What the store has of what has finished, it has of what finishes in this turn too.
+    ensures stored { OnOk result ((entry : N) (most : ℕ) (first : EngineValue)
+        → IsGoing A (N.yields entry) N.may_give (S.tells sink.old) most first
+        engine.old children.old.items
+        → StoresSteps (S.tells sink.old) engine.old
+        → StoresSteps (S.tells sink.new) engine.new) }
     ensures knows { KnowsBlobs (known_by memo.new) (S.tells sink.new).blobs }
     ensures fewer { OnOk result
         (turns_left engine.new children.new.items < turns_left engine.old children.old.items) }

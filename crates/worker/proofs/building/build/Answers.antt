@@ -1,5 +1,6 @@
 use Rattle.worker.proofs.Goes.{own_jobs}
 use Rattle.worker.proofs.Knowing.{knows_nothing}
+use Rattle.worker.proofs.Storing.{steps_none, all_stored}
 use Rattle.worker.proofs.building.build.Goals as goal
 
 pub end_all-requires : goal.end_all-requires
@@ -12,6 +13,9 @@ returns-clause-led g c = c.end_all.ensures.led c.args.runner.now (g.S.BlobSource
 
 pub returns-clause-alive : goal.returns-clause-alive
 returns-clause-alive g c = c.end_all.ensures.alive (g.N.Runner.alive c.args.runner.now) c.take_turns.ensures.alive
+
+pub returns-in-Ok-clause-stored : goal.returns-in-Ok-clause-stored
+returns-in-Ok-clause-stored g c none = all_stored (g.S.BlobSource.tells c.take_turns.new.sink) c.take_turns.new.engine (c.in-Ok.ensures.stored (steps_none none))
 
 pub take_turns-requires-clause-knows : goal.take_turns-requires-clause-knows
 take_turns-requires-clause-knows g c = knows_nothing c.new-memo.ensures

@@ -13,6 +13,7 @@ loop-turn-init g c =
           (going_none g.row.A.Denot g.row.N-Job.Denot (g.N.Runner.yields c.args.runner.now) g.N.Runner.may_give c.args.jobs c.args.engine.now t c.requires.idle);
       within = λ l d p h. h;
       right = λ e b at right. at;
+      stored = λ h. h;
       knows = c.requires.knows;
       alive = let none = c.requires.none in let len = ap length none in omega (arith, len);
     }
@@ -30,6 +31,7 @@ loop-turn-preserved g c = record {
   going = c.take_turn.ensures.going c.args.runner.now c.args.jobs c.args.engine.now c.loop-turn.invariant.within c.in-Some.ensures.turn c.loop-turn.invariant.going;
   within = λ l d p h. c.loop-turn.invariant.within l d p (c.take_turn.ensures.within l d p h);
   right = right_trans c.loop-turn.invariant.right c.take_turn.ensures.right;
+  stored = λ h. c.in_ok-take_turn.ensures.stored c.args.runner.now c.args.jobs c.args.engine.now c.loop-turn.invariant.going (c.loop-turn.invariant.stored h);
   knows = c.take_turn.ensures.knows;
   alive = let now = c.take_turn.ensures.alive in let was = c.loop-turn.invariant.alive in omega (arith, now, was);
 }

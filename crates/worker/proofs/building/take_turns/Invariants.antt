@@ -3,6 +3,7 @@ use Rattle.blob_source.specs.Sink.{KeepsRight}
 use Rattle.tree.specs.Memo.{known_by}
 use Rattle.worker.specs.Stores.{KnowsBlobs}
 use Rattle.worker.specs.Outcomes.{YieldsNoMore}
+use Rattle.worker.specs.Stored.{StoresSteps}
 use Rattle.worker.specs.Going.{IsGoing, turns_left}
 use Rattle.worker.proofs.building.take_turns.Given as goal
 
@@ -14,6 +15,7 @@ invariant-loop-turn g l =
       going : IsGoing g.row.A.Denot (yields l.fn.runner) g.N.Runner.may_give (tells l.sink) l.jobs l.fn.engine l.engine l.children.items;
       within : YieldsNoMore (yields l.runner) (yields l.fn.runner);
       right : KeepsRight (tells l.fn.sink).blobs (tells l.sink).blobs;
+      stored : StoresSteps (tells l.fn.sink) l.fn.engine → StoresSteps (tells l.sink) l.engine;
       knows : KnowsBlobs (known_by l.memo) (tells l.sink).blobs;
       alive : g.N.Runner.alive l.runner ≡ g.N.Runner.alive l.fn.runner + length l.children.items;
     }

@@ -1,5 +1,5 @@
-use Rattle.std.proofs.Common.{subst}
-use Rattle.worker.specs.Going.{AreJobsOf, IsJobOf}
+use Rattle.std.proofs.Common.{sym, subst}
+use Rattle.worker.specs.Going.{AreJobsOf, IsJobOf, HasResultOfFirst}
 use Rattle.worker.proofs.turns.finish_first.Goals as goal
 
 pub settle-requires : goal.settle-requires
@@ -9,3 +9,6 @@ settle-requires g c =
 
 pub returns-in-Ok-clause-ended : goal.returns-in-Ok-clause-ended
 returns-in-Ok-clause-ended g c = record { child = c.in-Some.child; is = c.in-Some.ensures.items; end = c.in-Ok.ensures.ended }
+
+pub returns-in-Ok-clause-put : goal.returns-in-Ok-clause-put
+returns-in-Ok-clause-put g c = subst (HasResultOfFirst (g.S.BlobSource.tells c.settle.new.sink) c.settle.new.engine) (sym c.in-Some.ensures.items) c.in-Ok.ensures.put

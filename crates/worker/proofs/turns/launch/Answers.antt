@@ -20,7 +20,17 @@ pub returns-in-Some-clause-launched : goal.returns-in-Some-clause-launched
 returns-in-Some-clause-launched g c =
     let t = g.S.BlobSource.tells c.recorded_outcome.new.sink in
     let held : IsHeld t c.args.job.now.digest c.in-Some.outcome = subst (λ o. IfSome o (IsHeld t c.args.job.now.digest)) c.in-Some.is c.in_ok-outcome.ensures.held in
-    inr (c.in-Some.outcome, c.in_ok-finish.ensures.finished, held_kept c.put_trees.ensures.kept held, refl)
+    let end = (g.S.BlobSource.tells c.put_trees.new.sink).blobs in
+    inr (
+      c.in-Some.outcome,
+      c.in_ok-finish.ensures.finished,
+      record {
+        held = held_kept c.put_trees.ensures.kept held;
+        action = subst (HasRight end) (sym c.requires.digest) (right_still (kept_trans c.recorded_outcome.ensures.kept c.put_trees.ensures.kept).blobs c.in_ok-put_input.ensures.held);
+        trees = c.in_ok-put_trees.ensures.held;
+      },
+      refl,
+    )
 
 pub returns-in_err-child-clause-kept : goal.returns-in_err-child-clause-kept
 returns-in_err-child-clause-kept g c = kept_trans c.put_input.ensures.kept (kept_trans c.recorded_outcome.ensures.kept c.start_child.ensures.kept)

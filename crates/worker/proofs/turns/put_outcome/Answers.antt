@@ -1,8 +1,9 @@
-use Rattle.worker.proofs.Keeping.{kept_put}
+use Rattle.std.proofs.Common.{arith, ◌∙◌}
+use Rattle.action_messages.proofs.Written.{canon_reads}
+use Rattle.worker.proofs.Storing.{there, put_result_of}
 use Rattle.worker.proofs.turns.put_outcome.Goals as goal
 
-pub returns-in_err-put_result : goal.returns-in_err-put_result
-returns-in_err-put_result g c = record { kept = kept_put c.put_result.ensures.called }
-
-pub returns : goal.returns
-returns g c = record { kept = kept_put c.put_result.ensures.called }
+pub returns-clause-put : goal.returns-clause-put
+returns-clause-put g c =
+    put_result_of (g.S.BlobSource.tells c.put_encoded.new.sink) c.put_encoded.result c.args.engine.now c.args.step c.args.action.now c.deref.result.now c.in_ok-result.field-0 (there c.requires) c.put_encoded.ensures.held
+    (canon_reads c.deref.result.now c.in_ok-result.field-0 (let len = c.deref.ensures.len in omega (arith, len), c.put_encoded.ensures.bytes) c.in_ok-result-2.ensures.lawful (c.deref.ensures.value ∙ c.in_ok-result-2.ensures.bytes)) c.in_ok-result.ensures.kept

@@ -1,6 +1,6 @@
 use Rattle.std.proofs.Common.{subst}
 use Rattle.worker.specs.Going.{IsTurn}
-use Rattle.worker.proofs.Taking.{start_goes, finish_goes, finish_right}
+use Rattle.worker.proofs.Taking.{start_goes, finish_goes, finish_right, start_stored, finish_stored}
 use Rattle.worker.proofs.Lefts.{start_less, finish_less}
 use Rattle.worker.proofs.Knowing.{knows_still}
 use Rattle.worker.proofs.turns.take_turn.Goals as goal
@@ -33,3 +33,13 @@ returns-in-Finish-clause-right g c =
 
 pub returns-in-Finish-clause-knows : goal.returns-in-Finish-clause-knows
 returns-in-Finish-clause-knows g c = knows_still (returns-in-Finish-clause-right g c) c.requires.knows
+
+pub returns-in-Start-clause-stored : goal.returns-in-Start-clause-stored
+returns-in-Start-clause-stored g c =
+    start_stored g.row.A.Denot g.row.N-Job.Denot (g.N.Runner.yields c.args.runner.now) g.N.Runner.may_give (g.S.BlobSource.tells c.args.sink.now) (g.S.BlobSource.tells c.begin.new.sink) c.args.engine.now c.begin.new.engine c.args.children.now.items c.begin.new.children.items
+    g.N.Runner.yields c.begin.result c.in-Start.step c.begin.ensures.kept c.begin.ensures.begun
+
+pub returns-in-Finish-clause-stored : goal.returns-in-Finish-clause-stored
+returns-in-Finish-clause-stored g c =
+    finish_stored g.row.A.Denot g.row.N-Job.Denot (g.N.Runner.yields c.args.runner.now) g.N.Runner.may_give (g.S.BlobSource.tells c.args.sink.now) (g.S.BlobSource.tells c.finish_first.new.sink) c.args.engine.now c.finish_first.new.engine c.args.children.now.items c.finish_first.new.children.items
+    g.N.Runner.yields c.finish_first.result c.finish_first.ensures.ended c.finish_first.ensures.put

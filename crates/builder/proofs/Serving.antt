@@ -1,0 +1,160 @@
+-- After a build its store serves it, so that its record is answered yes.
+use Rattle.std.proofs.Common.{◌≡◌, ℕ, zero, suc, ◌<◌, List, [], ◌∷◌, ◌++◌, length, set, Option, Some, None, refl, ap, sym, ◌∙◌, subst, arith, inl, inr}
+use Rattle.std.specs.Prelude.{◌⊎◌, slice_get, option_map, Contains}
+use Rattle.std.specs.List.{AllByRecursion}
+use Rattle.std.proofs.lemmas.Option.{slice_get_within}
+use Rattle.blob_digest.specs.Digest.{DigestValue, digest_of, NoClash}
+use Rattle.messages.specs.declared.node.Node.TheVariants.{File, Link, Dir}
+use Rattle.messages.specs.Node.{child}
+use Rattle.action_messages.specs.Action.{with_input, action_bytes}
+use Rattle.action_messages.specs.Command.{command_bytes}
+use Rattle.blob_source.specs.Source.{Blobs, Telling, IsBlobUnder}
+use Rattle.blob_source.specs.Sink.{KeepsRight}
+use Rattle.blob_source.specs.Told.{TellsDirectory, FailsDirectory}
+use Rattle.plan.specs.Values.{source, LineValue, StepValue, PlanValue}
+use Rattle.tree.specs.Tree.{Name, Tree, Leaf, Entry, single, whole, file, link, entry_of, below_entry}
+use Rattle.tree.specs.Form.{NodeValue, form, directory_of, top, root, entry_node}
+use Rattle.tree.specs.Lookup.{found, LooksFrom, Looks}
+use Rattle.tree.proofs.Children.{child-directory_of}
+use Rattle.tree.proofs.LookupLemmas.{IsBlobOfEntry, entry_blobs, ReadsTrees, told_reads}
+use Rattle.tree.proofs.OrderLemmas.{IsOrderedAt, entry_ordered}
+use Rattle.verifier.specs.Build.{Meaning, ActionMeaning, action_digest, Outcome, Event, State, action_of}
+use Rattle.verifier.specs.Verdict.{IsVerdict}
+use Rattle.verifier.specs.declared.verdict.Verdict.TheVariants.{Yes}
+use Rattle.verifier.proofs.FreshRuns.{one_answer}
+use Rattle.runs.specs.Calls.{IsFinished, IsOpened, HaveAllFinished, placed, kept_digests}
+use Rattle.runs.specs.Engine.{FinishedValue, JobValue, EngineValue, IsEngine, at_number, finished_in, job_in}
+use Rattle.runs.specs.Looking.{LooksUpOrigin, Resolves}
+use Rattle.runs.specs.Mirrors.{IsConcernedIn, IsMirrored}
+use Rattle.runs.specs.Served.{IsLineOf, TellsWay, Serves, IsServedYes}
+use Rattle.runs.proofs.Lost.{steady_of}
+use Rattle.runs.proofs.Noted.{outcome_there, kept_each}
+use Rattle.runs.proofs.Places.{set_at}
+use Rattle.runs.proofs.Steady.{made_of}
+use Rattle.worker.specs.Calls.{Call, started, ran, taken, lost, WasStarted, Does, Leads, IsLed}
+use Rattle.worker.specs.Outcomes.{Yields}
+use Rattle.worker.specs.Stored.{IsToldOrTree, IsStored}
+use Rattle.worker.proofs.Started.{job_of, after}
+use Rattle.worker.proofs.Storing.{which, right_blob}
+use Rattle.worker.proofs.Telling.{blob_still, told_still}
+
+-- ---- look-ups
+
+module _ {B C : Blobs} (keeps : KeepsRight B C) where
+  looks_still : (p : List Name) (o : Option NodeValue) (x : NodeValue) → LooksFrom (TellsDirectory B) (FailsDirectory B) p o (found x) → LooksFrom (TellsDirectory C) (FailsDirectory C) p o (found x)
+  looks_still p None x h = h
+  looks_still [] (Some n) x h = h
+  looks_still (n ∷ p) (Some (File d e)) x h = h
+  looks_still (n ∷ p) (Some (Link t)) x h = h
+  looks_still (n ∷ p) (Some (Dir d)) x (inl (m, told, rest)) = inl (m, told_still keeps told, looks_still p (child n m) x rest)
+  looks_still (n ∷ p) (Some (Dir d)) x (inr (f, fails, is)) = absurd (let e = is in cc)
+
+module _ (B : Blobs) (S : List ℕ → Type 0) (reads : ReadsTrees S (TellsDirectory B)) where
+  abbrev IsWayTold : List Name → Option (Entry Leaf) → Type 0
+  IsWayTold p o = (q : List Name) (n : Name) (r : List Name) → p ≡ q ++ n ∷ r → (u : Tree Leaf) → below_entry q o ≡ Some (whole u) → TellsDirectory B (root (form u)) (directory_of (form u))
+
+  no_path : (q : List Name) (n : Name) (r : List Name) → [] ≡ q ++ n ∷ r → ⊥
+  no_path [] n r is = cc
+  no_path (m ∷ q) n r is = cc
+
+  way_told : (p : List Name) (o : Option (Entry Leaf)) (x : NodeValue) → IsOrderedAt o → ((b : List ℕ) → IsBlobOfEntry o b → S b)
+      → LooksFrom (TellsDirectory B) (FailsDirectory B) p (option_map entry_node o) (found x) → IsWayTold p o
+  way_told p None x ordered own h = absurd (let e = h in cc)
+  way_told [] (Some e) x ordered own h = λ q n r is u at. absurd (no_path q n r is)
+  way_told (m ∷ p) (Some (single (file c b))) x ordered own h = absurd (let e = h in cc)
+  way_told (m ∷ p) (Some (single (link t))) x ordered own h = absurd (let e = h in cc)
+  way_told (m ∷ p) (Some (whole t)) x ordered own (inr (f, fails, is)) = absurd (let e = is in cc)
+  way_told (m ∷ p) (Some (whole t)) x ordered own (inl (d, told, rest)) = by
+    where
+      same : d ≡ directory_of (form t)
+      same = reads t d (own (top (form t)) (inl refl)) told
+
+      below : LooksFrom (TellsDirectory B) (FailsDirectory B) p (option_map entry_node (entry_of m t)) (found x)
+      below = subst (λ o. LooksFrom (TellsDirectory B) (FailsDirectory B) p o (found x)) (ap (child m) same ∙ child-directory_of m t ordered) rest
+
+      further : IsWayTold p (entry_of m t)
+      further = way_told p (entry_of m t) x (entry_ordered m t ordered) (λ b z. own b (inr (entry_blobs m t b z))) below
+
+      by : IsWayTold (m ∷ p) (Some (whole t))
+      by [] n r is u at =
+          let same_tree : t ≡ u = cc in
+          subst (λ v. TellsDirectory B (root (form v)) (directory_of (form v))) same_tree (subst (TellsDirectory B (root (form t))) same told)
+      by (k ∷ q) n r is u at =
+          let head : m ≡ k = cc in
+          let tail : p ≡ q ++ n ∷ r = cc in
+          further q n r tail u (subst (λ j. below_entry q (entry_of j t) ≡ Some (whole u)) (sym head) at)
+
+-- ---- which source paths were looked up
+
+lines_looked : (B : Blobs) (e : EngineValue) (ls : List LineValue) (xs : List (List Name × NodeValue)) → Resolves B e ls xs
+    → (l : LineValue) → Contains ls l → (p : List Name) → l.origin ≡ source p → (x : NodeValue) × Looks B e.sources p (found x)
+lines_looked B e [] xs r l (k, lt, is) p from = absurd (omega (arith, lt))
+lines_looked B e (m ∷ ls) xs r l (zero, lt, is) p from = (r.0, subst (λ o. LooksUpOrigin B e o (found r.0)) (ap (λ (m : LineValue). m.origin) is ∙ from) r.1)
+lines_looked B e (m ∷ ls) xs r l (suc k, lt, is) p from = lines_looked B e ls r.2 r.3 l (k, omega (arith, lt), is) p from
+
+placed_which : (js : List (Option JobValue)) (w v : ℕ) (j k : JobValue) → at_number (placed js w j) v ≡ Some k → (at_number js v ≡ Some k) ⊎ (k ≡ j)
+placed_which [] w zero j k at = inr cc
+placed_which [] w (suc v) j k at = absurd cc
+placed_which (o ∷ js) zero zero j k at = inr cc
+placed_which (o ∷ js) zero (suc v) j k at = inl at
+placed_which (o ∷ js) (suc w) zero j k at = inl at
+placed_which (o ∷ js) (suc w) (suc v) j k at = placed_which js w v j k at
+
+module _ (A : Type 0) (y : Yields) (t : Telling) (plan : PlanValue) (sources : DigestValue) where
+  -- the source paths that a step's lines read
+  abbrev HasLooked : ℕ → Type 0
+  HasLooked i = (step : StepValue) → slice_get plan.steps i ≡ Some step → (l : LineValue) → Contains step.lines l → (p : List Name) → l.origin ≡ source p
+      → (x : NodeValue) × Looks t.blobs sources p (found x)
+
+  -- those of each step that runs or has finished
+  record HaveLooked (e : EngineValue) : Type 0 where
+    plan_is : e.plan ≡ plan
+    sources_are : e.sources ≡ sources
+    finished : (i : ℕ) (f : FinishedValue) → finished_in i e ≡ Some f → HasLooked i
+    runs : (w : ℕ) (j : JobValue) → job_in w e ≡ Some j → HasLooked j.step
+
+  started_looked : (i id : ℕ) (old new : EngineValue) → WasStarted A t.blobs i id old new → HaveLooked old → HaveLooked new
+  started_looked i id old new w h = record {
+    plan_is = ap (λ (e : EngineValue). e.plan) (after w) ∙ h.plan_is;
+    sources_are = ap (λ (e : EngineValue). e.sources) (after w) ∙ h.sources_are;
+    finished = λ k f at. h.finished k f (sym (ap (λ (e : EngineValue). finished_in k e) (after w)) ∙ at);
+    runs = λ v j at. by j (placed_which old.jobs id v (job_of w) j (sym (ap (λ (e : EngineValue). job_in v e) (after w)) ∙ at)) v;
+  }
+    where
+      here : HasLooked i
+      here step at l inside p from =
+          let prepared = w.is.prepared in
+          let same : prepared.planned ≡ step = one_answer (slice_get plan.steps i) prepared.planned step (sym (ap (λ (q : PlanValue). slice_get q.steps i) h.plan_is) ∙ prepared.at) at in
+          let looked = lines_looked w.told old prepared.planned.lines prepared.nodes prepared.resolved l (subst (λ (s : StepValue). Contains s.lines l) (sym same) inside) p from in
+          (looked.0, subst (λ d. Looks t.blobs d p (found looked.0)) h.sources_are (looks_still w.still p (Some (Dir old.sources)) looked.0 looked.1))
+
+      by : (j : JobValue) → {v : ℕ} → (at_number old.jobs v ≡ Some j) ⊎ (j ≡ job_of w) → (v : ℕ) → HasLooked j.step
+      by j {v} (inl before) u = h.runs v j before
+      by j {v} (inr is) u = subst HasLooked (sym (ap (λ (k : JobValue). k.step) is)) here
+
+  finished_looked : (w : ℕ) (v : _) (old new : EngineValue) → IsFinished w v old new → HaveLooked old → HaveLooked new
+  finished_looked w v old new f h = record {
+    plan_is = ap (λ (e : EngineValue). e.plan) f.after ∙ h.plan_is;
+    sources_are = ap (λ (e : EngineValue). e.sources) f.after ∙ h.sources_are;
+    finished = λ k g at. by k g (which f k g at);
+    runs = λ u j at. h.runs u j (set_at old.jobs w u None j (sym (ap (λ (e : EngineValue). job_in u e) f.after) ∙ at) (λ e. cc));
+  }
+    where
+      by : (k : ℕ) (g : FinishedValue) → (finished_in k old ≡ Some g) ⊎ ((k ≡ f.job.step) × (g ≡ record { action = f.job.action; outcome = v })) → HasLooked k
+      by k g (inl before) = h.finished k g before
+      by k g (inr is) = subst HasLooked (sym is.0) (h.runs w f.job f.is)
+
+  does_looked : (later : List Call) (c : Call) (old new : EngineValue) → Does A y t later c old new → HaveLooked old → HaveLooked new
+  does_looked later (started i id) old new w h = started_looked i id old new w h
+  does_looked later (ran id d v) old new f h = finished_looked id v old new f.finished h
+  does_looked later (taken id d v) old new f h = finished_looked id v old new f.finished h
+  does_looked later (lost id) old new (j, at, gone) h = record {
+    plan_is = ap (λ (e : EngineValue). e.plan) gone ∙ h.plan_is;
+    sources_are = ap (λ (e : EngineValue). e.sources) gone ∙ h.sources_are;
+    finished = λ k f there. h.finished k f (sym (ap (λ (e : EngineValue). finished_in k e) gone) ∙ there);
+    runs = λ u k there. h.runs u k (set_at old.jobs id u None k (sym (ap (λ (e : EngineValue). job_in u e) gone) ∙ there) (λ e. cc));
+  }
+
+  leads_looked : (most : ℕ) (cs : List Call) (old new : EngineValue) → Leads A y t most cs old new → HaveLooked old → HaveLooked new
+  leads_looked most [] old new same h = subst HaveLooked (sym same) h
+  leads_looked most (c ∷ cs) old new (mid, does, few, rest) h = leads_looked most cs mid new rest (does_looked cs c old mid does h)
