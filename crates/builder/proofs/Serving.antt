@@ -7,10 +7,11 @@ use Rattle.blob_digest.specs.Digest.{DigestValue, digest_of, NoClash}
 use Rattle.messages.specs.declared.node.Node.TheVariants.{File, Link, Dir}
 use Rattle.messages.specs.Node.{child}
 use Rattle.action_messages.specs.Action.{with_input, action_bytes}
-use Rattle.action_messages.specs.Command.{command_bytes}
+use Rattle.action_messages.specs.Command.{IsCommand, command_bytes}
 use Rattle.blob_source.specs.Source.{Blobs, Telling, IsBlobUnder}
-use Rattle.blob_source.specs.Sink.{KeepsRight}
-use Rattle.blob_source.specs.Told.{TellsDirectory, FailsDirectory}
+use Rattle.blob_source.specs.Sink.{HasRight, KeepsRight}
+use Rattle.blob_source.specs.Told.{IsTold, TellsDirectory, FailsDirectory}
+use Rattle.plan.specs.Record.{RecordValue, names_of}
 use Rattle.plan.specs.Values.{source, LineValue, StepValue, PlanValue}
 use Rattle.tree.specs.Tree.{Name, Tree, Leaf, Entry, single, whole, file, link, entry_of, below_entry}
 use Rattle.tree.specs.Form.{NodeValue, form, directory_of, top, root, entry_node}
@@ -30,13 +31,15 @@ use Rattle.runs.specs.Served.{IsLineOf, TellsWay, Serves, IsServedYes}
 use Rattle.runs.proofs.Lost.{steady_of}
 use Rattle.runs.proofs.Noted.{outcome_there, kept_each}
 use Rattle.runs.proofs.Places.{set_at}
-use Rattle.runs.proofs.Steady.{made_of}
+use Rattle.runs.proofs.Steady.{IsMade, made_of}
 use Rattle.worker.specs.Calls.{Call, started, ran, taken, lost, WasStarted, Does, Leads, IsLed}
 use Rattle.worker.specs.Outcomes.{Yields}
 use Rattle.worker.specs.Stored.{IsToldOrTree, IsStored}
 use Rattle.worker.proofs.Started.{job_of, after}
 use Rattle.worker.proofs.Storing.{which, right_blob}
 use Rattle.worker.proofs.Telling.{blob_still, told_still}
+use Rattle.builder.specs.Built.{BuiltValue, IsEnd, IsAnsweredYes}
+use Rattle.builder.proofs.Leading.{led_plan, led_sources, led_frames, led_commands}
 
 -- ---- look-ups
 
@@ -64,25 +67,22 @@ module _ (B : Blobs) (S : List ℕ → Type 0) (reads : ReadsTrees S (TellsDirec
   way_told (m ∷ p) (Some (single (file c b))) x ordered own h = absurd (let e = h in cc)
   way_told (m ∷ p) (Some (single (link t))) x ordered own h = absurd (let e = h in cc)
   way_told (m ∷ p) (Some (whole t)) x ordered own (inr (f, fails, is)) = absurd (let e = is in cc)
-  way_told (m ∷ p) (Some (whole t)) x ordered own (inl (d, told, rest)) = by
+  way_told (m ∷ p) (Some (whole t)) x ordered own (inl (d, told, rest)) =
+      by (subst (TellsDirectory B (root (form t))) same told)
+      (way_told p (entry_of m t) x (entry_ordered m t ordered) (λ b z. own b (inr (entry_blobs m t b z)))
+      (subst (λ o. LooksFrom (TellsDirectory B) (FailsDirectory B) p o (found x)) (ap (child m) same ∙ child-directory_of m t ordered) rest))
     where
       same : d ≡ directory_of (form t)
       same = reads t d (own (top (form t)) (inl refl)) told
 
-      below : LooksFrom (TellsDirectory B) (FailsDirectory B) p (option_map entry_node (entry_of m t)) (found x)
-      below = subst (λ o. LooksFrom (TellsDirectory B) (FailsDirectory B) p o (found x)) (ap (child m) same ∙ child-directory_of m t ordered) rest
-
-      further : IsWayTold p (entry_of m t)
-      further = way_told p (entry_of m t) x (entry_ordered m t ordered) (λ b z. own b (inr (entry_blobs m t b z))) below
-
-      by : IsWayTold (m ∷ p) (Some (whole t))
-      by [] n r is u at =
+      by : TellsDirectory B (root (form t)) (directory_of (form t)) → IsWayTold p (entry_of m t) → IsWayTold (m ∷ p) (Some (whole t))
+      by here below [] n r is u at =
           let same_tree : t ≡ u = cc in
-          subst (λ v. TellsDirectory B (root (form v)) (directory_of (form v))) same_tree (subst (TellsDirectory B (root (form t))) same told)
-      by (k ∷ q) n r is u at =
+          subst (λ v. TellsDirectory B (root (form v)) (directory_of (form v))) same_tree here
+      by here below (k ∷ q) n r is u at =
           let head : m ≡ k = cc in
           let tail : p ≡ q ++ n ∷ r = cc in
-          further q n r tail u (subst (λ j. below_entry q (entry_of j t) ≡ Some (whole u)) (sym head) at)
+          below q n r tail u (subst (λ j. below_entry q (entry_of j t) ≡ Some (whole u)) (sym head) at)
 
 -- ---- which source paths were looked up
 
@@ -118,7 +118,7 @@ module _ (A : Type 0) (y : Yields) (t : Telling) (plan : PlanValue) (sources : D
     plan_is = ap (λ (e : EngineValue). e.plan) (after w) ∙ h.plan_is;
     sources_are = ap (λ (e : EngineValue). e.sources) (after w) ∙ h.sources_are;
     finished = λ k f at. h.finished k f (sym (ap (λ (e : EngineValue). finished_in k e) (after w)) ∙ at);
-    runs = λ v j at. by j (placed_which old.jobs id v (job_of w) j (sym (ap (λ (e : EngineValue). job_in v e) (after w)) ∙ at)) v;
+    runs = λ v j at. by v j (placed_which old.jobs id v (job_of w) j (sym (ap (λ (e : EngineValue). job_in v e) (after w)) ∙ at));
   }
     where
       here : HasLooked i
@@ -128,9 +128,9 @@ module _ (A : Type 0) (y : Yields) (t : Telling) (plan : PlanValue) (sources : D
           let looked = lines_looked w.told old prepared.planned.lines prepared.nodes prepared.resolved l (subst (λ (s : StepValue). Contains s.lines l) (sym same) inside) p from in
           (looked.0, subst (λ d. Looks t.blobs d p (found looked.0)) h.sources_are (looks_still w.still p (Some (Dir old.sources)) looked.0 looked.1))
 
-      by : (j : JobValue) → {v : ℕ} → (at_number old.jobs v ≡ Some j) ⊎ (j ≡ job_of w) → (v : ℕ) → HasLooked j.step
-      by j {v} (inl before) u = h.runs v j before
-      by j {v} (inr is) u = subst HasLooked (sym (ap (λ (k : JobValue). k.step) is)) here
+      by : (v : ℕ) (j : JobValue) → (at_number old.jobs v ≡ Some j) ⊎ (j ≡ job_of w) → HasLooked j.step
+      by v j (inl before) = h.runs v j before
+      by v j (inr is) = subst HasLooked (sym (ap (λ (k : JobValue). k.step) is)) here
 
   finished_looked : (w : ℕ) (v : _) (old new : EngineValue) → IsFinished w v old new → HaveLooked old → HaveLooked new
   finished_looked w v old new f h = record {
@@ -158,3 +158,108 @@ module _ (A : Type 0) (y : Yields) (t : Telling) (plan : PlanValue) (sources : D
   leads_looked : (most : ℕ) (cs : List Call) (old new : EngineValue) → Leads A y t most cs old new → HaveLooked old → HaveLooked new
   leads_looked most [] old new same h = subst HaveLooked (sym same) h
   leads_looked most (c ∷ cs) old new (mid, does, few, rest) h = leads_looked most cs mid new rest (does_looked cs c old mid does h)
+
+-- ---- an engine that was opened
+
+none_at : (fs : List (Option FinishedValue)) (i : ℕ) → AllByRecursion (λ f. f ≡ None) fs → at_number fs i ≡ None
+none_at [] i all = refl
+none_at (o ∷ fs) zero all = all.0
+none_at (o ∷ fs) (suc i) all = none_at fs i all.1
+
+pub none_finished : (e : EngineValue) → AllByRecursion (λ f. f ≡ None) e.finished → (i : ℕ) → finished_in i e ≡ None
+none_finished e all i = none_at e.finished i all
+
+never : {X : Type 0} {o : Option X} {x : X} → o ≡ None → o ≡ Some x → ⊥
+never e f = cc
+
+recorded_of : (o : Option (List DigestValue)) (names : List (List ℕ)) (noted : RecordValue) → option_map {U = RecordValue} (λ ds. record { names = names; digests = ds }) o ≡ Some noted → o ≡ Some noted.digests
+recorded_of None names noted is = absurd cc
+recorded_of (Some ds) names noted is = let same : ◌≡◌ {A = RecordValue} (record { names = names; digests = ds }) noted = cc in ap (λ (r : RecordValue). Some r.digests) same
+
+-- ---- the store serves the build
+
+module _ (A : Type 0) (y : Yields) (most : ℕ) (plan : PlanValue) (sources : DigestValue) (opening ending told : Telling) (first last : EngineValue) (b : BuiltValue)
+    (opened : IsOpened opening.blobs plan sources first) (still : KeepsRight opening.blobs ending.blobs) (led : IsLed A y ending most first last) (grown : KeepsRight ending.blobs told.blobs)
+    (engine : IsEngine last) (stored : IsStored told last) (end : IsEnd A last told b) where
+  looked : HaveLooked A y ending plan sources last
+  looked = leads_looked A y ending plan sources most led.calls first last led.leads (record {
+    plan_is = opened.plan;
+    sources_are = opened.sources;
+    finished = λ i f at. absurd (never (none_finished first opened.none_finished i) at);
+    runs = λ w j at. absurd (never (ap (λ js. at_number js w) opened.none_runs) at);
+  })
+
+  plan_is : last.plan ≡ plan
+  plan_is = led_plan led ∙ opened.plan
+
+  kept : kept_digests last.finished ≡ Some b.noted.digests
+  kept = recorded_of (kept_digests last.finished) (names_of last.plan) b.noted end.noted
+
+  -- each step has finished
+  done : (i : ℕ) (step : StepValue) → slice_get last.plan.steps i ≡ Some step → (f : FinishedValue) × (finished_in i last ≡ Some f)
+  done i step at =
+      let lt = slice_get_within last.plan.steps i step at in
+      let f = kept_each last.finished b.noted.digests i kept (subst (λ n. i < n) (sym engine.count) lt) in
+      (f.0, f.1)
+
+  module _ (t : Tree Leaf) (meaning : Meaning) (X : List (ActionMeaning × Outcome)) (es : List Event) (s : State) (k : IsMirrored told.blobs last t meaning X es s) where
+    abbrev S : List ℕ → Type 0
+    S = IsConcernedIn told.blobs last meaning t es
+
+    way_from : (p : List Name) (x : NodeValue) → Looks told.blobs last.sources p (found x) → TellsWay told.blobs t p
+    way_from p x look = way_told told.blobs S (told_reads told.blobs S (λ c q. inl (inl (inl q))) k.apart) p (Some (whole t)) x k.ordered (λ c q. inl (inr (inl (inl q))))
+        (subst (λ d. LooksFrom (TellsDirectory told.blobs) (FailsDirectory told.blobs) p (Some (Dir d)) (found x)) (sym k.mirrors.sources) look)
+
+    ways : (l : LineValue) → IsLineOf last.plan l → (p : List Name) → l.origin ≡ source p → TellsWay told.blobs t p
+    ways l (inl (i, step, at, inside)) p from =
+        let f = done i step at in
+        let look = looked.finished i f.0 f.1 step (subst (λ (q : PlanValue). slice_get q.steps i ≡ Some step) plan_is at) l inside p from in
+        way_from p look.0 (subst (λ d. Looks told.blobs d p (found look.0)) (sym (led_sources led ∙ opened.sources)) (looks_still grown p (Some (Dir sources)) look.0 look.1))
+    ways l (inr inside) p from =
+        let look = lines_looked told.blobs last last.plan.root_lines end.root.nodes end.root.resolved l inside p from in
+        way_from p look.0 look.1
+
+    actions : (i : ℕ) (a : ActionMeaning) → action_of last.plan meaning t s i ≡ Some a
+        → IsBlobUnder told.blobs (action_digest a) (action_bytes (with_input a.frame (root (form a.input)))) × IsBlobUnder told.blobs a.frame.command (command_bytes a.command)
+    actions i a is = (right_blob told.blobs text right same, blob_still (λ d c at right. grown d c (still d c at right) right) command.blob)
+      where
+        m : IsMade last.plan meaning t s i a
+        m = made_of last.plan meaning t s i a is
+
+        f : (f : FinishedValue) × (finished_in i last ≡ Some f)
+        f = done i m.step m.at
+
+        text : List ℕ
+        text = action_bytes (with_input a.frame (root (form a.input)))
+
+        digest : f.0.action ≡ digest_of text
+        digest =
+            let own = k.mirrors.actions i f.0 f.1 in
+            own.2 ∙ ap action_digest (one_answer (action_of last.plan meaning t s i) own.0 a own.1 is)
+
+        right : HasRight told.blobs (digest_of text)
+        right = subst (HasRight told.blobs) digest (stored.actions i f.0 f.1)
+
+        own_text : S text
+        own_text =
+            let o = outcome_there last t meaning s k.mirrors i f.0 f.1 in
+            let settled = (steady_of last t meaning X s told.blobs es k).done i o.0 o.1 in
+            subst (λ (c : ActionMeaning). S (action_bytes (with_input c.frame (root (form c.input))))) (one_answer (action_of last.plan meaning t s i) settled.action a settled.is is)
+            (settled.blobs (action_bytes (with_input settled.action.frame (root (form settled.action.input)))) (inl (inl refl)))
+
+        same : right.0 ≡ text
+        same = k.apart right.0 text (inl (inl (inl (digest_of text, right.1)))) own_text right.2
+
+        command : IsTold IsCommand command_bytes opening.blobs a.frame.command a.command
+        command =
+            (opened.told.each i m.step a.frame a.command (subst (λ (q : PlanValue). slice_get q.steps i ≡ Some m.step) plan_is m.at)
+            (ap (λ fs. slice_get fs i) (sym (led_frames led)) ∙ k.mirrors.frames i m.step m.at ∙ m.frame)
+            (ap (λ cs. slice_get cs i) (sym (led_commands led)) ∙ k.mirrors.commands i m.step m.at ∙ m.command)).0.command
+
+    serves : NoClash (IsToldOrTree told.blobs last) → Serves told.blobs told.results last t meaning s
+    serves apart = record { sources = ways; actions = actions; results = stored.results apart }
+
+  pub answered : IsAnsweredYes A told last b
+  answered = record {
+    of_run = λ t meaning X es s k apart. end.served.of_run told t meaning X es s b.noted.digests k k kept (serves t meaning X es s k apart);
+  }

@@ -1,15 +1,21 @@
 -- What a build came to.
-use Rattle.std.specs.Prelude.{◌≡◌, ℕ, Some}
-use Rattle.blob_digest.specs.Digest.{DigestValue}
+use Rattle.std.specs.Prelude.{◌≡◌, ℕ, List, length, Some}
+use Rattle.blob_digest.specs.Digest.{DigestValue, NoClash}
 use Rattle.blob_source.specs.Sink.{KeepsRight}
 use Rattle.blob_source.specs.Source.{AsksSome, Telling}
 use Rattle.plan.specs.Record.{RecordValue}
 use Rattle.plan.specs.Values.{PlanValue}
 use Rattle.runs.specs.Calls.{HaveAllFinished, IsGraftedRoot, IsOpened, record_of}
 use Rattle.runs.specs.Engine.{EngineValue}
+use Rattle.runs.specs.Mirrors.{IsMirrored}
 use Rattle.runs.specs.Served.{IsServedYes}
+use Rattle.tree.specs.Tree.{Tree, Leaf}
+use Rattle.verifier.specs.Build.{Meaning, ActionMeaning, Outcome, Event, State}
+use Rattle.verifier.specs.Verdict.{IsVerdict}
+use Rattle.verifier.specs.declared.verdict.Verdict.TheVariants.{Yes}
 use Rattle.worker.specs.Calls.{IsLed}
 use Rattle.worker.specs.Outcomes.{Yields}
+use Rattle.worker.specs.Stored.{IsToldOrTree, IsStored}
 
 -- the root, and the digests of the actions that finished
 pub record BuiltValue : Type 0 where
@@ -25,9 +31,20 @@ pub record IsEnd (A : Type 0) (last : EngineValue) (told : Telling) (b : BuiltVa
   pub noted : record_of last ≡ Some b.noted
   pub served : IsServedYes A told.blobs last b.root
 
+-- By what the store told, the verdict on the record is yes: whatever the sources are, whatever the
+-- steps mean and whatever actions come to, in a run that the engine mirrors. No two different ones
+-- of the blobs that are told and of the Trees of the steps share a digest.
+pub record IsAnsweredYes (A : Type 0) (told : Telling) (last : EngineValue)
+    (b : BuiltValue) : Type 0 where
+  pub of_run : (t : Tree Leaf) (meaning : Meaning) (X : List (ActionMeaning × Outcome))
+      (es : List Event) (s : State) → IsMirrored told.blobs last t meaning X es s
+      → NoClash (IsToldOrTree told.blobs last)
+      → IsVerdict {A = A} told last.sources last.plan b.noted.digests b.root
+      (Yes b.root (length last.plan.steps))
+
 -- Calls led from an engine of the plan, as the store told it, to one in which each step has
--- finished. What each step came to, the runner yielded or the store had recorded. The root and the
--- record are that engine's.
+-- finished. What each step came to, the runner yielded or the store had recorded, and the store has
+-- it. The root and the record are that engine's, and are answered yes by what the store told.
 pub record IsBuilt (A : Type 0) (yields : Yields) (most : ℕ) (plan : PlanValue)
     (sources : DigestValue) (told : Telling) (b : BuiltValue) : Type 0 where
   pub opening : Telling
@@ -42,4 +59,6 @@ pub record IsBuilt (A : Type 0) (yields : Yields) (most : ℕ) (plan : PlanValue
   pub of_sources : last.sources ≡ sources
   -- the store is only asked after that
   pub asked : AsksSome ending told
+  pub stored : IsStored told last
   pub end : IsEnd A last told b
+  pub answered : IsAnsweredYes A told last b

@@ -25,8 +25,9 @@ pub record TellsFailed (steps : List StepValue) (line : List ℕ) : Type 0 where
   pub number : ℕ
   pub line_is : line ≡ failed_text steps place number
 
-abbrev pub IsTold : {A : Type 0} → Yields → ℕ → PlanValue → DigestValue → Telling → Told A
+abbrev pub IsBuildTold : {A : Type 0} → Yields → ℕ → PlanValue → DigestValue → Telling → Told A
     → Type 0
-IsTold {A} yields most plan sources told (Built line noted) =
+IsBuildTold {A} yields most plan sources told (Built line noted) =
     TellsBuilt A yields most plan sources told (string_bytes line) noted.items
-IsTold {A} yields most plan sources told (Failed line) = TellsFailed plan.steps (string_bytes line)
+IsBuildTold {A} yields most plan sources told (Failed line) =
+    TellsFailed plan.steps (string_bytes line)

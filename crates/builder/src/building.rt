@@ -4,6 +4,7 @@ ghost use Rattle.blob_source.specs.Source.{AsksSome};
 ghost use Rattle.builder.specs.Built.{IsBuilt, IsEnd};
 ghost use Rattle.runs.specs.Calls.{HaveAllFinished, IsOpened};
 ghost use Rattle.worker.specs.Calls.{IsLed, running};
+ghost use Rattle.worker.specs.Stored.{HasNoneFinished, IsStored};
 
 use crate::fault::{Fault, Place, of_opening, of_refusal, of_runs};
 use blob_digest::Digest;
@@ -59,6 +60,8 @@ fn run<A: Allocator + Copy, S: BlobSink<A>, N: Runner<A>>(
     requires idle { running engine.old.jobs ≡ 0 }
     ensures led { IsLed A (N.yields runner.old) (S.tells sink.new) jobs engine.old engine.new }
     ensures done { OnOk result (HaveAllFinished engine.new) }
+    ensures stored { OnOk result
+        (HasNoneFinished engine.old → IsStored (S.tells sink.new) engine.new) }
     ensures alive { N.alive runner.new ≡ N.alive runner.old }
     ensures right { KeepsRight (S.tells sink.old).blobs (S.tells sink.new).blobs }
 {
@@ -102,7 +105,8 @@ pub fn build_plan<A: Allocator + Copy, S: BlobSink<A>, N: Runner<A>>(
 ) -> Result<Built<A>, Fault>
     requires some { 0 < jobs }
     // The root and the record are those of an engine of the plan in which each step has finished,
-    // with what the runner yielded or the store had recorded.
+    // with what the runner yielded or the store had recorded. By what the store told, the verdict
+    // on them is yes.
     ensures built { IfOk result
         (IsBuilt A (N.yields runner.old) jobs plan sources (S.tells sink.new)) }
     // Each child that was started was waited for.
@@ -111,5 +115,7 @@ pub fn build_plan<A: Allocator + Copy, S: BlobSink<A>, N: Runner<A>>(
 {
     let mut engine = open(alloc, sources, plan, sink)?;
     run(alloc, &mut engine, sink, runner, jobs)?;
+    // A read for the prover: an engine is lawful.
+    let _ = engine.plan();
     end(alloc, &engine, sink)
 }

@@ -1,7 +1,7 @@
 ghost use Rattle.std.specs.Prelude.{◌≡◌, ◌<◌, IfErr, IfOk};
 ghost use Rattle.blob_source.specs.Sink.{KeepsRight};
 ghost use Rattle.builder.specs.Faults.{HasNoNumber};
-ghost use Rattle.builder.specs.Telling.{IsTold};
+ghost use Rattle.builder.specs.Telling.{IsBuildTold};
 
 use crate::building::build_plan;
 use crate::fault::Fault;
@@ -52,7 +52,7 @@ pub fn tell_build<A: Allocator + Copy, S: BlobSink<A>, N: Runner<A>>(
     requires some { 0 < jobs }
     // The line and the record are those of such a build, or the line tells a refusal's number.
     ensures told { IfOk result
-        (IsTold (N.yields runner.old) jobs plan.now sources.now (S.tells sink.new)) }
+        (IsBuildTold (N.yields runner.old) jobs plan.now sources.now (S.tells sink.new)) }
     // It fails where the store or the runner does, or memory runs out.
     ensures failed { IfErr result HasNoNumber }
     // Each child that was started was waited for.

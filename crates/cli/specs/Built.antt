@@ -4,7 +4,7 @@ use Rattle.std.specs.Io.KnownBytes.{Appends}
 use Rattle.std.specs.declared.alloc.Global.{Global}
 use Rattle.blob_digest.specs.Digest.{DigestValue}
 use Rattle.blob_source.specs.Source.{Telling}
-use Rattle.builder.specs.Built.{BuiltValue, IsEnd}
+use Rattle.builder.specs.Built.{BuiltValue, IsAnsweredYes, IsEnd}
 use Rattle.builder.specs.Lines.{built_text}
 use Rattle.builder.specs.Telling.{TellsFailed}
 use Rattle.builder.specs.declared.telling.Told.{Told}
@@ -14,16 +14,20 @@ use Rattle.command_lines.specs.CommandLine.{option_text}
 use Rattle.plan.specs.Values.{PlanValue}
 use Rattle.runs.specs.Engine.{EngineValue}
 use Rattle.text_verifier.specs.Texts.{HasPlan, IsDigestText}
+use Rattle.worker.specs.Stored.{IsStored}
 
 -- The line tells the root of an engine of the plan, over these sources, in which each step has
--- finished; its record is answered yes with this root, wherever blobs and results serve the build.
+-- finished. The store has what each came to, and its record is answered yes with this root: by what
+-- the store told, and wherever blobs and results serve the build.
 pub record TellsRoot (plan : PlanValue) (sources : DigestValue) (line : List ℕ) : Type 0 where
   pub last : EngineValue
   pub of_plan : last.plan ≡ plan
   pub of_sources : last.sources ≡ sources
   pub told : Telling
   pub build : BuiltValue
+  pub stored : IsStored told last
   pub end : IsEnd Global last told build
+  pub answered : IsAnsweredYes Global told last build
   pub line_is : line ≡ built_text build.root (length plan.steps)
 
 -- the line of a build: its root, or the refusal that ended it

@@ -38,7 +38,7 @@ IsSettled works folder outputs q =
 
 -- The outputs are what stands at the paths below a folder: there is none but these, and none is
 -- left out.
-pub record AreOutputs {C : Type 0} (works : Works C) (folder : List ℕ)
+pub record AreCollected {C : Type 0} (works : Works C) (folder : List ℕ)
     (paths : List (List (List ℕ))) (o : OutcomeValue) (blobs : List (List ℕ)) : Type 0 where
   pub found : AllByRecursion (IsFound works folder paths blobs) o.outputs
   pub settled : AllByRecursion (IsSettled works folder o.outputs) paths

@@ -42,7 +42,7 @@ HasParent works start path =
     IfSome (path_parent (path_text path)) (λ above. works.made (place_below start above))
 
 -- The folder that a command starts in was made, and the folders above its output paths.
-pub record IsPrepared {C : Type 0} (works : Works C) (start : List ℕ)
+pub record IsMadeReady {C : Type 0} (works : Works C) (start : List ℕ)
     (outputs : List (List (List ℕ))) : Type 0 where
   pub itself : works.made start
   pub parents : AllByRecursion (HasParent works start) outputs

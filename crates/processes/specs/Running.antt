@@ -6,8 +6,8 @@ use Rattle.processes.specs.declared.tally.Tally.{Tally}
 use Rattle.processes.specs.declared.running.ProcessRunner.{ProcessRunner}
 use Rattle.processes.specs.declared.running.ProcessJob.{ProcessJob}
 use Rattle.processes.specs.Workshop.{Works}
-use Rattle.processes.specs.Laying.{start_of, IsLaidOut, IsPrepared}
-use Rattle.processes.specs.Collected.{AreOutputs}
+use Rattle.processes.specs.Laying.{start_of, IsLaidOut, IsMadeReady}
+use Rattle.processes.specs.Collected.{AreCollected}
 
 -- how many children weren't waited for yet
 abbrev pub alive_in : Tally → ℕ
@@ -35,25 +35,25 @@ next_of r = r.next
 pub record CameTo {C : Type 0} (works : Works C) (child : C) (start : List ℕ)
     (paths : List (List (List ℕ))) (p : ProducedValue) : Type 0 where
   pub ended : works.ended child (Some p.outcome.exit_code)
-  pub outputs : AreOutputs works start paths p.outcome p.blobs
+  pub outputs : AreCollected works start paths p.outcome p.blobs
 
 -- A child was started for a command below a job's folder, where the layout was made, in the folder
 -- that the command names, which was made too, as were the folders above the output paths.
-pub record IsLaunched {C : Type 0} (works : Works C) (l : LayoutValue) (c : CommandValue)
+pub record IsJobLaunched {C : Type 0} (works : Works C) (l : LayoutValue) (c : CommandValue)
     (child : C) (start : List ℕ) : Type 0 where
   pub folder : List ℕ
   pub laid : IsLaidOut works folder l
   pub is_start : start ≡ start_of folder c.working_directory
-  pub prepared : IsPrepared works start c.output_paths
+  pub prepared : IsMadeReady works start c.output_paths
   pub started : works.runs child c start
 
 -- The command names its program from the root. A child was started so, and came to this.
-pub record IsRun {C : Type 0} (works : Works C) (l : LayoutValue) (c : CommandValue)
+pub record IsJobRun {C : Type 0} (works : Works C) (l : LayoutValue) (c : CommandValue)
     (p : ProducedValue) : Type 0 where
   pub absolute : IsAbsolute c
   pub child : C
   pub start : List ℕ
-  pub launched : IsLaunched works l c child start
+  pub launched : IsJobLaunched works l c child start
   pub came : CameTo works child start c.output_paths p
 
 -- what may come of a job

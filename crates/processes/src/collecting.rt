@@ -1,6 +1,6 @@
 ghost use Rattle.std.specs.Prelude.{◌≡◌, Err, IfOk, OnOk};
 ghost use Rattle.worker.specs.Values.{blobs_of};
-ghost use Rattle.processes.specs.Collected.{AreOutputs, IsMore};
+ghost use Rattle.processes.specs.Collected.{AreCollected, IsMore};
 
 use crate::laying::place_below;
 use crate::trouble::Trouble;
@@ -46,7 +46,7 @@ pub(crate) fn collect<A: Allocator + Copy, W: Workshop>(
 ) -> Result<Produced<A>, RunError<A>>
     ensures code { IfOk result (λ p. p.outcome.exit_code ≡ exit_code) }
     ensures outputs { IfOk result
-        (λ p. AreOutputs W.works folder.now paths.now p.outcome p.blobs) }
+        (λ p. AreCollected W.works folder.now paths.now p.outcome p.blobs) }
     ensures error { result ≡ Err RunError.NotAbsolute → ⊥ }
 {
     let mut outcome = Outcome::new(alloc, exit_code);

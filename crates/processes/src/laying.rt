@@ -1,6 +1,6 @@
 ghost use Rattle.std.specs.Prelude.{◌≡◌, IfOk, OnOk, string_bytes};
 ghost use Rattle.worker.specs.Values.{contents_of};
-ghost use Rattle.processes.specs.Laying.{AreMade, AreWritten, HasParent, IsLaidOut, IsPrepared};
+ghost use Rattle.processes.specs.Laying.{AreMade, AreWritten, HasParent, IsLaidOut, IsMadeReady};
 ghost use Rattle.processes.specs.Laying.{place_below, start_of};
 
 use crate::trouble::Trouble;
@@ -108,7 +108,7 @@ pub(crate) fn prepare<A: Allocator + Copy, W: Workshop>(
     start: &str,
     outputs: &[Path<A>],
 ) -> Result<(), Trouble>
-    ensures { OnOk result (IsPrepared W.works start.now outputs.now) }
+    ensures { OnOk result (IsMadeReady W.works start.now outputs.now) }
 {
     workshop.make_all(start)?;
     for path in outputs {

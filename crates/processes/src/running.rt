@@ -2,9 +2,9 @@ ghost use Rattle.std.specs.Prelude.{◌≡◌, ◌+◌, Err, IfOk, IsTrue, Ok};
 ghost use Rattle.std.specs.Prelude.{OnErr, OnOk, Some, string_bytes};
 ghost use Rattle.worker.specs.Values.{IsAbsolute};
 ghost use Rattle.messages.specs.Path.{begins_with_slash};
-ghost use Rattle.processes.specs.Collected.{AreOutputs};
+ghost use Rattle.processes.specs.Collected.{AreCollected};
 ghost use Rattle.processes.specs.Laying.{folder_of};
-ghost use Rattle.processes.specs.Running.{IsLaunched, alive_of, failures_of, work_of, next_of};
+ghost use Rattle.processes.specs.Running.{IsJobLaunched, alive_of, failures_of, work_of, next_of};
 
 use crate::collecting::collect;
 use crate::laying::{lay_out, prepare, start_of};
@@ -114,7 +114,7 @@ impl<W: Workshop, A: Allocator + Copy> ProcessRunner<W, A> {
         command: &Command<A>,
     ) -> Result<ProcessJob<W::Child, A>, Trouble>
         ensures launched { IfOk result (λ job.
-            IsLaunched W.works layout.now command.now job.child (string_bytes job.start)) }
+            IsJobLaunched W.works layout.now command.now job.child (string_bytes job.start)) }
         ensures outputs { IfOk result (λ job. job.outputs.items ≡ command.now.output_paths) }
         ensures opened { OnOk result (alive_of self.new ≡ alive_of self.old + 1) }
         ensures unopened { OnErr result (alive_of self.new ≡ alive_of self.old) }
@@ -152,7 +152,7 @@ fn come_to<A: Allocator + Copy, W: Workshop>(
 ) -> Result<Produced<A>, RunError<A>>
     ensures ended { IfOk result (λ p. ended ≡ Ok (Some p.outcome.exit_code)) }
     ensures outputs { IfOk result
-        (λ p. AreOutputs W.works start.now outputs.now p.outcome p.blobs) }
+        (λ p. AreCollected W.works start.now outputs.now p.outcome p.blobs) }
     ensures error { result ≡ Err RunError.NotAbsolute → ⊥ }
 {
     match ended {
@@ -165,9 +165,9 @@ fn come_to<A: Allocator + Copy, W: Workshop>(
 impl<W: Workshop + Drop, A: Allocator + Copy> Runner<A> for ProcessRunner<W, A> {
     type Job = ProcessJob<W::Child, A>;
 
-    ghost use Rattle.processes.specs.Running.{IsRun, alive_of, failures_of, may_come};
+    ghost use Rattle.processes.specs.Running.{IsJobRun, alive_of, failures_of, may_come};
 
-    ghost yields = { λ r l c p. IsRun W.works l c p };
+    ghost yields = { λ r l c p. IsJobRun W.works l c p };
 
     ghost may_give = { λ job p. may_come W.works job p };
 

@@ -1,7 +1,10 @@
 use Rattle.std.proofs.Common.{◌∙◌}
 use Rattle.std.proofs.lemmas.Result.{IfOk-weaker}
 use Rattle.blob_source.proofs.Puts.{right_grows, right_then}
+use Rattle.worker.specs.Stored.{IsStored}
+use Rattle.worker.proofs.Storing.{stored_grown}
 use Rattle.builder.proofs.Leading.{led_plan, led_sources}
+use Rattle.builder.proofs.Serving.{none_finished, answered}
 use Rattle.builder.proofs.building.build_plan.Goals as goal
 
 pub returns-in_err-engine-clause-right : goal.returns-in_err-engine-clause-right
@@ -17,17 +20,26 @@ returns-clause-right g c = right_then
     (right_grows c.end.ensures.asked.asks.blobs)
 
 pub returns-clause-built : goal.returns-clause-built
-returns-clause-built g c = IfOk-weaker c.end.result _ _
+returns-clause-built g c =
+    let opening = g.S.BlobSource.tells c.open.new.sink in
+    let ending = g.S.BlobSource.tells c.run.new.sink in
+    let told = g.S.BlobSource.tells c.end.new.sink in
+    let opened = c.in_ok-engine.ensures.opened in
+    let asks = c.end.ensures.asked.asks in
+    let stored : IsStored told c.run.new.engine = stored_grown asks.blobs asks.results (c.in_ok-run.ensures.stored (none_finished c.in_ok-engine.engine opened.none_finished)) in
+    IfOk-weaker c.end.result _ _
     (λ built h. record {
-      opening = g.S.BlobSource.tells c.open.new.sink;
+      opening = opening;
       first = c.in_ok-engine.engine;
-      opened = c.in_ok-engine.ensures.opened;
-      ending = g.S.BlobSource.tells c.run.new.sink;
+      opened = opened;
+      ending = ending;
       still = c.run.ensures.right;
       last = c.run.new.engine;
       led = c.run.ensures.led;
-      of_plan = led_plan c.run.ensures.led ∙ c.in_ok-engine.ensures.opened.plan;
-      of_sources = led_sources c.run.ensures.led ∙ c.in_ok-engine.ensures.opened.sources;
+      of_plan = led_plan c.run.ensures.led ∙ opened.plan;
+      of_sources = led_sources c.run.ensures.led ∙ opened.sources;
       asked = c.end.ensures.asked;
+      stored = stored;
       end = h;
+      answered = answered g.row.A.Denot (g.N.Runner.yields c.args.runner.now) c.args.jobs c.args.plan c.args.sources opening ending told c.in_ok-engine.engine c.run.new.engine built opened c.run.ensures.right c.run.ensures.led (right_grows asks.blobs) c.plan.ensures.lawful stored h;
     }) c.end.ensures.ended
