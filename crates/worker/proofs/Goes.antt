@@ -134,6 +134,9 @@ module _ (A J : Type 0) (y : Yields) (may : J → ProducedValue → Type 0) (mos
     few = g.few;
   })
 
+  pub led_kept : (t u : Telling) (now : EngineValue) (cs : List (Child J)) → IsKept t u → Goes t now cs → IsLed A y u most old now
+  led_kept t u now cs k g = led_moved A y t u [] (moves_kept t u [] k) most old now now g.led refl
+
   -- the first child's job is gone
   module _ (t u : Telling) (now new : EngineValue) (c : Child J) (cs : List (Child J)) (g : Goes t now (c ∷ cs)) where
     fewer : length cs ≤ most
@@ -191,9 +194,12 @@ module _ (A J : Type 0) (y : Yields) (may : J → ProducedValue → Type 0) (mos
     there : AreJobsOf (IsOwnJob y may u.blobs mid) now.jobs cs
     there = jobs_map (IsOwnJob y may t.blobs now) (IsOwnJob y may u.blobs mid) (owed_still (λ l c p h. h) k.blobs commands_mid) cs now.jobs g.jobs
 
+    pub led_started : IsLed A y u most old mid
+    led_started = led_moved A y t u (started i id ∷ []) (moves_kept t u (started i id ∷ []) k) most old now mid g.led (mid, w, few_mid, refl)
+
     pub going_started : (c : Child J) → c.id ≡ id → IsOwnJob y may u.blobs mid c (job_of w) → Goes u mid (cs ++ c ∷ [])
     going_started c same is = record {
-      led = led_moved A y t u (started i id ∷ []) (moves_kept t u (started i id ∷ []) k) most old now mid g.led (mid, w, few_mid, refl);
+      led = led_started;
       jobs = subst (λ js. AreJobsOf (IsOwnJob y may u.blobs mid) js (cs ++ c ∷ [])) (sym (ap (λ (e : EngineValue). e.jobs) (after w)))
           (jobs_added (IsOwnJob y may u.blobs mid) cs now.jobs id c (job_of w) (least_within now.jobs id (least w)) (least w).free same is there);
       few = let n = length-append cs (c ∷ []) in omega (arith, n, room);

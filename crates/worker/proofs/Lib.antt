@@ -11,3 +11,4 @@ pub mod Taking
 pub mod Lefts
 pub mod Complete
 pub mod Storing
+pub mod Stopping

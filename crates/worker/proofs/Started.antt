@@ -30,13 +30,14 @@ module _ {A : Type 0} {B : Blobs} {i : ℕ} {old mid : EngineValue} {job : Job A
   pub was_started : (C : Blobs) → KeepsRight B C → WasStarted A C i job.id old mid
   was_started C keeps = record { told = B; still = keeps; job = job; number = refl; is = s }
 
+  pub started_value : job_in job.id mid ≡ Some (job_value job)
+  unfolding was_started
+  started_value = subst (λ n. job_in job.id mid ≡ Some (record { step = n; action = job.digest; input = job.action.input })) (sym s.prepared.of_step) (job_is (was_started B (λ e b at right. at)))
+
   pub started_in : IsJobIn mid job
   started_in = record {
+    there = started_value;
     command = subst (λ n. slice_get mid.commands n ≡ Some job.command) (sym s.prepared.of_step)
         (ap (λ (e : EngineValue). slice_get e.commands i) s.after ∙ s.prepared.command);
     digest = s.prepared.digest;
   }
-
-  pub started_value : job_in job.id mid ≡ Some (job_value job)
-  unfolding was_started
-  started_value = subst (λ n. job_in job.id mid ≡ Some (record { step = n; action = job.digest; input = job.action.input })) (sym s.prepared.of_step) (job_is (was_started B (λ e b at right. at)))

@@ -22,7 +22,7 @@ module _ (A J : Type 0) (y : Yields) (may : J → ProducedValue → Type 0) (t u
   start_goes (Ok x) z i within k room begun refused same = going_begun A J y may most first z within t u now new i cs ds k g room begun
   start_goes (Err x) z i within k room begun refused same = subst (IsGoing A y may u most first new) (sym same) (going_refused A J y may most first t u now new i cs k g room refused)
 
-  ended_goes : HasEndedFirst (Ends may t u) now new cs ds → IsGoing A y may u most first new ds
+  pub ended_goes : HasEndedFirst (Ends may t u) now new cs ds → IsGoing A y may u most first new ds
   ended_goes h = going_ended A J y may most first t u now new h.child ds (subst (IsGoing A y may t most first now) h.is g) h.end
 
   pub finish_goes : {T E : Type 0} (r : Result T E) → OnOk r (HasEndedFirst (EndsWell may t u) now new cs ds) → OnErr r (HasEndedFirst (Ends may t u) now new cs ds) → IsGoing A y may u most first new ds

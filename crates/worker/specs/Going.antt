@@ -43,14 +43,15 @@ pub record IsGoing (A : Type 0) {J : Type 0} (yields : Yields) (may : J → Prod
   pub jobs : AreJobsOf (IsOwnJob yields may t.blobs new) new.jobs children
   pub few : length children ≤ most
 
--- the engine has the job's command, and the job's digest is that of its action
-pub record IsJobIn {A : Type 0} (e : EngineValue) (job : Job A) : Type 0 where
-  pub command : slice_get e.commands job.step ≡ Some job.command
-  pub digest : job.digest ≡ digest_of (action_bytes job.action)
-
 -- a job as an engine has it
 abbrev pub job_value : {A : Type 0} → Job A → JobValue
 job_value job = record { step = job.step; action = job.digest; input = job.action.input }
+
+-- the engine has the job and its command, and the job's digest is that of its action
+pub record IsJobIn {A : Type 0} (e : EngineValue) (job : Job A) : Type 0 where
+  pub there : job_in job.id e ≡ Some (job_value job)
+  pub command : slice_get e.commands job.step ≡ Some job.command
+  pub digest : job.digest ≡ digest_of (action_bytes job.action)
 
 -- A job goes on: a child runs for it, or it finished at once as the store had recorded.
 abbrev pub IsLaunched : {J : Type 0} → Yields → (J → ProducedValue → Type 0) → Telling → ℕ

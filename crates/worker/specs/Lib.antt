@@ -6,3 +6,4 @@ pub mod Outcomes
 pub mod Calls
 pub mod Going
 pub mod Stored
+pub mod Stopped

@@ -1,4 +1,4 @@
-ghost use Rattle.std.specs.Prelude.{◌≡◌, ◌+◌, ◌<◌, ◌≤◌, ℕ, [], OnOk, OnErr, length};
+ghost use Rattle.std.specs.Prelude.{◌≡◌, ◌+◌, ◌<◌, ◌≤◌, ℕ, [], IfErr, OnOk, OnErr, length};
 ghost use Rattle.blob_source.specs.Source.{Telling};
 ghost use Rattle.blob_source.specs.Sink.{KeepsRight};
 ghost use Rattle.runs.specs.Engine.{EngineValue};
@@ -7,6 +7,7 @@ ghost use Rattle.tree.specs.Memo.{known_by};
 ghost use Rattle.worker.specs.Stores.{KnowsBlobs};
 ghost use Rattle.worker.specs.Calls.{running, IsLed};
 ghost use Rattle.worker.specs.Going.{AreJobsOf, IsJobOf, IsGoing};
+ghost use Rattle.worker.specs.Stopped.{IsRefusedBuild};
 ghost use Rattle.worker.specs.Stored.{HasNoneFinished, IsStored, StoresSteps};
 
 use crate::error::BuildError;
@@ -58,6 +59,8 @@ fn take_turns<A: Allocator + Copy, S: BlobSink<A>, N: Runner<A>>(
         engine.old engine.new children.new.items }
     ensures done { OnOk result (HaveAllFinished engine.new) }
     ensures ended { OnOk result (children.new.items ≡ []) }
+    ensures stopped { IfErr result (λ e. IsRefusedBuild A (N.yields runner.old) (S.tells sink.new) jobs
+        engine.old e.step e.refusal) }
     ensures stored { OnOk result (StoresSteps (S.tells sink.old) engine.old
         → StoresSteps (S.tells sink.new) engine.new) }
     ensures right { KeepsRight (S.tells sink.old).blobs (S.tells sink.new).blobs }
@@ -88,6 +91,9 @@ pub fn build<A: Allocator + Copy, S: BlobSink<A>, N: Runner<A>>(
     // from the runner or from the store.
     ensures led { IsLed A (N.yields runner.old) (S.tells sink.new) jobs engine.old engine.new }
     ensures done { OnOk result (HaveAllFinished engine.new) }
+    // Where it is refused, calls led to an engine in which the refusal of that step stands.
+    ensures stopped { IfErr result (λ e. IsRefusedBuild A (N.yields runner.old) (S.tells sink.new) jobs
+        engine.old e.step e.refusal) }
     // The store has what each step came to, from the first to the last.
     ensures stored { OnOk result
         (HasNoneFinished engine.old → IsStored (S.tells sink.new) engine.new) }

@@ -101,6 +101,7 @@ pub trait Runner<A: Allocator> {
         ensures gave { IfOk result (may_give job) }
         ensures same { YieldsNoMore (yields self.new) (yields self.old) }
         ensures closed { alive self.new ≡ alive self.old - 1 }
+        ensures absolute { IsErrOf result RunError.NotAbsolute → ⊥ }
         ensures failed { IsErrOf result RunError.Device → failures self.old < failures self.new }
         ensures unfailed { (IsErrOf result RunError.Device → ⊥)
             → failures self.new ≡ failures self.old };

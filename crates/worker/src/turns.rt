@@ -1,5 +1,5 @@
 ghost use Rattle.std.specs.Prelude.{◌≡◌, ◌↔◌, ◌+◌, ◌-◌, ◌<◌, ◌≤◌, ℕ, [], Some, None, IsTrue};
-ghost use Rattle.std.specs.Prelude.{IsSome, IfSome, IfOk, OnOk, OnErr, length, slice_get};
+ghost use Rattle.std.specs.Prelude.{IsSome, IfSome, IfErr, IfOk, OnOk, OnErr, length, slice_get};
 ghost use Rattle.blob_digest.specs.Digest.{digest_of};
 ghost use Rattle.action_messages.specs.Action.{action_bytes};
 ghost use Rattle.wire.specs.Bytes.{IsBytes};
@@ -16,6 +16,9 @@ ghost use Rattle.worker.specs.Calls.{IsStartable};
 ghost use Rattle.worker.specs.Going.{AreJobsOf, IsJobOf, IsJobIn, job_value, IsBegun};
 ghost use Rattle.worker.specs.Going.{CameToNothing, IsLaunched, HasEndedFirst, EndsWell, Ends};
 ghost use Rattle.worker.specs.Going.{HasResultOfFirst, IsTurn, IsGoing, turns_left};
+ghost use Rattle.worker.specs.Stopped.{IsStoreFault, StopsChild, StopsStep, StopsBeginning};
+ghost use Rattle.worker.specs.Stopped.{StopsCollecting, StopsEnd, StopsSettling, StopsFirst};
+ghost use Rattle.worker.specs.Stopped.{IsRefusedBuild};
 ghost use Rattle.worker.specs.Stored.{HasTrees, HasResultOf, StoresSteps};
 
 use crate::error::{BuildError, Refusal};
@@ -114,6 +117,7 @@ fn put_all<A: Allocator + Copy, S: BlobSink<A>>(
 ) -> Result<(), Refusal<A>>
     ensures kept { IsKept (S.tells sink.old) (S.tells sink.new) }
     ensures held { OnOk result (HasAllRight (S.tells sink.new).blobs (blobs_of blobs.now)) }
+    ensures failed { IfErr result IsStoreFault }
 {
     for blob in blobs {
         sink.put_blob(alloc, blob)?;
@@ -131,6 +135,7 @@ fn put_input<A: Allocator + Copy, S: BlobSink<A>>(
     ensures kept { IsKept (S.tells sink.old) (S.tells sink.new) }
     ensures held { OnOk result
         (HasRight (S.tells sink.new).blobs (digest_of (action_bytes job.now.action))) }
+    ensures failed { IfErr result IsStoreFault }
 {
     let action = job.action.encode(alloc)?;
     sink.put_blob(alloc, &action)?;
@@ -159,6 +164,7 @@ fn recorded_outcome<A: Allocator + Copy, S: BlobSink<A>>(
     ensures kept { IsKept (S.tells sink.old) (S.tells sink.new) }
     ensures held { IfOk result (λ found.
         IfSome found (IsHeld (S.tells sink.new) job.now.digest)) }
+    ensures failed { IfErr result IsStoreFault }
 {
     let Some(bytes) = sink.result(alloc, &job.digest)? else {
         return Ok(None);
@@ -189,6 +195,7 @@ fn put_directories<A: Allocator + Copy, S: BlobSink<A>>(
     tree: &Tree<A>,
 ) -> Result<(), Refusal<A>>
     ensures kept { IsKept (S.tells sink.old) (S.tells sink.new) }
+    ensures failed { IfErr result IsStoreFault }
 {
     sink.put_blob(alloc, &tree.root().encode(alloc)?)?;
     for child in tree.children() {
@@ -206,6 +213,7 @@ fn put_trees<A: Allocator + Copy, S: BlobSink<A>>(
 ) -> Result<(), Refusal<A>>
     ensures kept { IsKept (S.tells sink.old) (S.tells sink.new) }
     ensures held { OnOk result (HasTrees (S.tells sink.new).blobs outcome.now) }
+    ensures failed { IfErr result IsStoreFault }
 {
     for output in outcome.outputs() {
         if let Output::Tree(tree) = &output.1 {
@@ -227,6 +235,8 @@ fn start_child<A: Allocator + Copy, S: BlobSink<A>, N: Runner<A>>(
     ensures owed { IfOk result (λ child. (l : LayoutValue)
         × IsLayoutOf (S.tells sink.new).blobs job.now.action.input l
         × ((p : ProducedValue) → N.may_give child p → N.yields runner.old l job.now.command p)) }
+    ensures refused { IfErr result (StopsChild (S.tells sink.new).blobs
+        job.now.action.input job.now.command) }
     ensures same { YieldsNoMore (N.yields runner.new) (N.yields runner.old) }
     ensures opened { OnOk result (N.alive runner.new ≡ N.alive runner.old + 1) }
     ensures unopened { OnErr result (N.alive runner.new ≡ N.alive runner.old) }
@@ -250,6 +260,8 @@ fn launch<A: Allocator + Copy, S: BlobSink<A>, N: Runner<A>>(
     ensures launched { OnOk result (IsLaunched (N.yields runner.old) N.may_give (S.tells sink.new)
         job.now.id
         (job_value job.now) engine.old engine.new children.old.items children.new.items) }
+    ensures refused { IfErr result
+        (StopsStep (N.yields runner.old) (S.tells sink.new) engine.old job.now.step) }
     ensures unchanged { OnErr result (engine.new ≡ engine.old) }
     ensures same { OnErr result (children.new.items ≡ children.old.items) }
     ensures within { YieldsNoMore (N.yields runner.new) (N.yields runner.old) }
@@ -291,6 +303,8 @@ pub(crate) fn begin<A: Allocator + Copy, S: BlobSink<A>, N: Runner<A>>(
         engine.old engine.new children.old.items children.new.items) }
     ensures refused { OnErr result
         (CameToNothing A (S.tells sink.new).blobs step engine.old engine.new) }
+    ensures stopped { IfErr result (λ e. (e.step ≡ step) × StopsBeginning (N.yields runner.old)
+        (S.tells sink.new) engine.old step e.refusal) }
     ensures same { OnErr result (children.new.items ≡ children.old.items) }
     ensures within { YieldsNoMore (N.yields runner.new) (N.yields runner.old) }
     ensures alive { N.alive runner.new + length children.old.items
@@ -325,6 +339,7 @@ fn collect<A: Allocator + Copy, S: BlobSink<A>, N: Runner<A>>(
     ensures gave { IfOk result (λ v. (p : ProducedValue) × N.may_give job p × (v ≡ p.outcome)
         × HasAllRight (S.tells sink.new).blobs p.blobs) }
     ensures trees { IfOk result (HasTrees (S.tells sink.new).blobs) }
+    ensures refused { IfErr result StopsCollecting }
     ensures within { YieldsNoMore (N.yields runner.new) (N.yields runner.old) }
     ensures closed { N.alive runner.new ≡ N.alive runner.old - 1 }
 {
@@ -345,6 +360,8 @@ fn take<A: Allocator + Copy, S: BlobSink<A>, N: Runner<A>>(
     ensures kept { IsKept (S.tells sink.old) (S.tells sink.new) }
     ensures ended { OnOk result
         (EndsWell N.may_give (S.tells sink.old) (S.tells sink.new) child engine.old engine.new) }
+    ensures refused { IfErr result
+        (StopsEnd N.may_give (S.tells sink.new).blobs child engine.old) }
     ensures unchanged { OnErr result (engine.new ≡ engine.old) }
     ensures within { YieldsNoMore (N.yields runner.new) (N.yields runner.old) }
     ensures closed { N.alive runner.new ≡ N.alive runner.old - 1 }
@@ -366,6 +383,7 @@ fn put_encoded<A: Allocator + Copy, S: BlobSink<A>>(
     ensures held { OnOk result ((S.tells sink.new).results action.now ≡ Some bytes.now) }
     // For the prover: what is in a slice are bytes.
     ensures bytes { IsBytes bytes.now }
+    ensures failed { IfErr result IsStoreFault }
 {
     sink.put_result(alloc, action, bytes)?;
     Ok(())
@@ -382,6 +400,7 @@ fn put_outcome<A: Allocator + Copy, S: BlobSink<A>>(
     requires { IsSome (finished_in step engine.now) }
     ensures kept { IsKeptBut action.now (S.tells sink.old) (S.tells sink.new) }
     ensures put { OnOk result (HasResultOf (S.tells sink.new) engine.now step action.now) }
+    ensures failed { IfErr result IsStoreFault }
 {
     let result = engine.result(alloc, step)?.encode(alloc)?;
     put_encoded(alloc, sink, action, &result)
@@ -402,6 +421,8 @@ fn settle<A: Allocator + Copy, S: BlobSink<A>, N: Runner<A>>(
         (HasResultOf (S.tells sink.new) engine.new child.step child.action) }
     ensures refused { OnErr result
         (Ends N.may_give (S.tells sink.old) (S.tells sink.new) child engine.old engine.new) }
+    ensures stopped { IfErr result (StopsSettling N.may_give
+        (S.tells sink.old) (S.tells sink.new) child engine.old) }
     ensures within { YieldsNoMore (N.yields runner.new) (N.yields runner.old) }
     ensures closed { N.alive runner.new ≡ N.alive runner.old - 1 }
 {
@@ -436,6 +457,8 @@ pub(crate) fn finish_first<A: Allocator + Copy, S: BlobSink<A>, N: Runner<A>>(
     ensures refused { OnErr result (HasEndedFirst
         (Ends N.may_give (S.tells sink.old) (S.tells sink.new))
         engine.old engine.new children.old.items children.new.items) }
+    ensures stopped { IfErr result (λ e. StopsFirst N.may_give (S.tells sink.old)
+        (S.tells sink.new) children.old.items engine.old e.step e.refusal) }
     ensures within { YieldsNoMore (N.yields runner.new) (N.yields runner.old) }
     ensures closed { N.alive runner.new ≡ N.alive runner.old - 1 }
 {
@@ -470,6 +493,13 @@ pub(crate) fn take_turn<A: Allocator + Copy, S: BlobSink<A>, N: Runner<A>>(
         engine.old children.old.items
         → IsGoing A (N.yields entry) N.may_give (S.tells sink.new) most first
         engine.new children.new.items }
+    // Where the turn is refused, the refusal stands.
+    ensures stopped { IfErr result (λ e. (entry : N) (most : ℕ) (first : EngineValue)
+        → YieldsNoMore (N.yields runner.old) (N.yields entry)
+        → IsTurn most engine.old children.old.items turn
+        → IsGoing A (N.yields entry) N.may_give (S.tells sink.old) most first
+        engine.old children.old.items
+        → IsRefusedBuild A (N.yields entry) (S.tells sink.new) most first e.step e.refusal) }
     // What the store has of what has finished, it has of what finishes in this turn too.
     ensures stored { OnOk result ((entry : N) (most : ℕ) (first : EngineValue)
         → IsGoing A (N.yields entry) N.may_give (S.tells sink.old) most first

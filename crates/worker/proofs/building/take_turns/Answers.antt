@@ -1,4 +1,5 @@
 use Rattle.std.proofs.Common.{arith, subst, sym, ap, length}
+use Rattle.std.proofs.lemmas.Result.{err_from_is_err_and}
 use Rattle.worker.specs.Going.{AreJobsOf, IsJobOf, IsGoing}
 use Rattle.worker.proofs.Keeping.{right_trans}
 use Rattle.worker.proofs.Complete.{all_finished}
@@ -47,3 +48,8 @@ returns-clause-done g c =
     let empty = c.next_turn.ensures.none_runs c.in_default.is in
     let jobs = own_jobs g.row.A.Denot (g.N.Runner.yields c.args.runner.now) g.N.Runner.may_give (g.S.BlobSource.tells c.loop-turn.sink) c.args.jobs c.args.engine.now c.loop-turn.engine c.loop-turn.children.items c.loop-turn.invariant.going in
     all_finished c.loop-turn.engine c.next_turn.ensures.planned c.next_turn.ensures.lawful (subst (AreJobsOf IsJobOf c.loop-turn.engine.jobs) empty jobs) (c.next_turn.ensures.none_starts c.in_default.is)
+
+pub returns-in_err-take_turn-clause-stopped : goal.returns-in_err-take_turn-clause-stopped
+returns-in_err-take_turn-clause-stopped g c =
+    let p = err_from_is_err_and c.from_residual.result c.from_residual.ensures.1 in
+    rw (p.1, p.2) (c.in_err-take_turn.ensures.stopped c.args.runner.now c.args.jobs c.args.engine.now c.loop-turn.invariant.within c.in-Some.ensures.turn c.loop-turn.invariant.going)

@@ -1,5 +1,7 @@
 use Rattle.worker.proofs.Keeping.{kept_trans, kept_some}
-use Rattle.worker.proofs.Started.{started_in}
+use Rattle.std.proofs.Common.{refl, subst, inl, inr}
+use Rattle.worker.specs.Stopped.{StopsStep}
+use Rattle.worker.proofs.Started.{started_in, was_started}
 use Rattle.worker.proofs.Goes.{begun, refused}
 use Rattle.worker.proofs.Knowing.{known_of, knows_still, knows_started}
 use Rattle.worker.proofs.turns.begin.Goals as goal
@@ -30,3 +32,19 @@ returns-in-Ok-launch-clause-knows g c = knows_still c.launch.ensures.kept.blobs 
 
 pub returns-clause-knows : goal.returns-clause-knows
 returns-clause-knows g c = knows_still c.launch.ensures.kept.blobs (knows_started c.args.engine.now c.args.step c.requires.knows c.start.ensures.learned)
+
+pub returns-in-Err-clause-stopped : goal.returns-in-Err-clause-stopped
+returns-in-Err-clause-stopped g c = (refl, inl (inl c.in-Err.ensures.refused))
+
+pub returns-clause-stopped : goal.returns-clause-stopped
+returns-clause-stopped g c =
+    let t = g.S.BlobSource.tells c.launch.new.sink in
+    let started = c.in-Ok.ensures.started in (
+      refl,
+      inr (
+        c.in-Ok.job.id,
+        c.start.new.self,
+        was_started started t.blobs c.launch.ensures.kept.blobs,
+        subst (λ i. StopsStep (g.N.Runner.yields c.args.runner.now) t c.start.new.self i c.in-Err-launch.refusal) started.prepared.of_step c.in-Err-launch.ensures.refused,
+      ),
+    )

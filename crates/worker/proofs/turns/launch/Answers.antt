@@ -1,8 +1,11 @@
+use Rattle.std.proofs.lemmas.Result.{err_from_is_err_and}
 use Rattle.std.proofs.Common.{refl, sym, subst, inl, inr, ap, ◌∙◌, ◌++◌, ◌∷◌, []}
 use Rattle.blob_source.specs.Sink.{HasRight}
 use Rattle.std.specs.Prelude.{IfSome}
 use Rattle.worker.specs.declared.turns.Child.{Child}
 use Rattle.worker.specs.Outcomes.{IsHeld}
+use Rattle.worker.specs.Going.{job_value}
+use Rattle.worker.proofs.Stopping.{store_stops, child_stops}
 use Rattle.worker.proofs.Telling.{held_kept}
 use Rattle.worker.proofs.Keeping.{kept_trans, right_still}
 use Rattle.worker.proofs.turns.launch.Goals as goal
@@ -60,3 +63,30 @@ returns-clause-launched g c =
       refl,
       c.push_back_reserved.ensures.items ∙ ap (λ xs. xs ++ child ∷ []) c.reserve.ensures.items,
     )
+
+pub returns-in_err-put_input-clause-refused : goal.returns-in_err-put_input-clause-refused
+returns-in_err-put_input-clause-refused g c =
+    let p = err_from_is_err_and c.from_residual.result c.from_residual.ensures.1 in
+    rw (p.1, p.2) (store_stops (g.N.Runner.yields c.args.runner.now) (g.S.BlobSource.tells c.put_input.new.sink) c.args.engine.now c.args.job.now.step c.in_err-put_input.field-0.0 c.in_err-put_input.ensures.failed)
+
+pub returns-in_err-outcome-clause-refused : goal.returns-in_err-outcome-clause-refused
+returns-in_err-outcome-clause-refused g c =
+    let p = err_from_is_err_and c.from_residual-in_err-outcome.result c.from_residual-in_err-outcome.ensures.1 in
+    rw (p.1, p.2) (store_stops (g.N.Runner.yields c.args.runner.now) (g.S.BlobSource.tells c.recorded_outcome.new.sink) c.args.engine.now c.args.job.now.step c.in_err-outcome.field-0.0 c.in_err-outcome.ensures.failed)
+
+pub returns-in_err-put_trees-clause-refused : goal.returns-in_err-put_trees-clause-refused
+returns-in_err-put_trees-clause-refused g c =
+    let p = err_from_is_err_and c.from_residual-in_err-put_trees.result c.from_residual-in_err-put_trees.ensures.1 in
+    rw (p.1, p.2) (store_stops (g.N.Runner.yields c.args.runner.now) (g.S.BlobSource.tells c.put_trees.new.sink) c.args.engine.now c.args.job.now.step c.in_err-put_trees.field-0.0 c.in_err-put_trees.ensures.failed)
+
+pub returns-in_err-finish-clause-refused : goal.returns-in_err-finish-clause-refused
+returns-in_err-finish-clause-refused g c =
+    let p = err_from_is_err_and c.from_residual-in_err-finish.result c.from_residual-in_err-finish.ensures.1 in
+    let t = g.S.BlobSource.tells c.recorded_outcome.new.sink in
+    let held : IsHeld t c.args.job.now.digest c.in-Some.outcome = subst (λ o. IfSome o (IsHeld t c.args.job.now.digest)) c.in-Some.is c.in_ok-outcome.ensures.held in
+    rw (p.1, p.2) (inr (c.args.job.now.id, job_value c.args.job.now, c.requires.there, refl, c.in-Some.outcome, inr (held_kept c.put_trees.ensures.kept held), c.in_err-finish.ensures.refused))
+
+pub returns-in_err-child-clause-refused : goal.returns-in_err-child-clause-refused
+returns-in_err-child-clause-refused g c =
+    let p = err_from_is_err_and c.from_residual-in_err-child.result c.from_residual-in_err-child.ensures.1 in
+    rw (p.1, p.2) (child_stops (g.N.Runner.yields c.args.runner.now) (g.S.BlobSource.tells c.start_child.new.sink) c.args.engine.now c.args.job.now c.requires c.in_err-child.field-0.0 c.in_err-child.ensures.refused)

@@ -1,6 +1,7 @@
 use Rattle.std.proofs.Common.{subst}
 use Rattle.worker.specs.Going.{IsTurn}
 use Rattle.worker.proofs.Taking.{start_goes, finish_goes, finish_right, start_stored, finish_stored}
+use Rattle.worker.proofs.Stopping.{start_refused, finish_refused}
 use Rattle.worker.proofs.Lefts.{start_less, finish_less}
 use Rattle.worker.proofs.Knowing.{knows_still}
 use Rattle.worker.proofs.turns.take_turn.Goals as goal
@@ -43,3 +44,13 @@ pub returns-in-Finish-clause-stored : goal.returns-in-Finish-clause-stored
 returns-in-Finish-clause-stored g c =
     finish_stored g.row.A.Denot g.row.N-Job.Denot (g.N.Runner.yields c.args.runner.now) g.N.Runner.may_give (g.S.BlobSource.tells c.args.sink.now) (g.S.BlobSource.tells c.finish_first.new.sink) c.args.engine.now c.finish_first.new.engine c.args.children.now.items c.finish_first.new.children.items
     g.N.Runner.yields c.finish_first.result c.finish_first.ensures.ended c.finish_first.ensures.put
+
+pub returns-in-Start-clause-stopped : goal.returns-in-Start-clause-stopped
+returns-in-Start-clause-stopped g c =
+    start_refused g.row.A.Denot g.row.N-Job.Denot g.N.Runner.may_give (g.S.BlobSource.tells c.args.sink.now) (g.S.BlobSource.tells c.begin.new.sink) c.args.engine.now c.begin.new.engine c.args.children.now.items c.begin.new.children.items
+    g.N.Runner.yields (g.N.Runner.yields c.args.runner.now) c.in-Start.step c.args.turn c.in-Start.is c.begin.result c.begin.ensures.stopped c.begin.ensures.kept
+
+pub returns-in-Finish-clause-stopped : goal.returns-in-Finish-clause-stopped
+returns-in-Finish-clause-stopped g c =
+    finish_refused g.row.A.Denot g.row.N-Job.Denot g.N.Runner.may_give (g.S.BlobSource.tells c.args.sink.now) (g.S.BlobSource.tells c.finish_first.new.sink) c.args.engine.now c.finish_first.new.engine c.args.children.now.items c.finish_first.new.children.items
+    g.N.Runner.yields (g.N.Runner.yields c.args.runner.now) c.args.turn c.finish_first.result c.finish_first.ensures.stopped c.finish_first.ensures.refused

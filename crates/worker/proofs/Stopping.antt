@@ -1,0 +1,142 @@
+-- Why a build ends at a step.
+use Rattle.std.proofs.Common.{◌≡◌, ◌<◌, ℕ, List, ◌∷◌, length, refl, sym, subst, inl, inr}
+use Rattle.std.specs.Prelude.{◌⊎◌, Result, Ok, Err, OnErr, IfErr}
+use Rattle.blob_source.specs.Source.{Blobs, Telling}
+use Rattle.runs.specs.Engine.{EngineValue}
+use Rattle.runs.specs.declared.starting.Job.{Job}
+use Rattle.worker.specs.declared.error.Refusal.{Refusal}
+use Rattle.worker.specs.declared.error.Refusal.TheVariants as refusals
+use Rattle.worker.specs.declared.runner.RunError.TheVariants as children
+use Rattle.worker.specs.declared.error.BuildError.{BuildError}
+use Rattle.worker.specs.declared.turns.Child.{Child}
+use Rattle.worker.specs.declared.turns.Turn.{Turn}
+use Rattle.worker.specs.declared.turns.Turn.TheVariants as turns
+use Rattle.worker.specs.Going.{AreJobsOf, IsJobIn, job_value, IsOwnJob, IsGoing, IsTurn, Ends, HasEndedFirst}
+use Rattle.worker.specs.Outcomes.{Yields, YieldsNoMore, HasAllRight, IsYielded}
+use Rattle.worker.specs.Stores.{IsKept}
+use Rattle.worker.specs.Stopped.{ComesTo, StopsStep, IsRefusedBuild, IsStoreFault, StopsChild, StopsCollecting, StopsEnd, StopsSettling, StopsFirst, StopsBeginning}
+use Rattle.worker.specs.Values.{ProducedValue}
+use Rattle.worker.proofs.Goes.{led_kept, led_started}
+use Rattle.worker.proofs.Keeping.{right_still}
+use Rattle.worker.proofs.Taking.{ended_goes}
+use Rattle.worker.proofs.Telling.{layout_still}
+
+module _ {A : Type 0} (y : Yields) (t : Telling) (e : EngineValue) where
+  pub store_stops : (i : ℕ) (r : Refusal A) → IsStoreFault r → StopsStep y t e i r
+  store_stops i (refusals.Engine why) h = absurd h
+  store_stops i (refusals.Layout why) h = absurd h
+  store_stops i (refusals.Run why) h = absurd h
+  store_stops i refusals.Fetch h = tt
+  store_stops i refusals.Memory h = tt
+
+  pub child_stops : (job : Job A) → IsJobIn e job → (r : Refusal A) → StopsChild t.blobs job.action.input job.command r → StopsStep y t e job.step r
+  child_stops job is (refusals.Engine why) h = absurd h
+  child_stops job is (refusals.Layout why) h = (job.id, job_value job, is.there, refl, h)
+  child_stops job is (refusals.Run children.NotAbsolute) h = (job.command, is.command, h)
+  child_stops job is (refusals.Run children.Device) h = tt
+  child_stops job is (refusals.Run (children.BadOutput p)) h = tt
+  child_stops job is (refusals.Run children.Memory) h = tt
+  child_stops job is refusals.Fetch h = tt
+  child_stops job is refusals.Memory h = tt
+
+pub collecting_stops : {A J : Type 0} (may : J → ProducedValue → Type 0) (B : Blobs) (c : Child J) (e : EngineValue) (r : Refusal A) → StopsCollecting r → StopsEnd may B c e r
+collecting_stops may B c e (refusals.Engine why) h = absurd h
+collecting_stops may B c e (refusals.Layout why) h = h
+collecting_stops may B c e (refusals.Run why) h = h
+collecting_stops may B c e refusals.Fetch h = tt
+collecting_stops may B c e refusals.Memory h = tt
+
+-- what the one yields, the other does
+stops_within : {A : Type 0} (z y : Yields) (t : Telling) (e : EngineValue) (i : ℕ) (r : Refusal A) → YieldsNoMore z y → StopsStep z t e i r → StopsStep y t e i r
+stops_within z y t e i (refusals.Engine why) within (inl fault) = inl fault
+stops_within z y t e i (refusals.Engine why) within (inr (id, j, at, step, v, came, fault)) = inr (id, j, at, step, v, by came, fault)
+  where
+    by : ComesTo z t e j v → ComesTo y t e j v
+    by (inl h) = inl (record {
+      layout = h.layout;
+      laid = h.laid;
+      command = h.command;
+      of_step = h.of_step;
+      produced = h.produced;
+      may = within h.layout h.command h.produced h.may;
+      outcome = h.outcome;
+      action = h.action;
+      blobs = h.blobs;
+    })
+    by (inr h) = inr h
+stops_within z y t e i (refusals.Layout why) within h = h
+stops_within z y t e i (refusals.Run children.NotAbsolute) within h = h
+stops_within z y t e i (refusals.Run children.Device) within h = tt
+stops_within z y t e i (refusals.Run (children.BadOutput p)) within h = tt
+stops_within z y t e i (refusals.Run children.Memory) within h = tt
+stops_within z y t e i refusals.Fetch within h = tt
+stops_within z y t e i refusals.Memory within h = tt
+
+-- ---- a turn that is refused
+
+module _ (A J : Type 0) (may : J → ProducedValue → Type 0) (t u : Telling) (now new : EngineValue) (cs ds : List (Child J)) where
+  begun_refused : (z y : Yields) (i : ℕ) (e : BuildError A) → (e.step ≡ i) × StopsBeginning z u now i e.refusal → IsKept t u → (most : ℕ) (first : EngineValue) → YieldsNoMore z y → length cs < most
+      → IsGoing A y may t most first now cs → IsRefusedBuild A y u most first e.step e.refusal
+  begun_refused z y i e (same, inl stops) k most first within room g = record {
+    at = now;
+    led = led_kept A J y may most first t u now cs k g;
+    stops = subst (λ n. StopsStep y u now n e.refusal) (sym same) (stops_within z y u now i e.refusal within stops);
+  }
+  begun_refused z y i e (same, inr (id, mid, w, stops)) k most first within room g = record {
+    at = mid;
+    led = led_started A J y may most first t u now mid cs i id k g room w;
+    stops = subst (λ n. StopsStep y u mid n e.refusal) (sym same) (stops_within z y u mid i e.refusal within stops);
+  }
+
+  pub start_refused : {T N : Type 0} (ys : N → Yields) (z : Yields) (i : ℕ) (turn : Turn) → turn ≡ turns.Start i → (r : Result T (BuildError A)) → IfErr r (λ e. (e.step ≡ i) × StopsBeginning z u now i e.refusal) → IsKept t u
+      → IfErr r (λ e. (entry : N) (most : ℕ) (first : EngineValue) → YieldsNoMore z (ys entry) → IsTurn most now cs turn → IsGoing A (ys entry) may t most first now cs → IsRefusedBuild A (ys entry) u most first e.step e.refusal)
+  start_refused ys z i turn is (Ok x) stops k = tt
+  start_refused ys z i turn is (Err e) stops k = λ entry most first within can g. begun_refused z (ys entry) i e stops k most first within (subst (IsTurn most now cs) is can).0 g
+
+  module _ (y : Yields) (most : ℕ) (first : EngineValue) (g : IsGoing A y may t most first now cs) (c : Child J) (is : cs ≡ c ∷ ds) (k : IsKept t u) where
+    jobs : AreJobsOf (IsOwnJob y may t.blobs now) now.jobs (c ∷ ds)
+    jobs = subst (AreJobsOf (IsOwnJob y may t.blobs now) now.jobs) is g.jobs
+
+    came_of : (p : ProducedValue) → may c.job p → HasAllRight u.blobs p.blobs → IsYielded y u.blobs now jobs.0 p.outcome
+    came_of p came blobs =
+        let o = jobs.2.owed in
+        record {
+          layout = o.layout;
+          laid = layout_still k.blobs o.laid;
+          command = o.command;
+          of_step = o.of_step;
+          produced = p;
+          may = o.may_come p came;
+          outcome = refl;
+          action = right_still k.blobs o.action;
+          blobs = blobs;
+        }
+
+    end_stops : (r : Refusal A) → StopsEnd may u.blobs c now r → StopsStep y u now c.step r
+    end_stops (refusals.Engine why) (p, came, blobs, fault) = inr (c.id, jobs.0, jobs.1, jobs.2.of_child.step, p.outcome, inl (came_of p came blobs), fault)
+    end_stops (refusals.Layout why) h = absurd h
+    end_stops (refusals.Run children.NotAbsolute) h = absurd h
+    end_stops (refusals.Run children.Device) h = tt
+    end_stops (refusals.Run (children.BadOutput p)) h = tt
+    end_stops (refusals.Run children.Memory) h = tt
+    end_stops refusals.Fetch h = tt
+    end_stops refusals.Memory h = tt
+
+  ended_refused : (y : Yields) (most : ℕ) (first : EngineValue) → IsGoing A y may t most first now cs → IsGoing A y may u most first new ds → (c : Child J) → cs ≡ c ∷ ds → (i : ℕ) (r : Refusal A) → i ≡ c.step → StopsSettling may t u c now r
+      → IsRefusedBuild A y u most first i r
+  ended_refused y most first g after c is i r same (inl store) = record { at = new; led = after.led; stops = store_stops y u new i r store }
+  ended_refused y most first g after c is i r same (inr (k, end)) = record {
+    at = now;
+    led = led_kept A J y may most first t u now cs k g;
+    stops = subst (λ n. StopsStep y u now n r) (sym same) (end_stops y most first g c is k r end);
+  }
+
+  first_refused : (y : Yields) (most : ℕ) (first : EngineValue) (e : BuildError A) → StopsFirst may t u cs now e.step e.refusal → HasEndedFirst (Ends may t u) now new cs ds → IsGoing A y may t most first now cs → IsRefusedBuild A y u most first e.step e.refusal
+  first_refused y most first e stops h g =
+      let s : StopsFirst may t u (h.child ∷ ds) now e.step e.refusal = subst (λ xs. StopsFirst may t u xs now e.step e.refusal) h.is stops in
+      ended_refused y most first g (ended_goes A J y may t u most first now new cs ds g h) h.child h.is e.step e.refusal s.0 s.1
+
+  pub finish_refused : {T N : Type 0} (ys : N → Yields) (z : Yields) (turn : Turn) (r : Result T (BuildError A)) → IfErr r (λ e. StopsFirst may t u cs now e.step e.refusal) → OnErr r (HasEndedFirst (Ends may t u) now new cs ds)
+      → IfErr r (λ e. (entry : N) (most : ℕ) (first : EngineValue) → YieldsNoMore z (ys entry) → IsTurn most now cs turn → IsGoing A (ys entry) may t most first now cs → IsRefusedBuild A (ys entry) u most first e.step e.refusal)
+  finish_refused ys z turn (Ok x) stops h = tt
+  finish_refused ys z turn (Err e) stops h = λ entry most first within can g. first_refused (ys entry) most first e stops h g
