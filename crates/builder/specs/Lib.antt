@@ -2,3 +2,4 @@ pub mod Built
 pub mod Faults
 pub mod Lines
 pub mod Telling
+pub mod Refused

@@ -3,13 +3,15 @@ use Rattle.std.specs.Prelude.{◌≡◌, ℕ, List, length, string_bytes}
 use Rattle.blob_digest.specs.Digest.{DigestValue}
 use Rattle.blob_source.specs.Source.{Telling}
 use Rattle.plan.specs.Record.{record_text}
-use Rattle.plan.specs.Values.{PlanValue, StepValue}
+use Rattle.plan.specs.Values.{PlanValue}
 use Rattle.worker.specs.Outcomes.{Yields}
+use Rattle.builder.specs.declared.fault.Fault.TheVariants.{Refused}
 use Rattle.builder.specs.declared.fault.Place.{Place}
 use Rattle.builder.specs.declared.telling.Told.{Told}
 use Rattle.builder.specs.declared.telling.Told.TheVariants.{Built, Failed}
 use Rattle.builder.specs.Built.{BuiltValue, IsBuilt}
 use Rattle.builder.specs.Lines.{built_text, failed_text}
+use Rattle.builder.specs.Refused.{IsBuildFault}
 
 -- the line of a build that came to its root, and its record's text
 pub record TellsBuilt (A : Type 0) (yields : Yields) (most : ℕ) (plan : PlanValue)
@@ -19,15 +21,17 @@ pub record TellsBuilt (A : Type 0) (yields : Yields) (most : ℕ) (plan : PlanVa
   pub line_is : line ≡ built_text build.root (length plan.steps)
   pub noted_is : noted ≡ record_text build.noted
 
--- the line of a refusal
-pub record TellsFailed (steps : List StepValue) (line : List ℕ) : Type 0 where
+-- the line of the refusal that ended a build
+pub record TellsFailed (A : Type 0) (yields : Yields) (most : ℕ) (plan : PlanValue)
+    (sources : DigestValue) (told : Telling) (line : List ℕ) : Type 0 where
   pub place : Place
   pub number : ℕ
-  pub line_is : line ≡ failed_text steps place number
+  pub stands : IsBuildFault A yields most plan sources told (Refused place number)
+  pub line_is : line ≡ failed_text plan.steps place number
 
 abbrev pub IsBuildTold : {A : Type 0} → Yields → ℕ → PlanValue → DigestValue → Telling → Told A
     → Type 0
 IsBuildTold {A} yields most plan sources told (Built line noted) =
     TellsBuilt A yields most plan sources told (string_bytes line) noted.items
 IsBuildTold {A} yields most plan sources told (Failed line) =
-    TellsFailed plan.steps (string_bytes line)
+    TellsFailed A yields most plan sources told (string_bytes line)

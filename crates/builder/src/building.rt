@@ -1,7 +1,9 @@
-ghost use Rattle.std.specs.Prelude.{◌≡◌, ◌<◌, [], IfOk, OnOk};
+ghost use Rattle.std.specs.Prelude.{◌≡◌, ◌⊎◌, ◌<◌, [], IfErr, IfOk, OnOk};
 ghost use Rattle.blob_source.specs.Sink.{KeepsRight};
 ghost use Rattle.blob_source.specs.Source.{AsksSome};
 ghost use Rattle.builder.specs.Built.{IsBuilt, IsEnd};
+ghost use Rattle.builder.specs.Refused.{FailsOpening, RefusesStep, RefusesRoot, IsBuildFault};
+ghost use Rattle.builder.specs.declared.fault.Fault.TheVariants as faults;
 ghost use Rattle.runs.specs.Calls.{HaveAllFinished, IsOpened};
 ghost use Rattle.worker.specs.Calls.{IsLed, running};
 ghost use Rattle.worker.specs.Stored.{HasNoneFinished, IsStored};
@@ -40,6 +42,7 @@ fn open<A: Allocator + Copy, S: BlobSink<A>>(
     sink: &mut S,
 ) -> Result<Engine<A>, Fault>
     ensures opened { IfOk result (IsOpened (S.tells sink.new).blobs plan sources) }
+    ensures refused { IfErr result (FailsOpening A plan (S.tells sink.new)) }
     ensures asked { AsksSome (S.tells sink.old) (S.tells sink.new) }
 {
     match Engine::new(alloc, plan, sources, sink) {
@@ -60,6 +63,8 @@ fn run<A: Allocator + Copy, S: BlobSink<A>, N: Runner<A>>(
     requires idle { running engine.old.jobs ≡ 0 }
     ensures led { IsLed A (N.yields runner.old) (S.tells sink.new) jobs engine.old engine.new }
     ensures done { OnOk result (HaveAllFinished engine.new) }
+    ensures refused { IfErr result
+        (RefusesStep A (N.yields runner.old) jobs engine.old (S.tells sink.new)) }
     ensures stored { OnOk result
         (HasNoneFinished engine.old → IsStored (S.tells sink.new) engine.new) }
     ensures alive { N.alive runner.new ≡ N.alive runner.old }
@@ -78,6 +83,8 @@ fn end<A: Allocator + Copy, S: BlobSink<A>>(
     sink: &mut S,
 ) -> Result<Built<A>, Fault>
     ensures ended { IfOk result (IsEnd A engine.now (S.tells sink.new)) }
+    ensures refused { IfErr result (λ fault. (fault ≡ faults.Memory)
+        ⊎ RefusesRoot A engine.now (S.tells sink.new) fault) }
     ensures asked { AsksSome (S.tells sink.old) (S.tells sink.new) }
 {
     let mut memo = Memo::new(alloc);
@@ -109,6 +116,9 @@ pub fn build_plan<A: Allocator + Copy, S: BlobSink<A>, N: Runner<A>>(
     // on them is yes.
     ensures built { IfOk result
         (IsBuilt A (N.yields runner.old) jobs plan sources (S.tells sink.new)) }
+    // The fault is that of the plan, of a step or of the root, where that is refused.
+    ensures refused { IfErr result
+        (IsBuildFault A (N.yields runner.old) jobs plan sources (S.tells sink.new)) }
     // Each child that was started was waited for.
     ensures alive { N.alive runner.new ≡ N.alive runner.old }
     ensures right { KeepsRight (S.tells sink.old).blobs (S.tells sink.new).blobs }

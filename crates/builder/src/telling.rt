@@ -1,6 +1,7 @@
 ghost use Rattle.std.specs.Prelude.{◌≡◌, ◌<◌, IfErr, IfOk};
 ghost use Rattle.blob_source.specs.Sink.{KeepsRight};
 ghost use Rattle.builder.specs.Faults.{HasNoNumber};
+ghost use Rattle.builder.specs.Refused.{IsBuildFault};
 ghost use Rattle.builder.specs.Telling.{IsBuildTold};
 
 use crate::building::build_plan;
@@ -50,11 +51,13 @@ pub fn tell_build<A: Allocator + Copy, S: BlobSink<A>, N: Runner<A>>(
     jobs: usize,
 ) -> Result<Told<A>, Fault>
     requires some { 0 < jobs }
-    // The line and the record are those of such a build, or the line tells a refusal's number.
+    // The line and the record are those of such a build, or the line tells its refusal.
     ensures told { IfOk result
         (IsBuildTold (N.yields runner.old) jobs plan.now sources.now (S.tells sink.new)) }
     // It fails where the store or the runner does, or memory runs out.
     ensures failed { IfErr result HasNoNumber }
+    ensures refused { IfErr result
+        (IsBuildFault A (N.yields runner.old) jobs plan.now sources.now (S.tells sink.new)) }
     // Each child that was started was waited for.
     ensures alive { N.alive runner.new ≡ N.alive runner.old }
     ensures right { KeepsRight (S.tells sink.old).blobs (S.tells sink.new).blobs }

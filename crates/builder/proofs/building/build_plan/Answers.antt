@@ -1,5 +1,6 @@
-use Rattle.std.proofs.Common.{◌∙◌}
-use Rattle.std.proofs.lemmas.Result.{IfOk-weaker}
+use Rattle.std.proofs.Common.{◌∙◌, inl, inr}
+use Rattle.std.proofs.lemmas.Result.{IfErr-weaker, IfOk-weaker, err_from_is_err_and}
+use Rattle.builder.proofs.Refusing.{root_refused}
 use Rattle.blob_source.proofs.Puts.{right_grows, right_then}
 use Rattle.worker.specs.Stored.{IsStored}
 use Rattle.worker.proofs.Storing.{stored_grown}
@@ -43,3 +44,33 @@ returns-clause-built g c =
       end = h;
       answered = answered g.row.A.Denot (g.N.Runner.yields c.args.runner.now) c.args.jobs c.args.plan c.args.sources opening ending told c.in_ok-engine.engine c.run.new.engine built opened c.run.ensures.right c.run.ensures.led (right_grows asks.blobs) c.plan.ensures.lawful stored h;
     }) c.end.ensures.ended
+
+pub returns-in_err-engine-clause-refused : goal.returns-in_err-engine-clause-refused
+returns-in_err-engine-clause-refused g c =
+    let p = err_from_is_err_and c.from_residual.result c.from_residual.ensures.1 in
+    rw (p.1, p.2) (inr (inl c.in_err-engine.ensures.refused))
+
+pub returns-in_err-run-clause-refused : goal.returns-in_err-run-clause-refused
+returns-in_err-run-clause-refused g c =
+    let p = err_from_is_err_and c.from_residual-in_err-run.result c.from_residual-in_err-run.ensures.1 in
+    rw (p.1, p.2) (inr (inr (inl (record {
+      opening = g.S.BlobSource.tells c.open.new.sink;
+      first = c.in_ok-engine.engine;
+      opened = c.in_ok-engine.ensures.opened;
+      still = c.run.ensures.right;
+      stands = c.in_err-run.ensures.refused;
+    }))))
+
+pub returns-clause-refused : goal.returns-clause-refused
+returns-clause-refused g c = IfErr-weaker c.end.result _ _
+    (λ fault h. root_refused c.run.new.engine fault h (λ root. record {
+      opening = g.S.BlobSource.tells c.open.new.sink;
+      first = c.in_ok-engine.engine;
+      opened = c.in_ok-engine.ensures.opened;
+      ending = g.S.BlobSource.tells c.run.new.sink;
+      still = c.run.ensures.right;
+      last = c.run.new.engine;
+      led = c.run.ensures.led;
+      asked = c.end.ensures.asked;
+      stands = root;
+    })) c.end.ensures.refused
