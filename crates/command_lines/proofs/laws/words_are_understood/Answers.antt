@@ -1,5 +1,6 @@
 use Rattle.std.proofs.Common.{refl, inl, inr}
 use Rattle.clap.proofs.OnLiterals.{clap_on_literals}
+use Rattle.command_lines.proofs.Commands.{build_understood, get_understood, put_understood, serve_understood, verify_understood}
 use Rattle.command_lines.proofs.laws.words_are_understood.Goals as goal
 
 pub returns : goal.returns
@@ -16,4 +17,9 @@ returns c = record {
   help = inl (inl refl);
   command_help = inl (inl refl);
   version = inr (inl refl);
+  verify = verify_understood;
+  serve = serve_understood;
+  put = put_understood;
+  get = get_understood;
+  build = build_understood;
 }
