@@ -1,5 +1,5 @@
 -- What a command can take is understood.
-use Rattle.std.proofs.Common.{◌≡◌, ◌∙◌, ◌<◌, ◌&&◌, ◌||◌, ℕ, Bool, true, false, not, zero, suc, refl, sym, ap, subst, arith, cond, List, [], ◌∷◌, ◌++◌, map, length, Option, Some, None, true≢false}
+use Rattle.std.proofs.Common.{◌≡◌, ◌∙◌, ◌<◌, ◌&&◌, ℕ, Bool, true, false, not, zero, suc, refl, sym, ap, subst, arith, cond, List, [], ◌∷◌, ◌++◌, map, length, Some, true≢false}
 use Rattle.std.specs.Prelude.{⊤, bytes_eq, option_and_then, option_map, slice_get}
 use Rattle.std.specs.List.{AllByRecursion, Contains, IsDistinct, find, list_any, slice_index_or}
 use Rattle.std.specs.Option.{option_map_or}
@@ -7,12 +7,12 @@ use Rattle.std.proofs.lemmas.List.Folds.{list_any-append}
 use Rattle.std.proofs.lemmas.Map.Keys.{IsDistinct-head, IsDistinct-tail}
 use Rattle.std.proofs.lemmas.Slice.Eq.{bytes_eq-Decides}
 use Rattle.clap.specs.Facts.{explicit_source}
-use Rattle.clap.specs.Walk.{Row, has_row, nothing_held, walk}
-use Rattle.clap.specs.Simple.{App, Shape, built, names_of}
+use Rattle.clap.specs.Walk.{Row, has_row, nothing_held}
+use Rattle.clap.specs.Simple.{App, Shape, built}
 use Rattle.clap.specs.Takes.{is_given}
-use Rattle.clap.specs.Words.{Text, fault_of, first_of, subcommand_of}
-use Rattle.command_lines.specs.CommandLine.{options_of, program_line}
-use Rattle.command_lines.specs.Given.{AsksFor, CanTake, Given, HasPlaceFor, IsUnderstood, Manner, by_itself, can_be_text, given_text, in_one_word, in_two_words, names_of_options, names_of_words, needed_names, typed}
+use Rattle.clap.specs.Words.{Text, first_of, subcommand_of}
+use Rattle.command_lines.specs.CommandLine.{program_line}
+use Rattle.command_lines.specs.Given.{CanTake, Given, HasPlaceFor, IsUnderstood, Manner, by_itself, given_text, in_one_word, in_two_words, names_of_options, names_of_words, needed_names, typed}
 use Rattle.command_lines.proofs.Walking.{Arrives, CallsBuilt, IsPlainLevel, HasItsPlace, KnowsOption, KnowsWord, AreInTurn, arrives, at, call_faultless, enters, lacks_one, level_faultless, level_rows, place_after, row_given, word_rule}
 
 -- ---- what is given, by its rows
@@ -101,10 +101,12 @@ module _ (line : App) (s : Shape) (knows : Knows line s) where
   runs : (given : List Given) (rows : List Row) (p : ℕ) → AllByRecursion (λ g. HasPlaceFor line g.manner g.name g.text) given
       → IsDistinct bytes_eq (map (λ g. g.name) given) → AllByRecursion (IsStillToCome rows p) given → AreInTurn s p rows given
   runs [] rows p known once new = tt
-  runs (g ∷ rest) rows p known once new =
-      (ready g.manner g.name g.text p known.0 new.0.1, new.0.0,
-      runs rest (rows ++ row_given g ∷ []) (place_after g.manner p) known.1 (IsDistinct-tail bytes_eq g.name (map (λ k. k.name) rest) once)
-      (still_new g rows p rest known.0 known.1 (IsDistinct-head bytes_eq g.name (map (λ k. k.name) rest) once) new.1))
+  runs (g ∷ rest) rows p known once new = (
+    ready g.manner g.name g.text p known.0 new.0.1,
+    new.0.0,
+    runs rest (rows ++ row_given g ∷ []) (place_after g.manner p) known.1 (IsDistinct-tail bytes_eq g.name (map (λ k. k.name) rest) once)
+        (still_new g rows p rest known.0 known.1 (IsDistinct-head bytes_eq g.name (map (λ k. k.name) rest) once) new.1),
+  )
 
   first_place : (m : Manner) → IsInPlace m 1
   first_place in_two_words = tt

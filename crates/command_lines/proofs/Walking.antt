@@ -1,25 +1,22 @@
 -- How clap's walk goes over the words of what is given to a command.
-use Rattle.std.proofs.Common.{◌≡◌, ◌∙◌, ◌<◌, ◌+◌, ◌&&◌, ◌||◌, ◌==◌, ℕ, Bool, cond, true, false, not, zero, suc, refl, sym, ap, ap₂, subst, arith, codes, List, [], ◌∷◌, ◌++◌, map, Option, Some, None, is_some, append-nil, append_assoc, true≢false}
-use Rattle.std.specs.Prelude.{⊤, slice_get, option_and_then, option_map}
+use Rattle.std.proofs.Common.{◌≡◌, ◌∙◌, ◌&&◌, ◌||◌, ◌==◌, ℕ, Bool, cond, true, false, not, refl, sym, ap, subst, codes, List, [], ◌∷◌, ◌++◌, map, Some, None, append-nil, append_assoc, true≢false}
+use Rattle.std.specs.Prelude.{⊤, option_and_then}
 use Rattle.std.specs.List.{find, fold, list_all, list_any}
 use Rattle.std.specs.Str.{bytes_eq}
 use Rattle.std.proofs.lemmas.Slice.Eq.{bytes_eq-Decides}
 use Rattle.clap.specs.Lexer.{long_of, long_of_rest, short_of, short_of_rest, strip_byte}
-use Rattle.clap.specs.Facts.{explicit_source}
 use Rattle.clap.specs.Values.{reading_of}
-use Rattle.clap.specs.Walk.{Held, Names, Row, Rule, Text, Waiting, Walk, arg_by_id, arg_by_index, arg_by_long, at_row, finished, has_row, idle, is_pending, more_values, nothing_held, pushed, option, settled, settled_rows, used, walk, walk_from, walked, with_default, answers_to, stop_after}
+use Rattle.clap.specs.Walk.{Held, Row, Rule, Text, Walk, arg_by_id, arg_by_index, arg_by_long, at_row, finished, has_row, idle, is_pending, more_values, nothing_held, pushed, option, settled, used, walk, walk_from, walked, with_default, answers_to, stop_after}
 use Rattle.clap.specs.Simple.{App, Shape, entered, filled, label_of, names_of, new_rule, rows_at, with_index}
 use Rattle.clap.proofs.WalkLemmas.{both, walk_stopped}
 use Rattle.clap.proofs.FaultLemmas.{stopped_fault}
 use Rattle.clap.specs.Takes.{is_given}
-use Rattle.clap.specs.Kinds.{Kinds, or_else}
-use Rattle.clap.specs.Faults.{built_fault, check_fault, default_fault, defaults_fault, entered_fault, level_fault, settle_fault, turn_fault, use_fault, walk_fault}
+use Rattle.clap.specs.Faults.{built_fault, check_fault, default_fault, defaults_fault, level_fault, settle_fault, turn_fault, walk_fault}
 use Rattle.clap.specs.declared.builder.action.ArgAction.TheVariants.{Set}
 use Rattle.clap.specs.declared.builder.value_parser.ValueParser.TheVariants as vp
 use Rattle.clap.specs.declared.parser.matches.ValueSource.TheVariants.{CommandLine}
-use Rattle.clap.specs.Words.{first_of}
 use Rattle.command_lines.specs.CommandLine.{required_word}
-use Rattle.command_lines.specs.Given.{Given, Manner, by_itself, can_be_text, given_text, in_one_word, in_two_words, typed, typed_as}
+use Rattle.command_lines.specs.Given.{Given, Manner, by_itself, can_be_text, in_one_word, in_two_words, typed, typed_as}
 
 -- ---- a word that can be a text
 

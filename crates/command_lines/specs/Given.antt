@@ -1,8 +1,7 @@
 -- What is given to a command, and the words that are typed for it.
-use Rattle.std.specs.Prelude.{◌≡◌, ◌==◌, ◌||◌, Bool, true, not, List, [], ◌∷◌, ◌++◌, map, Option}
+use Rattle.std.specs.Prelude.{◌≡◌, ◌==◌, Bool, true, not, List, [], ◌∷◌, ◌++◌, map, Option}
 use Rattle.std.specs.Prelude.{codes, bytes_eq, find, is_some, option_map}
 use Rattle.std.specs.List.{AllByRecursion, Contains, IsDistinct, filter, flat_map}
-use Rattle.clap.specs.Walk.{is_empty}
 use Rattle.clap.specs.Words.{App, Text, first_of}
 use Rattle.command_lines.specs.CommandLine.{CallsCommand, options_of}
 
@@ -77,3 +76,15 @@ pub record AsksFor (words : List Text) (line : App) (given : List Given) : Type 
 abbrev pub IsUnderstood : App → Type 0
 IsUnderstood line =
     (given : List Given) → CanTake line given → AsksFor (line.top.name ∷ typed given) line given
+
+-- ---- an example
+
+-- `verify`, with each text in the word after its option
+abbrev pub verify_in_two : Text → Text → Text → Text → Text → List Text
+verify_in_two store sources plan noted claim =
+    codes "verify" ∷ codes "--store" ∷ store ∷ codes "--sources" ∷ sources ∷ codes "--plan" ∷ plan ∷
+    codes "--record" ∷ noted ∷ codes "--claim" ∷ claim ∷ []
+
+-- each of them can be a word of its own
+abbrev pub CanBeTexts : List Text → Type 0
+CanBeTexts texts = AllByRecursion (λ text. can_be_text text ≡ true) texts

@@ -3,7 +3,7 @@ ghost use Rattle.clap.specs.Words.{Text};
 ghost use Rattle.command_lines.specs.CommandLine.{AsksForHelp, AsksVerify, verify_words};
 ghost use Rattle.command_lines.specs.CommandLine.{verify_line, serve_line, put_line, get_line};
 ghost use Rattle.command_lines.specs.CommandLine.{build_line};
-ghost use Rattle.command_lines.specs.Given.{IsUnderstood};
+ghost use Rattle.command_lines.specs.Given.{CanBeTexts, IsUnderstood, verify_in_two};
 
 /// What words ask for: `verify` with a text for each option, help, and the version; and each
 /// command with whatever it can take, in whatever order, as people type it. A law: it does nothing.
@@ -21,4 +21,8 @@ pub fn words_are_understood()
     ensures put { IsUnderstood put_line }
     ensures get { IsUnderstood get_line }
     ensures build { IsUnderstood build_line }
+    // So `verify` with each text in a word of its own, for one.
+    ensures two_words { (store sources plan noted claim : Text)
+        → CanBeTexts (store ∷ sources ∷ plan ∷ noted ∷ claim ∷ [])
+        → AsksVerify (verify_in_two store sources plan noted claim) store sources plan noted claim }
 {}

@@ -1,6 +1,6 @@
 use Rattle.std.proofs.Common.{refl, inl, inr}
 use Rattle.clap.proofs.OnLiterals.{clap_on_literals}
-use Rattle.command_lines.proofs.Commands.{build_understood, get_understood, put_understood, serve_understood, verify_understood}
+use Rattle.command_lines.proofs.Commands.{build_understood, get_understood, put_understood, serve_understood, verify_in_two_understood, verify_understood}
 use Rattle.command_lines.proofs.laws.words_are_understood.Goals as goal
 
 pub returns : goal.returns
@@ -22,4 +22,5 @@ returns c = record {
   put = put_understood;
   get = get_understood;
   build = build_understood;
+  two_words = verify_in_two_understood;
 }
