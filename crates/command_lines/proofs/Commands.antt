@@ -8,10 +8,10 @@ use Rattle.std.specs.Str.{bytes_eq}
 use Rattle.clap.specs.Walk.{answers_to, arg_by_id, arg_by_long}
 use Rattle.clap.specs.Simple.{App, Shape, built, label_of}
 use Rattle.command_lines.specs.CommandLine.{AsksVerify, build_line, get_line, program_line, put_line, serve_line, verify_line, option_text, options_of}
-use Rattle.command_lines.specs.Given.{CanBeTexts, CanTake, Given, IsUnderstood, given_text, in_two_words, verify_in_two}
+use Rattle.command_lines.specs.Given.{CanBeTexts, CanTake, Given, MissesNeeded, IsUnderstood, given_text, in_two_words, verify_in_two}
 use Rattle.clap.specs.Words.{Text}
 use Rattle.command_lines.proofs.Walking.{CallsBuilt, IsPlainLevel, KnowsOption, option_rule}
-use Rattle.command_lines.proofs.Understood.{Knows, understood}
+use Rattle.command_lines.proofs.Understood.{Knows, missed, understood}
 
 -- the command as the program's building leaves it
 abbrev pub built_in_program : App → Shape
@@ -75,6 +75,9 @@ verify_plain = record { no_help_wanted = refl; no_command_wanted = refl; no_defa
 pub verify_understood : IsUnderstood verify_line
 verify_understood = understood verify_line (built_in_program verify_line) verify_knows verify_plain verify_calls refl
 
+pub verify_missed : MissesNeeded verify_line
+verify_missed = missed verify_line (built_in_program verify_line) verify_knows verify_plain verify_calls
+
 -- ---- serve
 
 serve_knows : Knows serve_line (built_in_program serve_line)
@@ -112,6 +115,9 @@ serve_plain = record { no_help_wanted = refl; no_command_wanted = refl; no_defau
 pub serve_understood : IsUnderstood serve_line
 serve_understood = understood serve_line (built_in_program serve_line) serve_knows serve_plain serve_calls refl
 
+pub serve_missed : MissesNeeded serve_line
+serve_missed = missed serve_line (built_in_program serve_line) serve_knows serve_plain serve_calls
+
 -- ---- put
 
 put_knows : Knows put_line (built_in_program put_line)
@@ -140,6 +146,9 @@ put_plain = record { no_help_wanted = refl; no_command_wanted = refl; no_default
 pub put_understood : IsUnderstood put_line
 put_understood = understood put_line (built_in_program put_line) put_knows put_plain put_calls refl
 
+pub put_missed : MissesNeeded put_line
+put_missed = missed put_line (built_in_program put_line) put_knows put_plain put_calls
+
 -- ---- get
 
 get_knows : Knows get_line (built_in_program get_line)
@@ -167,6 +176,9 @@ get_plain = record { no_help_wanted = refl; no_command_wanted = refl; no_default
 
 pub get_understood : IsUnderstood get_line
 get_understood = understood get_line (built_in_program get_line) get_knows get_plain get_calls refl
+
+pub get_missed : MissesNeeded get_line
+get_missed = missed get_line (built_in_program get_line) get_knows get_plain get_calls
 
 -- ---- build
 
@@ -211,6 +223,9 @@ build_plain = record { no_help_wanted = refl; no_command_wanted = refl; no_defau
 pub build_understood : IsUnderstood build_line
 build_understood = understood build_line (built_in_program build_line) build_knows build_plain build_calls refl
 
+pub build_missed : MissesNeeded build_line
+build_missed = missed build_line (built_in_program build_line) build_knows build_plain build_calls
+
 -- ---- an example
 
 in_two : Text → Text → Given
@@ -222,20 +237,22 @@ unfolding in_two IsDistinct
 verify_in_two_understood store sources plan noted claim texts =
     let given = in_two (codes "store") store ∷ in_two (codes "sources") sources ∷ in_two (codes "plan") plan ∷ in_two (codes "record") noted ∷ in_two (codes "claim") claim ∷ [] in
     let takes : CanTake verify_line given = record {
-      known = (
-        ((1, omega arith, refl), texts.0),
-        (
-          ((4, omega arith, refl), texts.1.0),
+      places = record {
+        known = (
+          ((1, omega arith, refl), texts.0),
           (
-            ((5, omega arith, refl), texts.1.1.0),
+            ((4, omega arith, refl), texts.1.0),
             (
-              ((6, omega arith, refl), texts.1.1.1.0),
-              (((7, omega arith, refl), texts.1.1.1.1.0), tt),
+              ((5, omega arith, refl), texts.1.1.0),
+              (
+                ((6, omega arith, refl), texts.1.1.1.0),
+                (((7, omega arith, refl), texts.1.1.1.1.0), tt),
+              ),
             ),
           ),
-        ),
-      );
-      once = ((refl, (refl, (refl, (refl, tt)))), ((refl, (refl, (refl, tt))), ((refl, (refl, tt)), ((refl, tt), (tt, tt)))));
+        );
+        once = ((refl, (refl, (refl, (refl, tt)))), ((refl, (refl, (refl, tt))), ((refl, (refl, tt)), ((refl, tt), (tt, tt)))));
+      };
       whole = ((1, omega arith, refl), ((2, omega arith, refl), ((3, omega arith, refl), ((4, omega arith, refl), tt))));
     } in
     let asks = verify_understood given takes in

@@ -1,5 +1,5 @@
 -- What a command can take is understood.
-use Rattle.std.proofs.Common.{◌≡◌, ◌∙◌, ◌<◌, ◌&&◌, ℕ, Bool, true, false, not, zero, suc, refl, sym, ap, subst, arith, cond, List, [], ◌∷◌, ◌++◌, map, length, Some, true≢false}
+use Rattle.std.proofs.Common.{◌≡◌, ◌∙◌, ◌<◌, ◌&&◌, ◌||◌, ℕ, Bool, true, false, not, zero, suc, refl, sym, ap, subst, arith, cond, List, [], ◌∷◌, ◌++◌, map, length, Some, None, is_some, true≢false}
 use Rattle.std.specs.Prelude.{⊤, bytes_eq, option_and_then, option_map, slice_get}
 use Rattle.std.specs.List.{AllByRecursion, Contains, IsDistinct, find, list_any, slice_index_or}
 use Rattle.std.specs.Option.{option_map_or}
@@ -10,10 +10,10 @@ use Rattle.clap.specs.Facts.{explicit_source}
 use Rattle.clap.specs.Walk.{Row, has_row, nothing_held}
 use Rattle.clap.specs.Simple.{App, Shape, built}
 use Rattle.clap.specs.Takes.{is_given}
-use Rattle.clap.specs.Words.{Text, first_of, subcommand_of}
+use Rattle.clap.specs.Words.{Text, fault_of, first_of, subcommand_of}
 use Rattle.command_lines.specs.CommandLine.{program_line}
-use Rattle.command_lines.specs.Given.{CanTake, Given, HasPlaceFor, IsUnderstood, Manner, by_itself, given_text, in_one_word, in_two_words, names_of_options, names_of_words, needed_names, typed}
-use Rattle.command_lines.proofs.Walking.{Arrives, CallsBuilt, IsPlainLevel, HasItsPlace, KnowsOption, KnowsWord, AreInTurn, arrives, at, call_faultless, enters, lacks_one, level_faultless, level_rows, place_after, row_given, word_rule}
+use Rattle.command_lines.specs.Given.{Given, HasPlaceFor, HasPlaces, MissesNeeded, IsUnderstood, Manner, by_itself, given_text, in_one_word, in_two_words, names_of_options, names_of_words, needed_names, typed}
+use Rattle.command_lines.proofs.Walking.{Arrives, CallsBuilt, IsPlainLevel, HasItsPlace, KnowsOption, KnowsWord, AreInTurn, arrives, at, call_fault_is, enters, lacks_one, level_fault_is, missing_fault, level_rows, place_after, row_given, word_rule}
 
 -- ---- what is given, by its rows
 
@@ -42,6 +42,26 @@ all_given : (given : List Given) (names : List Text) → AllByRecursion (Contain
     → list_any (λ n. not (is_given n (map row_given given))) names ≡ false
 all_given given [] there = refl
 all_given given (n ∷ rest) there = rw (given_at n given there.0.0 there.0.1 there.0.2) (all_given given rest there.1)
+
+not_given : (name : Text) (given : List Given) → given_text name given ≡ None → is_given name (map row_given given) ≡ false
+not_given name [] none = refl
+not_given name (g ∷ rest) none = go (bytes_eq g.name name) none (not_given name rest)
+  where
+    go : (b : Bool) → option_map (λ (k : Given). k.text) (cond b (Some g) (find (λ k. bytes_eq k.name name) rest)) ≡ None
+        → (given_text name rest ≡ None → is_given name (map row_given rest) ≡ false)
+        → option_map_or (λ (r : Row). explicit_source r.source) (cond b (Some (row_given g)) (find (λ r. bytes_eq r.id name) (map row_given rest))) false ≡ false
+    go true e later = absurd (true≢false (ap is_some e))
+    go false e later = later e
+
+one_lacks : (given : List Given) (name : Text) (names : List Text) → is_given name (map row_given given) ≡ false → (k : ℕ) → k < length names → slice_index_or names k name ≡ name
+    → list_any (λ n. not (is_given n (map row_given given))) names ≡ true
+one_lacks given name [] none k lt is = absurd (omega arith)
+one_lacks given name (n ∷ rest) none zero lt is = rw (is, none)
+one_lacks given name (n ∷ rest) none (suc k) lt is = go (not (is_given n (map row_given given))) (one_lacks given name rest none k (omega arith) is)
+  where
+    go : (b : Bool) {c : Bool} → c ≡ true → (b || c) ≡ true
+    go true e = refl
+    go false e = e
 
 -- ---- each has its place
 
@@ -117,23 +137,31 @@ module _ (line : App) (s : Shape) (knows : Knows line s) where
   all_new [] = tt
   all_new (g ∷ rest) = ((refl, first_place g.manner), all_new rest)
 
-  came : (given : List Given) → CanTake line given → Arrives s (at nothing_held 1) (typed given) (map row_given given)
-  came given takes = arrives s given nothing_held 1 [] (record { rows_are = refl; faultless = refl }) (runs given [] 1 takes.known takes.once (all_new given))
+  came : (given : List Given) → HasPlaces line given → Arrives s (at nothing_held 1) (typed given) (map row_given given)
+  came given places = arrives s given nothing_held 1 [] (record { rows_are = refl; faultless = refl }) (runs given [] 1 places.known places.once (all_new given))
 
-  whole : (given : List Given) → CanTake line given → lacks_one s (map row_given given) ≡ false
-  whole given takes = knows.needs (λ n. is_given n (map row_given given)) ∙ all_given given (needed_names line) takes.whole
+  lacks : (given : List Given) → lacks_one s (map row_given given) ≡ list_any (λ n. not (is_given n (map row_given given))) (needed_names line)
+  lacks given = knows.needs (λ n. is_given n (map row_given given))
 
-  pub understood : IsPlainLevel s → CallsBuilt (built program_line) line.top.name s → s.name ≡ line.top.name → IsUnderstood line
-  understood plain calls named given takes =
-      let words = typed given in
-      let end = came given takes in
-      let below = level_faultless s plain words (map row_given given) end (whole given takes) in
-      let met : subcommand_of program_line (line.top.name ∷ words) ≡ Some (s.name, map row_given given) =
-      enters (built program_line) line.top.name s calls words ∙ ap (λ rows. Some (s.name, rows)) (level_rows s plain words (map row_given given) end) in
-      record {
-        called = record {
-          faultless = call_faultless (built program_line) line.top.name s calls words below;
-          command_is = ap (option_map (λ p. p.0)) met ∙ ap Some named;
-        };
-        texts_are = λ name. ap (λ o. first_of name (option_map_or (λ p. p.1) o [])) met ∙ first_of_given name given;
-      }
+  module _ (plain : IsPlainLevel s) (calls : CallsBuilt (built program_line) line.top.name s) where
+    fault_is : (given : List Given) → HasPlaces line given → (b : Bool) → lacks_one s (map row_given given) ≡ b
+        → fault_of program_line (line.top.name ∷ typed given) ≡ missing_fault b
+    fault_is given places b is =
+        call_fault_is (built program_line) line.top.name s calls (typed given) ∙ level_fault_is s plain (typed given) (map row_given given) (came given places) b is
+
+    pub missed : MissesNeeded line
+    missed given name places needed none =
+        fault_is given places true (lacks given ∙ one_lacks given name (needed_names line) (not_given name given none) needed.0 needed.1 needed.2)
+
+    pub understood : s.name ≡ line.top.name → IsUnderstood line
+    understood named given takes =
+        let words = typed given in
+        let met : subcommand_of program_line (line.top.name ∷ words) ≡ Some (s.name, map row_given given) =
+        enters (built program_line) line.top.name s calls words ∙ ap (λ rows. Some (s.name, rows)) (level_rows s plain words (map row_given given) (came given takes.places)) in
+        record {
+          called = record {
+            faultless = fault_is given takes.places false (lacks given ∙ all_given given (needed_names line) takes.whole);
+            command_is = ap (option_map (λ p. p.0)) met ∙ ap Some named;
+          };
+          texts_are = λ name. ap (λ o. first_of name (option_map_or (λ p. p.1) o [])) met ∙ first_of_given name given;
+        }

@@ -11,7 +11,9 @@ use Rattle.clap.specs.Simple.{App, Shape, entered, filled, label_of, names_of, n
 use Rattle.clap.proofs.WalkLemmas.{both, walk_stopped}
 use Rattle.clap.proofs.FaultLemmas.{stopped_fault}
 use Rattle.clap.specs.Takes.{is_given}
+use Rattle.clap.specs.Kinds.{Kinds, or_else}
 use Rattle.clap.specs.Faults.{built_fault, check_fault, default_fault, defaults_fault, level_fault, settle_fault, turn_fault, walk_fault}
+use Rattle.clap.specs.declared.error.kind.ErrorKind.TheVariants.{MissingRequiredArgument}
 use Rattle.clap.specs.declared.builder.action.ArgAction.TheVariants.{Set}
 use Rattle.clap.specs.declared.builder.value_parser.ValueParser.TheVariants as vp
 use Rattle.clap.specs.declared.parser.matches.ValueSource.TheVariants.{CommandLine}
@@ -298,13 +300,25 @@ defaults_fine (a ∷ rest) rows none =
 abbrev pub lacks_one : Shape → List Row → Bool
 lacks_one s rows = list_any (λ a. a.required && not (is_given a.id rows)) s.rules
 
+-- the last check's fault, by whether one is lacking
+abbrev pub missing_fault : Bool → Kinds
+missing_fault lacks = cond lacks (MissingRequiredArgument ∷ []) []
+
+not_and_none : (b x : Bool) → (not (b && false) && x) ≡ x
+not_and_none true x = refl
+not_and_none false x = refl
+
+nothing_else : (kinds : Kinds) → or_else kinds [] ≡ kinds
+nothing_else [] = refl
+nothing_else (k ∷ ks) = refl
+
 module _ (s : Shape) (plain : IsPlainLevel s) (words : List Text) (rows : List Row) (came : Arrives s (at nothing_held 1) words rows) where
   pub level_rows : (finished s.rules (walk s.rules [] nothing_held words).held) ≡ rows
   level_rows = rw (came.walks, came.rests.rows_are) (defaults_none s.rules rows plain.no_defaults)
 
-  pub level_faultless : lacks_one s rows ≡ false → level_fault s [] nothing_held words false [] ≡ []
-  level_faultless whole =
-      let checked : check_fault s rows false ≡ [] = rw (plain.no_help_wanted, plain.no_command_wanted, whole, and_none (not (s.subcommand_negates_reqs && false))) in
+  pub level_fault_is : (lacks : Bool) → lacks_one s rows ≡ lacks → level_fault s [] nothing_held words false [] ≡ missing_fault lacks
+  level_fault_is lacks is =
+      let checked : check_fault s rows false ≡ missing_fault lacks = rw (plain.no_help_wanted, plain.no_command_wanted, is) (ap missing_fault (not_and_none s.subcommand_negates_reqs lacks)) in
       rw (came.faultless, came.walks, came.rests.faultless, came.rests.rows_are, defaults_fine s.rules rows plain.no_defaults, defaults_none s.rules rows plain.no_defaults) checked
 
 -- ---- the program
@@ -328,5 +342,6 @@ module _ (a : App) (name : Text) (s : Shape) (calls : CallsBuilt a name s) (word
   unfolding walk_fault
   walk_fine = rw (calls.faultless, calls.next) (stopped_fault a.top (names_of a) (walk_from nothing_held) (name, []) words)
 
-  pub call_faultless : level_fault s [] nothing_held words false [] ≡ [] → built_fault a nothing_held (name ∷ words) ≡ []
-  call_faultless below = rw (walk_fine, stops, calls.found, below, defaults_fine a.top.rules [] calls.no_defaults, defaults_none a.top.rules [] calls.no_defaults) calls.checked
+  pub call_fault_is : built_fault a nothing_held (name ∷ words) ≡ level_fault s [] nothing_held words false []
+  call_fault_is =
+      rw (walk_fine, stops, calls.found, defaults_fine a.top.rules [] calls.no_defaults, defaults_none a.top.rules [] calls.no_defaults, calls.checked) (nothing_else (level_fault s [] nothing_held words false []))

@@ -1,9 +1,10 @@
 -- What is given to a command, and the words that are typed for it.
-use Rattle.std.specs.Prelude.{◌≡◌, ◌==◌, Bool, true, not, List, [], ◌∷◌, ◌++◌, map, Option}
+use Rattle.std.specs.Prelude.{◌≡◌, ◌==◌, Bool, true, not, List, [], ◌∷◌, ◌++◌, map, Option, None}
 use Rattle.std.specs.Prelude.{codes, bytes_eq, find, is_some, option_map}
 use Rattle.std.specs.List.{AllByRecursion, Contains, IsDistinct, filter, flat_map}
-use Rattle.clap.specs.Words.{App, Text, first_of}
-use Rattle.command_lines.specs.CommandLine.{CallsCommand, options_of}
+use Rattle.clap.specs.Words.{App, Text, fault_of, first_of}
+use Rattle.clap.specs.declared.error.kind.ErrorKind.TheVariants.{MissingRequiredArgument}
+use Rattle.command_lines.specs.CommandLine.{CallsCommand, options_of, program_line}
 
 -- how it is typed: `--store FOLDER`, or `--store=FOLDER`, or a word that stands alone
 pub data Manner : Type 0 where
@@ -45,7 +46,7 @@ names_of_words line = map (λ r. r.id) (filter (λ r. not (is_some r.long)) line
 abbrev pub needed_names : App → List Text
 needed_names line = map (λ r. r.id) (filter (λ r. r.required) line.top.rules)
 
--- a word that can be a text: it begins with no hyphen (45), or is one character
+-- a word that can be a text: it begins with no hyphen (45), or is a hyphen alone
 abbrev pub can_be_text : Text → Bool
 can_be_text [] = true
 can_be_text (c ∷ []) = true
@@ -59,10 +60,14 @@ HasPlaceFor line in_one_word name text = Contains (names_of_options line) name
 HasPlaceFor line by_itself name text =
     Contains (names_of_words line) name × (can_be_text text ≡ true)
 
--- the command has a place for each, none is given twice, and all that it needs is given
-pub record CanTake (line : App) (given : List Given) : Type 0 where
+-- the command has a place for each, and none is given twice
+pub record HasPlaces (line : App) (given : List Given) : Type 0 where
   pub known : AllByRecursion (λ g. HasPlaceFor line g.manner g.name g.text) given
   pub once : IsDistinct bytes_eq (map (λ g. g.name) given)
+
+-- so it is, and all that the command needs is given
+pub record CanTake (line : App) (given : List Given) : Type 0 where
+  pub places : HasPlaces line given
   pub whole : AllByRecursion (Contains (map (λ g. g.name) given)) (needed_names line)
 
 -- ---- what is understood
@@ -76,6 +81,12 @@ pub record AsksFor (words : List Text) (line : App) (given : List Given) : Type 
 abbrev pub IsUnderstood : App → Type 0
 IsUnderstood line =
     (given : List Given) → CanTake line given → AsksFor (line.top.name ∷ typed given) line given
+
+-- where one that the command needs isn't given, its words are at fault with just that
+abbrev pub MissesNeeded : App → Type 0
+MissesNeeded line = (given : List Given) (name : Text) → HasPlaces line given
+    → Contains (needed_names line) name → given_text name given ≡ None
+    → fault_of program_line (line.top.name ∷ typed given) ≡ MissingRequiredArgument ∷ []
 
 -- ---- an example
 
