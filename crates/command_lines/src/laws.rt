@@ -1,9 +1,12 @@
 ghost use Rattle.std.specs.Prelude.{[], ◌∷◌, codes};
 ghost use Rattle.clap.specs.Words.{Text};
 ghost use Rattle.command_lines.specs.CommandLine.{AsksForHelp, AsksVerify, verify_words};
+ghost use Rattle.command_lines.specs.CommandLine.{verify_line, serve_line, put_line, get_line};
+ghost use Rattle.command_lines.specs.CommandLine.{build_line};
+ghost use Rattle.command_lines.specs.Given.{CanBeTexts, MissesNeeded, IsUnderstood, verify_in_two};
 
-/// What words ask for: `verify` with a text for each option, help, and the version. A law: it
-/// does nothing.
+/// What words ask for: each command with whatever it can take, in any order, as people type it;
+/// help; and the version. A law: it does nothing.
 pub fn words_are_understood()
     // Whatever texts the options have in one word with them, these are their texts.
     ensures options { (store sources plan noted claim : Text)
@@ -11,4 +14,21 @@ pub fn words_are_understood()
     ensures help { AsksForHelp (codes "--help" ∷ []) }
     ensures command_help { AsksForHelp (codes "verify" ∷ codes "--help" ∷ []) }
     ensures version { AsksForHelp (codes "--version" ∷ []) }
+    // Whatever a command can take, in any order, each text in one word with its option or in the
+    // next: the words ask for just that.
+    ensures verify { IsUnderstood verify_line }
+    ensures serve { IsUnderstood serve_line }
+    ensures put { IsUnderstood put_line }
+    ensures get { IsUnderstood get_line }
+    ensures build { IsUnderstood build_line }
+    // Where one that a command needs isn't given, the words are at fault with just that.
+    ensures verify_misses { MissesNeeded verify_line }
+    ensures serve_misses { MissesNeeded serve_line }
+    ensures put_misses { MissesNeeded put_line }
+    ensures get_misses { MissesNeeded get_line }
+    ensures build_misses { MissesNeeded build_line }
+    // So `verify` with each text in a word of its own, for one.
+    ensures two_words { (store sources plan noted claim : Text)
+        → CanBeTexts (store ∷ sources ∷ plan ∷ noted ∷ claim ∷ [])
+        → AsksVerify (verify_in_two store sources plan noted claim) store sources plan noted claim }
 {}

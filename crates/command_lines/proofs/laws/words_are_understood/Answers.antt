@@ -1,5 +1,6 @@
 use Rattle.std.proofs.Common.{refl, inl, inr}
 use Rattle.clap.proofs.OnLiterals.{clap_on_literals}
+use Rattle.command_lines.proofs.Commands.{build_missed, build_understood, get_missed, get_understood, put_missed, put_understood, serve_missed, serve_understood, verify_in_two_understood, verify_missed, verify_understood}
 use Rattle.command_lines.proofs.laws.words_are_understood.Goals as goal
 
 pub returns : goal.returns
@@ -16,4 +17,15 @@ returns c = record {
   help = inl (inl refl);
   command_help = inl (inl refl);
   version = inr (inl refl);
+  verify = verify_understood;
+  serve = serve_understood;
+  put = put_understood;
+  get = get_understood;
+  build = build_understood;
+  verify_misses = verify_missed;
+  serve_misses = serve_missed;
+  put_misses = put_missed;
+  get_misses = get_missed;
+  build_misses = build_missed;
+  two_words = verify_in_two_understood;
 }
