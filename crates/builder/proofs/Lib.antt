@@ -1,3 +1,4 @@
 pub mod Leading
 pub mod Serving
 pub mod Refusing
+pub mod Within

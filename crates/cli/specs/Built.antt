@@ -1,41 +1,32 @@
 -- What `build` prints.
-use Rattle.std.specs.Prelude.{◌≡◌, ℕ, Bool, true, false, List, Option, codes, length, string_bytes}
+use Rattle.std.specs.Prelude.{ℕ, Bool, true, false, List, Option, codes, string_bytes}
 use Rattle.std.specs.Io.KnownBytes.{Appends}
 use Rattle.std.specs.declared.alloc.Global.{Global}
 use Rattle.blob_digest.specs.Digest.{DigestValue}
 use Rattle.blob_source.specs.Source.{Telling}
-use Rattle.builder.specs.Built.{BuiltValue, IsAnsweredYes, IsEnd}
-use Rattle.builder.specs.Lines.{built_text}
-use Rattle.builder.specs.Telling.{TellsFailed}
+use Rattle.builder.specs.Telling.{TellsBuilt, TellsFailed}
 use Rattle.builder.specs.declared.telling.Told.{Told}
 use Rattle.builder.specs.declared.telling.Told.TheVariants.{Built, Failed}
 use Rattle.clap.specs.Words.{Row}
 use Rattle.command_lines.specs.CommandLine.{option_text}
 use Rattle.plan.specs.Values.{PlanValue}
-use Rattle.runs.specs.Engine.{EngineValue}
 use Rattle.text_verifier.specs.Texts.{HasPlan, IsDigestText}
-use Rattle.worker.specs.Stored.{IsStored}
+use Rattle.worker.specs.Outcomes.{Yields}
 
--- The line tells the root of an engine of the plan, over these sources, in which each step has
--- finished. The store has what each came to, and its record is answered yes with this root: by what
--- the store told, and wherever blobs and results serve the build.
-pub record TellsRoot (plan : PlanValue) (sources : DigestValue) (line : List ℕ) : Type 0 where
-  pub last : EngineValue
-  pub of_plan : last.plan ≡ plan
-  pub of_sources : last.sources ≡ sources
-  pub told : Telling
-  pub build : BuiltValue
-  pub stored : IsStored told last
-  pub end : IsEnd Global last told build
-  pub answered : IsAnsweredYes Global told last build
-  pub line_is : line ≡ built_text build.root (length plan.steps)
+-- a runner that may yield anything: what its processes come to isn't said here
+abbrev pub any_yields : Yields
+any_yields l c p = Unit {0}
 
--- the line of a build: its root, or the refusal that ended it
+-- The line of a build that came to its root: calls led from an engine of the plan to one in which
+-- each step has finished, the store has what each came to, and the verdict on the record is yes. Or
+-- the line of the refusal that stands where the build ended.
 abbrev pub TellsBuild : PlanValue → DigestValue → Bool → List ℕ → Type 0
-TellsBuild plan sources true line = TellsRoot plan sources line
-TellsBuild plan sources false line = TellsFailed plan.steps line
+TellsBuild plan sources true line = (most : ℕ) × (told : Telling) × (noted : List ℕ)
+    × TellsBuilt Global any_yields most plan sources told line noted
+TellsBuild plan sources false line = (most : ℕ) × (told : Telling)
+    × TellsFailed Global any_yields most plan sources told line
 
-abbrev pub IsToldOf : {A : Type 0} → PlanValue → DigestValue → Told A → Type 0
+abbrev pub IsToldOf : PlanValue → DigestValue → Told Global → Type 0
 IsToldOf plan sources (Built line noted) = TellsBuild plan sources true (string_bytes line)
 IsToldOf plan sources (Failed line) = TellsBuild plan sources false (string_bytes line)
 

@@ -1,5 +1,5 @@
 -- What the errors of a command tell.
-use Rattle.std.specs.Prelude.{◌≡◌, ◌≢◌, ◌⊎◌, ◌↔◌, ℕ, List, string_bytes}
+use Rattle.std.specs.Prelude.{◌≡◌, ◌≢◌, ◌⊎◌, ◌↔◌, ℕ, List, codes, string_bytes}
 use Rattle.clap.specs.declared.error.kind.ErrorKind.{ErrorKind}
 use Rattle.clap.specs.declared.error.kind.ErrorKind.TheVariants.{DisplayHelp, DisplayVersion}
 use Rattle.blob_digest.specs.Digest.{DigestValue, IsDigest}
@@ -10,7 +10,7 @@ use Rattle.remote.specs.declared.files.FileError.TheVariants as files
 use Rattle.std.specs.declared.alloc.Global.{Global}
 use Rattle.cli.specs.declared.error.CliError.{CliError}
 use Rattle.cli.specs.declared.error.CliError.TheVariants.{Words, Digest, File, NotAFile, TooLarge}
-use Rattle.cli.specs.declared.error.CliError.TheVariants.{Output, Memory}
+use Rattle.cli.specs.declared.error.CliError.TheVariants.{Output, Unlike, Memory}
 
 -- the text of an option spells no digest, or memory ran out
 abbrev pub IsDigestFault : List ℕ → List ℕ → CliError → Type 0
@@ -35,6 +35,12 @@ IsFileFault path (NotAFile p) = string_bytes p ≡ path
 IsFileFault path (TooLarge p) = string_bytes p ≡ path
 IsFileFault path Memory = Unit {0}
 IsFileFault path _ = ⊥
+
+-- the folder at this path can't be read, or isn't empty, or memory ran out
+abbrev pub IsFolderFault : List ℕ → CliError → Type 0
+IsFolderFault path (Unlike option wanted text) =
+    (option.now ≡ codes "work") × (string_bytes text ≡ path)
+IsFolderFault path e = IsFileFault path e
 
 -- where clap gave no matches: the words are at fault, or help or the version could not be printed,
 -- or memory ran out

@@ -2,6 +2,7 @@ ghost use Rattle.std.specs.Prelude.{◌≡◌, ◌<◌, ℕ, List, IfErr, IfOk, 
 ghost use Rattle.std.specs.Io.KnownBytes.{Appends};
 ghost use Rattle.clap.specs.Words.{found_of, rows_of};
 ghost use Rattle.cli.specs.Built.{IsToldOf, PrintsBuild};
+ghost use Rattle.cli.specs.Faults.{IsFolderFault};
 ghost use Rattle.cli.specs.Refusal.{IsCommandFault};
 ghost use Rattle.cli.specs.Status.{status_of};
 ghost use Rattle.command_lines.specs.CommandLine.{option_text};
@@ -90,6 +91,24 @@ where
     }
 }
 
+/// The folder of the jobs is there, and nothing is in it.
+fn check_work<R: Files + AllocGlobal>(rt: &R, path: &str) -> Result<(), CliError>
+    ensures fault { IfErr result (IsFolderFault path.now) }
+{
+    let mut entries = match fs::read_dir(rt, path) {
+        Ok(entries) => entries,
+        Err(fault) => return Err(file_error(rt, path, fault)?),
+    };
+    if entries.next().is_none() {
+        return Ok(());
+    }
+    Err(CliError::Unlike {
+        option: "work",
+        wanted: "an empty folder",
+        text: String::from_str(rt.alloc(), path)?,
+    })
+}
+
 /// Writes the record's file: a new one beside it, which then takes its place.
 fn write_record<R: AllocGlobal + Files>(rt: &R, path: &str, text: &[u8]) -> Result<(), CliError>
     ensures fault { IfErr result (λ e. status_of e ≡ 3) }
@@ -130,6 +149,7 @@ where
 {
     let asked = read_asked(rt.alloc(), matches)?;
     let plan = plan_in_file(rt, matches)?;
+    check_work(rt, text_of(matches, "work"))?;
     let mut client = open(rt, &asked.server)?;
     let told = build_in_folder(rt, text_of(matches, "work"), &asked, &plan, &mut client)?;
     match told {

@@ -1,5 +1,5 @@
 -- Why a build ends at a step.
-use Rattle.std.proofs.Common.{◌≡◌, ◌<◌, ℕ, List, ◌∷◌, length, refl, sym, subst, inl, inr}
+use Rattle.std.proofs.Common.{◌≡◌, ◌<◌, ℕ, List, [], ◌∷◌, length, refl, sym, subst, inl, inr}
 use Rattle.std.specs.Prelude.{◌⊎◌, Result, Ok, Err, OnErr, IfErr}
 use Rattle.blob_source.specs.Source.{Blobs, Telling}
 use Rattle.runs.specs.Engine.{EngineValue}
@@ -11,6 +11,7 @@ use Rattle.worker.specs.declared.error.BuildError.{BuildError}
 use Rattle.worker.specs.declared.turns.Child.{Child}
 use Rattle.worker.specs.declared.turns.Turn.{Turn}
 use Rattle.worker.specs.declared.turns.Turn.TheVariants as turns
+use Rattle.worker.specs.Calls.{Call, started, ran, taken, lost, Does, Leads, IsLed}
 use Rattle.worker.specs.Going.{AreJobsOf, IsJobIn, job_value, IsOwnJob, IsGoing, IsTurn, Ends, HasEndedFirst}
 use Rattle.worker.specs.Outcomes.{Yields, YieldsNoMore, HasAllRight, IsYielded}
 use Rattle.worker.specs.Stores.{IsKept}
@@ -47,7 +48,7 @@ collecting_stops may B c e refusals.Fetch h = tt
 collecting_stops may B c e refusals.Memory h = tt
 
 -- what the one yields, the other does
-stops_within : {A : Type 0} (z y : Yields) (t : Telling) (e : EngineValue) (i : ℕ) (r : Refusal A) → YieldsNoMore z y → StopsStep z t e i r → StopsStep y t e i r
+pub stops_within : {A : Type 0} (z y : Yields) (t : Telling) (e : EngineValue) (i : ℕ) (r : Refusal A) → YieldsNoMore z y → StopsStep z t e i r → StopsStep y t e i r
 stops_within z y t e i (refusals.Engine why) within (inl fault) = inl fault
 stops_within z y t e i (refusals.Engine why) within (inr (id, j, at, step, v, came, fault)) = inr (id, j, at, step, v, by came, fault)
   where
@@ -140,3 +141,38 @@ module _ (A J : Type 0) (may : J → ProducedValue → Type 0) (t u : Telling) (
       → IfErr r (λ e. (entry : N) (most : ℕ) (first : EngineValue) → YieldsNoMore z (ys entry) → IsTurn most now cs turn → IsGoing A (ys entry) may t most first now cs → IsRefusedBuild A (ys entry) u most first e.step e.refusal)
   finish_refused ys z turn (Ok x) stops h = tt
   finish_refused ys z turn (Err e) stops h = λ entry most first within can g. first_refused (ys entry) most first e stops h g
+
+-- ---- a runner that yields more
+
+module _ {A : Type 0} {z y : Yields} {t : Telling} (within : YieldsNoMore z y) where
+  does_within : (later : List Call) (c : Call) (old new : EngineValue) → Does A z t later c old new → Does A y t later c old new
+  does_within later (started i id) old new d = d
+  does_within later (ran id d v) old new f =
+      let h = f.yielded in
+      record {
+        finished = f.finished;
+        action = f.action;
+        yielded = record {
+          layout = h.layout;
+          laid = h.laid;
+          command = h.command;
+          of_step = h.of_step;
+          produced = h.produced;
+          may = within h.layout h.command h.produced h.may;
+          outcome = h.outcome;
+          action = h.action;
+          blobs = h.blobs;
+        };
+      }
+  does_within later (taken id d v) old new f = f
+  does_within later (lost id) old new gone = gone
+
+  leads_within : (most : ℕ) (cs : List Call) (old new : EngineValue) → Leads A z t most cs old new → Leads A y t most cs old new
+  leads_within most [] old new same = same
+  leads_within most (c ∷ cs) old new (mid, does, few, rest) = (mid, does_within cs c old mid does, few, leads_within most cs mid new rest)
+
+  pub led_within : {most : ℕ} {old new : EngineValue} → IsLed A z t most old new → IsLed A y t most old new
+  led_within {most} {old} {new} h = record { calls = h.calls; leads = leads_within most h.calls old new h.leads }
+
+  pub refused_within : {most i : ℕ} {old : EngineValue} {r : Refusal A} → IsRefusedBuild A z t most old i r → IsRefusedBuild A y t most old i r
+  refused_within {most} {i} {old} {r} h = record { at = h.at; led = led_within h.led; stops = stops_within z y t h.at i r within h.stops }

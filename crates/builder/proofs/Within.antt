@@ -1,0 +1,58 @@
+-- What is said of a build by one runner is said of it by a runner that yields more.
+use Rattle.std.proofs.Common.{◌≡◌, ℕ, inl, inr}
+use Rattle.blob_digest.specs.Digest.{DigestValue}
+use Rattle.blob_source.specs.Source.{Telling}
+use Rattle.plan.specs.Values.{PlanValue}
+use Rattle.runs.specs.Engine.{EngineValue}
+use Rattle.worker.specs.Outcomes.{Yields, YieldsNoMore}
+use Rattle.worker.proofs.Stopping.{led_within, refused_within}
+use Rattle.builder.specs.Built.{BuiltValue, IsBuilt}
+use Rattle.builder.specs.Refused.{IsBuildFault, FailsStep, FailsRoot}
+use Rattle.builder.specs.Telling.{TellsBuilt, TellsFailed, IsBuildTold}
+use Rattle.builder.specs.declared.fault.Fault.{Fault}
+use Rattle.builder.specs.declared.telling.Told.{Told}
+use Rattle.builder.specs.declared.telling.Told.TheVariants.{Built, Failed}
+
+module _ {A : Type 0} {z y : Yields} {most : ℕ} {plan : PlanValue} {sources : DigestValue} {told : Telling} (within : YieldsNoMore z y) where
+  built_within : (b : BuiltValue) → IsBuilt A z most plan sources told b → IsBuilt A y most plan sources told b
+  built_within b h = record {
+    opening = h.opening;
+    first = h.first;
+    opened = h.opened;
+    ending = h.ending;
+    still = h.still;
+    last = h.last;
+    led = led_within within h.led;
+    of_plan = h.of_plan;
+    of_sources = h.of_sources;
+    asked = h.asked;
+    stored = h.stored;
+    end = h.end;
+    answered = h.answered;
+  }
+
+  fault_within : (fault : Fault) → IsBuildFault A z most plan sources told fault → IsBuildFault A y most plan sources told fault
+  fault_within fault (inl h) = inl h
+  fault_within fault (inr (inl h)) = inr (inl h)
+  fault_within fault (inr (inr (inl h))) = inr (inr (inl (record {
+    opening = h.opening;
+    first = h.first;
+    opened = h.opened;
+    still = h.still;
+    stands = (h.stands.0, h.stands.1, refused_within within h.stands.2, h.stands.3);
+  })))
+  fault_within fault (inr (inr (inr h))) = inr (inr (inr (record {
+    opening = h.opening;
+    first = h.first;
+    opened = h.opened;
+    ending = h.ending;
+    still = h.still;
+    last = h.last;
+    led = led_within within h.led;
+    asked = h.asked;
+    stands = h.stands;
+  })))
+
+  pub told_within : (r : Told A) → IsBuildTold z most plan sources told r → IsBuildTold y most plan sources told r
+  told_within (Built line noted) h = record { build = h.build; is = built_within h.build h.is; line_is = h.line_is; noted_is = h.noted_is }
+  told_within (Failed line) h = record { place = h.place; number = h.number; stands = fault_within _ h.stands; line_is = h.line_is }
