@@ -10,3 +10,4 @@ pub mod Goes
 pub mod Taking
 pub mod Lefts
 pub mod Complete
+pub mod Listing

@@ -15,13 +15,19 @@ ghost use Rattle.worker.specs.Calls.{IsStartable};
 ghost use Rattle.worker.specs.Going.{AreJobsOf, IsJobOf, IsJobIn, job_value, IsBegun};
 ghost use Rattle.worker.specs.Going.{CameToNothing, IsLaunched, HasEndedFirst, EndsWell, Ends};
 ghost use Rattle.worker.specs.Going.{IsTurn, IsGoing, turns_left};
+ghost use Rattle.std.specs.Prelude.{IfErr};
+ghost use Rattle.std.specs.Prelude.{Contains};
+ghost use Rattle.std.specs.List.{AllByRecursion};
+ghost use Rattle.actions.specs.Outcome.{outputs_in, output_paths};
+ghost use Rattle.worker.specs.Going.{IsNextTurn, IsStepOfFirst};
+ghost use Rattle.worker.specs.Outcomes.{CanBeTaken};
 
 use crate::error::{BuildError, Refusal};
 use crate::laying_out::layout;
 use crate::runner::{Produced, Runner};
 use actions::{ActionResult, Command, Outcome, Output, recorded};
 use blob_digest::Digest;
-use messages::{MessageError, Tree};
+use messages::{MessageError, Path, Tree};
 use runs::{Engine, Job};
 use std::alloc::Allocator;
 use std::collections::VecDeque;
@@ -85,6 +91,7 @@ pub(crate) fn next_turn<A: Allocator + Copy, J>(
 ) -> Option<Turn>
     requires some { 0 < jobs }
     ensures turn { IfSome result (IsTurn jobs engine.now children.now.items) }
+    ensures next { IfSome result (IsNextTurn jobs engine.now children.now.items) }
     ensures none_runs { result ≡ None → children.now.items ≡ [] }
     ensures none_starts { result ≡ None
         → (k : ℕ) → k < length engine.now.plan.steps → IsStartable engine.now k → ⊥ }
@@ -129,6 +136,8 @@ fn put_input<A: Allocator + Copy, S: BlobSink<A>>(
     ensures kept { IsKept (S.tells sink.old) (S.tells sink.new) }
     ensures held { OnOk result
         (HasRight (S.tells sink.new).blobs (digest_of (action_bytes job.now.action))) }
+    ensures input { OnOk result
+        (HasAllRight (S.tells sink.new).blobs (blobs_of job.now.input.directories.items)) }
 {
     let action = job.action.encode(alloc)?;
     sink.put_blob(alloc, &action)?;
@@ -136,11 +145,21 @@ fn put_input<A: Allocator + Copy, S: BlobSink<A>>(
 }
 
 /// Whether an outcome is one that a build takes: exit code 0, and only listed outputs.
-fn fits<A: Allocator + Copy>(command: &Command<A>, outcome: &Outcome<A>) -> bool {
+fn fits<A: Allocator + Copy>(command: &Command<A>, outcome: &Outcome<A>) -> bool
+    ensures { IsTrue result ↔ CanBeTaken command.now outcome.now }
+{
     if outcome.exit_code() != 0 {
         return false;
     }
-    for output in outcome.outputs() {
+    lists_all(command, outcome.outputs())
+}
+
+/// Whether the command lists each of the outputs.
+fn lists_all<A: Allocator>(command: &Command<A>, outputs: &[(Path<A>, Output<A>)]) -> bool
+    ensures { IsTrue result ↔ AllByRecursion (Contains command.now.output_paths)
+        (output_paths (outputs_in outputs.now)) }
+{
+    for output in outputs {
         if !command.lists(&output.0) {
             return false;
         }
@@ -157,6 +176,7 @@ fn recorded_outcome<A: Allocator + Copy, S: BlobSink<A>>(
     ensures kept { IsKept (S.tells sink.old) (S.tells sink.new) }
     ensures held { IfOk result (λ found.
         IfSome found (IsHeld (S.tells sink.new) job.now.digest)) }
+    ensures fits { IfOk result (λ found. IfSome found (CanBeTaken job.now.command)) }
 {
     let Some(bytes) = sink.result(alloc, &job.digest)? else {
         return Ok(None);
@@ -289,6 +309,7 @@ pub(crate) fn begin<A: Allocator + Copy, S: BlobSink<A>, N: Runner<A>>(
     ensures refused { OnErr result
         (CameToNothing A (S.tells sink.new).blobs step engine.old engine.new) }
     ensures same { OnErr result (children.new.items ≡ children.old.items) }
+    ensures step { IfErr result (λ e. e.step ≡ step) }
     ensures within { YieldsNoMore (N.yields runner.new) (N.yields runner.old) }
     ensures alive { N.alive runner.new + length children.old.items
         ≡ N.alive runner.old + length children.new.items }
@@ -412,6 +433,7 @@ pub(crate) fn finish_first<A: Allocator + Copy, S: BlobSink<A>, N: Runner<A>>(
     ensures refused { OnErr result (HasEndedFirst
         (Ends N.may_give (S.tells sink.old) (S.tells sink.new))
         engine.old engine.new children.old.items children.new.items) }
+    ensures step { IfErr result (λ e. IsStepOfFirst e.step children.old.items) }
     ensures within { YieldsNoMore (N.yields runner.new) (N.yields runner.old) }
     ensures closed { N.alive runner.new ≡ N.alive runner.old - 1 }
 {

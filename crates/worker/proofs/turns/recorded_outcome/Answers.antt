@@ -29,4 +29,4 @@ pub returns-in-Err-Memory-recorded-clause-kept : goal.returns-in-Err-Memory-reco
 returns-in-Err-Memory-recorded-clause-kept g c = kept_trans (kept_result c.result.ensures.called) (kept_asks c.recorded.ensures.called)
 
 pub returns : goal.returns
-returns g c = record { kept = kept_trans (kept_result c.result.ensures.called) (kept_asks c.recorded.ensures.called); held = tt }
+returns g c = record { kept = kept_trans (kept_result c.result.ensures.called) (kept_asks c.recorded.ensures.called); held = tt; fits = tt }
