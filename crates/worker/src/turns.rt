@@ -177,6 +177,7 @@ fn recorded_outcome<A: Allocator + Copy, S: BlobSink<A>>(
     ensures held { IfOk result (λ found.
         IfSome found (IsHeld (S.tells sink.new) job.now.digest)) }
     ensures fits { IfOk result (λ found. IfSome found (CanBeTaken job.now.command)) }
+    ensures unfailed { OnOk result ((S.tells sink.new).failures ≡ (S.tells sink.old).failures) }
 {
     let Some(bytes) = sink.result(alloc, &job.digest)? else {
         return Ok(None);

@@ -28,5 +28,5 @@ returns-in-Err-Fetch-clause-kept g c = kept_trans (kept_result c.result.ensures.
 pub returns-in-Err-Memory-recorded-clause-kept : goal.returns-in-Err-Memory-recorded-clause-kept
 returns-in-Err-Memory-recorded-clause-kept g c = kept_trans (kept_result c.result.ensures.called) (kept_asks c.recorded.ensures.called)
 
-pub returns : goal.returns
-returns g c = record { kept = kept_trans (kept_result c.result.ensures.called) (kept_asks c.recorded.ensures.called); held = tt; fits = tt }
+pub returns-clause-kept : goal.returns-clause-kept
+returns-clause-kept g c = kept_trans (kept_result c.result.ensures.called) (kept_asks c.recorded.ensures.called)
