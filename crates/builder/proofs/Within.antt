@@ -22,7 +22,7 @@ module _ {A : Type 0} {z y : Yields} {most : ℕ} {plan : PlanValue} {sources : 
     ending = h.ending;
     still = h.still;
     last = h.last;
-    led = led_within within h.led;
+    led = led_within A z y h.ending within h.led;
     of_plan = h.of_plan;
     of_sources = h.of_sources;
     asked = h.asked;
@@ -39,7 +39,7 @@ module _ {A : Type 0} {z y : Yields} {most : ℕ} {plan : PlanValue} {sources : 
     first = h.first;
     opened = h.opened;
     still = h.still;
-    stands = (h.stands.0, h.stands.1, refused_within within h.stands.2, h.stands.3);
+    stands = (h.stands.0, h.stands.1, refused_within A z y told within h.stands.2, h.stands.3);
   })))
   fault_within fault (inr (inr (inr h))) = inr (inr (inr (record {
     opening = h.opening;
@@ -48,7 +48,7 @@ module _ {A : Type 0} {z y : Yields} {most : ℕ} {plan : PlanValue} {sources : 
     ending = h.ending;
     still = h.still;
     last = h.last;
-    led = led_within within h.led;
+    led = led_within A z y h.ending within h.led;
     asked = h.asked;
     stands = h.stands;
   })))

@@ -8,7 +8,7 @@ use Rattle.http_core.specs.Session.{Closed, SessionValue, Stands}
 use Rattle.http_core.specs.Stream.{Cuts}
 use Rattle.cache_server.specs.Cache.{CacheValue, Step, step}
 use Rattle.cache_server.specs.Counts.{CountsFront, IsStatusOf, after_event, count_all, count_event}
-use Rattle.cache_server.specs.Connection.{RunsCounting, RunsSomeCounting, ExchangesCounting, ExchangesSomeCounting, ExchangesSome}
+use Rattle.cache_server.specs.Connection.{AnswersReadCounting, RunsCounting, RunsSomeCounting, ExchangesCounting, ExchangesSomeCounting, ExchangesSome}
 use Rattle.cache_server.specs.Serving.{ServesAll, ServesOne}
 use Rattle.cache_server.specs.Writing.{Tells, MayTell, TellsSomeCounting}
 use Rattle.cache_server.specs.declared.counts.Counts.{Counts}
@@ -145,4 +145,13 @@ unfolding runs_none
 counting_none prefix old input written c cut = record {
   runs = runs_none prefix old input written cut;
   counts = counts_whole c c old [] (sym (count_none c old));
+}
+
+-- the reader failed
+pub counting_read : (prefix : List ℕ) (old : CacheValue) (input left more written_before written : Option (List ℕ)) (session : SessionValue) (now : CacheValue) (c d : Counts)
+    → RunsOnCounting prefix old input left written_before written session now c d → Keeps left more → AnswersReadCounting prefix old input more written_before written now c d
+unfolding runs_stopped
+counting_read prefix old input left more written_before written session now c d r kept = record {
+  answers = record { runs = runs_stopped prefix old input left more written_before written session now r.on kept; all_read = refl; all_told = refl };
+  counts = r.counts;
 }

@@ -1,5 +1,5 @@
 -- What a run over one connection reads, writes and does.
-use Rattle.std.specs.Prelude.{◌≡◌, ℕ, ◌⊎◌, List, ◌++◌, Option, None}
+use Rattle.std.specs.Prelude.{◌≡◌, ℕ, ◌⊎◌, List, [], ◌++◌, Option, None}
 use Rattle.std.specs.Io.KnownBytes.{Appends, Consumes, IsAtEnd}
 use Rattle.http_core.specs.Event.{EventValue}
 use Rattle.http_core.specs.Session.{SessionValue, Stands}
@@ -45,6 +45,15 @@ pub record RunsSome
   pub consumes : Consumes input input_left (front ++ rest)
   pub appends : Appends before after told
   pub answered : IsAnswered prefix old front (told ++ lost) left new
+
+-- the requests in all that was read did their work, and all of their answers are written
+pub record AnswersRead
+    (prefix : List ℕ) (old : CacheValue) (input input_left before after : Option (List ℕ))
+    (new : CacheValue)
+    : Type 0 where
+  pub runs : RunsSome prefix old input input_left before after new
+  pub all_read : runs.rest ≡ []
+  pub all_told : runs.lost ≡ []
 
 -- a piece is answered
 pub record Exchanges
@@ -93,6 +102,14 @@ pub record RunsSomeCounting
     : Type 0 where
   pub runs : RunsSome prefix old input input_left before after new
   pub counts : CountsFront first old runs.answered.events last
+
+-- all that was read is answered, and all of its events are counted
+pub record AnswersReadCounting
+    (prefix : List ℕ) (old : CacheValue) (input input_left before after : Option (List ℕ))
+    (new : CacheValue) (first last : Counts)
+    : Type 0 where
+  pub answers : AnswersRead prefix old input input_left before after new
+  pub counts : last ≡ count_all first old answers.runs.answered.events
 
 pub record ExchangesCounting
     (old : SessionValue) (cache : CacheValue) (before : Option (List ℕ)) (piece : List ℕ)

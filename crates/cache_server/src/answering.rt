@@ -1,4 +1,4 @@
-ghost use Rattle.std.specs.Prelude.{◌≡◌, OnOk, OnErr};
+ghost use Rattle.std.specs.Prelude.{◌≡◌, ◌≢◌, IfErr, OnOk, OnErr};
 ghost use Rattle.cache_server.specs.Counts.{count_all, count_event};
 ghost use Rattle.http_core.specs.Event.{events_of, event_of};
 ghost use Rattle.cache_server.specs.Writing.{Tells, MayTell, TellsAll, TellsSomeCounting};
@@ -27,6 +27,7 @@ pub(crate) fn answer_all<A: Allocator + Copy, W: Write>(
         (W.contents writer.old) (W.contents writer.new) cache.new counts.old counts.new) }
     ensures counted { OnOk result
         (counts.new ≡ count_all counts.old cache.old (events_of events.items)) }
+    ensures fault { IfErr result (λ e. e ≢ ConnError.ReadFault) }
 {
     for event in events {
         answer(alloc, cache, event, writer, counts)?;
@@ -49,6 +50,7 @@ fn answer<A: Allocator + Copy, W: Write>(
     ensures counted { OnOk result
         (counts.new ≡ count_event counts.old cache.old (event_of event)) }
     ensures uncounted { OnErr result (counts.new ≡ counts.old) }
+    ensures fault { IfErr result (λ e. e ≢ ConnError.ReadFault) }
 {
     match event {
         Event::Refuse(status, close) => {

@@ -1,8 +1,9 @@
-ghost use Rattle.std.specs.Prelude.{ℕ, List, OnErr, OnOk};
+ghost use Rattle.std.specs.Prelude.{◌≡◌, ◌≢◌, ℕ, List, Err, IfErr, OnErr, OnOk};
 ghost use Rattle.http_core.specs.Event.{EventValue};
 ghost use Rattle.http_core.specs.Session.{Stands};
 ghost use Rattle.cache_server.specs.Connection.{ExchangesCounting, ExchangesSomeCounting};
 ghost use Rattle.cache_server.specs.Connection.{Runs, RunsCounting, RunsSome, RunsSomeCounting};
+ghost use Rattle.cache_server.specs.Connection.{AnswersRead, AnswersReadCounting};
 
 use crate::answering::answer_all;
 use crate::cache::Cache;
@@ -31,6 +32,9 @@ pub fn run<A: Allocator + Copy, R: Read, W: Write>(
     ensures err { OnErr result (RunsSome prefix.now cache.old
         (R.remaining reader.old) (R.remaining reader.new)
         (W.contents writer.old) (W.contents writer.new) cache.new) }
+    ensures read_fault { result ≡ Err ConnError.ReadFault → AnswersRead prefix.now cache.old
+        (R.remaining reader.old) (R.remaining reader.new)
+        (W.contents writer.old) (W.contents writer.new) cache.new }
 {
     let mut counts = Counts::none();
     run_counting(alloc, reader, writer, cache, prefix, &mut counts)
@@ -53,6 +57,12 @@ pub fn run_counting<A: Allocator + Copy, R: Read, W: Write>(
         (R.remaining reader.old) (R.remaining reader.new)
         (W.contents writer.old) (W.contents writer.new) cache.new
         counts.old counts.new) }
+    // Where the reader failed, all that it gave is answered.
+    ensures read_fault { result ≡ Err ConnError.ReadFault
+        → AnswersReadCounting prefix.now cache.old
+        (R.remaining reader.old) (R.remaining reader.new)
+        (W.contents writer.old) (W.contents writer.new) cache.new
+        counts.old counts.new }
 {
     let mut session = Session::new(alloc, prefix)?;
     let mut buffer = [0; PIECE];
@@ -88,6 +98,7 @@ fn exchange<A: Allocator + Copy, W: Write>(
         → ExchangesSomeCounting session.old.prefix stream earlier cache.old
         (W.contents writer.old) piece.now cache.new (W.contents writer.new)
         counts.old counts.new) }
+    ensures fault { IfErr result (λ e. e ≢ ConnError.ReadFault) }
 {
     let events = session.feed(alloc, piece)?;
     answer_all(alloc, cache, events, writer, counts)?;

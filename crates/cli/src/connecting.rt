@@ -150,7 +150,7 @@ pub(crate) struct Connection<'a, R> {
 impl<R: Net<Stream = TcpStream>> Stream for Connection<'_, R> {
     ghost use Rattle.std.specs.Prelude.{None};
 
-    ghost flow = { λ _. record { coming = None; sent = None; is_open = None } };
+    ghost flow = { λ _. record { coming = None; sent = None; is_open = None; openings = None } };
 
     fn receive(&mut self, buf: &mut [u8]) -> io::Result<usize> {
         self.stream.receive(buf)

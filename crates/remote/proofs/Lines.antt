@@ -1,13 +1,14 @@
 -- What refusals leave of a connection.
-use Rattle.std.proofs.Common.{◌≡◌, ℕ, ◌+◌, Bool, true, false, sym, ap, subst, ◌∙◌}
+use Rattle.std.proofs.Common.{◌≡◌, ℕ, ◌+◌, Bool, true, false, inl, inr, sym, ap, subst, ◌∙◌}
+use Rattle.std.specs.Prelude.{◌⊎◌}
 use Rattle.blob_source.specs.declared.source.FetchError.{FetchError}
 use Rattle.blob_source.specs.declared.source.FetchError.TheVariants.{Failed, Memory}
 use Rattle.remote.specs.declared.fault.Fault.{Fault}
-use Rattle.remote.specs.declared.fault.Fault.TheVariants.{Status}
-use Rattle.remote.specs.Line.{ConnectionValue, Request, IsSameServer, IsUncounted, IsReplied, IsConnectionFault, RefusesRequest, is_answer, text_of}
-use Rattle.remote.specs.Flow.{SendsFront}
+use Rattle.remote.specs.declared.fault.Fault.TheVariants.{Io, Status}
+use Rattle.remote.specs.Line.{ConnectionValue, Request, IsSameServer, IsUncounted, IsReplied, IsConnectionFault, IsStreamFault, RefusesRequest, is_answer, text_of}
+use Rattle.remote.specs.Flow.{SendsFront, SendsPart}
 use Rattle.remote.proofs.Flows.{fronts_all, fronts_from, fronts_then}
-use Rattle.remote.specs.Reply.{ReceivedReply, RoundTrip}
+use Rattle.remote.specs.Reply.{ReceivedReply, RoundTrip, RoundTripInPart}
 use Rattle.remote.specs.Steps.{Fails, Starves}
 
 pub memory_failed : Memory ≡ Failed → ⊥
@@ -34,6 +35,15 @@ refuses_fault old mid new request fault e open_ none server sent is h = record {
   sent = fronts_then old.flow mid.flow new.flow (text_of old request) sent (ap (λ z. z.sent) h.flow);
   server = same_server server h.server;
 }
+
+-- the stream failed
+pub refuses_io : (old mid new : ConnectionValue) (request : Request) (e : FetchError) → old.broken ≡ false → IsUncounted old mid → IsSameServer old mid
+    → SendsFront old.flow mid.flow (text_of old request) → IsStreamFault old mid request → Fails mid new Io e → RefusesRequest old new request e
+refuses_io old mid new request e open_ none server sent is h = refuses_fault old mid new request Io e open_ none server sent (open_, by is) h
+  where
+    by : IsStreamFault old mid request → IsStreamFault old new request
+    by (inl (closed, same)) = inl (closed, h.flow ∙ same)
+    by (inr p) = inr (record { stream = p.stream; next = p.next; part = subst (λ f. SendsPart p.stream f (text_of old request) ⊎ RoundTripInPart p.stream f (text_of old request)) (sym h.flow) p.part })
 
 -- memory was wanting
 pub refuses_starved : (old mid new : ConnectionValue) (request : Request) (e : FetchError) → (old.broken ≡ true → mid.flow ≡ old.flow) → IsUncounted old mid → IsSameServer old mid

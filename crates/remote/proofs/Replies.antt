@@ -1,6 +1,7 @@
 -- Replies, as they are read.
-use Rattle.std.proofs.Common.{◌≡◌, ℕ, ◌≤◌, ◌++◌, List, length, append_assoc, refl, sym, ap, subst, ◌∙◌}
-use Rattle.http_core.specs.Block.{IsBlock}
+use Rattle.std.proofs.Common.{◌≡◌, ℕ, ◌<◌, ◌≤◌, ◌++◌, List, [], inl, inr, length, append_assoc, refl, sym, ap, subst, ◌∙◌}
+use Rattle.std.specs.Prelude.{Result, Ok, Err, IfErr, IsErrAnd}
+use Rattle.http_core.specs.Block.{HasNoBlock, IsBlock}
 use Rattle.http_core.specs.ReplyHead.{IsReplyHead}
 use Rattle.http_core.specs.declared.reply_head.ReplyHead.{ReplyHead}
 use Rattle.http_core.proofs.Blocks.{one_block}
@@ -8,8 +9,10 @@ use Rattle.http_core.proofs.Lists.{same_fronts}
 use Rattle.http_core.proofs.Replies.{reply_head_once}
 use Rattle.std.proofs.lemmas.List.{append_cancel_left}
 use Rattle.remote.specs.Flow.{Flow, Receives}
-use Rattle.remote.specs.Reply.{ReceivedReply, IsReply, NextReply}
-use Rattle.remote.proofs.Flows.{receives_then}
+use Rattle.remote.specs.Reply.{ReceivedReply, IsReply, NextReply, NextInPart}
+use Rattle.remote.specs.Steps.{ReceivesFewer}
+use Rattle.remote.specs.declared.fault.Refusal.TheVariants.{Io, BadReply}
+use Rattle.remote.proofs.Flows.{receives_then, receives_no_more}
 
 -- a block was read, and then the body that its head asks for
 pub next_reply : (old mid new : Flow) (block shown body : List ℕ) (head : ReplyHead) → Receives old mid block → Receives mid new body
@@ -44,3 +47,32 @@ one_reply a x b y r s p q e =
     let l : length r.body ≡ length s.body = ap (λ z. z.length) h in
     let m : r.body ≡ s.body = same_fronts r.body x s.body y (append_cancel_left p.block (r.body ++ x) (s.body ++ y) g) l in
     (p.whole ∙ ap (λ z. z ++ r.body) k ∙ ap (λ z. q.block ++ z) m ∙ sym q.whole, ap (λ z. value_of z r.body) h ∙ ap (value_of (head_of s)) m)
+
+pub bad_io : BadReply ≡ Io → ⊥
+bad_io e = cc
+
+-- the stream failed within a body
+pub reply_in_part : (old mid new : Flow) (block shown : List ℕ) (head : ReplyHead) (size : ℕ) → Receives old mid block → IsBlock block → shown ≡ block → IsReplyHead shown head → size ≡ head.length
+    → ReceivesFewer mid new size → NextInPart old new
+reply_in_part old mid new block shown head size first ends same lawful is (body, short, second) = record {
+  text = block ++ body;
+  part = inr (record {
+    block = block;
+    body = body;
+    head = head;
+    whole = refl;
+    ends = ends;
+    lawful = subst (λ b. IsReplyHead b head) same lawful;
+    short = subst (λ n. length body < n) is short;
+  });
+  read = receives_then old mid new block body first second;
+}
+
+-- the stream failed within a block
+pub block_in_part : (old mid new : Flow) (block : List ℕ) → Receives old mid block → Receives mid new [] → length block < 16384 → HasNoBlock block → NextInPart old new
+block_in_part old mid new block first none short open_ = record { text = block; part = inl (short, open_); read = receives_no_more old mid new block first none }
+
+-- an error that is handed on
+pub told : {T E : Type 0} (r : Result T E) (e : E) (P : E → Type 0) → IsErrAnd r (λ x. x ≡ e) → P e → IfErr r P
+told (Ok x) e P h p = tt
+told (Err x) e P h p = subst P (sym h) p

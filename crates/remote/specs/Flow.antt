@@ -1,5 +1,5 @@
 -- What a stream of both directions gives and takes.
-use Rattle.std.specs.Prelude.{◌≡◌, ℕ, Bool, true, List, [], ◌++◌, Option, Some}
+use Rattle.std.specs.Prelude.{◌≡◌, ◌≢◌, ⊤, ℕ, ◌+◌, Bool, true, List, [], ◌++◌, Option, Some, None}
 use Rattle.std.specs.Io.Cursor.{cursor_remaining}
 use Rattle.std.specs.Io.KnownBytes.{Appends, Consumes}
 use Rattle.remote.specs.declared.stream.MemoryStream.{MemoryStream}
@@ -12,6 +12,16 @@ pub record Flow : Type 0 where
   pub sent : Option (List ℕ)
   -- whether the other side hasn't closed it
   pub is_open : Option Bool
+  -- how often it was opened anew
+  pub openings : Option ℕ
+
+abbrev pub IsOneMore : Option ℕ → Option ℕ → Type 0
+IsOneMore None new = ⊤
+IsOneMore (Some n) new = new ≡ Some (n + 1)
+
+-- it was opened anew, once more than before
+abbrev pub IsOpenedAnew : Flow → Flow → Type 0
+IsOpenedAnew old new = IsOneMore old.openings new.openings
 
 -- these bytes were sent, and nothing was read
 pub record Sends (old new : Flow) (bytes : List ℕ) : Type 0 where
@@ -25,6 +35,14 @@ pub record SendsFront (old new : Flow) (bytes : List ℕ) : Type 0 where
   pub whole : bytes ≡ front ++ rest
   pub sent : Appends old.sent new.sent front
 
+-- these bytes were sent but for some at their end, and nothing was read
+pub record SendsPart (old new : Flow) (bytes : List ℕ) : Type 0 where
+  pub front : List ℕ
+  pub rest : List ℕ
+  pub some : rest ≢ []
+  pub whole : bytes ≡ front ++ rest
+  pub sends : Sends old new front
+
 -- these bytes came, and nothing was sent
 pub record Receives (old new : Flow) (bytes : List ℕ) : Type 0 where
   pub coming : Consumes old.coming new.coming bytes
@@ -32,7 +50,12 @@ pub record Receives (old new : Flow) (bytes : List ℕ) : Type 0 where
 
 -- these bytes are to come over an open stream, and nothing was sent
 abbrev pub gives : List ℕ → Flow
-gives bytes = record { coming = Some bytes; sent = Some []; is_open = Some true }
+gives bytes = record {
+  coming = Some bytes;
+  sent = Some [];
+  is_open = Some true;
+  openings = Some 0;
+}
 
 -- where a stream in memory stands
 abbrev pub flow_of : {A : Type 0} → MemoryStream A → Flow
@@ -40,4 +63,5 @@ flow_of s = record {
   coming = cursor_remaining (λ bytes. Some bytes.items) s.input;
   sent = Some s.output.items;
   is_open = Some true;
+  openings = Some 0;
 }

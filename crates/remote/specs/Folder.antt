@@ -1,6 +1,9 @@
 -- A store in a folder: what it tells, and what a look-up in it does.
-use Rattle.std.specs.Prelude.{◌≡◌, ℕ, List, [], ◌∷◌, ◌++◌, take, Option, None, Result, IfOk, IfSome}
-use Rattle.std.specs.Prelude.{IsErrOf, OnErr, string_bytes}
+use Rattle.std.specs.Prelude.{◌≡◌, ◌≢◌, ◌⊎◌, ℕ, List, [], ◌∷◌, ◌++◌, take, Option, Some, None, Result}
+use Rattle.std.specs.Prelude.{Ok, Err, IfOk, IfSome, IsErrOf, OnErr, string_bytes}
+use Rattle.std.specs.IoError.{error_kind}
+use Rattle.std.specs.declared.io.Error.{Error}
+use Rattle.std.specs.declared.io.ErrorKind.TheVariants.{NotFound, OutOfMemory}
 use Rattle.std.specs.declared.vec.Vec.{Vec}
 use Rattle.blob_digest.specs.Digest.{DigestValue}
 use Rattle.blob_digest.specs.Text.{digest_text}
@@ -24,6 +27,28 @@ IsFaultAt path Memory = ⊥
 abbrev pub IsErrorOf : {A : Type 0} → List ℕ → FileError A → Type 0
 IsErrorOf path Memory = Unit {0}
 IsErrorOf path e = IsFaultAt path e
+
+-- The error tells of this fault of the file at this path. Want of memory is no fault of the file.
+abbrev pub TellsFault : {A : Type 0} → List ℕ → Error → FileError A → Type 0
+TellsFault path fault (Io p f) = (error_kind fault ≢ OutOfMemory) × (f ≡ fault)
+    × (string_bytes p ≡ path)
+TellsFault path fault (NotAFile p) = ⊥
+TellsFault path fault (TooLarge p) = ⊥
+TellsFault path fault Memory = error_kind fault ≡ OutOfMemory
+
+-- the file isn't there
+abbrev pub IsNotThere : {A : Type 0} → FileError A → Type 0
+IsNotThere (Io p fault) = error_kind fault ≡ NotFound
+IsNotThere (NotAFile p) = ⊥
+IsNotThere (TooLarge p) = ⊥
+IsNotThere Memory = ⊥
+
+-- What a read of a file answers: its bytes, none where it isn't there, or else why it can't be read.
+abbrev pub IsReadAs : {A : Type 0} → Result (Vec ℕ A) (FileError A)
+    → Result (Option (Vec ℕ A)) (FileError A) → Type 0
+IsReadAs (Ok bytes) answer = answer ≡ Ok (Some bytes)
+IsReadAs (Err e) answer = (IsNotThere e × (answer ≡ Ok None))
+    ⊎ ((IsNotThere e → ⊥) × (answer ≡ Err e))
 
 -- the file for a digest in a part of the store: FOLDER/PART/HASH, with the 64 hex digits that the
 -- digest's text begins with

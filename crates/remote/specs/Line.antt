@@ -9,8 +9,8 @@ use Rattle.blob_source.specs.declared.source.FetchError.TheVariants.{Failed}
 use Rattle.remote.specs.declared.fault.Fault.{Fault}
 use Rattle.remote.specs.declared.fault.Fault.TheVariants.{Io, BadReply, Status, Broken}
 use Rattle.remote.specs.declared.line.Line.{Line}
-use Rattle.remote.specs.Flow.{Flow, SendsFront}
-use Rattle.remote.specs.Reply.{ReceivedReply, RoundTrip, RoundTripForNone}
+use Rattle.remote.specs.Flow.{Flow, IsOpenedAnew, SendsFront, SendsPart}
+use Rattle.remote.specs.Reply.{ReceivedReply, RoundTrip, RoundTripForNone, RoundTripInPart}
 
 -- a connection, where its stream stands as this tells
 pub record ConnectionValue : Type 0 where
@@ -66,10 +66,11 @@ pub record IsSameServer (old new : ConnectionValue) : Type 0 where
 abbrev pub MayBeClosed : ConnectionValue → Type 0
 MayBeClosed line = (line.shut ≡ true) ⊎ (line.flow.is_open ≢ Some true)
 
--- The stream for the next request: the one that there is, or one that was opened anew, where the
--- server may have closed that. Nothing more was sent than before.
+-- The stream for the next request: the one that there is, where no reply closed it, or it was opened
+-- anew, where the server may have closed it. Nothing more was sent than before.
 pub record IsNextStream (line : ConnectionValue) (stream : Flow) : Type 0 where
-  pub is : ((line.shut ≡ false) × (stream ≡ line.flow)) ⊎ MayBeClosed line
+  pub is : ((line.shut ≡ false) × (stream ≡ line.flow))
+      ⊎ (MayBeClosed line × IsOpenedAnew line.flow stream)
   pub sent : stream.sent ≡ line.flow.sent
 
 -- The one request was sent, and the next reply in its stream is this one, which may have closed it.
@@ -111,9 +112,22 @@ pub record ComesBadly (old new : ConnectionValue) (request : Request) : Type 0 w
   pub next : IsNextStream old stream
   pub trip : RoundTripForNone stream new.flow (text_of old request)
 
+-- All of the request and the next reply didn't go over the stream for it: not all was sent, or part
+-- of the reply was read.
+pub record ComesInPart (old new : ConnectionValue) (request : Request) : Type 0 where
+  pub stream : Flow
+  pub next : IsNextStream old stream
+  pub part : SendsPart stream new.flow (text_of old request)
+      ⊎ RoundTripInPart stream new.flow (text_of old request)
+
+-- the stream failed: it couldn't be opened anew, or ended within the request or the reply
+abbrev pub IsStreamFault : ConnectionValue → ConnectionValue → Request → Type 0
+IsStreamFault old new request =
+    (MayBeClosed old × (new.flow ≡ old.flow)) ⊎ ComesInPart old new request
+
 -- The fault is Broken just where the connection was broken before the request.
 abbrev pub IsConnectionFault : ConnectionValue → ConnectionValue → Request → Fault → Type 0
-IsConnectionFault old new request Io = old.broken ≡ false
+IsConnectionFault old new request Io = (old.broken ≡ false) × IsStreamFault old new request
 IsConnectionFault old new request BadReply = ComesBadly old new request
 IsConnectionFault old new request (Status status) = ComesStatus old new request status
 IsConnectionFault old new request Broken = old.broken ≡ true

@@ -1,5 +1,5 @@
 -- Replies in a stream (RFC 9112, sections 6 and 9.3).
-use Rattle.std.specs.Prelude.{◌≡◌, ℕ, ◌≤◌, ◌⊎◌, Bool, List, ◌++◌, length}
+use Rattle.std.specs.Prelude.{◌≡◌, ℕ, ◌<◌, ◌≤◌, ◌⊎◌, Bool, List, ◌++◌, length}
 use Rattle.http_core.specs.Block.{HasNoBlock, IsBlock}
 use Rattle.http_core.specs.ReplyHead.{IsReplyHead}
 use Rattle.http_core.specs.declared.reply_head.ReplyHead.{ReplyHead}
@@ -53,6 +53,32 @@ pub record RoundTripForNone (old new : Flow) (request : List ℕ) : Type 0 where
   pub between : Flow
   pub asks : Sends old between request
   pub answers : NextIsNoReply between new
+
+-- A lawful head and less than the body that it asks for.
+pub record IsHeadAndPart (bytes : List ℕ) : Type 0 where
+  pub block : List ℕ
+  pub body : List ℕ
+  pub head : ReplyHead
+  pub whole : bytes ≡ block ++ body
+  pub ends : IsBlock block
+  pub lawful : IsReplyHead block head
+  pub short : length body < head.length
+
+-- replies begin so: no block ends in the bytes so far, or the body behind the head isn't whole
+abbrev pub IsPartOfReply : List ℕ → Type 0
+IsPartOfReply bytes = ((length bytes < 16384) × HasNoBlock bytes) ⊎ IsHeadAndPart bytes
+
+-- part of the next reply was read, and nothing else
+pub record NextInPart (old new : Flow) : Type 0 where
+  pub text : List ℕ
+  pub part : IsPartOfReply text
+  pub read : Receives old new text
+
+-- the one request was sent, and then part of the next reply in the stream was read
+pub record RoundTripInPart (old new : Flow) (request : List ℕ) : Type 0 where
+  pub between : Flow
+  pub asks : Sends old between request
+  pub answers : NextInPart between new
 
 -- at the front of a stream stands one reply at most
 abbrev pub NextIsOne : Type 0

@@ -1,5 +1,6 @@
 -- What the steps do of which a call is made.
-use Rattle.std.specs.Prelude.{◌≡◌, ℕ, ◌+◌, ◌<◌, ◌≤◌, List, ◌++◌, length, true, false, Option, Some}
+use Rattle.std.specs.Prelude.{◌≡◌, ℕ, ◌+◌, ◌<◌, ◌≤◌, ◌⊎◌, List, [], ◌++◌, length, true, false}
+use Rattle.std.specs.Prelude.{Option, Some}
 use Rattle.blob_digest.specs.Digest.{DigestValue}
 use Rattle.http_core.specs.Block.{EndsBlock}
 use Rattle.blob_source.specs.Source.{greatest_count}
@@ -9,9 +10,9 @@ use Rattle.remote.specs.declared.fault.Fault.{Fault}
 use Rattle.remote.specs.declared.fault.Refusal.{Refusal}
 use Rattle.remote.specs.declared.fault.Refusal.TheVariants.{Io, BadReply}
 use Rattle.remote.specs.declared.table.Table.{Table}
-use Rattle.remote.specs.Flow.{Flow, SendsFront, Receives}
+use Rattle.remote.specs.Flow.{Flow, SendsFront, SendsPart, Receives}
 use Rattle.remote.specs.Line.{ConnectionValue, IsNextStream, IsSameServer, IsUncounted}
-use Rattle.remote.specs.Reply.{RoundTripForNone, NextIsNoReply}
+use Rattle.remote.specs.Reply.{RoundTripForNone, RoundTripInPart, NextIsNoReply, NextInPart}
 use Rattle.remote.specs.Table.{HasAnswer, IsSameBut, KeepsAnswers, told_by}
 
 -- ---- bytes
@@ -33,25 +34,39 @@ pub record Adds (old new : Flow) (most : ℕ) (before after : List ℕ) : Type 0
 
 -- ---- requests without a reply
 
--- the stream failed, or memory was wanting
+-- the stream failed, and nothing came, or memory was wanting
 pub record Interrupts (old new : Flow) (e : Refusal) : Type 0 where
   pub other : e ≡ BadReply → ⊥
+  pub none : e ≡ Io → Receives old new []
+  pub sent : new.sent ≡ old.sent
+
+-- fewer bytes came than these many, and nothing was sent
+abbrev pub ReceivesFewer : Flow → Flow → ℕ → Type 0
+ReceivesFewer old new size =
+    (bytes : List ℕ) × (length bytes < size) × Receives old new bytes
+
+-- the stream failed before so many bytes had come, or memory was wanting
+pub record InterruptsBody (old new : Flow) (size : ℕ) (e : Refusal) : Type 0 where
+  pub other : e ≡ BadReply → ⊥
+  pub part : e ≡ Io → ReceivesFewer old new size
   pub sent : new.sent ≡ old.sent
 
 -- no reply was read
 pub record ReadsNone (old new : Flow) (e : Refusal) : Type 0 where
   pub bad : e ≡ BadReply → NextIsNoReply old new
+  pub part : e ≡ Io → NextInPart old new
   pub sent : new.sent ≡ old.sent
 
 -- no reply came to the request
 pub record ComesNone (old new : Flow) (request : List ℕ) (e : Refusal) : Type 0 where
   pub bad : e ≡ BadReply → RoundTripForNone old new request
+  pub part : e ≡ Io → SendsPart old new request ⊎ RoundTripInPart old new request
   pub sent : SendsFront old new request
 
--- the stream took a front of the bytes, and then failed
+-- the stream took a front of the bytes, but not all, and then failed
 pub record SendsNoMore (old new : Flow) (bytes : List ℕ) (e : Refusal) : Type 0 where
   pub is : e ≡ Io
-  pub sent : SendsFront old new bytes
+  pub part : SendsPart old new bytes
 
 -- ---- the connection
 

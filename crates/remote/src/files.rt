@@ -1,6 +1,5 @@
-ghost use Rattle.std.specs.Prelude.{◌≡◌, ◌≢◌, ◌≤◌, IfErr, IfOk, MatchResult, Ok, vec_len};
-ghost use Rattle.std.specs.IoError.{error_kind};
-ghost use Rattle.remote.specs.Folder.{IsErrorOf};
+ghost use Rattle.std.specs.Prelude.{◌≡◌, ◌≢◌, ◌≤◌, IfErr, IfOk, Ok, vec_len};
+ghost use Rattle.remote.specs.Folder.{IsErrorOf, TellsFault};
 
 use std::alloc::{AllocError, Allocator};
 use std::io::ErrorKind;
@@ -74,7 +73,8 @@ fn io_error<A: Allocator>(
     path: &str,
     fault: io::Error,
 ) -> Result<FileError<A>, FileError<A>>
-    ensures error { MatchResult result (IsErrorOf path.now) (IsErrorOf path.now) }
+    ensures told { IfOk result (TellsFault path.now fault) }
+    ensures memory { IfErr result (λ e. e ≡ FileError.Memory) }
 {
     if fault.kind() == ErrorKind::OutOfMemory {
         return Ok(FileError::Memory);

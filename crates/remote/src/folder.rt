@@ -1,8 +1,9 @@
 ghost use Rattle.std.specs.Prelude.{◌≡◌, ◌≢◌, ◌+◌, ◌≤◌, IfErr, IfOk, IfSome, IsErrOf, OnErr, Some};
-ghost use Rattle.std.specs.Prelude.{codes, string_bytes};
+ghost use Rattle.std.specs.Prelude.{◌↔◌, IsTrue, codes, string_bytes};
 ghost use Rattle.blob_source.specs.Called.{Calls};
 ghost use Rattle.blob_source.specs.Source.{AsksBlob, AsksResult, GrowsAt, bytes_of, greatest_count};
-ghost use Rattle.remote.specs.Folder.{IsErrorOf, IsFaultAt, IsFreshFolder, LooksInFolder};
+ghost use Rattle.remote.specs.Folder.{IsErrorOf, IsFaultAt, IsFreshFolder, IsNotThere, IsReadAs};
+ghost use Rattle.remote.specs.Folder.{LooksInFolder};
 ghost use Rattle.remote.specs.Folder.{entry_path};
 ghost use Rattle.remote.specs.Folder.{blobs_of, error_of, place_of, results_of, telling_of};
 ghost use Rattle.remote.specs.Table.{HasAnswer, IsSameBut, KeepsAnswers, told_by};
@@ -89,11 +90,7 @@ impl<'r, R: Files + Alloc<A = A>, A: Allocator + Copy> Folder<'r, R, A> {
             (IsErrorOf (entry_path (string_bytes self.now.place) part.now digest.now)) }
     {
         let path = entry_path(self.rt.alloc(), self.place.as_str(), part, digest)?;
-        match read_file(self.rt, path.as_str()) {
-            Ok(bytes) => Ok(Some(bytes)),
-            Err(FileError::Io { fault, .. }) if fault.kind() == ErrorKind::NotFound => Ok(None),
-            Err(error) => Err(error),
-        }
+        answer_of(read_file(self.rt, path.as_str()))
     }
 
     /// Answers from the table, or else reads the file and keeps what it holds.
@@ -130,6 +127,33 @@ impl<'r, R: Files + Alloc<A = A>, A: Allocator + Copy> Folder<'r, R, A> {
                 Ok(answer)
             }
             Err(error) => Err(self.fail(error)),
+        }
+    }
+}
+
+/// Whether the file isn't there.
+fn is_not_there<A: Allocator>(error: &FileError<A>) -> bool
+    ensures { IsTrue result ↔ IsNotThere error.now }
+{
+    match error {
+        FileError::Io { fault, .. } => fault.kind() == ErrorKind::NotFound,
+        _ => false,
+    }
+}
+
+/// What a read of a file answers. That a file isn't there is no fault of it.
+fn answer_of<A: Allocator>(
+    read: Result<Vec<u8, A>, FileError<A>>,
+) -> Result<Option<Vec<u8, A>>, FileError<A>>
+    ensures { IsReadAs read result }
+{
+    match read {
+        Ok(bytes) => Ok(Some(bytes)),
+        Err(error) => {
+            if is_not_there(&error) {
+                return Ok(None);
+            }
+            Err(error)
         }
     }
 }

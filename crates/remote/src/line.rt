@@ -1,7 +1,7 @@
 ghost use Rattle.std.specs.Prelude.{◌≡◌, true, false, IfOk, IfErr, OnOk, option_map};
 ghost use Rattle.blob_source.specs.Source.{bytes_of};
 ghost use Rattle.remote.specs.Line.{IsReplied, Gets, Puts, RefusesRequest, get, is_taken, line_of};
-ghost use Rattle.remote.specs.Line.{put, request};
+ghost use Rattle.remote.specs.Line.{MayBeClosed, put, request};
 ghost use Rattle.remote.specs.Reply.{reply_value};
 ghost use Rattle.remote.specs.Steps.{Fails, Opens, Starves};
 
@@ -54,6 +54,7 @@ impl<S: Stream + Drop, A: Allocator + Copy> Line<S, A> {
     fn open(&mut self) -> bool
         ensures opened { result ≡ true → Opens (line_of S.flow self.old) (line_of S.flow self.new) }
         ensures shut { result ≡ false → line_of S.flow self.new ≡ line_of S.flow self.old }
+        ensures closed { result ≡ false → MayBeClosed (line_of S.flow self.old) }
     {
         if !self.shut && self.stream.is_open() {
             return true;

@@ -2,7 +2,8 @@ ghost use Rattle.std.specs.Prelude.{◌≡◌, ℕ, ◌<◌, ◌≤◌, List, le
 ghost use Rattle.http_core.specs.Block.{IsBlock};
 ghost use Rattle.remote.specs.Flow.{Sends, Receives};
 ghost use Rattle.remote.specs.Reply.{RoundTrip, NextReply, reply_value};
-ghost use Rattle.remote.specs.Steps.{Adds, ComesNone, Interrupts, ReadsNone, SendsNoMore};
+ghost use Rattle.remote.specs.Steps.{Adds, ComesNone, Interrupts, InterruptsBody, ReadsNone};
+ghost use Rattle.remote.specs.Steps.{SendsNoMore};
 
 use crate::block::wanting;
 use crate::fault::Refusal;
@@ -109,7 +110,7 @@ fn read_body<S: Stream, A: Allocator + Copy>(
     ensures body { IfOk result (λ body. length body.items ≡ size) }
     ensures read { IfOk result (λ body. Receives (S.flow stream.old)
         (S.flow stream.new) body.items) }
-    ensures err { IfErr result (Interrupts (S.flow stream.old) (S.flow stream.new)) }
+    ensures err { IfErr result (InterruptsBody (S.flow stream.old) (S.flow stream.new) size) }
 {
     let mut body = Vec::new(alloc);
     while body.len() < size {

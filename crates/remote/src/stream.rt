@@ -1,8 +1,9 @@
-ghost use Rattle.std.specs.Prelude.{◌≡◌, Some, IfErr, IfOk, IfSome, IsOk, OnErr, length};
+ghost use Rattle.std.specs.Prelude.{◌≡◌, ◌↔◌, false, Some, IfErr, IfOk, IfSome, IsOk, IsTrue, OnErr};
+ghost use Rattle.std.specs.Prelude.{MatchResult, OnOk, length};
 ghost use Rattle.std.specs.Io.{ReadsAtMost, WritesAtMost};
 ghost use Rattle.std.specs.Io.KnownBytes.{ReadConsumes, WriteAppends};
 ghost use Rattle.std.specs.IoError.{error_kind};
-ghost use Rattle.remote.specs.Flow.{Flow, flow_of, gives};
+ghost use Rattle.remote.specs.Flow.{Flow, IsOpenedAnew, flow_of, gives};
 
 use std::alloc::Allocator;
 use std::io;
@@ -11,7 +12,8 @@ use std::net::TcpStream;
 
 /// What gives and takes bytes, each direction apart from the other.
 pub trait Stream {
-    /// The bytes that are to come, those sent, and whether it is open, where that is known.
+    /// The bytes that are to come, those sent, whether it is open, and how often it was opened anew,
+    /// where that is known.
     ghost flow: { Self → Flow };
 
     /// Reads some bytes, none only at the end or with no room.
@@ -33,6 +35,7 @@ pub trait Stream {
     /// Opens it anew to the same peer. Nothing is sent by that.
     fn renew(&mut self) -> io::Result<()>
         ensures sent { (flow self.new).sent ≡ (flow self.old).sent }
+        ensures opened { OnOk result (IsOpenedAnew (flow self.old) (flow self.new)) }
         ensures err { OnErr result (flow self.new ≡ flow self.old) };
 }
 
@@ -40,7 +43,7 @@ pub trait Stream {
 impl Stream for TcpStream {
     ghost use Rattle.std.specs.Prelude.{None};
 
-    ghost flow = { λ _. record { coming = None; sent = None; is_open = None } };
+    ghost flow = { λ _. record { coming = None; sent = None; is_open = None; openings = None } };
 
     fn receive(&mut self, buf: &mut [u8]) -> io::Result<usize> {
         self.read(buf)
@@ -66,7 +69,10 @@ impl Stream for TcpStream {
 }
 
 /// Whether a read that doesn't wait found nothing so far.
-fn would_wait(came: io::Result<usize>) -> bool {
+fn would_wait(came: io::Result<usize>) -> bool
+    ensures { MatchResult came (λ _. result ≡ false)
+        (λ fault. IsTrue result ↔ (error_kind fault ≡ ErrorKind.WouldBlock)) }
+{
     match came {
         Ok(_) => false,
         Err(fault) => fault.kind() == ErrorKind::WouldBlock,

@@ -12,3 +12,4 @@ pub mod Lefts
 pub mod Complete
 pub mod Storing
 pub mod Stopping
+pub mod Listing

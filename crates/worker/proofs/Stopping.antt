@@ -144,7 +144,7 @@ module _ (A J : Type 0) (may : J → ProducedValue → Type 0) (t u : Telling) (
 
 -- ---- a runner that yields more
 
-module _ {A : Type 0} {z y : Yields} {t : Telling} (within : YieldsNoMore z y) where
+module _ (A : Type 0) (z y : Yields) (t : Telling) (within : YieldsNoMore z y) where
   does_within : (later : List Call) (c : Call) (old new : EngineValue) → Does A z t later c old new → Does A y t later c old new
   does_within later (started i id) old new d = d
   does_within later (ran id d v) old new f =

@@ -113,6 +113,13 @@ IsTurn most e children (turns.Start i) =
     (length children < most) × (i < length e.plan.steps) × IsStartable e i
 IsTurn most e children turns.Finish = 0 < length children
 
+-- The turn that comes next: the least step that may be started. The first child is waited for only
+-- where no step may be started, or no more children may run.
+abbrev pub IsNextTurn : {J : Type 0} → ℕ → EngineValue → List (Child J) → Turn → Type 0
+IsNextTurn most e children (turns.Start i) = (k : ℕ) → k < i → IsStartable e k → ⊥
+IsNextTurn most e children turns.Finish =
+    length children < most → (k : ℕ) → k < length e.plan.steps → IsStartable e k → ⊥
+
 -- whether a step has neither finished nor a job, as a number
 abbrev pub weight : Option FinishedValue → ℕ → ℕ
 weight (Some f) count = 0

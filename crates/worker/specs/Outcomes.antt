@@ -1,11 +1,11 @@
 -- Where what a job comes to is from.
-use Rattle.std.specs.Prelude.{◌≡◌, ℕ, List, Some, slice_get}
+use Rattle.std.specs.Prelude.{◌≡◌, ℕ, pos, List, Some, slice_get, Contains}
 use Rattle.std.specs.List.{AllByRecursion}
 use Rattle.blob_digest.specs.Digest.{DigestValue, digest_of}
 use Rattle.action_messages.specs.ActionResult.{ActionResultValue}
 use Rattle.action_messages.specs.Command.{CommandValue}
 use Rattle.action_messages.specs.Reads.{Reads}
-use Rattle.actions.specs.Outcome.{OutcomeValue}
+use Rattle.actions.specs.Outcome.{OutcomeValue, output_paths}
 use Rattle.actions.specs.Recorded.{IsRecorded}
 use Rattle.blob_source.specs.Source.{Blobs, Telling}
 use Rattle.blob_source.specs.Sink.{HasRight}
@@ -51,6 +51,11 @@ pub record IsYielded (yields : Yields) (B : Blobs) (e : EngineValue) (j : JobVal
   pub outcome : v ≡ produced.outcome
   pub action : HasRight B j.action
   pub blobs : HasAllRight B produced.blobs
+
+-- an outcome that a build takes: its exit code is 0, and the command lists each output
+abbrev pub CanBeTaken : CommandValue → OutcomeValue → Type 0
+CanBeTaken c v = (v.exit_code ≡ pos 0)
+    × AllByRecursion (Contains c.output_paths) (output_paths v.outputs)
 
 -- the outcome is the one that the store has recorded under a digest
 pub record IsHeld (t : Telling) (d : DigestValue) (v : OutcomeValue) : Type 0 where

@@ -1,5 +1,5 @@
 ghost use Rattle.std.specs.Prelude.{◌≡◌, ◌↔◌, ◌+◌, ◌-◌, ◌<◌, ◌≤◌, ℕ, [], Some, None, IsTrue};
-ghost use Rattle.std.specs.Prelude.{IsSome, IfSome, IfErr, IfOk, OnOk, OnErr, length, slice_get};
+ghost use Rattle.std.specs.Prelude.{IsSome, IfSome, IfErr, IfOk, Contains, OnOk, OnErr, length, slice_get};
 ghost use Rattle.blob_digest.specs.Digest.{digest_of};
 ghost use Rattle.action_messages.specs.Action.{action_bytes};
 ghost use Rattle.wire.specs.Bytes.{IsBytes};
@@ -15,18 +15,21 @@ ghost use Rattle.worker.specs.Values.{LayoutValue, ProducedValue, blobs_of};
 ghost use Rattle.worker.specs.Calls.{IsStartable};
 ghost use Rattle.worker.specs.Going.{AreJobsOf, IsJobOf, IsJobIn, job_value, IsBegun};
 ghost use Rattle.worker.specs.Going.{CameToNothing, IsLaunched, HasEndedFirst, EndsWell, Ends};
-ghost use Rattle.worker.specs.Going.{HasResultOfFirst, IsTurn, IsGoing, turns_left};
+ghost use Rattle.worker.specs.Going.{HasResultOfFirst, IsTurn, IsNextTurn, IsGoing, turns_left};
+ghost use Rattle.worker.specs.Outcomes.{CanBeTaken};
 ghost use Rattle.worker.specs.Stopped.{IsStoreFault, StopsChild, StopsStep, StopsBeginning};
 ghost use Rattle.worker.specs.Stopped.{StopsCollecting, StopsEnd, StopsSettling, StopsFirst};
 ghost use Rattle.worker.specs.Stopped.{IsRefusedBuild};
 ghost use Rattle.worker.specs.Stored.{HasTrees, HasResultOf, StoresSteps};
+ghost use Rattle.std.specs.List.{AllByRecursion};
+ghost use Rattle.actions.specs.Outcome.{outputs_in, output_paths};
 
 use crate::error::{BuildError, Refusal};
 use crate::laying_out::layout;
 use crate::runner::{Produced, Runner};
 use actions::{ActionResult, Command, Outcome, Output, recorded};
 use blob_digest::Digest;
-use messages::{MessageError, Tree};
+use messages::{MessageError, Path, Tree};
 use runs::{Engine, Job};
 use std::alloc::Allocator;
 use std::collections::VecDeque;
@@ -90,6 +93,7 @@ pub(crate) fn next_turn<A: Allocator + Copy, J>(
 ) -> Option<Turn>
     requires some { 0 < jobs }
     ensures turn { IfSome result (IsTurn jobs engine.now children.now.items) }
+    ensures next { IfSome result (IsNextTurn jobs engine.now children.now.items) }
     ensures none_runs { result ≡ None → children.now.items ≡ [] }
     ensures none_starts { result ≡ None
         → (k : ℕ) → k < length engine.now.plan.steps → IsStartable engine.now k → ⊥ }
@@ -135,6 +139,8 @@ fn put_input<A: Allocator + Copy, S: BlobSink<A>>(
     ensures kept { IsKept (S.tells sink.old) (S.tells sink.new) }
     ensures held { OnOk result
         (HasRight (S.tells sink.new).blobs (digest_of (action_bytes job.now.action))) }
+    ensures input { OnOk result
+        (HasAllRight (S.tells sink.new).blobs (blobs_of job.now.input.directories.items)) }
     ensures failed { IfErr result IsStoreFault }
 {
     let action = job.action.encode(alloc)?;
@@ -143,11 +149,21 @@ fn put_input<A: Allocator + Copy, S: BlobSink<A>>(
 }
 
 /// Whether an outcome is one that a build takes: exit code 0, and only listed outputs.
-fn fits<A: Allocator + Copy>(command: &Command<A>, outcome: &Outcome<A>) -> bool {
+fn fits<A: Allocator + Copy>(command: &Command<A>, outcome: &Outcome<A>) -> bool
+    ensures { IsTrue result ↔ CanBeTaken command.now outcome.now }
+{
     if outcome.exit_code() != 0 {
         return false;
     }
-    for output in outcome.outputs() {
+    lists_all(command, outcome.outputs())
+}
+
+/// Whether the command lists each of the outputs.
+fn lists_all<A: Allocator>(command: &Command<A>, outputs: &[(Path<A>, Output<A>)]) -> bool
+    ensures { IsTrue result ↔ AllByRecursion (Contains command.now.output_paths)
+        (output_paths (outputs_in outputs.now)) }
+{
+    for output in outputs {
         if !command.lists(&output.0) {
             return false;
         }
@@ -164,6 +180,8 @@ fn recorded_outcome<A: Allocator + Copy, S: BlobSink<A>>(
     ensures kept { IsKept (S.tells sink.old) (S.tells sink.new) }
     ensures held { IfOk result (λ found.
         IfSome found (IsHeld (S.tells sink.new) job.now.digest)) }
+    ensures fits { IfOk result (λ found. IfSome found (CanBeTaken job.now.command)) }
+    ensures unfailed { OnOk result ((S.tells sink.new).failures ≡ (S.tells sink.old).failures) }
     ensures failed { IfErr result IsStoreFault }
 {
     let Some(bytes) = sink.result(alloc, &job.digest)? else {

@@ -35,7 +35,7 @@ impl Failing {
 impl Stream for Failing {
     ghost use Rattle.std.specs.Prelude.{None};
 
-    ghost flow = { λ _. record { coming = None; sent = None; is_open = None } };
+    ghost flow = { λ _. record { coming = None; sent = None; is_open = None; openings = None } };
 
     fn receive(&mut self, buf: &mut [u8]) -> io::Result<usize> {
         if self.fails() {

@@ -5,7 +5,7 @@ use Rattle.http_core.specs.Session.{Closed}
 use Rattle.http_core.proofs.Pieces.{not_open}
 use Rattle.cache_server.proofs.Serving.{on_err}
 use Rattle.cache_server.proofs.Connections.{nothing_cut}
-use Rattle.cache_server.proofs.Counting.{RunsOnCounting, counting_first, counting_more, counting_ended, counting_closed, counting_stopped, counting_broken, counting_none}
+use Rattle.cache_server.proofs.Counting.{RunsOnCounting, counting_first, counting_more, counting_ended, counting_closed, counting_stopped, counting_broken, counting_none, counting_read}
 use Rattle.cache_server.proofs.running.run_counting.Goals as goal
 
 pub returns-in_err-session-clause-err : goal.returns-in_err-session-clause-err
@@ -47,3 +47,7 @@ loop-preserved g c =
 pub returns-clause-err : goal.returns-clause-err
 returns-clause-err g c =
     counting_stopped c.args.prefix.now c.args.cache.now (g.R.Read.remaining c.args.reader.now) (g.R.Read.remaining c.loop.reader) (g.R.Read.remaining c.loop.reader) (g.W.Write.contents c.args.writer.now) (g.W.Write.contents c.loop.writer) c.loop.session c.loop.cache c.args.counts.now c.loop.counts c.loop.invariant.runs (Keeps-refl (g.R.Read.remaining c.loop.reader))
+
+pub returns-in_default-clause-read_fault : goal.returns-in_default-clause-read_fault
+returns-in_default-clause-read_fault g c is =
+    counting_read c.args.prefix.now c.args.cache.now (g.R.Read.remaining c.args.reader.now) (g.R.Read.remaining c.loop.reader) (g.R.Read.remaining c.read.new.self) (g.W.Write.contents c.args.writer.now) (g.W.Write.contents c.loop.writer) c.loop.session c.loop.cache c.args.counts.now c.loop.counts c.loop.invariant.runs c.in_default.ensures.bytes

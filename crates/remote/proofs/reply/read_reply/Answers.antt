@@ -1,7 +1,9 @@
-use Rattle.std.proofs.Common.{inl, subst}
+use Rattle.std.proofs.Common.{inl, refl, subst, ◌∙◌}
 use Rattle.http_core.specs.ReplyHead.{IsReplyHead}
 use Rattle.http_core.specs.declared.reply_head.ReplyHead.{ReplyHead}
-use Rattle.remote.proofs.Replies.{next_reply}
+use Rattle.remote.specs.Flow.{Receives}
+use Rattle.remote.specs.Steps.{InterruptsBody, ReadsNone}
+use Rattle.remote.proofs.Replies.{bad_io, next_reply, reply_in_part, told}
 use Rattle.remote.proofs.reply.read_reply.Goals as goal
 
 pub returns-clause-ok : goal.returns-clause-ok
@@ -15,5 +17,22 @@ returns-in_default-clause-err g c =
     let none : (head : ReplyHead) → IsReplyHead block head → ⊥ = subst (λ z. (head : ReplyHead) → IsReplyHead z head → ⊥) c.deref.ensures.value c.in_default.ensures.none in
     record {
       bad = λ _. record { text = block; bad = inl (c.in_ok-block.ensures.block, none); read = c.in_ok-block.ensures.read };
+      part = λ is. absurd (bad_io is);
       sent = c.in_ok-block.ensures.read.sent;
     }
+
+pub returns-in_err-body-clause-err : goal.returns-in_err-body-clause-err
+returns-in_err-body-clause-err g c =
+    let flow = g.S.Stream.flow in
+    let old = flow c.args.stream.now in
+    let mid = flow c.read_block.new.stream in
+    let new = flow c.read_body.new.stream in
+    let head = c.in-Some.head in
+    let reads : Receives old mid c.in_ok-block.block.items = c.in_ok-block.ensures.read in
+    let i : InterruptsBody mid new head.length c.in_err-body.field-0.0 = c.in_err-body.ensures.err in
+    let ends : ReadsNone old new c.in_err-body.field-0.0 = record {
+      bad = λ is. absurd (i.other is);
+      part = λ is. reply_in_part old mid new c.in_ok-block.block.items c.deref.result.now head head.length reads c.in_ok-block.ensures.block c.deref.ensures.value c.in-Some.ensures.some refl (i.part is);
+      sent = i.sent ∙ reads.sent;
+    } in
+    told c.from_residual-in_err-body.result c.in_err-body.field-0.0 (ReadsNone old new) c.from_residual-in_err-body.ensures.1 ends
