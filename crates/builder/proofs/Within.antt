@@ -13,7 +13,7 @@ use Rattle.builder.specs.declared.fault.Fault.{Fault}
 use Rattle.builder.specs.declared.telling.Told.{Told}
 use Rattle.builder.specs.declared.telling.Told.TheVariants.{Built, Failed}
 
-module _ {A : Type 0} {z y : Yields} {most : ℕ} {plan : PlanValue} {sources : DigestValue} {told : Telling} (within : YieldsNoMore z y) where
+module _ (A : Type 0) (z y : Yields) (most : ℕ) (plan : PlanValue) (sources : DigestValue) (told : Telling) (within : YieldsNoMore z y) where
   built_within : (b : BuiltValue) → IsBuilt A z most plan sources told b → IsBuilt A y most plan sources told b
   built_within b h = record {
     opening = h.opening;

@@ -17,4 +17,4 @@ module _ (plan : PlanValue) (sources : DigestValue) (most : ℕ) (told : Telling
   of_any (Failed line) h = (most, told, h)
 
   pub told_of : (z : Yields) (r : Told Global) → IsBuildTold z most plan sources told r → IsToldOf plan sources r
-  told_of z r h = of_any r (told_within (λ l c p may. tt) r h)
+  told_of z r h = of_any r (told_within Global z any_yields most plan sources told (λ l c p may. tt) r h)
