@@ -1,7 +1,10 @@
-ghost use Rattle.std.specs.Prelude.{◌≡◌, ◌↔◌, IsTrue, OnOk, OnErr};
+ghost use Rattle.std.specs.Prelude.{◌≡◌, ◌↔◌, ◌++◌, ◌∷◌, [], Some, IfOk, IsErrOf, IsTrue, OnOk};
+ghost use Rattle.std.specs.Prelude.{OnErr};
+ghost use Rattle.blob_digest.specs.Digest.{DigestValue, digest_of};
+ghost use Rattle.blob_source.specs.Called.{Calls};
 ghost use Rattle.blob_source.specs.Memory.{telling_of, told_by};
 ghost use Rattle.blob_source.specs.Memory.{HoldsBlob, ResultIsHeld, IsUnchanged, TellsNothing};
-ghost use Rattle.blob_source.specs.Sink.{HasRight};
+ghost use Rattle.blob_source.specs.Sink.{HasRight, IsPut, PutsBlob, PutsResult};
 
 use crate::source::{BlobSink, BlobSource, FetchError};
 use blob_digest::Digest;
@@ -99,7 +102,16 @@ impl<A: Allocator + Copy> BlobSource<A> for MemorySource<A> {
 }
 
 impl<A: Allocator + Copy> BlobSink<A> for MemorySource<A> {
-    fn put_blob(&mut self, alloc: A, bytes: &[u8]) -> Result<Digest, FetchError> {
+    // A put that is refused leaves what is told.
+    fn put_blob(&mut self, alloc: A, bytes: &[u8]) -> Result<Digest, FetchError>
+        ensures named { IfOk result (λ digest. digest ≡ digest_of bytes.now) }
+        ensures held { OnOk result (IsPut bytes.now
+            (telling_of self.old).blobs (telling_of self.new).blobs) }
+        ensures called { Calls (PutsBlob bytes.now) (telling_of self.old) (telling_of self.new)
+            (IsErrOf result FetchError.Failed) }
+        ensures refused { OnErr result ((e : DigestValue)
+            → (telling_of self.new).blobs e ≡ (telling_of self.old).blobs e) }
+    {
         self.calls = self.calls.saturating_add(1);
         let digest = Digest::of(bytes);
         if self.has_blob(&digest) {
@@ -109,7 +121,16 @@ impl<A: Allocator + Copy> BlobSink<A> for MemorySource<A> {
         Ok(digest)
     }
 
-    fn put_result(&mut self, alloc: A, digest: &Digest, bytes: &[u8]) -> Result<(), FetchError> {
+    fn put_result(&mut self, alloc: A, digest: &Digest, bytes: &[u8]) -> Result<(), FetchError>
+        ensures held { OnOk result ((telling_of self.new).results digest.now ≡ Some bytes.now) }
+        ensures listed { OnOk result ((telling_of self.new).puts
+            ≡ (telling_of self.old).puts ++ digest.now ∷ []) }
+        ensures unlisted { OnErr result ((telling_of self.new).puts ≡ (telling_of self.old).puts) }
+        ensures called { Calls (PutsResult digest.now bytes.now)
+            (telling_of self.old) (telling_of self.new) (IsErrOf result FetchError.Failed) }
+        ensures refused { OnErr result ((e : DigestValue)
+            → (telling_of self.new).results e ≡ (telling_of self.old).results e) }
+    {
         self.calls = self.calls.saturating_add(1);
         self.puts.reserve(1)?;
         self.results

@@ -1,6 +1,6 @@
 -- A store in a folder: what it tells, and what a look-up in it does.
-use Rattle.std.specs.Prelude.{◌≡◌, ◌≢◌, ◌⊎◌, ℕ, List, [], ◌∷◌, ◌++◌, take, Option, Some, None, Result}
-use Rattle.std.specs.Prelude.{Ok, Err, IfOk, IfSome, IsErrOf, OnErr, string_bytes}
+use Rattle.std.specs.Prelude.{◌≡◌, ◌≢◌, ◌⊎◌, ℕ, List, [], ◌∷◌, ◌++◌, take, Option, Some, None}
+use Rattle.std.specs.Prelude.{Result, Ok, Err, IfOk, IfSome, IsErrOf, OnErr, string_bytes}
 use Rattle.std.specs.IoError.{error_kind}
 use Rattle.std.specs.declared.io.Error.{Error}
 use Rattle.std.specs.declared.io.ErrorKind.TheVariants.{NotFound, OutOfMemory}
@@ -43,7 +43,7 @@ IsNotThere (NotAFile p) = ⊥
 IsNotThere (TooLarge p) = ⊥
 IsNotThere Memory = ⊥
 
--- What a read of a file answers: its bytes, none where it isn't there, or else why it can't be read.
+-- what a read of a file answers: its bytes, none where it isn't there, or why it can't be read
 abbrev pub IsReadAs : {A : Type 0} → Result (Vec ℕ A) (FileError A)
     → Result (Option (Vec ℕ A)) (FileError A) → Type 0
 IsReadAs (Ok bytes) answer = answer ≡ Ok (Some bytes)

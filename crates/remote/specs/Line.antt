@@ -66,8 +66,8 @@ pub record IsSameServer (old new : ConnectionValue) : Type 0 where
 abbrev pub MayBeClosed : ConnectionValue → Type 0
 MayBeClosed line = (line.shut ≡ true) ⊎ (line.flow.is_open ≢ Some true)
 
--- The stream for the next request: the one that there is, where no reply closed it, or it was opened
--- anew, where the server may have closed it. Nothing more was sent than before.
+-- The stream for the next request: the one that there is, where no reply closed it, or one that was
+-- opened anew, where the server may have closed that. Nothing more was sent than before.
 pub record IsNextStream (line : ConnectionValue) (stream : Flow) : Type 0 where
   pub is : ((line.shut ≡ false) × (stream ≡ line.flow))
       ⊎ (MayBeClosed line × IsOpenedAnew line.flow stream)

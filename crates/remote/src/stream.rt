@@ -1,5 +1,5 @@
-ghost use Rattle.std.specs.Prelude.{◌≡◌, ◌↔◌, false, Some, IfErr, IfOk, IfSome, IsOk, IsTrue, OnErr};
-ghost use Rattle.std.specs.Prelude.{MatchResult, OnOk, length};
+ghost use Rattle.std.specs.Prelude.{◌≡◌, ◌↔◌, false, Some, IfErr, IfOk, IfSome, IsOk, IsTrue};
+ghost use Rattle.std.specs.Prelude.{MatchResult, OnErr, OnOk, length};
 ghost use Rattle.std.specs.Io.{ReadsAtMost, WritesAtMost};
 ghost use Rattle.std.specs.Io.KnownBytes.{ReadConsumes, WriteAppends};
 ghost use Rattle.std.specs.IoError.{error_kind};
@@ -12,8 +12,8 @@ use std::net::TcpStream;
 
 /// What gives and takes bytes, each direction apart from the other.
 pub trait Stream {
-    /// The bytes that are to come, those sent, whether it is open, and how often it was opened anew,
-    /// where that is known.
+    /// The bytes that are to come, those sent, whether it is open, and how often it was opened
+    /// anew, where that is known.
     ghost flow: { Self → Flow };
 
     /// Reads some bytes, none only at the end or with no room.
