@@ -95,7 +95,7 @@ where
 fn check_work<R: Files + AllocGlobal>(rt: &R, path: &str) -> Result<(), CliError>
     ensures fault { IfErr result (IsFolderFault path.now) }
 {
-    let mut entries = match fs::read_dir(rt, path) {
+    let mut entries = match fs::read_dir(&rt, path) {
         Ok(entries) => entries,
         Err(fault) => return Err(file_error(rt, path, fault)?),
     };
