@@ -2,7 +2,8 @@
 """Tries `build` with real processes, over the program's own server: build_rows.py PROGRAM
 
 Steps that make a file, end with a code, name their program badly, make what is no output, read an input, are ended by
-a signal, and wait for each other; the second build of a plan, which runs nothing; and the `verify` of what was built.
+a signal, and wait for each other; the second build of a plan, which runs nothing; the `verify` of what was built; and
+folders that can't be those of the jobs.
 It prints a line for each row, and ends with status 1 where one failed. Nothing outside this machine is asked.
 """
 
@@ -82,11 +83,12 @@ class Rows:
             text += f"step {name} {text_of(frame)}\n" + "".join(f"in {it}\n" for it in reads)
         return text + "root\n" + "".join(f"in {it}\n" for it in lines)
 
-    def build(self, plan, sources=EMPTY, jobs=1):
-        """Builds a plan; the run, and the folder of its plan and its record."""
+    def build(self, plan, sources=EMPTY, jobs=1, spoil=lambda work: None):
+        """Builds a plan; the run, and the folder of its plan and its record. The folder of the jobs is spoilt first."""
         self.builds += 1
         place = f"{self.work}/{self.builds}"
         os.makedirs(f"{place}/work")
+        spoil(f"{place}/work")
         with open(f"{place}/plan", "w", encoding="utf-8") as it:
             it.write(plan)
         done = self.run("build", "--server", self.address, "--sources", sources, "--plan", f"{place}/plan", "--record",
@@ -146,12 +148,22 @@ def rows_of_two_steps(rows):
         rows.expect(f"two steps that wait for each other, {jobs} at once", done, place, out, status)
 
 
+def rows_of_the_folder(rows):
+    plan = one_step(rows, ["/bin/sh", "-c", "exit 0"])
+    for name, spoil, status in [("no folder for the jobs", os.rmdir, 3),
+                                ("a folder that isn't empty", lambda work: os.mkdir(f"{work}/0"), 2)]:
+        done, place = rows.build(plan, spoil=spoil)
+        rows.expect(name, done, place, "", status)
+        rows.tell("and it is named", f'"{place}/work"' in done.stderr, done.stderr)
+
+
 def main(program):
     with tempfile.TemporaryDirectory() as work:
         rows = Rows(os.path.realpath(program), work)
         try:
             rows_of_one_step(rows)
             rows_of_two_steps(rows)
+            rows_of_the_folder(rows)
         finally:
             rows.server.kill()
     return 1 if rows.failed else 0
