@@ -1,5 +1,5 @@
 -- After a build its store serves it, so that its record is answered yes.
-use Rattle.std.proofs.Common.{◌≡◌, ℕ, zero, suc, ◌<◌, List, [], ◌∷◌, ◌++◌, length, set, Option, Some, None, refl, ap, sym, ◌∙◌, subst, arith, inl, inr}
+use Rattle.std.proofs.Common.{◌≡◌, ℕ, zero, suc, ◌<◌, List, [], ◌∷◌, ◌++◌, Option, Some, None, refl, ap, sym, ◌∙◌, subst, arith, inl, inr}
 use Rattle.std.specs.Prelude.{◌⊎◌, slice_get, option_map, Contains}
 use Rattle.std.specs.List.{AllByRecursion}
 use Rattle.std.proofs.lemmas.Option.{slice_get_within}
@@ -20,14 +20,12 @@ use Rattle.tree.proofs.Children.{child-directory_of}
 use Rattle.tree.proofs.LookupLemmas.{IsBlobOfEntry, entry_blobs, ReadsTrees, told_reads}
 use Rattle.tree.proofs.OrderLemmas.{IsOrderedAt, entry_ordered}
 use Rattle.verifier.specs.Build.{Meaning, ActionMeaning, action_digest, Outcome, Event, State, action_of}
-use Rattle.verifier.specs.Verdict.{IsVerdict}
-use Rattle.verifier.specs.declared.verdict.Verdict.TheVariants.{Yes}
 use Rattle.verifier.proofs.FreshRuns.{one_answer}
-use Rattle.runs.specs.Calls.{IsFinished, IsOpened, HaveAllFinished, placed, kept_digests}
+use Rattle.runs.specs.Calls.{IsFinished, IsOpened, placed, kept_digests}
 use Rattle.runs.specs.Engine.{FinishedValue, JobValue, EngineValue, IsEngine, at_number, finished_in, job_in}
 use Rattle.runs.specs.Looking.{LooksUpOrigin, Resolves}
 use Rattle.runs.specs.Mirrors.{IsConcernedIn, IsMirrored}
-use Rattle.runs.specs.Served.{IsLineOf, TellsWay, Serves, IsServedYes}
+use Rattle.runs.specs.Served.{IsLineOf, TellsWay, Serves}
 use Rattle.runs.proofs.Lost.{steady_of}
 use Rattle.runs.proofs.Noted.{outcome_there, kept_each}
 use Rattle.runs.proofs.Places.{set_at}

@@ -1,14 +1,13 @@
 -- What is said of a build by one runner is said of it by a runner that yields more.
-use Rattle.std.proofs.Common.{◌≡◌, ℕ, inl, inr}
+use Rattle.std.proofs.Common.{ℕ, inl, inr}
 use Rattle.blob_digest.specs.Digest.{DigestValue}
 use Rattle.blob_source.specs.Source.{Telling}
 use Rattle.plan.specs.Values.{PlanValue}
-use Rattle.runs.specs.Engine.{EngineValue}
 use Rattle.worker.specs.Outcomes.{Yields, YieldsNoMore}
 use Rattle.worker.proofs.Stopping.{led_within, refused_within}
 use Rattle.builder.specs.Built.{BuiltValue, IsBuilt}
-use Rattle.builder.specs.Refused.{IsBuildFault, FailsStep, FailsRoot}
-use Rattle.builder.specs.Telling.{TellsBuilt, TellsFailed, IsBuildTold}
+use Rattle.builder.specs.Refused.{IsBuildFault}
+use Rattle.builder.specs.Telling.{IsBuildTold}
 use Rattle.builder.specs.declared.fault.Fault.{Fault}
 use Rattle.builder.specs.declared.telling.Told.{Told}
 use Rattle.builder.specs.declared.telling.Told.TheVariants.{Built, Failed}

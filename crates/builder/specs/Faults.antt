@@ -15,7 +15,7 @@ use Rattle.worker.specs.declared.runner.RunError.TheVariants as children
 use Rattle.builder.specs.declared.fault.Fault.{Fault}
 use Rattle.builder.specs.declared.fault.Fault.TheVariants.{Refused, Fetch, Device, Memory}
 use Rattle.builder.specs.declared.fault.Place.{Place}
-use Rattle.builder.specs.declared.fault.Place.TheVariants.{Step, Root}
+use Rattle.builder.specs.declared.fault.Place.TheVariants.{Step}
 
 -- whatever is wrong with a message that is fetched has one number
 abbrev pub of_source : {A : Type 0} → Place → TreeError A → Fault

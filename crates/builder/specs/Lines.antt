@@ -1,5 +1,5 @@
 -- The one line that tells what a build came to (docs/FORMATS.md).
-use Rattle.std.specs.Prelude.{ℕ, List, [], ◌∷◌, ◌++◌, codes, decimal, length}
+use Rattle.std.specs.Prelude.{ℕ, List, [], ◌∷◌, ◌++◌, codes, decimal}
 use Rattle.blob_digest.specs.Digest.{DigestValue}
 use Rattle.blob_digest.specs.Text.{digest_text}
 use Rattle.plan.specs.Values.{StepValue}

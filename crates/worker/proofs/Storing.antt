@@ -1,6 +1,6 @@
 -- A store has what a build has finished, whatever else is put.
 use Rattle.std.proofs.Common.{◌≡◌, ◌≢◌, ℕ, zero, suc, ◌<◌, true, false, Bool, List, [], ◌∷◌, ◌++◌, ◌+◌, take, get_or, length, set, Option, Some, None, refl, ap, sym, ◌∙◌, subst, arith, inl, inr}
-use Rattle.std.specs.Prelude.{◌⊎◌, Result, Ok, Err, OnOk, ◌==◌, ℤ, pos, negsuc, Contains, IsSome, slice_get}
+use Rattle.std.specs.Prelude.{◌⊎◌, Result, Ok, Err, OnOk, ◌==◌, ℤ, pos, negsuc, IsSome, slice_get}
 use Rattle.std.specs.List.{AllByRecursion}
 use Rattle.std.proofs.lemmas.Bool.Decides.{eqb_tells}
 use Rattle.std.proofs.lemmas.List.{map-append, take_more}
@@ -17,13 +17,13 @@ use Rattle.blob_source.specs.Source.{Blobs, Telling, Grows, IsUnder, IsBlobUnder
 use Rattle.blob_source.specs.Sink.{HasRight, KeepsRight}
 use Rattle.tree.specs.Tree.{Name}
 use Rattle.tree.specs.Form.{NodeValue}
-use Rattle.runs.specs.Calls.{IsFinished, HaveOneForm, Disagrees, first_kept, with_finished}
-use Rattle.runs.specs.Engine.{FinishedValue, JobValue, EngineValue, at_number, finished_in, job_in}
+use Rattle.runs.specs.Calls.{IsFinished, HaveOneForm, Disagrees, first_kept}
+use Rattle.runs.specs.Engine.{FinishedValue, EngineValue, at_number, finished_in}
 use Rattle.runs.specs.Served.{Keeps, HoldsTrees, IsKeptOf}
 use Rattle.runs.proofs.Places.{set_other}
 use Rattle.verifier.proofs.FreshRuns.{one_answer}
 use Rattle.worker.specs.Stores.{IsKept, IsKeptBut}
-use Rattle.worker.specs.Stored.{IsTreeOf, IsToldOrTree, IsStored, HasTree, HasTrees, HasResultOf, IsForForm, StoresStep, StoresSteps, IsHeldWhole}
+use Rattle.worker.specs.Stored.{IsToldOrTree, IsStored, HasTree, HasTrees, HasResultOf, IsForForm, StoresStep, StoresSteps, IsHeldWhole}
 use Rattle.worker.proofs.Keeping.{right_still, same_bytes, same_digest}
 use Rattle.worker.proofs.Telling.{recorded_still}
 

@@ -109,4 +109,3 @@ module _ (A J : Type 0) (y : Yields) (may : J → ProducedValue → Type 0) (t u
       → OnOk r ((entry : N) (most : ℕ) (first : EngineValue) → IsGoing A (ys entry) may t most first now cs → StoresSteps t now → StoresSteps u new)
   finish_stored ys (Ok x) ended put = λ entry. ended_stored ended put (ys entry)
   finish_stored ys (Err x) ended put = tt
-

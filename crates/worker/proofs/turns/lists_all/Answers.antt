@@ -1,5 +1,5 @@
-use Rattle.std.proofs.Common.{rules, ◌≡◌, ◌∙◌, sym, true, false}
-use Rattle.worker.proofs.Listing.{listed_next, listed_not, listed_all}
+use Rattle.std.proofs.Common.{◌≡◌, ◌∙◌, sym, true, false}
+use Rattle.worker.proofs.Listing.{listed_next, listed_not}
 use Rattle.worker.proofs.turns.lists_all.Goals as goal
 
 pub loop-output-preserved : goal.loop-output-preserved

@@ -1,9 +1,8 @@
-use Rattle.std.proofs.Common.{take, sym, subst, ap, ◌∙◌}
-use Rattle.std.specs.List.{AllByRecursion}
+use Rattle.std.proofs.Common.{sym, subst, ◌∙◌}
 use Rattle.blob_digest.specs.Digest.{digest_of}
 use Rattle.messages.specs.Tree.{tree_bytes}
 use Rattle.blob_source.specs.Sink.{HasRight}
-use Rattle.actions.specs.Outcome.{output_value, outputs_in}
+use Rattle.actions.specs.Outcome.{output_value}
 use Rattle.worker.specs.Stores.{IsKept}
 use Rattle.worker.specs.Stored.{HasTree}
 use Rattle.worker.proofs.Keeping.{kept_none, kept_trans, kept_blob, right_put}
