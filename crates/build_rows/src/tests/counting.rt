@@ -1,0 +1,125 @@
+use actions::{Command, Outcome, Output};
+use blob_digest::Digest;
+use messages::Path;
+use std::alloc::{AllocError, Allocator};
+use worker::{Layout, Produced, RunError, Runner};
+
+/// What each child comes to.
+#[derive(Clone, Copy)]
+pub enum Came {
+    /// This exit code, and no outputs.
+    Code(i32),
+    /// A file at the path, with this content.
+    File(&'static str, &'static str),
+}
+
+/// Children of one kind, which it counts.
+#[derive(Drop)]
+pub struct Counting {
+    came: Came,
+    alive: u64,
+    most: u64,
+    started: u64,
+    has_waited: bool,
+    at_first: u64,
+}
+
+/// A child that was started.
+#[derive(Drop)]
+pub struct Counted;
+
+impl Counting {
+    /// No child yet.
+    pub fn new(came: Came) -> Counting {
+        Counting {
+            came,
+            alive: 0,
+            most: 0,
+            started: 0,
+            has_waited: false,
+            at_first: 0,
+        }
+    }
+
+    /// How many children weren't waited for yet.
+    pub fn alive(&self) -> u64 {
+        self.alive
+    }
+
+    /// How many children were started before the first was waited for, the most that were alive at
+    /// once, and how many were started in all.
+    pub fn counts(&self) -> (u64, u64, u64) {
+        (self.at_first, self.most, self.started)
+    }
+}
+
+/// The path of this text.
+fn path_of<A: Allocator>(alloc: A, text: &str) -> Result<Path<A>, AllocError> {
+    match Path::new(alloc, text.as_bytes()) {
+        Ok(path) => Ok(path),
+        Err(_) => Err(AllocError),
+    }
+}
+
+/// A child's outcome of one file, whose content is among the blobs.
+fn made_file<A: Allocator + Copy>(
+    alloc: A,
+    path: &str,
+    content: &str,
+) -> Result<Produced<A>, AllocError> {
+    let digest = Digest::of(content.as_bytes());
+    let output = Output::File {
+        digest,
+        executable: false,
+    };
+    let mut outcome = Outcome::new(alloc, 0);
+    let path = path_of(alloc, path)?;
+    if outcome.add(alloc, path, output).is_err() {
+        return Err(AllocError);
+    }
+    let mut blobs = Vec::new(alloc);
+    blobs.push(Vec::from_slice(alloc, content.as_bytes())?)?;
+    Ok(Produced { outcome, blobs })
+}
+
+impl<A: Allocator + Copy> Runner<A> for Counting {
+    type Job = Counted;
+
+    ghost yields = { λ _ _ _ _. Unit {0} };
+
+    ghost may_give = { λ _ _. Unit {0} };
+
+    ghost alive = { λ r. r.alive };
+
+    ghost failures = { λ _. 0 };
+
+    fn start(
+        &mut self,
+        _alloc: A,
+        _layout: &Layout<A>,
+        _command: &Command<A>,
+    ) -> Result<Counted, RunError<A>> {
+        let Some(alive) = self.alive.checked_add(1) else {
+            return Err(RunError::Memory);
+        };
+        self.alive = alive;
+        self.most = self.most.max(alive);
+        self.started = self.started.saturating_add(1);
+        if !self.has_waited {
+            self.at_first = self.started;
+        }
+        Ok(Counted)
+    }
+
+    fn finish(&mut self, alloc: A, _job: Counted) -> Result<Produced<A>, RunError<A>> {
+        self.has_waited = true;
+        self.alive = self.alive.saturating_sub(1);
+        match self.came {
+            Came::Code(code) => Ok(Produced {
+                outcome: Outcome::new(alloc, code),
+                blobs: Vec::new(alloc),
+            }),
+            Came::File(path, content) => Ok(made_file(alloc, path, content)?),
+        }
+    }
+}
