@@ -100,8 +100,8 @@ fn end<A: Allocator + Copy, S: BlobSink<A>>(
 }
 
 /// Builds a plan over the sources with this digest, with as many children at once as `jobs` says.
-/// Whatever it answers, each child that was started was waited for, and what the store had under its
-/// own digest stays told.
+/// Whatever it answers, each child that was started was waited for, and what the store had under
+/// its own digest stays told.
 pub fn build_plan<A: Allocator + Copy, S: BlobSink<A>, N: Runner<A>>(
     alloc: A,
     sources: Digest,

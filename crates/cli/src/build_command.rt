@@ -1,4 +1,5 @@
-ghost use Rattle.std.specs.Prelude.{◌≡◌, ◌<◌, ℕ, List, IfErr, IfOk, IsTrue, OnOk, codes, string_bytes};
+ghost use Rattle.std.specs.Prelude.{◌≡◌, ◌<◌, ℕ, List, IfErr, IfOk, IsTrue, OnOk, codes};
+ghost use Rattle.std.specs.Prelude.{string_bytes};
 ghost use Rattle.std.specs.Io.KnownBytes.{Appends};
 ghost use Rattle.clap.specs.Words.{found_of, rows_of};
 ghost use Rattle.cli.specs.Built.{IsToldOf, PrintsBuild};
@@ -133,8 +134,8 @@ fn print_text<O: Write>(line: &str, out: &mut O) -> Result<(), CliError>
     Ok(())
 }
 
-/// Builds the plan that the words name, and prints the line of what it came to. Where it came to its
-/// root, the record is written first. It answers whether it did.
+/// Builds the plan that the words name, and prints the line of what it came to. Where it came to
+/// its root, the record is written first. It answers whether it did.
 pub(crate) fn run_build<R, O: Write>(
     rt: &R,
     matches: &ArgMatches<'_>,

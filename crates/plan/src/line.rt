@@ -50,7 +50,8 @@ fn read_source<A: Allocator + Copy>(
     path: &[u8],
 ) -> Result<Result<Origin<A>, Fault>, AllocError>
     ensures { IfOk result (λ read. MatchResult read
-        (λ origin. IsOrigin (length steps.now) (origin_value origin) × (codes "src " ++ path.now ≡ origin_words steps.now (origin_value origin)))
+        (λ origin. IsOrigin (length steps.now) (origin_value origin)
+        × (codes "src " ++ path.now ≡ origin_words steps.now (origin_value origin)))
         (IsOriginFault steps.now (codes "src " ++ path.now))) }
 {
     if path == b".".as_slice() {
@@ -69,7 +70,8 @@ fn read_output<A: Allocator + Copy>(
     words: &[u8],
 ) -> Result<Result<Origin<A>, Fault>, AllocError>
     ensures { IfOk result (λ read. MatchResult read
-        (λ origin. IsOrigin (length steps.now) (origin_value origin) × (codes "out " ++ words.now ≡ origin_words steps.now (origin_value origin)))
+        (λ origin. IsOrigin (length steps.now) (origin_value origin)
+        × (codes "out " ++ words.now ≡ origin_words steps.now (origin_value origin)))
         (IsOriginFault steps.now (codes "out " ++ words.now))) }
 {
     let Some((name, path)) = split_once(words, b' ') else {

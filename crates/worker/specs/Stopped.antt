@@ -20,10 +20,10 @@ use Rattle.worker.specs.Values.{ProducedValue, IsAbsolute}
 abbrev pub ComesTo : Yields → Telling → EngineValue → JobValue → OutcomeValue → Type 0
 ComesTo yields t e j v = IsYielded yields t.blobs e j v ⊎ IsHeld t j.action v
 
--- A step is refused: the engine doesn't start it, or doesn't take what its job came to; or the input
--- of its job isn't laid out; or its command doesn't name its program from the root. That a runner
--- or the store failed, that what stands at a path is no output, and that memory ran out needs no
--- reason here.
+-- A step is refused: the engine doesn't start it, or doesn't take what its job came to; or the
+-- input of its job isn't laid out; or its command doesn't name its program from the root. That a
+-- runner or the store failed, that what stands at a path is no output, and that memory ran out
+-- needs no reason here.
 abbrev pub StopsStep : {A : Type 0} → Yields → Telling → EngineValue → ℕ → Refusal A → Type 0
 StopsStep yields t e i (refusals.Engine why) = IsStartFault t.blobs e i why
     ⊎ ((id : ℕ) × (j : JobValue) × (job_in id e ≡ Some j) × (j.step ≡ i)
@@ -36,8 +36,8 @@ StopsStep yields t e i (refusals.Run children.NotAbsolute) =
 StopsStep yields t e i r = Unit {0}
 
 -- Calls led to an engine of which a step is refused.
-pub record IsRefusedBuild (A : Type 0) (yields : Yields) (t : Telling) (most : ℕ) (old : EngineValue)
-    (i : ℕ) (r : Refusal A) : Type 0 where
+pub record IsRefusedBuild (A : Type 0) (yields : Yields) (t : Telling) (most : ℕ)
+    (old : EngineValue) (i : ℕ) (r : Refusal A) : Type 0 where
   pub at : EngineValue
   pub led : IsLed A yields t most old at
   pub stops : StopsStep yields t at i r

@@ -83,7 +83,8 @@ pub record StoresStep (t : Telling) (e : EngineValue) (f : FinishedValue) : Type
 abbrev pub StoresSteps : Telling → EngineValue → Type 0
 StoresSteps t e = (i : ℕ) (f : FinishedValue) → finished_in i e ≡ Some f → StoresStep t e f
 
--- a store has what it recorded under a digest: bytes with the digest, and the outcome with its Trees
+-- A store has what it recorded under a digest: bytes with the digest, and the outcome with its
+-- Trees.
 pub record IsHeldWhole (t : Telling) (d : DigestValue) (v : OutcomeValue) : Type 0 where
   pub held : IsHeld t d v
   pub action : HasRight t.blobs d

@@ -59,8 +59,8 @@ fn take_turns<A: Allocator + Copy, S: BlobSink<A>, N: Runner<A>>(
         engine.old engine.new children.new.items }
     ensures done { OnOk result (HaveAllFinished engine.new) }
     ensures ended { OnOk result (children.new.items ≡ []) }
-    ensures stopped { IfErr result (λ e. IsRefusedBuild A (N.yields runner.old) (S.tells sink.new) jobs
-        engine.old e.step e.refusal) }
+    ensures stopped { IfErr result (λ e. IsRefusedBuild A (N.yields runner.old) (S.tells sink.new)
+        jobs engine.old e.step e.refusal) }
     ensures stored { OnOk result (StoresSteps (S.tells sink.old) engine.old
         → StoresSteps (S.tells sink.new) engine.new) }
     ensures right { KeepsRight (S.tells sink.old).blobs (S.tells sink.new).blobs }
@@ -92,8 +92,8 @@ pub fn build<A: Allocator + Copy, S: BlobSink<A>, N: Runner<A>>(
     ensures led { IsLed A (N.yields runner.old) (S.tells sink.new) jobs engine.old engine.new }
     ensures done { OnOk result (HaveAllFinished engine.new) }
     // Where it is refused, calls led to an engine in which the refusal of that step stands.
-    ensures stopped { IfErr result (λ e. IsRefusedBuild A (N.yields runner.old) (S.tells sink.new) jobs
-        engine.old e.step e.refusal) }
+    ensures stopped { IfErr result (λ e. IsRefusedBuild A (N.yields runner.old) (S.tells sink.new)
+        jobs engine.old e.step e.refusal) }
     // The store has what each step came to, from the first to the last.
     ensures stored { OnOk result
         (HasNoneFinished engine.old → IsStored (S.tells sink.new) engine.new) }

@@ -1,5 +1,6 @@
 ghost use Rattle.std.specs.Prelude.{◌≡◌, ◌↔◌, ◌+◌, ◌-◌, ◌<◌, ◌≤◌, ℕ, [], Some, None, IsTrue};
-ghost use Rattle.std.specs.Prelude.{IsSome, IfSome, IfErr, IfOk, Contains, OnOk, OnErr, length, slice_get};
+ghost use Rattle.std.specs.Prelude.{IsSome, IfSome, IfErr, IfOk, OnOk, OnErr};
+ghost use Rattle.std.specs.Prelude.{Contains, length, slice_get};
 ghost use Rattle.blob_digest.specs.Digest.{digest_of};
 ghost use Rattle.action_messages.specs.Action.{action_bytes};
 ghost use Rattle.wire.specs.Bytes.{IsBytes};
