@@ -104,8 +104,9 @@ while [ "${#built[@]}" -lt "${#order[@]}" ]; do
   first=${ready[0]:-}
   for it in "${ready[@]}"; do
     [ "${#running[@]}" -lt "$at_once" ] || break
-    jobs=$((lanes / (${#running[@]} + ${#ready[@]})))
-    [ "$it" != "$first" ] || [ "$jobs" -gt 1 ] || jobs=$((lanes > 1 ? 2 : 1))
+    # (more jobs than its share: what waits for this crate alone would leave processors idle)
+    jobs=$(((lanes + 1) / 2))
+    [ "$it" != "$first" ] || jobs=$lanes
     count=$((count + 1))
     echo "buildcache: proving crate $count of $total: $it" >&2
     where=in-room
@@ -113,7 +114,7 @@ while [ "${#built[@]}" -lt "${#order[@]}" ]; do
       where=in-place
       place=$it
     fi
-    build_library "$it" "$((jobs > 1 ? jobs : 1))" "$where" >"$log/$it" 2>&1 &
+    build_library "$it" "$jobs" "$where" >"$log/$it" 2>&1 &
     running[$it]=$!
     ready=("${ready[@]:1}")
   done

@@ -81,8 +81,7 @@ command_bytes c = spelling (
     element_fields 7 (texts_of c.output_paths))
 
 -- ---- what bytes say, or the first refusal: the shape, the variables in the order of the bytes,
--- the missing argument,
--- texts and paths by field and place, the order of each list, overlaps
+-- the missing argument, texts and paths by field and place, the order of each list, overlaps
 
 abbrev pub has_byte : ℕ → List ℕ → Bool
 has_byte c text = list_any (λ b. b == c) text

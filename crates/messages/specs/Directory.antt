@@ -29,8 +29,7 @@ directory_bytes d =
     ++ element_fields 3 (map symlink_node_bytes d.symlinks))
 
 -- ---- what bytes say, or the first refusal: the shape, the nodes in the order of the bytes, which
--- is that of the
--- numbers, and then the rules of names
+-- is that of the numbers, and then the rules of names
 
 abbrev pub directory_in : List Record → Result DirectoryValue MessageError
 directory_in rs =

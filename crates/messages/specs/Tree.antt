@@ -69,8 +69,7 @@ tree_bytes t =
     ++ element_fields 2 (map directory_bytes t.children))
 
 -- ---- what bytes say, or the first refusal: the shape, the directories in the order of the bytes,
--- whether the root
--- is there, the rule of children
+-- whether the root is there, the rule of children
 
 abbrev pub same_digest : DigestValue → DigestValue → Bool
 same_digest d e = bytes_eq d.hash e.hash && (d.size == e.size)
