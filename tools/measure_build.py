@@ -1,7 +1,9 @@
 #!/usr/bin/env python3
-"""Times a build of many steps of /bin/true, 4 at once, against xargs -P4 over as many processes: measure_build.py PROGRAM [N]
+"""Times a build of many steps of /bin/true, 4 at once, against xargs -P4 over as many processes: measure_build.py PROGRAM [N [TURNS]]
 
-Each step has a command of its own, so that each runs a process; the second build takes each result from the server.
+They take turns, each build over a server of its own. Each step has a command of its own, so that each runs a process;
+a second build takes each result from the server. It prints the seconds of each turn, the least of each, and how many
+times as long as xargs the build took at the least.
 """
 
 import os
@@ -26,26 +28,41 @@ def plan_of(count, blobs):
     return text + "root\n"
 
 
-def timed(name, call):
+def seconds_of(call):
     began = time.time()
-    done = call()
-    print(f"{name}: {time.time() - began:.2f} s", flush=True)
-    return done
+    call()
+    return time.time() - began
 
 
-def main(program, count="1000"):
+def build(rows, plan):
+    done, _place = rows.build(plan, jobs=4)
+    assert done.returncode == 0, done
+
+
+def turn(program, count):
+    """The seconds of a build, of the same again, and of xargs."""
     with tempfile.TemporaryDirectory() as work:
         os.mkdir(f"{work}/blobs")
-        rows = Rows(os.path.realpath(program), work)
+        rows = Rows(program, work)
         try:
-            plan = plan_of(int(count), f"{work}/blobs")
+            plan = plan_of(count, f"{work}/blobs")
             rows.run("put", "--server", rows.address, f"{work}/blobs")
-            for name in ("build", "build again"):
-                done, _place = timed(name, lambda: rows.build(plan, jobs=4))
-                assert done.returncode == 0, done
+            builds = [seconds_of(lambda: build(rows, plan)) for _ in range(2)]
         finally:
             rows.server.kill()
-    timed("xargs -P4", lambda: subprocess.run(f"seq {count} | xargs -P4 -n1 /bin/true", shell=True, check=True))
+    words = f"seq {count} | xargs -P4 -n1 /bin/true"
+    return [*builds, seconds_of(lambda: subprocess.run(words, shell=True, check=True))]
+
+
+def main(program, count="1000", turns="5"):
+    names = ["build", "build again", "xargs -P4"]
+    all_turns = []
+    for _ in range(int(turns)):
+        all_turns.append(turn(os.path.realpath(program), int(count)))
+        print(", ".join(f"{name}: {it:.2f} s" for name, it in zip(names, all_turns[-1])), flush=True)
+    least = [min(its) for its in zip(*all_turns)]
+    print("least: " + ", ".join(f"{name}: {it:.2f} s" for name, it in zip(names, least)))
+    print(f"a build took {least[0] / least[2]:.2f} times what xargs took")
 
 
 if __name__ == "__main__":

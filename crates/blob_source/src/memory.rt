@@ -1,10 +1,11 @@
-ghost use Rattle.std.specs.Prelude.{◌≡◌, ◌↔◌, ◌++◌, ◌∷◌, [], Some, IfOk, IsErrOf, IsTrue, OnOk};
-ghost use Rattle.std.specs.Prelude.{OnErr};
+ghost use Rattle.std.specs.Prelude.{◌≡◌, ◌↔◌, ◌++◌, ◌∷◌, [], None, Ok, Some, IfOk, IsErrOf, IsOk};
+ghost use Rattle.std.specs.Prelude.{IsTrue, OnErr, OnOk};
 ghost use Rattle.blob_digest.specs.Digest.{DigestValue, digest_of};
 ghost use Rattle.blob_source.specs.Called.{Calls};
 ghost use Rattle.blob_source.specs.Memory.{telling_of, told_by};
 ghost use Rattle.blob_source.specs.Memory.{HoldsBlob, ResultIsHeld, IsUnchanged, TellsNothing};
 ghost use Rattle.blob_source.specs.Sink.{HasRight, IsPut, PutsBlob, PutsResult};
+ghost use Rattle.blob_source.specs.Source.{AsksBlob, AsksResult, bytes_of};
 
 use crate::source::{BlobSink, BlobSource, FetchError};
 use blob_digest::Digest;
@@ -84,7 +85,14 @@ impl<A: Allocator + Copy> BlobSource<A> for MemorySource<A> {
 
     ghost tells = { telling_of };
 
-    fn fetch(&mut self, alloc: A, digest: &Digest) -> Result<Option<Vec<u8, A>>, FetchError> {
+    // Where nothing stands under the digest, no memory is needed to say so.
+    fn fetch(&mut self, alloc: A, digest: &Digest) -> Result<Option<Vec<u8, A>>, FetchError>
+        ensures told { IfOk result
+            (λ answer. bytes_of answer ≡ (telling_of self.new).blobs digest.now) }
+        ensures called { Calls (AsksBlob digest.now) (telling_of self.old) (telling_of self.new)
+            (IsErrOf result FetchError.Failed) }
+        ensures absent { (telling_of self.old).blobs digest.now ≡ None → result ≡ Ok None }
+    {
         self.calls = self.calls.saturating_add(1);
         match self.blobs.get(digest) {
             None => Ok(None),
@@ -92,7 +100,13 @@ impl<A: Allocator + Copy> BlobSource<A> for MemorySource<A> {
         }
     }
 
-    fn result(&mut self, alloc: A, digest: &Digest) -> Result<Option<Vec<u8, A>>, FetchError> {
+    fn result(&mut self, alloc: A, digest: &Digest) -> Result<Option<Vec<u8, A>>, FetchError>
+        ensures told { IfOk result
+            (λ answer. bytes_of answer ≡ (telling_of self.new).results digest.now) }
+        ensures called { Calls (AsksResult digest.now) (telling_of self.old) (telling_of self.new)
+            (IsErrOf result FetchError.Failed) }
+        ensures absent { (telling_of self.old).results digest.now ≡ None → result ≡ Ok None }
+    {
         self.calls = self.calls.saturating_add(1);
         match self.results.get(digest) {
             None => Ok(None),
@@ -111,6 +125,7 @@ impl<A: Allocator + Copy> BlobSink<A> for MemorySource<A> {
             (IsErrOf result FetchError.Failed) }
         ensures refused { OnErr result ((e : DigestValue)
             → (telling_of self.new).blobs e ≡ (telling_of self.old).blobs e) }
+        ensures there { HasRight (telling_of self.old).blobs (digest_of bytes.now) → IsOk result }
     {
         self.calls = self.calls.saturating_add(1);
         let digest = Digest::of(bytes);

@@ -1,4 +1,5 @@
-ghost use Rattle.std.specs.Prelude.{◌≡◌, IfErr, IfOk, codes};
+ghost use Rattle.std.specs.Prelude.{◌≡◌, [], IfErr, IfOk, IsTrue, codes};
+ghost use Rattle.std.specs.Io.Buffered.{reader_buffer, reader_inner};
 ghost use Rattle.blob_digest.specs.Digest.{digest_of};
 ghost use Rattle.blob_source.specs.Sink.{HasRight};
 ghost use Rattle.clap.specs.Words.{found_of, rows_of};
@@ -17,7 +18,7 @@ use http_core::{Host, Prefix};
 use remote::{Remote, Stream};
 use std::alloc::{AllocError, Global};
 use std::io;
-use std::io::ErrorKind;
+use std::io::{BufRead, BufReader, ErrorKind, Read, Write};
 use std::net::{Net, SocketAddr, TcpStream, ToSocketAddrs};
 use std::time::Duration;
 
@@ -139,12 +140,31 @@ fn connect_to<R: Net<Stream = TcpStream>>(
     Ok(stream)
 }
 
-/// A connection to a server, which is opened anew where the server has closed it.
+/// Puts another stream in the place of the reader's. What was read ahead of that is dropped.
+fn replace(reader: &mut BufReader<TcpStream>, stream: TcpStream)
+    ensures stream { reader_inner reader.new ≡ stream }
+    ensures empty { reader_buffer reader.new ≡ [] }
+{
+    *reader.get_mut() = stream;
+    let ahead = reader.buffer().len();
+    reader.consume(ahead);
+}
+
+/// Whether the stream is open and nothing was read ahead of it: what comes before a request is none
+/// of its reply.
+fn is_quiet(reader: &BufReader<TcpStream>) -> bool
+    ensures { IsTrue result → reader_buffer reader.now ≡ [] }
+{
+    reader.buffer().is_empty() && reader.get_ref().is_open()
+}
+
+/// A connection to a server, which is opened anew where the server has closed it. It reads ahead,
+/// so that a reply that is taken in small pieces costs few calls of the system.
 #[derive(Drop)]
 pub(crate) struct Connection<'a, R> {
     rt: &'a R,
     server: &'a Server<'a>,
-    stream: TcpStream,
+    reader: BufReader<TcpStream>,
 }
 
 impl<R: Net<Stream = TcpStream>> Stream for Connection<'_, R> {
@@ -153,19 +173,20 @@ impl<R: Net<Stream = TcpStream>> Stream for Connection<'_, R> {
     ghost flow = { λ _. record { coming = None; sent = None; is_open = None; openings = None } };
 
     fn receive(&mut self, buf: &mut [u8]) -> io::Result<usize> {
-        self.stream.receive(buf)
+        self.reader.read(buf)
     }
 
     fn send(&mut self, buf: &[u8]) -> io::Result<usize> {
-        self.stream.send(buf)
+        let mut stream = self.reader.get_ref();
+        stream.write(buf)
     }
 
     fn is_open(&self) -> bool {
-        self.stream.is_open()
+        is_quiet(&self.reader)
     }
 
     fn renew(&mut self) -> io::Result<()> {
-        self.stream = connect(self.rt, self.server)?;
+        replace(&mut self.reader, connect(self.rt, self.server)?);
         Ok(())
     }
 }
@@ -270,7 +291,10 @@ pub(crate) fn open<'a, R: AllocGlobal + Net<Stream = TcpStream>>(
 {
     match connect(rt, server) {
         Ok(stream) => {
-            let connection = Connection { rt, server, stream };
+            let Ok(reader) = BufReader::new(rt.alloc(), stream) else {
+                return Err(CliError::Memory);
+            };
+            let connection = Connection { rt, server, reader };
             Ok(Client::new(rt.alloc(), server, connection)?)
         }
         Err(fault) if fault.kind() == ErrorKind::OutOfMemory => Err(CliError::Memory),

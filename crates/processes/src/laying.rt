@@ -1,6 +1,7 @@
 ghost use Rattle.std.specs.Prelude.{◌≡◌, IfOk, OnOk, string_bytes};
+ghost use Rattle.std.specs.List.{AllByRecursion};
 ghost use Rattle.worker.specs.Values.{contents_of};
-ghost use Rattle.processes.specs.Laying.{AreMade, AreWritten, HasParent, IsLaidOut, IsMadeReady};
+ghost use Rattle.processes.specs.Laying.{AreMade, AreWritten, HasParent, IsLaidOut};
 ghost use Rattle.processes.specs.Laying.{place_below, start_of};
 
 use crate::trouble::Trouble;
@@ -19,21 +20,6 @@ pub(crate) fn place_below<A: Allocator>(
     ensures { IfOk result (λ place. string_bytes place ≡ place_below folder.now path.now) }
 {
     format!(in alloc; "{folder}/{path}")
-}
-
-/// The folder that a command starts in: the one below the job's folder, or the job's own.
-pub(crate) fn start_of<A: Allocator>(
-    alloc: A,
-    folder: &str,
-    command: &Command<A>,
-) -> Result<String<A>, AllocError>
-    ensures { IfOk result
-        (λ start. string_bytes start ≡ start_of folder.now command.now.working_directory) }
-{
-    match command.working_directory() {
-        Some(path) => place_below(alloc, folder, path.as_str()),
-        None => String::from_str(alloc, folder),
-    }
 }
 
 /// Makes folders below a folder.
@@ -82,6 +68,29 @@ pub(crate) fn lay_out<A: Allocator + Copy, W: Workshop>(
     write_files(alloc, workshop, folder, &layout.files)
 }
 
+/// Makes the folder that a command starts in: its working directory below the job's folder, or else
+/// that folder itself, which is there.
+pub(crate) fn make_start<A: Allocator, W: Workshop>(
+    alloc: A,
+    workshop: &W,
+    folder: &str,
+    command: &Command<A>,
+) -> Result<String<A>, Trouble>
+    requires { W.works.made folder.now }
+    ensures start { IfOk result
+        (λ start. string_bytes start ≡ start_of folder.now command.now.working_directory) }
+    ensures made { IfOk result (λ start. W.works.made (string_bytes start)) }
+{
+    match command.working_directory() {
+        Some(path) => {
+            let start = place_below(alloc, folder, path.as_str())?;
+            workshop.make_all(start.as_str())?;
+            Ok(start)
+        }
+        None => Ok(String::from_str(alloc, folder)?),
+    }
+}
+
 /// Makes the folder above a path, which is the start itself where the path has one name.
 fn make_parent<A: Allocator, W: Workshop>(
     alloc: A,
@@ -101,16 +110,15 @@ fn make_parent<A: Allocator, W: Workshop>(
     }
 }
 
-/// Makes the folder that a command starts in, and the folders above its output paths.
-pub(crate) fn prepare<A: Allocator + Copy, W: Workshop>(
+/// Makes the folders above the output paths of a command below the folder that it starts in.
+pub(crate) fn make_parents<A: Allocator + Copy, W: Workshop>(
     alloc: A,
     workshop: &W,
     start: &str,
     outputs: &[Path<A>],
 ) -> Result<(), Trouble>
-    ensures { OnOk result (IsMadeReady W.works start.now outputs.now) }
+    ensures { OnOk result (AllByRecursion (HasParent W.works start.now) outputs.now) }
 {
-    workshop.make_all(start)?;
     for path in outputs {
         make_parent(alloc, workshop, start, path)?;
     }

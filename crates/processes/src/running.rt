@@ -7,7 +7,7 @@ ghost use Rattle.processes.specs.Laying.{folder_of};
 ghost use Rattle.processes.specs.Running.{IsJobLaunched, alive_of, failures_of, work_of, next_of};
 
 use crate::collecting::collect;
-use crate::laying::{lay_out, prepare, start_of};
+use crate::laying::{lay_out, make_parents, make_start};
 use crate::tally::Tally;
 use crate::trouble::Trouble;
 use crate::workshop::Workshop;
@@ -122,8 +122,8 @@ impl<W: Workshop, A: Allocator + Copy> ProcessRunner<W, A> {
     {
         let folder = self.next_folder(alloc)?;
         lay_out(alloc, &self.workshop, folder.as_str(), layout)?;
-        let start = start_of(alloc, folder.as_str(), command)?;
-        prepare(
+        let start = make_start(alloc, &self.workshop, folder.as_str(), command)?;
+        make_parents(
             alloc,
             &self.workshop,
             start.as_str(),

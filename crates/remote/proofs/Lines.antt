@@ -1,14 +1,15 @@
 -- What refusals leave of a connection.
-use Rattle.std.proofs.Common.{◌≡◌, ℕ, ◌+◌, Bool, true, false, inl, inr, sym, ap, subst, ◌∙◌}
+use Rattle.std.proofs.Common.{◌≡◌, ℕ, ◌+◌, ◌<◌, Bool, true, false, inl, inr, List, ◌++◌, length, length-append, sym, ap, subst, ◌∙◌, arith}
 use Rattle.std.specs.Prelude.{◌⊎◌}
+use Rattle.http_core.specs.Block.{IsBlock, empty_line}
 use Rattle.blob_source.specs.declared.source.FetchError.{FetchError}
 use Rattle.blob_source.specs.declared.source.FetchError.TheVariants.{Failed, Memory}
 use Rattle.remote.specs.declared.fault.Fault.{Fault}
 use Rattle.remote.specs.declared.fault.Fault.TheVariants.{Io, Status}
-use Rattle.remote.specs.Line.{ConnectionValue, Request, IsSameServer, IsUncounted, IsReplied, IsConnectionFault, IsStreamFault, RefusesRequest, is_answer, text_of}
-use Rattle.remote.specs.Flow.{SendsFront, SendsPart}
+use Rattle.remote.specs.Line.{ConnectionValue, Request, IsSameServer, IsUncounted, IsNextStream, IsReplied, IsConnectionFault, IsStreamFault, ExplainsMemory, RefusesRequest, is_answer, text_of}
+use Rattle.remote.specs.Flow.{Flow, SendsFront, SendsPart}
 use Rattle.remote.proofs.Flows.{fronts_all, fronts_from, fronts_then}
-use Rattle.remote.specs.Reply.{ReceivedReply, RoundTrip, RoundTripInPart}
+use Rattle.remote.specs.Reply.{ReceivedReply, IsReply, RoundTrip, RoundTripForSome, RoundTripInPart}
 use Rattle.remote.specs.Steps.{Fails, Starves}
 
 pub memory_failed : Memory ≡ Failed → ⊥
@@ -77,3 +78,53 @@ pub refuses_unkept : (old mid new : ConnectionValue) (request : Request) (reply 
 refuses_unkept old mid new request reply e asks h =
     refuses_starved old mid new request e (λ shut. absurd (true_false old.broken asks.unbroken shut)) (record { count = asks.failures; fault = asks.fault }) asks.server
     (sends_trip asks) h
+
+-- ---- want of memory
+
+failed_memory : Failed ≡ Memory → ⊥
+failed_memory h = cc
+
+-- a failure that was counted, or can't be
+pub explains_failure : (old mid new : ConnectionValue) (request : Request) (fault : Fault) (e : FetchError) → IsUncounted old mid → Fails mid new fault e → ExplainsMemory old new request e
+explains_failure old mid new request fault e none h = record {
+  lacks = λ is. inl (sym none.count ∙ h.full (λ f. memory_failed (sym is ∙ f)));
+}
+
+-- nothing of the request was sent
+pub explains_unsent : (old mid new : ConnectionValue) (request : Request) (e : FetchError) → old.broken ≡ false → IsNextStream old mid.flow → Starves mid new e → ExplainsMemory old new request e
+explains_unsent old mid new request e open_ next h = record {
+  lacks = λ is. inr (record { unbroken = open_; stream = mid.flow; next = next; is = inl h.flow });
+}
+
+-- some of what came isn't kept
+pub explains_unread : (old mid new : ConnectionValue) (stream : Flow) (request : Request) (e : FetchError) → old.broken ≡ false → IsNextStream old stream
+    → RoundTripForSome stream mid.flow (text_of old request) → Starves mid new e → ExplainsMemory old new request e
+explains_unread old mid new stream request e open_ next trip h = record {
+  lacks = λ is. inr (record {
+    unbroken = open_;
+    stream = stream;
+    next = next;
+    is = inr (subst (λ f. RoundTripForSome stream f (text_of old request)) (sym h.flow) trip);
+  });
+}
+
+some_block : {block : List ℕ} → IsBlock block → 0 < length block
+some_block {block} is =
+    let n : length block ≡ length (is.ends.0 ++ empty_line) = ap length is.ends.1 in
+    let m : length (is.ends.0 ++ empty_line) ≡ length is.ends.0 + 4 = length-append is.ends.0 empty_line in
+    omega (arith, n, m)
+
+-- no reply is empty
+some_reply : {text : List ℕ} {reply : ReceivedReply} → IsReply text reply → 0 < length text
+some_reply {text} {reply} is =
+    let n : length text ≡ length (is.block ++ reply.body) = ap length is.whole in
+    let m : length (is.block ++ reply.body) ≡ length is.block + length reply.body = length-append is.block reply.body in
+    let l : 0 < length is.block = some_block is.ends in
+    omega (arith, n, m, l)
+
+-- what a reply brought isn't kept
+pub explains_unkept : (old mid new : ConnectionValue) (request : Request) (reply : ReceivedReply) (e : FetchError) → IsReplied old mid request reply → Starves mid new e → ExplainsMemory old new request e
+explains_unkept old mid new request reply e asks h =
+    let trip = asks.trip in
+    explains_unread old mid new asks.stream request e asks.unbroken asks.next
+    (record { between = trip.between; asks = trip.asks; answers = record { bytes = trip.answers.text; some = some_reply trip.answers.is; read = trip.answers.read } }) h

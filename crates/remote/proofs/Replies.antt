@@ -11,7 +11,7 @@ use Rattle.std.proofs.lemmas.List.{append_cancel_left}
 use Rattle.remote.specs.Flow.{Flow, Receives}
 use Rattle.remote.specs.Reply.{ReceivedReply, IsReply, NextReply, NextInPart}
 use Rattle.remote.specs.Steps.{ReceivesFewer}
-use Rattle.remote.specs.declared.fault.Refusal.TheVariants.{Io, BadReply}
+use Rattle.remote.specs.declared.fault.Refusal.TheVariants.{Io, BadReply, Memory}
 use Rattle.remote.proofs.Flows.{receives_then, receives_no_more}
 
 -- a block was read, and then the body that its head asks for
@@ -50,6 +50,9 @@ one_reply a x b y r s p q e =
 
 pub bad_io : BadReply ≡ Io → ⊥
 bad_io e = cc
+
+pub bad_memory : BadReply ≡ Memory → ⊥
+bad_memory e = cc
 
 -- the stream failed within a body
 pub reply_in_part : (old mid new : Flow) (block shown : List ℕ) (head : ReplyHead) (size : ℕ) → Receives old mid block → IsBlock block → shown ≡ block → IsReplyHead shown head → size ≡ head.length

@@ -8,10 +8,10 @@ use Rattle.blob_digest.specs.Digest.{DigestValue}
 use Rattle.blob_source.specs.Sink.{PutsAt}
 use Rattle.blob_source.specs.declared.source.FetchError.{FetchError}
 use Rattle.remote.specs.declared.table.Table.{Table}
-use Rattle.remote.specs.Line.{ConnectionValue, Puts, RefusesRequest, put}
+use Rattle.remote.specs.Line.{ConnectionValue, ExplainsMemory, Puts, RefusesRequest, put}
 use Rattle.remote.specs.Remote.{Stores}
 use Rattle.remote.specs.Table.{bytes_kept, told_by}
-use Rattle.remote.proofs.Lines.{refuses_unkept}
+use Rattle.remote.proofs.Lines.{explains_unkept, refuses_unkept}
 use Rattle.remote.specs.Steps.{KeepsAnswer, KeepsNothing}
 
 -- the bytes were taken, and memory to keep them was wanting
@@ -22,6 +22,7 @@ stores_unkept {A} {T} area d bytes old mid new before after r e puts keeps exit 
     subst (Stores area d bytes old new before after) (sym p.1) (record {
       taken = tt;
       refused = subst (RefusesRequest old new (put area d.hash bytes)) (sym p.2) (refuses_unkept old mid new (put area d.hash bytes) puts.reply e puts.asks keeps.starves);
+      starved = inr (subst (ExplainsMemory old new (put area d.hash bytes)) (sym p.2) (explains_unkept old mid new (put area d.hash bytes) puts.reply e puts.asks keeps.starves));
       held = tt;
       unheld = keeps.keeps;
       others = λ e other. keeps.keeps.same e;

@@ -1,5 +1,6 @@
 -- What a stream of both directions gives and takes.
-use Rattle.std.specs.Prelude.{◌≡◌, ◌≢◌, ⊤, ℕ, ◌+◌, Bool, true, List, [], ◌++◌, Option, Some, None}
+use Rattle.std.specs.Prelude.{◌≡◌, ◌≢◌, ⊤, ℕ, ◌+◌, ◌<◌, Bool, true, List, [], ◌++◌, length}
+use Rattle.std.specs.Prelude.{Option, Some, None}
 use Rattle.std.specs.Io.Cursor.{cursor_remaining}
 use Rattle.std.specs.Io.KnownBytes.{Appends, Consumes}
 use Rattle.remote.specs.declared.stream.MemoryStream.{MemoryStream}
@@ -47,6 +48,12 @@ pub record SendsPart (old new : Flow) (bytes : List ℕ) : Type 0 where
 pub record Receives (old new : Flow) (bytes : List ℕ) : Type 0 where
   pub coming : Consumes old.coming new.coming bytes
   pub sent : new.sent ≡ old.sent
+
+-- some bytes came, and nothing was sent
+pub record ReceivesSome (old new : Flow) : Type 0 where
+  pub bytes : List ℕ
+  pub some : 0 < length bytes
+  pub read : Receives old new bytes
 
 -- these bytes are to come over an open stream, and nothing was sent
 abbrev pub gives : List ℕ → Flow

@@ -1,7 +1,10 @@
 -- A store in a folder: what it tells, and what a look-up in it does.
-use Rattle.std.specs.Prelude.{◌≡◌, ◌≢◌, ◌⊎◌, ℕ, List, [], ◌∷◌, ◌++◌, take, Option, Some, None}
+use Rattle.std.specs.Prelude.{◌≡◌, ◌≢◌, ◌⊎◌, ℕ, ◌<◌, ◌≤◌, List, [], ◌∷◌, ◌++◌, take}
+use Rattle.std.specs.Prelude.{Option, Some, None}
 use Rattle.std.specs.Prelude.{Result, Ok, Err, IfOk, IfSome, IsErrOf, OnErr, string_bytes}
+use Rattle.std.specs.Fs.{IsFile, file_type, metadata_len}
 use Rattle.std.specs.IoError.{error_kind}
+use Rattle.std.specs.declared.fs.Metadata.{Metadata}
 use Rattle.std.specs.declared.io.Error.{Error}
 use Rattle.std.specs.declared.io.ErrorKind.TheVariants.{NotFound, OutOfMemory}
 use Rattle.std.specs.declared.vec.Vec.{Vec}
@@ -35,6 +38,18 @@ TellsFault path fault (Io p f) = (error_kind fault ≢ OutOfMemory) × (f ≡ fa
 TellsFault path fault (NotAFile p) = ⊥
 TellsFault path fault (TooLarge p) = ⊥
 TellsFault path fault Memory = error_kind fault ≡ OutOfMemory
+
+-- a file that is read: one of at most 16,777,216 bytes
+abbrev pub IsReadable : Metadata → Type 0
+IsReadable m = IsFile (file_type m) × (metadata_len m ≤ 16777216)
+
+-- the error tells why what stands at this path isn't read, by its metadata
+abbrev pub TellsUnreadable : {A : Type 0} → List ℕ → Metadata → FileError A → Type 0
+TellsUnreadable path m (Io p fault) = ⊥
+TellsUnreadable path m (NotAFile p) = (IsFile (file_type m) → ⊥) × (string_bytes p ≡ path)
+TellsUnreadable path m (TooLarge p) = IsFile (file_type m) × (16777216 < metadata_len m)
+    × (string_bytes p ≡ path)
+TellsUnreadable path m Memory = Unit {0}
 
 -- the file isn't there
 abbrev pub IsNotThere : {A : Type 0} → FileError A → Type 0
@@ -94,6 +109,7 @@ pub record LooksInFolder {A : Type 0}
     (path : List ℕ) (d : DigestValue) (old new : Option (FileError A)) (before after : Table A)
     (result : Result (Option (Vec ℕ A)) FetchError) : Type 0 where
   pub kept : HasAnswer before d → IsErrOf result Failed → ⊥
+  pub absent : HasAnswer before d → told_by before d ≡ None → result ≡ Ok None
   pub same : HasAnswer before d → KeepsAnswers before after
   pub held : IfOk result (λ answer. HasAnswer after d)
   pub unheld : OnErr result (KeepsAnswers before after)

@@ -5,12 +5,13 @@ use Rattle.http_core.specs.declared.event.Area.{Area}
 use Rattle.http_core.specs.Request.{request_text}
 use Rattle.blob_source.specs.Source.{greatest_count}
 use Rattle.blob_source.specs.declared.source.FetchError.{FetchError}
-use Rattle.blob_source.specs.declared.source.FetchError.TheVariants.{Failed}
+use Rattle.blob_source.specs.declared.source.FetchError.TheVariants.{Failed, Memory}
 use Rattle.remote.specs.declared.fault.Fault.{Fault}
 use Rattle.remote.specs.declared.fault.Fault.TheVariants.{Io, BadReply, Status, Broken}
 use Rattle.remote.specs.declared.line.Line.{Line}
 use Rattle.remote.specs.Flow.{Flow, IsOpenedAnew, SendsFront, SendsPart}
-use Rattle.remote.specs.Reply.{ReceivedReply, RoundTrip, RoundTripForNone, RoundTripInPart}
+use Rattle.remote.specs.Reply.{ReceivedReply, RoundTrip, RoundTripForNone, RoundTripForSome}
+use Rattle.remote.specs.Reply.{RoundTripInPart}
 
 -- a connection, where its stream stands as this tells
 pub record ConnectionValue : Type 0 where
@@ -66,10 +67,14 @@ pub record IsSameServer (old new : ConnectionValue) : Type 0 where
 abbrev pub MayBeClosed : ConnectionValue → Type 0
 MayBeClosed line = (line.shut ≡ true) ⊎ (line.flow.is_open ≢ Some true)
 
--- The stream for the next request: the one that there is, where no reply closed it, or one that was
+-- no reply closed the stream, and it isn't known that the server has
+abbrev pub MayBeOpen : ConnectionValue → Type 0
+MayBeOpen line = (line.shut ≡ false) × (line.flow.is_open ≢ Some false)
+
+-- The stream for the next request: the one that there is, where that may be open, or one that was
 -- opened anew, where the server may have closed that. Nothing more was sent than before.
 pub record IsNextStream (line : ConnectionValue) (stream : Flow) : Type 0 where
-  pub is : ((line.shut ≡ false) × (stream ≡ line.flow))
+  pub is : (MayBeOpen line × (stream ≡ line.flow))
       ⊎ (MayBeClosed line × IsOpenedAnew line.flow stream)
   pub sent : stream.sent ≡ line.flow.sent
 
@@ -155,6 +160,19 @@ pub record RefusesRequest (old new : ConnectionValue) (request : Request) (e : F
   pub still : old.broken ≡ true → new.flow ≡ old.flow
   pub sent : SendsFront old.flow new.flow (text_of old request)
   pub server : IsSameServer old new
+
+-- Memory was wanting for the text of the request, before anything of it was sent, or for what was
+-- read after it.
+pub record LacksMemory (old new : ConnectionValue) (request : Request) : Type 0 where
+  pub unbroken : old.broken ≡ false
+  pub stream : Flow
+  pub next : IsNextStream old stream
+  pub is : (new.flow ≡ stream) ⊎ RoundTripForSome stream new.flow (text_of old request)
+
+-- A refusal for want of memory is told for nothing else, but where a failure can't be counted.
+pub record ExplainsMemory (old new : ConnectionValue) (request : Request) (e : FetchError)
+    : Type 0 where
+  pub lacks : e ≡ Memory → (old.failures ≡ greatest_count) ⊎ LacksMemory old new request
 
 -- the answer of a reply: its body with status 200, and none with status 404
 abbrev pub IsAnswerOf : ReceivedReply → Option (List ℕ) → Type 0

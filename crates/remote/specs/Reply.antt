@@ -4,7 +4,7 @@ use Rattle.http_core.specs.Block.{HasNoBlock, IsBlock}
 use Rattle.http_core.specs.ReplyHead.{IsReplyHead}
 use Rattle.http_core.specs.declared.reply_head.ReplyHead.{ReplyHead}
 use Rattle.remote.specs.declared.reply.Reply.{Reply}
-use Rattle.remote.specs.Flow.{Flow, Sends, Receives}
+use Rattle.remote.specs.Flow.{Flow, Sends, Receives, ReceivesSome}
 
 pub record ReceivedReply : Type 0 where
   pub status : ℕ
@@ -79,6 +79,12 @@ pub record RoundTripInPart (old new : Flow) (request : List ℕ) : Type 0 where
   pub between : Flow
   pub asks : Sends old between request
   pub answers : NextInPart between new
+
+-- the one request was sent, and then some bytes were read
+pub record RoundTripForSome (old new : Flow) (request : List ℕ) : Type 0 where
+  pub between : Flow
+  pub asks : Sends old between request
+  pub answers : ReceivesSome between new
 
 -- at the front of a stream stands one reply at most
 abbrev pub NextIsOne : Type 0

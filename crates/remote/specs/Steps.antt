@@ -8,11 +8,12 @@ use Rattle.blob_source.specs.declared.source.FetchError.{FetchError}
 use Rattle.blob_source.specs.declared.source.FetchError.TheVariants.{Failed, Memory}
 use Rattle.remote.specs.declared.fault.Fault.{Fault}
 use Rattle.remote.specs.declared.fault.Refusal.{Refusal}
-use Rattle.remote.specs.declared.fault.Refusal.TheVariants.{Io, BadReply}
+use Rattle.remote.specs.declared.fault.Refusal.TheVariants as refusals
 use Rattle.remote.specs.declared.table.Table.{Table}
-use Rattle.remote.specs.Flow.{Flow, SendsFront, SendsPart, Receives}
+use Rattle.remote.specs.Flow.{Flow, SendsFront, SendsPart, Receives, ReceivesSome}
 use Rattle.remote.specs.Line.{ConnectionValue, IsNextStream, IsSameServer, IsUncounted}
-use Rattle.remote.specs.Reply.{RoundTripForNone, RoundTripInPart, NextIsNoReply, NextInPart}
+use Rattle.remote.specs.Reply.{RoundTripForNone, RoundTripForSome, RoundTripInPart, NextIsNoReply}
+use Rattle.remote.specs.Reply.{NextInPart}
 use Rattle.remote.specs.Table.{HasAnswer, IsSameBut, KeepsAnswers, told_by}
 
 -- ---- bytes
@@ -34,10 +35,11 @@ pub record Adds (old new : Flow) (most : ℕ) (before after : List ℕ) : Type 0
 
 -- ---- requests without a reply
 
--- the stream failed, and nothing came, or memory was wanting
+-- the stream failed, and nothing came, or memory was wanting for what came
 pub record Interrupts (old new : Flow) (e : Refusal) : Type 0 where
-  pub other : e ≡ BadReply → ⊥
-  pub none : e ≡ Io → Receives old new []
+  pub other : e ≡ refusals.BadReply → ⊥
+  pub none : e ≡ refusals.Io → Receives old new []
+  pub some : e ≡ refusals.Memory → ReceivesSome old new
   pub sent : new.sent ≡ old.sent
 
 -- fewer bytes came than these many, and nothing was sent
@@ -45,27 +47,30 @@ abbrev pub ReceivesFewer : Flow → Flow → ℕ → Type 0
 ReceivesFewer old new size =
     (bytes : List ℕ) × (length bytes < size) × Receives old new bytes
 
--- the stream failed before so many bytes had come, or memory was wanting
+-- the stream failed before so many bytes had come, or memory was wanting for what came
 pub record InterruptsBody (old new : Flow) (size : ℕ) (e : Refusal) : Type 0 where
-  pub other : e ≡ BadReply → ⊥
-  pub part : e ≡ Io → ReceivesFewer old new size
+  pub other : e ≡ refusals.BadReply → ⊥
+  pub part : e ≡ refusals.Io → ReceivesFewer old new size
+  pub some : e ≡ refusals.Memory → ReceivesSome old new
   pub sent : new.sent ≡ old.sent
 
 -- no reply was read
 pub record ReadsNone (old new : Flow) (e : Refusal) : Type 0 where
-  pub bad : e ≡ BadReply → NextIsNoReply old new
-  pub part : e ≡ Io → NextInPart old new
+  pub bad : e ≡ refusals.BadReply → NextIsNoReply old new
+  pub part : e ≡ refusals.Io → NextInPart old new
+  pub some : e ≡ refusals.Memory → ReceivesSome old new
   pub sent : new.sent ≡ old.sent
 
 -- no reply came to the request
 pub record ComesNone (old new : Flow) (request : List ℕ) (e : Refusal) : Type 0 where
-  pub bad : e ≡ BadReply → RoundTripForNone old new request
-  pub part : e ≡ Io → SendsPart old new request ⊎ RoundTripInPart old new request
+  pub bad : e ≡ refusals.BadReply → RoundTripForNone old new request
+  pub part : e ≡ refusals.Io → SendsPart old new request ⊎ RoundTripInPart old new request
+  pub some : e ≡ refusals.Memory → RoundTripForSome old new request
   pub sent : SendsFront old new request
 
 -- the stream took a front of the bytes, but not all, and then failed
 pub record SendsNoMore (old new : Flow) (bytes : List ℕ) (e : Refusal) : Type 0 where
-  pub is : e ≡ Io
+  pub is : e ≡ refusals.Io
   pub part : SendsPart old new bytes
 
 -- ---- the connection
@@ -81,6 +86,7 @@ pub record Fails (old new : ConnectionValue) (fault : Fault) (e : FetchError) : 
   pub broken : new.broken ≡ true
   pub failed : e ≡ Failed → (new.failures ≡ old.failures + 1) × (new.fault ≡ Some fault)
   pub unfailed : (e ≡ Failed → ⊥) → IsUncounted old new
+  pub full : (e ≡ Failed → ⊥) → old.failures ≡ greatest_count
   pub bounded : new.failures ≤ greatest_count
   pub server : IsSameServer old new
 

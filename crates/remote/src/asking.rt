@@ -1,6 +1,6 @@
-ghost use Rattle.std.specs.Prelude.{◌≡◌, ◌≤◌, IfOk, IfErr, OnErr, OnOk};
+ghost use Rattle.std.specs.Prelude.{◌≡◌, ◌≤◌, IfOk, IfErr, None, Ok, OnErr, OnOk};
 ghost use Rattle.blob_source.specs.Source.{GrowsAt, bytes_of, greatest_count};
-ghost use Rattle.remote.specs.Line.{Gets, RefusesRequest, get, line_of};
+ghost use Rattle.remote.specs.Line.{ExplainsMemory, Gets, RefusesRequest, get, line_of};
 ghost use Rattle.remote.specs.Table.{HasAnswer, IsSameBut, KeepsAnswers, told_by};
 ghost use Rattle.remote.specs.Steps.{KeepsAnswer, KeepsBytes, KeepsNothing};
 
@@ -27,10 +27,14 @@ pub(crate) fn look_up<S: Stream + Drop, A: Allocator + Copy>(
         (λ _. line_of S.flow line.new ≡ line_of S.flow line.old) }
     ensures silent { HasAnswer table.old digest.now
         → S.flow line.new.stream ≡ S.flow line.old.stream }
+    ensures absent { HasAnswer table.old digest.now → told_by table.old digest.now ≡ None
+        → result ≡ Ok None }
     ensures asked { (HasAnswer table.old digest.now → ⊥) → IfOk result (λ answer. Gets
         (line_of S.flow line.old)
         (line_of S.flow line.new) area digest.now.hash (bytes_of answer)) }
     ensures refused { IfErr result (RefusesRequest
+        (line_of S.flow line.old) (line_of S.flow line.new) (get area digest.now.hash)) }
+    ensures starved { (HasAnswer table.old digest.now → ⊥) → IfErr result (ExplainsMemory
         (line_of S.flow line.old) (line_of S.flow line.new) (get area digest.now.hash)) }
     ensures same { HasAnswer table.old digest.now → KeepsAnswers table.old table.new }
     ensures unheld { OnErr result (KeepsAnswers table.old table.new) }

@@ -1,5 +1,5 @@
-ghost use Rattle.std.specs.Prelude.{◌≡◌, ◌≢◌, ◌≤◌, IfErr, IfOk, Ok, vec_len};
-ghost use Rattle.remote.specs.Folder.{IsErrorOf, TellsFault};
+ghost use Rattle.std.specs.Prelude.{◌≡◌, ◌≢◌, ◌≤◌, IfErr, IfOk, Ok, OnOk, vec_len};
+ghost use Rattle.remote.specs.Folder.{IsErrorOf, IsReadable, TellsFault, TellsUnreadable};
 
 use std::alloc::{AllocError, Allocator};
 use std::io::ErrorKind;
@@ -47,14 +47,7 @@ pub fn read_file<R: Files + Alloc<A = A>, A: Allocator + Copy>(
         Ok(metadata) => metadata,
         Err(fault) => return Err(io_error(rt.alloc(), path, fault)?),
     };
-    if !metadata.is_file() {
-        let path = String::from_str(rt.alloc(), path)?;
-        return Err(FileError::NotAFile { path });
-    }
-    if metadata.len() > GREATEST_FILE {
-        let path = String::from_str(rt.alloc(), path)?;
-        return Err(FileError::TooLarge { path });
-    }
+    check_metadata(rt.alloc(), path, &metadata)?;
     let bytes = match fs::read(rt, path) {
         Ok(bytes) => bytes,
         Err(fault) => return Err(io_error(rt.alloc(), path, fault)?),
@@ -65,6 +58,26 @@ pub fn read_file<R: Files + Alloc<A = A>, A: Allocator + Copy>(
         return Err(FileError::TooLarge { path });
     }
     Ok(bytes)
+}
+
+/// Whether what stands at a path is a file that is read, by its metadata.
+fn check_metadata<A: Allocator>(
+    alloc: A,
+    path: &str,
+    metadata: &fs::Metadata,
+) -> Result<(), FileError<A>>
+    ensures readable { OnOk result (IsReadable metadata.now) }
+    ensures error { IfErr result (TellsUnreadable path.now metadata.now) }
+{
+    if !metadata.is_file() {
+        let path = String::from_str(alloc, path)?;
+        return Err(FileError::NotAFile { path });
+    }
+    if metadata.len() > GREATEST_FILE {
+        let path = String::from_str(alloc, path)?;
+        return Err(FileError::TooLarge { path });
+    }
+    Ok(())
 }
 
 /// The error of a file.

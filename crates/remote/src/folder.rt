@@ -1,4 +1,5 @@
-ghost use Rattle.std.specs.Prelude.{◌≡◌, ◌≢◌, ◌+◌, ◌≤◌, IfErr, IfOk, IfSome, IsErrOf, OnErr, Some};
+ghost use Rattle.std.specs.Prelude.{◌≡◌, ◌≢◌, ◌+◌, ◌≤◌, IfErr, IfOk, IfSome, IsErrOf, None, Ok};
+ghost use Rattle.std.specs.Prelude.{OnErr, Some};
 ghost use Rattle.std.specs.Prelude.{◌↔◌, IsTrue, codes, string_bytes};
 ghost use Rattle.blob_source.specs.Called.{Calls};
 ghost use Rattle.blob_source.specs.Source.{AsksBlob, AsksResult, GrowsAt, bytes_of, greatest_count};
@@ -105,6 +106,8 @@ impl<'r, R: Files + Alloc<A = A>, A: Allocator + Copy> Folder<'r, R, A> {
         ensures grows { GrowsAt digest.now (told_by table.old) (told_by table.new) }
         ensures held { IfOk result (λ _. HasAnswer table.new digest.now) }
         ensures kept { HasAnswer table.old digest.now → IsErrOf result FetchError.Failed → ⊥ }
+        ensures absent { HasAnswer table.old digest.now → told_by table.old digest.now ≡ None
+            → result ≡ Ok None }
         ensures same { HasAnswer table.old digest.now → KeepsAnswers table.old table.new }
         ensures unheld { OnErr result (KeepsAnswers table.old table.new) }
         ensures others { IsSameBut digest.now table.old table.new }

@@ -1,7 +1,7 @@
 ghost use Rattle.std.specs.Prelude.{◌≡◌, true, false, IfOk, IfErr, OnOk, option_map};
 ghost use Rattle.blob_source.specs.Source.{bytes_of};
-ghost use Rattle.remote.specs.Line.{IsReplied, Gets, Puts, RefusesRequest, get, is_taken, line_of};
-ghost use Rattle.remote.specs.Line.{MayBeClosed, put, request};
+ghost use Rattle.remote.specs.Line.{ExplainsMemory, IsReplied, Gets, Puts, RefusesRequest, get};
+ghost use Rattle.remote.specs.Line.{MayBeClosed, is_taken, line_of, put, request};
 ghost use Rattle.remote.specs.Reply.{reply_value};
 ghost use Rattle.remote.specs.Steps.{Fails, Opens, Starves};
 
@@ -80,6 +80,9 @@ impl<S: Stream + Drop, A: Allocator + Copy> Line<S, A> {
         ensures refused { IfErr result (RefusesRequest (line_of S.flow self.old)
             (line_of S.flow self.new) (request area digest.now.hash
             (option_map (λ b. b.now) body.entry))) }
+        ensures starved { IfErr result (ExplainsMemory (line_of S.flow self.old)
+            (line_of S.flow self.new) (request area digest.now.hash
+            (option_map (λ b. b.now) body.entry))) }
     {
         if self.broken {
             return Err(self.fail(Fault::Broken));
@@ -114,6 +117,8 @@ impl<S: Stream + Drop, A: Allocator + Copy> Line<S, A> {
             (line_of S.flow self.new) area digest.now.hash (bytes_of answer)) }
         ensures refused { IfErr result (RefusesRequest (line_of S.flow self.old)
             (line_of S.flow self.new) (get area digest.now.hash)) }
+        ensures starved { IfErr result (ExplainsMemory (line_of S.flow self.old)
+            (line_of S.flow self.new) (get area digest.now.hash)) }
     {
         let reply = self.ask(alloc, area, digest, None)?;
         if reply.status == 200 {
@@ -136,6 +141,8 @@ impl<S: Stream + Drop, A: Allocator + Copy> Line<S, A> {
         ensures asked { OnOk result (Puts (line_of S.flow self.old)
             (line_of S.flow self.new) area digest.now.hash bytes.now) }
         ensures refused { IfErr result (RefusesRequest (line_of S.flow self.old)
+            (line_of S.flow self.new) (put area digest.now.hash bytes.now)) }
+        ensures starved { IfErr result (ExplainsMemory (line_of S.flow self.old)
             (line_of S.flow self.new) (put area digest.now.hash bytes.now)) }
     {
         let reply = self.ask(alloc, area, digest, Some(bytes))?;

@@ -1,4 +1,4 @@
-ghost use Rattle.std.specs.Prelude.{◌≡◌, ◌↔◌, IsTrue, IfOk, OnOk, OnErr};
+ghost use Rattle.std.specs.Prelude.{◌≡◌, ◌↔◌, IsTrue, IfOk, None, Ok, OnOk, OnErr};
 ghost use Rattle.blob_source.specs.Sink.{HasRight};
 ghost use Rattle.blob_source.specs.Source.{bytes_of};
 ghost use Rattle.blob_digest.specs.Digest.{DigestValue};
@@ -44,7 +44,8 @@ impl<A: Allocator + Copy> Table<A> {
 
     /// A copy of the bytes under the digest.
     pub(crate) fn copied(&self, alloc: A, digest: &Digest) -> Result<Option<Vec<u8, A>>, AllocError>
-        ensures { IfOk result (λ answer. bytes_of answer ≡ told_by self.now digest.now) }
+        ensures told { IfOk result (λ answer. bytes_of answer ≡ told_by self.now digest.now) }
+        ensures absent { told_by self.now digest.now ≡ None → result ≡ Ok None }
     {
         match self.answers.get(digest) {
             Some(Some(bytes)) => Ok(Some(Vec::from_slice(alloc, bytes)?)),

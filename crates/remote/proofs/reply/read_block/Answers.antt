@@ -2,7 +2,7 @@ use Rattle.std.proofs.Common.{◌≡◌, ◌+◌, ◌<◌, length, length-append
 use Rattle.http_core.specs.Block.{HasNoBlock}
 use Rattle.remote.specs.Flow.{Receives}
 use Rattle.remote.proofs.Endings.{ends_last_more, none_ended}
-use Rattle.remote.proofs.Flows.{receives_then}
+use Rattle.remote.proofs.Flows.{receives_then, some_after}
 use Rattle.remote.proofs.reply.read_block.Goals as goal
 use Rattle.remote.specs.Steps.{Interrupts, ReadsNone, WantsMore}
 use Rattle.remote.specs.declared.fault.Refusal.{Refusal}
@@ -38,6 +38,7 @@ returns-in_err-receive_piece-clause-err g c =
     let ends : (e : Refusal) → Interrupts mid new e → ReadsNone old new e = λ e i. record {
       bad = λ is. absurd (i.other is);
       part = λ is. block_in_part old mid new block reads (i.none is) short open_;
+      some = λ is. some_after old mid new block reads (i.some is);
       sent = i.sent ∙ reads.sent;
     } in
     told c.from_residual.result c.in_err-receive_piece.field-0.0 (ReadsNone old new) c.from_residual.ensures.1 (ends c.in_err-receive_piece.field-0.0 c.in_err-receive_piece.ensures.err)

@@ -3,7 +3,8 @@ use Rattle.http_core.specs.ReplyHead.{IsReplyHead}
 use Rattle.http_core.specs.declared.reply_head.ReplyHead.{ReplyHead}
 use Rattle.remote.specs.Flow.{Receives}
 use Rattle.remote.specs.Steps.{InterruptsBody, ReadsNone}
-use Rattle.remote.proofs.Replies.{bad_io, next_reply, reply_in_part, told}
+use Rattle.remote.proofs.Flows.{some_after}
+use Rattle.remote.proofs.Replies.{bad_io, bad_memory, next_reply, reply_in_part, told}
 use Rattle.remote.proofs.reply.read_reply.Goals as goal
 
 pub returns-clause-ok : goal.returns-clause-ok
@@ -18,6 +19,7 @@ returns-in_default-clause-err g c =
     record {
       bad = λ _. record { text = block; bad = inl (c.in_ok-block.ensures.block, none); read = c.in_ok-block.ensures.read };
       part = λ is. absurd (bad_io is);
+      some = λ is. absurd (bad_memory is);
       sent = c.in_ok-block.ensures.read.sent;
     }
 
@@ -32,6 +34,7 @@ returns-in_err-body-clause-err g c =
     let i : InterruptsBody mid new head.length c.in_err-body.field-0.0 = c.in_err-body.ensures.err in
     let ends : ReadsNone old new c.in_err-body.field-0.0 = record {
       bad = λ is. absurd (i.other is);
+      some = λ is. some_after old mid new c.in_ok-block.block.items reads (i.some is);
       part = λ is. reply_in_part old mid new c.in_ok-block.block.items c.deref.result.now head head.length reads c.in_ok-block.ensures.block c.deref.ensures.value c.in-Some.ensures.some refl (i.part is);
       sent = i.sent ∙ reads.sent;
     } in

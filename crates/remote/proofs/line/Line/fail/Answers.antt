@@ -11,6 +11,7 @@ returns-then-self g c = record {
   broken = refl;
   failed = λ h. absurd (memory_failed h);
   unfailed = λ h. record { count = refl; fault = refl };
+  full = λ h. search rules;
   bounded = search rules;
   server = record { host = refl; prefix = refl };
 }
@@ -21,6 +22,7 @@ returns g c = record {
   broken = refl;
   failed = λ h. (refl, refl);
   unfailed = failed_itself;
+  full = failed_itself;
   bounded = search rules;
   server = record { host = refl; prefix = refl };
 }

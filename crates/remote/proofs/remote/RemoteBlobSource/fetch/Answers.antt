@@ -11,6 +11,8 @@ returns-clause-asked g c = record {
   kept = c.look_up.ensures.kept;
   answered = c.look_up.ensures.asked;
   refused = c.look_up.ensures.refused;
+  starved = c.look_up.ensures.starved;
+  absent = c.look_up.ensures.absent;
 }
 
 pub returns-clause-called : goal.returns-clause-called
