@@ -1,5 +1,5 @@
 -- What was answered, counted.
-use Rattle.std.proofs.Common.{◌≡◌, ℕ, inl, inr, Option, Some, List, [], ◌∷◌, ◌++◌, refl, sym, ◌∙◌, ap, subst, append_assoc, take, Result, Ok, Err, IfOk}
+use Rattle.std.proofs.Common.{◌≡◌, ℕ, inl, inr, Option, Some, List, [], ◌∷◌, ◌++◌, refl, sym, ◌∙◌, ap, subst, append_assoc, take, Result, Ok, Err, IfOk, arith}
 use Rattle.std.proofs.lemmas.List.{append-nil}
 use Rattle.std.specs.Io.KnownBytes.{Consumes, Keeps, IsAtEnd}
 use Rattle.http_core.specs.Event.{AskValue, EventValue, Asked, Refused}
