@@ -3,7 +3,7 @@ use Rattle.std.specs.Prelude.{◌≡◌, ℕ, ◌⊎◌, Bool, List, [], ◌++�
 use Rattle.std.specs.Io.KnownBytes.{Appends, Keeps}
 use Rattle.http_core.specs.Event.{AskValue, EventValue}
 use Rattle.http_core.specs.Reply.{ReplyValue, reply_text}
-use Rattle.cache_server.specs.Cache.{CacheValue, Step}
+use Rattle.cache_server.specs.Cache.{CacheValue, Step, MayWant}
 use Rattle.cache_server.specs.Counts.{CountsFront, count_all}
 use Rattle.cache_server.specs.Serving.{ServesAll, ServesOne}
 use Rattle.cache_server.specs.declared.counts.Counts.{Counts}
@@ -35,11 +35,13 @@ pub record AnswersAskInPart
   pub steps : Step old ask reply new
   pub writes : WritesSome before after (reply_text reply close)
 
--- without memory nothing is done and nothing is written; else the writer failed
+-- without memory, where it may be wanting, nothing is done and nothing is written; else the writer
+-- failed
 abbrev pub FailsAsk :
     ConnError → CacheValue → AskValue → Bool → Option (List ℕ) → Option (List ℕ) → CacheValue
     → Type 0
-FailsAsk Memory old ask close before after new = (new ≡ old) × Keeps before after
+FailsAsk Memory old ask close before after new =
+    (new ≡ old) × Keeps before after × MayWant old ask
 FailsAsk WriteFault old ask close before after new = AnswersAskInPart old ask close before after new
 FailsAsk ReadFault old ask close before after new = ⊥
 
