@@ -1,6 +1,7 @@
 -- What a cache does with a request, and what it replies: a step of the machine of blobs and
 -- results.
-use Rattle.std.specs.Prelude.{◌≡◌, ℕ, false, List, [], ◌∷◌, Option, Some, None, IsSome, IsSomeAnd, ⊤}
+use Rattle.std.specs.Prelude.{◌≡◌, ℕ, false, List, [], ◌∷◌, Option, Some, None, IsSome, IsSomeAnd}
+use Rattle.std.specs.Prelude.{⊤}
 use Rattle.http_core.specs.declared.event.Area.TheVariants.{Ac, Cas, Pin, Unpin}
 use Rattle.http_core.specs.Event.{AskValue, Get, Put}
 use Rattle.http_core.specs.Reply.{ReplyValue}

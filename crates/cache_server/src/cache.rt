@@ -112,8 +112,8 @@ impl<A: Allocator + Copy> Cache<A> {
         self.store.held_bytes()
     }
 
-    /// Does what is asked, and gives the reply. An `Err` changes nothing, and comes only where memory
-    /// may be wanting: a blob for which there is no room is refused without any.
+    /// Does what is asked, and gives the reply. An `Err` changes nothing, and comes only where
+    /// memory may be wanting: a blob for which there is no room is refused without any.
     pub fn apply(&mut self, alloc: A, ask: Ask<A>) -> Result<Reply<A>, AllocError>
         ensures ok { IfOk result (λ reply. Step self.old (ask_of ask) reply self.new) }
         ensures err { OnErr result (self.new ≡ self.old) }
