@@ -4,13 +4,19 @@
 For SECONDS (60) it sends GET and PUT of blobs and results, pin and unpin, to a server whose limits are small, so that
 entries are given up all the time. The model is the cache as docs/FORMATS.md has it, in lists: each answer has to be
 the model's, bytes and all. Connections are closed and opened at random, in the middle of a body too, which changes
-nothing. Then come clients that misbehave: one that sends a byte a second, one that never reads, one that resets in a
-body, 1,000 connections one after another, and the server killed in the middle of a PUT and started again. It prints
-what was asked, the answers by status, and the server's memory at the start and at the end; it ends with status 1 at
-the first answer that isn't the model's. Nothing outside this machine is asked.
+nothing. After every 10,000 requests results are pinned until blobs and results are refused for want of room (507);
+it goes on so for 2,000 requests, and then all are unpinned.
+
+Then a cache of 1,024 blobs is filled to its limit, a tenth of it pinned, and as many blobs are put three times over;
+every blob that was ever put is asked for. The rest is pinned, until nothing more is taken. Then come clients that
+misbehave: one that sends a byte a second, one that never reads, one that resets in a body, 10,000 connections one
+after another, and the server killed in the middle of a PUT and started again. It prints what was asked, the answers by
+status, and the server's memory at the start and at the end; it ends with status 1 at the first answer that isn't the
+model's. Nothing outside this machine is asked.
 """
 
 import collections
+import functools
 import hashlib
 import random
 import socket
@@ -22,6 +28,16 @@ import time
 LIMIT = 1 << 20
 RESULT_LIMIT = 4000
 EMPTY = hashlib.sha256(b"").digest()
+
+# The cache that is filled: blobs of one size, and results that refer to eight of them each.
+BLOB = 16384
+BLOBS = 1024
+GROUP = 8
+
+
+@functools.lru_cache(maxsize=8192)
+def hash_of(blob):
+    return hashlib.sha256(blob).digest()
 
 
 def varint(number):
@@ -61,11 +77,18 @@ class Result:
         self.files = [blob for _, blob in files]
         self.trees = [(tree_of(below), [blob for _, blob in below]) for _, below in trees]
 
+    def size(self):
+        """How many bytes it refers to."""
+        blobs = set(self.files).union(*([tree, *files] for tree, files in self.trees))
+        return sum(map(len, blobs))
+
 
 class Model:
     """The cache: blobs and results by hash, the most recently used first."""
 
-    def __init__(self):
+    def __init__(self, limit=LIMIT, result_limit=RESULT_LIMIT):
+        self.limit = limit
+        self.result_limit = result_limit
         self.blobs = []
         self.results = []
 
@@ -79,11 +102,11 @@ class Model:
 
     def references(self, result):
         """The hashes of what a result refers to, in order; of a Tree's files only where the Tree is held."""
-        out = [hashlib.sha256(blob).digest() for blob in result.files]
+        out = [hash_of(blob) for blob in result.files]
         for tree, files in result.trees:
-            out.append(hashlib.sha256(tree).digest())
+            out.append(hash_of(tree))
             if self.held(tree):
-                out += [hashlib.sha256(blob).digest() for blob in files]
+                out += [hash_of(blob) for blob in files]
         return out
 
     def enter(self, new, others, cost, pinned, limit):
@@ -111,7 +134,7 @@ class Model:
         return 404, b""
 
     def put_blob(self, hash, blob):
-        if hashlib.sha256(blob).digest() != hash:
+        if hash_of(blob) != hash:
             return 400, b""
         if not blob:
             return 200, b""
@@ -119,7 +142,7 @@ class Model:
             self.front(hash)
             return 200, b""
         pins = {it for _, result, on in self.results if on for it in self.references(result)}
-        kept = self.enter((hash, blob), self.blobs, lambda it: len(it[1]), lambda it: it[0] in pins, LIMIT)
+        kept = self.enter((hash, blob), self.blobs, lambda it: len(it[1]), lambda it: it[0] in pins, self.limit)
         if kept is None:
             return 507, b""
         self.blobs = kept
@@ -140,7 +163,7 @@ class Model:
             return 409, b""
         others = [it for it in self.results if it[0] != key]
         new = (key, result, bool(before and before[2]))
-        kept = self.enter(new, others, lambda it: len(it[1].body) + 64, lambda it: it[2], RESULT_LIMIT)
+        kept = self.enter(new, others, lambda it: len(it[1].body) + 64, lambda it: it[2], self.result_limit)
         if kept is None:
             return 507, b""
         self.results = kept
@@ -199,10 +222,10 @@ class Client:
 
 
 class Server:
-    def __init__(self, program, idle=2):
+    def __init__(self, program, idle=2, limit=LIMIT, result_limit=RESULT_LIMIT):
         self.process = subprocess.Popen(
             [program, "serve", "--listen", "127.0.0.1:0", "--connections", "18446744073709551615", "--limit",
-             str(LIMIT), "--result-limit", str(RESULT_LIMIT), "--idle", str(idle)],
+             str(limit), "--result-limit", str(result_limit), "--idle", str(idle)],
             stdout=subprocess.PIPE, stderr=subprocess.DEVNULL,
         )
         self.port = int(self.process.stdout.readline().rsplit(b":", 1)[1])
@@ -216,14 +239,58 @@ class Server:
         self.process.wait()
 
 
-class Soak:
-    def __init__(self, program, seed):
-        self.random = random.Random(seed)
-        self.server = Server(program)
+class Checked:
+    """A server beside its model: each answer has to be the model's."""
+
+    def __init__(self, program, limit, result_limit):
+        self.server = Server(program, 60, limit, result_limit)
         self.client = Client(self.server.port)
-        self.model = Model()
+        self.model = Model(limit, result_limit)
         self.seen = collections.Counter()
+
+    def check(self, kind, method, path, body, want):
+        got = self.client.ask(method, path, body)
+        self.seen[f"{kind} {got[0]}"] += 1
+        if got != want:
+            raise SystemExit(f"soak: {method} {path}: {got[0]} {got[1][:40]!r}, not {want[0]} {want[1][:40]!r}")
+        return got[0]
+
+    def get_blob(self, hash):
+        return self.check("GET cas", "GET", f"/cas/{hash.hex()}", b"", self.model.get_blob(hash))
+
+    def put_blob(self, blob):
+        hash = hash_of(blob)
+        return self.check("PUT cas", "PUT", f"/cas/{hash.hex()}", blob, self.model.put_blob(hash, blob))
+
+    def get_result(self, key):
+        return self.check("GET ac", "GET", f"/ac/{key.hex()}", b"", self.model.get_result(key))
+
+    def put_result(self, key, result):
+        return self.check("PUT ac", "PUT", f"/ac/{key.hex()}", result.body, self.model.put_result(key, result))
+
+    def pin(self, key, on):
+        area = "pin" if on else "unpin"
+        return self.check(f"PUT {area}", "PUT", f"/{area}/{key.hex()}", b"", self.model.pin(key, on))
+
+    def put_whole(self, key, result):
+        """What a result refers to, the result, and its pin."""
+        for blob in result.files + [tree for tree, _ in result.trees] + [it for _, files in result.trees for it in files]:
+            self.put_blob(blob)
+        self.put_result(key, result)
+        self.pin(key, True)
+
+    def tell(self):
+        for kind in sorted(self.seen):
+            print(f"  {kind}: {self.seen[kind]}")
+
+
+class Soak(Checked):
+    def __init__(self, program, seed):
+        super().__init__(program, LIMIT, RESULT_LIMIT)
+        self.random = random.Random(seed)
+        self.filled = 0
         self.blobs = [self.random.randbytes(self.size()) for _ in range(300)]
+        self.keys = [hash_of(bytes([it])) for it in range(40)]
         names = [b"a", b"b", b"c"]
         self.made = []
         for _ in range(60):
@@ -238,59 +305,114 @@ class Soak:
     def size(self):
         return self.random.choice([0, 1, 100, 1000, 10000, 30000, 100000]) + self.random.randrange(50)
 
-    def turn(self):
-        """One request, and whether its answer is the model's."""
+    def turn(self, pins):
+        """One request at random, of one that pins or unpins only where so wished."""
         chance = self.random.random()
-        key = hashlib.sha256(bytes([self.random.randrange(40)])).digest()
+        key = self.random.choice(self.keys)
         blob = self.random.choice(self.blobs if chance < 0.5 else self.blobs[:60] + self.trees + [b""])
-        hash = hashlib.sha256(blob).digest()
         kind = self.random.choices(
             ["GET cas", "PUT cas", "PUT wrong", "GET ac", "PUT ac", "PUT bad", "PUT pin", "PUT unpin", "broken"],
-            [30, 30, 2, 20, 10, 1, 8, 3, 1],
+            [30, 30, 2, 20, 10, 1, 8 * pins, 3 * pins, 1],
         )[0]
         if kind == "GET cas":
-            ask, want = ("GET", f"/cas/{hash.hex()}", b""), self.model.get_blob(hash)
+            self.get_blob(hash_of(blob))
         elif kind == "PUT cas":
-            ask, want = ("PUT", f"/cas/{hash.hex()}", blob), self.model.put_blob(hash, blob)
+            self.put_blob(blob)
         elif kind == "PUT wrong":
-            ask, want = ("PUT", f"/cas/{key.hex()}", blob), self.model.put_blob(key, blob)
+            self.check(kind, "PUT", f"/cas/{key.hex()}", blob, self.model.put_blob(key, blob))
         elif kind == "GET ac":
-            ask, want = ("GET", f"/ac/{key.hex()}", b""), self.model.get_result(key)
+            self.get_result(key)
         elif kind == "PUT ac":
-            result = self.random.choice(self.made)
-            ask, want = ("PUT", f"/ac/{key.hex()}", result.body), self.model.put_result(key, result)
+            self.put_result(key, self.random.choice(self.made))
         elif kind == "PUT bad":
-            ask, want = ("PUT", f"/ac/{key.hex()}", b"\xff"), (400, b"")
+            self.check(kind, "PUT", f"/ac/{key.hex()}", b"\xff", (400, b""))
         elif kind == "broken":
-            self.client.connect().sendall(
-                f"PUT /cas/{hash.hex()} HTTP/1.1\r\nHost: x\r\nContent-Length: {len(blob) + 1}\r\n\r\n".encode() + blob
-            )
-            self.client.close(reset=self.random.random() < 0.5)
-            self.seen["broken off"] += 1
-            return
+            self.break_off(blob)
         else:
-            area = kind.split(" ")[1]
-            ask, want = ("PUT", f"/{area}/{key.hex()}", b""), self.model.pin(key, area == "pin")
-        got = self.client.ask(*ask)
-        self.seen[f"{kind} {got[0]}"] += 1
-        if got != want:
-            raise SystemExit(f"soak: {ask[0]} {ask[1]}: {got[0]} {got[1][:40]!r}, not {want[0]} {want[1][:40]!r}")
+            self.pin(key, kind == "PUT pin")
         if self.random.random() < 0.01:
             self.client.close()
+
+    def break_off(self, blob):
+        """A PUT whose body lacks a byte."""
+        head = f"PUT /cas/{hash_of(blob).hex()} HTTP/1.1\r\nHost: x\r\nContent-Length: {len(blob) + 1}\r\n\r\n"
+        self.client.connect().sendall(head.encode() + blob)
+        self.client.close(reset=self.random.random() < 0.5)
+        self.seen["broken off"] += 1
+
+    def fill(self):
+        """Results are pinned, the largest first, until a blob and a result were refused for want of room; whether so."""
+        before = self.seen["PUT cas 507"], self.seen["PUT ac 507"]
+        self.random.shuffle(self.keys)
+        for key, result in zip(self.keys, sorted(self.made, key=Result.size, reverse=True)):
+            if self.seen["PUT cas 507"] == before[0]:
+                self.put_whole(key, result)
+        for _ in range(400):
+            if self.seen["PUT ac 507"] == before[1]:
+                self.put_whole(self.random.choice(self.keys), self.random.choice(self.made))
+        return self.seen["PUT cas 507"] > before[0] and self.seen["PUT ac 507"] > before[1]
 
     def run(self, seconds):
         first = None
         end = time.monotonic() + seconds
         asked = 0
         while time.monotonic() < end:
-            self.turn()
             asked += 1
+            self.turn(1)
             if asked == 5000:
                 first = self.server.memory()
-        print(f"{asked} requests in {seconds} s, each answered as the model answers")
-        for kind in sorted(self.seen):
-            print(f"  {kind}: {self.seen[kind]}")
+            if asked % 10000 == 0:
+                self.filled += self.fill()
+                for _ in range(2000):
+                    self.turn(0)
+                for key in self.keys:
+                    self.pin(key, False)
+        asked = sum(self.seen.values()) - self.seen["broken off"]
+        print(f"{asked} requests in {seconds} s, each answered as the model answers; the pinned filled both limits {self.filled} times")
+        self.tell()
         print(f"memory of the server after 5,000 requests: {first} kB, at the end: {self.server.memory()} kB")
+
+
+class Full(Checked):
+    """A cache that is filled to its limit, with a tenth of it pinned."""
+
+    def __init__(self, program, seed):
+        super().__init__(program, BLOB * BLOBS, 1 << 20)
+        self.random = random.Random(seed)
+        self.put = []
+
+    def more(self, count):
+        """So many new blobs are put, and how many were taken."""
+        new = [self.random.randbytes(BLOB) for _ in range(count)]
+        self.put += new
+        return sum(self.put_blob(it) == 200 for it in new)
+
+    def pin_group(self, blobs):
+        names = [bytes([97 + it]) for it in range(GROUP)]
+        result = Result(list(zip(names, blobs)), [])
+        key = hash_of(result.body)
+        self.put_result(key, result)
+        return key, self.pin(key, True)
+
+    def run(self):
+        began = time.monotonic()
+        self.more(BLOBS)
+        pinned = self.put[: BLOBS // 10 // GROUP * GROUP]
+        keys = [self.pin_group(pinned[at : at + GROUP])[0] for at in range(0, len(pinned), GROUP)]
+        taken = self.more(3 * BLOBS)
+        held = sum(self.get_blob(hash_of(it)) == 200 for it in self.put)
+        whole = all(self.get_blob(hash_of(it)) == 200 for it in pinned) and all(self.get_result(it) == 200 for it in keys)
+        print(f"{len(pinned)} of {BLOBS} blobs pinned: {taken} of {3 * BLOBS} more are taken, {held} of {len(self.put)} are held,"
+              f" {'all' if whole else 'NOT all'} that are pinned")
+        kept = set(pinned)
+        others = [blob for _, blob in self.model.blobs if blob not in kept]
+        keys += [self.pin_group(others[at : at + GROUP])[0] for at in range(0, len(others), GROUP)]
+        refused = 100 - self.more(100)
+        self.pin(keys[0], False)
+        print(f"all {BLOBS} blobs pinned: {refused} of 100 more are refused; with {GROUP} unpinned again {self.more(GROUP)} of {GROUP} are taken")
+        self.tell()
+        print(f"in {time.monotonic() - began:.1f} s; memory of the server {self.server.memory()} kB")
+        return tell("a cache that is full keeps what is pinned, and takes what there is room for", whole and refused == 100)
 
 
 def tell(name, right):
@@ -347,7 +469,7 @@ def misbehave(program):
     broken.close(reset=True)
     failed += tell("after a client that resets in a body the next one is answered", is_alive(server.port))
 
-    many = 1000
+    many = 10000
     began = time.monotonic()
     right = all(is_alive(server.port) for _ in range(many))
     failed += tell(f"{many} connections one after another", right)
@@ -369,12 +491,18 @@ def main():
         raise SystemExit(__doc__)
     program = sys.argv[1]
     seconds = int(sys.argv[2]) if len(sys.argv) > 2 else 60
-    soak = Soak(program, int(sys.argv[3]) if len(sys.argv) > 3 else 1)
+    seed = int(sys.argv[3]) if len(sys.argv) > 3 else 1
+    soak = Soak(program, seed)
     try:
         soak.run(seconds)
     finally:
         soak.server.end()
-    sys.exit(1 if misbehave(program) else 0)
+    full = Full(program, seed)
+    try:
+        failed = full.run()
+    finally:
+        full.server.end()
+    sys.exit(1 if failed + misbehave(program) else 0)
 
 
 if __name__ == "__main__":

@@ -1,6 +1,6 @@
 -- Puts of blobs, in the store and in the machine.
 use Rattle.std.proofs.Common.{◌≡◌, ℕ, Bool, true, false, cond, not, nat_lt, List, [], ◌∷◌, ◌++◌, length, bytes_eq, Option, Some, None, is_some, is_none, option_map, refl, ap, sym, ◌∙◌, subst, ◌⊎◌, inl, inr}
-use Rattle.std.specs.Prelude.{Result, Ok, Err, IsErrAnd, IfErr}
+use Rattle.std.specs.Prelude.{Result, Ok, Err, IsErrAnd, IfErr, OnErr}
 use Rattle.std.specs.List.{filter, IsDistinct}
 use Rattle.std.specs.Map.{keys_of, lookup}
 use Rattle.std.proofs.lemmas.List.{map-append}
@@ -129,7 +129,34 @@ module _ (reader : Reader) (s : Kept (List ℕ)) (rl : ℕ) (results : List (Lis
       as_told : (f : BlobError) → e ≡ f → IsRefused st (put_blob reader st h b) (of_blob f) → IsRefused st (put_blob reader st h b) (of_blob e)
       as_told f same told = subst (λ x. IsRefused st (put_blob reader st h b) (of_blob x)) (sym same) told
 
+  -- memory is wanting only where the machine puts the blob
+  unrefused : (p q r : Bool) (e : BlobError) → IsRefusal (cond p (Some TooLarge) (cond (not q) (Some HashDiffers) (cond r (Some Full) None))) e → e ≡ Memory → cond p (Some TooLarge) (cond (not q) (Some HashDiffers) (cond r (Some Full) None)) ≡ None
+  unrefused true q r e i m = let no : TooLarge ≡ Memory = sym i ∙ m in absurd cc
+  unrefused false false r e i m = let no : HashDiffers ≡ Memory = sym i ∙ m in absurd cc
+  unrefused false true true e i m = let no : Full ≡ Memory = sym i ∙ m in absurd cc
+  unrefused false true false e i m = refl
+
+  taken : (o : Option (Kept (List ℕ))) → is_none o ≡ false → (u : Kept (List ℕ)) × (o ≡ Some u)
+  taken None e = absurd cc
+  taken (Some u) e = (u, refl)
+
+  pub put_wanting : (b : List ℕ) (e : BlobError) → IsRefusal (put_refusal s h b) e → e ≡ Memory → (put_blob reader st h b).0 ≡ done
+  put_wanting b e i m =
+      let none = unrefused (nat_lt greatest_blob (length b)) (bytes_eq (sha256 b) h) (is_none (blob_put s h b)) e i m in
+      let q = none_refused (nat_lt greatest_blob (length b)) (bytes_eq (sha256 b) h) (is_none (blob_put s h b)) none in
+      let u = taken (blob_put s h b) q.2 in
+      ap (λ (o : Answer × CacheState). o.0) (put_ok b u.0 u.1 none).out_is
+
 -- what holds of a passed-on refusal
 pub told : {X E : Type 0} (r : Result X E) (f : E) (P : E → Type 0) → IsErrAnd r (λ e. e ≡ f) → P f → IfErr r P
 told (Ok x) f P a p = absurd a
 told (Err e) f P a p = subst P (sym a) p
+
+-- which one is passed on
+pub told_is : {X E : Type 0} (r : Result X E) (f e : E) → IsErrAnd r (λ x. x ≡ f) → r ≡ Err e → f ≡ e
+told_is (Ok x) f e a is = absurd a
+told_is (Err d) f e a is = let same : d ≡ e = cc in sym a ∙ same
+
+pub on_err : {X E P : Type 0} (r : Result X E) → P → OnErr r P
+on_err (Ok x) p = tt
+on_err (Err e) p = p

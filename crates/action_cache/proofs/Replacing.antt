@@ -129,6 +129,13 @@ module _ (reader : Reader) (limit : ℕ) (blobs : List (List ℕ × Held)) (s : 
       none : entered bytes_eq s h b ≡ None
       none = rw f refl
 
+  pub put_done : is_some (reader.outputs b) ≡ true → differs_pinned reader st b (under h (marks s.entries)) ≡ false → can_enter bytes_eq s h b ≡ true → (put_result reader st h b).0 ≡ done
+  put_done r o room = by (entered bytes_eq s h b) refl
+    where
+      by : (x : Option (Kept (List ℕ))) → entered bytes_eq s h b ≡ x → (put_result reader st h b).0 ≡ done
+      by None e = let e' = rw room at e in absurd cc
+      by (Some t) e = ap (λ (z : Answer × CacheState). z.0) (ok_put t r o e)
+
   -- a pinned result has the bytes that are put
   pub same_put : differs_pinned reader st b (under h (marks s.entries)) ≡ false → (v : Held) → lookup (bytes_eq h) s.entries ≡ Some v → 0 < v.pins → v.bytes ≡ b
   same_put o v held some =

@@ -1,6 +1,6 @@
 -- To unpin a result, in the stores and in the machine.
 use Rattle.std.proofs.Common.{◌≡◌, ℕ, ◌+◌, ◌-◌, ◌<◌, ◌≤◌, Bool, true, false, cond, ◌&&◌, ◌||◌, nat_lt, List, [], ◌∷◌, map, bytes_eq, Option, Some, None, option_map, refl, ap, sym, ◌∙◌, subst, arith}
-use Rattle.std.specs.Prelude.{Result, Ok, Err, OnOk, OnErr}
+use Rattle.std.specs.Prelude.{Result, Ok, Err, OnOk, OnErr, IsSome, IsSomeAnd}
 use Rattle.std.specs.List.{filter, list_all, AllByRecursion, IsDistinct}
 use Rattle.std.specs.Option.{option_map_or}
 use Rattle.std.specs.Map.{keys_of, lookup}
@@ -10,7 +10,7 @@ use Rattle.eviction.specs.Kept.{Held, is_pinned}
 use Rattle.eviction.specs.Pinning.{repinned, is_among, pins_of, one_less, all_pinned}
 use Rattle.eviction.proofs.Repins.{repinned_same}
 use Rattle.action_cache.specs.References.{Reader, refers, is_complete}
-use Rattle.action_cache.specs.Machine.{CacheState, Marked, done, refused, not_pinned, under, unpin, unpinned_now, with_results, marked}
+use Rattle.action_cache.specs.Machine.{CacheState, Answer, Marked, done, refused, not_pinned, under, unpin, unpinned_now, with_results, marked}
 use Rattle.action_cache.specs.Tied.{how_many, marks, found_in, IsTied}
 use Rattle.action_cache.specs.State.{state_of}
 use Rattle.action_cache.proofs.Pins.{toggled_down, unpin_tied, plain-repinned}
@@ -105,6 +105,31 @@ module _ (reader : Reader) (limit rl : ℕ) (blobs results : List (List ℕ × H
           ap (unpinned_now reader st h) (under-marks h results ∙ ap (option_map mark) held)
           ∙ (λ i. cond (nat_lt 0 (one i)) (done, with_results reader st (marked reader st false h)) (refused not_pinned, st))
           ∙ (λ i. (done, let s : CacheState = record { blobs = sym (plain-repinned (one_less bytes_eq ks) blobs) i; results = (marks-less h results tied.once ∙ ap marks (sym (one_key h results))) i; limit = limit; result_limit = rl } in s))
+
+-- an entry that is pinned
+pub pinned_entry : (o : Option Held) → 0 < option_map_or (λ (x : Held). x.pins) o 0 → (v : Held) × (o ≡ Some v) × (0 < v.pins)
+pinned_entry None p = absurd (omega arith)
+pinned_entry (Some v) p = (v, refl, p)
+
+-- what is marked as pinned is unpinned
+pub unpins : (reader : Reader) (limit rl : ℕ) (blobs results : List (List ℕ × Held)) (h : List ℕ) (v : Held) → lookup (bytes_eq h) results ≡ Some v → 0 < v.pins → (unpin reader (state_of limit rl blobs results) h).0 ≡ done
+unpins reader limit rl blobs results h v held pinned =
+    let st = state_of limit rl blobs results in
+    ap (λ (o : Option Marked). (unpinned_now reader st h o).0) (under-marks h results ∙ ap (option_map mark) held) ∙ by_mark (nat_lt 0 v.pins) (above v.pins pinned)
+  where
+    above : (n : ℕ) → 0 < n → nat_lt 0 n ≡ true
+    above n p = grind (arith, nat_tests)
+
+    by_mark : (b : Bool) → b ≡ true → (cond {A = Answer × CacheState} b (done, with_results reader (state_of limit rl blobs results) (marked reader (state_of limit rl blobs results) false h)) (refused not_pinned, state_of limit rl blobs results)).0 ≡ done
+    by_mark true t = refl
+    by_mark false t = absurd cc
+
+-- a result that is held, and one that isn't pinned
+pub held_under : (h : List ℕ) (es : List (List ℕ × Held)) (v : Held) → lookup (bytes_eq h) es ≡ Some v → IsSome (under h (marks es))
+held_under h es v held = subst (λ (o : Option Marked). IsSome o) (sym (under-marks h es ∙ ap (option_map mark) held)) refl
+
+pub unmarked : (h : List ℕ) (es : List (List ℕ × Held)) (v : Held) → lookup (bytes_eq h) es ≡ Some v → v.pins ≡ 0 → IsSomeAnd (under h (marks es)) (λ r. r.pinned ≡ false)
+unmarked h es v held none = subst (λ (o : Option Marked). IsSomeAnd o (λ r. r.pinned ≡ false)) (sym (under-marks h es ∙ ap (option_map mark) held)) (ap (nat_lt 0) none)
 
 -- an entry with these bytes
 pub find_entry : (o : Option Held) (b : List ℕ) → Some b ≡ option_map (λ (x : Held). x.bytes) o → (v : Held) × (o ≡ Some v) × (v.bytes ≡ b)

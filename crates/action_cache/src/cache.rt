@@ -1,5 +1,6 @@
 ghost use Rattle.std.specs.Prelude.{◌≡◌, ℕ, ◌+◌, ◌<◌, ◌≤◌, ◌^◌, List, [], length, IfOk, IfErr};
-ghost use Rattle.std.specs.Prelude.{OnOk, OnErr, Err, option_map, option_copied, bytes_eq};
+ghost use Rattle.std.specs.Prelude.{OnOk, OnErr, Err, IsSome, IsSomeAnd, is_some, true, false};
+ghost use Rattle.std.specs.Prelude.{option_map, option_copied, bytes_eq};
 ghost use Rattle.std.specs.Borrow.{sem};
 ghost use Rattle.eviction.specs.Kept.{bytes_under, total};
 ghost use Rattle.eviction.specs.Pinning.{pins_of};
@@ -7,8 +8,9 @@ ghost use Rattle.blob_store.specs.Storing.{used};
 ghost use Rattle.messages.specs.declared.error.MessageError.{MessageError};
 ghost use Rattle.action_messages.specs.Refused.{IsRefusedResult as IsRefusedAs};
 ghost use Rattle.action_cache.specs.State.{touched_each, answer_of, is_other, bytes_given};
-ghost use Rattle.action_cache.specs.Reading.{by_messages};
-ghost use Rattle.action_cache.specs.Machine.{CacheState, opened, done, put_blob as blob_put};
+ghost use Rattle.action_cache.specs.Reading.{by_messages, references_in};
+ghost use Rattle.action_cache.specs.Machine.{CacheState, opened, done, under};
+ghost use Rattle.action_cache.specs.Machine.{put_blob as blob_put};
 ghost use Rattle.action_cache.specs.Machine.{get_blob as blob_got, unpin as take_off};
 ghost use Rattle.action_cache.specs.Machine.{pin as put_on, get_result as result_got};
 ghost use Rattle.action_cache.specs.Machine.{put_result as result_put};
@@ -112,6 +114,9 @@ impl<A: Allocator + Copy> ActionCache<A> {
             ≡ (done, self.new)) }
         ensures refused { IfErr result
             (IsRefused self.old (blob_put by_messages self.old hash bytes.items)) }
+        // Want of memory hides no refusal.
+        ensures memory { result ≡ Err CacheError.Memory
+            → (blob_put by_messages self.old hash bytes.items).0 ≡ done }
         ensures err { OnErr result (self.new ≡ self.old) }
     {
         let _held = self.blobs.held_bytes();
@@ -124,6 +129,8 @@ impl<A: Allocator + Copy> ActionCache<A> {
         ensures ok { OnOk result (blob_put by_messages self.old hash sealed ≡ (done, self.new)) }
         ensures refused { IfErr result
             (IsRefused self.old (blob_put by_messages self.old hash sealed)) }
+        ensures memory { result ≡ Err CacheError.Memory
+            → (blob_put by_messages self.old hash sealed).0 ≡ done }
         ensures err { OnErr result (self.new ≡ self.old) }
     {
         let _held = self.blobs.held_bytes();
@@ -151,7 +158,8 @@ impl<A: Allocator + Copy> ActionCache<A> {
         self.blobs.peek(hash)
     }
 
-    /// Puts a result under its hash. One that is pinned takes no other bytes.
+    /// Puts a result under its hash. One that is pinned takes no other bytes. The bytes are read
+    /// first, which takes memory, so want of it may come before any refusal.
     pub fn put_result(
         &mut self,
         alloc: A,
@@ -168,6 +176,22 @@ impl<A: Allocator + Copy> ActionCache<A> {
     {
         let _held = self.results.held_bytes();
         read_result(alloc, &bytes)?;
+        self.put_read(hash, bytes)
+    }
+
+    /// Puts bytes that are read as a result. Only where they are put is memory wanting.
+    fn put_read(&mut self, hash: [u8; 32], bytes: Vec<u8, A>) -> Result<(), CacheError>
+        requires { is_some (references_in bytes.items) ≡ true }
+        ensures ok { OnOk result (result_put by_messages self.old hash bytes.items
+            ≡ (done, self.new)) }
+        ensures refused { IfErr result
+            (IsRefused self.old (result_put by_messages self.old hash bytes.items)) }
+        ensures memory { result ≡ Err CacheError.Memory
+            → (result_put by_messages self.old hash bytes.items).0 ≡ done }
+        ensures not_bad { (e : MessageError) → result ≡ Err (CacheError.BadResult e) → ⊥ }
+        ensures err { OnErr result (self.new ≡ self.old) }
+    {
+        let _held = self.results.held_bytes();
         if differs(&self.results, &hash, &bytes) {
             return Err(CacheError::PinnedDiffers);
         }
@@ -185,6 +209,7 @@ impl<A: Allocator + Copy> ActionCache<A> {
     ) -> Result<Option<Vec<u8, A>>, AllocError>
         ensures ok { IfOk result (λ found. result_got by_messages self.old hash.now
             ≡ (answer_of (option_map (λ v. v.items) found), self.new)) }
+        ensures memory { OnErr result (IsSome (under hash.now self.old.results)) }
         ensures err { OnErr result (self.new ≡ self.old) }
     {
         let copy = match self.results.peek(hash) {
@@ -210,9 +235,15 @@ impl<A: Allocator + Copy> ActionCache<A> {
         ensures ok { OnOk result (put_on by_messages self.old hash.now ≡ (done, self.new)) }
         ensures refused { IfErr result
             (IsRefused self.old (put_on by_messages self.old hash.now)) }
+        // What a result refers to is read, if it is held and not pinned: that takes memory.
+        ensures memory { result ≡ Err CacheError.Memory
+            → IsSomeAnd (under hash.now self.old.results) (λ r. r.pinned ≡ false) }
         ensures err { OnErr result (self.new ≡ self.old) }
     {
         let _held = self.results.held_bytes();
+        if self.results.pins(hash) > 0 {
+            return Ok(());
+        }
         let survey = match self.results.peek(hash) {
             Some(bytes) => walk(alloc, &self.blobs, bytes)?,
             None => return Err(CacheError::NotHeld),
@@ -224,9 +255,6 @@ impl<A: Allocator + Copy> ActionCache<A> {
         match survey.fault {
             Some(digest) => return Err(CacheError::Incomplete(digest)),
             None => (),
-        }
-        if self.results.pins(hash) > 0 {
-            return Ok(());
         }
         self.blobs.pin_all(alloc, &survey.once)?;
         // It isn't refused: the result is held.
@@ -240,6 +268,8 @@ impl<A: Allocator + Copy> ActionCache<A> {
         ensures ok { OnOk result (take_off by_messages self.old hash.now ≡ (done, self.new)) }
         ensures refused { IfErr result
             (IsRefused self.old (take_off by_messages self.old hash.now)) }
+        ensures memory { result ≡ Err CacheError.Memory
+            → (take_off by_messages self.old hash.now).0 ≡ done }
         ensures err { OnErr result (self.new ≡ self.old) }
     {
         let _held = self.results.held_bytes();

@@ -1,6 +1,6 @@
 -- Blobs stay under their hashes.
 use Rattle.std.proofs.Common.{◌≡◌, ℕ, zero, suc, ◌<◌, Bool, true, false, cond, not, List, [], ◌∷◌, ◌++◌, reverse, map, length, take, get_or, ◌+◌, bytes_eq, Option, Some, None, option_map, refl, ap, sym, ◌∙◌, subst, arith}
-use Rattle.std.specs.List.{filter, AllByRecursion}
+use Rattle.std.specs.List.{filter, list_all, AllByRecursion}
 use Rattle.std.specs.Map.{lookup, lookup_entry}
 use Rattle.std.specs.Option.{option_map_or}
 use Rattle.std.proofs.lemmas.Slice.Eq.{bytes_eq-Decides}
@@ -10,17 +10,18 @@ use Rattle.sha2.specs.Sha256.{sha256}
 use Rattle.lru.proofs.CallerLemmas.{Contains-lookup_entry}
 use Rattle.eviction.specs.Kept.{Held, Kept, is_pinned, others, moved_to_front, touched}
 use Rattle.eviction.specs.Entering.{spared, spared_last, stored_key, given_up, entered}
-use Rattle.eviction.specs.Pinning.{repinned, is_held, all_held as all_stored}
+use Rattle.eviction.specs.Pinning.{repinned, is_held, pins_of, all_pinned, all_held as all_stored}
 use Rattle.eviction.proofs.Entered.{entered_is}
-use Rattle.std.specs.Prelude.{◌==◌, ◌&&◌, is_some}
+use Rattle.std.specs.Prelude.{◌==◌, ◌&&◌, ◌||◌, nat_lt, is_some}
 use Rattle.blob_digest.specs.Digest.{DigestValue, digest_of, empty_digest}
-use Rattle.blob_store.specs.Blobs.{AreBlobs, found_in, held_under, all_held, hashes_of, is_empty, of_size, is_held as is_blob_held}
+use Rattle.blob_store.specs.Blobs.{AreBlobs, found_in, held_under, all_held, hashes_of, is_empty, of_size, is_kept, is_held as is_blob_held}
 use Rattle.blob_store.specs.Storing.{blob_put, used}
 use Rattle.eviction.proofs.Looks.{lookup_moved}
 use Rattle.std.specs.Cmp.Lexicographic.{nat_list_eq_equiv}
 use Rattle.std.specs.Prelude.{Result, Ok, Err, IsErrAnd, IfErr}
 use Rattle.eviction.specs.declared.error.BoundedError.{BoundedError}
 use Rattle.blob_store.specs.declared.error.BlobError.{BlobError}
+use Rattle.blob_store.specs.declared.error.BlobError.TheVariants.{Memory}
 use Rattle.blob_store.specs.BlobError.{of_bounded}
 
 module _ {X : Type 0} (P : X → Type 0) where
@@ -89,6 +90,11 @@ found_is h (e ∷ es) = elim (bytes_eq h e.0) as (λ b. cond b (Some e.1.bytes) 
 pub told : {X : Type 0} (r : Result X BlobError) (f g : BoundedError) (Q : Type 0) → IsErrAnd r (λ e. e ≡ of_bounded f) → f ≡ g → Q → IfErr r (λ e. (e ≡ of_bounded g) × Q)
 told (Ok x) f g Q a h q = absurd a
 told (Err e) f g Q a h q = (a ∙ ap of_bounded h, q)
+
+-- want of memory isn't told of as another refusal
+pub wanting_not : {X : Type 0} (r : Result X BlobError) (e : BlobError) → IsErrAnd r (λ x. x ≡ Memory) → (e ≡ Memory → ⊥) → r ≡ Err e → ⊥
+wanting_not (Ok x) e a not is = absurd a
+wanting_not (Err d) e a not is = let same : d ≡ e = cc in not (sym same ∙ a)
 
 pub touched_blobs : (k : List ℕ) (es : List (List ℕ × Held)) → AreBlobs es → AreBlobs (moved_to_front bytes_eq k es)
 touched_blobs k es a = all_touched (λ k b. (k ≡ sha256 b) × (0 < length b)) k es a
@@ -184,3 +190,12 @@ held_stored es (d ∷ ds) a = (elim (is_empty d) as (λ b. is_empty d ≡ b → 
 
     stored : is_empty d ≡ false → is_blob_held (found_in es) d ≡ true → is_held bytes_eq es d.hash ≡ true
     stored t h = sym (present (lookup (bytes_eq d.hash) es)) ∙ ap is_some (sym (found_is d.hash es)) ∙ sized_some d.size (found_in es d.hash) (rw t at h)
+
+-- each of the digests is pinned, but that of no bytes
+pub each_kept : (es : List (List ℕ × Held)) (ds : List DigestValue) → list_all (is_kept es) ds ≡ all_pinned bytes_eq es (hashes_of ds)
+unfolding is_kept
+each_kept es [] = refl
+each_kept es (d ∷ ds) = elim (is_empty d) as (λ b. ((b || nat_lt 0 (pins_of bytes_eq es d.hash)) && list_all (is_kept es) ds) ≡ all_pinned bytes_eq es (map (λ (x : DigestValue). x.hash) (cond (not b) (d ∷ filter (λ x. not (is_empty x)) ds) (filter (λ x. not (is_empty x)) ds)))) [
+  | true ↦ each_kept es ds
+  | false ↦ ap (λ y. nat_lt 0 (pins_of bytes_eq es d.hash) && y) (each_kept es ds)
+]

@@ -1,11 +1,12 @@
 -- Blobs by what is held under hashes.
-use Rattle.std.specs.Prelude.{◌≡◌, ℕ, ◌==◌, ◌<◌, Bool, not, ◌&&◌, List, [], map, length, bytes_eq}
-use Rattle.std.specs.Prelude.{Option, Some, None, is_some, if◌then◌else◌}
+use Rattle.std.specs.Prelude.{◌≡◌, ℕ, ◌==◌, ◌<◌, Bool, not, ◌&&◌, ◌||◌, nat_lt, List, [], map}
+use Rattle.std.specs.Prelude.{length, bytes_eq, Option, Some, None, is_some, if◌then◌else◌}
 use Rattle.std.specs.List.{filter, list_all, AllByRecursion}
 use Rattle.std.specs.Map.{lookup}
 use Rattle.sha2.specs.Sha256.{sha256}
 use Rattle.blob_digest.specs.DigestValue.{DigestValue}
 use Rattle.eviction.specs.Kept.{Held}
+use Rattle.eviction.specs.Pinning.{pins_of}
 
 -- the digest of no bytes
 abbrev pub is_empty : DigestValue → Bool
@@ -46,3 +47,7 @@ found_in es h = lookup (bytes_eq h) (plain es)
 -- each blob stands under its hash, and none is empty
 abbrev pub AreBlobs : List (List ℕ × Held) → Type 0
 AreBlobs es = AllByRecursion (λ e. (e.0 ≡ sha256 e.1.bytes) × (0 < length e.1.bytes)) es
+
+-- the blob that a digest names is pinned, or has no bytes
+unfoldable pub is_kept : List (List ℕ × Held) → DigestValue → Bool
+is_kept es d = is_empty d || nat_lt 0 (pins_of bytes_eq es d.hash)

@@ -1,12 +1,13 @@
-ghost use Rattle.std.specs.Prelude.{◌≡◌, ◌↔◌, ◌⊎◌, ◌<◌, ◌^◌, [], map, true, false, bytes_eq, Err};
+ghost use Rattle.std.specs.Prelude.{◌≡◌, ◌↔◌, ◌⊎◌, ◌<◌, ◌^◌, [], map, true, false, bytes_eq};
+ghost use Rattle.std.specs.Prelude.{Err};
 ghost use Rattle.std.specs.Prelude.{IfOk, IfErr, OnOk, OnErr, Some, None, option_copied};
 ghost use Rattle.std.specs.Borrow.{sem};
-ghost use Rattle.std.specs.List.{IsDistinct};
+ghost use Rattle.std.specs.List.{IsDistinct, list_all};
 ghost use Rattle.eviction.specs.Kept.{IsKept, total_cost, touched};
 ghost use Rattle.eviction.specs.Pinning.{CanPinMore, pins_of, is_held as is_stored, all_pinned};
 ghost use Rattle.eviction.specs.Pinning.{pinned_all, unpinned_all};
 ghost use Rattle.blob_store.specs.Blobs.{is_empty, is_held, all_held, held_under, hashes_of};
-ghost use Rattle.blob_store.specs.Blobs.{found_in, AreBlobs};
+ghost use Rattle.blob_store.specs.Blobs.{found_in, is_kept, AreBlobs};
 ghost use Rattle.blob_store.specs.Storing.{blob_put, used, refused_put, IsRefusal};
 ghost use Rattle.sha2.specs.Sha256.{sha256};
 
@@ -237,6 +238,21 @@ impl<A: Allocator + Copy> BlobStore<A> {
         Ok(())
     }
 
+    /// Whether the blob with the digest is pinned, or has no bytes.
+    #[tactic(auto, unfolding(crate::specs::Blobs::is_kept))]
+    fn is_kept(&self, digest: &Digest) -> bool
+        ensures { result ≡ is_kept self.now.entries digest.now }
+    {
+        is_empty(digest, &self.no_bytes) || self.pins(&digest.hash()) > 0
+    }
+
+    /// Whether the blobs with the digests are all pinned. The digest of no bytes is left out.
+    fn pins_all(&self, digests: &[Digest]) -> bool
+        ensures { result ≡ list_all (is_kept self.now.entries) digests.now }
+    {
+        digests.iter().all(|digest| self.is_kept(digest))
+    }
+
     /// Pins each of the blobs, whose hashes are distinct, once less. The digest of no bytes is left
     /// out. Refusal `NotPinned` where one isn't pinned.
     pub fn unpin(&mut self, alloc: A, digests: &[Digest]) -> Result<(), BlobError>
@@ -244,13 +260,14 @@ impl<A: Allocator + Copy> BlobStore<A> {
         ensures ok { OnOk result
             (self.new ≡ unpinned_all bytes_eq self.old (hashes_of digests.now)) }
         ensures err { OnErr result (self.new ≡ self.old) }
-        ensures pinned { OnOk result
-            (all_pinned bytes_eq self.old.entries (hashes_of digests.now) ≡ true) }
-        ensures not_pinned { result ≡ Err BlobError.NotPinned
-            → all_pinned bytes_eq self.old.entries (hashes_of digests.now) ≡ false }
+        ensures not_pinned { (result ≡ Err BlobError.NotPinned)
+            ↔ (all_pinned bytes_eq self.old.entries (hashes_of digests.now) ≡ false) }
         ensures errors { IfErr result
             (λ e. (e ≡ BlobError.NotPinned) ⊎ (e ≡ BlobError.Memory)) }
     {
+        if !self.pins_all(digests) {
+            return Err(BlobError::NotPinned);
+        }
         let hashes = hashes_of(alloc, digests, &self.no_bytes)?;
         self.blobs.unpin(&hashes)?;
         Ok(())

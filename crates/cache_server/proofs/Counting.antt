@@ -1,5 +1,5 @@
 -- What was answered, counted.
-use Rattle.std.proofs.Common.{◌≡◌, ℕ, inl, inr, Option, Some, List, [], ◌∷◌, ◌++◌, refl, sym, ◌∙◌, ap, subst, append_assoc, take, Result, Ok, Err, IfOk}
+use Rattle.std.proofs.Common.{◌≡◌, ℕ, inl, inr, Option, Some, List, [], ◌∷◌, ◌++◌, refl, sym, ◌∙◌, ap, subst, append_assoc, take, Result, Ok, Err, IfOk, arith}
 use Rattle.std.proofs.lemmas.List.{append-nil}
 use Rattle.std.specs.Io.KnownBytes.{Consumes, Keeps, IsAtEnd}
 use Rattle.http_core.specs.Event.{AskValue, EventValue, Asked, Refused}
@@ -8,12 +8,13 @@ use Rattle.http_core.specs.Session.{Closed, SessionValue, Stands}
 use Rattle.http_core.specs.Stream.{Cuts}
 use Rattle.cache_server.specs.Cache.{CacheValue, Step, step}
 use Rattle.cache_server.specs.Counts.{CountsFront, IsStatusOf, after_event, count_all, count_event}
-use Rattle.cache_server.specs.Connection.{AnswersReadCounting, RunsCounting, RunsSomeCounting, ExchangesCounting, ExchangesSomeCounting, ExchangesSome}
+use Rattle.cache_server.specs.Connection.{AnswersReadCounting, AnswersFrontCounting, RunsCounting, RunsSomeCounting, ExchangesCounting, ExchangesSomeCounting, ExchangesFrontCounting, ExchangesSome}
 use Rattle.cache_server.specs.Serving.{ServesAll, ServesOne}
-use Rattle.cache_server.specs.Writing.{Tells, MayTell, TellsSomeCounting}
+use Rattle.cache_server.specs.Writing.{Tells, MayTell, TellsSomeCounting, TellsFrontCounting}
 use Rattle.cache_server.specs.declared.counts.Counts.{Counts}
 use Rattle.cache_server.specs.declared.error.ConnError.{ConnError}
 use Rattle.cache_server.proofs.Connections.{RunsOn, runs_first, runs_more, runs_ended, runs_closed, runs_stopped, runs_broken, runs_none}
+use Rattle.cache_server.proofs.Serving.{serves_none, serves_join}
 use Rattle.cache_server.proofs.Telling.{TellsOn, told_first, told_more, told_some}
 
 -- ---- one event
@@ -47,8 +48,19 @@ unfolding count_all
 count_one c old event = refl
 
 -- all of them are counted
-pub counts_whole : (c after : Counts) (old : CacheValue) (events : List EventValue) → after ≡ count_all c old events → CountsFront c old events after
-counts_whole c after old events is = record { front = events; rest = []; whole = sym (append-nil events); counts = is }
+pub counts_whole : (c after : Counts) (old new : CacheValue) (events : List EventValue) (text : List ℕ) → ServesAll old events text new → after ≡ count_all c old events → CountsFront c old events text after
+counts_whole c after old new events text served is = record {
+  front = events;
+  rest = [];
+  text = text;
+  part = [];
+  between = new;
+  whole = sym (append-nil events);
+  few = omega arith;
+  served = served;
+  written = sym (append-nil text);
+  counts = is;
+}
 
 -- ---- the events of a piece
 
@@ -72,11 +84,30 @@ module _ (old now new : CacheValue) (events left : List EventValue) (event : Eve
   unfolding told_some
   counted_some t (inl k) is = record {
     tells = told_some old now new events left event before mid after t.on (inl k);
-    counts = counts_whole c e old t.on.done (is ∙ t.counts);
+    counts = counts_whole c e old now t.on.done t.on.text t.on.served (is ∙ t.counts);
   }
   counted_some t (inr k) is = record {
     tells = told_some old now new events left event before mid after t.on (inr k);
-    counts = record { front = t.on.done; rest = event ∷ []; whole = refl; counts = is ∙ t.counts };
+    counts = record {
+      front = t.on.done;
+      rest = event ∷ [];
+      text = t.on.text;
+      part = k.2.written;
+      between = now;
+      whole = refl;
+      few = omega arith;
+      served = t.on.served;
+      written = refl;
+      counts = is ∙ t.counts;
+    };
+  }
+
+  pub counted_front : TellsOnCounting old events (event ∷ left) before mid now c d → (new ≡ now) × Keeps mid after → e ≡ d → TellsFrontCounting old events before after new c e
+  unfolding told_some
+  counted_front t k is = record {
+    tells = told_some old now new events left event before mid after t.on (inl k);
+    all_told = refl;
+    counts = is ∙ t.counts;
   }
 
 pub counted_all : (old new : CacheValue) (events : List EventValue) (before now : Option (List ℕ)) (c d : Counts) → TellsOnCounting old events [] before now new c d → d ≡ count_all c old events
@@ -123,7 +154,7 @@ pub counting_stopped : (prefix : List ℕ) (old : CacheValue) (input left more w
 unfolding runs_stopped
 counting_stopped prefix old input left more written_before written session now c d r kept = record {
   runs = runs_stopped prefix old input left more written_before written session now r.on kept;
-  counts = counts_whole c d old r.on.before r.counts;
+  counts = counts_whole c d old now r.on.before r.on.text r.on.served r.counts;
 }
 
 pub counting_broken : (prefix : List ℕ) (old : CacheValue) (input left more written_before written written_more : Option (List ℕ)) (session : SessionValue) (now after : CacheValue) (piece : List ℕ) (c d e : Counts)
@@ -135,6 +166,12 @@ counting_broken prefix old input left more written_before written written_more s
   counts = record {
     front = r.on.before ++ x.counts.front;
     rest = x.counts.rest;
+    text = r.on.text ++ x.counts.text;
+    part = x.counts.part;
+    between = x.counts.between;
+    few = x.counts.few;
+    served = serves_join old now x.counts.between r.on.before x.counts.front r.on.text x.counts.text r.on.served x.counts.served;
+    written = ap (λ z. r.on.text ++ z) x.counts.written ∙ sym (append_assoc r.on.text x.counts.text x.counts.part);
     whole = ap (λ z. r.on.before ++ z) x.counts.whole ∙ sym (append_assoc r.on.before x.counts.front x.counts.rest);
     counts = x.counts.counts ∙ ap (λ z. count_all z now x.counts.front) r.counts ∙ sym (count_join c old now r.on.before x.counts.front r.on.text r.on.served);
   };
@@ -144,7 +181,32 @@ pub counting_none : (prefix : List ℕ) (old : CacheValue) (input written : Opti
 unfolding runs_none
 counting_none prefix old input written c cut = record {
   runs = runs_none prefix old input written cut;
-  counts = counts_whole c c old [] (sym (count_none c old));
+  counts = counts_whole c c old old [] [] (serves_none old) (sym (count_none c old));
+}
+
+-- memory was wanting: before the first piece, between two pieces, and within one
+pub front_none : (prefix : List ℕ) (old : CacheValue) (input written : Option (List ℕ)) (c : Counts) → Cuts prefix [] [] (Some []) → AnswersFrontCounting prefix old input input written written old c c
+unfolding runs_none
+front_none prefix old input written c cut = record {
+  answers = record { runs = runs_none prefix old input written cut; all_told = refl };
+  counts = sym (count_none c old);
+}
+
+pub front_stopped : (prefix : List ℕ) (old : CacheValue) (input left more written_before written : Option (List ℕ)) (session : SessionValue) (now : CacheValue) (c d : Counts)
+    → RunsOnCounting prefix old input left written_before written session now c d → Keeps left more → AnswersFrontCounting prefix old input more written_before written now c d
+unfolding runs_stopped
+front_stopped prefix old input left more written_before written session now c d r kept = record {
+  answers = record { runs = runs_stopped prefix old input left more written_before written session now r.on kept; all_told = refl };
+  counts = r.counts;
+}
+
+pub front_broken : (prefix : List ℕ) (old : CacheValue) (input left more written_before written written_more : Option (List ℕ)) (session : SessionValue) (now after : CacheValue) (piece : List ℕ) (c d e : Counts)
+    → (r : RunsOnCounting prefix old input left written_before written session now c d) → Consumes left more piece → ExchangesFrontCounting session.prefix r.on.read r.on.before now written piece after written_more d e
+    → AnswersFrontCounting prefix old input more written_before written_more after c e
+unfolding runs_broken
+front_broken prefix old input left more written_before written written_more session now after piece c d e r k x = record {
+  answers = record { runs = runs_broken prefix old input left more written_before written written_more session now after piece r.on k x.exchanges; all_told = x.all_told };
+  counts = x.counts ∙ ap (λ z. count_all z now x.exchanges.done) r.counts ∙ sym (count_join c old now r.on.before x.exchanges.done r.on.text r.on.served);
 }
 
 -- the reader failed

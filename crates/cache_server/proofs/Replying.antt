@@ -1,6 +1,6 @@
 -- Replies of the cache, by what the machine answers.
 use Rattle.std.proofs.Common.{◌≡◌, ℕ, ◌==◌, length, arith, ◌⊎◌, inl, inr, Bool, true, false, cond, Option, Some, None, List, [], ◌∷◌, Result, Ok, Err, OnOk, OnErr, IfErr, IfSome, refl, sym, ◌∙◌, ap, subst}
-use Rattle.std.specs.Prelude.{option_map, bytes_eq}
+use Rattle.std.specs.Prelude.{option_map, bytes_eq, IsErrAnd}
 use Rattle.sha2.specs.Sha256.{sha256}
 use Rattle.http_core.specs.Reply.{ReplyValue, reply_text}
 use Rattle.action_cache.specs.declared.error.CacheError.{CacheError}
@@ -13,12 +13,13 @@ use Rattle.http_core.specs.declared.event.Area.TheVariants.{Ac, Cas, Pin, Unpin}
 use Rattle.http_core.specs.Event.{AskValue, Get, Put}
 use Rattle.action_cache.specs.References.{Reader}
 use Rattle.action_cache.specs.State.{answer_of, bytes_given}
-use Rattle.cache_server.specs.Cache.{Step, step, bare, found_reply, reply_to, replied, without_body}
-use Rattle.cache_server.specs.Status.{status_of, IsToldBy}
+use Rattle.cache_server.specs.Cache.{MayWant, Step, step, bare, found_reply, reply_to, replied, without_body}
+use Rattle.action_cache.specs.declared.error.CacheError.TheVariants as cache
+use Rattle.cache_server.specs.Status.{status_of, IsToldBy, IsWanting}
 use Rattle.cache_server.specs.Writing.{WritesSome, AnswersAsk, FailsAsk}
 use Rattle.cache_server.specs.declared.error.ConnError.{ConnError}
-use Rattle.cache_server.specs.declared.error.ConnError.TheVariants.{WriteFault}
-use Rattle.std.specs.Io.KnownBytes.{Appends}
+use Rattle.cache_server.specs.declared.error.ConnError.TheVariants.{WriteFault, Memory}
+use Rattle.std.specs.Io.KnownBytes.{Appends, Keeps}
 use Rattle.std.proofs.lemmas.Result.{on_ok_weaker}
 
 -- a change that was made or refused
@@ -121,3 +122,14 @@ module _ {T : Type 0} (r : Result T ConnError) (old new : CacheState) (ask : Ask
       by : (r : Result T ConnError) → OnErr r (WritesSome before after (reply_text reply close)) → IfErr r (λ e. e ≡ WriteFault) → IfErr r (λ e. FailsAsk e old ask close before after new)
       by (Ok x) p q = tt
       by (Err e) p q = subst (λ z. FailsAsk z old ask close before after new) (sym q) (record { reply = reply; steps = steps; writes = p })
+
+-- memory was wanting for a change, and for a look-up
+pub wanting : {T N E : Type 0} (r : Result T CacheError) (o : Result N E) (P : Type 0) → OnErr o (IsWanting r) → (r ≡ Err cache.Memory → P) → OnErr o P
+wanting r (Ok n) P w f = tt
+wanting (Ok x) (Err e) P w f = absurd w
+wanting (Err d) (Err e) P w f = f (ap Err w)
+
+pub fails_wanting : {T : Type 0} (r : Result T ConnError) (old new : CacheState) (ask : AskValue) (close : Bool) (before after : Option (List ℕ))
+    → IsErrAnd r (λ e. e ≡ Memory) → new ≡ old → Keeps before after → MayWant old ask → IfErr r (λ e. FailsAsk e old ask close before after new)
+fails_wanting (Ok x) old new ask close before after a same kept may = absurd a
+fails_wanting (Err e) old new ask close before after a same kept may = subst (λ z. FailsAsk z old ask close before after new) (sym a) (same, kept, may)

@@ -1,5 +1,5 @@
 -- Events answered one after another.
-use Rattle.std.proofs.Common.{◌≡◌, ℕ, List, [], ◌∷◌, ◌++◌, refl, sym, ◌∙◌, ap, subst, append_assoc, Result, Ok, Err, OnErr}
+use Rattle.std.proofs.Common.{◌≡◌, ℕ, List, [], ◌∷◌, ◌++◌, refl, sym, ◌∙◌, ap, subst, append_assoc, Result, Ok, Err, OnErr, IsErrAnd}
 use Rattle.std.proofs.lemmas.List.{append-nil}
 use Rattle.http_core.specs.Event.{EventValue}
 use Rattle.cache_server.specs.Cache.{CacheValue}
@@ -29,3 +29,8 @@ serves_more old between new done event text others more s e t =
 pub on_err : {T E P : Type 0} (r : Result T E) → P → OnErr r P
 on_err (Ok x) p = tt
 on_err (Err e) p = p
+
+-- which error is passed on
+pub passed : {T E : Type 0} (r : Result T E) (f e : E) → IsErrAnd r (λ x. x ≡ f) → r ≡ Err e → f ≡ e
+passed (Ok x) f e a is = absurd a
+passed (Err d) f e a is = let same : d ≡ e = cc in sym a ∙ same

@@ -1,12 +1,14 @@
 -- What a cache does with a request, and what it replies: a step of the machine of blobs and
 -- results.
-use Rattle.std.specs.Prelude.{◌≡◌, ℕ, List, [], ◌∷◌, Option, Some, None}
+use Rattle.std.specs.Prelude.{◌≡◌, ℕ, false, List, [], ◌∷◌, Option, Some, None, IsSome, IsSomeAnd}
+use Rattle.std.specs.Prelude.{⊤}
 use Rattle.http_core.specs.declared.event.Area.TheVariants.{Ac, Cas, Pin, Unpin}
 use Rattle.http_core.specs.Event.{AskValue, Get, Put}
 use Rattle.http_core.specs.Reply.{ReplyValue}
-use Rattle.action_cache.specs.Machine.{CacheState, Answer, done, given, nothing, refused}
+use Rattle.action_cache.specs.Machine.{CacheState, Answer, done, given, nothing, refused, under}
 use Rattle.action_cache.specs.Machine as machine
 use Rattle.action_cache.specs.Reading.{by_messages}
+use Rattle.action_cache.specs.State.{bytes_given}
 use Rattle.cache_server.specs.Status.{status_of}
 
 abbrev pub CacheValue : Type 0
@@ -51,3 +53,16 @@ step s (Put Unpin hash body) = without_body s body (machine.unpin by_messages s 
 -- from the one state, the request gets this reply and leads to the other
 abbrev pub Step : CacheState → AskValue → ReplyValue → CacheState → Type 0
 Step old ask reply new = step old ask ≡ (reply, new)
+
+-- What memory may be wanting for: a look-up that finds something, a result that has to be read, and
+-- a change that is made. So a blob for which there is no room is refused, whatever memory there is.
+abbrev pub MayWant : CacheState → AskValue → Type 0
+MayWant s (Get Ac hash) = IsSome (under hash s.results)
+MayWant s (Get Cas hash) = IsSome (bytes_given (machine.get_blob by_messages s hash).0)
+MayWant s (Get Pin hash) = ⊥
+MayWant s (Get Unpin hash) = ⊥
+MayWant s (Put Ac hash body) = ⊤
+MayWant s (Put Cas hash body) = (machine.put_blob by_messages s hash body).0 ≡ done
+MayWant s (Put Pin hash body) =
+    (body ≡ []) × IsSomeAnd (under hash s.results) (λ r. r.pinned ≡ false)
+MayWant s (Put Unpin hash body) = (body ≡ []) × ((machine.unpin by_messages s hash).0 ≡ done)

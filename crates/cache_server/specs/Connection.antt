@@ -46,6 +46,14 @@ pub record RunsSome
   pub appends : Appends before after told
   pub answered : IsAnswered prefix old front (told ++ lost) left new
 
+-- the requests in a beginning of what was read did their work, and all of their answers are written
+pub record AnswersFront
+    (prefix : List ℕ) (old : CacheValue) (input input_left before after : Option (List ℕ))
+    (new : CacheValue)
+    : Type 0 where
+  pub runs : RunsSome prefix old input input_left before after new
+  pub all_told : runs.lost ≡ []
+
 -- the requests in all that was read did their work, and all of their answers are written
 pub record AnswersRead
     (prefix : List ℕ) (old : CacheValue) (input input_left before after : Option (List ℕ))
@@ -101,7 +109,15 @@ pub record RunsSomeCounting
     (new : CacheValue) (first last : Counts)
     : Type 0 where
   pub runs : RunsSome prefix old input input_left before after new
-  pub counts : CountsFront first old runs.answered.events last
+  pub counts : CountsFront first old runs.answered.events runs.told last
+
+-- a beginning of what was read is answered, and all of its events are counted
+pub record AnswersFrontCounting
+    (prefix : List ℕ) (old : CacheValue) (input input_left before after : Option (List ℕ))
+    (new : CacheValue) (first last : Counts)
+    : Type 0 where
+  pub answers : AnswersFront prefix old input input_left before after new
+  pub counts : last ≡ count_all first old answers.runs.answered.events
 
 -- all that was read is answered, and all of its events are counted
 pub record AnswersReadCounting
@@ -125,4 +141,13 @@ pub record ExchangesSomeCounting
     (after : Option (List ℕ)) (first last : Counts)
     : Type 0 where
   pub exchanges : ExchangesSome prefix stream earlier cache before piece cache_after after
-  pub counts : CountsFront first cache exchanges.done last
+  pub counts : CountsFront first cache exchanges.done exchanges.told last
+
+pub record ExchangesFrontCounting
+    (prefix stream : List ℕ) (earlier : List EventValue) (cache : CacheValue)
+    (before : Option (List ℕ)) (piece : List ℕ) (cache_after : CacheValue)
+    (after : Option (List ℕ)) (first last : Counts)
+    : Type 0 where
+  pub exchanges : ExchangesSome prefix stream earlier cache before piece cache_after after
+  pub all_told : exchanges.lost ≡ []
+  pub counts : last ≡ count_all first cache exchanges.done

@@ -1,7 +1,9 @@
 -- How many requests were answered, and how many look-ups found what they asked for.
-use Rattle.std.specs.Prelude.{◌≡◌, ℕ, ◌+◌, ◌==◌, min, List, [], ◌∷◌, ◌++◌, if◌then◌else◌}
+use Rattle.std.specs.Prelude.{◌≡◌, ℕ, ◌+◌, ◌==◌, ◌≤◌, min, List, [], ◌∷◌, ◌++◌, length}
+use Rattle.std.specs.Prelude.{if◌then◌else◌}
 use Rattle.http_core.specs.Event.{EventValue, Asked, Refused, AskValue, Get, Put}
 use Rattle.cache_server.specs.Cache.{CacheValue, step}
+use Rattle.cache_server.specs.Serving.{ServesAll}
 use Rattle.cache_server.specs.declared.counts.Counts.{Counts}
 
 abbrev pub no_counts : Counts
@@ -47,10 +49,18 @@ count_all c cache (event ∷ events) =
 abbrev pub IsStatusOf : CacheValue → AskValue → ℕ → Type 0
 IsStatusOf cache ask status = (step cache ask).0.status ≡ status
 
--- the first of the events are counted, those whose answers are written whole
-pub record CountsFront (old : Counts) (cache : CacheValue) (events : List EventValue) (new : Counts)
+-- The events are counted, but for the last one at most; the answers to those that are counted are
+-- whole in what was written.
+pub record CountsFront
+    (old : Counts) (cache : CacheValue) (events : List EventValue) (told : List ℕ) (new : Counts)
     : Type 0 where
   pub front : List EventValue
   pub rest : List EventValue
+  pub text : List ℕ
+  pub part : List ℕ
+  pub between : CacheValue
   pub whole : events ≡ front ++ rest
+  pub few : length rest ≤ 1
+  pub served : ServesAll cache front text between
+  pub written : told ≡ text ++ part
   pub counts : new ≡ count_all old cache front

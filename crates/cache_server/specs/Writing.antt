@@ -1,10 +1,10 @@
 -- Replies on a writer: what it had, and what it has then.
-use Rattle.std.specs.Prelude.{◌≡◌, ℕ, ◌⊎◌, Bool, List, ◌++◌, Option}
+use Rattle.std.specs.Prelude.{◌≡◌, ℕ, ◌⊎◌, Bool, List, [], ◌++◌, Option}
 use Rattle.std.specs.Io.KnownBytes.{Appends, Keeps}
 use Rattle.http_core.specs.Event.{AskValue, EventValue}
 use Rattle.http_core.specs.Reply.{ReplyValue, reply_text}
-use Rattle.cache_server.specs.Cache.{CacheValue, Step}
-use Rattle.cache_server.specs.Counts.{CountsFront}
+use Rattle.cache_server.specs.Cache.{CacheValue, Step, MayWant}
+use Rattle.cache_server.specs.Counts.{CountsFront, count_all}
 use Rattle.cache_server.specs.Serving.{ServesAll, ServesOne}
 use Rattle.cache_server.specs.declared.counts.Counts.{Counts}
 use Rattle.cache_server.specs.declared.error.ConnError.{ConnError}
@@ -35,11 +35,13 @@ pub record AnswersAskInPart
   pub steps : Step old ask reply new
   pub writes : WritesSome before after (reply_text reply close)
 
--- without memory nothing is done and nothing is written; else the writer failed
+-- without memory, where it may be wanting, nothing is done and nothing is written; else the writer
+-- failed
 abbrev pub FailsAsk :
     ConnError → CacheValue → AskValue → Bool → Option (List ℕ) → Option (List ℕ) → CacheValue
     → Type 0
-FailsAsk Memory old ask close before after new = (new ≡ old) × Keeps before after
+FailsAsk Memory old ask close before after new =
+    (new ≡ old) × Keeps before after × MayWant old ask
 FailsAsk WriteFault old ask close before after new = AnswersAskInPart old ask close before after new
 FailsAsk ReadFault old ask close before after new = ⊥
 
@@ -87,4 +89,13 @@ pub record TellsSomeCounting
     (new : CacheValue) (first last : Counts)
     : Type 0 where
   pub tells : TellsSome old events before after new
-  pub counts : CountsFront first old tells.done last
+  pub counts : CountsFront first old tells.done tells.told last
+
+-- the same, and the texts of the first of them are written whole and counted
+pub record TellsFrontCounting
+    (old : CacheValue) (events : List EventValue) (before after : Option (List ℕ))
+    (new : CacheValue) (first last : Counts)
+    : Type 0 where
+  pub tells : TellsSome old events before after new
+  pub all_told : tells.lost ≡ []
+  pub counts : last ≡ count_all first old tells.done

@@ -1,7 +1,9 @@
-ghost use Rattle.std.specs.Prelude.{◌≡◌, ◌≢◌, IfErr, OnOk, OnErr};
+ghost use Rattle.std.specs.Prelude.{◌≡◌, ◌≢◌, Err, IfErr, OnOk, OnErr};
+ghost use Rattle.std.specs.Io.KnownBytes.{Keeps};
 ghost use Rattle.cache_server.specs.Counts.{count_all, count_event};
 ghost use Rattle.http_core.specs.Event.{events_of, event_of};
 ghost use Rattle.cache_server.specs.Writing.{Tells, MayTell, TellsAll, TellsSomeCounting};
+ghost use Rattle.cache_server.specs.Writing.{TellsFrontCounting};
 
 use crate::cache::Cache;
 use crate::counts::Counts;
@@ -25,6 +27,10 @@ pub(crate) fn answer_all<A: Allocator + Copy, W: Write>(
         (W.contents writer.old) (W.contents writer.new) cache.new) }
     ensures err { OnErr result (TellsSomeCounting cache.old (events_of events.items)
         (W.contents writer.old) (W.contents writer.new) cache.new counts.old counts.new) }
+    // Without memory only whole answers are written.
+    ensures memory { result ≡ Err ConnError.Memory
+        → TellsFrontCounting cache.old (events_of events.items)
+        (W.contents writer.old) (W.contents writer.new) cache.new counts.old counts.new }
     ensures counted { OnOk result
         (counts.new ≡ count_all counts.old cache.old (events_of events.items)) }
     ensures fault { IfErr result (λ e. e ≢ ConnError.ReadFault) }
@@ -47,6 +53,8 @@ fn answer<A: Allocator + Copy, W: Write>(
         (W.contents writer.old) (W.contents writer.new) cache.new) }
     ensures err { OnErr result (MayTell cache.old (event_of event)
         (W.contents writer.old) (W.contents writer.new) cache.new) }
+    ensures memory { result ≡ Err ConnError.Memory
+        → (cache.new ≡ cache.old) × Keeps (W.contents writer.old) (W.contents writer.new) }
     ensures counted { OnOk result
         (counts.new ≡ count_event counts.old cache.old (event_of event)) }
     ensures uncounted { OnErr result (counts.new ≡ counts.old) }

@@ -1,11 +1,11 @@
 ghost use Rattle.std.specs.Prelude.{◌≡◌, ◌<◌, ◌^◌, [], length, IfOk, IfErr, OnOk, OnErr};
-ghost use Rattle.std.specs.Prelude.{option_copied, option_map};
+ghost use Rattle.std.specs.Prelude.{option_copied, option_map, IsSome};
 ghost use Rattle.eviction.specs.Kept.{total};
 ghost use Rattle.http_core.specs.Event.{Get, Put, ask_of};
 ghost use Rattle.http_core.specs.declared.event.Area.TheVariants.{Ac, Cas};
 ghost use Rattle.action_cache.specs.Machine.{get_blob as blob_got};
 ghost use Rattle.action_cache.specs.Reading.{by_messages};
-ghost use Rattle.cache_server.specs.Cache.{Step, bare, found_reply};
+ghost use Rattle.cache_server.specs.Cache.{Step, MayWant, bare, found_reply};
 ghost use Rattle.cache_server.specs.Counts.{IsStatusOf};
 ghost use Rattle.cache_server.specs.Status.{IsToldBy, IsWanting};
 ghost use Rattle.cache_server.specs.Writing.{AnswersAsk, FailsAsk};
@@ -55,7 +55,8 @@ fn status_of(changed: Result<(), CacheError>) -> Result<u16, AllocError>
 
 /// The reply to a look-up, with a copy of what was found.
 fn copy_found<A: Allocator>(alloc: A, found: Option<&[u8]>) -> Result<Reply<A>, AllocError>
-    ensures { IfOk result (λ reply. reply ≡ found_reply (option_copied found.entry)) }
+    ensures ok { IfOk result (λ reply. reply ≡ found_reply (option_copied found.entry)) }
+    ensures err { OnErr result (IsSome (option_copied found.entry)) }
 {
     match found {
         Some(bytes) => Ok(Reply {
@@ -111,10 +112,12 @@ impl<A: Allocator + Copy> Cache<A> {
         self.store.held_bytes()
     }
 
-    /// Does what is asked, and gives the reply. An `Err` changes nothing.
+    /// Does what is asked, and gives the reply. An `Err` changes nothing, and comes only where
+    /// memory may be wanting: a blob for which there is no room is refused without any.
     pub fn apply(&mut self, alloc: A, ask: Ask<A>) -> Result<Reply<A>, AllocError>
         ensures ok { IfOk result (λ reply. Step self.old (ask_of ask) reply self.new) }
         ensures err { OnErr result (self.new ≡ self.old) }
+        ensures memory { OnErr result (MayWant self.old (ask_of ask)) }
     {
         match ask {
             Ask::Get(area, hash) => self.copy(alloc, area, &hash),
@@ -159,6 +162,7 @@ impl<A: Allocator + Copy> Cache<A> {
     fn copy(&mut self, alloc: A, area: Area, hash: &[u8; 32]) -> Result<Reply<A>, AllocError>
         ensures ok { IfOk result (λ reply. Step self.old (Get area hash.now) reply self.new) }
         ensures err { OnErr result (self.new ≡ self.old) }
+        ensures memory { OnErr result (MayWant self.old (Get area hash.now)) }
     {
         match area {
             Area::Cas => self.copy_blob(alloc, hash),
@@ -193,6 +197,7 @@ impl<A: Allocator + Copy> Cache<A> {
     fn copy_blob(&mut self, alloc: A, hash: &[u8; 32]) -> Result<Reply<A>, AllocError>
         ensures ok { IfOk result (λ reply. Step self.old (Get Cas hash.now) reply self.new) }
         ensures err { OnErr result (self.new ≡ self.old) }
+        ensures memory { OnErr result (MayWant self.old (Get Cas hash.now)) }
     {
         let reply = copy_found(alloc, self.store.peek_blob(hash))?;
         self.use_blob(hash);
@@ -228,6 +233,7 @@ impl<A: Allocator + Copy> Cache<A> {
     fn copy_result(&mut self, alloc: A, hash: &[u8; 32]) -> Result<Reply<A>, AllocError>
         ensures ok { IfOk result (λ reply. Step self.old (Get Ac hash.now) reply self.new) }
         ensures err { OnErr result (self.new ≡ self.old) }
+        ensures memory { OnErr result (MayWant self.old (Get Ac hash.now)) }
     {
         let found = self.store.get_result(alloc, hash)?;
         Ok(reply_with(alloc, found))
@@ -264,6 +270,7 @@ impl<A: Allocator + Copy> Cache<A> {
         ensures ok { IfOk result
             (λ status. Step self.old (Put area hash body) (bare status) self.new) }
         ensures err { OnErr result (self.new ≡ self.old) }
+        ensures memory { OnErr result (MayWant self.old (Put area hash body)) }
     {
         match area {
             Area::Cas => status_of(self.store.put_sealed(hash, body)),

@@ -3,7 +3,8 @@ ghost use Rattle.http_core.specs.Event.{EventValue};
 ghost use Rattle.http_core.specs.Session.{Stands};
 ghost use Rattle.cache_server.specs.Connection.{ExchangesCounting, ExchangesSomeCounting};
 ghost use Rattle.cache_server.specs.Connection.{Runs, RunsCounting, RunsSome, RunsSomeCounting};
-ghost use Rattle.cache_server.specs.Connection.{AnswersRead, AnswersReadCounting};
+ghost use Rattle.cache_server.specs.Connection.{AnswersRead, AnswersReadCounting, AnswersFront};
+ghost use Rattle.cache_server.specs.Connection.{AnswersFrontCounting, ExchangesFrontCounting};
 
 use crate::answering::answer_all;
 use crate::cache::Cache;
@@ -35,6 +36,10 @@ pub fn run<A: Allocator + Copy, R: Read, W: Write>(
     ensures read_fault { result ≡ Err ConnError.ReadFault → AnswersRead prefix.now cache.old
         (R.remaining reader.old) (R.remaining reader.new)
         (W.contents writer.old) (W.contents writer.new) cache.new }
+    // Without memory only whole answers are written.
+    ensures memory { result ≡ Err ConnError.Memory → AnswersFront prefix.now cache.old
+        (R.remaining reader.old) (R.remaining reader.new)
+        (W.contents writer.old) (W.contents writer.new) cache.new }
 {
     let mut counts = Counts::none();
     run_counting(alloc, reader, writer, cache, prefix, &mut counts)
@@ -60,6 +65,11 @@ pub fn run_counting<A: Allocator + Copy, R: Read, W: Write>(
     // Where the reader failed, all that it gave is answered.
     ensures read_fault { result ≡ Err ConnError.ReadFault
         → AnswersReadCounting prefix.now cache.old
+        (R.remaining reader.old) (R.remaining reader.new)
+        (W.contents writer.old) (W.contents writer.new) cache.new
+        counts.old counts.new }
+    ensures memory { result ≡ Err ConnError.Memory
+        → AnswersFrontCounting prefix.now cache.old
         (R.remaining reader.old) (R.remaining reader.new)
         (W.contents writer.old) (W.contents writer.new) cache.new
         counts.old counts.new }
@@ -98,6 +108,12 @@ fn exchange<A: Allocator + Copy, W: Write>(
         → ExchangesSomeCounting session.old.prefix stream earlier cache.old
         (W.contents writer.old) piece.now cache.new (W.contents writer.new)
         counts.old counts.new) }
+    ensures memory { result ≡ Err ConnError.Memory
+        → (stream : List ℕ) (earlier : List EventValue)
+        → Stands session.old stream earlier
+        → ExchangesFrontCounting session.old.prefix stream earlier cache.old
+        (W.contents writer.old) piece.now cache.new (W.contents writer.new)
+        counts.old counts.new }
     ensures fault { IfErr result (λ e. e ≢ ConnError.ReadFault) }
 {
     let events = session.feed(alloc, piece)?;

@@ -1,6 +1,7 @@
-use Rattle.std.proofs.Common.{[], sym}
+use Rattle.std.proofs.Common.{[], Err, refl, ap, sym}
 use Rattle.http_core.specs.Event.{events_of}
-use Rattle.cache_server.proofs.Serving.{on_err}
+use Rattle.cache_server.specs.declared.error.ConnError.TheVariants.{Memory}
+use Rattle.cache_server.proofs.Serving.{on_err, passed, serves_none}
 use Rattle.cache_server.proofs.Connections.{unfed, unanswered, unflushed, exchanged}
 use Rattle.cache_server.proofs.Counting.{counts_whole, count_none}
 use Rattle.cache_server.proofs.running.exchange.Goals as goal
@@ -9,7 +10,7 @@ pub returns-in_err-events-clause-err : goal.returns-in_err-events-clause-err
 unfolding unfed
 returns-in_err-events-clause-err g c = on_err c.from_residual.result (λ stream before s. record {
   exchanges = unfed c.args.session.now stream before c.args.cache.now (g.W.Write.contents c.args.writer.now) c.args.piece.now s;
-  counts = counts_whole c.args.counts.now c.args.counts.now c.args.cache.now [] (sym (count_none c.args.counts.now c.args.cache.now));
+  counts = counts_whole c.args.counts.now c.args.counts.now c.args.cache.now c.args.cache.now [] [] (serves_none c.args.cache.now) (sym (count_none c.args.counts.now c.args.cache.now));
 })
 
 pub returns-in_err-answer_all-clause-err : goal.returns-in_err-answer_all-clause-err
@@ -36,5 +37,24 @@ returns-in-Err-clause-err g c stream before s =
     let events = events_of c.in_ok-events.events.items in
     record {
       exchanges = unflushed c.args.session.now c.feed.new.self stream before events c.args.cache.now c.answer_all.new.cache (g.W.Write.contents c.args.writer.now) (g.W.Write.contents c.answer_all.new.writer) (g.W.Write.contents c.flush.new.self) c.args.piece.now feeds.prefix (feeds.stands stream before s) c.in_ok-answer_all.ensures.ok c.flush.ensures.bytes;
-      counts = counts_whole c.args.counts.now c.answer_all.new.counts c.args.cache.now events c.in_ok-answer_all.ensures.counted;
+      counts = counts_whole c.args.counts.now c.answer_all.new.counts c.args.cache.now c.answer_all.new.cache events c.in_ok-answer_all.ensures.ok.text c.in_ok-answer_all.ensures.ok.served c.in_ok-answer_all.ensures.counted;
+    }
+
+pub returns-in_err-events-clause-memory : goal.returns-in_err-events-clause-memory
+unfolding unfed
+returns-in_err-events-clause-memory g c is stream before s = record {
+  exchanges = unfed c.args.session.now stream before c.args.cache.now (g.W.Write.contents c.args.writer.now) c.args.piece.now s;
+  all_told = refl;
+  counts = sym (count_none c.args.counts.now c.args.cache.now);
+}
+
+pub returns-in_err-answer_all-clause-memory : goal.returns-in_err-answer_all-clause-memory
+unfolding unanswered
+returns-in_err-answer_all-clause-memory g c is stream before s =
+    let feeds = c.in_ok-events.ensures.ok in
+    let front = c.in_err-answer_all.ensures.memory (ap Err (passed c.from_residual-in_err-answer_all.result c.in_err-answer_all.field-0.0 Memory c.from_residual-in_err-answer_all.ensures.1 is)) in
+    record {
+      exchanges = unanswered c.args.session.now c.feed.new.self stream before (events_of c.in_ok-events.events.items) c.args.cache.now c.answer_all.new.cache (g.W.Write.contents c.args.writer.now) (g.W.Write.contents c.answer_all.new.writer) c.args.piece.now feeds.prefix s (feeds.stands stream before s) front.tells;
+      all_told = front.all_told;
+      counts = front.counts;
     }

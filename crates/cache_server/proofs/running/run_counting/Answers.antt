@@ -1,11 +1,12 @@
-use Rattle.std.proofs.Common.{◌≡◌, ◌<◌, true, length, refl, sym, ◌∙◌, subst, rules, arith}
+use Rattle.std.proofs.Common.{◌≡◌, ◌<◌, true, length, Err, refl, ap, sym, ◌∙◌, subst, rules, arith}
 use Rattle.std.specs.Io.KnownBytes.{Consumes}
 use Rattle.std.proofs.KnownBytes.{Keeps-refl}
 use Rattle.http_core.specs.Session.{Closed}
 use Rattle.http_core.proofs.Pieces.{not_open}
-use Rattle.cache_server.proofs.Serving.{on_err}
+use Rattle.cache_server.specs.declared.error.ConnError.TheVariants.{Memory}
+use Rattle.cache_server.proofs.Serving.{on_err, passed}
 use Rattle.cache_server.proofs.Connections.{nothing_cut}
-use Rattle.cache_server.proofs.Counting.{RunsOnCounting, counting_first, counting_more, counting_ended, counting_closed, counting_stopped, counting_broken, counting_none, counting_read}
+use Rattle.cache_server.proofs.Counting.{RunsOnCounting, counting_first, counting_more, counting_ended, counting_closed, counting_stopped, counting_broken, counting_none, counting_read, front_none, front_stopped, front_broken}
 use Rattle.cache_server.proofs.running.run_counting.Goals as goal
 
 pub returns-in_err-session-clause-err : goal.returns-in_err-session-clause-err
@@ -51,3 +52,17 @@ returns-clause-err g c =
 pub returns-in_default-clause-read_fault : goal.returns-in_default-clause-read_fault
 returns-in_default-clause-read_fault g c is =
     counting_read c.args.prefix.now c.args.cache.now (g.R.Read.remaining c.args.reader.now) (g.R.Read.remaining c.loop.reader) (g.R.Read.remaining c.read.new.self) (g.W.Write.contents c.args.writer.now) (g.W.Write.contents c.loop.writer) c.loop.session c.loop.cache c.args.counts.now c.loop.counts c.loop.invariant.runs c.in_default.ensures.bytes
+
+pub returns-in_err-session-clause-memory : goal.returns-in_err-session-clause-memory
+returns-in_err-session-clause-memory g c is = front_none c.args.prefix.now c.args.cache.now (g.R.Read.remaining c.args.reader.now) (g.W.Write.contents c.args.writer.now) c.args.counts.now (nothing_cut c.args.prefix.now)
+
+pub returns-in_err-exchange-clause-memory : goal.returns-in_err-exchange-clause-memory
+returns-in_err-exchange-clause-memory g c is =
+    let piece : Consumes (g.R.Read.remaining c.loop.reader) (g.R.Read.remaining c.read.new.self) c.split_at.result.0.now = subst (Consumes (g.R.Read.remaining c.loop.reader) (g.R.Read.remaining c.read.new.self)) (sym c.split_at.ensures.front) c.in-Ok.ensures.bytes.0 in
+    let front = c.in_err-exchange.ensures.memory (ap Err (passed c.from_residual-in_err-exchange.result c.in_err-exchange.field-0.0 Memory c.from_residual-in_err-exchange.ensures.1 is)) in
+    front_broken c.args.prefix.now c.args.cache.now (g.R.Read.remaining c.args.reader.now) (g.R.Read.remaining c.loop.reader) (g.R.Read.remaining c.read.new.self) (g.W.Write.contents c.args.writer.now) (g.W.Write.contents c.loop.writer) (g.W.Write.contents c.exchange.new.writer) c.loop.session c.loop.cache c.exchange.new.cache c.split_at.result.0.now c.args.counts.now c.loop.counts c.exchange.new.counts
+    c.loop.invariant.runs piece (front c.loop.invariant.runs.on.read c.loop.invariant.runs.on.before c.loop.invariant.runs.on.stands)
+
+pub returns-clause-memory : goal.returns-clause-memory
+returns-clause-memory g c is =
+    front_stopped c.args.prefix.now c.args.cache.now (g.R.Read.remaining c.args.reader.now) (g.R.Read.remaining c.loop.reader) (g.R.Read.remaining c.loop.reader) (g.W.Write.contents c.args.writer.now) (g.W.Write.contents c.loop.writer) c.loop.session c.loop.cache c.args.counts.now c.loop.counts c.loop.invariant.runs (Keeps-refl (g.R.Read.remaining c.loop.reader))

@@ -1,14 +1,16 @@
+use Rattle.std.specs.Prelude.{IsSome}
 use Rattle.std.proofs.Common.{◌≡◌, ◌&&◌, subst, sym, ap, ◌∙◌, Some, true, false, bytes_eq, is_some, is_none}
 use Rattle.std.specs.Map.{lookup}
 use Rattle.eviction.specs.Kept.{Held, touched}
 use Rattle.action_cache.specs.Survey.{Surveys}
 use Rattle.action_cache.specs.References.{references, is_complete, first_fault, outputs_of}
 use Rattle.action_cache.specs.Reading.{by_messages}
-use Rattle.action_cache.specs.Machine.{CacheState, nothing, given, get_result as result_got}
+use Rattle.action_cache.specs.Machine.{CacheState, nothing, given, under, get_result as result_got}
 use Rattle.action_cache.specs.Tied.{found_in}
 use Rattle.action_cache.specs.State.{state_of, touched_each}
-use Rattle.action_cache.proofs.Unpinning.{find_entry}
+use Rattle.action_cache.proofs.Unpinning.{find_entry, held_under}
 use Rattle.action_cache.proofs.Pinning.{no_entry, and_false, faulty}
+use Rattle.action_cache.proofs.Mirrors.{on_err}
 use Rattle.action_cache.proofs.Getting.{none_got, part_got, whole_got, still_tied}
 use Rattle.action_cache.proofs.cache.ActionCache.get_result.Goals as goal
 
@@ -95,3 +97,17 @@ returns-clause-ok g c =
     let results : c.touch-held.new.self ≡ touched bytes_eq i.results h = c.touch-held.ensures.moves in
     subst (λ (w : CacheState). result_got reader w h ≡ (given c.in_ok-copy-in-Some.copy.items, state_of c.touch_each.new.blobs.limit c.touch-held.new.self.limit c.touch_each.new.blobs.entries c.touch-held.new.self.entries)) c.self.view_is
     (rw (blobs, results, ← copied) (whole_got reader i.blobs.limit i.results.limit B R h v held whole))
+
+pub returns-in_err-copy-in-Some-clause-memory : goal.returns-in_err-copy-in-Some-clause-memory
+returns-in_err-copy-in-Some-clause-memory g c =
+    let h = c.args.hash.now in
+    let R = c.self.inside.results.entries in
+    let f = find_entry (lookup (bytes_eq h) R) c.in-Some.bytes.now c.in-Some.ensures in
+    on_err c.from_residual.result (subst (λ (w : CacheState). IsSome (under h w.results)) c.self.view_is (held_under h R f.0 f.1))
+
+pub returns-in_err-survey-clause-memory : goal.returns-in_err-survey-clause-memory
+returns-in_err-survey-clause-memory g c =
+    let h = c.args.hash.now in
+    let R = c.self.inside.results.entries in
+    let f = find_entry (lookup (bytes_eq h) R) c.in-Some.bytes.now c.in-Some.ensures in
+    on_err c.from_residual-in_err-survey.result (subst (λ (w : CacheState). IsSome (under h w.results)) c.self.view_is (held_under h R f.0 f.1))

@@ -1,18 +1,19 @@
+use Rattle.std.specs.Prelude.{IsSomeAnd}
 use Rattle.std.proofs.Common.{◌≡◌, ◌<◌, ◌&&◌, arith, ℕ, List, subst, sym, ap, ◌∙◌, ◌∷◌, [], Some, true, false, bytes_eq, is_some, is_none, Err, IfErr}
 use Rattle.std.specs.Map.{lookup}
 use Rattle.eviction.specs.Kept.{Held, total_cost}
-use Rattle.eviction.specs.Pinning.{is_among, pinned_all, all_held}
+use Rattle.eviction.specs.Pinning.{is_among, pinned_all, pins_of, all_held}
 use Rattle.blob_store.specs.declared.error.BlobError.TheVariants as blob
 use Rattle.blob_store.specs.Blobs.{hashes_of}
 use Rattle.action_cache.specs.Survey.{Surveys}
 use Rattle.action_cache.specs.References.{refers, is_complete, first_fault, outputs_of}
 use Rattle.action_cache.specs.Reading.{by_messages}
-use Rattle.action_cache.specs.Machine.{CacheState, done, refused, why_incomplete, pin as put_on}
+use Rattle.action_cache.specs.Machine.{CacheState, Marked, done, refused, under, why_incomplete, pin as put_on}
 use Rattle.action_cache.specs.Tied.{found_in}
 use Rattle.action_cache.specs.State.{state_of}
 use Rattle.action_cache.specs.CacheError.{IsRefused}
 use Rattle.action_cache.specs.declared.error.CacheError.TheVariants.{NotHeld, Incomplete}
-use Rattle.action_cache.proofs.Unpinning.{find_entry, pins_found, one_distinct, settled}
+use Rattle.action_cache.proofs.Unpinning.{find_entry, pinned_entry, pins_found, one_distinct, settled, unmarked, was_complete}
 use Rattle.std.specs.List.{IsDistinct}
 use Rattle.blob_store.specs.Blobs.{all_held as all_blobs_held}
 use Rattle.action_cache.specs.CacheError.{of_blob}
@@ -79,17 +80,12 @@ returns-then-pins-gt0-clause-ok g c =
     let R = i.results.entries in
     let d = c.held_bytes-held.ensures.lawful.distinct in
     let tied = c.self.invariant.0 in
-    let b = c.in-Some.bytes.now in
-    let f = find_entry (lookup (bytes_eq h) R) b c.in-Some.ensures in
-    let v : Held = f.0 in
-    let held : lookup (bytes_eq h) R ≡ Some v = f.1 in
-    let survey : Surveys reader (found_in B) b c.in-Some-survey.survey = rw c.in-Some-survey.is at c.in_ok-survey-in-Some.ensures in
-    let whole : is_complete (found_in B) reader v.bytes ≡ true = subst (λ y. is_complete (found_in B) reader y ≡ true) (sym f.2) (λ j. survey.reads j && is_none ((sym survey.fault ∙ c.in-None-fault.is) j)) in
-    let count = pins_found R h v held in
     let told = c.pins.ensures in
     let some = c.if-pins-gt0.true in
-    let marked : 0 < v.pins = omega arith in
-    subst (λ (w : CacheState). put_on reader w h ≡ (done, w)) c.self.view_is (again reader i.blobs.limit i.results.limit B R d tied h v held whole marked)
+    let counted : 0 < pins_of bytes_eq R h = omega arith in
+    let f = pinned_entry (lookup (bytes_eq h) R) counted in
+    subst (λ (w : CacheState). put_on reader w h ≡ (done, w)) c.self.view_is
+    (again reader i.blobs.limit i.results.limit B R d tied h f.0 f.1 (was_complete reader i.blobs.limit i.results.limit B R d tied h f.0 f.1 f.2) f.2)
 
 pub pin_all-requires-clause-counts : goal.pin_all-requires-clause-counts
 pin_all-requires-clause-counts g c = λ k at.
@@ -178,3 +174,29 @@ returns-in_err-pin_all-clause-refused g c =
     subst (λ (w : CacheState). IfErr c.from_residual-in_err-pin_all.result (IsRefused w (put_on by_messages w h))) c.self.view_is
     (told_as c.from_residual-in_err-pin_all.result (of_blob e) (IsRefused st (put_on by_messages st h)) c.from_residual-in_err-pin_all.ensures.1
     (only_memory st (put_on by_messages st h) e blob.NotHeld c.in_err-pin_all.ensures.errors (λ same. let no = c.in_err-pin_all.ensures.not_held.0 (ap Err same) in let both : true ≡ false = sym all ∙ no in cc)))
+
+pub returns-in_err-survey-in-Some-clause-memory : goal.returns-in_err-survey-in-Some-clause-memory
+returns-in_err-survey-in-Some-clause-memory g c is =
+    let i = c.self.inside in
+    let h = c.args.hash.now in
+    let R = i.results.entries in
+    let f = find_entry (lookup (bytes_eq h) R) c.in-Some.bytes.now c.in-Some.ensures in
+    let v : Held = f.0 in
+    let held : lookup (bytes_eq h) R ≡ Some v = f.1 in
+    let count = pins_found R h v held in
+    let told = c.pins.ensures in
+    let zero_pins : v.pins ≡ 0 = let none = c.if-pins-gt0.false in omega arith in
+    subst (λ (w : CacheState). IsSomeAnd (under h w.results) (λ (r : Marked). r.pinned ≡ false)) c.self.view_is (unmarked h R v held zero_pins)
+
+pub returns-in_err-pin_all-clause-memory : goal.returns-in_err-pin_all-clause-memory
+returns-in_err-pin_all-clause-memory g c is =
+    let i = c.self.inside in
+    let h = c.args.hash.now in
+    let R = i.results.entries in
+    let f = find_entry (lookup (bytes_eq h) R) c.in-Some.bytes.now c.in-Some.ensures in
+    let v : Held = f.0 in
+    let held : lookup (bytes_eq h) R ≡ Some v = f.1 in
+    let count = pins_found R h v held in
+    let told = c.pins.ensures in
+    let zero_pins : v.pins ≡ 0 = let none = c.if-pins-gt0.false in omega arith in
+    subst (λ (w : CacheState). IsSomeAnd (under h w.results) (λ (r : Marked). r.pinned ≡ false)) c.self.view_is (unmarked h R v held zero_pins)

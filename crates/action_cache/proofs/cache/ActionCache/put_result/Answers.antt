@@ -1,92 +1,14 @@
-use Rattle.std.proofs.Common.{◌≡◌, sym, ap, ◌∙◌, subst, bytes_eq, true, false, is_some, Err, inl, inr, ◌⊎◌, IfErr}
-use Rattle.eviction.specs.declared.error.BoundedError.{BoundedError}
-use Rattle.eviction.specs.declared.error.BoundedError.TheVariants as bounded
-use Rattle.eviction.specs.Kept.{bytes_under}
-use Rattle.eviction.specs.Entering.{can_enter}
-use Rattle.eviction.specs.Pinning.{pins_of}
-use Rattle.action_cache.specs.declared.error.CacheError.TheVariants as cache
-use Rattle.action_cache.specs.declared.error.CacheError.TheVariants.{PinnedDiffers, BadResult}
+use Rattle.std.proofs.Common.{◌≡◌, is_some, ap, subst, IfErr}
 use Rattle.messages.specs.declared.error.MessageError.{MessageError}
 use Rattle.action_cache.specs.Reading.{by_messages}
-use Rattle.action_cache.specs.Machine.{CacheState, Answer, done, refused, full, under, differs_pinned, put_result as result_put}
-use Rattle.action_cache.specs.Tied.{marks}
-use Rattle.action_cache.specs.State.{state_of, is_other}
-use Rattle.action_cache.specs.CacheError.{of_bounded, IsRefused, IsNoResult}
+use Rattle.action_cache.specs.Machine.{CacheState, put_result as result_put}
+use Rattle.action_cache.specs.State.{state_of}
+use Rattle.action_cache.specs.CacheError.{IsRefused, IsNoResult}
 use Rattle.action_cache.proofs.Said.{bad_told, not_bad}
 use Rattle.action_cache.proofs.Refusing.{unread_refused}
 use Rattle.action_cache.proofs.Mirrors.{told}
-use Rattle.action_cache.proofs.Replacing.{other_is, bad_put, other_put, ok_put, full_put, entered_overhead, same_put, put_tied}
+use Rattle.action_cache.proofs.Replacing.{bad_put}
 use Rattle.action_cache.proofs.cache.ActionCache.put_result.Goals as goal
-
-pub returns-then-differs-clause-refused : goal.returns-then-differs-clause-refused
-returns-then-differs-clause-refused g c =
-    let i = c.self.inside in
-    let reader = by_messages in
-    let h = c.args.hash in
-    let b = c.args.bytes.items in
-    let s = i.results in
-    let B = i.blobs.entries in
-    let flat = c.self.invariant.2 in
-    let d = c.held_bytes-held.ensures.lawful.distinct in
-    let reads : is_some (reader.outputs b) ≡ true = ap (λ l. is_some (reader.outputs l)) (sym c.deref.ensures.value) ∙ ap is_some c.in_ok-read_result.ensures.read in
-    let other : differs_pinned reader (state_of i.blobs.limit s.limit B s.entries) b (under h (marks s.entries)) ≡ true =
-    sym (other_is reader i.blobs.limit B s flat d h b) ∙ ap (λ l. is_other l (bytes_under bytes_eq s.entries h) (pins_of bytes_eq s.entries h)) (sym c.deref-2.ensures.value) ∙ sym c.differs.ensures ∙ c.if-differs.true in
-    subst (λ (w : CacheState). IsRefused w (result_put reader w h b) PinnedDiffers) c.self.view_is (other_put reader i.blobs.limit B s flat d h b reads other)
-
-pub invariant_of-self-2 : goal.invariant_of-self-2
-invariant_of-self-2 g c =
-    let i = c.self.inside in
-    let reader = by_messages in
-    let h = c.args.hash in
-    let b = c.args.bytes.items in
-    let s = i.results in
-    let B = i.blobs.entries in
-    let flat = c.self.invariant.2 in
-    let d = c.held_bytes-held.ensures.lawful.distinct in
-    let reads : is_some (reader.outputs b) ≡ true = ap (λ l. is_some (reader.outputs l)) (sym c.deref.ensures.value) ∙ ap is_some c.in_ok-read_result.ensures.read in
-    let other : differs_pinned reader (state_of i.blobs.limit s.limit B s.entries) b (under h (marks s.entries)) ≡ false =
-    sym (other_is reader i.blobs.limit B s flat d h b) ∙ ap (λ l. is_other l (bytes_under bytes_eq s.entries h) (pins_of bytes_eq s.entries h)) (sym c.deref-2.ensures.value) ∙ sym c.differs.ensures ∙ c.if-differs.false in
-    (put_tied reader i.blobs.limit B s flat d h b c.put.new.self c.in_ok-put.ensures.ok (same_put reader i.blobs.limit B s flat d h b other) c.self.invariant.0, c.self.invariant.1, entered_overhead s c.put.new.self h b c.in_ok-put.ensures.ok ∙ flat)
-
-pub returns-clause-ok : goal.returns-clause-ok
-returns-clause-ok g c =
-    let i = c.self.inside in
-    let reader = by_messages in
-    let h = c.args.hash in
-    let b = c.args.bytes.items in
-    let s = i.results in
-    let B = i.blobs.entries in
-    let flat = c.self.invariant.2 in
-    let d = c.held_bytes-held.ensures.lawful.distinct in
-    let reads : is_some (reader.outputs b) ≡ true = ap (λ l. is_some (reader.outputs l)) (sym c.deref.ensures.value) ∙ ap is_some c.in_ok-read_result.ensures.read in
-    let other : differs_pinned reader (state_of i.blobs.limit s.limit B s.entries) b (under h (marks s.entries)) ≡ false =
-    sym (other_is reader i.blobs.limit B s flat d h b) ∙ ap (λ l. is_other l (bytes_under bytes_eq s.entries h) (pins_of bytes_eq s.entries h)) (sym c.deref-2.ensures.value) ∙ sym c.differs.ensures ∙ c.if-differs.false in
-    subst (λ (w : CacheState). result_put reader w h b ≡ (done, state_of i.blobs.limit c.put.new.self.limit B c.put.new.self.entries)) c.self.view_is (ok_put reader i.blobs.limit B s flat d h b c.put.new.self reads other c.in_ok-put.ensures.ok)
-
--- full or out of memory
-refused_by : (st : CacheState) (out : Answer × CacheState) (e : BoundedError) → (e ≡ bounded.Full) ⊎ (e ≡ bounded.Memory) → (e ≡ bounded.Full → out ≡ (refused full, st)) → IsRefused st out (of_bounded e)
-refused_by st out e (inl same) f = subst (λ x. IsRefused st out (of_bounded x)) (sym same) (f same)
-refused_by st out e (inr memory) f = subst (λ x. IsRefused st out (of_bounded x)) (sym memory) tt
-
-pub returns-in_err-put-clause-refused : goal.returns-in_err-put-clause-refused
-returns-in_err-put-clause-refused g c =
-    let i = c.self.inside in
-    let reader = by_messages in
-    let h = c.args.hash in
-    let b = c.args.bytes.items in
-    let s = i.results in
-    let B = i.blobs.entries in
-    let flat = c.self.invariant.2 in
-    let d = c.held_bytes-held.ensures.lawful.distinct in
-    let reads : is_some (reader.outputs b) ≡ true = ap (λ l. is_some (reader.outputs l)) (sym c.deref.ensures.value) ∙ ap is_some c.in_ok-read_result.ensures.read in
-    let other : differs_pinned reader (state_of i.blobs.limit s.limit B s.entries) b (under h (marks s.entries)) ≡ false =
-    sym (other_is reader i.blobs.limit B s flat d h b) ∙ ap (λ l. is_other l (bytes_under bytes_eq s.entries h) (pins_of bytes_eq s.entries h)) (sym c.deref-2.ensures.value) ∙ sym c.differs.ensures ∙ c.if-differs.false in
-    let st = state_of i.blobs.limit s.limit B s.entries in
-    let e = c.in_err-put.field-0.0 in
-    let full : e ≡ bounded.Full → can_enter bytes_eq s h b ≡ false = λ q. c.in_err-put.ensures.full.0 (ap Err q) in
-    subst (λ (w : CacheState). IfErr c.from_residual-in_err-put.result (IsRefused w (result_put reader w h b))) c.self.view_is
-    (told c.from_residual-in_err-put.result (of_bounded e) (IsRefused st (result_put reader st h b)) c.from_residual-in_err-put.ensures.1
-    (refused_by st (result_put reader st h b) e c.in_err-put.ensures.errors (λ q. full_put reader i.blobs.limit B s flat d h b reads other (full q))))
 
 pub returns-in_err-read_result-clause-refused : goal.returns-in_err-read_result-clause-refused
 returns-in_err-read_result-clause-refused g c =
@@ -110,12 +32,3 @@ returns-in_err-read_result-clause-bad g c = λ e.
     let b = c.args.bytes.items in
     let why : IsNoResult c.in_err-read_result.field-0.0 b = subst (IsNoResult c.in_err-read_result.field-0.0) c.deref.ensures.value c.in_err-read_result.ensures.refused in
     bad_told c.from_residual.result e b (told c.from_residual.result c.in_err-read_result.field-0.0 (λ x. IsNoResult x b) c.from_residual.ensures.1 why)
-
-bounded_not_bad : (e : BoundedError) (d : MessageError) → (e ≡ bounded.Full) ⊎ (e ≡ bounded.Memory) → of_bounded e ≡ BadResult d → ⊥
-bounded_not_bad e d (inl same) h = let no : cache.Full ≡ BadResult d = sym (ap of_bounded same) ∙ h in absurd cc
-bounded_not_bad e d (inr same) h = let no : cache.Memory ≡ BadResult d = sym (ap of_bounded same) ∙ h in absurd cc
-
-pub returns-in_err-put-clause-bad : goal.returns-in_err-put-clause-bad
-returns-in_err-put-clause-bad g c = λ e.
-    not_bad c.from_residual-in_err-put.result e _
-    (told c.from_residual-in_err-put.result (of_bounded c.in_err-put.field-0.0) (λ x. x ≡ BadResult e → ⊥) c.from_residual-in_err-put.ensures.1 (bounded_not_bad c.in_err-put.field-0.0 e c.in_err-put.ensures.errors))

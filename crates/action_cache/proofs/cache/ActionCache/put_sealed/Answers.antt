@@ -3,7 +3,9 @@ use Rattle.action_cache.specs.Reading.{by_messages}
 use Rattle.action_cache.specs.Machine.{CacheState, done, put_blob as blob_put}
 use Rattle.action_cache.specs.State.{state_of}
 use Rattle.action_cache.specs.CacheError.{of_blob, IsRefused}
-use Rattle.action_cache.proofs.Mirrors.{put_ok, put_refused, told}
+use Rattle.action_cache.specs.declared.error.CacheError.TheVariants.{Memory}
+use Rattle.action_cache.proofs.Refusing.{memory_of}
+use Rattle.action_cache.proofs.Mirrors.{put_ok, put_refused, put_wanting, told, told_is}
 use Rattle.action_cache.proofs.cache.ActionCache.put_sealed.Goals as goal
 
 pub returns-in_err-put_sealed-clause-refused : goal.returns-in_err-put_sealed-clause-refused
@@ -28,3 +30,12 @@ returns-clause-ok g c =
     let b = c.args.sealed in
     let p = put_ok reader i.blobs i.results.limit i.results.entries c.self.invariant.1 c.held_bytes-held.ensures.lawful.distinct c.self.invariant.0 c.args.hash b c.put_sealed.new.self c.in_ok-put_sealed.ensures.ok c.in_ok-put_sealed.ensures.passed in
     subst (λ (w : CacheState). blob_put reader w c.args.hash b ≡ (done, state_of c.put_sealed.new.self.limit i.results.limit c.put_sealed.new.self.entries i.results.entries)) c.self.view_is p.out_is
+
+pub returns-in_err-put_sealed-clause-memory : goal.returns-in_err-put_sealed-clause-memory
+returns-in_err-put_sealed-clause-memory g c is =
+    let i = c.self.inside in
+    let b = c.args.sealed in
+    let e = c.in_err-put_sealed.field-0.0 in
+    let memory = memory_of e (told_is c.from_residual.result (of_blob e) Memory c.from_residual.ensures.1 is) in
+    subst (λ (w : CacheState). (blob_put by_messages w c.args.hash b).0 ≡ done) c.self.view_is
+    (put_wanting by_messages i.blobs i.results.limit i.results.entries c.self.invariant.1 c.held_bytes-held.ensures.lawful.distinct c.self.invariant.0 c.args.hash b e c.in_err-put_sealed.ensures.refused memory)

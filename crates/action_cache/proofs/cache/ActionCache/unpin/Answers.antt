@@ -16,7 +16,7 @@ use Rattle.std.specs.List.{IsDistinct}
 use Rattle.action_cache.specs.CacheError.{of_blob}
 use Rattle.action_cache.proofs.Mirrors.{told as told_as}
 use Rattle.action_cache.proofs.Refusing.{only_memory}
-use Rattle.action_cache.proofs.Unpinning.{find_entry, no_pins, pins_found, one_distinct, settled, all_counted, result_pinned, still_tied, unpinned, was_complete, read_once}
+use Rattle.action_cache.proofs.Unpinning.{find_entry, no_pins, pins_found, one_distinct, settled, all_counted, result_pinned, still_tied, unpinned, unpins, was_complete, read_once}
 use Rattle.action_cache.proofs.cache.ActionCache.unpin.Goals as goal
 
 pub returns-then-pins-eq0-clause-refused : goal.returns-then-pins-eq0-clause-refused
@@ -130,4 +130,32 @@ returns-in_err-unpin-clause-refused g c =
     let e = c.in_err-unpin.field-0.0 in
     subst (λ (w : CacheState). IfErr c.from_residual-in_err-unpin.result (IsRefused w (take_off reader w h))) c.self.view_is
     (told_as c.from_residual-in_err-unpin.result (of_blob e) (IsRefused st (take_off reader st h)) c.from_residual-in_err-unpin.ensures.1
-    (only_memory st (take_off reader st h) e blob.NotPinned c.in_err-unpin.ensures.errors (λ same. let no = c.in_err-unpin.ensures.not_pinned (ap Err same) in let both : true ≡ false = sym all ∙ no in cc)))
+    (only_memory st (take_off reader st h) e blob.NotPinned c.in_err-unpin.ensures.errors (λ same. let no = c.in_err-unpin.ensures.not_pinned.0 (ap Err same) in let both : true ≡ false = sym all ∙ no in cc)))
+
+pub returns-in_err-survey-in-Some-clause-memory : goal.returns-in_err-survey-in-Some-clause-memory
+returns-in_err-survey-in-Some-clause-memory g c is =
+    let i = c.self.inside in
+    let h = c.args.hash.now in
+    let R = i.results.entries in
+    let f = find_entry (lookup (bytes_eq h) R) c.in-Some.bytes.now c.in-Some.ensures in
+    let v : Held = f.0 in
+    let held : lookup (bytes_eq h) R ≡ Some v = f.1 in
+    let count = pins_found R h v held in
+    let told = c.pins.ensures in
+    let some = c.if-pins-eq0.false in
+    let pinned : 0 < v.pins = omega arith in
+    subst (λ (w : CacheState). (take_off by_messages w h).0 ≡ done) c.self.view_is (unpins by_messages i.blobs.limit i.results.limit i.blobs.entries R h v held pinned)
+
+pub returns-in_err-unpin-clause-memory : goal.returns-in_err-unpin-clause-memory
+returns-in_err-unpin-clause-memory g c is =
+    let i = c.self.inside in
+    let h = c.args.hash.now in
+    let R = i.results.entries in
+    let f = find_entry (lookup (bytes_eq h) R) c.in-Some.bytes.now c.in-Some.ensures in
+    let v : Held = f.0 in
+    let held : lookup (bytes_eq h) R ≡ Some v = f.1 in
+    let count = pins_found R h v held in
+    let told = c.pins.ensures in
+    let some = c.if-pins-eq0.false in
+    let pinned : 0 < v.pins = omega arith in
+    subst (λ (w : CacheState). (take_off by_messages w h).0 ≡ done) c.self.view_is (unpins by_messages i.blobs.limit i.results.limit i.blobs.entries R h v held pinned)

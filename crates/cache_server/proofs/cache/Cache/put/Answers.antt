@@ -1,9 +1,13 @@
-use Rattle.std.proofs.Common.{◌≡◌, [], subst, false, length, ◌==◌, IfOk}
+use Rattle.std.proofs.Common.{◌≡◌, [], sym, subst, false, length, ◌==◌, IfOk}
 use Rattle.std.proofs.lemmas.Result.{IfOk-weaker}
 use Rattle.http_core.specs.Event.{Put}
 use Rattle.action_cache.specs.Machine.{CacheState}
-use Rattle.cache_server.specs.Cache.{Step, bare}
-use Rattle.cache_server.proofs.Replying.{put_blob_steps, put_result_steps, pin_steps, unpin_steps, pin_bodied, unpin_bodied, no_body}
+use Rattle.std.specs.Prelude.{IsSomeAnd}
+use Rattle.http_core.specs.declared.event.Area.TheVariants.{Ac, Cas, Pin, Unpin}
+use Rattle.action_cache.specs.Machine.{Marked, done, under, put_blob as blob_put, unpin as take_off}
+use Rattle.action_cache.specs.Reading.{by_messages}
+use Rattle.cache_server.specs.Cache.{MayWant, Step, bare}
+use Rattle.cache_server.proofs.Replying.{put_blob_steps, put_result_steps, pin_steps, unpin_steps, pin_bodied, unpin_bodied, no_body, wanting}
 use Rattle.cache_server.proofs.cache.Cache.put.Goals as goal
 
 pub returns-then-not-is_empty-clause-ok : goal.returns-then-not-is_empty-clause-ok
@@ -38,3 +42,25 @@ returns-else-not-is_empty-2-clause-ok g c =
     let none : c.args.body ≡ [] = no_body c.args.body cc in
     subst (λ (s : CacheState). IfOk c.status_of-in-Unpin.result (λ status. Step s (Put c.args.area c.args.hash c.args.body) (bare status) c.unpin.new.self)) c.self.view_is
     (IfOk-weaker c.status_of-in-Unpin.result _ _ (λ status told. unpin_steps c.self.inside.store c.unpin.new.self c.args.hash c.args.body c.unpin.result c.args.area status c.in-Unpin.is none c.unpin.ensures.ok c.unpin.ensures.refused c.unpin.ensures.err told) c.status_of-in-Unpin.ensures.ok)
+
+pub returns-in-Cas-clause-memory : goal.returns-in-Cas-clause-memory
+returns-in-Cas-clause-memory g c =
+    wanting c.put_sealed.result c.status_of.result (MayWant c.args.self.now (Put c.args.area c.args.hash c.args.body)) c.status_of.ensures.err
+    (λ is. subst (λ a. MayWant c.args.self.now (Put a c.args.hash c.args.body)) (sym c.in-Cas.is) (subst (λ (s : CacheState). (blob_put by_messages s c.args.hash c.args.body).0 ≡ done) c.self.view_is (c.put_sealed.ensures.memory is)))
+
+pub returns-in-Ac-clause-memory : goal.returns-in-Ac-clause-memory
+returns-in-Ac-clause-memory g c =
+    wanting c.put_result.result c.status_of-in-Ac.result (MayWant c.args.self.now (Put c.args.area c.args.hash c.args.body)) c.status_of-in-Ac.ensures.err
+    (λ is. subst (λ a. MayWant c.args.self.now (Put a c.args.hash c.args.body)) (sym c.in-Ac.is) (tt))
+
+pub returns-else-not-is_empty-clause-memory : goal.returns-else-not-is_empty-clause-memory
+returns-else-not-is_empty-clause-memory g c =
+    let none : c.args.body ≡ [] = no_body c.args.body cc in
+    wanting c.pin.result c.status_of-in-Pin.result (MayWant c.args.self.now (Put c.args.area c.args.hash c.args.body)) c.status_of-in-Pin.ensures.err
+    (λ is. subst (λ a. MayWant c.args.self.now (Put a c.args.hash c.args.body)) (sym c.in-Pin.is) (none, subst (λ (s : CacheState). IsSomeAnd (under c.args.hash s.results) (λ (r : Marked). r.pinned ≡ false)) c.self.view_is (c.pin.ensures.memory is)))
+
+pub returns-else-not-is_empty-2-clause-memory : goal.returns-else-not-is_empty-2-clause-memory
+returns-else-not-is_empty-2-clause-memory g c =
+    let none : c.args.body ≡ [] = no_body c.args.body cc in
+    wanting c.unpin.result c.status_of-in-Unpin.result (MayWant c.args.self.now (Put c.args.area c.args.hash c.args.body)) c.status_of-in-Unpin.ensures.err
+    (λ is. subst (λ a. MayWant c.args.self.now (Put a c.args.hash c.args.body)) (sym c.in-Unpin.is) (none, subst (λ (s : CacheState). (take_off by_messages s c.args.hash).0 ≡ done) c.self.view_is (c.unpin.ensures.memory is)))
