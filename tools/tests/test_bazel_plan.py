@@ -25,7 +25,7 @@ sys.path.insert(0, os.path.join(TOP, "tools"))
 
 import bazel_plan  # noqa: E402
 
-KEPT = os.path.join(TOP, "crates", "counts_run", "data")
+KEPT = os.path.join(TOP, "crates", "command_rows", "data", "counts")
 PROGRAM = os.environ.get("BUILDCACHE", os.path.join(TOP, "crates", "buildcache", "out", "buildcache"))
 
 
@@ -393,7 +393,7 @@ def contents(folder):
 
 class KeptLog(Case):
     """A log of Bazel 4.2.3 for //pages:counts of examples/bazel, and what was made of it, which the gate has judged
-    by the program `counts_run` (see docs/VERIFY_BAZEL.md)."""
+    in `command_rows` (see docs/VERIFY_BAZEL.md)."""
 
     WORDS = ["--outputs", "*/counts.txt", "*/site", "--below", "bazel-out/k8-fastbuild/bin/pages"]
 
@@ -404,8 +404,8 @@ class KeptLog(Case):
         for name in ("plan", "record", "taken", *(it for it in kept if it.startswith("store/"))):
             self.assertEqual(contents(self.at("asked"))[name], kept[name], name)
         self.assertEqual(contents(self.at("asked")).keys(), kept.keys() | {"sources", "claim"})
-        with open(os.path.join(os.path.dirname(KEPT), "args"), encoding="utf-8") as it:
-            words = it.read().splitlines()
+        with open(os.path.join(os.path.dirname(KEPT), "rows"), encoding="utf-8") as it:
+            words = next(line for line in it if "--plan counts/plan" in line).split()
         self.assertEqual(self.lines("sources"), [words[words.index("--sources") + 1]])
         self.assertEqual(self.lines("claim"), [words[words.index("--claim") + 1]])
         self.judge("yes 433064578c7792a6a4efc4b6f20749fb2d32ec50b442ef364fadd095453fd7df/165 steps 7\n")

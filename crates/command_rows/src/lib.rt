@@ -1,7 +1,0 @@
-//! Rows of the command line, over real files.
-//! They stand apart from the crates that they run, since a crate with tests is proved once more for
-//! them.
-#![tactic(auto)]
-
-#[cfg(test)]
-mod tests;
