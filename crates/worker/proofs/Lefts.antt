@@ -8,7 +8,7 @@ use Rattle.runs.specs.Engine.{FinishedValue, JobValue, EngineValue, IsEngine, at
 use Rattle.runs.specs.Calls.{IsFinished, first_kept, placed, runs_step, jobs_of, with_finished}
 use Rattle.runs.proofs.Places.{set_same, set_other}
 use Rattle.verifier.proofs.FreshRuns.{one_answer}
-use Rattle.worker.specs.declared.turns.Child.{Child}
+use Rattle.worker.specs.declared.child.Child.{Child}
 use Rattle.worker.specs.Values.{ProducedValue}
 use Rattle.worker.specs.Outcomes.{Yields}
 use Rattle.worker.specs.Calls.{WasStarted, IsStartable}

@@ -8,7 +8,7 @@ use Rattle.blob_source.specs.Source.{Blobs, Telling}
 use Rattle.runs.specs.Engine.{FinishedValue, JobValue, EngineValue, at_number, finished_in, job_in}
 use Rattle.runs.specs.Calls.{IsFinished, without_job, jobs_of}
 use Rattle.runs.specs.declared.starting.Job.{Job}
-use Rattle.worker.specs.declared.turns.Child.{Child}
+use Rattle.worker.specs.declared.child.Child.{Child}
 use Rattle.worker.specs.declared.turns.Turn.{Turn}
 use Rattle.worker.specs.declared.turns.Turn.TheVariants as turns
 use Rattle.worker.specs.Values.{ProducedValue}

@@ -12,7 +12,8 @@ ghost use Rattle.worker.specs.Stored.{HasNoneFinished, IsStored, StoresSteps};
 
 use crate::error::BuildError;
 use crate::runner::Runner;
-use crate::turns::{Child, next_turn, take_turn};
+use crate::child::Child;
+use crate::turns::{next_turn, take_turn};
 use runs::Engine;
 use std::alloc::Allocator;
 use std::collections::VecDeque;

@@ -2,10 +2,15 @@
 //! build of a plan by an engine, a store and a runner.
 #![tactic(auto)]
 
+mod beginning;
 mod building;
+mod child;
+mod ending;
 mod error;
 mod laid;
 mod laying_out;
+mod putting;
+mod recorded;
 mod runner;
 mod turns;
 
