@@ -51,12 +51,12 @@ one_more i (None ∷ js) zero j le free = more (runs_step i (Some j)) (jobs_of i
 one_more i (Some o ∷ js) zero j le free = absurd cc
 one_more i (o ∷ js) (suc w) j le free = sum_moved (runs_step i o) (jobs_of i (placed js w j)) (runs_step i (Some j)) (jobs_of i js) (one_more i js w j (omega arith) free)
 
-one_fewer : (i : ℕ) (js : List (Option JobValue)) (w : ℕ) (j : JobValue) → at_number js w ≡ Some j → jobs_of i js ≡ runs_step i (Some j) + jobs_of i (set js w None)
+pub one_fewer : (i : ℕ) (js : List (Option JobValue)) (w : ℕ) (j : JobValue) → at_number js w ≡ Some j → jobs_of i js ≡ runs_step i (Some j) + jobs_of i (set js w None)
 one_fewer i [] w j is = absurd cc
 one_fewer i (o ∷ js) zero j is = ap (λ q. runs_step i q + jobs_of i js) is ∙ more (runs_step i (Some j)) (jobs_of i js)
 one_fewer i (o ∷ js) (suc w) j is = sum_moved (runs_step i o) (jobs_of i js) (runs_step i (Some j)) (jobs_of i (set js w None)) (one_fewer i js w j is)
 
-own_step : (j : JobValue) (i : ℕ) → j.step ≡ i → runs_step i (Some j) ≡ 1
+pub own_step : (j : JobValue) (i : ℕ) → j.step ≡ i → runs_step i (Some j) ≡ 1
 own_step j i same = ap (λ b. if b then 1 else 0) ((Decides-eqb j.step i).1 same)
 
 other_step : (j : JobValue) (i : ℕ) → i ≢ j.step → runs_step i (Some j) ≡ 0

@@ -5,6 +5,7 @@
 mod beginning;
 mod building;
 mod child;
+mod counting;
 mod ending;
 mod error;
 mod laid;
@@ -13,9 +14,11 @@ mod putting;
 mod recorded;
 mod runner;
 mod turns;
+mod watching;
 
 pub use building::build;
 pub use error::{BuildError, Refusal};
 pub use laid::{Layout, LayoutError};
 pub use laying_out::layout;
 pub use runner::{Produced, RunError, Runner};
+pub use watching::{Progress, Unwatched, Watcher};

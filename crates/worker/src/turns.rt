@@ -8,6 +8,7 @@ ghost use Rattle.worker.specs.Stores.{KnowsBlobs};
 ghost use Rattle.worker.specs.Outcomes.{YieldsNoMore};
 ghost use Rattle.worker.specs.Calls.{IsStartable};
 ghost use Rattle.worker.specs.Going.{AreJobsOf, IsJobOf, IsTurn, IsNextTurn, IsGoing, turns_left};
+ghost use Rattle.worker.specs.Going.{FinishesOnly, step_of};
 ghost use Rattle.worker.specs.Stopped.{IsRefusedBuild};
 ghost use Rattle.worker.specs.Stored.{StoresSteps};
 
@@ -121,6 +122,8 @@ pub(crate) fn take_turn<A: Allocator + Copy, S: BlobSink<A>, N: Runner<A>>(
         engine.old children.old.items
         → StoresSteps (S.tells sink.old) engine.old
         → StoresSteps (S.tells sink.new) engine.new) }
+    ensures only { OnOk result
+        (FinishesOnly (step_of turn children.old.items) engine.old engine.new) }
     ensures knows { KnowsBlobs (known_by memo.new) (S.tells sink.new).blobs }
     ensures fewer { OnOk result
         (turns_left engine.new children.new.items < turns_left engine.old children.old.items) }
