@@ -2,3 +2,4 @@ pub mod Leading
 pub mod Serving
 pub mod Refusing
 pub mod Within
+pub mod Watched

@@ -3,3 +3,4 @@ pub mod Faults
 pub mod Lines
 pub mod Telling
 pub mod Refused
+pub mod Watched

@@ -1,12 +1,14 @@
-ghost use Rattle.std.specs.Prelude.{◌≡◌, ◌⊎◌, ◌<◌, [], IfErr, IfOk, OnOk};
+ghost use Rattle.std.specs.Prelude.{◌≡◌, ◌⊎◌, ◌<◌, [], IfErr, IfOk, OnOk, length};
 ghost use Rattle.blob_source.specs.Sink.{KeepsRight};
 ghost use Rattle.blob_source.specs.Source.{AsksSome};
 ghost use Rattle.builder.specs.Built.{IsBuilt, IsEnd};
 ghost use Rattle.builder.specs.Refused.{FailsOpening, RefusesStep, RefusesRoot, IsBuildFault};
+ghost use Rattle.builder.specs.Watched.{IsProgressOfPlan, IsToldWhole};
 ghost use Rattle.builder.specs.declared.fault.Fault.TheVariants as faults;
 ghost use Rattle.runs.specs.Calls.{HaveAllFinished, IsOpened};
 ghost use Rattle.worker.specs.Calls.{IsLed, running};
 ghost use Rattle.worker.specs.Stored.{HasNoneFinished, IsStored};
+ghost use Rattle.worker.specs.Watching.{IsProgress, IsUpToDate, IsWatched};
 
 use crate::fault::{Fault, Place, of_opening, of_refusal, of_runs};
 use blob_digest::Digest;
@@ -15,7 +17,7 @@ use runs::Engine;
 use std::alloc::Allocator;
 use std::marker::Model;
 use tree::{BlobSink, Memo};
-use worker::{Runner, build};
+use worker::{Runner, Watcher, build};
 
 /// What a build came to.
 #[derive(Drop)]
@@ -52,11 +54,12 @@ fn open<A: Allocator + Copy, S: BlobSink<A>>(
 }
 
 /// Builds by the engine.
-fn run<A: Allocator + Copy, S: BlobSink<A>, N: Runner<A>>(
+fn run<A: Allocator + Copy, S: BlobSink<A>, N: Runner<A>, W: Watcher>(
     alloc: A,
     engine: &mut Engine<A>,
     sink: &mut S,
     runner: &mut N,
+    watcher: &mut W,
     jobs: usize,
 ) -> Result<(), Fault>
     requires some { 0 < jobs }
@@ -69,8 +72,12 @@ fn run<A: Allocator + Copy, S: BlobSink<A>, N: Runner<A>>(
         (HasNoneFinished engine.old → IsStored (S.tells sink.new) engine.new) }
     ensures alive { N.alive runner.new ≡ N.alive runner.old }
     ensures right { KeepsRight (S.tells sink.old).blobs (S.tells sink.new).blobs }
+    ensures watched { IsWatched (IsProgress A (N.yields runner.old) jobs engine.old)
+        (W.told watcher.old) (W.told watcher.new) }
+    ensures up_to_date { OnOk result
+        (IsUpToDate engine.old engine.new (W.told watcher.old) (W.told watcher.new)) }
 {
-    match build(alloc, engine, sink, runner, jobs) {
+    match build(alloc, engine, sink, runner, watcher, jobs) {
         Ok(()) => Ok(()),
         Err(error) => Err(of_refusal(Place::Step(error.step), &error.refusal)),
     }
@@ -101,13 +108,14 @@ fn end<A: Allocator + Copy, S: BlobSink<A>>(
 
 /// Builds a plan over the sources with this digest, with as many children at once as `jobs` says.
 /// Whatever it answers, each child that was started was waited for, and what the store had under
-/// its own digest stays told.
-pub fn build_plan<A: Allocator + Copy, S: BlobSink<A>, N: Runner<A>>(
+/// its own digest stays told. The watcher is told how far the build is.
+pub fn build_plan<A: Allocator + Copy, S: BlobSink<A>, N: Runner<A>, W: Watcher>(
     alloc: A,
     sources: Digest,
     plan: Plan<A>,
     sink: &mut S,
     runner: &mut N,
+    watcher: &mut W,
     jobs: usize,
 ) -> Result<Built<A>, Fault>
     requires some { 0 < jobs }
@@ -122,9 +130,14 @@ pub fn build_plan<A: Allocator + Copy, S: BlobSink<A>, N: Runner<A>>(
     // Each child that was started was waited for.
     ensures alive { N.alive runner.new ≡ N.alive runner.old }
     ensures right { KeepsRight (S.tells sink.old).blobs (S.tells sink.new).blobs }
+    // The watcher is told numbers of this build alone, and last that each step has finished.
+    ensures watched { IsWatched (IsProgressOfPlan A (N.yields runner.old) jobs plan sources)
+        (W.told watcher.old) (W.told watcher.new) }
+    ensures whole { OnOk result
+        (IsToldWhole (length plan.steps) (W.told watcher.old) (W.told watcher.new)) }
 {
     let mut engine = open(alloc, sources, plan, sink)?;
-    run(alloc, &mut engine, sink, runner, jobs)?;
+    run(alloc, &mut engine, sink, runner, watcher, jobs)?;
     // A read for the prover: an engine is lawful.
     let _ = engine.plan();
     end(alloc, &engine, sink)

@@ -1,8 +1,10 @@
-ghost use Rattle.std.specs.Prelude.{◌≡◌, ◌<◌, IfErr, IfOk};
+ghost use Rattle.std.specs.Prelude.{◌≡◌, ◌<◌, IfErr, IfOk, length};
 ghost use Rattle.blob_source.specs.Sink.{KeepsRight};
 ghost use Rattle.builder.specs.Faults.{HasNoNumber};
 ghost use Rattle.builder.specs.Refused.{IsBuildFault};
 ghost use Rattle.builder.specs.Telling.{IsBuildTold};
+ghost use Rattle.builder.specs.Watched.{IsProgressOfPlan, IsToldWholeOf};
+ghost use Rattle.worker.specs.Watching.{IsWatched};
 
 use crate::building::build_plan;
 use crate::fault::Fault;
@@ -11,7 +13,7 @@ use blob_digest::Digest;
 use plan::{Plan, ReadError};
 use std::alloc::{AllocError, Allocator};
 use tree::BlobSink;
-use worker::Runner;
+use worker::{Runner, Watcher};
 
 /// What a build tells, with its line.
 #[derive(Drop)]
@@ -42,12 +44,13 @@ fn copy_of<A: Allocator + Copy>(alloc: A, plan: &Plan<A>) -> Result<Plan<A>, All
 
 /// Builds a plan, as `build_plan` does, and tells what it came to in a line; and in the text of the
 /// record, where it came to its root.
-pub fn tell_build<A: Allocator + Copy, S: BlobSink<A>, N: Runner<A>>(
+pub fn tell_build<A: Allocator + Copy, S: BlobSink<A>, N: Runner<A>, W: Watcher>(
     alloc: A,
     sources: &Digest,
     plan: &Plan<A>,
     sink: &mut S,
     runner: &mut N,
+    watcher: &mut W,
     jobs: usize,
 ) -> Result<Told<A>, Fault>
     requires some { 0 < jobs }
@@ -61,9 +64,14 @@ pub fn tell_build<A: Allocator + Copy, S: BlobSink<A>, N: Runner<A>>(
     // Each child that was started was waited for.
     ensures alive { N.alive runner.new ≡ N.alive runner.old }
     ensures right { KeepsRight (S.tells sink.old).blobs (S.tells sink.new).blobs }
+    // The watcher is told numbers of this build alone, and last that each step has finished.
+    ensures watched { IsWatched (IsProgressOfPlan A (N.yields runner.old) jobs plan.now sources.now)
+        (W.told watcher.old) (W.told watcher.new) }
+    ensures whole { IfOk result (λ told. IsToldWholeOf told (length plan.now.steps)
+        (W.told watcher.old) (W.told watcher.new)) }
 {
     let copy = copy_of(alloc, plan)?;
-    match build_plan(alloc, *sources, copy, sink, runner, jobs) {
+    match build_plan(alloc, *sources, copy, sink, runner, watcher, jobs) {
         Ok(built) => Ok(Told::Built {
             line: built_line(alloc, &built.root, plan)?,
             noted: built.noted.write(alloc)?,

@@ -9,6 +9,7 @@ ghost use Rattle.cli.specs.Status.{status_of};
 ghost use Rattle.command_lines.specs.CommandLine.{option_text};
 ghost use Rattle.text_verifier.specs.Texts.{HasPlan, IsDigestText};
 
+use crate::build_progress::BuildProgress;
 use crate::connecting::{Client, Server, number_in, open, read_server};
 use crate::error::CliError;
 use crate::files::file_error;
@@ -67,12 +68,13 @@ fn read_asked<'a>(alloc: Global, matches: &ArgMatches<'a>) -> Result<Asked<'a>, 
 }
 
 /// What a build tells, whose processes run in the folder that the words name.
-fn build_in_folder<R, S: Stream + Drop>(
+fn build_in_folder<R, S: Stream + Drop, T: Write + Drop>(
     rt: &R,
     work: &str,
     asked: &Asked<'_>,
     plan: &Plan<Global>,
     client: &mut Client<'_, S>,
+    progress: &mut BuildProgress<'_, T>,
 ) -> Result<Told<Global>, CliError>
 where
     R: AllocGlobal + Files + Processes + Clone + Drop,
@@ -82,7 +84,8 @@ where
 {
     let alloc = rt.alloc();
     let mut runner = ProcessRunner::new(Disk(rt), String::from_str(alloc, work)?);
-    match tell_build(alloc, &asked.sources, plan, client, &mut runner, asked.jobs) {
+    let (sources, jobs) = (&asked.sources, asked.jobs);
+    match tell_build(alloc, sources, plan, client, &mut runner, progress, jobs) {
         Ok(told) => Ok(told),
         Err(Fault::Device(place)) => Err(CliError::Process {
             place: place_text(alloc, plan, place)?,
@@ -135,11 +138,13 @@ fn print_text<O: Write>(line: &str, out: &mut O) -> Result<(), CliError>
 }
 
 /// Builds the plan that the words name, and prints the line of what it came to. Where it came to
-/// its root, the record is written first. It answers whether it did.
-pub(crate) fn run_build<R, O: Write>(
+/// its root, the record is written first. It answers whether it did. On a terminal it tells how far
+/// the build is, until that ends.
+pub(crate) fn run_build<R, O: Write, T: Write + Drop>(
     rt: &R,
     matches: &ArgMatches<'_>,
     out: &mut O,
+    terminal: Option<T>,
 ) -> Result<bool, CliError>
 where
     R: AllocGlobal + Files + Net<Stream = TcpStream> + Processes + Clone + Drop,
@@ -152,8 +157,11 @@ where
     let plan = plan_in_file(rt, matches)?;
     check_work(rt, text_of(matches, "work"))?;
     let mut client = open(rt, &asked.server)?;
-    let told = build_in_folder(rt, text_of(matches, "work"), &asked, &plan, &mut client)?;
-    match told {
+    let mut progress = BuildProgress::new(rt.alloc(), &plan, terminal);
+    let work = text_of(matches, "work");
+    let told = build_in_folder(rt, work, &asked, &plan, &mut client, &mut progress);
+    progress.clear();
+    match told? {
         Told::Built { line, noted } => {
             write_record(rt, text_of(matches, "record"), &noted)?;
             print_text(line.as_str(), out)?;

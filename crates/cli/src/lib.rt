@@ -3,6 +3,7 @@
 #![tactic(auto)]
 
 mod build_command;
+mod build_progress;
 mod connecting;
 mod error;
 mod files;
@@ -13,6 +14,7 @@ mod put_command;
 mod running;
 mod serve_command;
 mod telling;
+mod terminal_line;
 mod verify_command;
 
 pub use running::run_words;

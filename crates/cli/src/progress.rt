@@ -1,3 +1,5 @@
+use crate::terminal_line::TerminalLine;
+use std::alloc::{AllocError, Global};
 use std::io::Write;
 use std::time::{Clock, Duration, Instant};
 
@@ -8,7 +10,7 @@ const STANDS: u64 = 100;
 /// nothing is told.
 #[derive(Drop)]
 pub(crate) struct Progress<T: Write + Drop> {
-    terminal: Option<T>,
+    line: TerminalLine<T>,
     last: Option<Instant>,
     files: u64,
     bytes: u64,
@@ -17,7 +19,7 @@ pub(crate) struct Progress<T: Write + Drop> {
 impl<T: Write + Drop> Progress<T> {
     pub(crate) fn new(terminal: Option<T>) -> Progress<T> {
         Progress {
-            terminal,
+            line: TerminalLine::new(terminal),
             last: None,
             files: 0,
             bytes: 0,
@@ -25,36 +27,30 @@ impl<T: Write + Drop> Progress<T> {
     }
 
     /// Counts a file that was put. The line is written anew where the last one stands long enough.
-    pub(crate) fn count<R: Clock>(&mut self, rt: &R, bytes: usize) {
+    pub(crate) fn count<R: AllocGlobal + Clock>(&mut self, rt: &R, bytes: usize) {
         self.files = self.files.saturating_add(1);
         self.bytes = self.bytes.saturating_add(bytes as u64);
-        if let Some(terminal) = &mut self.terminal {
-            let Ok(now) = Instant::now(rt) else {
-                return;
-            };
-            if self.last.is_none_or(|last| now.duration_since(last)
-                >= Duration::from_millis(STANDS))
-            {
-                let mebibytes = self.bytes / 1_048_576;
-                let _ = write!(
-                    terminal,
-                    "\r\x1b[Kput {} files, {mebibytes} MiB",
-                    self.files
-                );
-                let _ = terminal.flush();
-                self.last = Some(now);
-            }
+        if !self.line.has_terminal() {
+            return;
         }
+        let Ok(now) = Instant::now(rt) else {
+            return;
+        };
+        if self.last.is_none_or(|last| now.duration_since(last) >= Duration::from_millis(STANDS)) {
+            if let Ok(text) = self.text(rt.alloc()) {
+                self.line.write(text.as_str());
+            }
+            self.last = Some(now);
+        }
+    }
+
+    fn text(&self, alloc: Global) -> Result<String, AllocError> {
+        let mebibytes = self.bytes / 1_048_576;
+        format!(in alloc; "put {} files, {mebibytes} MiB", self.files)
     }
 
     /// Takes the line away.
     pub(crate) fn clear(&mut self) {
-        if let Some(terminal) = &mut self.terminal {
-            if self.last.is_some() {
-                let _ = write!(terminal, "\r\x1b[K");
-                let _ = terminal.flush();
-                self.last = None;
-            }
-        }
+        self.line.clear();
     }
 }

@@ -34,7 +34,7 @@ enum Ended {
 /// Runs the program on these words. Its answers go to `out`, and for statuses 2 and 3 one line
 /// beginning `error: ` goes to `err`. The status: 0 done or yes, 1 no, 2 where the words or the
 /// texts that they name are at fault, 3 where a file, the output or memory is. On a terminal, where
-/// there is one, `put` tells how far it is.
+/// there is one, `put` and `build` tell how far they are.
 pub fn run_words<R, O: Write, E: Write, T: Write + Drop>(
     rt: &R,
     words: &[String],
@@ -129,7 +129,7 @@ where
             Ok(Ended::Done)
         }
         Some(("build", inner)) => {
-            if run_build(rt, inner, out)? {
+            if run_build(rt, inner, out, terminal)? {
                 Ok(Ended::Done)
             } else {
                 Ok(Ended::No)

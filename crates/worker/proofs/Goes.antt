@@ -10,7 +10,7 @@ use Rattle.runs.specs.Calls.{IsStarted, without_job}
 use Rattle.runs.specs.declared.starting.Job.{Job}
 use Rattle.runs.proofs.Places.{some_none}
 use Rattle.verifier.proofs.FreshRuns.{one_answer}
-use Rattle.worker.specs.declared.turns.Child.{Child}
+use Rattle.worker.specs.declared.child.Child.{Child}
 use Rattle.worker.specs.Values.{ProducedValue}
 use Rattle.worker.specs.Stores.{IsKept, IsKeptBut}
 use Rattle.worker.specs.Outcomes.{Yields, YieldsNoMore, IsYielded}

@@ -3,7 +3,7 @@ use Rattle.std.proofs.Common.{◌≡◌, ◌≢◌, ℕ, zero, suc, ◌<◌, ◌
 use Rattle.runs.specs.Engine.{JobValue, at_number}
 use Rattle.runs.specs.Calls.{IsLeastIn, placed}
 use Rattle.runs.proofs.Places.{taken_within, set_other, some_none}
-use Rattle.worker.specs.declared.turns.Child.{Child}
+use Rattle.worker.specs.declared.child.Child.{Child}
 use Rattle.worker.specs.Calls.{running}
 use Rattle.worker.specs.Going.{AreJobsOf}
 

@@ -8,7 +8,7 @@ use Rattle.runs.specs.Engine.{FinishedValue, JobValue, EngineValue, IsEngine, at
 use Rattle.runs.specs.Calls.{IsFinished, first_kept, placed, runs_step, jobs_of, with_finished}
 use Rattle.runs.proofs.Places.{set_same, set_other}
 use Rattle.verifier.proofs.FreshRuns.{one_answer}
-use Rattle.worker.specs.declared.turns.Child.{Child}
+use Rattle.worker.specs.declared.child.Child.{Child}
 use Rattle.worker.specs.Values.{ProducedValue}
 use Rattle.worker.specs.Outcomes.{Yields}
 use Rattle.worker.specs.Calls.{WasStarted, IsStartable}
@@ -51,12 +51,12 @@ one_more i (None ∷ js) zero j le free = more (runs_step i (Some j)) (jobs_of i
 one_more i (Some o ∷ js) zero j le free = absurd cc
 one_more i (o ∷ js) (suc w) j le free = sum_moved (runs_step i o) (jobs_of i (placed js w j)) (runs_step i (Some j)) (jobs_of i js) (one_more i js w j (omega arith) free)
 
-one_fewer : (i : ℕ) (js : List (Option JobValue)) (w : ℕ) (j : JobValue) → at_number js w ≡ Some j → jobs_of i js ≡ runs_step i (Some j) + jobs_of i (set js w None)
+pub one_fewer : (i : ℕ) (js : List (Option JobValue)) (w : ℕ) (j : JobValue) → at_number js w ≡ Some j → jobs_of i js ≡ runs_step i (Some j) + jobs_of i (set js w None)
 one_fewer i [] w j is = absurd cc
 one_fewer i (o ∷ js) zero j is = ap (λ q. runs_step i q + jobs_of i js) is ∙ more (runs_step i (Some j)) (jobs_of i js)
 one_fewer i (o ∷ js) (suc w) j is = sum_moved (runs_step i o) (jobs_of i js) (runs_step i (Some j)) (jobs_of i (set js w None)) (one_fewer i js w j is)
 
-own_step : (j : JobValue) (i : ℕ) → j.step ≡ i → runs_step i (Some j) ≡ 1
+pub own_step : (j : JobValue) (i : ℕ) → j.step ≡ i → runs_step i (Some j) ≡ 1
 own_step j i same = ap (λ b. if b then 1 else 0) ((Decides-eqb j.step i).1 same)
 
 other_step : (j : JobValue) (i : ℕ) → i ≢ j.step → runs_step i (Some j) ≡ 0

@@ -13,3 +13,5 @@ pub mod Complete
 pub mod Storing
 pub mod Stopping
 pub mod Listing
+pub mod Counts
+pub mod Heard

@@ -8,7 +8,7 @@ use Rattle.worker.specs.declared.error.Refusal.{Refusal}
 use Rattle.worker.specs.declared.error.Refusal.TheVariants as refusals
 use Rattle.worker.specs.declared.runner.RunError.TheVariants as children
 use Rattle.worker.specs.declared.error.BuildError.{BuildError}
-use Rattle.worker.specs.declared.turns.Child.{Child}
+use Rattle.worker.specs.declared.child.Child.{Child}
 use Rattle.worker.specs.declared.turns.Turn.{Turn}
 use Rattle.worker.specs.declared.turns.Turn.TheVariants as turns
 use Rattle.worker.specs.Calls.{Call, started, ran, taken, lost, Does, Leads, IsLed}

@@ -5,7 +5,7 @@ use Rattle.blob_source.specs.Source.{Telling}
 use Rattle.blob_source.specs.Sink.{HasRight, KeepsRight}
 use Rattle.runs.specs.Engine.{JobValue, EngineValue, job_in}
 use Rattle.runs.specs.Calls.{without_job}
-use Rattle.worker.specs.declared.turns.Child.{Child}
+use Rattle.worker.specs.declared.child.Child.{Child}
 use Rattle.worker.specs.Values.{ProducedValue}
 use Rattle.worker.specs.Stores.{IsKept, IsKeptBut}
 use Rattle.worker.specs.Outcomes.{Yields, YieldsNoMore}

@@ -1,6 +1,6 @@
 -- A build that goes on: the children that run, and the engine.
-use Rattle.std.specs.Prelude.{zero, suc, ◌≡◌, ◌⊎◌, ◌+◌, ◌*◌, ◌<◌, ◌≤◌, ℕ, List, [], ◌∷◌, ◌++◌}
-use Rattle.std.specs.Prelude.{length, set, slice_get, Option, Some, None}
+use Rattle.std.specs.Prelude.{zero, suc, ◌≡◌, ◌≢◌, ◌⊎◌, ◌+◌, ◌*◌, ◌<◌, ◌≤◌, ℕ, List, [], ◌∷◌, ◌++◌}
+use Rattle.std.specs.Prelude.{length, set, slice_get, Option, Some, None, IsSome}
 use Rattle.blob_digest.specs.Digest.{digest_of}
 use Rattle.action_messages.specs.Action.{action_bytes}
 use Rattle.actions.specs.Outcome.{OutcomeValue}
@@ -8,7 +8,7 @@ use Rattle.blob_source.specs.Source.{Blobs, Telling}
 use Rattle.runs.specs.Engine.{FinishedValue, JobValue, EngineValue, at_number, finished_in, job_in}
 use Rattle.runs.specs.Calls.{IsFinished, without_job, jobs_of}
 use Rattle.runs.specs.declared.starting.Job.{Job}
-use Rattle.worker.specs.declared.turns.Child.{Child}
+use Rattle.worker.specs.declared.child.Child.{Child}
 use Rattle.worker.specs.declared.turns.Turn.{Turn}
 use Rattle.worker.specs.declared.turns.Turn.TheVariants as turns
 use Rattle.worker.specs.Values.{ProducedValue}
@@ -104,6 +104,11 @@ abbrev pub HasResultOfFirst : {J : Type 0} → Telling → EngineValue → List 
 HasResultOfFirst t e [] = ⊥
 HasResultOfFirst t e (c ∷ cs) = HasResultOf t e c.step c.action
 
+-- the step of the child that was started first
+abbrev pub first_step : {J : Type 0} → List (Child J) → Option ℕ
+first_step [] = None
+first_step (c ∷ cs) = Some c.step
+
 -- ---- the turns
 
 -- a turn that can be taken: a step may be started, while fewer children than the most run, or there
@@ -112,6 +117,12 @@ abbrev pub IsTurn : {J : Type 0} → ℕ → EngineValue → List (Child J) → 
 IsTurn most e children (turns.Start i) =
     (length children < most) × (i < length e.plan.steps) × IsStartable e i
 IsTurn most e children turns.Finish = 0 < length children
+
+-- the step of a turn: the one that is started, or that of the child that is waited for
+abbrev pub step_of : {J : Type 0} → Turn → List (Child J) → ℕ
+step_of (turns.Start i) children = i
+step_of turns.Finish [] = 0
+step_of turns.Finish (c ∷ cs) = c.step
 
 -- The turn that comes next: the least step that may be started. The first child is waited for only
 -- where no step may be started, or no more children may run.
@@ -134,3 +145,12 @@ waiting_among (suc n) e = weight (finished_in n e) (jobs_of n e.jobs) + waiting_
 -- how many turns there can still be
 abbrev pub turns_left : {J : Type 0} → EngineValue → List (Child J) → ℕ
 turns_left e children = 2 * waiting_among (length e.plan.steps) e + length children
+
+-- ---- what a turn changes
+
+-- no other step has finished than did before, and none that did hasn't
+pub record FinishesOnly (i : ℕ) (old new : EngineValue) : Type 0 where
+  pub plan : new.plan ≡ old.plan
+  pub count : length new.finished ≡ length old.finished
+  pub others : (k : ℕ) → k ≢ i → finished_in k new ≡ finished_in k old
+  pub still : IsSome (finished_in i old) → IsSome (finished_in i new)

@@ -7,3 +7,4 @@ pub mod Calls
 pub mod Going
 pub mod Stored
 pub mod Stopped
+pub mod Watching

@@ -9,7 +9,7 @@ use Rattle.runs.specs.Calls.{IsFinishFault, IsStartFault}
 use Rattle.worker.specs.declared.error.Refusal.{Refusal}
 use Rattle.worker.specs.declared.error.Refusal.TheVariants as refusals
 use Rattle.worker.specs.declared.runner.RunError.TheVariants as children
-use Rattle.worker.specs.declared.turns.Child.{Child}
+use Rattle.worker.specs.declared.child.Child.{Child}
 use Rattle.worker.specs.Calls.{WasStarted, IsLed}
 use Rattle.worker.specs.Outcomes.{Yields, HasAllRight, IsYielded, IsHeld}
 use Rattle.worker.specs.Refusals.{IsLayoutFault}

@@ -9,10 +9,14 @@ ghost use Rattle.worker.specs.Calls.{running, IsLed};
 ghost use Rattle.worker.specs.Going.{AreJobsOf, IsJobOf, IsGoing};
 ghost use Rattle.worker.specs.Stopped.{IsRefusedBuild};
 ghost use Rattle.worker.specs.Stored.{HasNoneFinished, IsStored, StoresSteps};
+ghost use Rattle.worker.specs.Watching.{IsProgress, IsUpToDate, IsWatched};
 
+use crate::child::Child;
+use crate::counting::{before_turn, first_progress, progress_after};
 use crate::error::BuildError;
 use crate::runner::Runner;
-use crate::turns::{Child, next_turn, take_turn};
+use crate::turns::{next_turn, take_turn};
+use crate::watching::Watcher;
 use runs::Engine;
 use std::alloc::Allocator;
 use std::collections::VecDeque;
@@ -41,12 +45,13 @@ fn end_all<A: Allocator + Copy, N: Runner<A>>(
     }
 }
 
-/// Takes turns until there is none.
-fn take_turns<A: Allocator + Copy, S: BlobSink<A>, N: Runner<A>>(
+/// Takes turns until there is none, and tells after each how far the build is.
+fn take_turns<A: Allocator + Copy, S: BlobSink<A>, N: Runner<A>, W: Watcher>(
     alloc: A,
     engine: &mut Engine<A>,
     sink: &mut S,
     runner: &mut N,
+    watcher: &mut W,
     memo: &mut Memo<A>,
     children: &mut VecDeque<Child<N::Job>, A>,
     jobs: usize,
@@ -65,9 +70,17 @@ fn take_turns<A: Allocator + Copy, S: BlobSink<A>, N: Runner<A>>(
         → StoresSteps (S.tells sink.new) engine.new) }
     ensures right { KeepsRight (S.tells sink.old).blobs (S.tells sink.new).blobs }
     ensures alive { N.alive runner.new ≡ N.alive runner.old + length children.new.items }
+    ensures watched { IsWatched (IsProgress A (N.yields runner.old) jobs engine.old)
+        (W.told watcher.old) (W.told watcher.new) }
+    ensures up_to_date { OnOk result
+        (IsUpToDate engine.old engine.new (W.told watcher.old) (W.told watcher.new)) }
 {
+    let mut progress = first_progress(engine);
     while let Some(turn) = next_turn(engine, children, jobs) {
+        let before = before_turn(engine, children, &turn);
         take_turn(alloc, engine, sink, runner, memo, children, turn)?;
+        progress = progress_after(progress, before, engine, children);
+        watcher.watch(progress);
     }
     Ok(())
 }
@@ -77,12 +90,14 @@ fn take_turns<A: Allocator + Copy, S: BlobSink<A>, N: Runner<A>>(
 /// has a result for its action, and a child runs for it otherwise. Else the child that was started
 /// first is waited for, its blobs are put and its job finishes, and then the result is put. On a
 /// refusal every child is waited for and its job lost. A Directory of the sources that the starts
-/// look at is fetched once.
-pub fn build<A: Allocator + Copy, S: BlobSink<A>, N: Runner<A>>(
+/// look at is fetched once. The watcher is told how far the build is whenever a step was started or
+/// has finished.
+pub fn build<A: Allocator + Copy, S: BlobSink<A>, N: Runner<A>, W: Watcher>(
     alloc: A,
     engine: &mut Engine<A>,
     sink: &mut S,
     runner: &mut N,
+    watcher: &mut W,
     jobs: usize,
 ) -> Result<(), BuildError<A>>
     requires some { 0 < jobs }
@@ -101,10 +116,25 @@ pub fn build<A: Allocator + Copy, S: BlobSink<A>, N: Runner<A>>(
     // Each child that was started was waited for.
     ensures alive { N.alive runner.new ≡ N.alive runner.old }
     ensures right { KeepsRight (S.tells sink.old).blobs (S.tells sink.new).blobs }
+    // Each number that the watcher is told is that of an engine to which calls led,
+    ensures watched { IsWatched (IsProgress A (N.yields runner.old) jobs engine.old)
+        (W.told watcher.old) (W.told watcher.new) }
+    // and the last is that of the engine as it is then.
+    ensures up_to_date { OnOk result
+        (IsUpToDate engine.old engine.new (W.told watcher.old) (W.told watcher.new)) }
 {
     let mut memo = Memo::new(alloc);
     let mut children = VecDeque::new(alloc);
-    match take_turns(alloc, engine, sink, runner, &mut memo, &mut children, jobs) {
+    match take_turns(
+        alloc,
+        engine,
+        sink,
+        runner,
+        watcher,
+        &mut memo,
+        &mut children,
+        jobs,
+    ) {
         Ok(()) => Ok(()),
         Err(error) => {
             end_all(alloc, engine, runner, children);

@@ -2,15 +2,23 @@
 //! build of a plan by an engine, a store and a runner.
 #![tactic(auto)]
 
+mod beginning;
 mod building;
+mod child;
+mod counting;
+mod ending;
 mod error;
 mod laid;
 mod laying_out;
+mod putting;
+mod recorded;
 mod runner;
 mod turns;
+mod watching;
 
 pub use building::build;
 pub use error::{BuildError, Refusal};
 pub use laid::{Layout, LayoutError};
 pub use laying_out::layout;
 pub use runner::{Produced, RunError, Runner};
+pub use watching::{Progress, Unwatched, Watcher};

@@ -1,6 +1,6 @@
 ghost use Rattle.std.specs.Prelude.{◌<◌};
 
-use super::counting::{Came, Counting};
+use super::counting::{Came, Counting, Noting};
 use blob_digest::Digest;
 use builder::{Fault, Told, tell_build};
 use plan::Plan;
@@ -126,6 +126,8 @@ struct Row {
     told: &'static str,
     /// As `Counting::counts` has them.
     counts: (u64, u64, u64),
+    /// As `Noting::counts` has them.
+    watched: (usize, usize, usize),
     /// How many children the second build over the same store starts.
     again: u64,
 }
@@ -137,6 +139,7 @@ static ROWS: [Row; 8] = [
         jobs: 3,
         told: BUILT_FOUR,
         counts: (3, 3, 4),
+        watched: (4, 0, 3),
         again: 0,
     },
     Row {
@@ -145,6 +148,7 @@ static ROWS: [Row; 8] = [
         jobs: 1,
         told: BUILT_FOUR,
         counts: (1, 1, 4),
+        watched: (4, 0, 1),
         again: 0,
     },
     // A step is refused while others run.
@@ -154,6 +158,7 @@ static ROWS: [Row; 8] = [
         jobs: 3,
         told: "failed step a 103\n",
         counts: (3, 3, 3),
+        watched: (0, 0, 3),
         again: 3,
     },
     // The second step takes the result of the first, if that was put before.
@@ -163,6 +168,7 @@ static ROWS: [Row; 8] = [
         jobs: 1,
         told: BUILT_TWICE,
         counts: (1, 1, 1),
+        watched: (2, 1, 1),
         again: 0,
     },
     Row {
@@ -171,6 +177,7 @@ static ROWS: [Row; 8] = [
         jobs: 9,
         told: BUILT_TWICE,
         counts: (2, 2, 2),
+        watched: (2, 0, 2),
         again: 0,
     },
     Row {
@@ -179,6 +186,7 @@ static ROWS: [Row; 8] = [
         jobs: 1,
         told: "built TREE/75 steps 1\nbuildrecord 1\nstep mk ACTION_OUT/138\n",
         counts: (1, 1, 1),
+        watched: (1, 0, 1),
         again: 0,
     },
     Row {
@@ -187,6 +195,7 @@ static ROWS: [Row; 8] = [
         jobs: 1,
         told: "failed step mk 103\n",
         counts: (1, 1, 1),
+        watched: (0, 0, 1),
         again: 1,
     },
     // The step has its result, and the root lacks the output.
@@ -196,6 +205,7 @@ static ROWS: [Row; 8] = [
         jobs: 1,
         told: "failed root 106\n",
         counts: (1, 1, 1),
+        watched: (1, 0, 1),
         again: 0,
     },
 ];
@@ -235,11 +245,12 @@ fn told<A: Allocator + Copy>(
     plan: &Plan<A>,
     store: &mut MemorySource<A>,
     runner: &mut Counting,
+    watcher: &mut Noting,
     jobs: usize,
 ) -> Result<Option<String>, AllocError>
     requires { 0 < jobs }
 {
-    match tell_build(alloc, &Digest::empty(), plan, store, runner, jobs) {
+    match tell_build(alloc, &Digest::empty(), plan, store, runner, watcher, jobs) {
         Ok(Told::Built { line, noted }) => {
             let noted = String::from_utf8_lossy(global, &noted)?;
             Ok(Some(format!(in global; "{line}{noted}")?))
@@ -261,8 +272,11 @@ struct Tried {
     /// The counts of its children, how many of them weren't waited for, and how many the second
     /// build started.
     counts: (u64, u64, u64),
+    watched: (usize, usize, usize),
     alive: u64,
     again: u64,
+    /// How many steps had finished in the second build, and how many of them were the store's.
+    taken_again: (usize, usize),
 }
 
 /// Builds the row's plan twice over one store, and refuses the first build the request for memory
@@ -274,18 +288,23 @@ fn try_row(global: Global, row: Row, number: u64) -> Result<Tried, Fail> {
     let jobs = row.jobs.max(1);
     let mut runner = Counting::new(row.came);
     heap.refuse(number);
-    let first = told(global, &heap, &plan, &mut store, &mut runner, jobs)?;
+    let mut watcher = Noting::new();
+    let first = told(global, &heap, &plan, &mut store, &mut runner, &mut watcher, jobs)?;
     let is_refused = number > 0 && heap.has_refused();
     heap.refuse(0);
     let mut other = Counting::new(row.came);
-    let second = told(global, &heap, &plan, &mut store, &mut other, jobs)?;
+    let mut later = Noting::new();
+    let second = told(global, &heap, &plan, &mut store, &mut other, &mut later, jobs)?;
+    let (finished, taken, _) = later.counts();
     Ok(Tried {
         first,
         second,
         is_refused,
         counts: runner.counts(),
+        watched: watcher.counts(),
         alive: runner.alive(),
         again: other.counts().2,
+        taken_again: (finished, taken),
     })
 }
 
@@ -304,8 +323,12 @@ fn children_of_builds(rt: HostRuntime) -> Result<(), Fail> {
         assert!(rt; tells(&tried.first, text.as_str()), "{text}");
         assert!(rt; tells(&tried.second, text.as_str()), "{text}");
         assert!(rt; tried.counts == row.counts, "{text}");
+        assert!(rt; tried.watched == row.watched, "{text}");
         assert!(rt; tried.alive == 0, "{text}");
         assert!(rt; tried.again == row.again, "{text}");
+        // Where the second build runs nothing, all is the store's.
+        let all = if row.again > 0 { 0 } else { row.watched.0 };
+        assert!(rt; tried.taken_again == (all, all), "{text}");
     }
     Ok(())
 }

@@ -2,7 +2,7 @@ use actions::{Command, Outcome, Output};
 use blob_digest::Digest;
 use messages::Path;
 use std::alloc::{AllocError, Allocator};
-use worker::{Layout, Produced, RunError, Runner};
+use worker::{Layout, Produced, Progress, RunError, Runner, Watcher};
 
 /// What each child comes to.
 #[derive(Clone, Copy)]
@@ -121,5 +121,42 @@ impl<A: Allocator + Copy> Runner<A> for Counting {
             }),
             Came::File(path, content) => Ok(made_file(alloc, path, content)?),
         }
+    }
+}
+
+/// Keeps the last that it was told, and the most children that ran at once.
+#[derive(Drop)]
+pub struct Noting {
+    finished: usize,
+    taken: usize,
+    most: usize,
+}
+
+impl Noting {
+    /// Nothing was told yet.
+    pub fn new() -> Noting {
+        Noting {
+            finished: 0,
+            taken: 0,
+            most: 0,
+        }
+    }
+
+    /// How many steps had finished and how many of them were taken from the store, as it was told
+    /// last, and the most children that ran at once.
+    pub fn counts(&self) -> (usize, usize, usize) {
+        (self.finished, self.taken, self.most)
+    }
+}
+
+impl Watcher for Noting {
+    ghost use Rattle.std.specs.Prelude.{None};
+
+    ghost told = { λ _. None };
+
+    fn watch(&mut self, progress: Progress) {
+        self.finished = progress.finished;
+        self.taken = progress.taken;
+        self.most = self.most.max(progress.running);
     }
 }

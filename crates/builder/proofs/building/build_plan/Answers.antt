@@ -4,8 +4,11 @@ use Rattle.builder.proofs.Refusing.{root_refused}
 use Rattle.blob_source.proofs.Puts.{right_grows, right_then}
 use Rattle.worker.specs.Stored.{IsStored}
 use Rattle.worker.proofs.Storing.{stored_grown}
+use Rattle.worker.proofs.Taking.{on_ok}
+use Rattle.worker.proofs.Heard.{watched_none}
 use Rattle.builder.proofs.Leading.{led_plan, led_sources}
 use Rattle.builder.proofs.Serving.{none_finished, answered}
+use Rattle.builder.proofs.Watched.{watched_of_plan, whole_of}
 use Rattle.builder.proofs.building.build_plan.Goals as goal
 
 pub returns-in_err-engine-clause-right : goal.returns-in_err-engine-clause-right
@@ -74,3 +77,18 @@ returns-clause-refused g c = IfErr-weaker c.end.result _ _
       asked = c.end.ensures.asked;
       stands = root;
     })) c.end.ensures.refused
+
+pub returns-in_err-engine-clause-watched : goal.returns-in_err-engine-clause-watched
+returns-in_err-engine-clause-watched g c = watched_none (g.W.Watcher.told c.args.watcher.now)
+
+pub returns-in_err-run-clause-watched : goal.returns-in_err-run-clause-watched
+returns-in_err-run-clause-watched g c = watched_of_plan (g.S.BlobSource.tells c.open.new.sink) c.in_ok-engine.engine c.in_ok-engine.ensures.opened c.run.ensures.watched
+
+pub returns-clause-watched : goal.returns-clause-watched
+returns-clause-watched g c = watched_of_plan (g.S.BlobSource.tells c.open.new.sink) c.in_ok-engine.engine c.in_ok-engine.ensures.opened c.run.ensures.watched
+
+pub returns-clause-whole : goal.returns-clause-whole
+returns-clause-whole g c =
+    let opened = c.in_ok-engine.ensures.opened in
+    on_ok c.end.result (whole_of c.args.plan c.in_ok-engine.engine c.run.new.engine opened c.plan.ensures.lawful c.in_ok-run.ensures.done (led_plan c.run.ensures.led ∙ opened.plan)
+    (g.W.Watcher.told c.args.watcher.now) (g.W.Watcher.told c.run.new.watcher) c.in_ok-run.ensures.up_to_date)

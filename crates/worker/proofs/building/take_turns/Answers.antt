@@ -1,9 +1,11 @@
 use Rattle.std.proofs.Common.{arith, subst, sym, ap, length}
 use Rattle.std.proofs.lemmas.Result.{err_from_is_err_and}
-use Rattle.worker.specs.Going.{AreJobsOf, IsJobOf, IsGoing}
+use Rattle.worker.specs.Going.{AreJobsOf, FinishesOnly, IsJobOf, IsGoing}
+use Rattle.worker.specs.Watching.{IsProgressOf}
 use Rattle.worker.proofs.Keeping.{right_trans}
 use Rattle.worker.proofs.Complete.{all_finished}
 use Rattle.worker.proofs.Goes.{going_none, own_jobs}
+use Rattle.worker.proofs.Heard.{watched_none, watched_more, up_none, up_more}
 use Rattle.worker.proofs.building.take_turns.Goals as goal
 
 pub loop-turn-init : goal.loop-turn-init
@@ -17,6 +19,9 @@ loop-turn-init g c =
       stored = λ h. h;
       knows = c.requires.knows;
       alive = let none = c.requires.none in let len = ap length none in omega (arith, len);
+      progress = c.first_progress-progress.ensures;
+      watched = watched_none (g.W.Watcher.told c.args.watcher.now);
+      up_to_date = up_none c.args.engine.now (g.W.Watcher.told c.args.watcher.now);
     }
 
 pub take_turn-requires : goal.take_turn-requires
@@ -27,15 +32,32 @@ take_turn-requires g c = record {
   alive = let all = c.loop-turn.invariant.alive in omega (arith, all);
 }
 
+pub before_turn-before-requires-clause-there : goal.before_turn-before-requires-clause-there
+before_turn-before-requires-clause-there g c = own_jobs g.row.A.Denot (g.N.Runner.yields c.args.runner.now) g.N.Runner.may_give (g.S.BlobSource.tells c.loop-turn.sink) c.args.jobs c.args.engine.now c.loop-turn.engine c.loop-turn.children.items c.loop-turn.invariant.going
+
+pub progress_after-progress-requires-clause-there : goal.progress_after-progress-requires-clause-there
+progress_after-progress-requires-clause-there g c =
+    own_jobs g.row.A.Denot (g.N.Runner.yields c.args.runner.now) g.N.Runner.may_give (g.S.BlobSource.tells c.take_turn.new.sink) c.args.jobs c.args.engine.now c.take_turn.new.engine c.take_turn.new.children.items
+    (c.take_turn.ensures.going c.args.runner.now c.args.jobs c.args.engine.now c.loop-turn.invariant.within c.in-Some.ensures.turn c.loop-turn.invariant.going)
+
 pub loop-turn-preserved : goal.loop-turn-preserved
-loop-turn-preserved g c = record {
-  going = c.take_turn.ensures.going c.args.runner.now c.args.jobs c.args.engine.now c.loop-turn.invariant.within c.in-Some.ensures.turn c.loop-turn.invariant.going;
-  within = λ l d p h. c.loop-turn.invariant.within l d p (c.take_turn.ensures.within l d p h);
-  right = right_trans c.loop-turn.invariant.right c.take_turn.ensures.right;
-  stored = λ h. c.in_ok-take_turn.ensures.stored c.args.runner.now c.args.jobs c.args.engine.now c.loop-turn.invariant.going (c.loop-turn.invariant.stored h);
-  knows = c.take_turn.ensures.knows;
-  alive = let now = c.take_turn.ensures.alive in let was = c.loop-turn.invariant.alive in omega (arith, now, was);
-}
+loop-turn-preserved g c =
+    let told = g.W.Watcher.told in
+    let new = c.take_turn.new.engine in
+    let going = c.take_turn.ensures.going c.args.runner.now c.args.jobs c.args.engine.now c.loop-turn.invariant.within c.in-Some.ensures.turn c.loop-turn.invariant.going in
+    let only = subst (λ i. FinishesOnly i c.loop-turn.engine new) (sym c.before_turn-before.ensures.step) c.in_ok-take_turn.ensures.only in
+    let is : IsProgressOf new c.progress_after-progress.result = c.progress_after-progress.ensures c.loop-turn.engine c.loop-turn.invariant.progress c.before_turn-before.ensures.finished only in
+    record {
+      going = going;
+      within = λ l d p h. c.loop-turn.invariant.within l d p (c.take_turn.ensures.within l d p h);
+      right = right_trans c.loop-turn.invariant.right c.take_turn.ensures.right;
+      stored = λ h. c.in_ok-take_turn.ensures.stored c.args.runner.now c.args.jobs c.args.engine.now c.loop-turn.invariant.going (c.loop-turn.invariant.stored h);
+      knows = c.take_turn.ensures.knows;
+      alive = let now = c.take_turn.ensures.alive in let was = c.loop-turn.invariant.alive in omega (arith, now, was);
+      progress = is;
+      watched = watched_more c.progress_after-progress.result c.loop-turn.invariant.watched c.watch.ensures (record { told = g.S.BlobSource.tells c.take_turn.new.sink; now = new; led = going.led; is = is });
+      up_to_date = up_more c.args.engine.now new (told c.args.watcher.now) (told c.loop-turn.watcher) (told c.watch.new.self) c.progress_after-progress.result c.loop-turn.invariant.watched c.watch.ensures is;
+    }
 
 pub returns-in_err-take_turn-clause-going : goal.returns-in_err-take_turn-clause-going
 returns-in_err-take_turn-clause-going g c = c.take_turn.ensures.going c.args.runner.now c.args.jobs c.args.engine.now c.loop-turn.invariant.within c.in-Some.ensures.turn c.loop-turn.invariant.going

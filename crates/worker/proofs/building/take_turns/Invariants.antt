@@ -5,12 +5,14 @@ use Rattle.worker.specs.Stores.{KnowsBlobs}
 use Rattle.worker.specs.Outcomes.{YieldsNoMore}
 use Rattle.worker.specs.Stored.{StoresSteps}
 use Rattle.worker.specs.Going.{IsGoing, turns_left}
+use Rattle.worker.specs.Watching.{IsProgress, IsProgressOf, IsUpToDate, IsWatched}
 use Rattle.worker.proofs.building.take_turns.Given as goal
 
 abbrev pub invariant-loop-turn : goal.invariant-loop-turn
 invariant-loop-turn g l =
     let tells = g.S.BlobSource.tells in
     let yields = g.N.Runner.yields in
+    let told = g.W.Watcher.told in
     record {
       going : IsGoing g.row.A.Denot (yields l.fn.runner) g.N.Runner.may_give (tells l.sink) l.jobs l.fn.engine l.engine l.children.items;
       within : YieldsNoMore (yields l.runner) (yields l.fn.runner);
@@ -18,6 +20,9 @@ invariant-loop-turn g l =
       stored : StoresSteps (tells l.fn.sink) l.fn.engine → StoresSteps (tells l.sink) l.engine;
       knows : KnowsBlobs (known_by l.memo) (tells l.sink).blobs;
       alive : g.N.Runner.alive l.runner ≡ g.N.Runner.alive l.fn.runner + length l.children.items;
+      progress : IsProgressOf l.engine l.progress;
+      watched : IsWatched (IsProgress g.row.A.Denot (yields l.fn.runner) l.jobs l.fn.engine) (told l.fn.watcher) (told l.watcher);
+      up_to_date : IsUpToDate l.fn.engine l.engine (told l.fn.watcher) (told l.watcher);
     }
 
 abbrev pub decreases-loop-turn : goal.decreases-loop-turn

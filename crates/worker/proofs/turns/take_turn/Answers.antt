@@ -1,8 +1,10 @@
-use Rattle.std.proofs.Common.{subst}
-use Rattle.worker.specs.Going.{IsTurn}
+use Rattle.std.proofs.Common.{subst, sym}
+use Rattle.std.specs.Prelude.{OnOk}
+use Rattle.worker.specs.Going.{FinishesOnly, IsTurn, step_of}
 use Rattle.worker.proofs.Taking.{start_goes, finish_goes, finish_right, start_stored, finish_stored}
 use Rattle.worker.proofs.Stopping.{start_refused, finish_refused}
 use Rattle.worker.proofs.Lefts.{start_less, finish_less}
+use Rattle.worker.proofs.Counts.{start_only, finish_only}
 use Rattle.worker.proofs.Knowing.{knows_still}
 use Rattle.worker.proofs.turns.take_turn.Goals as goal
 
@@ -54,3 +56,13 @@ pub returns-in-Finish-clause-stopped : goal.returns-in-Finish-clause-stopped
 returns-in-Finish-clause-stopped g c =
     finish_refused g.row.A.Denot g.row.N-Job.Denot g.N.Runner.may_give (g.S.BlobSource.tells c.args.sink.now) (g.S.BlobSource.tells c.finish_first.new.sink) c.args.engine.now c.finish_first.new.engine c.args.children.now.items c.finish_first.new.children.items
     g.N.Runner.yields (g.N.Runner.yields c.args.runner.now) c.args.turn c.finish_first.result c.finish_first.ensures.stopped c.finish_first.ensures.refused
+
+pub returns-in-Start-clause-only : goal.returns-in-Start-clause-only
+returns-in-Start-clause-only g c =
+    subst (λ t. OnOk c.begin.result (FinishesOnly (step_of t c.args.children.now.items) c.args.engine.now c.begin.new.engine)) (sym c.in-Start.is) (start_only g.row.A.Denot g.row.N-Job.Denot (g.N.Runner.yields c.args.runner.now) g.N.Runner.may_give (g.S.BlobSource.tells c.args.sink.now) (g.S.BlobSource.tells c.begin.new.sink) c.args.engine.now c.begin.new.engine
+    c.begin.result c.in-Start.step c.args.children.now.items c.begin.new.children.items c.begin.ensures.begun)
+
+pub returns-in-Finish-clause-only : goal.returns-in-Finish-clause-only
+returns-in-Finish-clause-only g c =
+    subst (λ t. OnOk c.finish_first.result (FinishesOnly (step_of t c.args.children.now.items) c.args.engine.now c.finish_first.new.engine)) (sym c.in-Finish.is) (finish_only g.row.A.Denot g.row.N-Job.Denot (g.N.Runner.yields c.args.runner.now) g.N.Runner.may_give (g.S.BlobSource.tells c.args.sink.now) (g.S.BlobSource.tells c.finish_first.new.sink) c.args.engine.now c.finish_first.new.engine
+    c.finish_first.result c.args.children.now.items c.finish_first.new.children.items c.requires.there c.finish_first.ensures.ended)

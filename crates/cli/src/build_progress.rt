@@ -1,0 +1,70 @@
+use crate::terminal_line::TerminalLine;
+use plan::Plan;
+use std::alloc::{AllocError, Global};
+use std::io::Write;
+use worker::{Progress, Watcher};
+
+/// How far a build is, told on a terminal in one line that is written over. Without a terminal
+/// nothing is told.
+#[derive(Drop)]
+pub(crate) struct BuildProgress<'a, T: Write + Drop> {
+    alloc: Global,
+    plan: &'a Plan<Global>,
+    line: TerminalLine<T>,
+}
+
+impl<'a, T: Write + Drop> BuildProgress<'a, T> {
+    pub(crate) fn new(
+        alloc: Global,
+        plan: &'a Plan<Global>,
+        terminal: Option<T>,
+    ) -> BuildProgress<'a, T> {
+        BuildProgress {
+            alloc,
+            plan,
+            line: TerminalLine::new(terminal),
+        }
+    }
+
+    /// Takes the line away.
+    pub(crate) fn clear(&mut self) {
+        self.line.clear();
+    }
+}
+
+/// The line: steps finished of all, how many the store had, how many run, and which runs longest.
+fn line_of(
+    alloc: Global,
+    plan: &Plan<Global>,
+    progress: Progress,
+) -> Result<String, AllocError> {
+    let Progress {
+        steps,
+        finished,
+        taken,
+        running,
+        longest,
+    } = progress;
+    let counts = format!(in alloc; "build {finished} of {steps} steps, {taken} from the store")?;
+    match longest.and_then(|number| plan.steps().get(number)) {
+        None => Ok(counts),
+        Some(step) => format!(
+            in alloc; "{counts}, {running} running, longest {}", step.name.as_str()
+        ),
+    }
+}
+
+impl<T: Write + Drop> Watcher for BuildProgress<'_, T> {
+    ghost use Rattle.std.specs.Prelude.{None};
+
+    ghost told = { λ _. None };
+
+    fn watch(&mut self, progress: Progress) {
+        if !self.line.has_terminal() {
+            return;
+        }
+        if let Ok(text) = line_of(self.alloc, self.plan, progress) {
+            self.line.write(text.as_str());
+        }
+    }
+}

@@ -1,0 +1,37 @@
+-- What a watcher is told.
+use Rattle.std.proofs.Common.{List, [], ◌∷◌, ◌++◌, append_assoc, append-nil, Option, Some, None, refl, ap, sym, ◌∙◌, inl, inr}
+use Rattle.std.specs.List.{AllByRecursion}
+use Rattle.runs.specs.Engine.{EngineValue}
+use Rattle.worker.specs.declared.watching.Progress.{Progress}
+use Rattle.worker.specs.Watching.{Hears, IsWatched, IsProgressOf, IsUpToDate}
+
+hears_none : (a : Option (List Progress)) → Hears a a []
+hears_none None = tt
+hears_none (Some ps) = sym (append-nil ps)
+
+hears_more : (a b c : Option (List Progress)) (ps qs : List Progress) → Hears a b ps → Hears b c qs → Hears a c (ps ++ qs)
+hears_more None b c ps qs f g = tt
+hears_more (Some xs) None c ps qs f g = absurd f
+hears_more (Some xs) (Some ys) None ps qs f g = absurd g
+hears_more (Some xs) (Some ys) (Some zs) ps qs f g = g ∙ ap (λ l. l ++ qs) f ∙ append_assoc xs ps qs
+
+all_more : (Is : Progress → Type 0) (ps : List Progress) (p : Progress) → AllByRecursion Is ps → Is p → AllByRecursion Is (ps ++ p ∷ [])
+all_more Is [] p h one = (one, tt)
+all_more Is (q ∷ ps) p h one = (h.0, all_more Is ps p h.1 one)
+
+module _ {Is : Progress → Type 0} where
+  pub watched_none : (a : Option (List Progress)) → IsWatched Is a a
+  watched_none a = record { told = []; heard = hears_none a; each = tt }
+
+  pub watched_more : {a b c : Option (List Progress)} (p : Progress) → IsWatched Is a b → Hears b c (p ∷ []) → Is p → IsWatched Is a c
+  watched_more {a} {b} {c} p w heard is = record { told = w.told ++ p ∷ []; heard = hears_more a b c w.told (p ∷ []) w.heard heard; each = all_more Is w.told p w.each is }
+
+pub up_none : (e : EngineValue) (a : Option (List Progress)) → IsUpToDate e e a a
+up_none e None = tt
+up_none e (Some ps) = inl (refl, refl)
+
+pub up_more : {Is : Progress → Type 0} (first now : EngineValue) (a b c : Option (List Progress)) (p : Progress) → IsWatched Is a b → Hears b c (p ∷ []) → IsProgressOf now p → IsUpToDate first now a c
+up_more first now None b c p w heard is = tt
+up_more first now (Some xs) None c p w heard is = absurd w.heard
+up_more first now (Some xs) (Some ys) None p w heard is = absurd heard
+up_more first now (Some xs) (Some ys) (Some zs) p w heard is = inr (ys, p, heard, is)

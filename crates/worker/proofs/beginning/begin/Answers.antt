@@ -1,0 +1,50 @@
+use Rattle.worker.proofs.Keeping.{kept_trans, kept_some}
+use Rattle.std.proofs.Common.{refl, subst, inl, inr}
+use Rattle.worker.specs.Stopped.{StopsStep}
+use Rattle.worker.proofs.Started.{started_in, was_started}
+use Rattle.worker.proofs.Goes.{begun, refused}
+use Rattle.worker.proofs.Knowing.{known_of, knows_still, knows_started}
+use Rattle.worker.proofs.beginning.begin.Goals as goal
+
+pub launch-requires : goal.launch-requires
+launch-requires g c = started_in c.in-Ok.ensures.started
+
+pub returns-in-Ok-launch-clause-kept : goal.returns-in-Ok-launch-clause-kept
+returns-in-Ok-launch-clause-kept g c = kept_trans (kept_some c.start.ensures.called) c.launch.ensures.kept
+
+pub returns-in-Ok-launch-clause-begun : goal.returns-in-Ok-launch-clause-begun
+returns-in-Ok-launch-clause-begun g c = begun (g.S.BlobSource.tells c.launch.new.sink) c.in-Ok.ensures.started c.launch.ensures.kept.blobs c.in-Ok-launch.ensures.launched
+
+pub returns-clause-kept : goal.returns-clause-kept
+returns-clause-kept g c = kept_trans (kept_some c.start.ensures.called) c.launch.ensures.kept
+
+pub returns-clause-refused : goal.returns-clause-refused
+returns-clause-refused g c = refused c.lose.result c.in-Ok.ensures.started c.launch.ensures.kept.blobs c.in-Err-launch.ensures.unchanged c.lose.ensures.no_job c.lose.ensures.lost
+
+pub start-requires-clause-known : goal.start-requires-clause-known
+start-requires-clause-known g c = known_of c.requires.knows
+
+pub returns-in-Err-clause-knows : goal.returns-in-Err-clause-knows
+returns-in-Err-clause-knows g c = knows_started c.args.engine.now c.args.step c.requires.knows c.start.ensures.learned
+
+pub returns-in-Ok-launch-clause-knows : goal.returns-in-Ok-launch-clause-knows
+returns-in-Ok-launch-clause-knows g c = knows_still c.launch.ensures.kept.blobs (knows_started c.args.engine.now c.args.step c.requires.knows c.start.ensures.learned)
+
+pub returns-clause-knows : goal.returns-clause-knows
+returns-clause-knows g c = knows_still c.launch.ensures.kept.blobs (knows_started c.args.engine.now c.args.step c.requires.knows c.start.ensures.learned)
+
+pub returns-in-Err-clause-stopped : goal.returns-in-Err-clause-stopped
+returns-in-Err-clause-stopped g c = (refl, inl (inl c.in-Err.ensures.refused))
+
+pub returns-clause-stopped : goal.returns-clause-stopped
+returns-clause-stopped g c =
+    let t = g.S.BlobSource.tells c.launch.new.sink in
+    let started = c.in-Ok.ensures.started in (
+      refl,
+      inr (
+        c.in-Ok.job.id,
+        c.start.new.self,
+        was_started started t.blobs c.launch.ensures.kept.blobs,
+        subst (λ i. StopsStep (g.N.Runner.yields c.args.runner.now) t c.start.new.self i c.in-Err-launch.refusal) started.prepared.of_step c.in-Err-launch.ensures.refused,
+      ),
+    )

@@ -1,0 +1,92 @@
+use Rattle.std.proofs.lemmas.Result.{err_from_is_err_and}
+use Rattle.std.proofs.Common.{refl, sym, subst, inl, inr, ap, ◌∙◌, ◌++◌, ◌∷◌, []}
+use Rattle.blob_source.specs.Sink.{HasRight}
+use Rattle.std.specs.Prelude.{IfSome}
+use Rattle.worker.specs.declared.child.Child.{Child}
+use Rattle.worker.specs.Outcomes.{IsHeld}
+use Rattle.worker.specs.Going.{job_value}
+use Rattle.worker.proofs.Stopping.{store_stops, child_stops}
+use Rattle.worker.proofs.Telling.{held_kept}
+use Rattle.worker.proofs.Keeping.{kept_trans, right_still}
+use Rattle.worker.proofs.beginning.launch.Goals as goal
+
+pub returns-in_err-put_trees-clause-kept : goal.returns-in_err-put_trees-clause-kept
+returns-in_err-put_trees-clause-kept g c = kept_trans c.put_input.ensures.kept (kept_trans c.recorded_outcome.ensures.kept c.put_trees.ensures.kept)
+
+pub returns-in_err-finish-clause-kept : goal.returns-in_err-finish-clause-kept
+returns-in_err-finish-clause-kept g c = kept_trans c.put_input.ensures.kept (kept_trans c.recorded_outcome.ensures.kept c.put_trees.ensures.kept)
+
+pub returns-in-Some-clause-kept : goal.returns-in-Some-clause-kept
+returns-in-Some-clause-kept g c = kept_trans c.put_input.ensures.kept (kept_trans c.recorded_outcome.ensures.kept c.put_trees.ensures.kept)
+
+pub returns-in-Some-clause-launched : goal.returns-in-Some-clause-launched
+returns-in-Some-clause-launched g c =
+    let t = g.S.BlobSource.tells c.recorded_outcome.new.sink in
+    let held : IsHeld t c.args.job.now.digest c.in-Some.outcome = subst (λ o. IfSome o (IsHeld t c.args.job.now.digest)) c.in-Some.is c.in_ok-outcome.ensures.held in
+    let end = (g.S.BlobSource.tells c.put_trees.new.sink).blobs in
+    inr (
+      c.in-Some.outcome,
+      c.in_ok-finish.ensures.finished,
+      record {
+        held = held_kept c.put_trees.ensures.kept held;
+        action = subst (HasRight end) (sym c.requires.digest) (right_still (kept_trans c.recorded_outcome.ensures.kept c.put_trees.ensures.kept).blobs c.in_ok-put_input.ensures.held);
+        trees = c.in_ok-put_trees.ensures.held;
+      },
+      refl,
+    )
+
+pub returns-in_err-child-clause-kept : goal.returns-in_err-child-clause-kept
+returns-in_err-child-clause-kept g c = kept_trans c.put_input.ensures.kept (kept_trans c.recorded_outcome.ensures.kept c.start_child.ensures.kept)
+
+pub returns-clause-kept : goal.returns-clause-kept
+returns-clause-kept g c = kept_trans c.put_input.ensures.kept (kept_trans c.recorded_outcome.ensures.kept c.start_child.ensures.kept)
+
+pub returns-clause-launched : goal.returns-clause-launched
+returns-clause-launched g c =
+    let B = (g.S.BlobSource.tells c.start_child.new.sink).blobs in
+    let child : Child g.row.N-Job.Denot = record { id = c.args.job.now.id; step = c.args.job.now.step; action = c.args.job.now.digest; job = c.in_ok-child.child } in
+    let owed = c.in_ok-child.ensures.owed in
+    inl (
+      child,
+      refl,
+      record {
+        of_child = record { step = refl; action = refl };
+        owed = record {
+          layout = owed.0;
+          laid = owed.1;
+          command = c.args.job.now.command;
+          of_step = c.requires.command;
+          may_come = λ p m. owed.2 p m;
+          action = subst (HasRight B) (sym c.requires.digest) (right_still (kept_trans c.recorded_outcome.ensures.kept c.start_child.ensures.kept).blobs c.in_ok-put_input.ensures.held);
+        };
+      },
+      refl,
+      c.push_back_reserved.ensures.items ∙ ap (λ xs. xs ++ child ∷ []) c.reserve.ensures.items,
+    )
+
+pub returns-in_err-put_input-clause-refused : goal.returns-in_err-put_input-clause-refused
+returns-in_err-put_input-clause-refused g c =
+    let p = err_from_is_err_and c.from_residual.result c.from_residual.ensures.1 in
+    rw (p.1, p.2) (store_stops (g.N.Runner.yields c.args.runner.now) (g.S.BlobSource.tells c.put_input.new.sink) c.args.engine.now c.args.job.now.step c.in_err-put_input.field-0.0 c.in_err-put_input.ensures.failed)
+
+pub returns-in_err-outcome-clause-refused : goal.returns-in_err-outcome-clause-refused
+returns-in_err-outcome-clause-refused g c =
+    let p = err_from_is_err_and c.from_residual-in_err-outcome.result c.from_residual-in_err-outcome.ensures.1 in
+    rw (p.1, p.2) (store_stops (g.N.Runner.yields c.args.runner.now) (g.S.BlobSource.tells c.recorded_outcome.new.sink) c.args.engine.now c.args.job.now.step c.in_err-outcome.field-0.0 c.in_err-outcome.ensures.failed)
+
+pub returns-in_err-put_trees-clause-refused : goal.returns-in_err-put_trees-clause-refused
+returns-in_err-put_trees-clause-refused g c =
+    let p = err_from_is_err_and c.from_residual-in_err-put_trees.result c.from_residual-in_err-put_trees.ensures.1 in
+    rw (p.1, p.2) (store_stops (g.N.Runner.yields c.args.runner.now) (g.S.BlobSource.tells c.put_trees.new.sink) c.args.engine.now c.args.job.now.step c.in_err-put_trees.field-0.0 c.in_err-put_trees.ensures.failed)
+
+pub returns-in_err-finish-clause-refused : goal.returns-in_err-finish-clause-refused
+returns-in_err-finish-clause-refused g c =
+    let p = err_from_is_err_and c.from_residual-in_err-finish.result c.from_residual-in_err-finish.ensures.1 in
+    let t = g.S.BlobSource.tells c.recorded_outcome.new.sink in
+    let held : IsHeld t c.args.job.now.digest c.in-Some.outcome = subst (λ o. IfSome o (IsHeld t c.args.job.now.digest)) c.in-Some.is c.in_ok-outcome.ensures.held in
+    rw (p.1, p.2) (inr (c.args.job.now.id, job_value c.args.job.now, c.requires.there, refl, c.in-Some.outcome, inr (held_kept c.put_trees.ensures.kept held), c.in_err-finish.ensures.refused))
+
+pub returns-in_err-child-clause-refused : goal.returns-in_err-child-clause-refused
+returns-in_err-child-clause-refused g c =
+    let p = err_from_is_err_and c.from_residual-in_err-child.result c.from_residual-in_err-child.ensures.1 in
+    rw (p.1, p.2) (child_stops (g.N.Runner.yields c.args.runner.now) (g.S.BlobSource.tells c.start_child.new.sink) c.args.engine.now c.args.job.now c.requires c.in_err-child.field-0.0 c.in_err-child.ensures.refused)

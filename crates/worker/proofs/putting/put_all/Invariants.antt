@@ -1,0 +1,13 @@
+use Rattle.std.proofs.Common.{take}
+use Rattle.worker.specs.Stores.{IsKept}
+use Rattle.worker.specs.Outcomes.{HasAllRight}
+use Rattle.worker.specs.Values.{blobs_of}
+use Rattle.worker.proofs.putting.put_all.Given as goal
+
+abbrev pub invariant-loop-blob : goal.invariant-loop-blob
+invariant-loop-blob g l =
+    let tells = g.S.BlobSource.tells in
+    record {
+      kept : IsKept (tells l.fn.sink) (tells l.sink);
+      held : HasAllRight (tells l.sink).blobs (blobs_of (take l.blob-index l.blobs));
+    }

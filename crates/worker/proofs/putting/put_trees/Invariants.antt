@@ -1,0 +1,14 @@
+use Rattle.std.proofs.Common.{take}
+use Rattle.std.specs.List.{AllByRecursion}
+use Rattle.actions.specs.Outcome.{outputs_in}
+use Rattle.worker.specs.Stores.{IsKept}
+use Rattle.worker.specs.Stored.{HasTree}
+use Rattle.worker.proofs.putting.put_trees.Given as goal
+
+abbrev pub invariant-loop-output : goal.invariant-loop-output
+invariant-loop-output g l =
+    let tells = g.S.BlobSource.tells in
+    record {
+      kept : IsKept (tells l.fn.sink) (tells l.sink);
+      held : AllByRecursion (HasTree (tells l.sink).blobs) (outputs_in (take l.output-index l.output-items));
+    }

@@ -1,0 +1,123 @@
+ghost use Rattle.std.specs.Prelude.{◌≡◌, ◌+◌, ◌-◌, ◌<◌, Some, IfErr, IfOk, OnOk, OnErr, length};
+ghost use Rattle.worker.specs.Layout.{IsLayoutOf};
+ghost use Rattle.tree.specs.Memo.{known_by};
+ghost use Rattle.worker.specs.Stores.{IsKept, KnowsBlobs};
+ghost use Rattle.worker.specs.Outcomes.{YieldsNoMore};
+ghost use Rattle.worker.specs.Values.{LayoutValue, ProducedValue};
+ghost use Rattle.worker.specs.Going.{IsJobIn, job_value, IsBegun, CameToNothing, IsLaunched};
+ghost use Rattle.worker.specs.Stopped.{StopsChild, StopsStep, StopsBeginning};
+
+use crate::child::Child;
+use crate::error::{BuildError, Refusal};
+use crate::laying_out::layout;
+use crate::putting::{put_input, put_trees};
+use crate::recorded::recorded_outcome;
+use crate::runner::Runner;
+use runs::{Engine, Job};
+use std::alloc::Allocator;
+use std::collections::VecDeque;
+use tree::{BlobSink, Memo};
+
+/// Lays out the input of a job and starts its child.
+fn start_child<A: Allocator + Copy, S: BlobSink<A>, N: Runner<A>>(
+    alloc: A,
+    sink: &mut S,
+    runner: &mut N,
+    job: &Job<A>,
+) -> Result<N::Job, Refusal<A>>
+    ensures kept { IsKept (S.tells sink.old) (S.tells sink.new) }
+    ensures owed { IfOk result (λ child. (l : LayoutValue)
+        × IsLayoutOf (S.tells sink.new).blobs job.now.action.input l
+        × ((p : ProducedValue) → N.may_give child p → N.yields runner.old l job.now.command p)) }
+    ensures refused { IfErr result (StopsChild (S.tells sink.new).blobs
+        job.now.action.input job.now.command) }
+    ensures same { YieldsNoMore (N.yields runner.new) (N.yields runner.old) }
+    ensures opened { OnOk result (N.alive runner.new ≡ N.alive runner.old + 1) }
+    ensures unopened { OnErr result (N.alive runner.new ≡ N.alive runner.old) }
+{
+    let root = job.action.input_root_digest();
+    let laid = layout(alloc, &root, sink)?;
+    Ok(runner.start(alloc, &laid, &job.command)?)
+}
+
+/// Goes on with a job: takes what the store has for it, or else starts its child.
+fn launch<A: Allocator + Copy, S: BlobSink<A>, N: Runner<A>>(
+    alloc: A,
+    engine: &mut Engine<A>,
+    sink: &mut S,
+    runner: &mut N,
+    children: &mut VecDeque<Child<N::Job>, A>,
+    job: &Job<A>,
+) -> Result<(), Refusal<A>>
+    requires { IsJobIn engine.old job.now }
+    ensures kept { IsKept (S.tells sink.old) (S.tells sink.new) }
+    ensures launched { OnOk result (IsLaunched (N.yields runner.old) N.may_give (S.tells sink.new)
+        job.now.id
+        (job_value job.now) engine.old engine.new children.old.items children.new.items) }
+    ensures refused { IfErr result
+        (StopsStep (N.yields runner.old) (S.tells sink.new) engine.old job.now.step) }
+    ensures unchanged { OnErr result (engine.new ≡ engine.old) }
+    ensures same { OnErr result (children.new.items ≡ children.old.items) }
+    ensures within { YieldsNoMore (N.yields runner.new) (N.yields runner.old) }
+    ensures alive { N.alive runner.new + length children.old.items
+        ≡ N.alive runner.old + length children.new.items }
+{
+    put_input(alloc, sink, job)?;
+    if let Some(outcome) = recorded_outcome(alloc, sink, job)? {
+        put_trees(alloc, sink, &outcome)?;
+        engine.finish(alloc, job.id, outcome)?;
+        return Ok(());
+    }
+    children.reserve(1)?;
+    let child = start_child(alloc, sink, runner, job)?;
+    children.push_back_reserved(Child {
+        id: job.id,
+        step: job.step,
+        action: job.digest,
+        job: child,
+    });
+    Ok(())
+}
+
+/// Starts a step.
+pub(crate) fn begin<A: Allocator + Copy, S: BlobSink<A>, N: Runner<A>>(
+    alloc: A,
+    engine: &mut Engine<A>,
+    sink: &mut S,
+    runner: &mut N,
+    memo: &mut Memo<A>,
+    children: &mut VecDeque<Child<N::Job>, A>,
+    step: usize,
+) -> Result<(), BuildError<A>>
+    requires within { step < length engine.old.plan.steps }
+    requires knows { KnowsBlobs (known_by memo.old) (S.tells sink.old).blobs }
+    ensures knows { KnowsBlobs (known_by memo.new) (S.tells sink.new).blobs }
+    ensures kept { IsKept (S.tells sink.old) (S.tells sink.new) }
+    ensures begun { OnOk result (IsBegun A (N.yields runner.old) N.may_give (S.tells sink.new) step
+        engine.old engine.new children.old.items children.new.items) }
+    ensures refused { OnErr result
+        (CameToNothing A (S.tells sink.new).blobs step engine.old engine.new) }
+    ensures stopped { IfErr result (λ e. (e.step ≡ step) × StopsBeginning (N.yields runner.old)
+        (S.tells sink.new) engine.old step e.refusal) }
+    ensures same { OnErr result (children.new.items ≡ children.old.items) }
+    ensures within { YieldsNoMore (N.yields runner.new) (N.yields runner.old) }
+    ensures alive { N.alive runner.new + length children.old.items
+        ≡ N.alive runner.old + length children.new.items }
+{
+    let job = match engine.start(alloc, step, memo, sink) {
+        Ok(job) => job,
+        Err(error) => {
+            return Err(BuildError {
+                step,
+                refusal: Refusal::Engine(error),
+            });
+        }
+    };
+    match launch(alloc, engine, sink, runner, children, &job) {
+        Ok(()) => Ok(()),
+        Err(refusal) => {
+            let _ = engine.lose(job.id);
+            Err(BuildError { step, refusal })
+        }
+    }
+}

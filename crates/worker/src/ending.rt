@@ -1,0 +1,129 @@
+ghost use Rattle.std.specs.Prelude.{◌≡◌, ◌+◌, ◌-◌, ◌<◌, Some, IfErr, IfOk, OnOk, OnErr, length};
+ghost use Rattle.runs.specs.Engine.{JobValue, job_in};
+ghost use Rattle.worker.specs.Stores.{IsKept};
+ghost use Rattle.worker.specs.Outcomes.{YieldsNoMore, HasAllRight};
+ghost use Rattle.worker.specs.Values.{ProducedValue};
+ghost use Rattle.worker.specs.Going.{AreJobsOf, IsJobOf, HasEndedFirst, EndsWell, Ends};
+ghost use Rattle.worker.specs.Going.{HasResultOfFirst};
+ghost use Rattle.worker.specs.Stopped.{StopsCollecting, StopsEnd, StopsSettling, StopsFirst};
+ghost use Rattle.worker.specs.Stored.{HasTrees, HasResultOf};
+
+use crate::child::Child;
+use crate::error::{BuildError, Refusal};
+use crate::putting::{put_all, put_outcome, put_trees};
+use crate::runner::{Produced, Runner};
+use actions::Outcome;
+use runs::{Engine, Job};
+use std::alloc::Allocator;
+use std::collections::VecDeque;
+use tree::BlobSink;
+
+/// Waits for a child, and puts the blobs that it made and the Trees of its outcome.
+fn collect<A: Allocator + Copy, S: BlobSink<A>, N: Runner<A>>(
+    alloc: A,
+    sink: &mut S,
+    runner: &mut N,
+    job: N::Job,
+) -> Result<Outcome<A>, Refusal<A>>
+    ensures kept { IsKept (S.tells sink.old) (S.tells sink.new) }
+    ensures gave { IfOk result (λ v. (p : ProducedValue) × N.may_give job p × (v ≡ p.outcome)
+        × HasAllRight (S.tells sink.new).blobs p.blobs) }
+    ensures trees { IfOk result (HasTrees (S.tells sink.new).blobs) }
+    ensures refused { IfErr result StopsCollecting }
+    ensures within { YieldsNoMore (N.yields runner.new) (N.yields runner.old) }
+    ensures closed { N.alive runner.new ≡ N.alive runner.old - 1 }
+{
+    let Produced { outcome, blobs } = runner.finish(alloc, job)?;
+    put_all(alloc, sink, &blobs)?;
+    put_trees(alloc, sink, &outcome)?;
+    Ok(outcome)
+}
+
+/// Finishes the job of a child with what it came to.
+fn take<A: Allocator + Copy, S: BlobSink<A>, N: Runner<A>>(
+    alloc: A,
+    engine: &mut Engine<A>,
+    sink: &mut S,
+    runner: &mut N,
+    child: Child<N::Job>,
+) -> Result<(), Refusal<A>>
+    ensures kept { IsKept (S.tells sink.old) (S.tells sink.new) }
+    ensures ended { OnOk result
+        (EndsWell N.may_give (S.tells sink.old) (S.tells sink.new) child engine.old engine.new) }
+    ensures refused { IfErr result
+        (StopsEnd N.may_give (S.tells sink.new).blobs child engine.old) }
+    ensures unchanged { OnErr result (engine.new ≡ engine.old) }
+    ensures within { YieldsNoMore (N.yields runner.new) (N.yields runner.old) }
+    ensures closed { N.alive runner.new ≡ N.alive runner.old - 1 }
+{
+    let Child { id, job, .. } = child;
+    let outcome = collect(alloc, sink, runner, job)?;
+    engine.finish(alloc, id, outcome)?;
+    Ok(())
+}
+
+/// Ends the job of a child, whatever comes.
+fn settle<A: Allocator + Copy, S: BlobSink<A>, N: Runner<A>>(
+    alloc: A,
+    engine: &mut Engine<A>,
+    sink: &mut S,
+    runner: &mut N,
+    child: Child<N::Job>,
+) -> Result<(), Refusal<A>>
+    requires there { (j : JobValue) × (job_in child.id engine.old ≡ Some j) × IsJobOf child j }
+    ensures ended { OnOk result
+        (EndsWell N.may_give (S.tells sink.old) (S.tells sink.new) child engine.old engine.new) }
+    ensures put { OnOk result
+        (HasResultOf (S.tells sink.new) engine.new child.step child.action) }
+    ensures refused { OnErr result
+        (Ends N.may_give (S.tells sink.old) (S.tells sink.new) child engine.old engine.new) }
+    ensures stopped { IfErr result (StopsSettling N.may_give
+        (S.tells sink.old) (S.tells sink.new) child engine.old) }
+    ensures within { YieldsNoMore (N.yields runner.new) (N.yields runner.old) }
+    ensures closed { N.alive runner.new ≡ N.alive runner.old - 1 }
+{
+    let _ = engine.plan();
+    let id = child.id;
+    let step = child.step;
+    let action = child.action;
+    match take(alloc, engine, sink, runner, child) {
+        Ok(()) => put_outcome(alloc, engine, sink, step, &action),
+        Err(refusal) => {
+            let _ = engine.lose(id);
+            Err(refusal)
+        }
+    }
+}
+
+/// Waits for the child that was started first.
+pub(crate) fn finish_first<A: Allocator + Copy, S: BlobSink<A>, N: Runner<A>>(
+    alloc: A,
+    engine: &mut Engine<A>,
+    sink: &mut S,
+    runner: &mut N,
+    children: &mut VecDeque<Child<N::Job>, A>,
+) -> Result<(), BuildError<A>>
+    requires there { AreJobsOf IsJobOf engine.old.jobs children.old.items }
+    requires some { 0 < length children.old.items }
+    ensures ended { OnOk result (HasEndedFirst
+        (EndsWell N.may_give (S.tells sink.old) (S.tells sink.new))
+        engine.old engine.new children.old.items children.new.items) }
+    ensures put { OnOk result
+        (HasResultOfFirst (S.tells sink.new) engine.new children.old.items) }
+    ensures refused { OnErr result (HasEndedFirst
+        (Ends N.may_give (S.tells sink.old) (S.tells sink.new))
+        engine.old engine.new children.old.items children.new.items) }
+    ensures stopped { IfErr result (λ e. StopsFirst N.may_give (S.tells sink.old)
+        (S.tells sink.new) children.old.items engine.old e.step e.refusal) }
+    ensures within { YieldsNoMore (N.yields runner.new) (N.yields runner.old) }
+    ensures closed { N.alive runner.new ≡ N.alive runner.old - 1 }
+{
+    let Some(child) = children.pop_front() else {
+        unreachable!()
+    };
+    let step = child.step;
+    match settle(alloc, engine, sink, runner, child) {
+        Ok(()) => Ok(()),
+        Err(refusal) => Err(BuildError { step, refusal }),
+    }
+}

@@ -1,0 +1,126 @@
+ghost use Rattle.std.specs.Prelude.{◌≡◌, ◌+◌, ◌-◌, ◌<◌, Some, IsSome, IfErr, OnOk};
+ghost use Rattle.blob_digest.specs.Digest.{digest_of};
+ghost use Rattle.action_messages.specs.Action.{action_bytes};
+ghost use Rattle.wire.specs.Bytes.{IsBytes};
+ghost use Rattle.blob_source.specs.Sink.{HasRight};
+ghost use Rattle.runs.specs.Engine.{finished_in};
+ghost use Rattle.worker.specs.Stores.{IsKept, IsKeptBut};
+ghost use Rattle.worker.specs.Outcomes.{HasAllRight};
+ghost use Rattle.worker.specs.Values.{blobs_of};
+ghost use Rattle.worker.specs.Stopped.{IsStoreFault};
+ghost use Rattle.worker.specs.Stored.{HasTrees, HasResultOf};
+
+use crate::error::Refusal;
+use actions::{Outcome, Output};
+use blob_digest::Digest;
+use messages::Tree;
+use runs::{Engine, Job};
+use std::alloc::Allocator;
+use tree::BlobSink;
+
+/// Puts blobs.
+#[tactic(auto, using(crate::proofs::Keeping::kept_none, crate::proofs::Keeping::kept_trans, crate::proofs::Keeping::kept_blob))]
+pub(crate) fn put_all<A: Allocator + Copy, S: BlobSink<A>>(
+    alloc: A,
+    sink: &mut S,
+    blobs: &[Vec<u8, A>],
+) -> Result<(), Refusal<A>>
+    ensures kept { IsKept (S.tells sink.old) (S.tells sink.new) }
+    ensures held { OnOk result (HasAllRight (S.tells sink.new).blobs (blobs_of blobs.now)) }
+    ensures failed { IfErr result IsStoreFault }
+{
+    for blob in blobs {
+        sink.put_blob(alloc, blob)?;
+    }
+    Ok(())
+}
+
+/// Puts the action of a job and the Directories of its input.
+#[tactic(auto, using(crate::proofs::Keeping::kept_none, crate::proofs::Keeping::kept_trans, crate::proofs::Keeping::kept_blob))]
+pub(crate) fn put_input<A: Allocator + Copy, S: BlobSink<A>>(
+    alloc: A,
+    sink: &mut S,
+    job: &Job<A>,
+) -> Result<(), Refusal<A>>
+    ensures kept { IsKept (S.tells sink.old) (S.tells sink.new) }
+    ensures held { OnOk result
+        (HasRight (S.tells sink.new).blobs (digest_of (action_bytes job.now.action))) }
+    ensures input { OnOk result
+        (HasAllRight (S.tells sink.new).blobs (blobs_of job.now.input.directories.items)) }
+    ensures failed { IfErr result IsStoreFault }
+{
+    let action = job.action.encode(alloc)?;
+    sink.put_blob(alloc, &action)?;
+    put_all(alloc, sink, &job.input.directories)
+}
+
+/// Puts the Directories of a Tree.
+#[tactic(auto, using(crate::proofs::Keeping::kept_none, crate::proofs::Keeping::kept_trans, crate::proofs::Keeping::kept_blob))]
+fn put_directories<A: Allocator + Copy, S: BlobSink<A>>(
+    alloc: A,
+    sink: &mut S,
+    tree: &Tree<A>,
+) -> Result<(), Refusal<A>>
+    ensures kept { IsKept (S.tells sink.old) (S.tells sink.new) }
+    ensures failed { IfErr result IsStoreFault }
+{
+    sink.put_blob(alloc, &tree.root().encode(alloc)?)?;
+    for child in tree.children() {
+        sink.put_blob(alloc, &child.encode(alloc)?)?;
+    }
+    Ok(())
+}
+
+/// Puts the Trees among the outputs, and their Directories.
+#[tactic(auto, using(crate::proofs::Keeping::kept_none, crate::proofs::Keeping::kept_trans, crate::proofs::Keeping::kept_blob))]
+pub(crate) fn put_trees<A: Allocator + Copy, S: BlobSink<A>>(
+    alloc: A,
+    sink: &mut S,
+    outcome: &Outcome<A>,
+) -> Result<(), Refusal<A>>
+    ensures kept { IsKept (S.tells sink.old) (S.tells sink.new) }
+    ensures held { OnOk result (HasTrees (S.tells sink.new).blobs outcome.now) }
+    ensures failed { IfErr result IsStoreFault }
+{
+    for output in outcome.outputs() {
+        if let Output::Tree(tree) = &output.1 {
+            put_directories(alloc, sink, tree)?;
+            sink.put_blob(alloc, &tree.encode(alloc)?)?;
+        }
+    }
+    Ok(())
+}
+
+/// Puts the encoding of a result under the digest of an action.
+fn put_encoded<A: Allocator + Copy, S: BlobSink<A>>(
+    alloc: A,
+    sink: &mut S,
+    action: &Digest,
+    bytes: &[u8],
+) -> Result<(), Refusal<A>>
+    ensures kept { IsKeptBut action.now (S.tells sink.old) (S.tells sink.new) }
+    ensures held { OnOk result ((S.tells sink.new).results action.now ≡ Some bytes.now) }
+    // For the prover: what is in a slice are bytes.
+    ensures bytes { IsBytes bytes.now }
+    ensures failed { IfErr result IsStoreFault }
+{
+    sink.put_result(alloc, action, bytes)?;
+    Ok(())
+}
+
+/// Puts the result of a step that has finished under the digest of an action.
+pub(crate) fn put_outcome<A: Allocator + Copy, S: BlobSink<A>>(
+    alloc: A,
+    engine: &Engine<A>,
+    sink: &mut S,
+    step: usize,
+    action: &Digest,
+) -> Result<(), Refusal<A>>
+    requires { IsSome (finished_in step engine.now) }
+    ensures kept { IsKeptBut action.now (S.tells sink.old) (S.tells sink.new) }
+    ensures put { OnOk result (HasResultOf (S.tells sink.new) engine.now step action.now) }
+    ensures failed { IfErr result IsStoreFault }
+{
+    let result = engine.result(alloc, step)?.encode(alloc)?;
+    put_encoded(alloc, sink, action, &result)
+}

@@ -1,0 +1,71 @@
+ghost use Rattle.std.specs.Prelude.{◌≡◌, ◌↔◌, ◌+◌, ◌-◌, ◌<◌, Some, None, IsTrue, IfSome, IfErr};
+ghost use Rattle.std.specs.Prelude.{IfOk, OnOk, Contains};
+ghost use Rattle.worker.specs.Stores.{IsKept};
+ghost use Rattle.worker.specs.Outcomes.{IsHeld, CanBeTaken};
+ghost use Rattle.worker.specs.Stopped.{IsStoreFault};
+ghost use Rattle.std.specs.List.{AllByRecursion};
+ghost use Rattle.actions.specs.Outcome.{outputs_in, output_paths};
+
+use crate::error::Refusal;
+use actions::{ActionResult, Command, Outcome, Output, recorded};
+use messages::{MessageError, Path};
+use runs::Job;
+use std::alloc::Allocator;
+use tree::{BlobSink, TreeError};
+
+/// Whether an outcome is one that a build takes: exit code 0, and only listed outputs.
+fn fits<A: Allocator + Copy>(command: &Command<A>, outcome: &Outcome<A>) -> bool
+    ensures { IsTrue result ↔ CanBeTaken command.now outcome.now }
+{
+    if outcome.exit_code() != 0 {
+        return false;
+    }
+    lists_all(command, outcome.outputs())
+}
+
+/// Whether the command lists each of the outputs.
+fn lists_all<A: Allocator>(command: &Command<A>, outputs: &[(Path<A>, Output<A>)]) -> bool
+    ensures { IsTrue result ↔ AllByRecursion (Contains command.now.output_paths)
+        (output_paths (outputs_in outputs.now)) }
+{
+    for output in outputs {
+        if !command.lists(&output.0) {
+            return false;
+        }
+    }
+    true
+}
+
+/// The outcome that the store has for a job's action, if it is one that a build takes.
+pub(crate) fn recorded_outcome<A: Allocator + Copy, S: BlobSink<A>>(
+    alloc: A,
+    sink: &mut S,
+    job: &Job<A>,
+) -> Result<Option<Outcome<A>>, Refusal<A>>
+    ensures kept { IsKept (S.tells sink.old) (S.tells sink.new) }
+    ensures held { IfOk result (λ found.
+        IfSome found (IsHeld (S.tells sink.new) job.now.digest)) }
+    ensures fits { IfOk result (λ found. IfSome found (CanBeTaken job.now.command)) }
+    ensures unfailed { OnOk result ((S.tells sink.new).failures ≡ (S.tells sink.old).failures) }
+    ensures failed { IfErr result IsStoreFault }
+{
+    let Some(bytes) = sink.result(alloc, &job.digest)? else {
+        return Ok(None);
+    };
+    let made = match ActionResult::decode(alloc, &bytes) {
+        Ok(made) => made,
+        Err(MessageError::Memory) => return Err(Refusal::Memory),
+        Err(_) => return Ok(None),
+    };
+    match recorded(alloc, &made, sink) {
+        Ok(outcome) => {
+            if fits(&job.command, &outcome) {
+                return Ok(Some(outcome));
+            }
+            Ok(None)
+        }
+        Err(TreeError::Fetch) => Err(Refusal::Fetch),
+        Err(TreeError::Memory) => Err(Refusal::Memory),
+        Err(_) => Ok(None),
+    }
+}
