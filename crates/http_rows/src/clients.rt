@@ -1,0 +1,195 @@
+//! A client over a stream in memory.
+use crate::rows::Row;
+use crate::stream::Failing;
+use crate::text::show;
+use blob_digest::Digest;
+use blob_source::{BlobSink, BlobSource, FetchError};
+use http_core::{Host, Prefix};
+use remote::*;
+use std::alloc::{AllocError, Allocator, Global};
+
+/// `ask CALL, CALL ..`: what each call comes to over the stream, and over the next where that is
+/// opened anew. `ask closed: ..`: where the first isn't open.
+pub fn ask<A: Allocator + Copy>(
+    alloc: A,
+    row: &Row<'_>,
+    text: &mut String,
+) -> Result<(), AllocError> {
+    let mut remote = client(alloc, row, 0)?;
+    call_all(alloc, row, &mut remote, text)
+}
+
+/// `sent CALL, CALL ..`: what these calls send, over the next stream where that is opened.
+pub fn sent<A: Allocator + Copy>(
+    alloc: A,
+    row: &Row<'_>,
+    text: &mut String,
+) -> Result<(), AllocError> {
+    let mut remote = client(alloc, row, 0)?;
+    let mut told = String::new(row.heap);
+    let end = call_all(alloc, row, &mut remote, &mut told);
+    if end.is_ok() || row.next.is_empty() {
+        show(row.heap, remote.stream().inner.sent(), text)?;
+    }
+    end
+}
+
+/// `fail_each CALL, CALL ..`: tells where the calls don't end with the stream's fault if a call of
+/// the stream fails, each in turn. How many did.
+pub fn fail_each(row: &Row<'_>, text: &mut String) -> Result<u64, AllocError> {
+    let mut expected = String::new(row.heap);
+    ask(row.heap, row, &mut expected)?;
+    for number in 1..1000u64 {
+        let mut remote = client(row.heap, row, number)?;
+        let mut told = String::new(row.heap);
+        let faulty = call_till_fault(row.heap, row, &mut remote, &mut told)?;
+        let reached = remote.stream().left == 0;
+        if !reached && !faulty && told == expected {
+            return Ok(number - 1);
+        }
+        let fault = remote.last_fault();
+        let is_told = faulty && fault == Some(Fault::Io) && is_broken(row.heap, &mut remote);
+        if !(is_told && expected.as_str().starts_with(told.as_str())) {
+            let line = format!(in row.heap; "otherwise where call {number} fails\n{told}")?;
+            text.push_str(line.as_str())?;
+            return Ok(number);
+        }
+    }
+    Ok(1000)
+}
+
+/// The calls of a row, and whether its first stream is open.
+fn calls_of<'a>(row: &Row<'a>) -> (&'a str, bool) {
+    match row.words.strip_prefix("closed: ") {
+        Some(calls) => (calls, false),
+        None => (row.words, true),
+    }
+}
+
+/// A client of `h:80` with the prefix `/p`, of whose stream the call of this number fails.
+fn client<A: Allocator + Copy>(
+    alloc: A,
+    row: &Row<'_>,
+    left: u64,
+) -> Result<Remote<Failing, A>, AllocError> {
+    let stream = stream_of(row, left)?;
+    let host = Host::read(alloc, "h:80")?.ok_or(AllocError)?;
+    let prefix = Prefix::read(alloc, b"/p")?.ok_or(AllocError)?;
+    Remote::new(alloc, stream, &host, &prefix)
+}
+
+fn stream_of(row: &Row<'_>, left: u64) -> Result<Failing, AllocError> {
+    let next = memory_of(row.heap, row.next)?;
+    Ok(Failing {
+        inner: memory_of(row.heap, row.stream)?,
+        most: row.lengths[0],
+        left,
+        next: if row.next.is_empty() {
+            None
+        } else {
+            Some(next)
+        },
+        open: calls_of(row).1,
+    })
+}
+
+fn memory_of(heap: Global, bytes: &[u8]) -> Result<MemoryStream<Global>, AllocError> {
+    Ok(MemoryStream::new(heap, Vec::from_slice(heap, bytes)?))
+}
+
+/// Adds what each call comes to, up to a want of memory, after which nothing may come.
+fn call_all<A: Allocator + Copy>(
+    alloc: A,
+    row: &Row<'_>,
+    remote: &mut Remote<Failing, A>,
+    text: &mut String,
+) -> Result<(), AllocError> {
+    let (calls, _) = calls_of(row);
+    for call in calls.split(", ") {
+        match answer(alloc, remote, call) {
+            Ok(length) => tell_answer(row.heap, call, length, text)?,
+            Err(FetchError::Failed) => tell_fault(row.heap, call, remote.last_fault(), text)?,
+            Err(FetchError::Memory) => {
+                if remote.last_fault().is_some() || !is_broken(alloc, remote) {
+                    text.push_str("goes on after a want of memory\n")?;
+                }
+                return Err(AllocError);
+            }
+        }
+    }
+    Ok(())
+}
+
+fn tell_fault(
+    heap: Global,
+    call: &str,
+    fault: Option<Fault>,
+    text: &mut String,
+) -> Result<(), AllocError> {
+    let fault = fault.unwrap_or(Fault::Status(0));
+    text.push_str(format!(in heap; "{call}: {fault:?}\n")?.as_str())
+}
+
+/// Adds what each call comes to, up to a fault. Whether there was one.
+fn call_till_fault<A: Allocator + Copy>(
+    alloc: A,
+    row: &Row<'_>,
+    remote: &mut Remote<Failing, A>,
+    text: &mut String,
+) -> Result<bool, AllocError> {
+    let (calls, _) = calls_of(row);
+    for call in calls.split(", ") {
+        match answer(alloc, remote, call) {
+            Ok(length) => tell_answer(row.heap, call, length, text)?,
+            Err(_) => return Ok(true),
+        }
+    }
+    Ok(false)
+}
+
+/// Adds how many bytes a call answered.
+fn tell_answer(
+    heap: Global,
+    call: &str,
+    length: Option<usize>,
+    text: &mut String,
+) -> Result<(), AllocError> {
+    let line = match length {
+        Some(_) if call.starts_with("put") => format!(in heap; "{call}: done\n")?,
+        Some(length) => format!(in heap; "{call}: {length} bytes\n")?,
+        None => format!(in heap; "{call}: none\n")?,
+    };
+    text.push_str(line.as_str())
+}
+
+/// How many bytes a call answers: `fetch TEXT` and `put TEXT` are about the blob TEXT, `result TEXT`
+/// and `put_result TEXT` about the result of the action of its digest.
+fn answer<A: Allocator + Copy>(
+    alloc: A,
+    remote: &mut Remote<Failing, A>,
+    call: &str,
+) -> Result<Option<usize>, FetchError> {
+    let (verb, blob) = call.split_once(' ').unwrap_or((call, ""));
+    let blob = blob.as_bytes();
+    let digest = Digest::of(blob);
+    match verb {
+        "fetch" => length(remote.fetch(alloc, &digest)),
+        "result" => length(remote.result(alloc, &digest)),
+        "put" => remote.put_blob(alloc, blob).map(|_| Some(0)),
+        _ => remote
+            .put_result(alloc, &digest, b"result")
+            .map(|_| Some(0)),
+    }
+}
+
+fn length<A: Allocator>(
+    answer: Result<Option<Vec<u8, A>>, FetchError>,
+) -> Result<Option<usize>, FetchError> {
+    Ok(answer?.map(|bytes| bytes.len()))
+}
+
+/// Whether a further request is refused since an earlier one was.
+fn is_broken<A: Allocator + Copy>(alloc: A, remote: &mut Remote<Failing, A>) -> bool {
+    let refused = remote.fetch(alloc, &Digest::of(b"other"));
+    matches!(refused, Err(FetchError::Failed)) && remote.last_fault() == Some(Fault::Broken)
+}

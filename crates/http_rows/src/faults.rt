@@ -1,0 +1,73 @@
+//! A server whose reads or writes fail.
+use crate::faulty::{FaultyReader, FaultyWriter};
+use crate::rows::Row;
+use blob_digest::Digest;
+use cache_server::*;
+use http_core::Prefix;
+use std::alloc::{AllocError, Global};
+
+/// `fail_reads_and_writes`: how a run over the stream ends whose read of each number in turn fails,
+/// or whose write does, and what is answered till then.
+pub fn fail_reads_and_writes(row: &Row<'_>, text: &mut String) -> Result<(), AllocError> {
+    let mut whole = writer_to(row.heap, 0);
+    let end = run_faulty(row, 0, &mut whole)?;
+    let digest = Digest::of(&whole.taken).write_text(row.heap)?;
+    let most = whole.longest;
+    let line = format!(in row.heap; "{end}, {digest} in at most {most} bytes at once\n")?;
+    text.push_str(line.as_str())?;
+    fail_reads(row, text)?;
+    fail_writes(row, &whole.taken, text)
+}
+
+fn fail_reads(row: &Row<'_>, text: &mut String) -> Result<(), AllocError> {
+    for number in 1..7u64 {
+        let mut writer = writer_to(row.heap, 0);
+        let end = run_faulty(row, number, &mut writer)?;
+        let length = writer.taken.len();
+        let line = format!(in row.heap; "read {number}: {end} after {length} bytes\n")?;
+        text.push_str(line.as_str())?;
+    }
+    Ok(())
+}
+
+fn fail_writes(row: &Row<'_>, whole: &[u8], text: &mut String) -> Result<(), AllocError> {
+    for number in 1..8u64 {
+        let mut writer = writer_to(row.heap, number);
+        let end = run_faulty(row, 0, &mut writer)?;
+        let begins = whole.starts_with(&writer.taken);
+        let taken = if begins { "a beginning" } else { "other bytes" };
+        let line = format!(in row.heap; "write {number}: {end} after {taken}\n")?;
+        text.push_str(line.as_str())?;
+    }
+    Ok(())
+}
+
+/// How a run over the stream ends whose read of this number fails, and whose writes are the
+/// writer's.
+fn run_faulty(
+    row: &Row<'_>,
+    read: u64,
+    writer: &mut FaultyWriter,
+) -> Result<&'static str, AllocError> {
+    let mut cache: Cache<Global> = Cache::new(row.heap, row.state, 1_000_000, 0)?;
+    let prefix: Prefix<Global> = Prefix::read(row.heap, b"")?.ok_or(AllocError)?;
+    let mut reader = FaultyReader {
+        bytes: row.stream,
+        left: read,
+    };
+    match run(row.heap, &mut reader, writer, &mut cache, &prefix) {
+        Ok(()) => Ok("done"),
+        Err(ConnError::ReadFault) => Ok("read fault"),
+        Err(ConnError::WriteFault) => Ok("write fault"),
+        Err(ConnError::Memory) => Ok("want of memory"),
+    }
+}
+
+fn writer_to(heap: Global, left: u64) -> FaultyWriter {
+    FaultyWriter {
+        taken: Vec::new(heap),
+        most: 50_000,
+        left,
+        longest: 0,
+    }
+}

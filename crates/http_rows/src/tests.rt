@@ -1,3 +1,0 @@
-mod clients;
-mod servers;
-mod sessions;
