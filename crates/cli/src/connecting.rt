@@ -1,4 +1,5 @@
 ghost use Rattle.std.specs.Prelude.{◌≡◌, [], IfErr, IfOk, IsTrue, codes};
+ghost use Rattle.std.specs.Io.{ReadsAtMost, WritesAtMost};
 ghost use Rattle.std.specs.Io.Buffered.{reader_buffer, reader_inner};
 ghost use Rattle.blob_digest.specs.Digest.{digest_of};
 ghost use Rattle.blob_source.specs.Sink.{HasRight};
@@ -158,6 +159,36 @@ fn is_quiet(reader: &BufReader<TcpStream>) -> bool
     reader.buffer().is_empty() && reader.get_ref().is_open()
 }
 
+/// How often a call of the system is made again that a signal broke off.
+const BROKEN_OFF: u32 = 1000;
+
+/// Reads, and reads again where a signal broke that off: nothing came of it then. (A process that
+/// was stopped and goes on sees that, since the socket has a limit on silence.)
+fn read_again<T: Read>(reader: &mut T, buf: &mut [u8]) -> io::Result<usize>
+    ensures { ReadsAtMost result buf.new }
+{
+    for _ in 0..BROKEN_OFF {
+        match reader.read(buf) {
+            Err(fault) if fault.kind() == ErrorKind::Interrupted => {}
+            done => return done,
+        }
+    }
+    Err(io::Error::from(ErrorKind::Interrupted))
+}
+
+/// Writes, and writes again where a signal broke that off.
+fn write_again<T: Write>(writer: &mut T, buf: &[u8]) -> io::Result<usize>
+    ensures { WritesAtMost result buf.now }
+{
+    for _ in 0..BROKEN_OFF {
+        match writer.write(buf) {
+            Err(fault) if fault.kind() == ErrorKind::Interrupted => {}
+            done => return done,
+        }
+    }
+    Err(io::Error::from(ErrorKind::Interrupted))
+}
+
 /// A connection to a server, which is opened anew where the server has closed it. It reads ahead,
 /// so that a reply that is taken in small pieces costs few calls of the system.
 #[derive(Drop)]
@@ -173,12 +204,12 @@ impl<R: Net<Stream = TcpStream>> Stream for Connection<'_, R> {
     ghost flow = { λ _. record { coming = None; sent = None; is_open = None; openings = None } };
 
     fn receive(&mut self, buf: &mut [u8]) -> io::Result<usize> {
-        self.reader.read(buf)
+        read_again(&mut self.reader, buf)
     }
 
     fn send(&mut self, buf: &[u8]) -> io::Result<usize> {
         let mut stream = self.reader.get_ref();
-        stream.write(buf)
+        write_again(&mut stream, buf)
     }
 
     fn is_open(&self) -> bool {
