@@ -33,11 +33,7 @@ impl<'a, T: Write + Drop> BuildProgress<'a, T> {
 }
 
 /// The line: steps finished of all, how many the store had, how many run, and which runs longest.
-fn line_of(
-    alloc: Global,
-    plan: &Plan<Global>,
-    progress: Progress,
-) -> Result<String, AllocError> {
+fn line_of(alloc: Global, plan: &Plan<Global>, progress: Progress) -> Result<String, AllocError> {
     let Progress {
         steps,
         finished,
@@ -48,8 +44,9 @@ fn line_of(
     let counts = format!(in alloc; "build {finished} of {steps} steps, {taken} from the store")?;
     match longest.and_then(|number| plan.steps().get(number)) {
         None => Ok(counts),
-        Some(step) => format!(
-            in alloc; "{counts}, {running} running, longest {}", step.name.as_str()
+        Some(step) => format!(in alloc;
+            "{counts}, {running} running, longest {}",
+            step.name.as_str()
         ),
     }
 }

@@ -289,12 +289,22 @@ fn try_row(global: Global, row: Row, number: u64) -> Result<Tried, Fail> {
     let mut runner = Counting::new(row.came);
     heap.refuse(number);
     let mut watcher = Noting::new();
-    let first = told(global, &heap, &plan, &mut store, &mut runner, &mut watcher, jobs)?;
+    let first = told(
+        global,
+        &heap,
+        &plan,
+        &mut store,
+        &mut runner,
+        &mut watcher,
+        jobs,
+    )?;
     let is_refused = number > 0 && heap.has_refused();
     heap.refuse(0);
     let mut other = Counting::new(row.came);
     let mut later = Noting::new();
-    let second = told(global, &heap, &plan, &mut store, &mut other, &mut later, jobs)?;
+    let second = told(
+        global, &heap, &plan, &mut store, &mut other, &mut later, jobs,
+    )?;
     let (finished, taken, _) = later.counts();
     Ok(Tried {
         first,
