@@ -1,15 +1,14 @@
 #!/usr/bin/python3
-"""Prints the tables of crates/message_rows/src/tests/build_steps: messages of these kinds as Python's protobuf encodes them.
+"""Prints files of rows of crates/message_rows/data: messages of these kinds as Python's protobuf encodes them.
 
 By hand, with Debian's protobuf-compiler and python3-protobuf (tried with 3.21.12):
 
     protoc --python_out=/tmp action_messages.proto
-    PYTHONPATH=/tmp ./action_vectors.py Platform Command Frame Action > ../crates/message_rows/src/tests/build_steps/steps.rt
-    PYTHONPATH=/tmp ./action_vectors.py Result > ../crates/message_rows/src/tests/build_steps/results.rt
-    cd ../crates/message_rows && rt fmt
+    PYTHONPATH=/tmp ./action_vectors.py Platform Command Frame Action > ../crates/message_rows/data/action_messages
+    PYTHONPATH=/tmp ./action_vectors.py Result > ../crates/message_rows/data/action_results
 
 The bytes are protobuf's. Which of them are refused, and how, is read from docs/FORMATS.md. A row
-that is accepted is told by its length; one of a result, which is read tolerantly, by what protobuf
+that is accepted comes to the same bytes; one of a result, which is read tolerantly, to what protobuf
 itself reads and writes again, without the fields that are skipped and with each list in order.
 """
 
@@ -42,27 +41,27 @@ TREE = b"\x0a\x4b\x0a\x49\x0a\x01a\x12\x44\x0a\x40" + NINE.encode() + b"\x10\x09
 tree = Digest(hash=hashlib.sha256(TREE).hexdigest(), size_bytes=len(TREE))
 upper = Digest(hash=NINE.upper(), size_bytes=9)
 
-UNSORTED = "MessageError::Unsorted"
-SAME = "MessageError::SameName"
-BAD_PATH = "MessageError::BadPath"
-DEFAULT = "MessageError::Wire(CanonError::DefaultWritten)"
-RANGE = "MessageError::Wire(CanonError::OutOfRange)"
-ORDER = "MessageError::Wire(CanonError::OutOfOrder)"
-REPEATED = "MessageError::Wire(CanonError::Repeated)"
-UTF8 = "MessageError::Wire(CanonError::BadUtf8)"
-BAD_HEX = "MessageError::BadDigest(DigestError::BadHex)"
+UNSORTED = "Unsorted"
+SAME = "SameName"
+BAD_PATH = "BadPath"
+DEFAULT = "Wire(DefaultWritten)"
+RANGE = "Wire(OutOfRange)"
+ORDER = "Wire(OutOfOrder)"
+REPEATED = "Wire(Repeated)"
+UTF8 = "Wire(BadUtf8)"
+BAD_HEX = "BadDigest(BadHex)"
 
 
 def unsupported(number):
-    return f"MessageError::Unsupported({number})"
+    return f"Unsupported({number})"
 
 
 def missing(number):
-    return f"MessageError::MissingField({number})"
+    return f"MissingField({number})"
 
 
 def bad_text(number):
-    return f"MessageError::BadText({number})"
+    return f"BadText({number})"
 
 
 def platform(*pairs):
@@ -337,26 +336,14 @@ ROWS = [
 ]
 
 
-def literal(piece):
-    text = "".join(chr(b) if 32 <= b < 127 and b not in b'"\\' else f"\\x{b:02x}" for b in piece)
-    return f'b"{text}"'
-
-
-def pieces(data):
-    """The bytes, cut at the hashes."""
-    found = []
-    while data:
-        at, name = min(
-            ((data.find(h.encode()), n) for h, n in HASHES.items() if h.encode() in data),
-            default=(len(data), None),
-        )
-        if at:
-            found.append(literal(data[:at]))
-        if name:
-            found.append(name)
-            at += 64
-        data = data[at:]
-    return ", ".join(found)
+def spelled(data):
+    """The bytes as a field of a row."""
+    text = "".join(chr(b) if 32 <= b < 127 and b != ord("\\") else f"\\x{b:02x}" for b in data)
+    if text.startswith(" "):
+        text = "\\x20" + text[1:]
+    for value, name in HASHES.items():
+        text = text.replace(value, f"{{{name}}}")
+    return text
 
 
 def again(data):
@@ -372,31 +359,21 @@ def again(data):
 
 def row(kind, message, refusal):
     data = message if isinstance(message, bytes) else message.SerializeToString(deterministic=True)
-    if kind == "Result":
-        answer = f"Err({refusal})" if refusal else f"Ok(&[{pieces(again(data))}])"
-        return f"    (&[{pieces(data)}], {answer}),"
-    answer = f"Err({refusal})" if refusal else f"Ok({len(data)})"
-    return f"    (Kind::{kind}, &[{pieces(data)}], {answer}),"
+    answer = refusal
+    if not refusal:
+        same = kind != "Result" or again(data) == data
+        answer = "same" if same else spelled(again(data))
+    return f"{kind} | {spelled(data)} | {answer}"
 
 
 kinds = sys.argv[1:]
-rows = [row(*r) for kind in kinds for r in ROWS if r[0] == kind]
-text = "\n".join(rows)
-names = [name for name in HASHES.values() if f" {name}" in text or f"[{name}" in text]
-table, row_type = ("RESULTS", "Reading") if kinds == ["Result"] else ("STEPS", "Row")
-types = [row_type] if row_type == "Reading" else [row_type, "Kind"]
-print(f"use super::{{{', '.join(sorted([*names, *types]))}}};")
-if "DigestError" in text:
-    print("use blob_digest::DigestError;")
-if "CanonError" in text:
-    print("use canonical::CanonError;")
-print("use messages::MessageError;")
+subject = "Results" if kinds == ["Result"] else "Messages of steps"
+print(f"# {subject} as protobuf encodes them, and whether they are written again with the same")
+print("# bytes; else with which, or why they are refused. tools/action_vectors.py prints this file.")
+rows = {kind: [row(*found) for found in ROWS if found[0] == kind] for kind in kinds}
+text = "\n\n".join("\n".join(rows[kind]) for kind in kinds)
+for value, name in HASHES.items():
+    if f"{{{name}}}" in text:
+        print(f"{{{name}}} := {value}")
 print()
-if row_type == "Row":
-    print("// The pieces of messages as protobuf encodes them, and their length or the refusal.")
-else:
-    print("// The pieces of results, and those of what protobuf reads and writes again, or the refusal.")
-print("// tools/action_vectors.py prints this file.")
-print(f"\npub static {table}: [{row_type}; {len(rows)}] = [")
 print(text)
-print("];")

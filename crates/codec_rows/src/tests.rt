@@ -1,4 +1,0 @@
-mod digests;
-mod fields;
-mod shapes;
-mod sources;

@@ -1,0 +1,138 @@
+//! Rows of bounded stores of numbered entries, of which each group has one.
+use crate::answers::{Answer, Broken, compared, is, limit_in, number, number_in, said};
+use eviction::{Bounded, BoundedError};
+use refusing::Refusing;
+use row_files::Row;
+use std::alloc::{AllocError, Allocator, Global};
+use std::hash::RandomState;
+
+/// The first row of a group has the limit and what each entry costs beside its bytes.
+pub fn run<A: Allocator + Copy>(
+    global: Global,
+    alloc: A,
+    state: RandomState,
+    group: &[Row],
+) -> Result<(), Broken> {
+    let Some((first, rows)) = group.split_first() else {
+        return Ok(());
+    };
+    let [_, limit, cost] = first.fields.as_slice() else {
+        return Err(Broken::NoRow);
+    };
+    let mut store: Bounded<u64, A> = Bounded::new(
+        alloc,
+        state,
+        limit_in(limit)?,
+        number_in(cost)?,
+    )?;
+    for row in rows {
+        compared(global, row, answer(global, alloc, &mut store, &row.fields))?;
+    }
+    Ok(())
+}
+
+fn answer<A: Allocator + Copy>(
+    global: Global,
+    alloc: A,
+    store: &mut Bounded<u64, A>,
+    fields: &[Vec<u8>],
+) -> Answer {
+    match fields {
+        [kind, key, _] => number(global, asked(store, kind, number_in(key)?)?),
+        [kind, first, second, _] => {
+            put(alloc, store, kind, number_in(first)?, number_in(second)?)?;
+            number(global, store.held_bytes())
+        }
+        _ => Err(Broken::NoRow),
+    }
+}
+
+/// So many bytes.
+fn bytes<A: Allocator + Copy>(alloc: A, count: u64) -> Result<Vec<u8, A>, AllocError> {
+    let mut bytes = Vec::new(alloc);
+    for _ in 0..count {
+        bytes.push(7)?;
+    }
+    Ok(bytes)
+}
+
+/// Puts an entry of so many bytes; or so many entries of one byte, numbered from the first.
+fn put<A: Allocator + Copy>(
+    alloc: A,
+    store: &mut Bounded<u64, A>,
+    kind: &[u8],
+    first: u64,
+    second: u64,
+) -> Result<(), Broken> {
+    match kind {
+        kind if is(kind, "put") => Ok(store.put(first, bytes(alloc, second)?)?),
+        kind if is(kind, "put each") => {
+            for key in first..second {
+                store.put(key, bytes(alloc, 1)?)?;
+            }
+            Ok(())
+        }
+        _ => Err(Broken::NoRow),
+    }
+}
+
+/// Pins one key, unless its count is at its greatest.
+fn pin<A: Allocator + Copy>(store: &mut Bounded<u64, A>, key: u64) -> Result<(), BoundedError> {
+    if store.pins(&key) == u64::MAX {
+        return Err(BoundedError::Full);
+    }
+    store.pin_all(&[key])
+}
+
+/// Unpins one key.
+fn unpin<A: Allocator + Copy>(store: &mut Bounded<u64, A>, key: u64) -> Result<(), BoundedError> {
+    store.unpin(&[key])
+}
+
+/// How many bytes are found: none where nothing is.
+fn length(found: Option<&[u8]>) -> u64 {
+    match found {
+        Some(bytes) => bytes.len() as u64,
+        None => 0,
+    }
+}
+
+/// What the store answers, or how many bytes are held afterwards.
+fn asked<A: Allocator + Copy>(
+    store: &mut Bounded<u64, A>,
+    kind: &[u8],
+    key: u64,
+) -> Result<u64, Broken> {
+    match kind {
+        kind if is(kind, "pin") => pin(store, key)?,
+        kind if is(kind, "unpin") => unpin(store, key)?,
+        kind if is(kind, "get") => return Ok(length(store.get(&key))),
+        kind if is(kind, "peek") => return Ok(length(store.peek(&key))),
+        kind if is(kind, "touch") => return Ok(store.touch(&key) as u64),
+        kind if is(kind, "contains") => return Ok(store.contains(&key) as u64),
+        kind if is(kind, "pins") => return Ok(store.pins(&key)),
+        _ => return Err(Broken::NoRow),
+    }
+    Ok(store.held_bytes())
+}
+
+/// Whether an entry is found, pinned and unpinned without memory.
+pub fn is_spare(global: Global, state: RandomState) -> Result<bool, Broken> {
+    let heap = Refusing::new(global, 0);
+    let mut store: Bounded<u64, &Refusing<Global>> = Bounded::new(&heap, state, 30, 0)?;
+    store.put(5, bytes(&heap, 5)?)?;
+    heap.refuse(1);
+    for kind in [
+        b"touch".as_slice(),
+        b"contains",
+        b"get",
+        b"peek",
+        b"pin",
+        b"unpin",
+    ] {
+        if asked(&mut store, kind, 5)? == 0 {
+            return Ok(false);
+        }
+    }
+    Ok(!heap.has_refused())
+}

@@ -1,0 +1,39 @@
+//! Rows of plans with as many lines and steps as they may have, and what is added to such a plan.
+use crate::answers::{Answer, Broken, is, number_in};
+use crate::plans::plan;
+use std::alloc::{AllocError, Global};
+
+/// The digest of no bytes.
+const FRAME: &str = "e3b0c44298fc1c149afbf4c8996fb92427ae41e4649b934ca495991b7852b855/0";
+
+/// A plan without steps that begins with so many lines.
+fn plan_of_lines(global: Global, count: u64) -> Result<String, AllocError> {
+    let mut text = String::from_str(global, "buildplan 1\nroot\n")?;
+    for number in 0..count {
+        writeln!(text, "in {number} src y")?;
+    }
+    Ok(text)
+}
+
+/// A plan that begins with so many steps.
+fn plan_of_steps(global: Global, count: u64) -> Result<String, AllocError> {
+    let mut text = String::from_str(global, "buildplan 1\n")?;
+    for number in 0..count {
+        writeln!(text, "step s{number} {FRAME}")?;
+    }
+    Ok(text)
+}
+
+pub fn answer(global: Global, fields: &[Vec<u8>]) -> Answer {
+    let (text, more) = match fields {
+        [kind, count, more, _] => match kind {
+            kind if is(kind, "lines") => (plan_of_lines(global, number_in(count)?)?, more),
+            kind if is(kind, "steps") => (plan_of_steps(global, number_in(count)?)?, more),
+            _ => return Err(Broken::NoRow),
+        },
+        _ => return Err(Broken::NoRow),
+    };
+    let mut text = text.into_bytes();
+    text.extend_from_slice(more)?;
+    plan(global, global, &text)
+}

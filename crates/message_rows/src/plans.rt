@@ -1,0 +1,158 @@
+//! Rows of plans and records, as texts.
+use crate::answers::{Answer, Broken, digest_text, is, said, yes_or_no};
+use blob_digest::Digest;
+use plan::{Line, Origin, Plan, ReadError, Record, Step};
+use std::alloc::{AllocError, Allocator, Global};
+
+pub fn answer<A: Allocator + Copy>(global: Global, alloc: A, fields: &[Vec<u8>]) -> Answer {
+    match fields {
+        [kind, text, _] if is(kind, "plan") => plan(global, alloc, text),
+        [kind, text, _] if is(kind, "lines") => lines(global, alloc, text),
+        [kind, text, _] if is(kind, "fault") => fault(global, alloc, text),
+        [kind, text, record, _] if is(kind, "record") => self::record(global, alloc, text, record),
+        [kind, text, record, _] if is(kind, "digests") => digests(global, alloc, text, record),
+        [kind, text, first, second, _] if is(kind, "fits") => fits(
+            global, alloc, text, first, second,
+        ),
+        [kind, text, first, second, _] if is(kind, "noted") => noted(
+            global, alloc, text, first, second,
+        ),
+        _ => Err(Broken::NoRow),
+    }
+}
+
+/// Whether the plan that is read is written so.
+pub fn plan<A: Allocator + Copy>(global: Global, alloc: A, text: &[u8]) -> Answer {
+    let written = Plan::read(alloc, text)?.write(alloc)?;
+    said(
+        global,
+        if written.as_slice() == text {
+            "same"
+        } else {
+            "other"
+        },
+    )
+}
+
+/// How the fault of the text is told.
+fn fault<A: Allocator + Copy>(global: Global, alloc: A, text: &[u8]) -> Answer {
+    match Plan::read(alloc, text) {
+        Ok(_) => said(global, "none"),
+        Err(ReadError::Faulty(error)) => Ok(error.to_string(global)?.into_bytes()),
+        Err(ReadError::Memory) => Err(Broken::Memory),
+    }
+}
+
+/// Adds a line: its target, and the number of the origin's step or `src`, and the origin's path.
+fn push_line<A: Allocator>(told: &mut String, line: &Line<A>) -> Result<(), AllocError> {
+    let target = line.target.as_str();
+    match &line.origin {
+        Origin::Source(Some(path)) => {
+            let path = path.as_str();
+            write!(told, " {target} from src {path};")
+        }
+        Origin::Source(None) => write!(told, " {target} from src;"),
+        Origin::Output(step, path) => {
+            let path = path.as_str();
+            write!(told, " {target} from {step} {path};")
+        }
+    }
+}
+
+fn push_lines<A: Allocator>(told: &mut String, lines: &[Line<A>]) -> Result<(), AllocError> {
+    for line in lines {
+        push_line(told, line)?;
+    }
+    Ok(())
+}
+
+fn steps_told<A: Allocator>(global: Global, steps: &[Step<A>]) -> Result<String, AllocError> {
+    let mut told = String::new(global);
+    for step in steps {
+        push_step(global, &mut told, step)?;
+    }
+    Ok(told)
+}
+
+fn push_step<A: Allocator>(
+    global: Global,
+    told: &mut String,
+    step: &Step<A>,
+) -> Result<(), AllocError> {
+    let name = step.name.as_str();
+    let frame = step.frame.write_text(global)?;
+    write!(told, "{name} {frame}:")?;
+    push_lines(told, &step.lines)?;
+    told.push('\n')
+}
+
+/// The steps and the root of the plan, each with its lines.
+fn lines<A: Allocator + Copy>(global: Global, alloc: A, text: &[u8]) -> Answer {
+    let plan = Plan::read(alloc, text)?;
+    let mut told = steps_told(global, plan.steps())?;
+    told.push_str("root:")?;
+    push_lines(&mut told, plan.root())?;
+    Ok(told.into_bytes())
+}
+
+/// Whether the record of the plan that is read is written so.
+fn record<A: Allocator + Copy>(global: Global, alloc: A, plan: &[u8], text: &[u8]) -> Answer {
+    let plan = Plan::read(alloc, plan)?;
+    let written = Record::read(alloc, text, &plan)?.write(alloc)?;
+    said(
+        global,
+        if written.as_slice() == text {
+            "same"
+        } else {
+            "other"
+        },
+    )
+}
+
+/// The digests of the record, each with a comma behind it.
+fn digests<A: Allocator + Copy>(global: Global, alloc: A, plan: &[u8], text: &[u8]) -> Answer {
+    let plan = Plan::read(alloc, plan)?;
+    let record = Record::read(alloc, text, &plan)?;
+    digests_told(global, record.digests())
+}
+
+fn digests_told(global: Global, digests: &[Digest]) -> Answer {
+    let mut told = Vec::new(global);
+    for digest in digests {
+        told.extend_from_slice(&digest_text(global, digest)?)?;
+        told.push(b',')?;
+    }
+    Ok(told)
+}
+
+/// Whether the record of a plan fits another.
+fn fits<A: Allocator + Copy>(
+    global: Global,
+    alloc: A,
+    plan: &[u8],
+    text: &[u8],
+    other: &[u8],
+) -> Answer {
+    let plan = Plan::read(alloc, plan)?;
+    let record = Record::read(alloc, text, &plan)?;
+    yes_or_no(global, record.fits(&Plan::read(alloc, other)?))
+}
+
+/// The record with these digests of the two steps of a plan.
+fn noted<A: Allocator + Copy>(
+    global: Global,
+    alloc: A,
+    plan: &[u8],
+    first: &[u8],
+    second: &[u8],
+) -> Answer {
+    let plan = Plan::read(alloc, plan)?;
+    let mut digests = Vec::new(alloc);
+    digests.push(Digest::read_text(first)?)?;
+    digests.push(Digest::read_text(second)?)?;
+    if plan.steps().len() != digests.len() {
+        return Err(Broken::NoRow);
+    }
+    let written = Record::new(alloc, &plan, digests)?.write(alloc)?;
+    Ok(Vec::from_slice(global, &written)?)
+}

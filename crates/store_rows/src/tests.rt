@@ -1,3 +1,0 @@
-mod blobs;
-mod entries;
-mod results;
