@@ -1,0 +1,145 @@
+//! What an engine answers to calls.
+use crate::answers::{Answer, Broken, is, number_in, said};
+use crate::engines::fault_told;
+use actions::Outcome;
+use blob_digest::Digest;
+use runs::{Engine, RunsError};
+use std::alloc::{Allocator, Global};
+use tree::{Memo, MemorySource};
+
+/// What the engine answers to a call, in which `outcome` is what a job came to.
+pub fn answered<A: Allocator + Copy>(
+    global: Global,
+    alloc: A,
+    engine: &mut Engine<A>,
+    source: &mut MemorySource<A>,
+    fields: &[Vec<u8>],
+    outcome: Outcome<A>,
+) -> Answer {
+    match fields {
+        [kind, _] if is(kind, "record") => record(global, alloc, engine),
+        [kind, _] if is(kind, "root") => root(global, alloc, engine, source),
+        [kind, number, _] if is(kind, "lose") => ended(global, engine.lose(number_in(number)?)),
+        [kind, number, _] if is(kind, "start") => {
+            start(global, alloc, engine, source, step_in(number)?)
+        }
+        [kind, number, _] => asked(global, alloc, engine, kind, step_in(number)?),
+        [kind, number, ..] if is(kind, "finish") => {
+            ended(global, engine.finish(alloc, number_in(number)?, outcome))
+        }
+        _ => Err(Broken::NoRow),
+    }
+}
+
+fn step_in(field: &[u8]) -> Result<usize, Broken> {
+    match usize::try_from(number_in(field)?) {
+        Ok(step) => Ok(step),
+        Err(_) => Err(Broken::NoRow),
+    }
+}
+
+/// A refusal as the rows spell it.
+fn refusal_told<A: Allocator>(global: Global, error: RunsError<A>) -> Answer {
+    Ok(match error {
+        RunsError::NotReady => String::from_str(global, "101")?,
+        RunsError::NoSuchJob => String::from_str(global, "102")?,
+        RunsError::ExitCode(code) => format!(in global; "103 {code}")?,
+        RunsError::Disagrees => String::from_str(global, "104")?,
+        RunsError::Unlisted(path) => {
+            let path = path.as_str();
+            format!(in global; "105 {path}")?
+        }
+        RunsError::Origin(path) => {
+            let path = path.as_str();
+            format!(in global; "106 {path}")?
+        }
+        RunsError::Source(error) => {
+            let fault = fault_told(global, error)?;
+            format!(in global; "107 {fault}")?
+        }
+        RunsError::Full => String::from_str(global, "109")?,
+        RunsError::Memory => return Err(Broken::Memory),
+    })
+}
+
+fn ended<A: Allocator>(global: Global, ended: Result<(), RunsError<A>>) -> Answer {
+    match ended {
+        Err(error) => refusal_told(global, error),
+        Ok(()) => said(global, "done"),
+    }
+}
+
+pub fn start<A: Allocator + Copy>(
+    global: Global,
+    alloc: A,
+    engine: &mut Engine<A>,
+    source: &mut MemorySource<A>,
+    step: usize,
+) -> Answer {
+    if step >= engine.plan().steps().len() {
+        return Err(Broken::NoRow);
+    }
+    let mut memo = Memo::new(alloc);
+    match engine.start(alloc, step, &mut memo, source) {
+        Err(error) => refusal_told(global, error),
+        Ok(job) => {
+            let id = job.id;
+            let digest = job.digest.write_text(global)?;
+            Ok(format!(in global; "job {id} {digest}")?)
+        }
+    }
+}
+
+fn root<A: Allocator + Copy>(
+    global: Global,
+    alloc: A,
+    engine: &Engine<A>,
+    source: &mut MemorySource<A>,
+) -> Answer {
+    let mut memo = Memo::new(alloc);
+    match engine.root(alloc, &mut memo, source) {
+        Err(error) => refusal_told(global, error),
+        Ok(root) => {
+            let digest = root.write_text(global)?;
+            Ok(format!(in global; "root {digest}")?)
+        }
+    }
+}
+
+/// The text of the record, if there is one.
+fn record<A: Allocator + Copy>(global: Global, alloc: A, engine: &Engine<A>) -> Answer {
+    match engine.record(alloc)? {
+        None => said(global, "none"),
+        Some(noted) => said(global, str::from_utf8(&noted.write(alloc)?)?),
+    }
+}
+
+/// What the engine answers to a question about a step.
+pub fn asked<A: Allocator + Copy>(
+    global: Global,
+    alloc: A,
+    engine: &Engine<A>,
+    kind: &[u8],
+    step: usize,
+) -> Answer {
+    if step >= engine.plan().steps().len() {
+        return Err(Broken::NoRow);
+    }
+    match kind {
+        kind if is(kind, "ready") => said(global, if engine.ready(step) { "yes" } else { "no" }),
+        kind if is(kind, "finished") => said(
+            global,
+            if engine.finished(step) { "yes" } else { "no" },
+        ),
+        kind if is(kind, "running") => {
+            let count = engine.running(step);
+            Ok(format!(in global; "{count}")?)
+        }
+        kind if is(kind, "result") && engine.finished(step) => {
+            let bytes = engine.result(alloc, step)?.encode(alloc)?;
+            let digest = Digest::of(&bytes).write_text(global)?;
+            Ok(format!(in global; "result {digest}")?)
+        }
+        _ => Err(Broken::NoRow),
+    }
+}

@@ -1,0 +1,81 @@
+//! Rows of sources of 64 levels, in which each directory stands twice, by the number of pairs of
+//! lines: the first of each goes down by `a`, the second by `b`.
+use crate::answers::{Answer, Broken, number_in};
+use crate::verdicts::{judged, verdict_told};
+use blob_digest::Digest;
+use messages::{Directory, DirectoryNode, Name};
+use std::alloc::{Allocator, Global};
+use tree::MemorySource;
+
+/// How many levels stand above the one with the file.
+const LEVELS: usize = 63;
+
+/// A Directory with the directories `a` and `b`, both the one with this digest.
+fn level<A: Allocator + Copy>(alloc: A, below: Digest) -> Result<Vec<u8, A>, Broken> {
+    let mut directories = Vec::new(alloc);
+    for name in [b"a", b"b"] {
+        directories.push(DirectoryNode {
+            name: Name::new(alloc, name)?,
+            digest: below,
+        })?;
+    }
+    let directory = Directory::new(Vec::new(alloc), directories, Vec::new(alloc))?;
+    Ok(directory.encode(alloc)?)
+}
+
+/// A plan of so many pairs of lines: the first of each goes down by `a`, the second by `b`.
+fn plan_of<A: Allocator + Copy>(alloc: A, pairs: u8) -> Result<Vec<u8, A>, Broken> {
+    let mut text = Vec::from_slice(alloc, b"buildplan 1\nroot\n")?;
+    for (target, name) in [(b"t", b"a/"), (b"u", b"b/")] {
+        for pair in 0..pairs {
+            text.extend_from_slice(b"in ")?;
+            text.extend_from_slice(target)?;
+            if pair > 0 {
+                text.push(b'0' + pair / 10)?;
+                text.push(b'0' + pair % 10)?;
+            }
+            text.extend_from_slice(b" src ")?;
+            for _ in 0..LEVELS {
+                text.extend_from_slice(name)?;
+            }
+            text.extend_from_slice(b"a\n")?;
+        }
+    }
+    Ok(text)
+}
+
+/// Holds the levels above the directory of these bytes, and answers the digest of the highest.
+fn hold_levels<A: Allocator + Copy>(
+    alloc: A,
+    source: &mut MemorySource<A>,
+    lowest: &[u8],
+) -> Result<Digest, Broken> {
+    let mut sources = Digest::of(lowest);
+    source.hold_blob(sources, Vec::from_slice(alloc, lowest)?)?;
+    for _ in 0..LEVELS {
+        let bytes = level(alloc, sources)?;
+        sources = Digest::of(&bytes);
+        source.hold_blob(sources, bytes)?;
+    }
+    Ok(sources)
+}
+
+/// The verdict, and how often the source was called, by the lowest Directory, the number of pairs
+/// and the claim.
+pub fn answer<A: Allocator + Copy>(global: Global, alloc: A, fields: &[Vec<u8>]) -> Answer {
+    let [lowest, pairs, claim, _] = fields else {
+        return Err(Broken::NoRow);
+    };
+    let Ok(pairs) = u8::try_from(number_in(pairs)?) else {
+        return Err(Broken::NoRow);
+    };
+    let mut source = MemorySource::new(alloc);
+    let sources = hold_levels(alloc, &mut source, lowest)?;
+    let plan = plan_of(alloc, pairs)?;
+    let claim = Digest::read_text(claim)?;
+    let texts = (plan.as_slice(), b"buildrecord 1\n".as_slice());
+    let verdict = judged(alloc, texts, &sources, &claim, &mut source)?;
+    let told = verdict_told(global, &verdict)?;
+    let calls = source.calls();
+    Ok(format!(in global; "{told} by {calls}")?)
+}

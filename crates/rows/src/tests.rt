@@ -1,3 +1,0 @@
-mod builds;
-mod reports;
-mod verdicts;
