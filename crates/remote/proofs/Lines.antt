@@ -7,7 +7,7 @@ use Rattle.blob_source.specs.declared.source.FetchError.TheVariants.{Failed, Mem
 use Rattle.remote.specs.declared.fault.Fault.{Fault}
 use Rattle.remote.specs.declared.fault.Fault.TheVariants.{Io, Status}
 use Rattle.remote.specs.Line.{ConnectionValue, Request, IsSameServer, IsUncounted, IsNextStream, IsReplied, IsConnectionFault, IsStreamFault, ExplainsMemory, RefusesRequest, is_answer, text_of}
-use Rattle.remote.specs.Flow.{Flow, SendsFront, SendsPart}
+use Rattle.remote.specs.Flow.{Flow, SendsFront, SendsPart, StaysClosed}
 use Rattle.remote.proofs.Flows.{fronts_all, fronts_from, fronts_then}
 use Rattle.remote.specs.Reply.{ReceivedReply, IsReply, RoundTrip, RoundTripForSome, RoundTripInPart}
 use Rattle.remote.specs.Steps.{Fails, Starves}
@@ -43,7 +43,7 @@ pub refuses_io : (old mid new : ConnectionValue) (request : Request) (e : FetchE
 refuses_io old mid new request e open_ none server sent is h = refuses_fault old mid new request Io e open_ none server sent (open_, by is) h
   where
     by : IsStreamFault old mid request → IsStreamFault old new request
-    by (inl (closed, same)) = inl (closed, h.flow ∙ same)
+    by (inl (closed, same)) = inl (closed, subst (StaysClosed old.flow) (sym h.flow) same)
     by (inr p) = inr (record { stream = p.stream; next = p.next; part = subst (λ f. SendsPart p.stream f (text_of old request) ⊎ RoundTripInPart p.stream f (text_of old request)) (sym h.flow) p.part })
 
 -- memory was wanting

@@ -1,5 +1,5 @@
 -- What a stream of both directions gives and takes.
-use Rattle.std.specs.Prelude.{◌≡◌, ◌≢◌, ⊤, ℕ, ◌+◌, ◌<◌, Bool, true, List, [], ◌++◌, length}
+use Rattle.std.specs.Prelude.{◌≡◌, ◌≢◌, ℕ, ◌+◌, ◌<◌, Bool, true, List, [], ◌∷◌, ◌++◌, length}
 use Rattle.std.specs.Prelude.{Option, Some, None}
 use Rattle.std.specs.Io.Cursor.{cursor_remaining}
 use Rattle.std.specs.Io.KnownBytes.{Appends, Consumes}
@@ -9,25 +9,49 @@ use Rattle.remote.specs.declared.stream.MemoryStream.{MemoryStream}
 pub record Flow : Type 0 where
   -- the bytes that are to come
   pub coming : Option (List ℕ)
+  -- the bytes that are to come over each stream that is opened after this one, in turn
+  pub later : Option (List (List ℕ))
   -- all that was sent, also before the stream was opened anew
   pub sent : Option (List ℕ)
   -- whether the other side hasn't closed it
   pub is_open : Option Bool
   -- how often it was opened anew
   pub openings : Option ℕ
+  -- how often it couldn't be opened anew
+  pub refusals : Option ℕ
 
 abbrev pub IsOneMore : Option ℕ → Option ℕ → Type 0
-IsOneMore None new = ⊤
+IsOneMore None new = new ≡ None
 IsOneMore (Some n) new = new ≡ Some (n + 1)
 
--- it was opened anew, once more than before
-abbrev pub IsOpenedAnew : Flow → Flow → Type 0
-IsOpenedAnew old new = IsOneMore old.openings new.openings
+-- it is the first of these later streams
+abbrev pub IsFirstLater : Option (List (List ℕ)) → Flow → Type 0
+IsFirstLater None new = new.later ≡ None
+IsFirstLater (Some []) new = ⊥
+IsFirstLater (Some (bytes ∷ rest)) new = (new.coming ≡ Some bytes) × (new.later ≡ Some rest)
 
--- these bytes were sent, and nothing was read
+-- it was opened anew, once more than before, and what is to come is what was to come over it
+pub record IsOpenedAnew (old new : Flow) : Type 0 where
+  pub once : IsOneMore old.openings new.openings
+  pub next : IsFirstLater old.later new
+  pub refusals : new.refusals ≡ old.refusals
+
+-- it couldn't be opened anew, and all else is as it was
+pub record StaysClosed (old new : Flow) : Type 0 where
+  pub once : IsOneMore old.refusals new.refusals
+  pub others : new ≡ record old { refusals = new.refusals }
+
+-- opening it anew wasn't tried
+pub record IsSameStream (old new : Flow) : Type 0 where
+  pub openings : new.openings ≡ old.openings
+  pub refusals : new.refusals ≡ old.refusals
+  pub later : new.later ≡ old.later
+
+-- these bytes were sent over the stream, and nothing was read
 pub record Sends (old new : Flow) (bytes : List ℕ) : Type 0 where
   pub sent : Appends old.sent new.sent bytes
   pub coming : new.coming ≡ old.coming
+  pub stream : IsSameStream old new
 
 -- what was sent is a beginning of the bytes
 pub record SendsFront (old new : Flow) (bytes : List ℕ) : Type 0 where
@@ -44,10 +68,11 @@ pub record SendsPart (old new : Flow) (bytes : List ℕ) : Type 0 where
   pub whole : bytes ≡ front ++ rest
   pub sends : Sends old new front
 
--- these bytes came, and nothing was sent
+-- these bytes came over the stream, and nothing was sent
 pub record Receives (old new : Flow) (bytes : List ℕ) : Type 0 where
   pub coming : Consumes old.coming new.coming bytes
   pub sent : new.sent ≡ old.sent
+  pub stream : IsSameStream old new
 
 -- some bytes came, and nothing was sent
 pub record ReceivesSome (old new : Flow) : Type 0 where
@@ -55,20 +80,35 @@ pub record ReceivesSome (old new : Flow) : Type 0 where
   pub some : 0 < length bytes
   pub read : Receives old new bytes
 
--- these bytes are to come over an open stream, and nothing was sent
+-- a stream of which nothing is known
+abbrev pub unknown : Flow
+unknown = record {
+  coming = None;
+  later = None;
+  sent = None;
+  is_open = None;
+  openings = None;
+  refusals = None;
+}
+
+-- these bytes are to come over an open stream, none later, and nothing was sent
 abbrev pub gives : List ℕ → Flow
 gives bytes = record {
   coming = Some bytes;
+  later = Some [];
   sent = Some [];
   is_open = Some true;
   openings = Some 0;
+  refusals = None;
 }
 
 -- where a stream in memory stands
 abbrev pub flow_of : {A : Type 0} → MemoryStream A → Flow
 flow_of s = record {
   coming = cursor_remaining (λ bytes. Some bytes.items) s.input;
+  later = Some [];
   sent = Some s.output.items;
   is_open = Some true;
   openings = Some 0;
+  refusals = None;
 }

@@ -1,7 +1,7 @@
 -- A store in a folder: what it tells, and what a look-up in it does.
 use Rattle.std.specs.Prelude.{◌≡◌, ◌≢◌, ◌⊎◌, ℕ, ◌<◌, ◌≤◌, List, [], ◌∷◌, ◌++◌, take}
 use Rattle.std.specs.Prelude.{Option, Some, None}
-use Rattle.std.specs.Prelude.{Result, Ok, Err, IfOk, IfSome, IsErrOf, OnErr, string_bytes}
+use Rattle.std.specs.Prelude.{Result, Ok, Err, IfOk, IsErrOf, IsSomeAnd, OnErr, string_bytes}
 use Rattle.std.specs.Fs.{IsFile, file_type, metadata_len}
 use Rattle.std.specs.IoError.{error_kind}
 use Rattle.std.specs.declared.fs.Metadata.{Metadata}
@@ -114,5 +114,5 @@ pub record LooksInFolder {A : Type 0}
   pub held : IfOk result (λ answer. HasAnswer after d)
   pub unheld : OnErr result (KeepsAnswers before after)
   pub others : IsSameBut d before after
-  pub failed : IsErrOf result Failed → IfSome new (IsFaultAt path)
+  pub failed : IsErrOf result Failed → IsSomeAnd new (IsFaultAt path)
   pub unfailed : (IsErrOf result Failed → ⊥) → new ≡ old

@@ -9,7 +9,7 @@ use Rattle.blob_source.specs.declared.source.FetchError.TheVariants.{Failed, Mem
 use Rattle.remote.specs.declared.fault.Fault.{Fault}
 use Rattle.remote.specs.declared.fault.Fault.TheVariants.{Io, BadReply, Status, Broken}
 use Rattle.remote.specs.declared.line.Line.{Line}
-use Rattle.remote.specs.Flow.{Flow, IsOpenedAnew, SendsFront, SendsPart}
+use Rattle.remote.specs.Flow.{Flow, IsOpenedAnew, SendsFront, SendsPart, StaysClosed}
 use Rattle.remote.specs.Reply.{ReceivedReply, RoundTrip, RoundTripForNone, RoundTripForSome}
 use Rattle.remote.specs.Reply.{RoundTripInPart}
 
@@ -128,7 +128,7 @@ pub record ComesInPart (old new : ConnectionValue) (request : Request) : Type 0 
 -- the stream failed: it couldn't be opened anew, or ended within the request or the reply
 abbrev pub IsStreamFault : ConnectionValue → ConnectionValue → Request → Type 0
 IsStreamFault old new request =
-    (MayBeClosed old × (new.flow ≡ old.flow)) ⊎ ComesInPart old new request
+    (MayBeClosed old × StaysClosed old.flow new.flow) ⊎ ComesInPart old new request
 
 -- The fault is Broken just where the connection was broken before the request.
 abbrev pub IsConnectionFault : ConnectionValue → ConnectionValue → Request → Fault → Type 0

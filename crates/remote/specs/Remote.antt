@@ -1,11 +1,12 @@
 -- What a remote tells, and how it asks its server.
-use Rattle.std.specs.Prelude.{◌≡◌, ◌⊎◌, List, [], ℕ, false, Option, None, Result, Ok, IfOk, IfErr}
-use Rattle.std.specs.Prelude.{OnErr, OnOk}
+use Rattle.std.specs.Prelude.{◌≡◌, List, [], ℕ, false, Option, None, Result, Ok, IfOk, IfErr}
+use Rattle.std.specs.Prelude.{IsErrOf, OnErr, OnOk}
 use Rattle.std.specs.declared.vec.Vec.{Vec}
 use Rattle.blob_digest.specs.Digest.{DigestValue}
 use Rattle.http_core.specs.declared.event.Area.{Area}
 use Rattle.blob_source.specs.Source.{Telling, bytes_of}
 use Rattle.blob_source.specs.declared.source.FetchError.{FetchError}
+use Rattle.blob_source.specs.declared.source.FetchError.TheVariants.{Failed}
 use Rattle.remote.specs.declared.remote.Remote.{Remote}
 use Rattle.remote.specs.declared.table.Table.{Table}
 use Rattle.remote.specs.Flow.{Flow}
@@ -49,33 +50,33 @@ pub record IsFreshRemote {S A : Type 0}
   pub calls : (telling_of r).calls ≡ 0
   pub puts : (telling_of r).puts ≡ []
 
--- A call that asked for what stands under the digest in the area. What is kept isn't asked again,
--- also where memory is wanting, and that nothing is there needs none; what isn't kept is the server's
--- answer, and that alone is kept.
+-- A call that asked for what stands under the digest in the area. What is kept isn't asked again
+-- and is no failure, also where memory is wanting, and that nothing is there needs none; what isn't
+-- kept is the server's answer, and that alone is kept.
 pub record LooksUp {A : Type 0}
     (area : Area) (d : DigestValue) (old new : ConnectionValue) (before after : Table A)
     (result : Result (Option (Vec ℕ A)) FetchError) : Type 0 where
   pub silent : HasAnswer before d → new.flow ≡ old.flow
   pub kept : HasAnswer before d → IfOk result (λ answer. new ≡ old)
+  pub unfailed : HasAnswer before d → IsErrOf result Failed → ⊥
   pub absent : HasAnswer before d → told_by before d ≡ None → result ≡ Ok None
   pub same : HasAnswer before d → KeepsAnswers before after
   pub answered : (HasAnswer before d → ⊥)
       → IfOk result (λ answer. Gets old new area d.hash (bytes_of answer))
   pub refused : IfErr result (RefusesRequest old new (get area d.hash))
-  pub starved : (HasAnswer before d → ⊥) → IfErr result (ExplainsMemory old new (get area d.hash))
+  pub starved : (HasAnswer before d → ⊥)
+      → IfErr result (ExplainsMemory old new (get area d.hash))
   pub held : IfOk result (λ answer. HasAnswer after d)
   pub unheld : OnErr result (KeepsAnswers before after)
   pub others : IsSameBut d before after
 
--- A call that put the bytes under the digest in the area, and kept that. Memory may be wanting before
--- the server is asked.
+-- A call that put the bytes under the digest in the area, and kept that.
 pub record Stores {A T : Type 0}
     (area : Area) (d : DigestValue) (bytes : List ℕ) (old new : ConnectionValue)
     (before after : Table A) (result : Result T FetchError) : Type 0 where
   pub taken : OnOk result (Puts old new area d.hash bytes)
   pub refused : IfErr result (RefusesRequest old new (put area d.hash bytes))
-  pub starved : (new.flow ≡ old.flow)
-      ⊎ IfErr result (ExplainsMemory old new (put area d.hash bytes))
+  pub starved : IfErr result (ExplainsMemory old new (put area d.hash bytes))
   pub held : OnOk result (HasAnswer after d)
   pub unheld : OnErr result (KeepsAnswers before after)
   pub others : IsSameBut d before after

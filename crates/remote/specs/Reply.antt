@@ -64,7 +64,7 @@ pub record IsHeadAndPart (bytes : List ℕ) : Type 0 where
   pub lawful : IsReplyHead block head
   pub short : length body < head.length
 
--- replies begin so: no block ends in the bytes so far, or the body behind the head isn't whole
+-- replies begin so: no block ends in the bytes so far, or the body after the head isn't whole
 abbrev pub IsPartOfReply : List ℕ → Type 0
 IsPartOfReply bytes = ((length bytes < 16384) × HasNoBlock bytes) ⊎ IsHeadAndPart bytes
 
@@ -86,7 +86,7 @@ pub record RoundTripForSome (old new : Flow) (request : List ℕ) : Type 0 where
   pub asks : Sends old between request
   pub answers : ReceivesSome between new
 
--- at the front of a stream stands one reply at most
+-- a stream begins with one reply at most
 abbrev pub NextIsOne : Type 0
 NextIsOne =
     (a x b y : List ℕ) (r s : ReceivedReply) → IsReply a r → IsReply b s → a ++ x ≡ b ++ y

@@ -1,4 +1,4 @@
--- What the steps do of which a call is made.
+-- What the steps that make up a call do.
 use Rattle.std.specs.Prelude.{◌≡◌, ℕ, ◌+◌, ◌<◌, ◌≤◌, ◌⊎◌, List, [], ◌++◌, length, true, false}
 use Rattle.std.specs.Prelude.{Option, Some}
 use Rattle.blob_digest.specs.Digest.{DigestValue}
@@ -18,14 +18,14 @@ use Rattle.remote.specs.Table.{HasAnswer, IsSameBut, KeepsAnswers, told_by}
 
 -- ---- bytes
 
--- The bytes end a block with so many more, and with no fewer.
+-- The bytes end a block with this many more, and with no fewer.
 pub record WantsMore (bytes : List ℕ) (count : ℕ) : Type 0 where
   pub fewest : (more : List ℕ) → EndsBlock (bytes ++ more) → count ≤ length more
   pub more : List ℕ
   pub ends : EndsBlock (bytes ++ more)
   pub many : length more ≡ count
 
--- some bytes came, at most so many, and stand after the others
+-- some bytes came, at most this many, and stand after the others
 pub record Adds (old new : Flow) (most : ℕ) (before after : List ℕ) : Type 0 where
   pub bytes : List ℕ
   pub some : 0 < length bytes
@@ -47,7 +47,7 @@ abbrev pub ReceivesFewer : Flow → Flow → ℕ → Type 0
 ReceivesFewer old new size =
     (bytes : List ℕ) × (length bytes < size) × Receives old new bytes
 
--- the stream failed before so many bytes had come, or memory was wanting for what came
+-- the stream failed before this many bytes had come, or memory was wanting for what came
 pub record InterruptsBody (old new : Flow) (size : ℕ) (e : Refusal) : Type 0 where
   pub other : e ≡ refusals.BadReply → ⊥
   pub part : e ≡ refusals.Io → ReceivesFewer old new size

@@ -1,4 +1,4 @@
-ghost use Rattle.std.specs.Prelude.{◌≡◌, ◌≤◌, IfOk, IfErr, None, Ok, OnErr, OnOk};
+ghost use Rattle.std.specs.Prelude.{◌≡◌, ◌≤◌, IfOk, IfErr, IsErrOf, None, Ok, OnErr, OnOk};
 ghost use Rattle.blob_source.specs.Source.{GrowsAt, bytes_of, greatest_count};
 ghost use Rattle.remote.specs.Line.{ExplainsMemory, Gets, RefusesRequest, get, line_of};
 ghost use Rattle.remote.specs.Table.{HasAnswer, IsSameBut, KeepsAnswers, told_by};
@@ -32,6 +32,7 @@ pub(crate) fn look_up<S: Stream + Drop, A: Allocator + Copy>(
     ensures asked { (HasAnswer table.old digest.now → ⊥) → IfOk result (λ answer. Gets
         (line_of S.flow line.old)
         (line_of S.flow line.new) area digest.now.hash (bytes_of answer)) }
+    ensures unfailed { HasAnswer table.old digest.now → IsErrOf result FetchError.Failed → ⊥ }
     ensures refused { IfErr result (RefusesRequest
         (line_of S.flow line.old) (line_of S.flow line.new) (get area digest.now.hash)) }
     ensures starved { (HasAnswer table.old digest.now → ⊥) → IfErr result (ExplainsMemory
@@ -56,7 +57,7 @@ pub(crate) fn look_up<S: Stream + Drop, A: Allocator + Copy>(
     }
 }
 
-/// KeepsAnswer a copy of an answer.
+/// Keeps a copy of an answer.
 pub(crate) fn keep_answer<A: Allocator + Copy>(
     alloc: A,
     table: &mut Table<A>,
@@ -75,7 +76,7 @@ pub(crate) fn keep_answer<A: Allocator + Copy>(
     }
 }
 
-/// KeepsAnswer a copy of bytes that were put.
+/// Keeps a copy of bytes that were put.
 pub(crate) fn keep_bytes<S: Stream + Drop, A: Allocator + Copy>(
     alloc: A,
     line: &mut Line<S, A>,

@@ -1,6 +1,6 @@
 ghost use Rattle.remote.specs.Steps.{WantsMore};
 
-/// How many bytes are missing at least until a block ends: none, where one does.
+/// How many bytes at least are missing until a block ends: none where one does.
 pub(crate) fn wanting(block: &[u8]) -> usize
     ensures { WantsMore block.now result }
 {

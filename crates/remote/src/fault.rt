@@ -21,8 +21,11 @@ pub enum Fault {
 /// Why no reply came.
 #[derive(Clone, Copy, Debug, PartialEq, Eq)]
 pub(crate) enum Refusal {
+    /// The stream ended or failed.
     Io,
+    /// What came is no reply.
     BadReply,
+    /// No memory was left.
     Memory,
 }
 

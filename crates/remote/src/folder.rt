@@ -1,5 +1,5 @@
-ghost use Rattle.std.specs.Prelude.{◌≡◌, ◌≢◌, ◌+◌, ◌≤◌, IfErr, IfOk, IfSome, IsErrOf, None, Ok};
-ghost use Rattle.std.specs.Prelude.{OnErr, Some};
+ghost use Rattle.std.specs.Prelude.{◌≡◌, ◌≢◌, ◌+◌, ◌≤◌, IfErr, IfOk, IsErrOf, IsSomeAnd, None};
+ghost use Rattle.std.specs.Prelude.{Ok, OnErr, Some};
 ghost use Rattle.std.specs.Prelude.{◌↔◌, IsTrue, codes, string_bytes};
 ghost use Rattle.blob_source.specs.Called.{Calls};
 ghost use Rattle.blob_source.specs.Source.{AsksBlob, AsksResult, GrowsAt, bytes_of, greatest_count};
@@ -111,7 +111,7 @@ impl<'r, R: Files + Alloc<A = A>, A: Allocator + Copy> Folder<'r, R, A> {
         ensures same { HasAnswer table.old digest.now → KeepsAnswers table.old table.new }
         ensures unheld { OnErr result (KeepsAnswers table.old table.new) }
         ensures others { IsSameBut digest.now table.old table.new }
-        ensures failed { IsErrOf result FetchError.Failed → IfSome self.new.error
+        ensures failed { IsErrOf result FetchError.Failed → IsSomeAnd self.new.error
             (IsFaultAt (entry_path (string_bytes self.old.place) part.now digest.now)) }
         ensures counted { IsErrOf result FetchError.Failed
             → self.new.failures ≡ self.old.failures + 1 }

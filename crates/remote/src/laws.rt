@@ -1,6 +1,6 @@
 ghost use Rattle.remote.specs.Reply.{NextIsOne};
 
-/// At the front of a stream stands one reply at most. A law: it does nothing.
+/// A stream begins with one reply at most. A law: it does nothing.
 pub fn the_next_reply_is_one()
     ensures { NextIsOne }
 {}

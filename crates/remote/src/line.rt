@@ -2,6 +2,7 @@ ghost use Rattle.std.specs.Prelude.{◌≡◌, true, false, IfOk, IfErr, OnOk, o
 ghost use Rattle.blob_source.specs.Source.{bytes_of};
 ghost use Rattle.remote.specs.Line.{ExplainsMemory, IsReplied, Gets, Puts, RefusesRequest, get};
 ghost use Rattle.remote.specs.Line.{MayBeClosed, is_taken, line_of, put, request};
+ghost use Rattle.remote.specs.Flow.{StaysClosed};
 ghost use Rattle.remote.specs.Reply.{reply_value};
 ghost use Rattle.remote.specs.Steps.{Fails, Opens, Starves};
 
@@ -53,8 +54,11 @@ impl<S: Stream + Drop, A: Allocator + Copy> Line<S, A> {
     /// Opens the stream anew where the server has closed it. The answer tells whether it is open.
     fn open(&mut self) -> bool
         ensures opened { result ≡ true → Opens (line_of S.flow self.old) (line_of S.flow self.new) }
-        ensures shut { result ≡ false → line_of S.flow self.new ≡ line_of S.flow self.old }
+        ensures shut { result ≡ false → line_of S.flow self.new
+            ≡ record (line_of S.flow self.old) { flow = S.flow self.new.stream } }
         ensures closed { result ≡ false → MayBeClosed (line_of S.flow self.old) }
+        ensures stays { result ≡ false
+            → StaysClosed (S.flow self.old.stream) (S.flow self.new.stream) }
     {
         if !self.shut && self.stream.is_open() {
             return true;
@@ -106,7 +110,7 @@ impl<S: Stream + Drop, A: Allocator + Copy> Line<S, A> {
         }
     }
 
-    /// IsReplied for what the server has under a digest.
+    /// Asks for what the server has under a digest.
     pub(crate) fn get(
         &mut self,
         alloc: A,

@@ -138,10 +138,10 @@ impl<S: Stream + Drop, A: Allocator + Copy> BlobSink<A> for Remote<S, A> {
     {
         let _count = self.line.failures;
         self.calls = self.calls.saturating_add(1);
+        self.line.put(alloc, Area::Ac, digest, bytes)?;
         let Ok(()) = self.puts.reserve(1) else {
             return Err(self.line.starve());
         };
-        self.line.put(alloc, Area::Ac, digest, bytes)?;
         keep_bytes(alloc, &mut self.line, &mut self.results, digest, bytes)?;
         self.puts.push(*digest).unwrap();
         Ok(())

@@ -120,7 +120,7 @@ fn read_body<S: Stream, A: Allocator + Copy>(
     Ok(body)
 }
 
-/// Reads some bytes, at most so many, to those at hand.
+/// Adds some bytes that are read, at most `most`, to those at hand.
 fn receive_piece<S: Stream, A: Allocator + Copy>(
     stream: &mut S,
     bytes: &mut Vec<u8, A>,

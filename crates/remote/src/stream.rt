@@ -3,7 +3,8 @@ ghost use Rattle.std.specs.Prelude.{MatchResult, OnErr, OnOk, length};
 ghost use Rattle.std.specs.Io.{ReadsAtMost, WritesAtMost};
 ghost use Rattle.std.specs.Io.KnownBytes.{ReadConsumes, WriteAppends};
 ghost use Rattle.std.specs.IoError.{error_kind};
-ghost use Rattle.remote.specs.Flow.{Flow, IsOpenedAnew, flow_of, gives};
+ghost use Rattle.remote.specs.Flow.{Flow, IsOpenedAnew, IsSameStream, StaysClosed, flow_of, gives};
+ghost use Rattle.remote.specs.Flow.{unknown};
 
 use std::alloc::Allocator;
 use std::io;
@@ -12,21 +13,23 @@ use std::net::TcpStream;
 
 /// What gives and takes bytes, each direction apart from the other.
 pub trait Stream {
-    /// The bytes that are to come, those sent, whether it is open, and how often it was opened
-    /// anew, where that is known.
+    /// The bytes that are to come, also once it is opened anew, those sent, whether it is open,
+    /// and how often it was opened anew and couldn't be, where that is known.
     ghost flow: { Self → Flow };
 
     /// Reads some bytes, none only at the end or with no room.
     fn receive(&mut self, buf: &mut [u8]) -> io::Result<usize>
         ensures bound { ReadsAtMost result buf.new }
         ensures bytes { ReadConsumes (flow self.old).coming (flow self.new).coming result buf.new }
-        ensures kept { (flow self.new).sent ≡ (flow self.old).sent };
+        ensures kept { (flow self.new).sent ≡ (flow self.old).sent }
+        ensures same { IsSameStream (flow self.old) (flow self.new) };
 
     /// Writes some of the bytes.
     fn send(&mut self, buf: &[u8]) -> io::Result<usize>
         ensures bound { WritesAtMost result buf.now }
         ensures bytes { WriteAppends (flow self.old).sent (flow self.new).sent result buf.now }
-        ensures kept { (flow self.new).coming ≡ (flow self.old).coming };
+        ensures kept { (flow self.new).coming ≡ (flow self.old).coming }
+        ensures same { IsSameStream (flow self.old) (flow self.new) };
 
     /// Whether the other side hasn't closed it, so far as that can be told.
     fn is_open(&self) -> bool
@@ -36,14 +39,12 @@ pub trait Stream {
     fn renew(&mut self) -> io::Result<()>
         ensures sent { (flow self.new).sent ≡ (flow self.old).sent }
         ensures opened { OnOk result (IsOpenedAnew (flow self.old) (flow self.new)) }
-        ensures err { OnErr result (flow self.new ≡ flow self.old) };
+        ensures err { OnErr result (StaysClosed (flow self.old) (flow self.new)) };
 }
 
 /// A socket, of whose bytes nothing is known. It doesn't know how to be opened anew.
 impl Stream for TcpStream {
-    ghost use Rattle.std.specs.Prelude.{None};
-
-    ghost flow = { λ _. record { coming = None; sent = None; is_open = None; openings = None } };
+    ghost flow = { λ _. unknown };
 
     fn receive(&mut self, buf: &mut [u8]) -> io::Result<usize> {
         self.read(buf)
@@ -53,7 +54,7 @@ impl Stream for TcpStream {
         self.write(buf)
     }
 
-    // Nothing is to come before a request: what does come is none of its reply.
+    // Nothing is to come before a request: what does come is no part of its reply.
     fn is_open(&self) -> bool {
         if self.set_nonblocking(true).is_err() {
             return false;
@@ -114,6 +115,7 @@ impl<A: Allocator + Copy> Stream for MemoryStream<A> {
         ensures bytes { ReadConsumes (flow_of self.old).coming (flow_of self.new).coming
             result buf.new }
         ensures kept { (flow_of self.new).sent ≡ (flow_of self.old).sent }
+        ensures same { IsSameStream (flow_of self.old) (flow_of self.new) }
         ensures ok { IsOk result }
     {
         self.input.read(buf)
@@ -125,6 +127,7 @@ impl<A: Allocator + Copy> Stream for MemoryStream<A> {
         ensures bytes { WriteAppends (flow_of self.old).sent (flow_of self.new).sent
             result buf.now }
         ensures kept { (flow_of self.new).coming ≡ (flow_of self.old).coming }
+        ensures same { IsSameStream (flow_of self.old) (flow_of self.new) }
         ensures whole { IfOk result (λ count. count ≡ length buf.now) }
         ensures err { IfErr result (λ error. error_kind error ≡ ErrorKind.OutOfMemory) }
     {

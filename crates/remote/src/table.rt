@@ -53,7 +53,7 @@ impl<A: Allocator + Copy> Table<A> {
         }
     }
 
-    /// KeepsAnswer an answer under the digest, in place of another.
+    /// Keeps an answer under the digest, in place of another.
     pub(crate) fn keep(
         &mut self,
         digest: &Digest,

@@ -9,6 +9,7 @@ returns-clause-asked g c = record {
   others = c.look_up.ensures.others;
   silent = c.look_up.ensures.silent;
   kept = c.look_up.ensures.kept;
+  unfailed = c.look_up.ensures.unfailed;
   answered = c.look_up.ensures.asked;
   refused = c.look_up.ensures.refused;
   starved = c.look_up.ensures.starved;
