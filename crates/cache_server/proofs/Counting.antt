@@ -1,21 +1,21 @@
 -- What was answered, counted.
-use Rattle.std.proofs.Common.{◌≡◌, ℕ, inl, inr, Option, Some, List, [], ◌∷◌, ◌++◌, refl, sym, ◌∙◌, ap, subst, append_assoc, take, Result, Ok, Err, IfOk, arith}
+use Rattle.std.proofs.Common.{◌≡◌, ℕ, inl, inr, Option, Some, List, [], ◌∷◌, ◌++◌, refl, sym, ◌∙◌, ap, append_assoc, take, Result, Ok, Err, IfOk, arith}
 use Rattle.std.proofs.lemmas.List.{append-nil}
 use Rattle.std.specs.Io.KnownBytes.{Consumes, Keeps, IsAtEnd}
 use Rattle.http_core.specs.Event.{AskValue, EventValue, Asked, Refused}
 use Rattle.http_core.specs.Reply.{ReplyValue}
 use Rattle.http_core.specs.Session.{Closed, SessionValue, Stands}
 use Rattle.http_core.specs.Stream.{Cuts}
-use Rattle.cache_server.specs.Cache.{CacheValue, Step, step}
+use Rattle.cache_server.specs.Cache.{CacheValue, Step}
 use Rattle.cache_server.specs.Counts.{CountsFront, IsStatusOf, after_event, count_all, count_event}
-use Rattle.cache_server.specs.Connection.{AnswersReadCounting, AnswersFrontCounting, RunsCounting, RunsSomeCounting, ExchangesCounting, ExchangesSomeCounting, ExchangesFrontCounting, ExchangesSome}
+use Rattle.cache_server.specs.Connection.{AnswersReadCounting, AnswersFrontCounting, RunsCounting, RunsSomeCounting, ExchangesCounting, ExchangesSomeCounting, ExchangesFrontCounting}
 use Rattle.cache_server.specs.Serving.{ServesAll, ServesOne}
 use Rattle.cache_server.specs.Writing.{Tells, MayTell, TellsSomeCounting, TellsFrontCounting}
 use Rattle.cache_server.specs.declared.counts.Counts.{Counts}
 use Rattle.cache_server.specs.declared.error.ConnError.{ConnError}
 use Rattle.cache_server.proofs.Connections.{RunsOn, runs_first, runs_more, runs_ended, runs_closed, runs_stopped, runs_broken, runs_none}
 use Rattle.cache_server.proofs.Serving.{serves_none, serves_join}
-use Rattle.cache_server.proofs.Telling.{TellsOn, told_first, told_more, told_some}
+use Rattle.cache_server.proofs.Telling.{TellsOn, told_first, told_more, told_some, some_kept}
 
 -- ---- one event
 
@@ -112,6 +112,15 @@ module _ (old now new : CacheValue) (events left : List EventValue) (event : Eve
 
 pub counted_all : (old new : CacheValue) (events : List EventValue) (before now : Option (List ℕ)) (c d : Counts) → TellsOnCounting old events [] before now new c d → d ≡ count_all c old events
 counted_all old new events before now c d t = t.counts ∙ ap (count_all c old) (sym (t.on.whole ∙ append-nil t.on.done))
+
+-- what was told is flushed
+pub some_told_kept : (old new : CacheValue) (events : List EventValue) (before mid after : Option (List ℕ)) (c d : Counts) → TellsSomeCounting old events before mid new c d → Keeps mid after → TellsSomeCounting old events before after new c d
+unfolding some_kept
+some_told_kept old new events before mid after c d t k = record { tells = some_kept old new events before mid after t.tells k; counts = t.counts }
+
+pub front_kept : (old new : CacheValue) (events : List EventValue) (before mid after : Option (List ℕ)) (c d : Counts) → TellsFrontCounting old events before mid new c d → Keeps mid after → TellsFrontCounting old events before after new c d
+unfolding some_kept
+front_kept old new events before mid after c d t k = record { tells = some_kept old new events before mid after t.tells k; all_told = t.all_told; counts = t.counts }
 
 -- ---- the pieces of a stream
 

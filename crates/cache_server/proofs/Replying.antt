@@ -13,9 +13,9 @@ use Rattle.http_core.specs.declared.event.Area.TheVariants.{Ac, Cas, Pin, Unpin}
 use Rattle.http_core.specs.Event.{AskValue, Get, Put}
 use Rattle.action_cache.specs.References.{Reader}
 use Rattle.action_cache.specs.State.{answer_of, bytes_given}
-use Rattle.cache_server.specs.Cache.{MayWant, Step, step, bare, found_reply, reply_to, replied, without_body}
+use Rattle.cache_server.specs.Cache.{MayWantToWrite, Step, step, bare, found_reply, reply_to, replied, without_body}
 use Rattle.action_cache.specs.declared.error.CacheError.TheVariants as cache
-use Rattle.cache_server.specs.Status.{status_of, IsToldBy, IsWanting}
+use Rattle.cache_server.specs.Status.{status_of, IsToldBy, WantsMemory}
 use Rattle.cache_server.specs.Writing.{WritesSome, AnswersAsk, FailsAsk}
 use Rattle.cache_server.specs.declared.error.ConnError.{ConnError}
 use Rattle.cache_server.specs.declared.error.ConnError.TheVariants.{WriteFault, Memory}
@@ -124,12 +124,12 @@ module _ {T : Type 0} (r : Result T ConnError) (old new : CacheState) (ask : Ask
       by (Err e) p q = subst (λ z. FailsAsk z old ask close before after new) (sym q) (record { reply = reply; steps = steps; writes = p })
 
 -- memory was wanting for a change, and for a look-up
-pub wanting : {T N E : Type 0} (r : Result T CacheError) (o : Result N E) (P : Type 0) → OnErr o (IsWanting r) → (r ≡ Err cache.Memory → P) → OnErr o P
+pub wanting : {T N E : Type 0} (r : Result T CacheError) (o : Result N E) (P : Type 0) → OnErr o (WantsMemory r) → (r ≡ Err cache.Memory → P) → OnErr o P
 wanting r (Ok n) P w f = tt
 wanting (Ok x) (Err e) P w f = absurd w
 wanting (Err d) (Err e) P w f = f (ap Err w)
 
 pub fails_wanting : {T : Type 0} (r : Result T ConnError) (old new : CacheState) (ask : AskValue) (close : Bool) (before after : Option (List ℕ))
-    → IsErrAnd r (λ e. e ≡ Memory) → new ≡ old → Keeps before after → MayWant old ask → IfErr r (λ e. FailsAsk e old ask close before after new)
+    → IsErrAnd r (λ e. e ≡ Memory) → new ≡ old → Keeps before after → MayWantToWrite old ask → IfErr r (λ e. FailsAsk e old ask close before after new)
 fails_wanting (Ok x) old new ask close before after a same kept may = absurd a
 fails_wanting (Err e) old new ask close before after a same kept may = subst (λ z. FailsAsk z old ask close before after new) (sym a) (same, kept, may)

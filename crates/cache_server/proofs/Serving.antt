@@ -5,6 +5,14 @@ use Rattle.http_core.specs.Event.{EventValue}
 use Rattle.cache_server.specs.Cache.{CacheValue}
 use Rattle.cache_server.specs.Serving.{ServesAll, ServesOne}
 
+-- the first of the events were answered, as many as may be, and their texts are lost
+pub record ServesFront (old : CacheValue) (events : List EventValue) (new : CacheValue) : Type 0 where
+  pub done : List EventValue
+  pub others : List EventValue
+  pub text : List ℕ
+  pub whole : events ≡ done ++ others
+  pub served : ServesAll old done text new
+
 pub serves_none : (old : CacheValue) → ServesAll old [] [] old
 unfolding ServesAll
 serves_none old = (refl, refl)

@@ -7,12 +7,12 @@ use Rattle.http_core.specs.Stream.{Cuts}
 use Rattle.http_core.specs.Session.{SessionValue, IsClosed, Leaves}
 use Rattle.http_core.specs.Session as sessions
 use Rattle.cache_server.specs.Cache.{CacheValue}
-use Rattle.cache_server.specs.Serving.{ServesAll, ServesFront}
+use Rattle.cache_server.specs.Serving.{ServesAll}
 use Rattle.cache_server.specs.History.{HistoryEntry, Piece, Fail, End, is_end, is_fail, bytes_over, since_end, until_fail, stream_of, has_failed, Gains, BringsAll, CacheAfter, AnswersTo}
 use Rattle.cache_server.specs.Server.{ServerValue, session_at, StandsSo, KeepsSession, ServerStands, StandsOrFails}
 use Rattle.cache_server.specs.Sessions.{KeepsOthers, IsSessionFor, FeedsAt, IsClosedAt, ClosesAt}
 use Rattle.cache_server.proofs.Histories.{stream_aside, failed_more, failed_now, stream_ended, failed_ended}
-use Rattle.cache_server.proofs.Serving.{serves_none}
+use Rattle.cache_server.proofs.Serving.{ServesFront, serves_none}
 use Rattle.cache_server.proofs.Gaining.{cache_more, answers_are, own_bytes, other_bytes, own_fail, other_fail, own_end, other_end, stream_open, stream_shut, gains_open, gains_none, GainsFirst, gains_first}
 
 -- an entry of another connection

@@ -5,9 +5,9 @@ use Rattle.std.specs.Io.KnownBytes.{Appends, Keeps}
 use Rattle.std.proofs.KnownBytes.{Appends-nil, Appends-trans}
 use Rattle.http_core.specs.Event.{EventValue}
 use Rattle.cache_server.specs.Cache.{CacheValue}
-use Rattle.cache_server.specs.Serving.{ServesAll, ServesFront}
+use Rattle.cache_server.specs.Serving.{ServesAll}
 use Rattle.cache_server.specs.Writing.{WritesSome, Tells, MayTell, TellsAll, TellsSome}
-use Rattle.cache_server.proofs.Serving.{serves_none, serves_more}
+use Rattle.cache_server.proofs.Serving.{ServesFront, serves_none, serves_more}
 
 pub appends_kept : (a b c : Option (List ℕ)) (bytes : List ℕ) → Appends a b bytes → Keeps b c → Appends a c bytes
 appends_kept None b c bytes p q = tt
@@ -63,6 +63,10 @@ module _ (old now new : CacheValue) (events left : List EventValue) (event : Eve
     served = serves_more old now new t.done event t.text text ((t.text ++ w.written) ++ w.lost) t.served (append_assoc t.text w.written w.lost ∙ ap (λ z. t.text ++ z) (sym w.whole)) s;
     appends = Appends-trans before mid after t.text w.written t.appends w.appends;
   }
+
+-- what was told is flushed
+unfoldable pub some_kept : (old new : CacheValue) (events : List EventValue) (before mid after : Option (List ℕ)) → TellsSome old events before mid new → Keeps mid after → TellsSome old events before after new
+some_kept old new events before mid after t k = record { done = t.done; others = t.others; told = t.told; lost = t.lost; whole = t.whole; served = t.served; appends = appends_kept before mid after t.told t.appends k }
 
 pub told_all : (old new : CacheValue) (events : List EventValue) (before now : Option (List ℕ)) → TellsOn old events [] before now new → TellsAll old events before now new
 told_all old new events before now t = record {

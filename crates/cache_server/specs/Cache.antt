@@ -54,7 +54,7 @@ step s (Put Unpin hash body) = without_body s body (machine.unpin by_messages s 
 abbrev pub Step : CacheState → AskValue → ReplyValue → CacheState → Type 0
 Step old ask reply new = step old ask ≡ (reply, new)
 
--- What memory may be wanting for: a look-up that finds something, a result that has to be read, and
+-- What memory may be wanting for where the reply is a copy: a look-up that finds something, a result that has to be read, and
 -- a change that is made. So a blob for which there is no room is refused, whatever memory there is.
 abbrev pub MayWant : CacheState → AskValue → Type 0
 MayWant s (Get Ac hash) = IsSome (under hash s.results)
@@ -66,3 +66,11 @@ MayWant s (Put Cas hash body) = (machine.put_blob by_messages s hash body).0 ≡
 MayWant s (Put Pin hash body) =
     (body ≡ []) × IsSomeAnd (under hash s.results) (λ r. r.pinned ≡ false)
 MayWant s (Put Unpin hash body) = (body ≡ []) × ((machine.unpin by_messages s hash).0 ≡ done)
+
+-- The same where the reply is written: a blob is written as it lies in the store, which wants none.
+abbrev pub MayWantToWrite : CacheState → AskValue → Type 0
+MayWantToWrite s (Get Ac hash) = IsSome (under hash s.results)
+MayWantToWrite s (Get Cas hash) = ⊥
+MayWantToWrite s (Get Pin hash) = ⊥
+MayWantToWrite s (Get Unpin hash) = ⊥
+MayWantToWrite s (Put area hash body) = MayWant s (Put area hash body)

@@ -10,19 +10,19 @@ abbrev pub no_counts : Counts
 no_counts = record { requests = 0; hits = 0; misses = 0 }
 
 -- a count, as far as a machine word goes
-abbrev pub one_more : ℕ → ℕ
-one_more n = min (n + 1) 18446744073709551615
+abbrev pub counted_on : ℕ → ℕ
+counted_on n = min (n + 1) 18446744073709551615
 
 -- a look-up that was answered with this status: 200 is a hit, and all else a miss
 abbrev pub count_look_up : Counts → ℕ → Counts
 count_look_up c status =
     if status == 200
-    then record { requests = one_more c.requests; hits = one_more c.hits; misses = c.misses }
-    else record { requests = one_more c.requests; hits = c.hits; misses = one_more c.misses }
+    then record { requests = counted_on c.requests; hits = counted_on c.hits; misses = c.misses }
+    else record { requests = counted_on c.requests; hits = c.hits; misses = counted_on c.misses }
 
--- a request that asks for nothing, or was refused
+-- a request that looks nothing up, or was refused
 abbrev pub count_other : Counts → Counts
-count_other c = record { requests = one_more c.requests; hits = c.hits; misses = c.misses }
+count_other c = record { requests = counted_on c.requests; hits = c.hits; misses = c.misses }
 
 -- a request that was answered with this status
 abbrev pub count_ask : Counts → AskValue → ℕ → Counts

@@ -23,12 +23,3 @@ ServesAll old (event ∷ events) text new =
     (first : List ℕ) × (others : List ℕ) × (between : CacheValue)
     × ServesOne old event first between × ServesAll between events others new
     × (text ≡ first ++ others)
-
--- the first of the events were answered, as many as may be, and their texts are lost
-pub record ServesFront (old : CacheValue) (events : List EventValue) (new : CacheValue)
-    : Type 0 where
-  pub done : List EventValue
-  pub others : List EventValue
-  pub text : List ℕ
-  pub whole : events ≡ done ++ others
-  pub served : ServesAll old done text new

@@ -1,4 +1,4 @@
--- Of which status each refusal is told (RFC 9110, section 15.5).
+-- The status with which each refusal is told (RFC 9110, section 15.5).
 use Rattle.std.specs.Prelude.{◌≡◌, ℕ, Some, Result, Ok, Err, option_map}
 use Rattle.action_cache.specs.declared.error.CacheError.{CacheError}
 use Rattle.action_cache.specs.declared.error.CacheError.TheVariants.{Memory}
@@ -23,6 +23,6 @@ module _ {T : Type 0} where
   IsToldBy (Err e) status = option_map status_of (refusal_of e) ≡ Some status
 
   -- the change wanted memory
-  abbrev pub IsWanting : Result T CacheError → Type 0
-  IsWanting (Ok x) = ⊥
-  IsWanting (Err e) = e ≡ Memory
+  abbrev pub WantsMemory : Result T CacheError → Type 0
+  WantsMemory (Ok x) = ⊥
+  WantsMemory (Err e) = e ≡ Memory

@@ -3,7 +3,7 @@ use Rattle.std.specs.Prelude.{◌≡◌, ℕ, ◌⊎◌, Bool, List, [], ◌++�
 use Rattle.std.specs.Io.KnownBytes.{Appends, Keeps}
 use Rattle.http_core.specs.Event.{AskValue, EventValue}
 use Rattle.http_core.specs.Reply.{ReplyValue, reply_text}
-use Rattle.cache_server.specs.Cache.{CacheValue, Step, MayWant}
+use Rattle.cache_server.specs.Cache.{CacheValue, Step, MayWantToWrite}
 use Rattle.cache_server.specs.Counts.{CountsFront, count_all}
 use Rattle.cache_server.specs.Serving.{ServesAll, ServesOne}
 use Rattle.cache_server.specs.declared.counts.Counts.{Counts}
@@ -41,7 +41,7 @@ abbrev pub FailsAsk :
     ConnError → CacheValue → AskValue → Bool → Option (List ℕ) → Option (List ℕ) → CacheValue
     → Type 0
 FailsAsk Memory old ask close before after new =
-    (new ≡ old) × Keeps before after × MayWant old ask
+    (new ≡ old) × Keeps before after × MayWantToWrite old ask
 FailsAsk WriteFault old ask close before after new = AnswersAskInPart old ask close before after new
 FailsAsk ReadFault old ask close before after new = ⊥
 

@@ -14,8 +14,8 @@ use std::alloc::Allocator;
 use std::io::Write;
 
 /// Answers the events one after another, and counts them. After an `Err` the cache is as some of
-/// the events left it, from the first on, and some beginning of their texts is written; those whose
-/// text is written whole are counted.
+/// the events left it, from the first on, and some beginning of their texts is written; all but the
+/// last of them at most are counted, and the texts of those are written whole.
 pub(crate) fn answer_all<A: Allocator + Copy, W: Write>(
     alloc: A,
     cache: &mut Cache<A>,

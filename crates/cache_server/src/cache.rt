@@ -7,7 +7,7 @@ ghost use Rattle.action_cache.specs.Machine.{get_blob as blob_got};
 ghost use Rattle.action_cache.specs.Reading.{by_messages};
 ghost use Rattle.cache_server.specs.Cache.{Step, MayWant, bare, found_reply};
 ghost use Rattle.cache_server.specs.Counts.{IsStatusOf};
-ghost use Rattle.cache_server.specs.Status.{IsToldBy, IsWanting};
+ghost use Rattle.cache_server.specs.Status.{IsToldBy, WantsMemory};
 ghost use Rattle.cache_server.specs.Writing.{AnswersAsk, FailsAsk};
 
 use crate::error::ConnError;
@@ -37,7 +37,7 @@ impl<A: Allocator> Model for Cache<A> {
 /// The status of a change that was made or refused.
 fn status_of(changed: Result<(), CacheError>) -> Result<u16, AllocError>
     ensures ok { IfOk result (λ status. IsToldBy changed status) }
-    ensures err { OnErr result (IsWanting changed) }
+    ensures err { OnErr result (WantsMemory changed) }
 {
     match changed {
         Ok(()) => Ok(200),

@@ -4,10 +4,10 @@ use thiserror::Error;
 /// Why a connection is given up.
 #[derive(Clone, Copy, Debug, PartialEq, Eq, Error)]
 pub enum ConnError {
-    /// Refusal 85: the reader failed.
+    /// The reader failed.
     #[error("the reader failed")]
     ReadFault,
-    /// Refusal 86: the writer failed.
+    /// The writer failed.
     #[error("the writer failed")]
     WriteFault,
     /// No memory was left.

@@ -18,8 +18,9 @@ use std::io::{Read, Write};
 const PIECE: usize = 65536;
 
 /// Answers the requests that the reader gives, until it ends or one of them closes. The answers to
-/// a piece are written, and flushed, before the next piece is read. Refusals 85 and 86 where the
-/// reader or the writer failed, and `Memory`: the cache is as the requests up to then left it.
+/// a piece are written, and flushed, before the next piece is read. `ReadFault` or `WriteFault`
+/// where the reader or the writer failed, and `Memory`: the cache is as the requests up to then left
+/// it.
 pub fn run<A: Allocator + Copy, R: Read, W: Write>(
     alloc: A,
     reader: &mut R,
@@ -45,7 +46,8 @@ pub fn run<A: Allocator + Copy, R: Read, W: Write>(
     run_counting(alloc, reader, writer, cache, prefix, &mut counts)
 }
 
-/// The same, and counts the requests whose answers are written whole.
+/// The same, and counts the requests that were answered. Where a write failed, that is all but the
+/// last of them at most, and the answers to those are written whole.
 pub fn run_counting<A: Allocator + Copy, R: Read, W: Write>(
     alloc: A,
     reader: &mut R,
@@ -92,7 +94,8 @@ pub fn run_counting<A: Allocator + Copy, R: Read, W: Write>(
     Err(ConnError::Memory)
 }
 
-/// Answers a piece.
+/// Answers a piece, and flushes the answers; where memory is wanting, those that were written. A
+/// writer that has failed isn't flushed.
 fn exchange<A: Allocator + Copy, W: Write>(
     alloc: A,
     session: &mut Session<A>,
@@ -117,9 +120,15 @@ fn exchange<A: Allocator + Copy, W: Write>(
     ensures fault { IfErr result (λ e. e ≢ ConnError.ReadFault) }
 {
     let events = session.feed(alloc, piece)?;
-    answer_all(alloc, cache, events, writer, counts)?;
-    match writer.flush() {
-        Ok(()) => Ok(()),
-        Err(_) => Err(ConnError::WriteFault),
+    match answer_all(alloc, cache, events, writer, counts) {
+        Ok(()) => match writer.flush() {
+            Ok(()) => Ok(()),
+            Err(_) => Err(ConnError::WriteFault),
+        },
+        Err(ConnError::Memory) => {
+            let _flushed = writer.flush();
+            Err(ConnError::Memory)
+        }
+        Err(fault) => Err(fault),
     }
 }

@@ -162,8 +162,8 @@ fn tell_answer(
     text.push_str(line.as_str())
 }
 
-/// How many bytes a call answers: `fetch TEXT` and `put TEXT` are about the blob TEXT, `result TEXT`
-/// and `put_result TEXT` about the result of the action of its digest.
+/// How many bytes a call answers: `fetch TEXT` and `put TEXT` are about the blob TEXT,
+/// `result TEXT` and `put_result TEXT` about the result of the action of its digest.
 fn answer<A: Allocator + Copy>(
     alloc: A,
     remote: &mut Remote<Failing, A>,

@@ -5,11 +5,13 @@ use blob_digest::Digest;
 use cache_server::*;
 use http_core::Prefix;
 use std::alloc::{AllocError, Global};
+use std::cell::Cell;
 
 /// `fail_reads_and_writes`: how a run over the stream ends whose read of each number in turn fails,
 /// or whose write does, and what is answered till then.
 pub fn fail_reads_and_writes(row: &Row<'_>, text: &mut String) -> Result<(), AllocError> {
-    let mut whole = writer_to(row.heap, 0);
+    let flushed = Cell::new(0);
+    let mut whole = writer_to(row.heap, 0, &flushed);
     let end = run_faulty(row, 0, &mut whole)?;
     let digest = Digest::of(&whole.taken).write_text(row.heap)?;
     let most = whole.longest;
@@ -21,7 +23,8 @@ pub fn fail_reads_and_writes(row: &Row<'_>, text: &mut String) -> Result<(), All
 
 fn fail_reads(row: &Row<'_>, text: &mut String) -> Result<(), AllocError> {
     for number in 1..7u64 {
-        let mut writer = writer_to(row.heap, 0);
+        let flushed = Cell::new(0);
+        let mut writer = writer_to(row.heap, 0, &flushed);
         let end = run_faulty(row, number, &mut writer)?;
         let length = writer.taken.len();
         let line = format!(in row.heap; "read {number}: {end} after {length} bytes\n")?;
@@ -32,7 +35,8 @@ fn fail_reads(row: &Row<'_>, text: &mut String) -> Result<(), AllocError> {
 
 fn fail_writes(row: &Row<'_>, whole: &[u8], text: &mut String) -> Result<(), AllocError> {
     for number in 1..8u64 {
-        let mut writer = writer_to(row.heap, number);
+        let flushed = Cell::new(0);
+        let mut writer = writer_to(row.heap, number, &flushed);
         let end = run_faulty(row, 0, &mut writer)?;
         let begins = whole.starts_with(&writer.taken);
         let taken = if begins { "a beginning" } else { "other bytes" };
@@ -47,7 +51,7 @@ fn fail_writes(row: &Row<'_>, whole: &[u8], text: &mut String) -> Result<(), All
 fn run_faulty(
     row: &Row<'_>,
     read: u64,
-    writer: &mut FaultyWriter,
+    writer: &mut FaultyWriter<'_>,
 ) -> Result<&'static str, AllocError> {
     let mut cache: Cache<Global> = Cache::new(row.heap, row.state, 1_000_000, 0)?;
     let prefix: Prefix<Global> = Prefix::read(row.heap, b"")?.ok_or(AllocError)?;
@@ -63,11 +67,13 @@ fn run_faulty(
     }
 }
 
-fn writer_to(heap: Global, left: u64) -> FaultyWriter {
+/// A writer whose write of this number fails, and that tells what was flushed.
+pub fn writer_to<'a>(heap: Global, left: u64, flushed: &'a Cell<usize>) -> FaultyWriter<'a> {
     FaultyWriter {
         taken: Vec::new(heap),
         most: 50_000,
         left,
         longest: 0,
+        flushed,
     }
 }

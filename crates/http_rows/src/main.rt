@@ -12,6 +12,7 @@ mod sessions;
 mod stream;
 mod text;
 mod texts;
+mod turns;
 mod verbs;
 
 use folders::read_folder;

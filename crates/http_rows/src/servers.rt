@@ -28,14 +28,16 @@ impl<'a> Setting<'a> {
     }
 }
 
-fn cache_of<A: Allocator + Copy>(alloc: A, row: &Row<'_>) -> Result<Cache<A>, AllocError> {
+/// A cache with the row's limits.
+pub fn cache_of<A: Allocator + Copy>(alloc: A, row: &Row<'_>) -> Result<Cache<A>, AllocError> {
     let setting = Setting::of(row.words);
     let limit = setting.limit.min(1_000_000);
     let result_limit = setting.result_limit.min(1_000_000);
     Cache::new(alloc, row.state, limit, result_limit)
 }
 
-fn prefix_of<A: Allocator + Copy>(alloc: A, row: &Row<'_>) -> Result<Prefix<A>, AllocError> {
+/// The row's prefix.
+pub fn prefix_of<A: Allocator + Copy>(alloc: A, row: &Row<'_>) -> Result<Prefix<A>, AllocError> {
     let prefix = Setting::of(row.words).prefix;
     Prefix::read(alloc, prefix.as_bytes())?.ok_or(AllocError)
 }
@@ -168,8 +170,8 @@ fn counted<A: Allocator + Copy>(alloc: A, row: &Row<'_>) -> Result<Counts, Alloc
     }
 }
 
-/// `look_up ..`: the status of a put of the blob `123456789`, the status of its look-up and how many
-/// bytes it finds, and the status of a look-up that finds nothing.
+/// `look_up ..`: the status of a put of the blob `123456789`, the status of its look-up and how
+/// many bytes it finds, and the status of a look-up that finds nothing.
 pub fn look_up<A: Allocator + Copy>(
     alloc: A,
     row: &Row<'_>,

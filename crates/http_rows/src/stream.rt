@@ -3,7 +3,7 @@ use remote::*;
 use std::alloc::Global;
 use std::io;
 
-/// Gives and takes at most so many bytes at once; the call of this number fails, none where it is
+/// Gives and takes at most this many bytes at once; the call of this number fails, none where it is
 /// 0. What comes once it is opened anew, and whether it is open.
 #[derive(Drop)]
 pub struct Failing {
@@ -25,9 +25,9 @@ impl Failing {
 }
 
 impl Stream for Failing {
-    ghost use Rattle.std.specs.Prelude.{None};
+    ghost use Rattle.remote.specs.Flow.{unknown};
 
-    ghost flow = { λ _. record { coming = None; sent = None; is_open = None; openings = None } };
+    ghost flow = { λ _. unknown };
 
     fn receive(&mut self, buf: &mut [u8]) -> io::Result<usize> {
         if self.fails() {

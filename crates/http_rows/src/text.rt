@@ -25,7 +25,7 @@ pub fn named(alloc: Global, names: &str, text: &str) -> Result<String, AllocErro
     Ok(told)
 }
 
-/// The text with TEXT so many times in place of each `\{N TEXT}`.
+/// The text with TEXT N times in place of each `\{N TEXT}`.
 fn repeated(alloc: Global, text: &str) -> Result<String, AllocError> {
     let mut told = String::new(alloc);
     for (number, part) in text.split("\\{").enumerate() {
@@ -47,8 +47,8 @@ fn push_repeated(alloc: Global, told: &mut String, part: &str) -> Result<(), All
     told.push_str(after)
 }
 
-/// The bytes of a text in which `\{N TEXT}` stands for TEXT so many times, and a backslash and `n`,
-/// `r`, `t` or `x` and two hex digits for a byte.
+/// The bytes of a text in which `\{N TEXT}` stands for TEXT N times, and a backslash and `n`, `r`,
+/// `t` or `x` and two hex digits for a byte.
 pub fn unescaped(alloc: Global, text: &str) -> Result<Vec<u8>, AllocError> {
     let text = repeated(alloc, text)?;
     let mut bytes = Vec::new(alloc);

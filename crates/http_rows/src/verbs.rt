@@ -6,6 +6,7 @@ use crate::rows::Row;
 use crate::servers::{count, look_up, refuse_first, serve, serve_two};
 use crate::sessions::session;
 use crate::texts::{answer, head, host, prefix, request};
+use crate::turns::turns;
 use refusing::Refusing;
 use std::alloc::{AllocError, Allocator};
 
@@ -39,6 +40,7 @@ fn tell<A: Allocator + Copy>(
         "serve" => serve(alloc, row, text),
         "serve_two" => serve_two(alloc, row, text),
         "count" => count(alloc, row, text),
+        "turns" => turns(alloc, row, text),
         "look_up" => look_up(alloc, row, text),
         "ask" => ask(alloc, row, text),
         "sent" => sent(alloc, row, text),
@@ -109,7 +111,7 @@ fn refuse_each(
     expected: &str,
     text: &mut String,
 ) -> Result<u64, AllocError> {
-    let serves = matches!(verb, "serve" | "serve_two" | "count");
+    let serves = matches!(verb, "serve" | "serve_two" | "count" | "turns");
     let mut refused = 0u64;
     for number in 1..100_000u64 {
         let alloc = Refusing::new(row.heap, number);

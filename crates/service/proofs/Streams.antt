@@ -1,5 +1,5 @@
 -- One stream more.
-use Rattle.std.proofs.Common.{◌≡◌, ℕ, ◌+◌, Option, Some, List, [], ◌∷◌, ◌++◌, length, refl, sym, ◌∙◌, ap, subst, Result, Ok, Err, OnOk, OnErr}
+use Rattle.std.proofs.Common.{ℕ, ◌+◌, Option, Some, List, [], ◌∷◌, ◌++◌, refl, ◌∙◌, ap, subst, Result, Ok, Err, OnOk, OnErr}
 use Rattle.std.proofs.lemmas.List.{length-append}
 use Rattle.cache_server.specs.Cache.{CacheValue}
 use Rattle.cache_server.specs.Connection.{RunsCounting, RunsSomeCounting}
@@ -29,6 +29,3 @@ many_none prefix old = ([], refl, refl)
 pub many_more : (prefix : List ℕ) (old between new : CacheValue) (count : ℕ) → ServesSoMany count prefix old between → ServesSome prefix between new → ServesSoMany (count + 1) prefix old new
 many_more prefix old between new count (streams, many, serves) (stream, s) =
     (streams ++ stream ∷ [], length-append streams (stream ∷ []) ∙ ap (λ n. n + 1) many, streams_more prefix old between new streams stream serves s)
-
-pub many_same : (prefix : List ℕ) (old between new : CacheValue) (count : ℕ) → ServesSoMany count prefix old between → new ≡ between → ServesSoMany count prefix old new
-many_same prefix old between new count many same = subst (ServesSoMany count prefix old) (sym same) many

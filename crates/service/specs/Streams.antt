@@ -19,7 +19,7 @@ ServesStreams prefix old (stream ∷ streams) new =
     (between : CacheValue)
     × ServesStream prefix old stream between × ServesStreams prefix between streams new
 
--- so do those of so many streams
+-- so do those of this many streams
 abbrev pub ServesSoMany : ℕ → List ℕ → CacheValue → CacheValue → Type 0
 ServesSoMany count prefix old new =
     (streams : List (List ℕ)) × (length streams ≡ count) × ServesStreams prefix old streams new

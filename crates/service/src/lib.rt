@@ -3,7 +3,9 @@
 #![tactic(auto)]
 
 mod closing;
+mod error;
 mod metered;
 mod serving;
 
+pub use error::NotAccepted;
 pub use serving::serve;

@@ -1,18 +1,23 @@
-ghost use Rattle.std.specs.Prelude.{◌≤◌};
+ghost use Rattle.std.specs.Prelude.{◌<◌, IfErr, OnOk};
 ghost use Rattle.service.specs.Streams.{ServesSoMany, ServesSome};
 
 use crate::closing::close;
+use crate::error::NotAccepted;
 use crate::metered::Metered;
 use cache_server::{Cache, ConnError, Counts, run_counting};
 use http_core::Prefix;
 use log::{Log, info, warn};
 use std::alloc::Global;
+use std::io;
 use std::io::BufWriter;
 use std::net::{SocketAddr, TcpListener, TcpStream};
 use std::time::{Clock, Duration};
 
 /// How many bytes of answers are gathered before they are written: heads go out with what is short.
 const GATHERED: usize = 16384;
+
+/// How often in a row it is tried to accept a connection.
+const TRIES: u32 = 100;
 
 /// What came of a connection.
 #[derive(Drop)]
@@ -24,8 +29,8 @@ struct Ended {
 }
 
 /// Serves so many connections of the listener, one after another. One that is silent for `idle`, or
-/// takes no answer for so long, is ended. A fault of one connection ends that connection alone. The
-/// answer tells how many were accepted.
+/// takes no answer for so long, is ended. A fault of one connection ends that connection alone. One
+/// that can't be accepted isn't counted; after 100 faults in a row no more are waited for.
 pub fn serve<R: AllocGlobal + Clock + Log>(
     rt: &R,
     listener: &TcpListener,
@@ -33,23 +38,39 @@ pub fn serve<R: AllocGlobal + Clock + Log>(
     idle: Option<Duration>,
     cache: &mut Cache<Global>,
     prefix: &Prefix<Global>,
-) -> u64
+) -> Result<(), NotAccepted>
     // The cache is as the requests of some streams left it, one for each connection accepted.
-    ensures served { ServesSoMany result prefix.now cache.old cache.new }
-    ensures few { result ≤ connections }
+    ensures ok { OnOk result (ServesSoMany connections prefix.now cache.old cache.new) }
+    ensures err { IfErr result (λ e. ServesSoMany e.accepted prefix.now cache.old cache.new) }
+    ensures few { IfErr result (λ e. e.accepted < connections) }
 {
-    let mut accepted = 0;
     for number in 0..connections {
+        let (stream, peer) = match accept(rt, listener, number) {
+            Ok(accepted) => accepted,
+            Err(fault) => return Err(NotAccepted {
+                accepted: number,
+                fault,
+            }),
+        };
+        let ended = serve_one(rt, &stream, idle, cache, prefix);
+        tell(rt, number, &peer, &ended);
+    }
+    Ok(())
+}
+
+/// The next connection, or the last of so many faults in a row. The log tells of the others.
+fn accept<R: Log>(
+    rt: &R,
+    listener: &TcpListener,
+    number: u64,
+) -> io::Result<(TcpStream, SocketAddr)> {
+    for _ in 1..TRIES {
         match listener.accept() {
-            Ok((stream, peer)) => {
-                let ended = serve_one(rt, &stream, idle, cache, prefix);
-                tell(rt, number, &peer, &ended);
-                accepted += 1;
-            }
+            Ok(accepted) => return Ok(accepted),
             Err(fault) => warn!(rt; "{number}: not accepted: {fault}"),
         }
     }
-    accepted
+    listener.accept()
 }
 
 /// Tells of a connection that has ended in the log.

@@ -1,9 +1,5 @@
-use Rattle.std.proofs.Common.{◌≤◌}
 use Rattle.service.specs.Streams.{ServesSoMany}
 use Rattle.service.proofs.serving.serve.Given as goal
 
 abbrev pub invariant-loop-number : goal.invariant-loop-number
-invariant-loop-number g l = record {
-  few : l.accepted ≤ l.number-counter;
-  serves : ServesSoMany l.accepted l.fn.prefix l.fn.cache l.cache;
-}
+invariant-loop-number g l = ServesSoMany l.number l.fn.prefix l.fn.cache l.cache

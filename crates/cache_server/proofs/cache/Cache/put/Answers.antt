@@ -3,7 +3,6 @@ use Rattle.std.proofs.lemmas.Result.{IfOk-weaker}
 use Rattle.http_core.specs.Event.{Put}
 use Rattle.action_cache.specs.Machine.{CacheState}
 use Rattle.std.specs.Prelude.{IsSomeAnd}
-use Rattle.http_core.specs.declared.event.Area.TheVariants.{Ac, Cas, Pin, Unpin}
 use Rattle.action_cache.specs.Machine.{Marked, done, under, put_blob as blob_put, unpin as take_off}
 use Rattle.action_cache.specs.Reading.{by_messages}
 use Rattle.cache_server.specs.Cache.{MayWant, Step, bare}

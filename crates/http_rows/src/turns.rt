@@ -1,0 +1,72 @@
+//! What is flushed before each read of a connection.
+ghost use Rattle.std.specs.Prelude.{◌≤◌, length};
+
+use crate::faults::writer_to;
+use crate::faulty::TurnReader;
+use crate::rows::Row;
+use crate::servers::{cache_of, prefix_of};
+use cache_server::{ConnError, run};
+use std::alloc::{AllocError, Allocator};
+use std::cell::Cell;
+
+/// `turns ..`: how many bytes of answers were flushed before each read. A read gives one request of
+/// the first stream, and the last read all of the second. Whatever came of the run, nothing that is
+/// written may be held back at its end.
+pub fn turns<A: Allocator + Copy>(
+    alloc: A,
+    row: &Row<'_>,
+    text: &mut String,
+) -> Result<(), AllocError> {
+    let mut cache = cache_of(alloc, row)?;
+    let prefix = prefix_of(alloc, row)?;
+    let mut pieces = requests_of(row)?;
+    pieces.push(row.next)?;
+    let flushed = Cell::new(0);
+    let mut reader = TurnReader {
+        pieces: &pieces,
+        flushed: &flushed,
+        noted: Vec::new(row.heap),
+    };
+    let mut writer = writer_to(row.heap, 0, &flushed);
+    let end = run(alloc, &mut reader, &mut writer, &mut cache, &prefix);
+    for (at, length) in reader.noted.iter().enumerate() {
+        let number = at + 1;
+        let line = format!(in row.heap; "read {number}: {length} bytes flushed before\n")?;
+        text.push_str(line.as_str())?;
+    }
+    if writer.taken.len() != flushed.get() {
+        text.push_str("not flushed at the end\n")?;
+    }
+    match end {
+        Ok(()) => text.push_str("done\n"),
+        Err(ConnError::Memory) => Err(AllocError),
+        Err(_) => text.push_str("a fault\n"),
+    }
+}
+
+/// The requests of the stream.
+fn requests_of<'a>(row: &Row<'a>) -> Result<Vec<&'a [u8]>, AllocError> {
+    let mut requests = Vec::new(row.heap);
+    let mut rest = row.stream;
+    for _ in 0..row.stream.len() {
+        let (request, later) = rest.split_at(first_length(rest));
+        rest = later;
+        if !request.is_empty() {
+            requests.push(request)?;
+        }
+    }
+    Ok(requests)
+}
+
+/// The length of the first request, up to where another begins.
+fn first_length(stream: &[u8]) -> usize
+    ensures { result ≤ length stream.now }
+{
+    for at in 1..stream.len() {
+        let (_, rest) = stream.split_at(at);
+        if rest.starts_with(b"PUT /") || rest.starts_with(b"GET /") {
+            return at;
+        }
+    }
+    stream.len()
+}
