@@ -3,3 +3,4 @@ pub mod Serving
 pub mod Refusing
 pub mod Within
 pub mod Watched
+mod Failing

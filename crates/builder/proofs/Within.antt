@@ -48,6 +48,7 @@ module _ (A : Type 0) (z y : Yields) (most : ℕ) (plan : PlanValue) (sources : 
     still = h.still;
     last = h.last;
     led = led_within A z y h.ending within h.led;
+    complete = h.complete;
     asked = h.asked;
     stands = h.stands;
   })))

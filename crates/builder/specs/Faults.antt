@@ -1,5 +1,5 @@
--- The number of each refusal of a build, and what has none: a failure of the store or of the runner,
--- and want of memory.
+-- The number of each refusal of a build, and what has none: a failure of the store or of the
+-- runner, and want of memory.
 use Rattle.runs.specs.declared.error.OpenError.{OpenError}
 use Rattle.runs.specs.declared.error.OpenError.TheVariants as opening
 use Rattle.runs.specs.declared.error.RunsError.{RunsError}
@@ -72,3 +72,13 @@ of_refusal place refusals.Memory = Memory
 abbrev pub HasNoNumber : Fault → Type 0
 HasNoNumber (Refused place number) = ⊥
 HasNoNumber _ = Unit {0}
+
+-- the store failed
+abbrev pub IsStoreFailure : Fault → Type 0
+IsStoreFailure (Fetch place) = Unit {0}
+IsStoreFailure _ = ⊥
+
+-- the runner failed
+abbrev pub IsRunnerFailure : Fault → Type 0
+IsRunnerFailure (Device place) = Unit {0}
+IsRunnerFailure _ = ⊥

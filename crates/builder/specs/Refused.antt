@@ -4,7 +4,7 @@ use Rattle.blob_digest.specs.Digest.{DigestValue}
 use Rattle.blob_source.specs.Sink.{KeepsRight}
 use Rattle.blob_source.specs.Source.{AsksSome, Telling}
 use Rattle.plan.specs.Values.{PlanValue}
-use Rattle.runs.specs.Calls.{IsOpened, IsOpenFault, IsRootFault}
+use Rattle.runs.specs.Calls.{HaveAllFinished, IsOpened, IsOpenFault, IsRootFault}
 use Rattle.runs.specs.Engine.{EngineValue}
 use Rattle.runs.specs.declared.error.OpenError.{OpenError}
 use Rattle.runs.specs.declared.error.RunsError.{RunsError}
@@ -43,7 +43,8 @@ pub record FailsStep (A : Type 0) (yields : Yields) (most : ℕ) (plan : PlanVal
   pub still : KeepsRight opening.blobs told.blobs
   pub stands : RefusesStep A yields most first told fault
 
--- calls led from an engine of the plan to one of which the root is refused
+-- calls led from an engine of the plan to one in which each step has finished, and of which the
+-- root is refused
 pub record FailsRoot (A : Type 0) (yields : Yields) (most : ℕ) (plan : PlanValue)
     (sources : DigestValue) (told : Telling) (fault : Fault) : Type 0 where
   pub opening : Telling
@@ -53,6 +54,7 @@ pub record FailsRoot (A : Type 0) (yields : Yields) (most : ℕ) (plan : PlanVal
   pub still : KeepsRight opening.blobs ending.blobs
   pub last : EngineValue
   pub led : IsLed A yields ending most first last
+  pub complete : HaveAllFinished last
   pub asked : AsksSome ending told
   pub stands : RefusesRoot A last told fault
 

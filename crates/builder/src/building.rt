@@ -1,6 +1,9 @@
 ghost use Rattle.std.specs.Prelude.{◌≡◌, ◌⊎◌, ◌<◌, [], IfErr, IfOk, OnOk, length};
+ghost use Rattle.std.specs.Result.{IsErrAnd};
+ghost use Rattle.worker.specs.Counted.{Counts};
 ghost use Rattle.blob_source.specs.Sink.{KeepsRight};
 ghost use Rattle.blob_source.specs.Source.{AsksSome};
+ghost use Rattle.builder.specs.Faults.{IsRunnerFailure, IsStoreFailure};
 ghost use Rattle.builder.specs.Built.{IsBuilt, IsEnd};
 ghost use Rattle.builder.specs.Refused.{FailsOpening, RefusesStep, RefusesRoot, IsBuildFault};
 ghost use Rattle.builder.specs.Watched.{IsProgressOfPlan, IsToldWhole};
@@ -46,6 +49,8 @@ fn open<A: Allocator + Copy, S: BlobSink<A>>(
     ensures opened { IfOk result (IsOpened (S.tells sink.new).blobs plan sources) }
     ensures refused { IfErr result (FailsOpening A plan (S.tells sink.new)) }
     ensures asked { AsksSome (S.tells sink.old) (S.tells sink.new) }
+    ensures fetched { Counts (S.tells sink.old).failures (S.tells sink.new).failures
+        (IsErrAnd result IsStoreFailure) }
 {
     match Engine::new(alloc, plan, sources, sink) {
         Ok(engine) => Ok(engine),
@@ -76,6 +81,11 @@ fn run<A: Allocator + Copy, S: BlobSink<A>, N: Runner<A>, W: Watcher>(
         (W.told watcher.old) (W.told watcher.new) }
     ensures up_to_date { OnOk result
         (IsUpToDate engine.old engine.new (W.told watcher.old) (W.told watcher.new)) }
+    ensures fetched { Counts (S.tells sink.old).failures (S.tells sink.new).failures
+        (IsErrAnd result IsStoreFailure) }
+    ensures device { IsErrAnd result IsRunnerFailure
+        → N.failures runner.old < N.failures runner.new }
+    ensures unfailed { OnOk result (N.failures runner.new ≡ N.failures runner.old) }
 {
     match build(alloc, engine, sink, runner, watcher, jobs) {
         Ok(()) => Ok(()),
@@ -89,10 +99,13 @@ fn end<A: Allocator + Copy, S: BlobSink<A>>(
     engine: &Engine<A>,
     sink: &mut S,
 ) -> Result<Built<A>, Fault>
+    requires done { HaveAllFinished engine.now }
     ensures ended { IfOk result (IsEnd A engine.now (S.tells sink.new)) }
     ensures refused { IfErr result (λ fault. (fault ≡ faults.Memory)
         ⊎ RefusesRoot A engine.now (S.tells sink.new) fault) }
     ensures asked { AsksSome (S.tells sink.old) (S.tells sink.new) }
+    ensures fetched { Counts (S.tells sink.old).failures (S.tells sink.new).failures
+        (IsErrAnd result IsStoreFailure) }
 {
     let mut memo = Memo::new(alloc);
     let root = match engine.root(alloc, &mut memo, sink) {
@@ -101,7 +114,7 @@ fn end<A: Allocator + Copy, S: BlobSink<A>>(
     };
     match engine.record(alloc) {
         Ok(Some(noted)) => Ok(Built { root, noted }),
-        Ok(None) => Err(Fault::Refused(Place::Root, 101)),
+        Ok(None) => unreachable!(),
         Err(_e) => Err(Fault::Memory),
     }
 }
@@ -135,6 +148,11 @@ pub fn build_plan<A: Allocator + Copy, S: BlobSink<A>, N: Runner<A>, W: Watcher>
         (W.told watcher.old) (W.told watcher.new) }
     ensures whole { OnOk result
         (IsToldWhole (length plan.steps) (W.told watcher.old) (W.told watcher.new)) }
+    // The store failed exactly where that is told, and the runner at least there.
+    ensures fetched { Counts (S.tells sink.old).failures (S.tells sink.new).failures
+        (IsErrAnd result IsStoreFailure) }
+    ensures device { IsErrAnd result IsRunnerFailure
+        → N.failures runner.old < N.failures runner.new }
 {
     let mut engine = open(alloc, sources, plan, sink)?;
     run(alloc, &mut engine, sink, runner, watcher, jobs)?;

@@ -26,7 +26,7 @@ pub enum Fault {
     /// The store failed.
     #[error("the store failed")]
     Fetch(Place),
-    /// Refusal 113: a process couldn't be run, or was ended by a signal.
+    /// A process couldn't be run, or was ended by a signal.
     #[error("the process couldn't be run, or was ended by a signal")]
     Device(Place),
     /// No memory was left.

@@ -1,5 +1,5 @@
-//! The build of a plan, from its opening to its root and its record, and the line that tells what it
-//! came to.
+//! The build of a plan, from its opening to its root and its record, and the line that tells what
+//! it came to.
 #![tactic(auto)]
 
 mod building;

@@ -1,6 +1,8 @@
 ghost use Rattle.std.specs.Prelude.{◌≡◌, ◌<◌, IfErr, IfOk, length};
 ghost use Rattle.blob_source.specs.Sink.{KeepsRight};
-ghost use Rattle.builder.specs.Faults.{HasNoNumber};
+ghost use Rattle.builder.specs.Faults.{HasNoNumber, IsRunnerFailure, IsStoreFailure};
+ghost use Rattle.std.specs.Result.{IsErrAnd};
+ghost use Rattle.worker.specs.Counted.{Counts};
 ghost use Rattle.builder.specs.Refused.{IsBuildFault};
 ghost use Rattle.builder.specs.Telling.{IsBuildTold};
 ghost use Rattle.builder.specs.Watched.{IsProgressOfPlan, IsToldWholeOf};
@@ -69,6 +71,11 @@ pub fn tell_build<A: Allocator + Copy, S: BlobSink<A>, N: Runner<A>, W: Watcher>
         (W.told watcher.old) (W.told watcher.new) }
     ensures whole { IfOk result (λ told. IsToldWholeOf told (length plan.now.steps)
         (W.told watcher.old) (W.told watcher.new)) }
+    // The store failed exactly where that is told, and the runner at least there.
+    ensures fetched { Counts (S.tells sink.old).failures (S.tells sink.new).failures
+        (IsErrAnd result IsStoreFailure) }
+    ensures device { IsErrAnd result IsRunnerFailure
+        → N.failures runner.old < N.failures runner.new }
 {
     let copy = copy_of(alloc, plan)?;
     match build_plan(alloc, *sources, copy, sink, runner, watcher, jobs) {

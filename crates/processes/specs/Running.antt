@@ -9,7 +9,7 @@ use Rattle.processes.specs.Workshop.{Works}
 use Rattle.processes.specs.Laying.{start_of, IsLaidOut, IsMadeReady}
 use Rattle.processes.specs.Collected.{AreCollected}
 
--- how many children weren't waited for yet
+-- how many children haven't been waited for yet
 abbrev pub alive_in : Tally → ℕ
 alive_in t = t.alive
 

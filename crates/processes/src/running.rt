@@ -141,7 +141,7 @@ impl<W: Workshop, A: Allocator + Copy> ProcessRunner<W, A> {
     }
 }
 
-/// What a child came to that ended so: the outcome of its exit code and of what stands at the
+/// What a child that ended so came to: the outcome of its exit code and of what stands at the
 /// output paths. One that a signal ended came to nothing.
 fn come_to<A: Allocator + Copy, W: Workshop>(
     alloc: A,

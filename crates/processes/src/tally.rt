@@ -8,8 +8,8 @@ use std::io;
 use std::io::ErrorKind;
 use worker::RunError;
 
-/// How many children weren't waited for yet, and how often something failed. Only what starts a
-/// child and what waits for one change the first.
+/// How many children haven't been waited for yet, and how often something failed. Only what starts
+/// a child and what waits for one change the first.
 #[derive(Drop)]
 pub(crate) struct Tally {
     alive: u64,
@@ -49,7 +49,7 @@ impl Tally {
         Ok(child)
     }
 
-    /// Waits for a child, which isn't counted any more.
+    /// Waits for a child, which is no longer counted then.
     pub(crate) fn wait<W: Workshop>(
         &mut self,
         workshop: &W,

@@ -1,5 +1,5 @@
 -- A build goes on.
-use Rattle.std.proofs.Common.{◌≡◌, ℕ, ◌<◌, ◌≤◌, List, [], ◌∷◌, ◌++◌, length, length-append, set, Some, None, refl, ap, sym, ◌∙◌, subst, arith, inl, inr}
+use Rattle.std.proofs.Common.{◌≡◌, ℕ, ◌<◌, ◌≤◌, List, [], ◌∷◌, ◌++◌, append_assoc, append-nil, length, length-append, set, Some, None, refl, ap, sym, ◌∙◌, subst, arith, inl, inr}
 use Rattle.std.specs.Prelude.{◌⊎◌, ◌↔◌, Result, Ok, Err, IsErr, OnOk, slice_get}
 use Rattle.blob_digest.specs.Digest.{DigestValue}
 use Rattle.actions.specs.Outcome.{OutcomeValue}
@@ -14,29 +14,37 @@ use Rattle.worker.specs.declared.child.Child.{Child}
 use Rattle.worker.specs.Values.{ProducedValue}
 use Rattle.worker.specs.Stores.{IsKept, IsKeptBut}
 use Rattle.worker.specs.Outcomes.{Yields, YieldsNoMore, IsYielded}
-use Rattle.worker.specs.Calls.{running, Call, started, ran, taken, lost, HasRun, WasStarted, FinishedByChild, Does, Leads, IsLed}
+use Rattle.worker.specs.Calls.{running, Call, started, ran, taken, lost, HasRun, WasStarted, FinishedByChild, Does, Leads, IsLed, PutsOf, IsBuiltBy}
 use Rattle.worker.specs.Going.{IsJobOf, AreJobsOf, IsOwnJob, IsGoing, IsBegun, CameToNothing, IsLaunched, job_value, EndsWell, Ends}
-use Rattle.worker.proofs.Keeping.{right_trans, right_still, all_right_still}
+use Rattle.std.specs.List.{AllByRecursion}
+use Rattle.worker.proofs.Keeping.{kept_none, right_trans, right_still, all_right_still}
 use Rattle.worker.proofs.Telling.{layout_still, recorded_still}
 use Rattle.worker.proofs.Jobs.{least_within, jobs_added, jobs_back, jobs_count, jobs_map}
 use Rattle.worker.proofs.Started.{job_of, after, least, job_is, one_more, was_started, started_value}
 
 -- ---- calls
 
--- what the store told stays, but for results of actions that some calls ran
+-- what the store told stays, but for results that were put as some calls say
 record Moves (t u : Telling) (more : List Call) : Type 0 where
   blobs : KeepsRight t.blobs u.blobs
-  results : (e : DigestValue) (b : List ℕ) → t.results e ≡ Some b → (u.results e ≡ Some b) ⊎ HasRun e more
+  puts : PutsOf more t u
+
+puts_none : (t u : Telling) (more : List Call) → IsKept t u → PutsOf more t u
+puts_none t u more k = record { put = []; are = k.puts ∙ sym (append-nil t.puts); each = tt; others = λ e b at. inl (k.results e b at) }
 
 moves_kept : (t u : Telling) (more : List Call) → IsKept t u → Moves t u more
-moves_kept t u more k = record { blobs = k.blobs; results = λ e b at. inl (k.results e b at) }
+moves_kept t u more k = record { blobs = k.blobs; puts = puts_none t u more k }
 
 moves_ran : (t u : Telling) (id : ℕ) (d : DigestValue) (v : OutcomeValue) → IsKeptBut d t u → Moves t u (ran id d v ∷ [])
-moves_ran t u id d v k = record { blobs = k.blobs; results = λ e b at. by e b (k.results e b at) }
+moves_ran t u id d v k = record { blobs = k.blobs; puts = of k.puts }
   where
     by : (e : DigestValue) (b : List ℕ) → (u.results e ≡ Some b) ⊎ (e ≡ d) → (u.results e ≡ Some b) ⊎ HasRun e (ran id d v ∷ [])
     by e b (inl at) = inl at
     by e b (inr is) = inr (inl is)
+
+    of : (u.puts ≡ t.puts) ⊎ (u.puts ≡ t.puts ++ d ∷ []) → PutsOf (ran id d v ∷ []) t u
+    of (inl same) = record { put = []; are = same ∙ sym (append-nil t.puts); each = tt; others = λ e b at. by e b (k.results e b at) }
+    of (inr more) = record { put = d ∷ []; are = more; each = (inl refl, tt); others = λ e b at. by e b (k.results e b at) }
 
 run_more : (d : DigestValue) (cs more : List Call) → HasRun d cs → HasRun d (cs ++ more)
 run_more d [] more h = absurd h
@@ -85,7 +93,7 @@ module _ (A : Type 0) (y : Yields) (t u : Telling) (more : List Call) (m : Moves
     where
       by : (t.results d ≡ Some w.bytes) ⊎ HasRun d later → (u.results d ≡ Some w.bytes) ⊎ HasRun d (later ++ more)
       by (inr h) = inr (run_more d later more h)
-      by (inl at) = next (m.results d w.bytes at)
+      by (inl at) = next (m.puts.others d w.bytes at)
         where
           next : (u.results d ≡ Some w.bytes) ⊎ HasRun d more → (u.results d ≡ Some w.bytes) ⊎ HasRun d (later ++ more)
           next (inl is) = inl is
@@ -96,8 +104,37 @@ module _ (A : Type 0) (y : Yields) (t u : Telling) (more : List Call) (m : Moves
   leads_moved most [] old mid new same rest = subst (λ e. Leads A y u most more e new) same rest
   leads_moved most (c ∷ cs) old mid new (next, does, few, first) rest = (next, does_moved cs c old next does, few, leads_moved most cs next mid new first rest)
 
-  led_moved : (most : ℕ) (old mid new : EngineValue) → IsLed A y t most old mid → Leads A y u most more mid new → IsLed A y u most old new
+  abbrev led_moved : (most : ℕ) (old mid new : EngineValue) → IsLed A y t most old mid → Leads A y u most more mid new → IsLed A y u most old new
   led_moved most old mid new h rest = record { calls = h.calls ++ more; leads = leads_moved most h.calls old mid new h.leads rest }
+
+-- ---- results that are put
+
+all_run : (cs ds : List Call) → ((d : DigestValue) → HasRun d cs → HasRun d ds) → (put : List DigestValue) → AllByRecursion (λ d. HasRun d cs) put → AllByRecursion (λ d. HasRun d ds) put
+all_run cs ds to [] h = tt
+all_run cs ds to (d ∷ put) h = (to d h.0, all_run cs ds to put h.1)
+
+all_join : (cs : List Call) (xs ys : List DigestValue) → AllByRecursion (λ d. HasRun d cs) xs → AllByRecursion (λ d. HasRun d cs) ys → AllByRecursion (λ d. HasRun d cs) (xs ++ ys)
+all_join cs [] ys h k = k
+all_join cs (x ∷ xs) ys h k = (h.0, all_join cs xs ys h.1 k)
+
+puts_moved : (s t u : Telling) (cs more : List Call) → PutsOf cs s t → PutsOf more t u → PutsOf (cs ++ more) s u
+puts_moved s t u cs more p m = record {
+  put = p.put ++ m.put;
+  are = m.are ∙ ap (λ ds. ds ++ m.put) p.are ∙ append_assoc s.puts p.put m.put;
+  each = all_join (cs ++ more) p.put m.put (all_run cs (cs ++ more) (λ d h. run_more d cs more h) p.put p.each) (all_run more (cs ++ more) (λ d h. run_behind d cs more h) m.put m.each);
+  others = λ d b at. by d b (p.others d b at);
+}
+  where
+    by : (d : DigestValue) (b : List ℕ) → (t.results d ≡ Some b) ⊎ HasRun d cs → (u.results d ≡ Some b) ⊎ HasRun d (cs ++ more)
+    by d b (inr h) = inr (run_more d cs more h)
+    by d b (inl at) = next (m.others d b at)
+      where
+        next : (u.results d ≡ Some b) ⊎ HasRun d more → (u.results d ≡ Some b) ⊎ HasRun d (cs ++ more)
+        next (inl is) = inl is
+        next (inr h) = inr (run_behind d cs more h)
+
+built_moved : (A : Type 0) (y : Yields) (s t u : Telling) (more : List Call) → Moves t u more → (most : ℕ) (old mid new : EngineValue) → IsBuiltBy A y s t most old mid → Leads A y u most more mid new → IsBuiltBy A y s u most old new
+built_moved A y s t u more m most old mid new h rest = record { led = led_moved A y t u more m most old mid new h.led rest; puts = puts_moved s t u h.led.calls more h.puts m.puts }
 
 -- ---- what is owed
 
@@ -119,23 +156,23 @@ owed_still {J} {y} {z} {may} {B} {C} {old} {new} within keeps same c j h =
 
 -- ---- going on
 
-module _ (A J : Type 0) (y : Yields) (may : J → ProducedValue → Type 0) (most : ℕ) (old : EngineValue) where
+module _ (A J : Type 0) (y : Yields) (may : J → ProducedValue → Type 0) (s : Telling) (most : ℕ) (old : EngineValue) where
   abbrev Goes : Telling → EngineValue → List (Child J) → Type 0
-  Goes t now cs = IsGoing A y may t most old now cs
+  Goes t now cs = IsGoing A y may s t most old now cs
 
-  pub going_none : (t : Telling) → running old.jobs ≡ 0 → Goes t old []
-  going_none t idle = record { led = record { calls = []; leads = refl }; jobs = idle; few = omega arith }
+  pub going_none : running old.jobs ≡ 0 → Goes s old []
+  going_none idle = record { led = record { led = record { calls = []; leads = refl }; puts = puts_none s s [] kept_none }; jobs = idle; few = omega arith }
 
   -- only the store was called
   pub going_kept : (t u : Telling) (now new : EngineValue) (cs : List (Child J)) → IsKept t u → new ≡ now → Goes t now cs → Goes u new cs
   going_kept t u now new cs k same g = subst (λ e. Goes u e cs) (sym same) (record {
-    led = led_moved A y t u [] (moves_kept t u [] k) most old now now g.led refl;
+    led = built_moved A y s t u [] (moves_kept t u [] k) most old now now g.led refl;
     jobs = jobs_map (IsOwnJob y may t.blobs now) (IsOwnJob y may u.blobs now) (owed_still (λ l c p h. h) k.blobs refl) cs now.jobs g.jobs;
     few = g.few;
   })
 
   pub led_kept : (t u : Telling) (now : EngineValue) (cs : List (Child J)) → IsKept t u → Goes t now cs → IsLed A y u most old now
-  led_kept t u now cs k g = led_moved A y t u [] (moves_kept t u [] k) most old now now g.led refl
+  led_kept t u now cs k g = led_moved A y t u [] (moves_kept t u [] k) most old now now g.led.led refl
 
   -- the first child's job is gone
   module _ (t u : Telling) (now new : EngineValue) (c : Child J) (cs : List (Child J)) (g : Goes t now (c ∷ cs)) where
@@ -149,7 +186,7 @@ module _ (A J : Type 0) (y : Yields) (may : J → ProducedValue → Type 0) (mos
         let le = fewer in
         let few : running (set now.jobs c.id None) ≤ most = omega (arith, count, le) in
         record {
-          led = led_moved A y t u more m most old now new g.led (leads (subst (λ js. running js ≤ most) (sym jobs) few));
+          led = built_moved A y s t u more m most old now new g.led (leads (subst (λ js. running js ≤ most) (sym jobs) few));
           jobs = subst (λ js. AreJobsOf (IsOwnJob y may u.blobs new) js cs) (sym jobs)
               (jobs_map (IsOwnJob y may t.blobs now) (IsOwnJob y may u.blobs new) (owed_still (λ l d p h. h) m.blobs commands) cs (set now.jobs c.id None) rest);
           few = fewer;
@@ -195,11 +232,14 @@ module _ (A J : Type 0) (y : Yields) (may : J → ProducedValue → Type 0) (mos
     there = jobs_map (IsOwnJob y may t.blobs now) (IsOwnJob y may u.blobs mid) (owed_still (λ l c p h. h) k.blobs commands_mid) cs now.jobs g.jobs
 
     pub led_started : IsLed A y u most old mid
-    led_started = led_moved A y t u (started i id ∷ []) (moves_kept t u (started i id ∷ []) k) most old now mid g.led (mid, w, few_mid, refl)
+    led_started = led_moved A y t u (started i id ∷ []) (moves_kept t u (started i id ∷ []) k) most old now mid g.led.led (mid, w, few_mid, refl)
+
+    built_started : IsBuiltBy A y s u most old mid
+    built_started = built_moved A y s t u (started i id ∷ []) (moves_kept t u (started i id ∷ []) k) most old now mid g.led (mid, w, few_mid, refl)
 
     pub going_started : (c : Child J) → c.id ≡ id → IsOwnJob y may u.blobs mid c (job_of w) → Goes u mid (cs ++ c ∷ [])
     going_started c same is = record {
-      led = led_started;
+      led = built_started;
       jobs = subst (λ js. AreJobsOf (IsOwnJob y may u.blobs mid) js (cs ++ c ∷ [])) (sym (ap (λ (e : EngineValue). e.jobs) (after w)))
           (jobs_added (IsOwnJob y may u.blobs mid) cs now.jobs id c (job_of w) (least_within now.jobs id (least w)) (least w).free same is there);
       few = let n = length-append cs (c ∷ []) in omega (arith, n, room);
@@ -215,7 +255,7 @@ module _ (A J : Type 0) (y : Yields) (may : J → ProducedValue → Type 0) (mos
         let few = g.few in
         let few_new : running new.jobs ≤ most = subst (λ js. running js ≤ most) (sym jobs) (omega (arith, count, few)) in
         record {
-          led = led_moved A y t u (started i id ∷ call ∷ []) (moves_kept t u (started i id ∷ call ∷ []) k) most old now new g.led (mid, w, few_mid, (new, does, few_new, refl));
+          led = built_moved A y s t u (started i id ∷ call ∷ []) (moves_kept t u (started i id ∷ call ∷ []) k) most old now new g.led (mid, w, few_mid, (new, does, few_new, refl));
           jobs = subst (λ js. AreJobsOf (IsOwnJob y may u.blobs new) js cs) (sym jobs)
               (jobs_map (IsOwnJob y may u.blobs mid) (IsOwnJob y may u.blobs new) (owed_still (λ l c p h. h) (λ e b at right. at) commands) cs (set mid.jobs id None) back);
           few = g.few;
@@ -256,8 +296,8 @@ module _ (A J : Type 0) (y : Yields) (may : J → ProducedValue → Type 0) (mos
       going_back t u now mid cs i id k g room w new (lost id) (ap (λ (e : EngineValue). e.jobs) gone) (ap (λ (e : EngineValue). e.commands) gone) (job_of w, job_is w, gone)
 
 -- the children's jobs
-pub own_jobs : {J : Type 0} (A : Type 0) (y : Yields) (may : J → ProducedValue → Type 0) (t : Telling) (most : ℕ) (old now : EngineValue) (cs : List (Child J)) → IsGoing A y may t most old now cs → AreJobsOf IsJobOf now.jobs cs
-own_jobs A y may t most old now cs g = jobs_map (IsOwnJob y may t.blobs now) IsJobOf (λ c j h. h.of_child) cs now.jobs g.jobs
+pub own_jobs : {J : Type 0} (A : Type 0) (y : Yields) (may : J → ProducedValue → Type 0) (s t : Telling) (most : ℕ) (old now : EngineValue) (cs : List (Child J)) → IsGoing A y may s t most old now cs → AreJobsOf IsJobOf now.jobs cs
+own_jobs A y may s t most old now cs g = jobs_map (IsOwnJob y may t.blobs now) IsJobOf (λ c j h. h.of_child) cs now.jobs g.jobs
 
 -- ---- a step that is started, or refused
 

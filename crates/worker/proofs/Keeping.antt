@@ -1,6 +1,6 @@
 -- What calls of a store keep.
 use Rattle.std.proofs.Common.{◌≡◌, ◌≢◌, true, false, ℕ, ◌+◌, ◌<◌, length, take, get_or, List, [], ◌∷◌, ◌++◌, Some, refl, sym, subst, ◌∙◌, ap, inl, inr}
-use Rattle.std.specs.Prelude.{◌⊎◌, ◌==◌}
+use Rattle.std.specs.Prelude.{◌⊎◌, ◌==◌, map}
 use Rattle.std.proofs.lemmas.Bool.Decides.{eqb_tells}
 use Rattle.std.proofs.lemmas.List.{map-append, take_more}
 use Rattle.std.specs.declared.vec.Vec.{Vec}
@@ -9,6 +9,10 @@ use Rattle.blob_digest.specs.Digest.{DigestValue, digest_of}
 use Rattle.blob_source.specs.Source.{Blobs, Telling, Grows, AsksResult, Asks, AsksSome}
 use Rattle.blob_source.specs.Sink.{PutsBlob, PutsResult, HasRight, IsPut, KeepsRight}
 use Rattle.blob_source.specs.Called.{Calls}
+use Rattle.blob_source.specs.declared.source.FetchError.{FetchError}
+use Rattle.blob_source.specs.declared.source.FetchError.TheVariants as fetching
+use Rattle.worker.specs.Refusals.{of_fetch}
+use Rattle.worker.specs.Stopped.{IsStoreFault}
 use Rattle.worker.specs.Stores.{IsKept, IsKeptBut}
 use Rattle.worker.specs.Outcomes.{HasAllRight}
 
@@ -22,38 +26,32 @@ pub right_trans : {B C D : Blobs} → KeepsRight B C → KeepsRight C D → Keep
 right_trans {B} {C} {D} f g e b at right = g e b (f e b at right) right
 
 pub kept_none : {t : Telling} → IsKept t t
-kept_none {t} = record { blobs = λ e b at right. at; results = λ e b at. at }
+kept_none {t} = record { blobs = λ e b at right. at; results = λ e b at. at; puts = refl }
 
 pub kept_trans : {t u v : Telling} → IsKept t u → IsKept u v → IsKept t v
-kept_trans {t} {u} {v} f g = record { blobs = λ e b at right. g.blobs e b (f.blobs e b at right) right; results = λ e b at. g.results e b (f.results e b at) }
+kept_trans {t} {u} {v} f g = record { blobs = λ e b at right. g.blobs e b (f.blobs e b at right) right; results = λ e b at. g.results e b (f.results e b at); puts = g.puts ∙ f.puts }
 
 pub kept_asks : {n : ℕ} {t u : Telling} {F : Type 0} → Calls (Asks n) t u F → IsKept t u
-kept_asks {n} {t} {u} {F} a = record { blobs = λ e b at right. a.asked.blobs e b at; results = λ e b at. a.asked.results e b at }
+kept_asks {n} {t} {u} {F} a = record { blobs = λ e b at right. a.asked.blobs e b at; results = λ e b at. a.asked.results e b at; puts = a.asked.puts }
 
 pub kept_some : {t u : Telling} {F : Type 0} → Calls AsksSome t u F → IsKept t u
-kept_some {t} {u} {F} a = record { blobs = λ e b at right. a.asked.asks.blobs e b at; results = λ e b at. a.asked.asks.results e b at }
+kept_some {t} {u} {F} a = record { blobs = λ e b at right. a.asked.asks.blobs e b at; results = λ e b at. a.asked.asks.results e b at; puts = a.asked.asks.puts }
 
 pub kept_blob : {t u : Telling} {bytes : List ℕ} {F : Type 0} → Calls (PutsBlob bytes) t u F → IsKept t u
-kept_blob {t} {u} {bytes} {F} p = record { blobs = p.asked.right; results = grown_same t.results u.results p.asked.results }
+kept_blob {t} {u} {bytes} {F} p = record { blobs = p.asked.right; results = grown_same t.results u.results p.asked.results; puts = p.asked.puts }
 
 pub kept_result : {t u : Telling} {d : DigestValue} {F : Type 0} → Calls (AsksResult d) t u F → IsKept t u
-kept_result {t} {u} {d} {F} a = let k = a.asked.results.kept in record { blobs = right_same t.blobs u.blobs a.asked.blobs; results = λ e b at. k e b at }
+kept_result {t} {u} {d} {F} a = let k = a.asked.results.kept in record { blobs = right_same t.blobs u.blobs a.asked.blobs; results = λ e b at. k e b at; puts = a.asked.puts }
 
 pub kept_but : {t u : Telling} {d : DigestValue} → IsKept t u → IsKeptBut d t u
-kept_but {t} {u} {d} k = record { blobs = k.blobs; results = λ e b at. inl (k.results e b at) }
+kept_but {t} {u} {d} k = record { blobs = k.blobs; results = λ e b at. inl (k.results e b at); puts = inl k.puts }
 
 pub kept_then : {t u v : Telling} {d : DigestValue} → IsKept t u → IsKeptBut d u v → IsKeptBut d t v
-kept_then {t} {u} {v} {d} f g = record { blobs = λ e b at right. g.blobs e b (f.blobs e b at right) right; results = λ e b at. g.results e b (f.results e b at) }
-
-pub kept_more : {t u v : Telling} {d : DigestValue} → IsKeptBut d t u → IsKeptBut d u v → IsKeptBut d t v
-kept_more {t} {u} {v} {d} f g = record {
-  blobs = λ e b at right. g.blobs e b (f.blobs e b at right) right;
-  results = λ e b at. by e b (f.results e b at);
-}
+kept_then {t} {u} {v} {d} f g = record { blobs = λ e b at right. g.blobs e b (f.blobs e b at right) right; results = λ e b at. g.results e b (f.results e b at); puts = by g.puts }
   where
-    by : (e : DigestValue) (b : List ℕ) → (u.results e ≡ Some b) ⊎ (e ≡ d) → (v.results e ≡ Some b) ⊎ (e ≡ d)
-    by e b (inl at) = g.results e b at
-    by e b (inr is) = inr is
+    by : (v.puts ≡ u.puts) ⊎ (v.puts ≡ u.puts ++ d ∷ []) → (v.puts ≡ t.puts) ⊎ (v.puts ≡ t.puts ++ d ∷ [])
+    by (inl same) = inl (same ∙ f.puts)
+    by (inr more) = inr (more ∙ ap (λ ds. ds ++ d ∷ []) f.puts)
 
 -- ---- right bytes
 
@@ -72,12 +70,17 @@ pub all_right_more : (B : Blobs) (bs : List (List ℕ)) (b : List ℕ) → HasAl
 all_right_more B [] b h right = (right, tt)
 all_right_more B (c ∷ bs) b h right = (h.0, all_right_more B bs b h.1 right)
 
+-- one more of the bytes that a list spells
+pub all_right_spelled : {X : Type 0} (spell : X → List ℕ) (B C : Blobs) (xs : List X) (i : ℕ) (x : X) → i < length xs → x ≡ get_or xs i x → KeepsRight B C
+    → HasAllRight B (map spell (take i xs)) → HasRight C (digest_of (spell x)) → HasAllRight C (map spell (take (i + 1) xs))
+all_right_spelled {X} spell B C xs i x lt is keeps held right =
+    let taken : take (i + 1) xs ≡ take i xs ++ x ∷ [] = take_more xs i x lt ∙ ap (λ y. take i xs ++ y ∷ []) (sym is) in
+    let values : map spell (take (i + 1) xs) ≡ map spell (take i xs) ++ spell x ∷ [] = ap (map spell) taken ∙ map-append spell (take i xs) (x ∷ []) in
+    subst (HasAllRight C) (sym values) (all_right_more C (map spell (take i xs)) (spell x) (all_right_still B C (map spell (take i xs)) keeps held) right)
+
 pub all_right_taken : {A : Type 0} (B C : Blobs) (bs : List (Vec ℕ A)) (i : ℕ) (x : Vec ℕ A) → i < length bs → x ≡ get_or bs i x → KeepsRight B C
     → HasAllRight B (blobs_of (take i bs)) → HasRight C (digest_of x.items) → HasAllRight C (blobs_of (take (i + 1) bs))
-all_right_taken {A} B C bs i x lt is keeps held right =
-    let taken : take (i + 1) bs ≡ take i bs ++ x ∷ [] = take_more bs i x lt ∙ ap (λ y. take i bs ++ y ∷ []) (sym is) in
-    let values : blobs_of (take (i + 1) bs) ≡ blobs_of (take i bs) ++ x.items ∷ [] = ap blobs_of taken ∙ map-append (λ (b : Vec ℕ A). b.items) (take i bs) (x ∷ []) in
-    subst (HasAllRight C) (sym values) (all_right_more C (blobs_of (take i bs)) x.items (all_right_still B C (blobs_of (take i bs)) keeps held) right)
+all_right_taken {A} B C bs i x lt is keeps held right = all_right_spelled (λ (b : Vec ℕ A). b.items) B C bs i x lt is keeps held right
 
 -- ---- which digest
 
@@ -104,9 +107,14 @@ same_digest d e = by (same_bytes d.hash e.hash) (eqb_tells d.size e.size)
     by (inl h) (inr s) = let n = s.1 in inr (λ is. n (ap (λ (x : DigestValue). x.size) is))
 
 -- a result that is put, or may have been
-pub kept_put : {t u : Telling} {d : DigestValue} {bytes : List ℕ} {F : Type 0} → Calls (PutsResult d bytes) t u F → IsKeptBut d t u
-kept_put {t} {u} {d} {bytes} {F} p = record { blobs = right_same t.blobs u.blobs p.asked.blobs; results = λ e b at. by e b at (same_digest e d) }
+pub kept_put : {t u : Telling} {d : DigestValue} {bytes : List ℕ} {F : Type 0} → (u.puts ≡ t.puts) ⊎ (u.puts ≡ t.puts ++ d ∷ []) → Calls (PutsResult d bytes) t u F → IsKeptBut d t u
+kept_put {t} {u} {d} {bytes} {F} puts p = record { blobs = right_same t.blobs u.blobs p.asked.blobs; results = λ e b at. by e b at (same_digest e d); puts = puts }
   where
     by : (e : DigestValue) (b : List ℕ) → t.results e ≡ Some b → (e ≡ d) ⊎ (e ≢ d) → (u.results e ≡ Some b) ⊎ (e ≡ d)
     by e b at (inl is) = inr is
     by e b at (inr n) = inl (p.asked.results.others e n ∙ at)
+
+-- what a put or a look-up fails with
+pub fetch_fault : (A : Type 0) (e : FetchError) → IsStoreFault (of_fetch {A = A} e)
+fetch_fault A fetching.Failed = tt
+fetch_fault A fetching.Memory = tt

@@ -15,3 +15,4 @@ pub mod Stopping
 pub mod Listing
 pub mod Counts
 pub mod Heard
+pub mod Failures

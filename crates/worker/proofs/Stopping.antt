@@ -1,8 +1,9 @@
 -- Why a build ends at a step.
-use Rattle.std.proofs.Common.{◌≡◌, ◌<◌, ℕ, List, [], ◌∷◌, length, refl, sym, subst, inl, inr}
+use Rattle.std.proofs.Common.{◌≡◌, ◌<◌, ℕ, List, [], ◌∷◌, length, refl, sym, ap, subst, inl, inr}
 use Rattle.std.specs.Prelude.{Result, Ok, Err, OnErr, IfErr}
 use Rattle.blob_source.specs.Source.{Blobs, Telling}
-use Rattle.runs.specs.Engine.{EngineValue}
+use Rattle.plan.specs.Values.{PlanValue}
+use Rattle.runs.specs.Engine.{EngineValue, IsEngine}
 use Rattle.runs.specs.declared.starting.Job.{Job}
 use Rattle.worker.specs.declared.error.Refusal.{Refusal}
 use Rattle.worker.specs.declared.error.Refusal.TheVariants as refusals
@@ -18,6 +19,7 @@ use Rattle.worker.specs.Stores.{IsKept}
 use Rattle.worker.specs.Stopped.{ComesTo, StopsStep, IsRefusedBuild, IsStoreFault, StopsChild, StopsCollecting, StopsEnd, StopsSettling, StopsFirst, StopsBeginning}
 use Rattle.worker.specs.Values.{ProducedValue}
 use Rattle.worker.proofs.Goes.{led_kept, led_started}
+use Rattle.worker.proofs.Started.{after}
 use Rattle.worker.proofs.Keeping.{right_still}
 use Rattle.worker.proofs.Taking.{ended_goes}
 use Rattle.worker.proofs.Telling.{layout_still}
@@ -34,8 +36,8 @@ module _ {A : Type 0} (y : Yields) (t : Telling) (e : EngineValue) where
   child_stops job is (refusals.Engine why) h = absurd h
   child_stops job is (refusals.Layout why) h = (job.id, job_value job, is.there, refl, h)
   child_stops job is (refusals.Run children.NotAbsolute) h = (job.command, is.command, h)
-  child_stops job is (refusals.Run children.Device) h = tt
-  child_stops job is (refusals.Run (children.BadOutput p)) h = tt
+  child_stops job is (refusals.Run children.Device) h = (job.id, job_value job, is.there, refl)
+  child_stops job is (refusals.Run (children.BadOutput p)) h = (job.id, job_value job, is.there, refl)
   child_stops job is (refusals.Run children.Memory) h = tt
   child_stops job is refusals.Fetch h = tt
   child_stops job is refusals.Memory h = tt
@@ -67,8 +69,8 @@ stops_within z y t e i (refusals.Engine why) within (inr (id, j, at, step, v, ca
     by (inr h) = inr h
 stops_within z y t e i (refusals.Layout why) within h = h
 stops_within z y t e i (refusals.Run children.NotAbsolute) within h = h
-stops_within z y t e i (refusals.Run children.Device) within h = tt
-stops_within z y t e i (refusals.Run (children.BadOutput p)) within h = tt
+stops_within z y t e i (refusals.Run children.Device) within h = h
+stops_within z y t e i (refusals.Run (children.BadOutput p)) within h = h
 stops_within z y t e i (refusals.Run children.Memory) within h = tt
 stops_within z y t e i refusals.Fetch within h = tt
 stops_within z y t e i refusals.Memory within h = tt
@@ -76,25 +78,33 @@ stops_within z y t e i refusals.Memory within h = tt
 -- ---- a turn that is refused
 
 module _ (A J : Type 0) (may : J → ProducedValue → Type 0) (t u : Telling) (now new : EngineValue) (cs ds : List (Child J)) where
-  begun_refused : (z y : Yields) (i : ℕ) (e : BuildError A) → (e.step ≡ i) × StopsBeginning z u now i e.refusal → IsKept t u → (most : ℕ) (first : EngineValue) → YieldsNoMore z y → length cs < most
-      → IsGoing A y may t most first now cs → IsRefusedBuild A y u most first e.step e.refusal
-  begun_refused z y i e (same, inl stops) k most first within room g = record {
+  begun_refused : (z y : Yields) (i : ℕ) (e : BuildError A) → (e.step ≡ i) × StopsBeginning z u now i e.refusal → IsKept t u → (s : Telling) (most : ℕ) (first : EngineValue) → YieldsNoMore z y → length cs < most → i < length now.plan.steps
+      → IsGoing A y may s t most first now cs → IsRefusedBuild A y u most first e.step e.refusal
+  begun_refused z y i e (same, inl stops) k s most first within room planned g = record {
     at = now;
-    led = led_kept A J y may most first t u now cs k g;
+    led = led_kept A J y may s most first t u now cs k g;
+    planned = subst (λ n. n < length now.plan.steps) (sym same) planned;
     stops = subst (λ n. StopsStep y u now n e.refusal) (sym same) (stops_within z y u now i e.refusal within stops);
   }
-  begun_refused z y i e (same, inr (id, mid, w, stops)) k most first within room g = record {
+  begun_refused z y i e (same, inr (id, mid, w, stops)) k s most first within room planned g = record {
     at = mid;
-    led = led_started A J y may most first t u now mid cs i id k g room w;
+    led = led_started A J y may s most first t u now mid cs i id k g room w;
+    planned = subst (λ n. n < length mid.plan.steps) (sym same) (subst (λ (e : EngineValue). i < length e.plan.steps) (sym (after w)) planned);
     stops = subst (λ n. StopsStep y u mid n e.refusal) (sym same) (stops_within z y u mid i e.refusal within stops);
   }
 
   pub start_refused : {T N : Type 0} (ys : N → Yields) (z : Yields) (i : ℕ) (turn : Turn) → turn ≡ turns.Start i → (r : Result T (BuildError A)) → IfErr r (λ e. (e.step ≡ i) × StopsBeginning z u now i e.refusal) → IsKept t u
-      → IfErr r (λ e. (entry : N) (most : ℕ) (first : EngineValue) → YieldsNoMore z (ys entry) → IsTurn most now cs turn → IsGoing A (ys entry) may t most first now cs → IsRefusedBuild A (ys entry) u most first e.step e.refusal)
+      → IfErr r (λ e. (entry : N) (s : Telling) (most : ℕ) (first : EngineValue) → YieldsNoMore z (ys entry) → IsTurn most now cs turn → IsGoing A (ys entry) may s t most first now cs → IsRefusedBuild A (ys entry) u most first e.step e.refusal)
   start_refused ys z i turn is (Ok x) stops k = tt
-  start_refused ys z i turn is (Err e) stops k = λ entry most first within can g. begun_refused z (ys entry) i e stops k most first within (subst (IsTurn most now cs) is can).0 g
+  start_refused ys z i turn is (Err e) stops k = λ entry s most first within can g. begun_refused z (ys entry) i e stops k s most first within (subst (IsTurn most now cs) is can).0 (subst (IsTurn most now cs) is can).1 g
 
-  module _ (y : Yields) (most : ℕ) (first : EngineValue) (g : IsGoing A y may t most first now cs) (c : Child J) (is : cs ≡ c ∷ ds) (k : IsKept t u) where
+  module _ (y : Yields) (s : Telling) (most : ℕ) (first : EngineValue) (g : IsGoing A y may s t most first now cs) (c : Child J) (is : cs ≡ c ∷ ds) where
+    step_planned : IsEngine now → c.step < length now.plan.steps
+    step_planned lawful =
+        let jobs = subst (AreJobsOf (IsOwnJob y may t.blobs now) now.jobs) is g.jobs in
+        subst (λ n. n < length now.plan.steps) jobs.2.of_child.step (lawful.running c.id jobs.0 jobs.1)
+
+  module _ (y : Yields) (s : Telling) (most : ℕ) (first : EngineValue) (g : IsGoing A y may s t most first now cs) (c : Child J) (is : cs ≡ c ∷ ds) (k : IsKept t u) where
     jobs : AreJobsOf (IsOwnJob y may t.blobs now) now.jobs (c ∷ ds)
     jobs = subst (AreJobsOf (IsOwnJob y may t.blobs now) now.jobs) is g.jobs
 
@@ -117,30 +127,40 @@ module _ (A J : Type 0) (may : J → ProducedValue → Type 0) (t u : Telling) (
     end_stops (refusals.Engine why) (p, came, blobs, fault) = inr (c.id, jobs.0, jobs.1, jobs.2.of_child.step, p.outcome, inl (came_of p came blobs), fault)
     end_stops (refusals.Layout why) h = absurd h
     end_stops (refusals.Run children.NotAbsolute) h = absurd h
-    end_stops (refusals.Run children.Device) h = tt
-    end_stops (refusals.Run (children.BadOutput p)) h = tt
+    end_stops (refusals.Run children.Device) h = (c.id, jobs.0, jobs.1, jobs.2.of_child.step)
+    end_stops (refusals.Run (children.BadOutput p)) h = (c.id, jobs.0, jobs.1, jobs.2.of_child.step)
     end_stops (refusals.Run children.Memory) h = tt
     end_stops refusals.Fetch h = tt
     end_stops refusals.Memory h = tt
 
-  ended_refused : (y : Yields) (most : ℕ) (first : EngineValue) → IsGoing A y may t most first now cs → IsGoing A y may u most first new ds → (c : Child J) → cs ≡ c ∷ ds → (i : ℕ) (r : Refusal A) → i ≡ c.step → StopsSettling may t u c now r
+  ends_plan : (c : Child J) → Ends may t u c now new → new.plan ≡ now.plan
+  ends_plan c (inl e) = ap (λ (e : EngineValue). e.plan) e.finished.after
+  ends_plan c (inr (l, k)) = ap (λ (e : EngineValue). e.plan) l.2
+
+  ended_refused : IsEngine now → (y : Yields) (s : Telling) (most : ℕ) (first : EngineValue) → IsGoing A y may s t most first now cs → IsGoing A y may s u most first new ds → (c : Child J) → cs ≡ c ∷ ds → Ends may t u c now new → (i : ℕ) (r : Refusal A) → i ≡ c.step → StopsSettling may t u c now r
       → IsRefusedBuild A y u most first i r
-  ended_refused y most first g after c is i r same (inl store) = record { at = new; led = after.led; stops = store_stops y u new i r store }
-  ended_refused y most first g after c is i r same (inr (k, end)) = record {
+  ended_refused lawful y s most first g went c is end i r same (inl store) = record {
+    at = new;
+    led = went.led.led;
+    planned = subst (λ n. n < length new.plan.steps) (sym same) (subst (λ (p : PlanValue). c.step < length p.steps) (sym (ends_plan c end)) (step_planned y s most first g c is lawful));
+    stops = store_stops y u new i r store;
+  }
+  ended_refused lawful y s most first g went c is end i r same (inr (k, stop)) = record {
     at = now;
-    led = led_kept A J y may most first t u now cs k g;
-    stops = subst (λ n. StopsStep y u now n r) (sym same) (end_stops y most first g c is k r end);
+    led = led_kept A J y may s most first t u now cs k g;
+    planned = subst (λ n. n < length now.plan.steps) (sym same) (step_planned y s most first g c is lawful);
+    stops = subst (λ n. StopsStep y u now n r) (sym same) (end_stops y s most first g c is k r stop);
   }
 
-  first_refused : (y : Yields) (most : ℕ) (first : EngineValue) (e : BuildError A) → StopsFirst may t u cs now e.step e.refusal → HasEndedFirst (Ends may t u) now new cs ds → IsGoing A y may t most first now cs → IsRefusedBuild A y u most first e.step e.refusal
-  first_refused y most first e stops h g =
-      let s : StopsFirst may t u (h.child ∷ ds) now e.step e.refusal = subst (λ xs. StopsFirst may t u xs now e.step e.refusal) h.is stops in
-      ended_refused y most first g (ended_goes A J y may t u most first now new cs ds g h) h.child h.is e.step e.refusal s.0 s.1
+  first_refused : IsEngine now → (y : Yields) (s : Telling) (most : ℕ) (first : EngineValue) (e : BuildError A) → StopsFirst may t u cs now e.step e.refusal → HasEndedFirst (Ends may t u) now new cs ds → IsGoing A y may s t most first now cs → IsRefusedBuild A y u most first e.step e.refusal
+  first_refused lawful y s most first e stops h g =
+      let stop : StopsFirst may t u (h.child ∷ ds) now e.step e.refusal = subst (λ xs. StopsFirst may t u xs now e.step e.refusal) h.is stops in
+      ended_refused lawful y s most first g (ended_goes A J y may s t u most first now new cs ds g h) h.child h.is h.end e.step e.refusal stop.0 stop.1
 
-  pub finish_refused : {T N : Type 0} (ys : N → Yields) (z : Yields) (turn : Turn) (r : Result T (BuildError A)) → IfErr r (λ e. StopsFirst may t u cs now e.step e.refusal) → OnErr r (HasEndedFirst (Ends may t u) now new cs ds)
-      → IfErr r (λ e. (entry : N) (most : ℕ) (first : EngineValue) → YieldsNoMore z (ys entry) → IsTurn most now cs turn → IsGoing A (ys entry) may t most first now cs → IsRefusedBuild A (ys entry) u most first e.step e.refusal)
-  finish_refused ys z turn (Ok x) stops h = tt
-  finish_refused ys z turn (Err e) stops h = λ entry most first within can g. first_refused (ys entry) most first e stops h g
+  pub finish_refused : {T N : Type 0} → IsEngine now → (ys : N → Yields) (z : Yields) (turn : Turn) (r : Result T (BuildError A)) → IfErr r (λ e. StopsFirst may t u cs now e.step e.refusal) → OnErr r (HasEndedFirst (Ends may t u) now new cs ds)
+      → IfErr r (λ e. (entry : N) (s : Telling) (most : ℕ) (first : EngineValue) → YieldsNoMore z (ys entry) → IsTurn most now cs turn → IsGoing A (ys entry) may s t most first now cs → IsRefusedBuild A (ys entry) u most first e.step e.refusal)
+  finish_refused lawful ys z turn (Ok x) stops h = tt
+  finish_refused lawful ys z turn (Err e) stops h = λ entry s most first within can g. first_refused lawful (ys entry) s most first e stops h g
 
 -- ---- a runner that yields more
 
@@ -175,4 +195,4 @@ module _ (A : Type 0) (z y : Yields) (t : Telling) (within : YieldsNoMore z y) w
   led_within {most} {old} {new} h = record { calls = h.calls; leads = leads_within most h.calls old new h.leads }
 
   pub refused_within : {most i : ℕ} {old : EngineValue} {r : Refusal A} → IsRefusedBuild A z t most old i r → IsRefusedBuild A y t most old i r
-  refused_within {most} {i} {old} {r} h = record { at = h.at; led = led_within h.led; stops = stops_within z y t h.at i r within h.stops }
+  refused_within {most} {i} {old} {r} h = record { at = h.at; led = led_within h.led; planned = h.planned; stops = stops_within z y t h.at i r within h.stops }

@@ -23,8 +23,8 @@ use Rattle.runs.specs.Served.{Keeps, HoldsTrees, IsKeptOf}
 use Rattle.runs.proofs.Places.{set_other}
 use Rattle.verifier.proofs.FreshRuns.{one_answer}
 use Rattle.worker.specs.Stores.{IsKept, IsKeptBut}
-use Rattle.worker.specs.Stored.{IsToldOrTree, IsStored, HasTree, HasTrees, HasResultOf, IsForForm, StoresStep, StoresSteps, IsHeldWhole}
-use Rattle.worker.proofs.Keeping.{right_still, same_bytes, same_digest}
+use Rattle.worker.specs.Stored.{directories_of, IsToldOrTree, IsStored, HasTree, HasTrees, HasResultOf, IsForForm, StoresStep, StoresSteps, IsHeldWhole}
+use Rattle.worker.proofs.Keeping.{right_still, all_right_still, same_bytes, same_digest}
 use Rattle.worker.proofs.Telling.{recorded_still}
 
 -- ---- one form
@@ -185,7 +185,7 @@ pub trees_still : (B C : Blobs) (es : List (List Name × OutputValue)) → Keeps
 trees_still B C [] keeps h = tt
 trees_still B C ((p, outputs.File d x) ∷ es) keeps h = (tt, trees_still B C es keeps h.1)
 trees_still B C ((p, outputs.Link t) ∷ es) keeps h = (tt, trees_still B C es keeps h.1)
-trees_still B C ((p, outputs.Tree t) ∷ es) keeps h = (right_still keeps h.0, trees_still B C es keeps h.1)
+trees_still B C ((p, outputs.Tree t) ∷ es) keeps h = ((right_still keeps h.0.0, all_right_still B C (directories_of t) keeps h.0.1), trees_still B C es keeps h.1)
 
 -- one output more
 trees_more : (B : Blobs) (es : List (List Name × OutputValue)) (e : List Name × OutputValue) → AllByRecursion (HasTree B) es → HasTree B e → AllByRecursion (HasTree B) (es ++ e ∷ [])
@@ -309,12 +309,13 @@ right_blob B b h same = record { held = by (same_digest (digest_of b) empty_dige
 pub all_stored : (t : Telling) (e : EngineValue) → StoresSteps t e → IsStored t e
 all_stored t e h = record {
   actions = λ i f at. (h i f at).action;
+  trees = λ i f at. (h i f at).trees;
   results = λ apart i f at. keeps apart f (h i f at) (h i f at).stands;
 }
   where
     holds : NoClash (IsToldOrTree t.blobs e) → (i : ℕ) (f : FinishedValue) → finished_in i e ≡ Some f → HoldsTrees t.blobs f.outcome
     holds apart i f at p m there =
-        let right : HasRight t.blobs (digest_of (tree_bytes m)) = all_at (HasTree t.blobs) f.outcome.outputs (p, outputs.Tree m) (h i f at).trees there in
+        let right : HasRight t.blobs (digest_of (tree_bytes m)) = (all_at (HasTree t.blobs) f.outcome.outputs ((p, outputs.Tree m)) (h i f at).trees there).0 in
         right_blob t.blobs (tree_bytes m) right (apart right.0 (tree_bytes m) (inl (digest_of (tree_bytes m), right.1)) (inr (i, f, at, (p, m, there, refl))) right.2)
 
     keeps : NoClash (IsToldOrTree t.blobs e) → (f : FinishedValue) → (s : StoresStep t e f) → IsForForm t.blobs e s.result f.outcome → Keeps t.blobs t.results f
@@ -328,6 +329,7 @@ all_stored t e h = record {
 pub stored_grown : {s t : Telling} {e : EngineValue} → Grows s.blobs t.blobs → Grows s.results t.results → IsStored s e → IsStored t e
 stored_grown {s} {t} {e} blobs results h = record {
   actions = λ i f at. let was = h.actions i f at in (was.0, blobs f.action was.0 was.1, was.2);
+  trees = λ i f at. trees_still s.blobs t.blobs f.outcome.outputs (λ d b there right. blobs d b there) (h.trees i f at);
   results = λ apart i f at. keeps f (h.results (λ x y one other same. apart x y (more x one) (more y other) same) i f at);
 }
   where

@@ -13,19 +13,19 @@ use Rattle.worker.specs.Stored.{HasResultOf, StoresSteps, IsHeldWhole}
 use Rattle.worker.specs.Going.{IsJobOf, AreJobsOf, IsOwnJob, IsGoing, IsBegun, IsLaunched, CameToNothing, EndsWell, Ends, HasEndedFirst, HasResultOfFirst}
 use Rattle.verifier.proofs.FreshRuns.{one_answer}
 use Rattle.worker.proofs.Started.{after}
-use Rattle.worker.proofs.Keeping.{kept_more, right_still, all_right_still}
+use Rattle.worker.proofs.Keeping.{kept_none, kept_then, right_still, all_right_still}
 use Rattle.worker.proofs.Storing.{trees_still, steps_kept, steps_taken, steps_ran}
 use Rattle.worker.proofs.Goes.{going_begun, going_refused, going_ended, lose_goes}
 
-module _ (A J : Type 0) (y : Yields) (may : J → ProducedValue → Type 0) (t u : Telling) (most : ℕ) (first now new : EngineValue) (cs ds : List (Child J)) (g : IsGoing A y may t most first now cs) where
-  pub start_goes : {T E : Type 0} (r : Result T E) (z : Yields) (i : ℕ) → YieldsNoMore z y → IsKept t u → length cs < most → OnOk r (IsBegun A z may u i now new cs ds) → OnErr r (CameToNothing A u.blobs i now new) → OnErr r (ds ≡ cs) → IsGoing A y may u most first new ds
-  start_goes (Ok x) z i within k room begun refused same = going_begun A J y may most first z within t u now new i cs ds k g room begun
-  start_goes (Err x) z i within k room begun refused same = subst (IsGoing A y may u most first new) (sym same) (going_refused A J y may most first t u now new i cs k g room refused)
+module _ (A J : Type 0) (y : Yields) (may : J → ProducedValue → Type 0) (s t u : Telling) (most : ℕ) (first now new : EngineValue) (cs ds : List (Child J)) (g : IsGoing A y may s t most first now cs) where
+  pub start_goes : {T E : Type 0} (r : Result T E) (z : Yields) (i : ℕ) → YieldsNoMore z y → IsKept t u → length cs < most → OnOk r (IsBegun A z may u i now new cs ds) → OnErr r (CameToNothing A u.blobs i now new) → OnErr r (ds ≡ cs) → IsGoing A y may s u most first new ds
+  start_goes (Ok x) z i within k room begun refused same = going_begun A J y may s most first z within t u now new i cs ds k g room begun
+  start_goes (Err x) z i within k room begun refused same = subst (IsGoing A y may s u most first new) (sym same) (going_refused A J y may s most first t u now new i cs k g room refused)
 
-  pub ended_goes : HasEndedFirst (Ends may t u) now new cs ds → IsGoing A y may u most first new ds
-  ended_goes h = going_ended A J y may most first t u now new h.child ds (subst (IsGoing A y may t most first now) h.is g) h.end
+  pub ended_goes : HasEndedFirst (Ends may t u) now new cs ds → IsGoing A y may s u most first new ds
+  ended_goes h = going_ended A J y may s most first t u now new h.child ds (subst (IsGoing A y may s t most first now) h.is g) h.end
 
-  pub finish_goes : {T E : Type 0} (r : Result T E) → OnOk r (HasEndedFirst (EndsWell may t u) now new cs ds) → OnErr r (HasEndedFirst (Ends may t u) now new cs ds) → IsGoing A y may u most first new ds
+  pub finish_goes : {T E : Type 0} (r : Result T E) → OnOk r (HasEndedFirst (EndsWell may t u) now new cs ds) → OnErr r (HasEndedFirst (Ends may t u) now new cs ds) → IsGoing A y may s u most first new ds
   finish_goes (Ok x) well ended = ended_goes (record { child = well.child; is = well.is; end = inl well.end })
   finish_goes (Err x) well ended = ended_goes ended
 
@@ -48,21 +48,21 @@ module _ {J : Type 0} (now new : EngineValue) (c : Child J) (cs ds : List (Child
   pub lost_jobs : new ≡ without_job c.id now → AreJobsOf IsJobOf new.jobs ds
   lost_jobs lost = subst (λ (e : EngineValue). AreJobsOf IsJobOf e.jobs ds) (sym lost) jobs_now.3
 
-  pub lost_goes : (A : Type 0) (y : Yields) (may : J → ProducedValue → Type 0) → new ≡ without_job c.id now → (t : Telling) (most : ℕ) (first : EngineValue) → IsGoing A y may t most first now cs → IsGoing A y may t most first new ds
-  lost_goes A y may lost t most first g = going_ended A J y may most first t t now new c ds (subst (IsGoing A y may t most first now) is g) (inr ((jobs_now.0, jobs_now.1, lost), record { blobs = λ e b at right. at; results = λ e b at. at }))
+  pub lost_goes : (A : Type 0) (y : Yields) (may : J → ProducedValue → Type 0) → new ≡ without_job c.id now → (s t : Telling) (most : ℕ) (first : EngineValue) → IsGoing A y may s t most first now cs → IsGoing A y may s t most first new ds
+  lost_goes A y may lost s t most first g = going_ended A J y may s most first t t now new c ds (subst (IsGoing A y may s t most first now) is g) (inr ((jobs_now.0, jobs_now.1, lost), kept_none))
 
 pub lost_count : {J : Type 0} (c : Child J) (cs ds : List (Child J)) → cs ≡ c ∷ ds → (n old after : ℕ) → old ≡ n + length cs → after ≡ old - 1 → after ≡ n + length ds
 lost_count c cs ds is n old after all one = let len = ap length is in omega (arith, all, one, len)
 
 -- a result was put
-pub ends_put : {J : Type 0} (may : J → ProducedValue → Type 0) (s t u : Telling) (c : Child J) (old new : EngineValue) → EndsWell may s t c old new → IsKeptBut c.action t u → EndsWell may s u c old new
-ends_put may s t u c old new e k = record {
+pub ends_put : {J : Type 0} (may : J → ProducedValue → Type 0) (s t u : Telling) (c : Child J) (old new : EngineValue) → IsKept s t → EndsWell may s t c old new → IsKeptBut c.action t u → EndsWell may s u c old new
+ends_put may s t u c old new none e k = record {
   produced = e.produced;
   came = e.came;
   finished = e.finished;
   blobs = all_right_still t.blobs u.blobs e.produced.blobs k.blobs e.blobs;
   trees = trees_still t.blobs u.blobs e.produced.outcome.outputs k.blobs e.trees;
-  kept = kept_more e.kept k;
+  kept = kept_then none k;
 }
 
 pub on_ok : {T E : Type 0} {X : Type 0} (r : Result T E) → X → OnOk r X
@@ -89,12 +89,12 @@ module _ (A J : Type 0) (y : Yields) (may : J → ProducedValue → Type 0) (t u
           steps_taken f (subst (λ (j : JobValue). IsHeldWhole u j.action v) (sym of_job) whole) mid
 
   pub start_stored : {T E N : Type 0} (ys : N → Yields) (r : Result T E) (i : ℕ) → IsKept t u → OnOk r (IsBegun A y may u i now new cs ds)
-      → OnOk r ((entry : N) (most : ℕ) (first : EngineValue) → IsGoing A (ys entry) may t most first now cs → StoresSteps t now → StoresSteps u new)
-  start_stored ys (Ok x) i k begun = λ entry most first going. begun_stored i k begun
+      → OnOk r ((entry : N) (s : Telling) (most : ℕ) (first : EngineValue) → IsGoing A (ys entry) may s t most first now cs → StoresSteps t now → StoresSteps u new)
+  start_stored ys (Ok x) i k begun = λ entry s most first going. begun_stored i k begun
   start_stored ys (Err x) i k begun = tt
 
-  ended_stored : HasEndedFirst (EndsWell may t u) now new cs ds → HasResultOfFirst u new cs → (z : Yields) (most : ℕ) (first : EngineValue) → IsGoing A z may t most first now cs → StoresSteps t now → StoresSteps u new
-  ended_stored e put z most first going h =
+  ended_stored : HasEndedFirst (EndsWell may t u) now new cs ds → HasResultOfFirst u new cs → (z : Yields) (s : Telling) (most : ℕ) (first : EngineValue) → IsGoing A z may s t most first now cs → StoresSteps t now → StoresSteps u new
+  ended_stored e put z s most first going h =
       let jobs : AreJobsOf (IsOwnJob z may t.blobs now) now.jobs (e.child ∷ ds) = subst (AreJobsOf (IsOwnJob z may t.blobs now) now.jobs) e.is going.jobs in
       let f = e.end.finished in
       let same : f.job ≡ jobs.0 = one_answer (job_in e.child.id now) f.job jobs.0 f.is jobs.1 in
@@ -106,6 +106,6 @@ module _ (A J : Type 0) (y : Yields) (may : J → ProducedValue → Type 0) (t u
       (subst (λ i. HasResultOf u new i f.job.action) (sym step) (subst (HasResultOf u new e.child.step) (sym action) result)) h
 
   pub finish_stored : {T E N : Type 0} (ys : N → Yields) (r : Result T E) → OnOk r (HasEndedFirst (EndsWell may t u) now new cs ds) → OnOk r (HasResultOfFirst u new cs)
-      → OnOk r ((entry : N) (most : ℕ) (first : EngineValue) → IsGoing A (ys entry) may t most first now cs → StoresSteps t now → StoresSteps u new)
+      → OnOk r ((entry : N) (s : Telling) (most : ℕ) (first : EngineValue) → IsGoing A (ys entry) may s t most first now cs → StoresSteps t now → StoresSteps u new)
   finish_stored ys (Ok x) ended put = λ entry. ended_stored ended put (ys entry)
   finish_stored ys (Err x) ended put = tt

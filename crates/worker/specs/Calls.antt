@@ -1,5 +1,6 @@
 -- The calls of an engine that lead from one to another.
-use Rattle.std.specs.Prelude.{suc, ◌≡◌, ◌⊎◌, ◌≤◌, ℕ, List, [], ◌∷◌, Option, Some, None}
+use Rattle.std.specs.Prelude.{suc, ◌≡◌, ◌⊎◌, ◌≤◌, ℕ, List, [], ◌∷◌, ◌++◌, Option, Some, None}
+use Rattle.std.specs.List.{AllByRecursion}
 use Rattle.blob_digest.specs.Digest.{DigestValue}
 use Rattle.action_messages.specs.ActionResult.{ActionResultValue}
 use Rattle.action_messages.specs.Reads.{Reads}
@@ -73,7 +74,7 @@ Does A yields t later (ran id d v) old new = FinishedByChild yields t id d v old
 Does A yields t later (taken id d v) old new = FinishedAsRecorded t later id d v old new
 Does A yields t later (lost id) old new = IsLost id old new
 
--- The calls, one after another, lead from one engine to the other, and at most so many jobs run
+-- The calls, one after another, lead from one engine to the other, and at most this many jobs run
 -- after each.
 abbrev pub Leads : (A : Type 0) → Yields → Telling → ℕ → List Call → EngineValue → EngineValue
     → Type 0
@@ -87,6 +88,21 @@ pub record IsLed (A : Type 0) (yields : Yields) (t : Telling) (most : ℕ)
     (old new : EngineValue) : Type 0 where
   pub calls : List Call
   pub leads : Leads A yields t most calls old new
+
+-- What was put, and what stays: a result is put under the action of a child that came to something
+-- among the calls, and results under other digests stay.
+pub record PutsOf (calls : List Call) (old new : Telling) : Type 0 where
+  pub put : List DigestValue
+  pub are : new.puts ≡ old.puts ++ put
+  pub each : AllByRecursion (λ d. HasRun d calls) put
+  pub others : (d : DigestValue) (b : List ℕ) → old.results d ≡ Some b
+      → (new.results d ≡ Some b) ⊎ HasRun d calls
+
+-- Some calls lead from the one engine to the other, and results are put as they say.
+pub record IsBuiltBy (A : Type 0) (yields : Yields) (before t : Telling) (most : ℕ)
+    (old new : EngineValue) : Type 0 where
+  pub led : IsLed A yields t most old new
+  pub puts : PutsOf led.calls before t
 
 -- ---- which step is started
 

@@ -15,7 +15,7 @@ use Rattle.worker.specs.Values.{ProducedValue}
 use Rattle.worker.specs.Stores.{IsKept, IsKeptBut}
 use Rattle.worker.specs.Outcomes.{Yields, IsOwed, HasAllRight}
 use Rattle.worker.specs.Stored.{HasTrees, HasResultOf, IsHeldWhole}
-use Rattle.worker.specs.Calls.{running, WasStarted, IsLost, IsLed, IsStartable}
+use Rattle.worker.specs.Calls.{running, WasStarted, IsLost, IsBuiltBy, IsStartable}
 
 -- the job is the child's
 pub record IsJobOf {J : Type 0} (c : Child J) (j : JobValue) : Type 0 where
@@ -36,10 +36,11 @@ pub record IsOwnJob {J : Type 0} (yields : Yields) (may : J → ProducedValue �
   pub of_child : IsJobOf c j
   pub owed : IsOwed yields (may c.job) B e j
 
--- Calls led to the engine, the children have its jobs, and they are few.
+-- Calls led to the engine and put results, the children have its jobs, and they are few.
 pub record IsGoing (A : Type 0) {J : Type 0} (yields : Yields) (may : J → ProducedValue → Type 0)
-    (t : Telling) (most : ℕ) (old new : EngineValue) (children : List (Child J)) : Type 0 where
-  pub led : IsLed A yields t most old new
+    (before t : Telling) (most : ℕ) (old new : EngineValue) (children : List (Child J))
+    : Type 0 where
+  pub led : IsBuiltBy A yields before t most old new
   pub jobs : AreJobsOf (IsOwnJob yields may t.blobs new) new.jobs children
   pub few : length children ≤ most
 
@@ -148,7 +149,7 @@ turns_left e children = 2 * waiting_among (length e.plan.steps) e + length child
 
 -- ---- what a turn changes
 
--- no other step has finished than did before, and none that did hasn't
+-- the same other steps have finished as before
 pub record FinishesOnly (i : ℕ) (old new : EngineValue) : Type 0 where
   pub plan : new.plan ≡ old.plan
   pub count : length new.finished ≡ length old.finished

@@ -8,3 +8,4 @@ pub mod Going
 pub mod Stored
 pub mod Stopped
 pub mod Watching
+pub mod Counted

@@ -64,3 +64,12 @@ pub record IsHeld (t : Telling) (d : DigestValue) (v : OutcomeValue) : Type 0 wh
   pub result : ActionResultValue
   pub reads : Reads result bytes
   pub recorded : IsRecorded t.blobs result v
+
+-- A job came to an outcome that the store has recorded for its action, and that a build takes for
+-- the command of its step.
+pub record IsTaken (t : Telling) (e : EngineValue) (j : JobValue) (v : OutcomeValue)
+    : Type 0 where
+  pub held : IsHeld t j.action v
+  pub command : CommandValue
+  pub of_step : slice_get e.commands j.step ≡ Some command
+  pub fits : CanBeTaken command v

@@ -1,5 +1,5 @@
 -- Why a build ends at a step.
-use Rattle.std.specs.Prelude.{◌≡◌, ◌⊎◌, ℕ, List, [], ◌∷◌, Some, slice_get}
+use Rattle.std.specs.Prelude.{◌≡◌, ◌⊎◌, ◌<◌, ℕ, List, [], ◌∷◌, length, Some, slice_get}
 use Rattle.blob_digest.specs.Digest.{DigestValue}
 use Rattle.action_messages.specs.Command.{CommandValue}
 use Rattle.actions.specs.Outcome.{OutcomeValue}
@@ -10,22 +10,26 @@ use Rattle.worker.specs.declared.error.Refusal.{Refusal}
 use Rattle.worker.specs.declared.error.Refusal.TheVariants as refusals
 use Rattle.worker.specs.declared.runner.RunError.TheVariants as children
 use Rattle.worker.specs.declared.child.Child.{Child}
-use Rattle.worker.specs.Calls.{WasStarted, IsLed}
-use Rattle.worker.specs.Outcomes.{Yields, HasAllRight, IsYielded, IsHeld}
+use Rattle.worker.specs.Calls.{WasStarted, IsLed, IsStartable}
+use Rattle.worker.specs.Outcomes.{Yields, HasAllRight, IsYielded, IsTaken}
 use Rattle.worker.specs.Refusals.{IsLayoutFault}
 use Rattle.worker.specs.Stores.{IsKept}
 use Rattle.worker.specs.Values.{ProducedValue, IsAbsolute}
 
--- what a job finishes with: what the runner yields for it, or what the store has recorded for it
+-- what a job finishes with: what the runner yields for it, or what is taken from the store for it
 abbrev pub ComesTo : Yields → Telling → EngineValue → JobValue → OutcomeValue → Type 0
-ComesTo yields t e j v = IsYielded yields t.blobs e j v ⊎ IsHeld t j.action v
+ComesTo yields t e j v = IsYielded yields t.blobs e j v ⊎ IsTaken t e j v
 
--- A step is refused: the engine doesn't start it, or doesn't take what its job came to; or the
--- input of its job isn't laid out; or its command doesn't name its program from the root. That a
--- runner or the store failed, that what stands at a path is no output, and that memory ran out
--- needs no reason here.
+-- a job of a step runs
+abbrev pub Runs : EngineValue → ℕ → Type 0
+Runs e i = (id : ℕ) × (j : JobValue) × (job_in id e ≡ Some j) × (j.step ≡ i)
+
+-- A step is refused: the engine doesn't start it, though it could be, or doesn't take what its job
+-- came to; or the input of its job isn't laid out; or its command doesn't name its program from the
+-- root. Of a runner that failed, and of what stands at a path and is no output, it is said that a
+-- job of the step ran. That the store failed, and that memory ran out, needs no reason here.
 abbrev pub StopsStep : {A : Type 0} → Yields → Telling → EngineValue → ℕ → Refusal A → Type 0
-StopsStep yields t e i (refusals.Engine why) = IsStartFault t.blobs e i why
+StopsStep yields t e i (refusals.Engine why) = (IsStartable e i × IsStartFault t.blobs e i why)
     ⊎ ((id : ℕ) × (j : JobValue) × (job_in id e ≡ Some j) × (j.step ≡ i)
     × (v : OutcomeValue) × ComesTo yields t e j v × IsFinishFault e id v why)
 StopsStep yields t e i (refusals.Layout why) =
@@ -33,13 +37,18 @@ StopsStep yields t e i (refusals.Layout why) =
     × IsLayoutFault t.blobs j.input why
 StopsStep yields t e i (refusals.Run children.NotAbsolute) =
     (c : CommandValue) × (slice_get e.commands i ≡ Some c) × (IsAbsolute c → ⊥)
-StopsStep yields t e i r = Unit {0}
+StopsStep yields t e i (refusals.Run children.Device) = Runs e i
+StopsStep yields t e i (refusals.Run (children.BadOutput p)) = Runs e i
+StopsStep yields t e i (refusals.Run children.Memory) = Unit {0}
+StopsStep yields t e i refusals.Fetch = Unit {0}
+StopsStep yields t e i refusals.Memory = Unit {0}
 
--- Calls led to an engine of which a step is refused.
+-- Calls led to an engine of which a step of its plan is refused.
 pub record IsRefusedBuild (A : Type 0) (yields : Yields) (t : Telling) (most : ℕ)
     (old : EngineValue) (i : ℕ) (r : Refusal A) : Type 0 where
   pub at : EngineValue
   pub led : IsLed A yields t most old at
+  pub planned : i < length at.plan.steps
   pub stops : StopsStep yields t at i r
 
 -- ---- on the way there

@@ -1,5 +1,5 @@
 -- What calls of a store leave of what it told.
-use Rattle.std.specs.Prelude.{◌≡◌, ◌⊎◌, ℕ, List, Some, None}
+use Rattle.std.specs.Prelude.{◌≡◌, ◌⊎◌, ℕ, List, [], ◌∷◌, ◌++◌, Some, None}
 use Rattle.blob_digest.specs.Digest.{DigestValue}
 use Rattle.blob_source.specs.Source.{Blobs, Telling, Grows, IsBlobUnder}
 use Rattle.blob_source.specs.Sink.{KeepsRight}
@@ -9,12 +9,14 @@ use Rattle.tree.specs.Memo.{Known, blob, result}
 pub record IsKept (old new : Telling) : Type 0 where
   pub blobs : KeepsRight old.blobs new.blobs
   pub results : Grows old.results new.results
+  pub puts : new.puts ≡ old.puts
 
--- calls that put results under one digest at most: all others stay
+-- calls that put a result under one digest, or put none: all others stay
 pub record IsKeptBut (d : DigestValue) (old new : Telling) : Type 0 where
   pub blobs : KeepsRight old.blobs new.blobs
   pub results : (e : DigestValue) (b : List ℕ) → old.results e ≡ Some b
       → (new.results e ≡ Some b) ⊎ (e ≡ d)
+  pub puts : (new.puts ≡ old.puts) ⊎ (new.puts ≡ old.puts ++ d ∷ [])
 
 -- Blobs alone are known, and each is one that is told. Right bytes stay told when others are put,
 -- and so what is known stays so; a result may give way to another.

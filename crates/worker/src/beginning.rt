@@ -1,7 +1,10 @@
 ghost use Rattle.std.specs.Prelude.{◌≡◌, ◌+◌, ◌-◌, ◌<◌, Some, IfErr, IfOk, OnOk, OnErr, length};
 ghost use Rattle.worker.specs.Layout.{IsLayoutOf};
 ghost use Rattle.tree.specs.Memo.{known_by};
+ghost use Rattle.std.specs.Result.{IsErrAnd};
+ghost use Rattle.worker.specs.Counted.{Counts, IsDevice, IsFetch};
 ghost use Rattle.worker.specs.Stores.{IsKept, KnowsBlobs};
+ghost use Rattle.worker.specs.Calls.{IsStartable};
 ghost use Rattle.worker.specs.Outcomes.{YieldsNoMore};
 ghost use Rattle.worker.specs.Values.{LayoutValue, ProducedValue};
 ghost use Rattle.worker.specs.Going.{IsJobIn, job_value, IsBegun, CameToNothing, IsLaunched};
@@ -34,6 +37,10 @@ fn start_child<A: Allocator + Copy, S: BlobSink<A>, N: Runner<A>>(
     ensures same { YieldsNoMore (N.yields runner.new) (N.yields runner.old) }
     ensures opened { OnOk result (N.alive runner.new ≡ N.alive runner.old + 1) }
     ensures unopened { OnErr result (N.alive runner.new ≡ N.alive runner.old) }
+    ensures fetched { Counts (S.tells sink.old).failures (S.tells sink.new).failures
+        (IsErrAnd result IsFetch) }
+    ensures device { Counts (N.failures runner.old) (N.failures runner.new)
+        (IsErrAnd result IsDevice) }
 {
     let root = job.action.input_root_digest();
     let laid = layout(alloc, &root, sink)?;
@@ -61,6 +68,10 @@ fn launch<A: Allocator + Copy, S: BlobSink<A>, N: Runner<A>>(
     ensures within { YieldsNoMore (N.yields runner.new) (N.yields runner.old) }
     ensures alive { N.alive runner.new + length children.old.items
         ≡ N.alive runner.old + length children.new.items }
+    ensures fetched { Counts (S.tells sink.old).failures (S.tells sink.new).failures
+        (IsErrAnd result IsFetch) }
+    ensures device { Counts (N.failures runner.old) (N.failures runner.new)
+        (IsErrAnd result IsDevice) }
 {
     put_input(alloc, sink, job)?;
     if let Some(outcome) = recorded_outcome(alloc, sink, job)? {
@@ -90,6 +101,7 @@ pub(crate) fn begin<A: Allocator + Copy, S: BlobSink<A>, N: Runner<A>>(
     step: usize,
 ) -> Result<(), BuildError<A>>
     requires within { step < length engine.old.plan.steps }
+    requires startable { IsStartable engine.old step }
     requires knows { KnowsBlobs (known_by memo.old) (S.tells sink.old).blobs }
     ensures knows { KnowsBlobs (known_by memo.new) (S.tells sink.new).blobs }
     ensures kept { IsKept (S.tells sink.old) (S.tells sink.new) }
@@ -103,6 +115,10 @@ pub(crate) fn begin<A: Allocator + Copy, S: BlobSink<A>, N: Runner<A>>(
     ensures within { YieldsNoMore (N.yields runner.new) (N.yields runner.old) }
     ensures alive { N.alive runner.new + length children.old.items
         ≡ N.alive runner.old + length children.new.items }
+    ensures fetched { Counts (S.tells sink.old).failures (S.tells sink.new).failures
+        (IsErrAnd result (λ e. IsFetch e.refusal)) }
+    ensures device { Counts (N.failures runner.old) (N.failures runner.new)
+        (IsErrAnd result (λ e. IsDevice e.refusal)) }
 {
     let job = match engine.start(alloc, step, memo, sink) {
         Ok(job) => job,

@@ -4,8 +4,10 @@ ghost use Rattle.blob_source.specs.Sink.{KeepsRight};
 ghost use Rattle.runs.specs.Engine.{EngineValue};
 ghost use Rattle.runs.specs.Calls.{HaveAllFinished};
 ghost use Rattle.tree.specs.Memo.{known_by};
+ghost use Rattle.std.specs.Result.{IsErrAnd};
+ghost use Rattle.worker.specs.Counted.{Counts, IsDevice, IsFetch};
 ghost use Rattle.worker.specs.Stores.{KnowsBlobs};
-ghost use Rattle.worker.specs.Calls.{running, IsLed};
+ghost use Rattle.worker.specs.Calls.{running, IsBuiltBy};
 ghost use Rattle.worker.specs.Going.{AreJobsOf, IsJobOf, IsGoing};
 ghost use Rattle.worker.specs.Stopped.{IsRefusedBuild};
 ghost use Rattle.worker.specs.Stored.{HasNoneFinished, IsStored, StoresSteps};
@@ -30,12 +32,13 @@ fn end_all<A: Allocator + Copy, N: Runner<A>>(
     children: VecDeque<Child<N::Job>, A>,
 )
     requires there { AreJobsOf IsJobOf engine.old.jobs children.items }
-    ensures led { (entry : N) (t : Telling) (most : ℕ) (first : EngineValue)
-        → IsGoing A (N.yields entry) N.may_give t most first engine.old children.items
-        → IsLed A (N.yields entry) t most first engine.new }
+    ensures led { (entry : N) (before t : Telling) (most : ℕ) (first : EngineValue)
+        → IsGoing A (N.yields entry) N.may_give before t most first engine.old children.items
+        → IsBuiltBy A (N.yields entry) before t most first engine.new }
     ensures idle { running engine.new.jobs ≡ 0 }
     ensures alive { (count : ℕ) → N.alive runner.old ≡ count + length children.items
         → N.alive runner.new ≡ count }
+    ensures device { N.failures runner.old ≤ N.failures runner.new }
 {
     let mut rest = children;
     while let Some(child) = rest.pop_front() {
@@ -60,8 +63,8 @@ fn take_turns<A: Allocator + Copy, S: BlobSink<A>, N: Runner<A>, W: Watcher>(
     requires knows { KnowsBlobs (known_by memo.old) (S.tells sink.old).blobs }
     requires idle { running engine.old.jobs ≡ 0 }
     requires none { children.old.items ≡ [] }
-    ensures going { IsGoing A (N.yields runner.old) N.may_give (S.tells sink.new) jobs
-        engine.old engine.new children.new.items }
+    ensures going { IsGoing A (N.yields runner.old) N.may_give (S.tells sink.old)
+        (S.tells sink.new) jobs engine.old engine.new children.new.items }
     ensures done { OnOk result (HaveAllFinished engine.new) }
     ensures ended { OnOk result (children.new.items ≡ []) }
     ensures stopped { IfErr result (λ e. IsRefusedBuild A (N.yields runner.old) (S.tells sink.new)
@@ -74,6 +77,10 @@ fn take_turns<A: Allocator + Copy, S: BlobSink<A>, N: Runner<A>, W: Watcher>(
         (W.told watcher.old) (W.told watcher.new) }
     ensures up_to_date { OnOk result
         (IsUpToDate engine.old engine.new (W.told watcher.old) (W.told watcher.new)) }
+    ensures fetched { Counts (S.tells sink.old).failures (S.tells sink.new).failures
+        (IsErrAnd result (λ e. IsFetch e.refusal)) }
+    ensures device { Counts (N.failures runner.old) (N.failures runner.new)
+        (IsErrAnd result (λ e. IsDevice e.refusal)) }
 {
     let mut progress = first_progress(engine);
     while let Some(turn) = next_turn(engine, children, jobs) {
@@ -103,8 +110,10 @@ pub fn build<A: Allocator + Copy, S: BlobSink<A>, N: Runner<A>, W: Watcher>(
     requires some { 0 < jobs }
     requires idle { running engine.old.jobs ≡ 0 }
     // Calls lead to the engine, and at most `jobs` jobs run after each. What a job finishes with is
-    // from the runner or from the store.
-    ensures led { IsLed A (N.yields runner.old) (S.tells sink.new) jobs engine.old engine.new }
+    // from the runner or from the store. A result is put under the action of a job that finished
+    // with what its child came to, and those under other digests stay.
+    ensures led { IsBuiltBy A (N.yields runner.old) (S.tells sink.old) (S.tells sink.new) jobs
+        engine.old engine.new }
     ensures done { OnOk result (HaveAllFinished engine.new) }
     // Where it is refused, calls led to an engine in which the refusal of that step stands.
     ensures stopped { IfErr result (λ e. IsRefusedBuild A (N.yields runner.old) (S.tells sink.new)
@@ -122,6 +131,12 @@ pub fn build<A: Allocator + Copy, S: BlobSink<A>, N: Runner<A>, W: Watcher>(
     // and the last is that of the engine as it is then.
     ensures up_to_date { OnOk result
         (IsUpToDate engine.old engine.new (W.told watcher.old) (W.told watcher.new)) }
+    // The store failed exactly where that is told, and the runner at least there.
+    ensures fetched { Counts (S.tells sink.old).failures (S.tells sink.new).failures
+        (IsErrAnd result (λ e. IsFetch e.refusal)) }
+    ensures device { IsErrAnd result (λ e. IsDevice e.refusal)
+        → N.failures runner.old < N.failures runner.new }
+    ensures unfailed { OnOk result (N.failures runner.new ≡ N.failures runner.old) }
 {
     let mut memo = Memo::new(alloc);
     let mut children = VecDeque::new(alloc);

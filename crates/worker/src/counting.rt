@@ -21,7 +21,7 @@ pub(crate) struct Before {
     had_finished: bool,
 }
 
-/// How far a build is of which no job runs.
+/// How far a build of which no job runs is.
 pub(crate) fn first_progress<A: Allocator + Copy>(engine: &Engine<A>) -> Progress
     requires { running engine.now.jobs ≡ 0 }
     ensures { IsProgressOf engine.now result }

@@ -1,5 +1,7 @@
 ghost use Rattle.std.specs.Prelude.{◌≡◌, ◌+◌, ◌-◌, ◌<◌, Some, IfErr, IfOk, OnOk, OnErr, length};
 ghost use Rattle.runs.specs.Engine.{JobValue, job_in};
+ghost use Rattle.std.specs.Result.{IsErrAnd};
+ghost use Rattle.worker.specs.Counted.{Counts, IsDevice, IsFetch};
 ghost use Rattle.worker.specs.Stores.{IsKept};
 ghost use Rattle.worker.specs.Outcomes.{YieldsNoMore, HasAllRight};
 ghost use Rattle.worker.specs.Values.{ProducedValue};
@@ -32,6 +34,10 @@ fn collect<A: Allocator + Copy, S: BlobSink<A>, N: Runner<A>>(
     ensures refused { IfErr result StopsCollecting }
     ensures within { YieldsNoMore (N.yields runner.new) (N.yields runner.old) }
     ensures closed { N.alive runner.new ≡ N.alive runner.old - 1 }
+    ensures fetched { Counts (S.tells sink.old).failures (S.tells sink.new).failures
+        (IsErrAnd result IsFetch) }
+    ensures device { Counts (N.failures runner.old) (N.failures runner.new)
+        (IsErrAnd result IsDevice) }
 {
     let Produced { outcome, blobs } = runner.finish(alloc, job)?;
     put_all(alloc, sink, &blobs)?;
@@ -55,6 +61,10 @@ fn take<A: Allocator + Copy, S: BlobSink<A>, N: Runner<A>>(
     ensures unchanged { OnErr result (engine.new ≡ engine.old) }
     ensures within { YieldsNoMore (N.yields runner.new) (N.yields runner.old) }
     ensures closed { N.alive runner.new ≡ N.alive runner.old - 1 }
+    ensures fetched { Counts (S.tells sink.old).failures (S.tells sink.new).failures
+        (IsErrAnd result IsFetch) }
+    ensures device { Counts (N.failures runner.old) (N.failures runner.new)
+        (IsErrAnd result IsDevice) }
 {
     let Child { id, job, .. } = child;
     let outcome = collect(alloc, sink, runner, job)?;
@@ -81,6 +91,10 @@ fn settle<A: Allocator + Copy, S: BlobSink<A>, N: Runner<A>>(
         (S.tells sink.old) (S.tells sink.new) child engine.old) }
     ensures within { YieldsNoMore (N.yields runner.new) (N.yields runner.old) }
     ensures closed { N.alive runner.new ≡ N.alive runner.old - 1 }
+    ensures fetched { Counts (S.tells sink.old).failures (S.tells sink.new).failures
+        (IsErrAnd result IsFetch) }
+    ensures device { Counts (N.failures runner.old) (N.failures runner.new)
+        (IsErrAnd result IsDevice) }
 {
     let _ = engine.plan();
     let id = child.id;
@@ -117,6 +131,10 @@ pub(crate) fn finish_first<A: Allocator + Copy, S: BlobSink<A>, N: Runner<A>>(
         (S.tells sink.new) children.old.items engine.old e.step e.refusal) }
     ensures within { YieldsNoMore (N.yields runner.new) (N.yields runner.old) }
     ensures closed { N.alive runner.new ≡ N.alive runner.old - 1 }
+    ensures fetched { Counts (S.tells sink.old).failures (S.tells sink.new).failures
+        (IsErrAnd result (λ e. IsFetch e.refusal)) }
+    ensures device { Counts (N.failures runner.old) (N.failures runner.new)
+        (IsErrAnd result (λ e. IsDevice e.refusal)) }
 {
     let Some(child) = children.pop_front() else {
         unreachable!()

@@ -27,10 +27,10 @@ impl<A: Allocator> Model for Layout<A> {
 #[derive(Drop, Error)]
 #[derive_where(Debug)]
 pub enum LayoutError<A: Allocator> {
-    /// Refusals 42 to 44 and 46, or the source failed.
+    /// The tree or a file's content isn't told, or the source failed.
     #[error("the tree or the content of a file isn't told")]
     Source(TreeError<A>),
-    /// Refusal 111: a symbolic link stands at the path.
+    /// A symbolic link stands at the path.
     #[error("a symbolic link is among the inputs")]
     LinkInput(Path<A>),
     /// No memory was left.

@@ -13,7 +13,7 @@ use messages::Path;
 use std::alloc::Allocator;
 use tree::{BlobSource, FetchError, Fetched, FlatEntry, FlatTree, TreeError, fetch_blob, unfold};
 
-/// The content with a digest. Refusals 42 and 43.
+/// The content with a digest. Refusals: `BlobMissing` and `BlobWrong`.
 fn fetch_content<A: Allocator + Copy, S: BlobSource<A>>(
     alloc: A,
     digest: &Digest,
@@ -34,7 +34,7 @@ fn fetch_content<A: Allocator + Copy, S: BlobSource<A>>(
     }
 }
 
-/// The tree with a digest. Refusals 42 to 44 and 46.
+/// The tree with a digest. Refusals: `BlobMissing`, `BlobWrong`, `BlobMalformed` and `TooDeep`.
 fn read_tree<A: Allocator + Copy, S: BlobSource<A>>(
     alloc: A,
     root: &Digest,
@@ -96,8 +96,9 @@ fn sort<A: Allocator>(layout: Layout<A>) -> Layout<A>
     Layout { folders, files }
 }
 
-/// The directories and files of the tree with a digest, each file with its content. Refusals 42 to
-/// 44 and 46, and 111 where there is a symbolic link. Whether a file is executable isn't laid out.
+/// The directories and files of the tree with a digest, each file with its content. Refusals:
+/// `Source` where one isn't told, and `LinkInput` where there is a symbolic link. Whether a file is
+/// executable isn't laid out.
 pub fn layout<A: Allocator + Copy, S: BlobSource<A>>(
     alloc: A,
     root: &Digest,

@@ -1,4 +1,5 @@
 ghost use Rattle.std.specs.Prelude.{◌≡◌, ◌+◌, ◌-◌, ◌<◌, Some, IsSome, IfErr, OnOk};
+ghost use Rattle.std.specs.Result.{IsErrAnd};
 ghost use Rattle.blob_digest.specs.Digest.{digest_of};
 ghost use Rattle.action_messages.specs.Action.{action_bytes};
 ghost use Rattle.wire.specs.Bytes.{IsBytes};
@@ -6,9 +7,10 @@ ghost use Rattle.blob_source.specs.Sink.{HasRight};
 ghost use Rattle.runs.specs.Engine.{finished_in};
 ghost use Rattle.worker.specs.Stores.{IsKept, IsKeptBut};
 ghost use Rattle.worker.specs.Outcomes.{HasAllRight};
+ghost use Rattle.worker.specs.Counted.{Counts, IsFetch};
 ghost use Rattle.worker.specs.Values.{blobs_of};
 ghost use Rattle.worker.specs.Stopped.{IsStoreFault};
-ghost use Rattle.worker.specs.Stored.{HasTrees, HasResultOf};
+ghost use Rattle.worker.specs.Stored.{directories_of, HasTrees, HasResultOf};
 
 use crate::error::Refusal;
 use actions::{Outcome, Output};
@@ -28,6 +30,8 @@ pub(crate) fn put_all<A: Allocator + Copy, S: BlobSink<A>>(
     ensures kept { IsKept (S.tells sink.old) (S.tells sink.new) }
     ensures held { OnOk result (HasAllRight (S.tells sink.new).blobs (blobs_of blobs.now)) }
     ensures failed { IfErr result IsStoreFault }
+    ensures fetched { Counts (S.tells sink.old).failures (S.tells sink.new).failures
+        (IsErrAnd result IsFetch) }
 {
     for blob in blobs {
         sink.put_blob(alloc, blob)?;
@@ -48,6 +52,8 @@ pub(crate) fn put_input<A: Allocator + Copy, S: BlobSink<A>>(
     ensures input { OnOk result
         (HasAllRight (S.tells sink.new).blobs (blobs_of job.now.input.directories.items)) }
     ensures failed { IfErr result IsStoreFault }
+    ensures fetched { Counts (S.tells sink.old).failures (S.tells sink.new).failures
+        (IsErrAnd result IsFetch) }
 {
     let action = job.action.encode(alloc)?;
     sink.put_blob(alloc, &action)?;
@@ -62,7 +68,11 @@ fn put_directories<A: Allocator + Copy, S: BlobSink<A>>(
     tree: &Tree<A>,
 ) -> Result<(), Refusal<A>>
     ensures kept { IsKept (S.tells sink.old) (S.tells sink.new) }
+    ensures held { OnOk result
+        (HasAllRight (S.tells sink.new).blobs (directories_of tree.now)) }
     ensures failed { IfErr result IsStoreFault }
+    ensures fetched { Counts (S.tells sink.old).failures (S.tells sink.new).failures
+        (IsErrAnd result IsFetch) }
 {
     sink.put_blob(alloc, &tree.root().encode(alloc)?)?;
     for child in tree.children() {
@@ -81,6 +91,8 @@ pub(crate) fn put_trees<A: Allocator + Copy, S: BlobSink<A>>(
     ensures kept { IsKept (S.tells sink.old) (S.tells sink.new) }
     ensures held { OnOk result (HasTrees (S.tells sink.new).blobs outcome.now) }
     ensures failed { IfErr result IsStoreFault }
+    ensures fetched { Counts (S.tells sink.old).failures (S.tells sink.new).failures
+        (IsErrAnd result IsFetch) }
 {
     for output in outcome.outputs() {
         if let Output::Tree(tree) = &output.1 {
@@ -103,6 +115,8 @@ fn put_encoded<A: Allocator + Copy, S: BlobSink<A>>(
     // For the prover: what is in a slice are bytes.
     ensures bytes { IsBytes bytes.now }
     ensures failed { IfErr result IsStoreFault }
+    ensures fetched { Counts (S.tells sink.old).failures (S.tells sink.new).failures
+        (IsErrAnd result IsFetch) }
 {
     sink.put_result(alloc, action, bytes)?;
     Ok(())
@@ -120,6 +134,8 @@ pub(crate) fn put_outcome<A: Allocator + Copy, S: BlobSink<A>>(
     ensures kept { IsKeptBut action.now (S.tells sink.old) (S.tells sink.new) }
     ensures put { OnOk result (HasResultOf (S.tells sink.new) engine.now step action.now) }
     ensures failed { IfErr result IsStoreFault }
+    ensures fetched { Counts (S.tells sink.old).failures (S.tells sink.new).failures
+        (IsErrAnd result IsFetch) }
 {
     let result = engine.result(alloc, step)?.encode(alloc)?;
     put_encoded(alloc, sink, action, &result)

@@ -1,5 +1,7 @@
 ghost use Rattle.std.specs.Prelude.{◌≡◌, ◌↔◌, ◌+◌, ◌-◌, ◌<◌, Some, None, IsTrue, IfSome, IfErr};
-ghost use Rattle.std.specs.Prelude.{IfOk, OnOk, Contains};
+ghost use Rattle.std.specs.Prelude.{IfOk, Contains};
+ghost use Rattle.std.specs.Result.{IsErrAnd};
+ghost use Rattle.worker.specs.Counted.{Counts, IsFetch};
 ghost use Rattle.worker.specs.Stores.{IsKept};
 ghost use Rattle.worker.specs.Outcomes.{IsHeld, CanBeTaken};
 ghost use Rattle.worker.specs.Stopped.{IsStoreFault};
@@ -46,8 +48,9 @@ pub(crate) fn recorded_outcome<A: Allocator + Copy, S: BlobSink<A>>(
     ensures held { IfOk result (λ found.
         IfSome found (IsHeld (S.tells sink.new) job.now.digest)) }
     ensures fits { IfOk result (λ found. IfSome found (CanBeTaken job.now.command)) }
-    ensures unfailed { OnOk result ((S.tells sink.new).failures ≡ (S.tells sink.old).failures) }
     ensures failed { IfErr result IsStoreFault }
+    ensures fetched { Counts (S.tells sink.old).failures (S.tells sink.new).failures
+        (IsErrAnd result IsFetch) }
 {
     let Some(bytes) = sink.result(alloc, &job.digest)? else {
         return Ok(None);

@@ -29,13 +29,13 @@ impl<A: Allocator> Model for Produced<A> {
 #[derive(Drop, Error)]
 #[derive_where(Debug)]
 pub enum RunError<A: Allocator> {
-    /// Refusal 112: the first argument doesn't begin with a slash.
+    /// The first argument doesn't begin with a slash.
     #[error("the program isn't named by a path from the root")]
     NotAbsolute,
-    /// Refusal 113, which is counted. A runner whose count is full answers `Memory` instead.
+    /// The runner failed, and counted that. A runner whose count is full answers `Memory` instead.
     #[error("the runner failed")]
     Device,
-    /// Refusal 114: what stands at the path is no output.
+    /// What stands at the path is no output.
     #[error("what stands at an output path is no output")]
     BadOutput(Path<A>),
     /// No memory was left.

@@ -1,9 +1,12 @@
 ghost use Rattle.std.specs.Prelude.{◌≡◌, ◌↔◌, ◌+◌, ◌-◌, ◌<◌, ◌≤◌, ℕ, [], Some, None, IsTrue};
 ghost use Rattle.std.specs.Prelude.{IfSome, IfErr, OnOk, length};
 ghost use Rattle.blob_source.specs.Sink.{KeepsRight};
+ghost use Rattle.blob_source.specs.Source.{Telling};
 ghost use Rattle.plan.specs.Plan.{IsPlan};
 ghost use Rattle.runs.specs.Engine.{EngineValue, IsEngine};
 ghost use Rattle.tree.specs.Memo.{known_by};
+ghost use Rattle.std.specs.Result.{IsErrAnd};
+ghost use Rattle.worker.specs.Counted.{Counts, IsDevice, IsFetch};
 ghost use Rattle.worker.specs.Stores.{KnowsBlobs};
 ghost use Rattle.worker.specs.Outcomes.{YieldsNoMore};
 ghost use Rattle.worker.specs.Calls.{IsStartable};
@@ -60,7 +63,7 @@ pub(crate) fn next_step<A: Allocator + Copy>(engine: &Engine<A>) -> Option<usize
     None
 }
 
-/// What comes next while at most so many children run: the least step that may be started, or else
+/// What comes next while at most `jobs` children run: the least step that may be started, or else
 /// the child that was started first.
 pub(crate) fn next_turn<A: Allocator + Copy, J>(
     engine: &Engine<A>,
@@ -102,23 +105,24 @@ pub(crate) fn take_turn<A: Allocator + Copy, S: BlobSink<A>, N: Runner<A>>(
     requires can { (most : ℕ) × IsTurn most engine.old children.old.items turn }
     requires there { AreJobsOf IsJobOf engine.old.jobs children.old.items }
     requires alive { length children.old.items ≤ N.alive runner.old }
-    ensures going { (entry : N) (most : ℕ) (first : EngineValue)
+    ensures going { (entry : N) (before : Telling) (most : ℕ) (first : EngineValue)
         → YieldsNoMore (N.yields runner.old) (N.yields entry)
         → IsTurn most engine.old children.old.items turn
-        → IsGoing A (N.yields entry) N.may_give (S.tells sink.old) most first
+        → IsGoing A (N.yields entry) N.may_give before (S.tells sink.old) most first
         engine.old children.old.items
-        → IsGoing A (N.yields entry) N.may_give (S.tells sink.new) most first
+        → IsGoing A (N.yields entry) N.may_give before (S.tells sink.new) most first
         engine.new children.new.items }
     // Where the turn is refused, the refusal stands.
-    ensures stopped { IfErr result (λ e. (entry : N) (most : ℕ) (first : EngineValue)
+    ensures stopped { IfErr result (λ e. (entry : N) (before : Telling) (most : ℕ)
+        (first : EngineValue)
         → YieldsNoMore (N.yields runner.old) (N.yields entry)
         → IsTurn most engine.old children.old.items turn
-        → IsGoing A (N.yields entry) N.may_give (S.tells sink.old) most first
+        → IsGoing A (N.yields entry) N.may_give before (S.tells sink.old) most first
         engine.old children.old.items
         → IsRefusedBuild A (N.yields entry) (S.tells sink.new) most first e.step e.refusal) }
     // What the store has of what has finished, it has of what finishes in this turn too.
-    ensures stored { OnOk result ((entry : N) (most : ℕ) (first : EngineValue)
-        → IsGoing A (N.yields entry) N.may_give (S.tells sink.old) most first
+    ensures stored { OnOk result ((entry : N) (before : Telling) (most : ℕ) (first : EngineValue)
+        → IsGoing A (N.yields entry) N.may_give before (S.tells sink.old) most first
         engine.old children.old.items
         → StoresSteps (S.tells sink.old) engine.old
         → StoresSteps (S.tells sink.new) engine.new) }
@@ -131,6 +135,10 @@ pub(crate) fn take_turn<A: Allocator + Copy, S: BlobSink<A>, N: Runner<A>>(
     ensures within { YieldsNoMore (N.yields runner.new) (N.yields runner.old) }
     ensures alive { N.alive runner.new + length children.old.items
         ≡ N.alive runner.old + length children.new.items }
+    ensures fetched { Counts (S.tells sink.old).failures (S.tells sink.new).failures
+        (IsErrAnd result (λ e. IsFetch e.refusal)) }
+    ensures device { Counts (N.failures runner.old) (N.failures runner.new)
+        (IsErrAnd result (λ e. IsDevice e.refusal)) }
 {
     let _ = engine.plan();
     match turn {

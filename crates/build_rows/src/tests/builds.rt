@@ -122,7 +122,7 @@ struct Row {
     /// What its children come to, and how many may run at once.
     came: Came,
     jobs: usize,
-    /// The line, and the text of the record behind it.
+    /// The line, and the text of the record after it.
     told: &'static str,
     /// As `Counting::counts` has them.
     counts: (u64, u64, u64),
@@ -238,7 +238,7 @@ fn plan_of<A: Allocator + Copy>(global: Global, alloc: A, text: &str) -> Result<
     }
 }
 
-/// What a build tells: its line, and the text of the record behind it; nothing for want of memory.
+/// What a build tells: its line, and the text of the record after it; nothing for want of memory.
 fn told<A: Allocator + Copy>(
     global: Global,
     alloc: A,

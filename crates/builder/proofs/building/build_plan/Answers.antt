@@ -9,6 +9,9 @@ use Rattle.worker.proofs.Heard.{watched_none}
 use Rattle.builder.proofs.Leading.{led_plan, led_sources}
 use Rattle.builder.proofs.Serving.{none_finished, answered}
 use Rattle.builder.proofs.Watched.{watched_of_plan, whole_of}
+use Rattle.worker.proofs.Failures.{counts_exit, counts_from}
+use Rattle.builder.specs.Faults.{IsStoreFailure}
+use Rattle.builder.proofs.Failing.{open_no_device, end_no_device, exit_device}
 use Rattle.builder.proofs.building.build_plan.Goals as goal
 
 pub returns-in_err-engine-clause-right : goal.returns-in_err-engine-clause-right
@@ -74,6 +77,7 @@ returns-clause-refused g c = IfErr-weaker c.end.result _ _
       still = c.run.ensures.right;
       last = c.run.new.engine;
       led = c.run.ensures.led;
+      complete = c.in_ok-run.ensures.done;
       asked = c.end.ensures.asked;
       stands = root;
     })) c.end.ensures.refused
@@ -92,3 +96,21 @@ returns-clause-whole g c =
     let opened = c.in_ok-engine.ensures.opened in
     on_ok c.end.result (whole_of c.args.plan c.in_ok-engine.engine c.run.new.engine opened c.plan.ensures.lawful c.in_ok-run.ensures.done (led_plan c.run.ensures.led ∙ opened.plan)
     (g.W.Watcher.told c.args.watcher.now) (g.W.Watcher.told c.run.new.watcher) c.in_ok-run.ensures.up_to_date)
+
+pub returns-in_err-engine-clause-fetched : goal.returns-in_err-engine-clause-fetched
+returns-in_err-engine-clause-fetched g c = counts_exit IsStoreFailure c.from_residual.result c.from_residual.ensures.1 (c.in_err-engine.ensures.fetched)
+
+pub returns-in_err-run-clause-fetched : goal.returns-in_err-run-clause-fetched
+returns-in_err-run-clause-fetched g c = counts_from (c.in_ok-engine.ensures.fetched.unfailed (λ f. f)) (counts_exit IsStoreFailure c.from_residual-in_err-run.result c.from_residual-in_err-run.ensures.1 (c.in_err-run.ensures.fetched))
+
+pub returns-clause-fetched : goal.returns-clause-fetched
+returns-clause-fetched g c = counts_from (c.in_ok-run.ensures.fetched.unfailed (λ f. f) ∙ c.in_ok-engine.ensures.fetched.unfailed (λ f. f)) c.end.ensures.fetched
+
+pub returns-in_err-engine-clause-device : goal.returns-in_err-engine-clause-device
+returns-in_err-engine-clause-device g c = exit_device _ c.from_residual.result c.from_residual.ensures.1 (λ f. absurd (open_no_device c.in_err-engine.ensures.refused.error _ c.in_err-engine.ensures.refused.is f))
+
+pub returns-in_err-run-clause-device : goal.returns-in_err-run-clause-device
+returns-in_err-run-clause-device g c = exit_device _ c.from_residual-in_err-run.result c.from_residual-in_err-run.ensures.1 c.in_err-run.ensures.device
+
+pub returns-clause-device : goal.returns-clause-device
+returns-clause-device g c = λ f. absurd (end_no_device g.row.A.Denot c.run.new.engine (g.S.BlobSource.tells c.end.new.sink) c.end.result c.end.ensures.refused f)

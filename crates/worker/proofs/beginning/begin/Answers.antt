@@ -4,6 +4,8 @@ use Rattle.worker.specs.Stopped.{StopsStep}
 use Rattle.worker.proofs.Started.{started_in, was_started}
 use Rattle.worker.proofs.Goes.{begun, refused}
 use Rattle.worker.proofs.Knowing.{known_of, knows_still, knows_started}
+use Rattle.blob_source.proofs.Asking.{ok_no_error}
+use Rattle.worker.proofs.Failures.{counts_none, counts_from, counts_calls, counts_engine}
 use Rattle.worker.proofs.beginning.begin.Goals as goal
 
 pub launch-requires : goal.launch-requires
@@ -34,7 +36,7 @@ pub returns-clause-knows : goal.returns-clause-knows
 returns-clause-knows g c = knows_still c.launch.ensures.kept.blobs (knows_started c.args.engine.now c.args.step c.requires.knows c.start.ensures.learned)
 
 pub returns-in-Err-clause-stopped : goal.returns-in-Err-clause-stopped
-returns-in-Err-clause-stopped g c = (refl, inl (inl c.in-Err.ensures.refused))
+returns-in-Err-clause-stopped g c = (refl, inl (inl (c.requires.startable, c.in-Err.ensures.refused)))
 
 pub returns-clause-stopped : goal.returns-clause-stopped
 returns-clause-stopped g c =
@@ -48,3 +50,21 @@ returns-clause-stopped g c =
         subst (λ i. StopsStep (g.N.Runner.yields c.args.runner.now) t c.start.new.self i c.in-Err-launch.refusal) started.prepared.of_step c.in-Err-launch.ensures.refused,
       ),
     )
+
+pub returns-in-Err-clause-fetched : goal.returns-in-Err-clause-fetched
+returns-in-Err-clause-fetched g c = counts_engine _ (counts_calls c.in-Err.ensures.called)
+
+pub returns-in-Err-clause-device : goal.returns-in-Err-clause-device
+returns-in-Err-clause-device g c = counts_none (λ f. f)
+
+pub returns-in-Ok-launch-clause-fetched : goal.returns-in-Ok-launch-clause-fetched
+returns-in-Ok-launch-clause-fetched g c = counts_from (c.in-Ok.ensures.called.unfailed ok_no_error) c.in-Ok-launch.ensures.fetched
+
+pub returns-in-Ok-launch-clause-device : goal.returns-in-Ok-launch-clause-device
+returns-in-Ok-launch-clause-device g c = c.in-Ok-launch.ensures.device
+
+pub returns-clause-fetched : goal.returns-clause-fetched
+returns-clause-fetched g c = counts_from (c.in-Ok.ensures.called.unfailed ok_no_error) c.in-Err-launch.ensures.fetched
+
+pub returns-clause-device : goal.returns-clause-device
+returns-clause-device g c = c.in-Err-launch.ensures.device

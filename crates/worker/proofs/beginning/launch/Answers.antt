@@ -3,11 +3,13 @@ use Rattle.std.proofs.Common.{refl, sym, subst, inl, inr, ap, ◌∙◌, ◌++�
 use Rattle.blob_source.specs.Sink.{HasRight}
 use Rattle.std.specs.Prelude.{IfSome}
 use Rattle.worker.specs.declared.child.Child.{Child}
-use Rattle.worker.specs.Outcomes.{IsHeld}
+use Rattle.worker.specs.Outcomes.{IsHeld, IsTaken, CanBeTaken}
 use Rattle.worker.specs.Going.{job_value}
 use Rattle.worker.proofs.Stopping.{store_stops, child_stops}
 use Rattle.worker.proofs.Telling.{held_kept}
 use Rattle.worker.proofs.Keeping.{kept_trans, right_still}
+use Rattle.worker.specs.Counted.{IsDevice, IsFetch}
+use Rattle.worker.proofs.Failures.{counts_none, counts_same, counts_from, counts_exit, finish_no_fetch, store_no_device}
 use Rattle.worker.proofs.beginning.launch.Goals as goal
 
 pub returns-in_err-put_trees-clause-kept : goal.returns-in_err-put_trees-clause-kept
@@ -84,9 +86,63 @@ returns-in_err-finish-clause-refused g c =
     let p = err_from_is_err_and c.from_residual-in_err-finish.result c.from_residual-in_err-finish.ensures.1 in
     let t = g.S.BlobSource.tells c.recorded_outcome.new.sink in
     let held : IsHeld t c.args.job.now.digest c.in-Some.outcome = subst (λ o. IfSome o (IsHeld t c.args.job.now.digest)) c.in-Some.is c.in_ok-outcome.ensures.held in
-    rw (p.1, p.2) (inr (c.args.job.now.id, job_value c.args.job.now, c.requires.there, refl, c.in-Some.outcome, inr (held_kept c.put_trees.ensures.kept held), c.in_err-finish.ensures.refused))
+    let taken : IsTaken (g.S.BlobSource.tells c.put_trees.new.sink) c.args.engine.now (job_value c.args.job.now) c.in-Some.outcome = record {
+      held = held_kept c.put_trees.ensures.kept held;
+      command = c.args.job.now.command;
+      of_step = c.requires.command;
+      fits = subst (λ o. IfSome o (CanBeTaken c.args.job.now.command)) c.in-Some.is c.in_ok-outcome.ensures.fits;
+    } in
+    rw (p.1, p.2) (inr (c.args.job.now.id, job_value c.args.job.now, c.requires.there, refl, c.in-Some.outcome, inr taken, c.in_err-finish.ensures.refused))
 
 pub returns-in_err-child-clause-refused : goal.returns-in_err-child-clause-refused
 returns-in_err-child-clause-refused g c =
     let p = err_from_is_err_and c.from_residual-in_err-child.result c.from_residual-in_err-child.ensures.1 in
     rw (p.1, p.2) (child_stops (g.N.Runner.yields c.args.runner.now) (g.S.BlobSource.tells c.start_child.new.sink) c.args.engine.now c.args.job.now c.requires c.in_err-child.field-0.0 c.in_err-child.ensures.refused)
+
+pub returns-in_err-put_input-clause-fetched : goal.returns-in_err-put_input-clause-fetched
+returns-in_err-put_input-clause-fetched g c = counts_exit IsFetch c.from_residual.result c.from_residual.ensures.1 (c.in_err-put_input.ensures.fetched)
+
+pub returns-in_err-outcome-clause-fetched : goal.returns-in_err-outcome-clause-fetched
+returns-in_err-outcome-clause-fetched g c = counts_from (c.in_ok-put_input.ensures.fetched.unfailed (λ f. f)) (counts_exit IsFetch c.from_residual-in_err-outcome.result c.from_residual-in_err-outcome.ensures.1 (c.in_err-outcome.ensures.fetched))
+
+pub returns-in_err-put_trees-clause-fetched : goal.returns-in_err-put_trees-clause-fetched
+returns-in_err-put_trees-clause-fetched g c = counts_from (c.in_ok-outcome.ensures.fetched.unfailed (λ f. f) ∙ c.in_ok-put_input.ensures.fetched.unfailed (λ f. f)) (counts_exit IsFetch c.from_residual-in_err-put_trees.result c.from_residual-in_err-put_trees.ensures.1 (c.in_err-put_trees.ensures.fetched))
+
+pub returns-in_err-finish-clause-fetched : goal.returns-in_err-finish-clause-fetched
+returns-in_err-finish-clause-fetched g c = counts_from (c.in_ok-put_trees.ensures.fetched.unfailed (λ f. f) ∙ c.in_ok-outcome.ensures.fetched.unfailed (λ f. f) ∙ c.in_ok-put_input.ensures.fetched.unfailed (λ f. f)) (counts_exit IsFetch c.from_residual-in_err-finish.result c.from_residual-in_err-finish.ensures.1 (counts_none (finish_no_fetch c.args.engine.now c.args.job.now.id c.in-Some.outcome c.in_err-finish.field-0.0 c.in_err-finish.ensures.refused)))
+
+pub returns-in-Some-clause-fetched : goal.returns-in-Some-clause-fetched
+returns-in-Some-clause-fetched g c = counts_same (λ f. f) (c.in_ok-put_trees.ensures.fetched.unfailed (λ f. f) ∙ c.in_ok-outcome.ensures.fetched.unfailed (λ f. f) ∙ c.in_ok-put_input.ensures.fetched.unfailed (λ f. f))
+
+pub returns-in_err-reserve-clause-fetched : goal.returns-in_err-reserve-clause-fetched
+returns-in_err-reserve-clause-fetched g c = counts_from (c.in_ok-outcome.ensures.fetched.unfailed (λ f. f) ∙ c.in_ok-put_input.ensures.fetched.unfailed (λ f. f)) (counts_exit IsFetch c.from_residual-in_err-reserve.result c.from_residual-in_err-reserve.ensures.1 (counts_none (λ f. f)))
+
+pub returns-in_err-child-clause-fetched : goal.returns-in_err-child-clause-fetched
+returns-in_err-child-clause-fetched g c = counts_from (c.in_ok-outcome.ensures.fetched.unfailed (λ f. f) ∙ c.in_ok-put_input.ensures.fetched.unfailed (λ f. f)) (counts_exit IsFetch c.from_residual-in_err-child.result c.from_residual-in_err-child.ensures.1 (c.in_err-child.ensures.fetched))
+
+pub returns-clause-fetched : goal.returns-clause-fetched
+returns-clause-fetched g c = counts_same (λ f. f) (c.in_ok-child.ensures.fetched.unfailed (λ f. f) ∙ c.in_ok-outcome.ensures.fetched.unfailed (λ f. f) ∙ c.in_ok-put_input.ensures.fetched.unfailed (λ f. f))
+
+pub returns-in_err-put_input-clause-device : goal.returns-in_err-put_input-clause-device
+returns-in_err-put_input-clause-device g c = counts_exit IsDevice c.from_residual.result c.from_residual.ensures.1 (counts_none (store_no_device c.in_err-put_input.field-0.0 c.in_err-put_input.ensures.failed))
+
+pub returns-in_err-outcome-clause-device : goal.returns-in_err-outcome-clause-device
+returns-in_err-outcome-clause-device g c = counts_exit IsDevice c.from_residual-in_err-outcome.result c.from_residual-in_err-outcome.ensures.1 (counts_none (store_no_device c.in_err-outcome.field-0.0 c.in_err-outcome.ensures.failed))
+
+pub returns-in_err-put_trees-clause-device : goal.returns-in_err-put_trees-clause-device
+returns-in_err-put_trees-clause-device g c = counts_exit IsDevice c.from_residual-in_err-put_trees.result c.from_residual-in_err-put_trees.ensures.1 (counts_none (store_no_device c.in_err-put_trees.field-0.0 c.in_err-put_trees.ensures.failed))
+
+pub returns-in_err-finish-clause-device : goal.returns-in_err-finish-clause-device
+returns-in_err-finish-clause-device g c = counts_exit IsDevice c.from_residual-in_err-finish.result c.from_residual-in_err-finish.ensures.1 (counts_none (λ f. f))
+
+pub returns-in-Some-clause-device : goal.returns-in-Some-clause-device
+returns-in-Some-clause-device g c = counts_none (λ f. f)
+
+pub returns-in_err-reserve-clause-device : goal.returns-in_err-reserve-clause-device
+returns-in_err-reserve-clause-device g c = counts_exit IsDevice c.from_residual-in_err-reserve.result c.from_residual-in_err-reserve.ensures.1 (counts_none (λ f. f))
+
+pub returns-in_err-child-clause-device : goal.returns-in_err-child-clause-device
+returns-in_err-child-clause-device g c = counts_exit IsDevice c.from_residual-in_err-child.result c.from_residual-in_err-child.ensures.1 (c.in_err-child.ensures.device)
+
+pub returns-clause-device : goal.returns-clause-device
+returns-clause-device g c = counts_same (λ f. f) (c.in_ok-child.ensures.device.unfailed (λ f. f))

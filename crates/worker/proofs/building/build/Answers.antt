@@ -1,15 +1,16 @@
 use Rattle.worker.proofs.Goes.{own_jobs}
 use Rattle.worker.proofs.Knowing.{knows_nothing}
 use Rattle.worker.proofs.Storing.{steps_none, all_stored}
+use Rattle.std.proofs.Common.{arith}
 use Rattle.worker.proofs.building.build.Goals as goal
 
 pub end_all-requires : goal.end_all-requires
 end_all-requires g c = record {
-  there = own_jobs g.row.A.Denot (g.N.Runner.yields c.args.runner.now) g.N.Runner.may_give (g.S.BlobSource.tells c.take_turns.new.sink) c.args.jobs c.args.engine.now c.take_turns.new.engine c.take_turns.new.children.items c.take_turns.ensures.going;
+  there = own_jobs g.row.A.Denot (g.N.Runner.yields c.args.runner.now) g.N.Runner.may_give (g.S.BlobSource.tells c.args.sink.now) (g.S.BlobSource.tells c.take_turns.new.sink) c.args.jobs c.args.engine.now c.take_turns.new.engine c.take_turns.new.children.items c.take_turns.ensures.going;
 }
 
 pub returns-clause-led : goal.returns-clause-led
-returns-clause-led g c = c.end_all.ensures.led c.args.runner.now (g.S.BlobSource.tells c.take_turns.new.sink) c.args.jobs c.args.engine.now c.take_turns.ensures.going
+returns-clause-led g c = c.end_all.ensures.led c.args.runner.now (g.S.BlobSource.tells c.args.sink.now) (g.S.BlobSource.tells c.take_turns.new.sink) c.args.jobs c.args.engine.now c.take_turns.ensures.going
 
 pub returns-clause-alive : goal.returns-clause-alive
 returns-clause-alive g c = c.end_all.ensures.alive (g.N.Runner.alive c.args.runner.now) c.take_turns.ensures.alive
@@ -19,3 +20,18 @@ returns-in-Ok-clause-stored g c none = all_stored (g.S.BlobSource.tells c.take_t
 
 pub take_turns-requires-clause-knows : goal.take_turns-requires-clause-knows
 take_turns-requires-clause-knows g c = knows_nothing c.new-memo.ensures
+
+pub returns-in-Ok-clause-fetched : goal.returns-in-Ok-clause-fetched
+returns-in-Ok-clause-fetched g c = c.in-Ok.ensures.fetched
+
+pub returns-in-Ok-clause-unfailed : goal.returns-in-Ok-clause-unfailed
+returns-in-Ok-clause-unfailed g c = c.in-Ok.ensures.device.unfailed (λ f. f)
+
+pub returns-clause-fetched : goal.returns-clause-fetched
+returns-clause-fetched g c = c.in-Err.ensures.fetched
+
+pub returns-clause-device : goal.returns-clause-device
+returns-clause-device g c told =
+    let rises = c.in-Err.ensures.device.failed told in
+    let still = c.end_all.ensures.device in
+    omega (arith, rises, still)

@@ -1,4 +1,4 @@
-use Rattle.std.proofs.Common.{arith, subst, sym, ap, length}
+use Rattle.std.proofs.Common.{arith, refl, subst, sym, ap, ◌∙◌, length}
 use Rattle.std.proofs.lemmas.Result.{err_from_is_err_and}
 use Rattle.worker.specs.Going.{AreJobsOf, FinishesOnly, IsJobOf, IsGoing}
 use Rattle.worker.specs.Watching.{IsProgressOf}
@@ -6,17 +6,21 @@ use Rattle.worker.proofs.Keeping.{right_trans}
 use Rattle.worker.proofs.Complete.{all_finished}
 use Rattle.worker.proofs.Goes.{going_none, own_jobs}
 use Rattle.worker.proofs.Heard.{watched_none, watched_more, up_none, up_more}
+use Rattle.worker.specs.Counted.{IsDevice, IsFetch}
+use Rattle.worker.proofs.Failures.{counts_same, counts_from, counts_exit}
 use Rattle.worker.proofs.building.take_turns.Goals as goal
 
 pub loop-turn-init : goal.loop-turn-init
 loop-turn-init g c =
     let t = g.S.BlobSource.tells c.args.sink.now in
     record {
-      going = subst (IsGoing g.row.A.Denot (g.N.Runner.yields c.args.runner.now) g.N.Runner.may_give t c.args.jobs c.args.engine.now c.args.engine.now) (sym c.requires.none)
-          (going_none g.row.A.Denot g.row.N-Job.Denot (g.N.Runner.yields c.args.runner.now) g.N.Runner.may_give c.args.jobs c.args.engine.now t c.requires.idle);
+      going = subst (IsGoing g.row.A.Denot (g.N.Runner.yields c.args.runner.now) g.N.Runner.may_give t t c.args.jobs c.args.engine.now c.args.engine.now) (sym c.requires.none)
+          (going_none g.row.A.Denot g.row.N-Job.Denot (g.N.Runner.yields c.args.runner.now) g.N.Runner.may_give t c.args.jobs c.args.engine.now c.requires.idle);
       within = λ l d p h. h;
       right = λ e b at right. at;
       stored = λ h. h;
+      fetched = refl;
+      device = refl;
       knows = c.requires.knows;
       alive = let none = c.requires.none in let len = ap length none in omega (arith, len);
       progress = c.first_progress-progress.ensures;
@@ -27,40 +31,42 @@ loop-turn-init g c =
 pub take_turn-requires : goal.take_turn-requires
 take_turn-requires g c = record {
   can = (c.args.jobs, c.in-Some.ensures.turn);
-  there = own_jobs g.row.A.Denot (g.N.Runner.yields c.args.runner.now) g.N.Runner.may_give (g.S.BlobSource.tells c.loop-turn.sink) c.args.jobs c.args.engine.now c.loop-turn.engine c.loop-turn.children.items c.loop-turn.invariant.going;
+  there = own_jobs g.row.A.Denot (g.N.Runner.yields c.args.runner.now) g.N.Runner.may_give (g.S.BlobSource.tells c.args.sink.now) (g.S.BlobSource.tells c.loop-turn.sink) c.args.jobs c.args.engine.now c.loop-turn.engine c.loop-turn.children.items c.loop-turn.invariant.going;
   knows = c.loop-turn.invariant.knows;
   alive = let all = c.loop-turn.invariant.alive in omega (arith, all);
 }
 
 pub before_turn-before-requires-clause-there : goal.before_turn-before-requires-clause-there
-before_turn-before-requires-clause-there g c = own_jobs g.row.A.Denot (g.N.Runner.yields c.args.runner.now) g.N.Runner.may_give (g.S.BlobSource.tells c.loop-turn.sink) c.args.jobs c.args.engine.now c.loop-turn.engine c.loop-turn.children.items c.loop-turn.invariant.going
+before_turn-before-requires-clause-there g c = own_jobs g.row.A.Denot (g.N.Runner.yields c.args.runner.now) g.N.Runner.may_give (g.S.BlobSource.tells c.args.sink.now) (g.S.BlobSource.tells c.loop-turn.sink) c.args.jobs c.args.engine.now c.loop-turn.engine c.loop-turn.children.items c.loop-turn.invariant.going
 
 pub progress_after-progress-requires-clause-there : goal.progress_after-progress-requires-clause-there
 progress_after-progress-requires-clause-there g c =
-    own_jobs g.row.A.Denot (g.N.Runner.yields c.args.runner.now) g.N.Runner.may_give (g.S.BlobSource.tells c.take_turn.new.sink) c.args.jobs c.args.engine.now c.take_turn.new.engine c.take_turn.new.children.items
-    (c.take_turn.ensures.going c.args.runner.now c.args.jobs c.args.engine.now c.loop-turn.invariant.within c.in-Some.ensures.turn c.loop-turn.invariant.going)
+    own_jobs g.row.A.Denot (g.N.Runner.yields c.args.runner.now) g.N.Runner.may_give (g.S.BlobSource.tells c.args.sink.now) (g.S.BlobSource.tells c.take_turn.new.sink) c.args.jobs c.args.engine.now c.take_turn.new.engine c.take_turn.new.children.items
+    (c.take_turn.ensures.going c.args.runner.now (g.S.BlobSource.tells c.args.sink.now) c.args.jobs c.args.engine.now c.loop-turn.invariant.within c.in-Some.ensures.turn c.loop-turn.invariant.going)
 
 pub loop-turn-preserved : goal.loop-turn-preserved
 loop-turn-preserved g c =
     let told = g.W.Watcher.told in
     let new = c.take_turn.new.engine in
-    let going = c.take_turn.ensures.going c.args.runner.now c.args.jobs c.args.engine.now c.loop-turn.invariant.within c.in-Some.ensures.turn c.loop-turn.invariant.going in
+    let going = c.take_turn.ensures.going c.args.runner.now (g.S.BlobSource.tells c.args.sink.now) c.args.jobs c.args.engine.now c.loop-turn.invariant.within c.in-Some.ensures.turn c.loop-turn.invariant.going in
     let only = subst (λ i. FinishesOnly i c.loop-turn.engine new) (sym c.before_turn-before.ensures.step) c.in_ok-take_turn.ensures.only in
     let is : IsProgressOf new c.progress_after-progress.result = c.progress_after-progress.ensures c.loop-turn.engine c.loop-turn.invariant.progress c.before_turn-before.ensures.finished only in
     record {
       going = going;
       within = λ l d p h. c.loop-turn.invariant.within l d p (c.take_turn.ensures.within l d p h);
       right = right_trans c.loop-turn.invariant.right c.take_turn.ensures.right;
-      stored = λ h. c.in_ok-take_turn.ensures.stored c.args.runner.now c.args.jobs c.args.engine.now c.loop-turn.invariant.going (c.loop-turn.invariant.stored h);
+      stored = λ h. c.in_ok-take_turn.ensures.stored c.args.runner.now (g.S.BlobSource.tells c.args.sink.now) c.args.jobs c.args.engine.now c.loop-turn.invariant.going (c.loop-turn.invariant.stored h);
+      fetched = c.in_ok-take_turn.ensures.fetched.unfailed (λ f. f) ∙ c.loop-turn.invariant.fetched;
+      device = c.in_ok-take_turn.ensures.device.unfailed (λ f. f) ∙ c.loop-turn.invariant.device;
       knows = c.take_turn.ensures.knows;
       alive = let now = c.take_turn.ensures.alive in let was = c.loop-turn.invariant.alive in omega (arith, now, was);
       progress = is;
-      watched = watched_more c.progress_after-progress.result c.loop-turn.invariant.watched c.watch.ensures (record { told = g.S.BlobSource.tells c.take_turn.new.sink; now = new; led = going.led; is = is });
+      watched = watched_more c.progress_after-progress.result c.loop-turn.invariant.watched c.watch.ensures (record { told = g.S.BlobSource.tells c.take_turn.new.sink; now = new; led = going.led.led; is = is });
       up_to_date = up_more c.args.engine.now new (told c.args.watcher.now) (told c.loop-turn.watcher) (told c.watch.new.self) c.progress_after-progress.result c.loop-turn.invariant.watched c.watch.ensures is;
     }
 
 pub returns-in_err-take_turn-clause-going : goal.returns-in_err-take_turn-clause-going
-returns-in_err-take_turn-clause-going g c = c.take_turn.ensures.going c.args.runner.now c.args.jobs c.args.engine.now c.loop-turn.invariant.within c.in-Some.ensures.turn c.loop-turn.invariant.going
+returns-in_err-take_turn-clause-going g c = c.take_turn.ensures.going c.args.runner.now (g.S.BlobSource.tells c.args.sink.now) c.args.jobs c.args.engine.now c.loop-turn.invariant.within c.in-Some.ensures.turn c.loop-turn.invariant.going
 
 pub returns-in_err-take_turn-clause-right : goal.returns-in_err-take_turn-clause-right
 returns-in_err-take_turn-clause-right g c = right_trans c.loop-turn.invariant.right c.take_turn.ensures.right
@@ -68,10 +74,22 @@ returns-in_err-take_turn-clause-right g c = right_trans c.loop-turn.invariant.ri
 pub returns-clause-done : goal.returns-clause-done
 returns-clause-done g c =
     let empty = c.next_turn.ensures.none_runs c.in_default.is in
-    let jobs = own_jobs g.row.A.Denot (g.N.Runner.yields c.args.runner.now) g.N.Runner.may_give (g.S.BlobSource.tells c.loop-turn.sink) c.args.jobs c.args.engine.now c.loop-turn.engine c.loop-turn.children.items c.loop-turn.invariant.going in
+    let jobs = own_jobs g.row.A.Denot (g.N.Runner.yields c.args.runner.now) g.N.Runner.may_give (g.S.BlobSource.tells c.args.sink.now) (g.S.BlobSource.tells c.loop-turn.sink) c.args.jobs c.args.engine.now c.loop-turn.engine c.loop-turn.children.items c.loop-turn.invariant.going in
     all_finished c.loop-turn.engine c.next_turn.ensures.planned c.next_turn.ensures.lawful (subst (AreJobsOf IsJobOf c.loop-turn.engine.jobs) empty jobs) (c.next_turn.ensures.none_starts c.in_default.is)
 
 pub returns-in_err-take_turn-clause-stopped : goal.returns-in_err-take_turn-clause-stopped
 returns-in_err-take_turn-clause-stopped g c =
     let p = err_from_is_err_and c.from_residual.result c.from_residual.ensures.1 in
-    rw (p.1, p.2) (c.in_err-take_turn.ensures.stopped c.args.runner.now c.args.jobs c.args.engine.now c.loop-turn.invariant.within c.in-Some.ensures.turn c.loop-turn.invariant.going)
+    rw (p.1, p.2) (c.in_err-take_turn.ensures.stopped c.args.runner.now (g.S.BlobSource.tells c.args.sink.now) c.args.jobs c.args.engine.now c.loop-turn.invariant.within c.in-Some.ensures.turn c.loop-turn.invariant.going)
+
+pub returns-in_err-take_turn-clause-fetched : goal.returns-in_err-take_turn-clause-fetched
+returns-in_err-take_turn-clause-fetched g c = counts_from c.loop-turn.invariant.fetched (counts_exit (λ e. IsFetch e.refusal) c.from_residual.result c.from_residual.ensures.1 (c.in_err-take_turn.ensures.fetched))
+
+pub returns-clause-fetched : goal.returns-clause-fetched
+returns-clause-fetched g c = counts_same (λ f. f) c.loop-turn.invariant.fetched
+
+pub returns-in_err-take_turn-clause-device : goal.returns-in_err-take_turn-clause-device
+returns-in_err-take_turn-clause-device g c = counts_from c.loop-turn.invariant.device (counts_exit (λ e. IsDevice e.refusal) c.from_residual.result c.from_residual.ensures.1 (c.in_err-take_turn.ensures.device))
+
+pub returns-clause-device : goal.returns-clause-device
+returns-clause-device g c = counts_same (λ f. f) c.loop-turn.invariant.device

@@ -14,10 +14,12 @@ invariant-loop-turn g l =
     let yields = g.N.Runner.yields in
     let told = g.W.Watcher.told in
     record {
-      going : IsGoing g.row.A.Denot (yields l.fn.runner) g.N.Runner.may_give (tells l.sink) l.jobs l.fn.engine l.engine l.children.items;
+      going : IsGoing g.row.A.Denot (yields l.fn.runner) g.N.Runner.may_give (tells l.fn.sink) (tells l.sink) l.jobs l.fn.engine l.engine l.children.items;
       within : YieldsNoMore (yields l.runner) (yields l.fn.runner);
       right : KeepsRight (tells l.fn.sink).blobs (tells l.sink).blobs;
       stored : StoresSteps (tells l.fn.sink) l.fn.engine → StoresSteps (tells l.sink) l.engine;
+      fetched : (tells l.sink).failures ≡ (tells l.fn.sink).failures;
+      device : g.N.Runner.failures l.runner ≡ g.N.Runner.failures l.fn.runner;
       knows : KnowsBlobs (known_by l.memo) (tells l.sink).blobs;
       alive : g.N.Runner.alive l.runner ≡ g.N.Runner.alive l.fn.runner + length l.children.items;
       progress : IsProgressOf l.engine l.progress;

@@ -2,6 +2,10 @@ use Rattle.std.proofs.Common.{ap, subst}
 use Rattle.worker.specs.Values.{ProducedValue, blobs_of}
 use Rattle.worker.specs.Outcomes.{HasAllRight}
 use Rattle.worker.proofs.Keeping.{kept_trans, all_right_still}
+use Rattle.std.proofs.Common.{◌∙◌}
+use Rattle.blob_source.proofs.Asking.{ok_no_error}
+use Rattle.worker.specs.Counted.{IsDevice, IsFetch}
+use Rattle.worker.proofs.Failures.{counts_none, counts_same, counts_from, counts_exit, counts_run, store_no_device}
 use Rattle.worker.proofs.ending.collect.Goals as goal
 
 pub returns-in_err-put_trees-clause-kept : goal.returns-in_err-put_trees-clause-kept
@@ -21,3 +25,27 @@ returns-clause-gave g c =
       ap (λ (p : ProducedValue). p.outcome) c.outcome.view_is,
       subst (λ (p : ProducedValue). HasAllRight end p.blobs) c.outcome.view_is (all_right_still put end bs c.put_trees.ensures.kept.blobs held),
     )
+
+pub returns-in_err-outcome-clause-fetched : goal.returns-in_err-outcome-clause-fetched
+returns-in_err-outcome-clause-fetched g c = counts_exit IsFetch c.from_residual.result c.from_residual.ensures.1 (counts_none (λ f. f))
+
+pub returns-in_err-outcome-clause-device : goal.returns-in_err-outcome-clause-device
+returns-in_err-outcome-clause-device g c = counts_exit IsDevice c.from_residual.result c.from_residual.ensures.1 (counts_run _ c.in_err-outcome.ensures.failed c.in_err-outcome.ensures.unfailed)
+
+pub returns-in_err-put_all-clause-fetched : goal.returns-in_err-put_all-clause-fetched
+returns-in_err-put_all-clause-fetched g c = counts_exit IsFetch c.from_residual-in_err-put_all.result c.from_residual-in_err-put_all.ensures.1 (c.in_err-put_all.ensures.fetched)
+
+pub returns-in_err-put_trees-clause-fetched : goal.returns-in_err-put_trees-clause-fetched
+returns-in_err-put_trees-clause-fetched g c = counts_from (c.in_ok-put_all.ensures.fetched.unfailed (λ f. f)) (counts_exit IsFetch c.from_residual-in_err-put_trees.result c.from_residual-in_err-put_trees.ensures.1 (c.in_err-put_trees.ensures.fetched))
+
+pub returns-in_err-put_all-clause-device : goal.returns-in_err-put_all-clause-device
+returns-in_err-put_all-clause-device g c = counts_from (c.in_ok-outcome.ensures.unfailed ok_no_error) (counts_exit IsDevice c.from_residual-in_err-put_all.result c.from_residual-in_err-put_all.ensures.1 (counts_none (store_no_device c.in_err-put_all.field-0.0 c.in_err-put_all.ensures.failed)))
+
+pub returns-in_err-put_trees-clause-device : goal.returns-in_err-put_trees-clause-device
+returns-in_err-put_trees-clause-device g c = counts_from (c.in_ok-outcome.ensures.unfailed ok_no_error) (counts_exit IsDevice c.from_residual-in_err-put_trees.result c.from_residual-in_err-put_trees.ensures.1 (counts_none (store_no_device c.in_err-put_trees.field-0.0 c.in_err-put_trees.ensures.failed)))
+
+pub returns-clause-fetched : goal.returns-clause-fetched
+returns-clause-fetched g c = counts_same (λ f. f) (c.in_ok-put_trees.ensures.fetched.unfailed (λ f. f) ∙ c.in_ok-put_all.ensures.fetched.unfailed (λ f. f))
+
+pub returns-clause-device : goal.returns-clause-device
+returns-clause-device g c = counts_same (λ f. f) (c.in_ok-outcome.ensures.unfailed ok_no_error)

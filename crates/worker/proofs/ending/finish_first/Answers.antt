@@ -18,3 +18,15 @@ pub returns-in-Err-clause-stopped : goal.returns-in-Err-clause-stopped
 returns-in-Err-clause-stopped g c =
     let tells = g.S.BlobSource.tells in
     subst (λ cs. StopsFirst g.N.Runner.may_give (tells c.args.sink.now) (tells c.settle.new.sink) cs c.args.engine.now c.in-Some.child.step c.in-Err.refusal) (sym c.in-Some.ensures.items) (refl, c.in-Err.ensures.stopped)
+
+pub returns-in-Ok-clause-fetched : goal.returns-in-Ok-clause-fetched
+returns-in-Ok-clause-fetched g c = c.in-Ok.ensures.fetched
+
+pub returns-in-Ok-clause-device : goal.returns-in-Ok-clause-device
+returns-in-Ok-clause-device g c = c.in-Ok.ensures.device
+
+pub returns-in-Err-clause-fetched : goal.returns-in-Err-clause-fetched
+returns-in-Err-clause-fetched g c = c.in-Err.ensures.fetched
+
+pub returns-in-Err-clause-device : goal.returns-in-Err-clause-device
+returns-in-Err-clause-device g c = c.in-Err.ensures.device

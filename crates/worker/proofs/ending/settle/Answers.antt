@@ -2,6 +2,7 @@ use Rattle.std.proofs.Common.{inl, inr}
 use Rattle.std.proofs.lemmas.Result.{IfErr-weaker}
 use Rattle.worker.proofs.Lefts.{finished_there}
 use Rattle.worker.proofs.Taking.{ends_put, on_ok, on_err}
+use Rattle.worker.proofs.Failures.{counts_same, counts_from, put_no_device}
 use Rattle.worker.proofs.ending.settle.Goals as goal
 
 pub put_outcome-requires : goal.put_outcome-requires
@@ -11,14 +12,26 @@ put_outcome-requires g c =
 
 pub returns-in-Ok-clause-ended : goal.returns-in-Ok-clause-ended
 returns-in-Ok-clause-ended g c =
-    on_ok c.put_outcome.result (ends_put g.N.Runner.may_give (g.S.BlobSource.tells c.args.sink.now) (g.S.BlobSource.tells c.take.new.sink) (g.S.BlobSource.tells c.put_outcome.new.sink) c.args.child c.args.engine.now c.take.new.engine c.in-Ok.ensures.ended c.put_outcome.ensures.kept)
+    on_ok c.put_outcome.result (ends_put g.N.Runner.may_give (g.S.BlobSource.tells c.args.sink.now) (g.S.BlobSource.tells c.take.new.sink) (g.S.BlobSource.tells c.put_outcome.new.sink) c.args.child c.args.engine.now c.take.new.engine c.take.ensures.kept c.in-Ok.ensures.ended c.put_outcome.ensures.kept)
 
 pub returns-in-Ok-clause-refused : goal.returns-in-Ok-clause-refused
 returns-in-Ok-clause-refused g c =
-    on_err c.put_outcome.result (inl (ends_put g.N.Runner.may_give (g.S.BlobSource.tells c.args.sink.now) (g.S.BlobSource.tells c.take.new.sink) (g.S.BlobSource.tells c.put_outcome.new.sink) c.args.child c.args.engine.now c.take.new.engine c.in-Ok.ensures.ended c.put_outcome.ensures.kept))
+    on_err c.put_outcome.result (inl (ends_put g.N.Runner.may_give (g.S.BlobSource.tells c.args.sink.now) (g.S.BlobSource.tells c.take.new.sink) (g.S.BlobSource.tells c.put_outcome.new.sink) c.args.child c.args.engine.now c.take.new.engine c.take.ensures.kept c.in-Ok.ensures.ended c.put_outcome.ensures.kept))
 
 pub returns-in-Ok-clause-stopped : goal.returns-in-Ok-clause-stopped
 returns-in-Ok-clause-stopped g c = IfErr-weaker c.put_outcome.result _ _ (λ r h. inl h) c.put_outcome.ensures.failed
 
 pub returns-in-Err-clause-stopped : goal.returns-in-Err-clause-stopped
 returns-in-Err-clause-stopped g c = inr (c.take.ensures.kept, c.in-Err.ensures.refused)
+
+pub returns-in-Ok-clause-fetched : goal.returns-in-Ok-clause-fetched
+returns-in-Ok-clause-fetched g c = counts_from (c.in-Ok.ensures.fetched.unfailed (λ f. f)) c.put_outcome.ensures.fetched
+
+pub returns-in-Ok-clause-device : goal.returns-in-Ok-clause-device
+returns-in-Ok-clause-device g c = counts_same (put_no_device c.put_outcome.result c.put_outcome.ensures.failed) (c.in-Ok.ensures.device.unfailed (λ f. f))
+
+pub returns-in-Err-clause-fetched : goal.returns-in-Err-clause-fetched
+returns-in-Err-clause-fetched g c = c.in-Err.ensures.fetched
+
+pub returns-in-Err-clause-device : goal.returns-in-Err-clause-device
+returns-in-Err-clause-device g c = c.in-Err.ensures.device

@@ -1,4 +1,4 @@
-use Rattle.std.proofs.Common.{take}
+use Rattle.std.proofs.Common.{◌≡◌, take}
 use Rattle.worker.specs.Stores.{IsKept}
 use Rattle.worker.specs.Outcomes.{HasAllRight}
 use Rattle.worker.specs.Values.{blobs_of}
@@ -9,5 +9,6 @@ invariant-loop-blob g l =
     let tells = g.S.BlobSource.tells in
     record {
       kept : IsKept (tells l.fn.sink) (tells l.sink);
+      fetched : (tells l.sink).failures ≡ (tells l.fn.sink).failures;
       held : HasAllRight (tells l.sink).blobs (blobs_of (take l.blob-index l.blobs));
     }

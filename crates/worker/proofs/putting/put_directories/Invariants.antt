@@ -1,5 +1,15 @@
+use Rattle.std.proofs.Common.{◌≡◌, ◌∷◌, take}
+use Rattle.std.specs.Prelude.{map}
+use Rattle.messages.specs.Directory.{directory_bytes}
 use Rattle.worker.specs.Stores.{IsKept}
+use Rattle.worker.specs.Outcomes.{HasAllRight}
 use Rattle.worker.proofs.putting.put_directories.Given as goal
 
 abbrev pub invariant-loop-child : goal.invariant-loop-child
-invariant-loop-child g l = IsKept (g.S.BlobSource.tells l.fn.sink) (g.S.BlobSource.tells l.sink)
+invariant-loop-child g l =
+    let tells = g.S.BlobSource.tells in
+    record {
+      kept : IsKept (tells l.fn.sink) (tells l.sink);
+      fetched : (tells l.sink).failures ≡ (tells l.fn.sink).failures;
+      held : HasAllRight (tells l.sink).blobs (directory_bytes l.tree.root ∷ map directory_bytes (take l.child-index l.child-items));
+    }

@@ -1,12 +1,16 @@
-use Rattle.std.proofs.Common.{sym, subst, ◌∙◌}
+use Rattle.std.proofs.Common.{◌≡◌, sym, subst, ◌∙◌}
+use Rattle.std.proofs.lemmas.Result.{err_from_is_err_and}
 use Rattle.blob_digest.specs.Digest.{digest_of}
-use Rattle.messages.specs.Tree.{tree_bytes}
 use Rattle.blob_source.specs.Sink.{HasRight}
 use Rattle.actions.specs.Outcome.{output_value}
 use Rattle.worker.specs.Stores.{IsKept}
-use Rattle.worker.specs.Stored.{HasTree}
-use Rattle.worker.proofs.Keeping.{kept_none, kept_trans, kept_blob, right_put}
+use Rattle.actions.specs.declared.outcome.Output.TheVariants as outputs
+use Rattle.worker.specs.Stored.{directories_of, HasTree}
+use Rattle.worker.proofs.Keeping.{kept_none, kept_trans, kept_blob, right_put, all_right_still, fetch_fault}
 use Rattle.worker.proofs.Storing.{trees_taken, no_tree}
+use Rattle.blob_source.proofs.Asking.{ok_no_error}
+use Rattle.worker.specs.Counted.{IsFetch}
+use Rattle.worker.proofs.Failures.{counts_none, counts_same, counts_from, counts_exit, counts_put, counts_calls}
 use Rattle.worker.proofs.putting.put_trees.Goals as goal
 use Rattle.worker.proofs.putting.put_trees.Goals.{in-Tree+in_ok-put_directories+in_ok-encode+in_ok-put_blob, in_default}
 
@@ -18,6 +22,11 @@ returns-in_err-encode-clause-kept g c = kept_trans c.loop-output.invariant.kept 
 
 pub returns-in_err-put_blob-clause-kept : goal.returns-in_err-put_blob-clause-kept
 returns-in_err-put_blob-clause-kept g c = kept_trans c.loop-output.invariant.kept (kept_trans c.put_directories.ensures.kept (kept_blob c.put_blob.ensures.called))
+
+pub returns-in_err-put_blob-clause-failed : goal.returns-in_err-put_blob-clause-failed
+returns-in_err-put_blob-clause-failed g c =
+    let p = err_from_is_err_and c.from_residual-in_err-put_blob.result c.from_residual-in_err-put_blob.ensures.1 in
+    rw (p.1, p.2) (fetch_fault _ c.in_err-put_blob.field-0.0)
 
 pub loop-output-preserved : goal.loop-output-preserved
 loop-output-preserved g c =
@@ -31,16 +40,32 @@ loop-output-preserved g c =
           let one : HasRight after _ = right_put (tells w.put_directories.new.sink).blobs after (w.in_ok-put_blob.ensures {u = tt}).held in
           record {
             kept = kept_trans c.loop-output.invariant.kept kept;
+            fetched = subst (λ s. (tells s).failures ≡ (tells c.args.sink.now).failures) (sym w.sink-is) ((w.in_ok-put_blob.ensures {u = tt}).called.unfailed ok_no_error ∙ (w.in_ok-put_directories.ensures {u = tt}).fetched.unfailed (λ f. f) ∙ c.loop-output.invariant.fetched);
             held = trees_taken before (tells c.match-output.sink).blobs _ c.loop-output.output-index x c.loop-output-test.true c.output-item.is kept.blobs c.loop-output.invariant.held
                 (subst (λ o. HasTree (tells c.match-output.sink).blobs (x.0, output_value o)) (sym w.in-Tree.is)
-                (subst (λ s. HasRight (tells s).blobs (digest_of (tree_bytes w.in-Tree.tree))) (sym w.sink-is)
-                (subst (λ bs. HasRight after (digest_of bs)) (w.deref.ensures.value ∙ (w.in_ok-encode.ensures {u = tt}).bytes) one)));
+                (subst (λ s. HasTree (tells s).blobs (x.0, outputs.Tree w.in-Tree.tree)) (sym w.sink-is) (
+                  subst (λ bs. HasRight after (digest_of bs)) (w.deref.ensures.value ∙ (w.in_ok-encode.ensures {u = tt}).bytes) one,
+                  all_right_still (tells w.put_directories.new.sink).blobs after (directories_of w.in-Tree.tree) (kept_blob w.put_blob.ensures.called).blobs (w.in_ok-put_directories.ensures {u = tt}).held,
+                )));
           }
       | in_default w ↦
           let kept : IsKept (tells c.loop-output.sink) (tells c.match-output.sink) = subst (λ s. IsKept (tells c.loop-output.sink) (tells s)) (sym w.sink-is) kept_none in
           record {
             kept = kept_trans c.loop-output.invariant.kept kept;
+            fetched = subst (λ s. (tells s).failures ≡ (tells c.args.sink.now).failures) (sym w.sink-is) c.loop-output.invariant.fetched;
             held = trees_taken before (tells c.match-output.sink).blobs _ c.loop-output.output-index x c.loop-output-test.true c.output-item.is kept.blobs c.loop-output.invariant.held
                 (no_tree (tells c.match-output.sink).blobs x.0 x.1 w.in_default.not-Tree);
           }
     ]
+
+pub returns-in_err-put_directories-clause-fetched : goal.returns-in_err-put_directories-clause-fetched
+returns-in_err-put_directories-clause-fetched g c = counts_from c.loop-output.invariant.fetched (counts_exit IsFetch c.from_residual.result c.from_residual.ensures.1 (c.in_err-put_directories.ensures.fetched))
+
+pub returns-in_err-encode-clause-fetched : goal.returns-in_err-encode-clause-fetched
+returns-in_err-encode-clause-fetched g c = counts_from (c.in_ok-put_directories.ensures.fetched.unfailed (λ f. f) ∙ c.loop-output.invariant.fetched) (counts_exit IsFetch c.from_residual-in_err-encode.result c.from_residual-in_err-encode.ensures.1 (counts_none (λ f. f)))
+
+pub returns-in_err-put_blob-clause-fetched : goal.returns-in_err-put_blob-clause-fetched
+returns-in_err-put_blob-clause-fetched g c = counts_from (c.in_ok-put_directories.ensures.fetched.unfailed (λ f. f) ∙ c.loop-output.invariant.fetched) (counts_exit IsFetch c.from_residual-in_err-put_blob.result c.from_residual-in_err-put_blob.ensures.1 (counts_put _ _ (counts_calls c.in_err-put_blob.ensures.called)))
+
+pub returns-clause-fetched : goal.returns-clause-fetched
+returns-clause-fetched g c = counts_same (λ f. f) c.loop-output.invariant.fetched

@@ -1,4 +1,4 @@
-use Rattle.std.proofs.Common.{take}
+use Rattle.std.proofs.Common.{◌≡◌, take}
 use Rattle.std.specs.List.{AllByRecursion}
 use Rattle.actions.specs.Outcome.{outputs_in}
 use Rattle.worker.specs.Stores.{IsKept}
@@ -10,5 +10,6 @@ invariant-loop-output g l =
     let tells = g.S.BlobSource.tells in
     record {
       kept : IsKept (tells l.fn.sink) (tells l.sink);
+      fetched : (tells l.sink).failures ≡ (tells l.fn.sink).failures;
       held : AllByRecursion (HasTree (tells l.sink).blobs) (outputs_in (take l.output-index l.output-items));
     }

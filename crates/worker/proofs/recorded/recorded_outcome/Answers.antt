@@ -2,6 +2,9 @@ use Rattle.std.proofs.Common.{ap, sym, ◌∙◌, subst}
 use Rattle.action_messages.specs.Reads.{Reads}
 use Rattle.blob_source.specs.Source.{bytes_of}
 use Rattle.worker.proofs.Keeping.{kept_trans, kept_asks, kept_result}
+use Rattle.std.specs.Prelude.{Err}
+use Rattle.blob_source.proofs.Asking.{ok_no_error}
+use Rattle.worker.proofs.Failures.{counts_as, counts_no, counts_from, counts_calls}
 use Rattle.worker.proofs.recorded.recorded_outcome.Goals as goal
 
 pub returns-then-fits-clause-kept : goal.returns-then-fits-clause-kept
@@ -30,3 +33,9 @@ returns-in-Err-Memory-recorded-clause-kept g c = kept_trans (kept_result c.resul
 
 pub returns-clause-kept : goal.returns-clause-kept
 returns-clause-kept g c = kept_trans (kept_result c.result.ensures.called) (kept_asks c.recorded.ensures.called)
+
+pub returns-in-Err-Fetch-clause-fetched : goal.returns-in-Err-Fetch-clause-fetched
+returns-in-Err-Fetch-clause-fetched g c = counts_from (c.in_ok-bytes.ensures.called.unfailed ok_no_error) (counts_as (λ f. ap Err c.in-Err-Fetch.field-0-is) (λ e. tt) (counts_calls c.in-Err-Fetch.ensures.called))
+
+pub returns-in-Err-Memory-recorded-clause-fetched : goal.returns-in-Err-Memory-recorded-clause-fetched
+returns-in-Err-Memory-recorded-clause-fetched g c = counts_from (c.in_ok-bytes.ensures.called.unfailed ok_no_error) (counts_no (λ e. let is = c.in-Err-Memory-recorded.field-0-is in cc) (λ f. f) (counts_calls c.in-Err-Memory-recorded.ensures.called))

@@ -9,8 +9,8 @@ use Rattle.worker.proofs.Knowing.{knows_still}
 use Rattle.worker.proofs.turns.take_turn.Goals as goal
 
 pub returns-in-Start-clause-going : goal.returns-in-Start-clause-going
-returns-in-Start-clause-going g c entry most first within turn going =
-    start_goes g.row.A.Denot g.row.N-Job.Denot (g.N.Runner.yields entry) g.N.Runner.may_give (g.S.BlobSource.tells c.args.sink.now) (g.S.BlobSource.tells c.begin.new.sink) most first c.args.engine.now c.begin.new.engine c.args.children.now.items c.begin.new.children.items going
+returns-in-Start-clause-going g c entry s most first within turn going =
+    start_goes g.row.A.Denot g.row.N-Job.Denot (g.N.Runner.yields entry) g.N.Runner.may_give s (g.S.BlobSource.tells c.args.sink.now) (g.S.BlobSource.tells c.begin.new.sink) most first c.args.engine.now c.begin.new.engine c.args.children.now.items c.begin.new.children.items going
     c.begin.result (g.N.Runner.yields c.args.runner.now) c.in-Start.step within c.begin.ensures.kept (subst (IsTurn most c.args.engine.now c.args.children.now.items) c.in-Start.is turn).0 c.begin.ensures.begun c.begin.ensures.refused c.begin.ensures.same
 
 pub returns-in-Start-clause-fewer : goal.returns-in-Start-clause-fewer
@@ -20,8 +20,8 @@ returns-in-Start-clause-fewer g c =
     c.begin.result c.in-Start.step c.args.children.now.items c.begin.new.children.items turn.1 turn.2 c.begin.ensures.begun
 
 pub returns-in-Finish-clause-going : goal.returns-in-Finish-clause-going
-returns-in-Finish-clause-going g c entry most first within turn going =
-    finish_goes g.row.A.Denot g.row.N-Job.Denot (g.N.Runner.yields entry) g.N.Runner.may_give (g.S.BlobSource.tells c.args.sink.now) (g.S.BlobSource.tells c.finish_first.new.sink) most first c.args.engine.now c.finish_first.new.engine c.args.children.now.items c.finish_first.new.children.items going
+returns-in-Finish-clause-going g c entry s most first within turn going =
+    finish_goes g.row.A.Denot g.row.N-Job.Denot (g.N.Runner.yields entry) g.N.Runner.may_give s (g.S.BlobSource.tells c.args.sink.now) (g.S.BlobSource.tells c.finish_first.new.sink) most first c.args.engine.now c.finish_first.new.engine c.args.children.now.items c.finish_first.new.children.items going
     c.finish_first.result c.finish_first.ensures.ended c.finish_first.ensures.refused
 
 pub returns-in-Finish-clause-fewer : goal.returns-in-Finish-clause-fewer
@@ -55,7 +55,7 @@ returns-in-Start-clause-stopped g c =
 pub returns-in-Finish-clause-stopped : goal.returns-in-Finish-clause-stopped
 returns-in-Finish-clause-stopped g c =
     finish_refused g.row.A.Denot g.row.N-Job.Denot g.N.Runner.may_give (g.S.BlobSource.tells c.args.sink.now) (g.S.BlobSource.tells c.finish_first.new.sink) c.args.engine.now c.finish_first.new.engine c.args.children.now.items c.finish_first.new.children.items
-    g.N.Runner.yields (g.N.Runner.yields c.args.runner.now) c.args.turn c.finish_first.result c.finish_first.ensures.stopped c.finish_first.ensures.refused
+    c.plan.ensures.lawful g.N.Runner.yields (g.N.Runner.yields c.args.runner.now) c.args.turn c.finish_first.result c.finish_first.ensures.stopped c.finish_first.ensures.refused
 
 pub returns-in-Start-clause-only : goal.returns-in-Start-clause-only
 returns-in-Start-clause-only g c =
@@ -66,3 +66,15 @@ pub returns-in-Finish-clause-only : goal.returns-in-Finish-clause-only
 returns-in-Finish-clause-only g c =
     subst (λ t. OnOk c.finish_first.result (FinishesOnly (step_of t c.args.children.now.items) c.args.engine.now c.finish_first.new.engine)) (sym c.in-Finish.is) (finish_only g.row.A.Denot g.row.N-Job.Denot (g.N.Runner.yields c.args.runner.now) g.N.Runner.may_give (g.S.BlobSource.tells c.args.sink.now) (g.S.BlobSource.tells c.finish_first.new.sink) c.args.engine.now c.finish_first.new.engine
     c.finish_first.result c.args.children.now.items c.finish_first.new.children.items c.requires.there c.finish_first.ensures.ended)
+
+pub returns-in-Start-clause-fetched : goal.returns-in-Start-clause-fetched
+returns-in-Start-clause-fetched g c = c.begin.ensures.fetched
+
+pub returns-in-Start-clause-device : goal.returns-in-Start-clause-device
+returns-in-Start-clause-device g c = c.begin.ensures.device
+
+pub returns-in-Finish-clause-fetched : goal.returns-in-Finish-clause-fetched
+returns-in-Finish-clause-fetched g c = c.finish_first.ensures.fetched
+
+pub returns-in-Finish-clause-device : goal.returns-in-Finish-clause-device
+returns-in-Finish-clause-device g c = c.finish_first.ensures.device

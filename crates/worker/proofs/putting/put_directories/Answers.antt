@@ -1,0 +1,43 @@
+use Rattle.std.proofs.Common.{subst, ap, ◌∙◌}
+use Rattle.blob_digest.specs.Digest.{digest_of}
+use Rattle.blob_source.specs.Sink.{HasRight}
+use Rattle.messages.specs.Directory.{directory_bytes}
+use Rattle.worker.proofs.Keeping.{kept_trans, kept_blob, right_put, right_still, all_right_spelled}
+use Rattle.blob_source.proofs.Asking.{ok_no_error}
+use Rattle.worker.specs.Counted.{IsFetch}
+use Rattle.worker.proofs.Failures.{counts_none, counts_same, counts_from, counts_exit, counts_put, counts_calls}
+use Rattle.worker.proofs.putting.put_directories.Goals as goal
+
+pub loop-child-preserved : goal.loop-child-preserved
+loop-child-preserved g c =
+    let before = (g.S.BlobSource.tells c.loop-child.sink).blobs in
+    let after = (g.S.BlobSource.tells c.put_blob-in-loop-child.new.self).blobs in
+    let kept = kept_blob c.put_blob-in-loop-child.ensures.called in
+    record {
+      kept = kept_trans c.loop-child.invariant.kept kept;
+      fetched = c.in_ok-put_blob-2.ensures.called.unfailed ok_no_error ∙ c.loop-child.invariant.fetched;
+      held = (
+        right_still kept.blobs c.loop-child.invariant.held.0,
+        all_right_spelled directory_bytes before after c.children-child-items.result.now c.loop-child.child-index c.child-item.result c.loop-child-test.true c.child-item.is kept.blobs c.loop-child.invariant.held.1
+            (subst (λ bs. HasRight after (digest_of bs)) (c.deref-in-loop-child.ensures.value ∙ c.in_ok-encode-2.ensures.bytes) (right_put before after c.in_ok-put_blob-2.ensures.held)),
+      );
+    }
+
+pub loop-child-init : goal.loop-child-init
+loop-child-init g c =
+    let before = (g.S.BlobSource.tells c.args.sink.now).blobs in
+    let after = (g.S.BlobSource.tells c.put_blob.new.self).blobs in
+    record {
+      kept = kept_blob c.put_blob.ensures.called;
+      fetched = c.in_ok-put_blob.ensures.called.unfailed ok_no_error;
+      held = (subst (λ bs. HasRight after (digest_of bs)) (c.deref.ensures.value ∙ c.in_ok-encode.ensures.bytes ∙ ap directory_bytes c.root.ensures.value) (right_put before after c.in_ok-put_blob.ensures.held), tt);
+    }
+
+pub returns-in_err-encode-2-clause-fetched : goal.returns-in_err-encode-2-clause-fetched
+returns-in_err-encode-2-clause-fetched g c = counts_from c.loop-child.invariant.fetched (counts_exit IsFetch c.from_residual-in_err-encode-2.result c.from_residual-in_err-encode-2.ensures.1 (counts_none (λ f. f)))
+
+pub returns-in_err-put_blob-2-clause-fetched : goal.returns-in_err-put_blob-2-clause-fetched
+returns-in_err-put_blob-2-clause-fetched g c = counts_from c.loop-child.invariant.fetched (counts_exit IsFetch c.from_residual-in_err-put_blob-2.result c.from_residual-in_err-put_blob-2.ensures.1 (counts_put _ _ (counts_calls c.in_err-put_blob-2.ensures.called)))
+
+pub returns-clause-fetched : goal.returns-clause-fetched
+returns-clause-fetched g c = counts_same (λ f. f) c.loop-child.invariant.fetched
