@@ -13,4 +13,5 @@ fails_question sources claim plan noted question texts (Claim fault) h = absurd 
 fails_question sources claim plan noted question texts (Plan fault) h = absurd h
 fails_question sources claim plan noted question texts (Record fault) h = absurd h
 fails_question sources claim plan noted question texts Fetch h = (question, texts)
-fails_question sources claim plan noted question texts Memory h = tt
+fails_question sources claim plan noted question texts Memory h =
+    ((question.sources, texts.sources_spelled), (question.claim, texts.claim_spelled))

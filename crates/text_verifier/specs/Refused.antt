@@ -83,7 +83,7 @@ pub record IsRecordFaultOf (plan noted : List ℕ) (e : PlanError) : Type 0 wher
   pub fault : IsRecordFault (names_of planned) noted e
 
 -- Why these texts have no answer. Where a text is at fault, those before it aren't; the source
--- fails only where none is.
+-- fails only where none is, and memory is said to be wanting only where the digests are spelled.
 abbrev pub FailsTexts : List ℕ → List ℕ → List ℕ → List ℕ → TextError → Type 0
 FailsTexts sources claim plan noted (Sources fault) = IsNoDigest sources fault
 FailsTexts sources claim plan noted (Claim fault) = IsSpelled sources × IsNoDigest claim fault
@@ -93,4 +93,4 @@ FailsTexts sources claim plan noted (Record fault) =
     IsSpelled sources × IsSpelled claim × IsRecordFaultOf plan noted fault
 FailsTexts sources claim plan noted Fetch =
     (question : Question) × HasTexts sources claim plan noted question
-FailsTexts sources claim plan noted Memory = Unit {0}
+FailsTexts sources claim plan noted Memory = IsSpelled sources × IsSpelled claim

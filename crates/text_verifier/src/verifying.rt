@@ -40,6 +40,9 @@ pub fn verify_texts<A: Allocator + Copy, S: BlobSource<A>>(
         → (S.tells source.new).calls ≤ (S.tells source.old).calls + length list }
     ensures unasked { IfErr result (λ e.
         IsTextFault e → S.tells source.new ≡ S.tells source.old) }
+    ensures unquestioned { ((question : Question)
+        → HasTexts sources.now claim.now plan.now noted.now question → ⊥)
+        → S.tells source.new ≡ S.tells source.old }
 {
     let digests = read_digests(sources, claim)?;
     let plan = read_plan(alloc, plan)?;

@@ -40,3 +40,13 @@ returns-clause-few g c question list texts covers =
     let same = one_question question digests.sources digests.claim c.in_ok-plan.plan c.in_ok-noted.noted
     (answered_sources digests question.sources question.claim given) (answered_claim digests question.sources question.claim given) plan noted in
     c.answer_question.ensures.few list (subst (λ q. Covers (AnswerLooksAt g.row.A.Denot told q) list) (sym same) covers)
+
+pub returns-clause-unquestioned : goal.returns-clause-unquestioned
+returns-clause-unquestioned g c none =
+    let question = question_of c.in_ok-digests.digests.sources c.in_ok-digests.digests.claim c.in_ok-plan.plan c.in_ok-noted.noted in
+    absurd (none question (record {
+      sources_spelled = c.in_ok-digests.ensures.sources;
+      claim_spelled = c.in_ok-digests.ensures.claim;
+      plan_is = record { lawful = c.in_ok-plan.ensures.lawful; text_is = c.in_ok-plan.ensures.found };
+      noted_is = record { lawful = c.in_ok-noted.ensures.lawful; fits = c.in_ok-noted.ensures.fits; text_is = c.in_ok-noted.ensures.found };
+    }))
