@@ -9,6 +9,7 @@ import os
 ASIDE = {
     "action_messages": ["Merging"],
     "cli": ["Faults"],
+    "commands": ["Put"],
     "eviction": ["Victims", "View"],
     "plan": ["Parts"],
     "runs": ["TwoSteps"],

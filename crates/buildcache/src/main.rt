@@ -7,7 +7,7 @@ use std::env;
 use std::io::{ErrorKind, IsTerminal};
 use std::process::ExitCode;
 
-/// The words behind the program's name; `None` where one of them is no UTF-8.
+/// The words after the program's name; `None` where one of them is no UTF-8.
 fn words(rt: &HostRuntime) -> Result<Option<Vec<String>>, AllocError> {
     match env::args(rt) {
         Ok(all) => Ok(Some(all.skip(1).collect(rt.alloc())?)),

@@ -12,9 +12,9 @@ use Rattle.worker.specs.Outcomes.{Yields}
 use Rattle.cli.specs.Built.{any_yields, IsToldOf}
 
 module _ (plan : PlanValue) (sources : DigestValue) (most : ℕ) (told : Telling) where
-  of_any : (r : Told Global) → IsBuildTold any_yields most plan sources told r → IsToldOf plan sources r
-  of_any (Built line noted) h = (most, told, noted.items, h)
-  of_any (Failed line) h = (most, told, h)
+  of_any : (r : Told Global) → IsBuildTold any_yields most plan sources told r → IsToldOf most plan sources r
+  of_any (Built line noted) h = (told, noted.items, h)
+  of_any (Failed line) h = (told, h)
 
-  pub told_of : (z : Yields) (r : Told Global) → IsBuildTold z most plan sources told r → IsToldOf plan sources r
+  pub told_of : (z : Yields) (r : Told Global) → IsBuildTold z most plan sources told r → IsToldOf most plan sources r
   told_of z r h = of_any r (told_within Global z any_yields most plan sources told (λ l c p may. tt) r h)

@@ -6,7 +6,10 @@ use Rattle.std.proofs.lemmas.Bool.{iff_false}
 use Rattle.clap.specs.Words.{Row, Text}
 use Rattle.verifier.specs.Verdict.{IsYes}
 use Rattle.command_lines.specs.CommandLine.{CallsCommand, options_of}
-use Rattle.cli.specs.Printed.{IsCalledAndDone, GetsBlob, LacksBlob, PrintsVerdict, PrintsYes, PrintsNo, WritesBlob}
+use Rattle.cli.specs.Ended.{IsCalledAndDone, LacksBlob, PrintsYes, PrintsNo, WritesBlob}
+use Rattle.commands.specs.Printed.{GetsBlob, PrintsVerdict}
+use Rattle.commands.specs.Refusal.{FailsVerify}
+use Rattle.commands.specs.declared.error.CommandError.{CommandError}
 
 -- the rows of the subcommand that was found are those of the one that the words call
 pub options_found : (found called : Option (Text × List Row)) (rows : List Row) → found ≡ called → Some rows ≡ option_map (λ p. p.1) found → rows ≡ option_map_or (λ p. p.1) called []
@@ -40,3 +43,6 @@ blob_written words called is h true_is = record { called = called; is = got word
 
 pub blob_lacked : (words : List Text) {rows : List Row} {old new : Option (List ℕ)} {found : Bool} → CallsCommand words (codes "get") → rows ≡ options_of words → GetsBlob rows old new found → found ≡ false → LacksBlob words old new
 blob_lacked words called is h false_is = record { called = called; is = got words is h false_is }
+
+pub failed : (words : List Text) {rows : List Row} {e : CommandError} → rows ≡ options_of words → FailsVerify rows e → FailsVerify (options_of words) e
+failed words {rows} {e} is h = subst (λ (options : List Row). FailsVerify options e) is h

@@ -1,5 +1,2 @@
-pub mod CommandLines
-pub mod Exits
-pub mod FileErrors
-pub mod Writing
 pub mod Builds
+pub mod CommandLines

@@ -1,8 +1,3 @@
 pub mod Built
+pub mod Ended
 pub mod Faults
-pub mod Got
-pub mod Printed
-pub mod Put
-pub mod Refusal
-pub mod Status
-pub mod Told

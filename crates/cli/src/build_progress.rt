@@ -1,4 +1,4 @@
-use crate::terminal_line::TerminalLine;
+use commands::TerminalLine;
 use plan::Plan;
 use std::alloc::{AllocError, Global};
 use std::io::Write;

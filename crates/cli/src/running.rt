@@ -2,21 +2,17 @@ ghost use Rattle.std.specs.Prelude.{◌≡◌, ◌≢◌, ◌⊎◌, ◌<◌, �
 ghost use Rattle.std.specs.Prelude.{string_bytes};
 ghost use Rattle.clap.specs.Words.{kind_of};
 ghost use Rattle.cli.specs.Faults.{IsShownFault};
-ghost use Rattle.cli.specs.Printed.{IsDone, IsNo};
-ghost use Rattle.cli.specs.Refusal.{FailsVerify, EndsRefused};
-ghost use Rattle.cli.specs.Status.{status_of};
-ghost use Rattle.cli.specs.Told.{PrintsNoLine, TellsError};
+ghost use Rattle.cli.specs.Ended.{IsDone, IsNo};
+ghost use Rattle.commands.specs.Printed.{GetsPart};
+ghost use Rattle.commands.specs.Refusal.{FailsVerify, EndsRefused};
+ghost use Rattle.commands.specs.Status.{status_of};
+ghost use Rattle.commands.specs.Told.{PrintsNoLine, TellsError};
 ghost use Rattle.command_lines.specs.CommandLine.{CallsCommand, options_of};
 
-use crate::build_command::run_build;
-use crate::error::CliError;
-use crate::get_command::run_get;
-use crate::put_command::run_put;
-use crate::serve_command::run_serve;
-use crate::telling::tell;
-use crate::verify_command::run_verify;
+use crate::building::run_build;
 use clap::error::{Error, ErrorKind};
 use command_lines::parse;
+use commands::{CommandError, run_get, run_put, run_serve, run_verify, tell};
 use log::Log;
 use std::alloc::{AllocError, Global};
 use std::io::Write;
@@ -51,8 +47,8 @@ where
     // standard output, and nothing else.
     ensures done { result ≡ 0
         → IsDone (map string_bytes words.now) (O.contents out.old) (O.contents out.new) }
-    // With status 1, the line of their no, or of a build's refusal; or the blob that they name isn't
-    // there.
+    // With status 1, the line of their no, or of a build's refusal; or the blob that they name
+    // isn't there.
     ensures no { result ≡ 1
         → IsNo (map string_bytes words.now) (O.contents out.old) (O.contents out.new) }
     // With status 2, nothing was printed.
@@ -67,6 +63,10 @@ where
     // and the error is for the first fault, in its order.
     ensures refused { 2 ≤ result → CallsCommand (map string_bytes words.now) (codes "verify")
         → EndsRefused (options_of (map string_bytes words.now)) result }
+    // Where they call `get`, it wrote nothing then that isn't the beginning of their blob.
+    ensures begun { 2 ≤ result → CallsCommand (map string_bytes words.now) (codes "get")
+        → GetsPart (options_of (map string_bytes words.now))
+        (O.contents out.old) (O.contents out.new) }
 {
     match run(rt, words, out, terminal) {
         Ok(Ended::Done) => 0,
@@ -83,7 +83,7 @@ fn run<R, O: Write, T: Write + Drop>(
     words: &[String],
     out: &mut O,
     terminal: Option<T>,
-) -> Result<Ended, CliError>
+) -> Result<Ended, CommandError>
 where
     R: AllocGlobal + Clock + Files + Log + Processes + RandomSource + Clone + Drop,
     R: Net<Listener = TcpListener, Stream = TcpStream>,
@@ -100,6 +100,9 @@ where
     ensures refused { IfErr result
         (λ fault. CallsCommand (map string_bytes words.now) (codes "verify")
         → FailsVerify (options_of (map string_bytes words.now)) fault) }
+    ensures begun { OnErr result (CallsCommand (map string_bytes words.now) (codes "get")
+        → GetsPart (options_of (map string_bytes words.now))
+        (O.contents out.old) (O.contents out.new)) }
 {
     let matches = match parse(rt.alloc(), words) {
         Ok(matches) => matches,
@@ -137,17 +140,17 @@ where
         }
         _ => {
             let text = String::from_str(rt.alloc(), "no such command")?;
-            Err(CliError::Words(text))
+            Err(CommandError::Words(text))
         }
     }
 }
 
 /// What clap answers in place of matches: help and version are printed, and a mistake is told.
-fn shown<R: AllocGlobal, O: Write>(rt: &R, error: Error, out: &mut O) -> Result<Ended, CliError>
+fn shown<R: AllocGlobal, O: Write>(rt: &R, error: Error, out: &mut O) -> Result<Ended, CommandError>
     ensures done { IfOk result
         (λ ended. (ended ≡ Ended.Done)
         × ((kind_of error ≡ ErrorKind.DisplayHelp) ⊎ (kind_of error ≡ ErrorKind.DisplayVersion))) }
-    ensures memory { kind_of error ≡ ErrorKind.OutOfMemory → result ≡ Err CliError.Memory }
+    ensures memory { kind_of error ≡ ErrorKind.OutOfMemory → result ≡ Err CommandError.Memory }
     ensures kept { kind_of error ≢ ErrorKind.DisplayHelp → kind_of error ≢ ErrorKind.DisplayVersion
         → O.contents out.new ≡ O.contents out.old }
     ensures fault { IfErr result (IsShownFault (kind_of error)) }
@@ -155,18 +158,18 @@ fn shown<R: AllocGlobal, O: Write>(rt: &R, error: Error, out: &mut O) -> Result<
         (λ fault. status_of fault ≡ 2 → O.contents out.new ≡ O.contents out.old) }
 {
     if error.kind() == ErrorKind::OutOfMemory {
-        return Err(CliError::Memory);
+        return Err(CommandError::Memory);
     }
     if !error.use_stderr() {
-        write!(out, "{error}").map_err(CliError::Output)?;
-        out.flush().map_err(CliError::Output)?;
+        write!(out, "{error}").map_err(CommandError::Output)?;
+        out.flush().map_err(CommandError::Output)?;
         return Ok(Ended::Done);
     }
     let text = error.to_string(rt.alloc())?;
-    Err(CliError::Words(mistake_line(rt.alloc(), text.as_str())?))
+    Err(CommandError::Words(mistake_line(rt.alloc(), text.as_str())?))
 }
 
-/// The mistake in one line: clap's text up to its first empty line, behind which it has hints.
+/// The mistake in one line: clap's text up to its first empty line, after which it has hints.
 fn mistake_line(alloc: Global, text: &str) -> Result<String, AllocError> {
     let mut told = String::new(alloc);
     let text = text.strip_prefix("error: ").unwrap_or(text);

@@ -33,7 +33,7 @@ pub fn lay(rt: &HostRuntime, names: &str, line: &str) -> io::Result<()> {
     }
 }
 
-/// Writes a file of so many bytes.
+/// Writes a file of this many bytes.
 fn fill(rt: &HostRuntime, path: &str, count: &str) -> io::Result<()> {
     let Ok(count) = count.parse::<usize>() else {
         return Err(ErrorKind::InvalidInput.into());

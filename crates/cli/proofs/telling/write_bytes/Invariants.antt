@@ -1,5 +1,0 @@
-use Rattle.cli.specs.Told.{AppendsUpTo}
-use Rattle.cli.proofs.telling.write_bytes.Given as goal
-
-abbrev pub invariant-loop : goal.invariant-loop
-invariant-loop g l = AppendsUpTo (g.O.Write.contents l.initial.out) (g.O.Write.contents l.out) l.bytes l.rest

@@ -1,0 +1,4 @@
+pub mod Addresses
+pub mod Exits
+pub mod FileErrors
+pub mod Writing

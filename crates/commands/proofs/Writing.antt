@@ -1,0 +1,124 @@
+-- Texts that are written in pieces.
+use Rattle.std.proofs.Common.{◌≡◌, ℕ, ◌<◌, ◌-◌, List, [], ◌∷◌, ◌++◌, ◌∙◌, length, sym, ap, subst, refl, take, drop, take-append-drop, append_assoc, length-append, length-drop, Result, Ok, Err, OnOk, OnErr, arith}
+use Rattle.std.specs.List.{Contains}
+use Rattle.std.proofs.lemmas.List.{append-nil}
+use Rattle.std.proofs.lemmas.List.Elements.{Contains-append_left}
+use Rattle.report.specs.Line.{HasNoNewline}
+use Rattle.std.proofs.Math.Seq.{drop-append_seam, take-append_seam, take-length}
+use Rattle.std.specs.Prelude.{Option}
+use Rattle.std.specs.Io.KnownBytes.{Appends, Keeps}
+use Rattle.std.proofs.KnownBytes.{Appends-nil, Appends-trans, Appends-kept}
+use Rattle.commands.specs.Told.{AppendsBeginning, AppendsPart, AppendsUpTo, IsErrorLine, PrintsNoLine, TellsError}
+
+-- nothing is appended yet
+pub up_to_nothing : (a : Option (List ℕ)) (text : List ℕ) → AppendsUpTo a a text text
+up_to_nothing a text = record { beginning = []; cut = refl; appended = Appends-nil a }
+
+-- what a slice from n on has
+slice_from : (xs : List ℕ) (n : ℕ) → take (length xs - n) (drop n xs) ≡ drop n xs
+slice_from xs n = ap (λ k. take k (drop n xs)) (sym (length-drop n xs)) ∙ take-length (drop n xs)
+
+-- some bytes of the rest are appended
+pub up_to_more : (old mid new : Option (List ℕ)) (text rest : List ℕ) (n : ℕ) → AppendsUpTo old mid text rest
+    → Appends mid new (take n rest) → AppendsUpTo old new text (take (length rest - n) (drop n rest))
+up_to_more old mid new text rest n h more = subst (AppendsUpTo old new text) (sym (slice_from rest n)) (record {
+  beginning = h.beginning ++ take n rest;
+  cut = h.cut ∙ ap (λ l. h.beginning ++ l) (sym (take-append-drop n rest)) ∙ sym (append_assoc h.beginning (take n rest) (drop n rest));
+  appended = Appends-trans old mid new h.beginning (take n rest) h.appended more;
+})
+
+-- what is written stays
+pub up_to_kept : (old mid new : Option (List ℕ)) (text rest : List ℕ) → AppendsUpTo old mid text rest
+    → Keeps mid new → AppendsUpTo old new text rest
+up_to_kept old mid new text rest h same =
+    record { beginning = h.beginning; cut = h.cut; appended = Appends-kept old mid new h.beginning h.appended same }
+
+pub beginning_by : (old new : Option (List ℕ)) (text rest : List ℕ) → AppendsUpTo old new text rest → AppendsBeginning old new text
+beginning_by old new text rest h = record { rest = rest; up_to = h }
+
+-- what a call appended: all, or a part
+pub beginning_of_all : (old new : Option (List ℕ)) (text : List ℕ) → Appends old new text → AppendsBeginning old new text
+beginning_of_all old new text h =
+    record { rest = []; up_to = record { beginning = text; cut = sym (append-nil text); appended = h } }
+
+pub beginning_of_part : (old new : Option (List ℕ)) (text : List ℕ) → AppendsPart old new text → AppendsBeginning old new text
+beginning_of_part old new text h = record { rest = h.rest; up_to = h.up_to }
+
+pub beginning_of : {E : Type 0} (old new : Option (List ℕ)) (text : List ℕ) (result : Result (Unit {0}) E) → OnOk result (Appends old new text)
+    → OnErr result (AppendsPart old new text) → AppendsBeginning old new text
+beginning_of old new text (Ok x) all part = beginning_of_all old new text all
+beginning_of old new text (Err e) all part = beginning_of_part old new text part
+
+-- of a text without a newline only what has none is appended
+pub no_line_of_part : (old new : Option (List ℕ)) (text : List ℕ) → HasNoNewline text → AppendsPart old new text → PrintsNoLine old new
+no_line_of_part old new text none h = record {
+  text = h.up_to.beginning;
+  unbroken = λ has. none (subst (λ l. Contains l 10) (sym h.up_to.cut) (Contains-append_left h.up_to.beginning h.rest 10 has));
+  printed = h.up_to.appended;
+}
+
+pub no_line_of_all : (old new : Option (List ℕ)) (text : List ℕ) → HasNoNewline text → Appends old new text → PrintsNoLine old new
+no_line_of_all old new text none h = record { text = text; unbroken = none; printed = h }
+
+-- a part of a newline is nothing
+part_of_newline : (beginning rest : List ℕ) → 10 ∷ [] ≡ beginning ++ rest → 0 < length rest → beginning ≡ []
+part_of_newline [] rest e some = refl
+part_of_newline (b ∷ []) [] e some = absurd (omega (arith, some))
+part_of_newline (b ∷ []) (r ∷ rest) e some = let short = ap length e in absurd (omega (arith, short))
+part_of_newline (b ∷ c ∷ beginning) rest e some = let short = ap length e in absurd (omega (arith, short))
+
+pub no_line_of_newline : (old mid new : Option (List ℕ)) (text : List ℕ) → HasNoNewline text → Appends old mid text
+    → AppendsPart mid new (10 ∷ []) → PrintsNoLine old new
+no_line_of_newline old mid new text none h part =
+    let nothing : part.up_to.beginning ≡ [] = part_of_newline part.up_to.beginning part.rest part.up_to.cut part.some in
+    let same : Appends mid new [] = subst (Appends mid new) nothing part.up_to.appended in
+    record {
+      text = text ++ [];
+      unbroken = subst HasNoNewline (sym (append-nil text)) none;
+      printed = Appends-trans old mid new text [] h same;
+    }
+
+pub beginning_kept : (old mid new : Option (List ℕ)) (text : List ℕ) → AppendsBeginning old mid text → Keeps mid new → AppendsBeginning old new text
+beginning_kept old mid new text h same = record { rest = h.rest; up_to = up_to_kept old mid new text h.rest h.up_to same }
+
+-- a line was told up to here, and what is written stays
+pub tells_by : (old mid new : Option (List ℕ)) (line : List ℕ) → IsErrorLine line → AppendsBeginning old mid line → Keeps mid new → TellsError old new
+tells_by old mid new line lawful begun same = record { line = line; lawful = lawful; appended = beginning_kept old mid new line begun same }
+
+-- the two parts of a line: its text, and the newline
+pub front_of_line : (text line : List ℕ) (n : ℕ) → line ≡ text ++ 10 ∷ [] → n ≡ length line - 1 → take n line ≡ text
+front_of_line text line n e count =
+    let long = ap length e ∙ length-append text (10 ∷ []) in
+    let all : n ≡ length text = omega (arith, count, long) in
+    rw (all, e) (take-append_seam text (10 ∷ []))
+
+pub back_of_line : (text line : List ℕ) (n : ℕ) → line ≡ text ++ 10 ∷ [] → n ≡ length line - 1 → drop n line ≡ 10 ∷ []
+back_of_line text line n e count =
+    let long = ap length e ∙ length-append text (10 ∷ []) in
+    let all : n ≡ length text = omega (arith, count, long) in
+    rw (all, e) (drop-append_seam text (10 ∷ []))
+
+pub where_err : {P T E : Type 0} (result : Result T E) → P → OnErr result P
+where_err (Ok x) holds = tt
+where_err (Err e) holds = holds
+
+-- The newline is written last: with it the line is whole, and without it no line is.
+pub no_line_at_end : {T E : Type 0} (result : Result T E) (old mid new : Option (List ℕ)) (text : List ℕ) → HasNoNewline text
+    → Appends old mid text → OnErr result (AppendsPart mid new (10 ∷ [])) → OnErr result (PrintsNoLine old new)
+no_line_at_end (Ok x) old mid new text none h part = tt
+no_line_at_end (Err e) old mid new text none h part = no_line_of_newline old mid new text none h part
+
+pub line_at_end : {T E : Type 0} (result : Result T E) (old mid new : Option (List ℕ)) (text line : List ℕ) → line ≡ text ++ 10 ∷ []
+    → Appends old mid text → OnOk result (Appends mid new (10 ∷ [])) → OnOk result (Appends old new line)
+line_at_end (Ok x) old mid new text line e h all = subst (Appends old new) (sym e) (Appends-trans old mid new text (10 ∷ []) h all)
+line_at_end (Err x) old mid new text line e h all = tt
+
+none_in_nothing : HasNoNewline []
+none_in_nothing (k, lt, e) = omega arith
+
+pub no_line_of_same : (old new : Option (List ℕ)) → new ≡ old → PrintsNoLine old new
+no_line_of_same old new same = record {
+  text = [];
+  unbroken = none_in_nothing;
+  printed = subst (λ x. Appends old x []) (sym same) (Appends-nil old);
+}

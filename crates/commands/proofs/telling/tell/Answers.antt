@@ -1,0 +1,26 @@
+use Rattle.std.proofs.Common.{refl, rules, subst, sym}
+use Rattle.std.specs.Prelude.{codes}
+use Rattle.commands.specs.Told.{AppendsBeginning, IsErrorLine}
+use Rattle.commands.proofs.Writing.{beginning_of, tells_by}
+use Rattle.commands.proofs.telling.tell.Goals as goal
+use Rattle.commands.proofs.telling.tell.Goals.{in-Ok, in-Err}
+
+no_memory : IsErrorLine (codes "error: out of memory\n")
+no_memory = record { told = codes "out of memory"; one = search rules; line_is = refl }
+
+pub returns : goal.returns
+returns g c =
+    let old = g.E.Write.contents c.args.err.now in
+    let mid = g.E.Write.contents c.match-error_line.err in
+    let new = g.E.Write.contents c.flush.new.self in
+    elim c.match-error_line.branch [
+      | in-Ok w ↦ tells_by old mid new w.in-Ok.line.items (w.in-Ok.ensures {u = tt})
+          (subst (λ e. AppendsBeginning old (g.E.Write.contents e) w.in-Ok.line.items) (sym w.err-is)
+          (subst (AppendsBeginning old (g.E.Write.contents w.write_bytes.new.out)) w.deref.ensures.value (beginning_of old (g.E.Write.contents w.write_bytes.new.out) _ w.write_bytes.result w.write_bytes.ensures.written w.write_bytes.ensures.part)))
+          c.flush.ensures.bytes
+      | in-Err w ↦ tells_by old mid new (codes "error: out of memory\n") no_memory
+          (subst (λ e. AppendsBeginning old (g.E.Write.contents e) (codes "error: out of memory\n")) (sym w.err-is)
+          (beginning_of old (g.E.Write.contents w.write_bytes-in-Err.new.out) (codes "error: out of memory\n") w.write_bytes-in-Err.result
+          w.write_bytes-in-Err.ensures.written w.write_bytes-in-Err.ensures.part))
+          c.flush.ensures.bytes
+    ]

@@ -1,0 +1,75 @@
+-- What a command prints, by its options.
+use Rattle.std.specs.Prelude.{◌≡◌, ◌⊎◌, ℕ, true, Bool, List, [], ◌∷◌, ◌++◌, Option, None}
+use Rattle.std.specs.Prelude.{IsSome, codes}
+use Rattle.std.specs.Io.KnownBytes.{Appends}
+use Rattle.std.specs.Net.Text.{socket_text}
+use Rattle.std.specs.declared.alloc.Global.{Global}
+use Rattle.std.specs.declared.net.socket_addr.SocketAddr.{SocketAddr}
+use Rattle.blob_digest.specs.Digest.{DigestValue}
+use Rattle.blob_digest.specs.Text.{digest_text}
+use Rattle.clap.specs.Words.{Row, first_of}
+use Rattle.report.specs.Line.{report_line}
+use Rattle.blob_source.specs.Sink.{HasRight}
+use Rattle.blob_source.specs.Source.{Telling}
+use Rattle.verifier.specs.declared.verdict.Verdict.{Verdict}
+use Rattle.text_verifier.specs.Answered.{IsJudged}
+use Rattle.text_verifier.specs.Texts.{HasTexts, Question, IsDigestText}
+use Rattle.commands.specs.Got.{Writes, WritesPart}
+use Rattle.commands.specs.Options.{IsLawfulServer}
+use Rattle.command_lines.specs.CommandLine.{option_text}
+
+-- the options name a store folder, and nothing of a server
+pub record NamesStore (options : List Row) : Type 0 where
+  pub store : IsSome (first_of (codes "store") options)
+  pub server : first_of (codes "server") options ≡ None
+  pub prefix : first_of (codes "prefix") options ≡ None
+  pub timeout : first_of (codes "timeout") options ≡ None
+
+-- the options name a server, with what is lawful to say of it, and no store folder
+pub record NamesServer (options : List Row) : Type 0 where
+  pub server : IsSome (first_of (codes "server") options)
+  pub store : first_of (codes "store") options ≡ None
+  pub lawful : IsLawfulServer options (option_text options (codes "server"))
+
+-- the options name exactly one place where the recorded build is
+abbrev pub NamesPlace : List Row → Type 0
+NamesPlace options = NamesStore options ⊎ NamesServer options
+
+-- The line of a verdict was printed: of the one on the question that these texts ask, by what a
+-- store told. The texts are the two digests in the words, and the bytes that were read as the plan
+-- and as the record.
+pub record PrintsVerdict (options : List Row) (old new : Option (List ℕ)) : Type 0 where
+  pub place : NamesPlace options
+  pub plan_bytes : List ℕ
+  pub noted_bytes : List ℕ
+  pub question : Question
+  pub texts : HasTexts (option_text options (codes "sources")) (option_text options (codes "claim"))
+      plan_bytes noted_bytes question
+  pub told : Telling
+  pub verdict : Verdict Global
+  pub judged : IsJudged told question verdict
+  pub printed : Appends old new (report_line verdict)
+
+-- the blob was written, or a server told that there is none, whose digest the options spell
+pub record GetsBlob (options : List Row) (old new : Option (List ℕ)) (found : Bool) : Type 0 where
+  pub digest : DigestValue
+  pub spelled : IsDigestText (option_text options (codes "digest")) digest
+  pub writes : Writes digest old new found
+
+-- nothing was written, or a beginning of a blob whose digest the options spell
+abbrev pub GetsPart : List Row → Option (List ℕ) → Option (List ℕ) → Type 0
+GetsPart options old new =
+    (new ≡ old) ⊎ ((digest : DigestValue)
+    × IsDigestText (option_text options (codes "digest")) digest × WritesPart digest old new)
+
+-- the line of a digest was printed, under which some source then told a blob that has it
+pub record PrintsDigest (options : List Row) (old new : Option (List ℕ)) : Type 0 where
+  pub digest : DigestValue
+  pub told : Telling
+  pub held : HasRight told.blobs digest
+  pub printed : Appends old new (digest_text digest ++ 10 ∷ [])
+
+-- the line of an address was printed, to listen on
+pub record PrintsAddress (old new : Option (List ℕ)) : Type 0 where
+  pub address : SocketAddr
+  pub printed : Appends old new (codes "listening " ++ socket_text address ++ codes "\n")

@@ -1,0 +1,341 @@
+ghost use Rattle.std.specs.Prelude.{◌≡◌, ◌≢◌, [], IfErr, IfOk, IsTrue, OnOk, codes, true};
+ghost use Rattle.std.specs.Io.{ReadsAtMost, WritesAtMost};
+ghost use Rattle.std.specs.Io.Buffered.{reader_buffer, reader_inner};
+ghost use Rattle.blob_digest.specs.Digest.{digest_of};
+ghost use Rattle.blob_source.specs.Sink.{HasRight};
+ghost use Rattle.clap.specs.Words.{first_of, found_of, rows_of};
+ghost use Rattle.command_lines.specs.CommandLine.{option_text};
+ghost use Rattle.commands.specs.Options.{IsAddress, IsLawfulServer, IsTimeout};
+ghost use Rattle.commands.specs.Refusal.{IsCommandFault};
+ghost use Rattle.commands.specs.Status.{status_of};
+ghost use Rattle.http_core.specs.Host.{is_host};
+ghost use Rattle.http_core.specs.Prefix.{is_prefix};
+ghost use Rattle.remote.specs.Remote.{IsFreshRemote, telling_of};
+
+use crate::error::CommandError;
+use crate::options::{is_address, number_in, unlike};
+use blob_digest::Digest;
+use blob_source::{BlobSink, BlobSource, FetchError};
+use clap::ArgMatches;
+use command_lines::{option_of, text_of};
+use http_core::{Host, Prefix};
+use remote::{Remote, Stream};
+use std::alloc::{AllocError, Global};
+use std::io;
+use std::io::{BufRead, BufReader, ErrorKind, Read, Write};
+use std::net::{Net, SocketAddr, TcpStream, ToSocketAddrs};
+use std::time::Duration;
+
+/// How many seconds a server may be silent where the words don't say it.
+const SILENT: u64 = 60;
+
+/// A server, and what the words of a command say of it.
+#[derive(Drop)]
+pub struct ServerOptions<'a> {
+    pub address: &'a str,
+    pub host: Host<Global>,
+    pub prefix: Prefix<Global>,
+    /// How long it may be silent; none: for ever.
+    pub timeout: Option<Duration>,
+}
+
+fn read_host(alloc: Global, address: &str) -> Result<Host<Global>, CommandError>
+    ensures host { IfOk result (λ host. host ≡ address.now) }
+    ensures place { OnOk result (IsAddress address.now) }
+    ensures fault { IfErr result IsCommandFault }
+    ensures unlawful { IfErr result (λ e. e ≢ CommandError.Memory
+        → IsAddress address.now → IsTrue (is_host address.now) → ⊥) }
+{
+    let host = Host::read(alloc, address)?;
+    match host {
+        Some(host) if is_address(address) => Ok(host),
+        _ => Err(unlike(alloc, "server", "HOST:PORT", address)?),
+    }
+}
+
+fn read_timeout(alloc: Global, matches: &ArgMatches<'_>) -> Result<Option<Duration>, CommandError>
+    ensures timeout { OnOk result
+        (IsTimeout (first_of (codes "timeout") (rows_of (found_of matches.now)))) }
+    ensures fault { IfErr result IsCommandFault }
+    ensures unlawful { IfErr result (λ e. e ≢ CommandError.Memory
+        → ¬ IsTimeout (first_of (codes "timeout") (rows_of (found_of matches.now)))) }
+{
+    let Some(text) = option_of(matches, "timeout") else {
+        return Ok(Some(Duration::from_secs(SILENT)));
+    };
+    match number_in(text) {
+        Some(0) => Ok(None),
+        Some(seconds) => Ok(Some(Duration::from_secs(seconds))),
+        None => Err(unlike(alloc, "timeout", "a number of seconds", text)?),
+    }
+}
+
+/// The prefix that the words give.
+pub(crate) fn read_prefix(
+    alloc: Global,
+    matches: &ArgMatches<'_>,
+) -> Result<Prefix<Global>, CommandError>
+    ensures prefix { IfOk result
+        (λ prefix. prefix ≡ option_text (rows_of (found_of matches.now)) (codes "prefix")) }
+    ensures lawful { OnOk result
+        (is_prefix (option_text (rows_of (found_of matches.now)) (codes "prefix")) ≡ true) }
+    ensures fault { IfErr result IsCommandFault }
+    ensures unlawful { IfErr result (λ e. e ≢ CommandError.Memory
+        → ¬ IsTrue (is_prefix (option_text (rows_of (found_of matches.now)) (codes "prefix")))) }
+{
+    let text = text_of(matches, "prefix");
+    match Prefix::read(alloc, text.as_bytes())? {
+        Some(prefix) => Ok(prefix),
+        None => Err(unlike(alloc, "prefix", "/SEGMENT or more of them", text)?),
+    }
+}
+
+/// The server at this address, with the timeout and the prefix that the words give.
+pub fn read_server<'a>(
+    alloc: Global,
+    matches: &ArgMatches<'_>,
+    address: &'a str,
+) -> Result<ServerOptions<'a>, CommandError>
+    ensures host { IfOk result (λ server. server.host ≡ address.now) }
+    ensures prefix { IfOk result
+        (λ server. server.prefix ≡ option_text (rows_of (found_of matches.now)) (codes "prefix")) }
+    ensures lawful { OnOk result (IsLawfulServer (rows_of (found_of matches.now)) address.now) }
+    ensures fault { IfErr result IsCommandFault }
+    ensures unlawful { IfErr result (λ e. e ≢ CommandError.Memory
+        → ¬ IsLawfulServer (rows_of (found_of matches.now)) address.now) }
+{
+    let host = read_host(alloc, address)?;
+    let timeout = read_timeout(alloc, matches)?;
+    let prefix = read_prefix(alloc, matches)?;
+    Ok(ServerOptions {
+        address,
+        host,
+        prefix,
+        timeout,
+    })
+}
+
+/// An open connection to one of the addresses that the server's name has.
+fn connect<R: Net<Stream = TcpStream>>(
+    rt: &R,
+    server: &ServerOptions<'_>,
+) -> io::Result<TcpStream> {
+    let mut fault = io::Error::from(ErrorKind::InvalidInput);
+    for address in server.address.to_socket_addrs(rt)? {
+        match connect_to(rt, address, server.timeout) {
+            Ok(stream) => return Ok(stream),
+            Err(last) => fault = last,
+        }
+    }
+    Err(fault)
+}
+
+fn connect_to<R: Net<Stream = TcpStream>>(
+    rt: &R,
+    address: SocketAddr,
+    timeout: Option<Duration>,
+) -> io::Result<TcpStream> {
+    let stream = match timeout {
+        Some(timeout) => rt.connect_timeout(address, timeout)?,
+        None => rt.connect(address)?,
+    };
+    stream.set_nodelay(true)?;
+    stream.set_read_timeout(timeout)?;
+    stream.set_write_timeout(timeout)?;
+    Ok(stream)
+}
+
+/// Puts another stream in the place of the reader's. What was read ahead of that is dropped.
+fn replace(reader: &mut BufReader<TcpStream>, stream: TcpStream)
+    ensures stream { reader_inner reader.new ≡ stream }
+    ensures empty { reader_buffer reader.new ≡ [] }
+{
+    *reader.get_mut() = stream;
+    let ahead = reader.buffer().len();
+    reader.consume(ahead);
+}
+
+/// Whether the stream is open and nothing was read ahead of it: what comes before a request is no
+/// part of its reply.
+fn is_quiet(reader: &BufReader<TcpStream>) -> bool
+    ensures { IsTrue result → reader_buffer reader.now ≡ [] }
+{
+    reader.buffer().is_empty() && reader.get_ref().is_open()
+}
+
+/// How often a system call that a signal interrupted is made again.
+const BROKEN_OFF: u32 = 1000;
+
+/// Reads, and reads again where a signal interrupted that: nothing was read then. (A process that
+/// was stopped and goes on sees that, since the socket has a limit on silence.)
+fn read_again<T: Read>(reader: &mut T, buf: &mut [u8]) -> io::Result<usize>
+    ensures { ReadsAtMost result buf.new }
+{
+    for _ in 0..BROKEN_OFF {
+        match reader.read(buf) {
+            Err(fault) if fault.kind() == ErrorKind::Interrupted => {}
+            done => return done,
+        }
+    }
+    Err(io::Error::from(ErrorKind::Interrupted))
+}
+
+/// Writes, and writes again where a signal interrupted that.
+fn write_again<T: Write>(writer: &mut T, buf: &[u8]) -> io::Result<usize>
+    ensures { WritesAtMost result buf.now }
+{
+    for _ in 0..BROKEN_OFF {
+        match writer.write(buf) {
+            Err(fault) if fault.kind() == ErrorKind::Interrupted => {}
+            done => return done,
+        }
+    }
+    Err(io::Error::from(ErrorKind::Interrupted))
+}
+
+/// A connection to a server, which is opened anew where the server has closed it. It reads ahead,
+/// so that a reply that is taken in small pieces costs few calls of the system.
+#[derive(Drop)]
+pub struct Connection<'a, R> {
+    rt: &'a R,
+    server: &'a ServerOptions<'a>,
+    reader: BufReader<TcpStream>,
+}
+
+impl<R: Net<Stream = TcpStream>> Stream for Connection<'_, R> {
+    ghost use Rattle.remote.specs.Flow.{unknown};
+
+    ghost flow = { λ _. unknown };
+
+    fn receive(&mut self, buf: &mut [u8]) -> io::Result<usize> {
+        read_again(&mut self.reader, buf)
+    }
+
+    fn send(&mut self, buf: &[u8]) -> io::Result<usize> {
+        let mut stream = self.reader.get_ref();
+        write_again(&mut stream, buf)
+    }
+
+    fn is_open(&self) -> bool {
+        is_quiet(&self.reader)
+    }
+
+    fn renew(&mut self) -> io::Result<()> {
+        replace(&mut self.reader, connect(self.rt, self.server)?);
+        Ok(())
+    }
+}
+
+/// A remote that knows its server's name and what it was asked last.
+#[derive(Drop)]
+pub struct Client<'a, S: Drop> {
+    pub address: &'a str,
+    pub remote: Remote<S, Global>,
+    pub asked: &'static str,
+    pub digest: Digest,
+}
+
+impl<'a, S: Stream + Drop> Client<'a, S> {
+    /// A client of the server over an open stream.
+    pub(crate) fn new(
+        alloc: Global,
+        server: &ServerOptions<'a>,
+        stream: S,
+    ) -> Result<Client<'a, S>, AllocError>
+        ensures { IfOk result (λ client. IsFreshRemote S.flow stream
+            server.now.host server.now.prefix client.remote) }
+    {
+        Ok(Client {
+            address: server.address,
+            remote: Remote::new(alloc, stream, &server.host, &server.prefix)?,
+            asked: "",
+            digest: Digest::empty(),
+        })
+    }
+
+    /// The error of a call that was refused.
+    pub fn error(&self, alloc: Global, refusal: FetchError) -> Result<CommandError, AllocError>
+        ensures { IfOk result (λ e. status_of e ≡ 3) }
+    {
+        match self.remote.last_fault() {
+            Some(fault) if refusal == FetchError::Failed => Ok(CommandError::Server {
+                server: String::from_str(alloc, self.address)?,
+                asked: self.asked,
+                digest: self.digest.write_text(alloc)?,
+                fault,
+            }),
+            _ => Ok(CommandError::Memory),
+        }
+    }
+
+    /// Puts a blob.
+    pub fn put(&mut self, alloc: Global, bytes: &[u8]) -> Result<Digest, CommandError>
+        ensures named { IfOk result (λ digest. digest ≡ digest_of bytes.now) }
+        ensures held { IfOk result (HasRight (telling_of self.new.remote).blobs) }
+    {
+        match self.put_blob(alloc, bytes) {
+            Ok(digest) => Ok(digest),
+            Err(refusal) => Err(self.error(alloc, refusal)?),
+        }
+    }
+}
+
+impl<'a, S: Stream + Drop> BlobSource<Global> for Client<'a, S> {
+    ghost use Rattle.remote.specs.Remote.{telling_of};
+
+    ghost tells = { λ c. telling_of c.remote };
+
+    fn fetch(&mut self, alloc: Global, digest: &Digest) -> Result<Option<Vec<u8>>, FetchError> {
+        self.asked = "get of blob";
+        self.digest = *digest;
+        self.remote.fetch(alloc, digest)
+    }
+
+    fn result(&mut self, alloc: Global, digest: &Digest) -> Result<Option<Vec<u8>>, FetchError> {
+        self.asked = "get of result";
+        self.digest = *digest;
+        self.remote.result(alloc, digest)
+    }
+}
+
+impl<'a, S: Stream + Drop> BlobSink<Global> for Client<'a, S> {
+    fn put_blob(&mut self, alloc: Global, bytes: &[u8]) -> Result<Digest, FetchError> {
+        self.asked = "put of blob";
+        self.digest = Digest::of(bytes);
+        self.remote.put_blob(alloc, bytes)
+    }
+
+    fn put_result(
+        &mut self,
+        alloc: Global,
+        digest: &Digest,
+        bytes: &[u8],
+    ) -> Result<(), FetchError> {
+        self.asked = "put of result";
+        self.digest = *digest;
+        self.remote.put_result(alloc, digest, bytes)
+    }
+}
+
+/// A client that is connected to the server.
+pub fn open<'a, R: AllocGlobal + Net<Stream = TcpStream>>(
+    rt: &'a R,
+    server: &'a ServerOptions<'a>,
+) -> Result<Client<'a, Connection<'a, R>>, CommandError>
+    ensures { IfErr result (λ e. status_of e ≡ 3) }
+{
+    match connect(rt, server) {
+        Ok(stream) => {
+            let Ok(reader) = BufReader::new(rt.alloc(), stream) else {
+                return Err(CommandError::Memory);
+            };
+            let connection = Connection { rt, server, reader };
+            Ok(Client::new(rt.alloc(), server, connection)?)
+        }
+        Err(fault) if fault.kind() == ErrorKind::OutOfMemory => Err(CommandError::Memory),
+        Err(fault) => Err(CommandError::Connection {
+            server: String::from_str(rt.alloc(), server.address)?,
+            fault,
+        }),
+    }
+}

@@ -1,0 +1,26 @@
+//! The commands `verify`, `put`, `get` and `serve` as functions of their options, and what every
+//! command stands on: its errors and statuses, files, digests in options, a client of a server.
+#![tactic(auto)]
+
+mod connecting;
+mod error;
+mod files;
+mod getting;
+mod options;
+mod progress;
+mod putting;
+mod serving;
+mod telling;
+mod terminal_line;
+mod verifying;
+
+pub use connecting::{Client, Connection, ServerOptions, open, read_server};
+pub use error::CommandError;
+pub use files::file_error;
+pub use getting::run_get;
+pub use options::{number_in, read_digest, unlike};
+pub use putting::run_put;
+pub use serving::run_serve;
+pub use telling::tell;
+pub use terminal_line::TerminalLine;
+pub use verifying::{plan_in_file, run_verify};

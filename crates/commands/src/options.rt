@@ -1,0 +1,75 @@
+ghost use Rattle.std.specs.Prelude.{◌↔◌, IfErr, IfOk, IsTrue, SomeIff};
+ghost use Rattle.clap.specs.Words.{found_of, rows_of};
+ghost use Rattle.command_lines.specs.CommandLine.{option_text};
+ghost use Rattle.commands.specs.Faults.{IsDigestFault, IsUnlike};
+ghost use Rattle.commands.specs.Options.{IsAddress, IsNumber, number_of};
+ghost use Rattle.commands.specs.Refusal.{IsCommandFault};
+ghost use Rattle.text_verifier.specs.Texts.{IsDigestText};
+
+use crate::error::CommandError;
+use blob_digest::Digest;
+use clap::ArgMatches;
+use command_lines::text_of;
+use std::alloc::{AllocError, Global};
+
+/// The digest that an option spells.
+pub fn read_digest(
+    alloc: Global,
+    matches: &ArgMatches<'_>,
+    option: &'static str,
+) -> Result<Digest, CommandError>
+    ensures found { IfOk result
+        (IsDigestText (option_text (rows_of (found_of matches.now)) option.now)) }
+    ensures fault { IfErr result
+        (IsDigestFault option.now (option_text (rows_of (found_of matches.now)) option.now)) }
+{
+    let text = text_of(matches, option);
+    match Digest::read_text(text.as_bytes()) {
+        Ok(digest) => Ok(digest),
+        Err(fault) => Err(CommandError::Digest {
+            option,
+            text: String::from_str(alloc, text)?,
+            fault,
+        }),
+    }
+}
+
+/// The number that a text of decimal digits alone spells, where it is less than 2^64.
+pub fn number_in(text: &str) -> Option<u64>
+    ensures { SomeIff result (IsNumber text.now) (number_of text.now) }
+{
+    if text.as_bytes().starts_with(b"+") {
+        return None;
+    }
+    text.parse().ok()
+}
+
+/// Whether it is HOST:PORT.
+pub(crate) fn is_address(text: &str) -> bool
+    ensures { IsTrue result ↔ IsAddress text.now }
+{
+    let Some((host, port)) = text.rsplit_once(':') else {
+        return false;
+    };
+    match number_in(port) {
+        Some(number) => !host.is_empty() && number < 65_536,
+        None => false,
+    }
+}
+
+/// The error of words of which an option's text isn't what is wanted.
+pub fn unlike(
+    alloc: Global,
+    option: &'static str,
+    wanted: &'static str,
+    text: &str,
+) -> Result<CommandError, AllocError>
+    ensures fault { IfOk result IsCommandFault }
+    ensures told { IfOk result (IsUnlike option.now wanted.now text.now) }
+{
+    Ok(CommandError::Unlike {
+        option,
+        wanted,
+        text: String::from_str(alloc, text)?,
+    })
+}

@@ -1,0 +1,73 @@
+ghost use Rattle.std.specs.Prelude.{◌≡◌, IfOk, IfErr, OnOk, OnErr};
+ghost use Rattle.std.specs.Io.KnownBytes.{Appends};
+ghost use Rattle.commands.specs.Status.{status_of};
+ghost use Rattle.commands.specs.Told.{AppendsPart, IsErrorLine, TellsError};
+ghost use Rattle.report.specs.Line.{HasNoNewline};
+
+use crate::error::CommandError;
+use std::alloc::{AllocError, Global};
+use std::io::{ErrorKind, Write};
+
+/// Writes the bytes. Where writing fails, a beginning of them was written, and not all of them.
+pub(crate) fn write_bytes<O: Write>(out: &mut O, bytes: &[u8]) -> Result<(), CommandError>
+    ensures written { OnOk result (Appends (O.contents out.old) (O.contents out.new) bytes.now) }
+    ensures part { OnErr result (AppendsPart (O.contents out.old) (O.contents out.new) bytes.now) }
+    ensures fault { IfErr result (λ e. status_of e ≡ 3) }
+{
+    let mut rest = bytes;
+    for _ in 0..u64::MAX {
+        if rest.is_empty() {
+            return Ok(());
+        }
+        match out.write(rest) {
+            Ok(0) => return Err(CommandError::Output(ErrorKind::WriteZero.into())),
+            Ok(count) => rest = &rest[count..],
+            Err(fault) => {
+                if fault.kind() != ErrorKind::Interrupted {
+                    return Err(CommandError::Output(fault));
+                }
+            }
+        }
+    }
+    if rest.is_empty() {
+        Ok(())
+    } else {
+        Err(CommandError::Output(ErrorKind::Interrupted.into()))
+    }
+}
+
+/// The text in one line: a space stands for each newline.
+fn in_one_line(alloc: Global, text: &[u8]) -> Result<Vec<u8>, AllocError>
+    ensures { IfOk result (λ line. HasNoNewline line.items) }
+{
+    let mut line = Vec::new(alloc);
+    for byte in text {
+        let shown = if *byte == b'\n' { b' ' } else { *byte };
+        line.push(shown)?;
+    }
+    Ok(line)
+}
+
+/// The error's line.
+fn error_line(alloc: Global, error: &CommandError) -> Result<Vec<u8>, AllocError>
+    ensures { IfOk result (λ line. IsErrorLine line.items) }
+{
+    let text = error.to_string(alloc)?;
+    let told = in_one_line(alloc, text.as_bytes())?;
+    let mut line = Vec::new(alloc);
+    line.extend_from_slice(b"error: ")?;
+    line.extend_from_slice(&told)?;
+    line.push(b'\n')?;
+    Ok(line)
+}
+
+/// Tells the error in one line. Where memory is out for that, the line tells want of memory.
+pub fn tell<E: Write>(alloc: Global, error: &CommandError, err: &mut E)
+    ensures { TellsError (E.contents err.old) (E.contents err.new) }
+{
+    let _ = match error_line(alloc, error) {
+        Ok(line) => write_bytes(err, &line),
+        Err(_e) => write_bytes(err, b"error: out of memory\n"),
+    };
+    let _ = err.flush();
+}

@@ -1,0 +1,59 @@
+ghost use Rattle.std.specs.Prelude.{◌≡◌, IsSome, None, false, is_some, true};
+
+use std::io::Write;
+
+/// A line on a terminal that is written over. Without a terminal nothing is written. A terminal
+/// that can't be written is no fault.
+#[derive(Drop)]
+pub struct TerminalLine<T: Write + Drop> {
+    pub terminal: Option<T>,
+    /// Whether there is a text in the line.
+    pub is_written: bool,
+}
+
+impl<T: Write + Drop> TerminalLine<T> {
+    /// A line without a text.
+    pub fn new(terminal: Option<T>) -> TerminalLine<T>
+        ensures terminal { result.terminal ≡ terminal }
+        ensures unwritten { result.is_written ≡ false }
+    {
+        TerminalLine {
+            terminal,
+            is_written: false,
+        }
+    }
+
+    /// Whether there is a terminal.
+    pub fn has_terminal(&self) -> bool
+        ensures { result ≡ is_some self.now.terminal }
+    {
+        self.terminal.is_some()
+    }
+
+    /// Writes the text in place of the line's. The terminal cuts off what is longer than its width.
+    pub fn write(&mut self, text: &str)
+        ensures written { IsSome self.old.terminal → self.new.is_written ≡ true }
+        ensures silent { self.old.terminal ≡ None → self.new ≡ self.old }
+    {
+        if let Some(terminal) = &mut self.terminal {
+            let _ = write!(terminal, "\r\x1b[K\x1b[?7l{text}\x1b[?7h");
+            let _ = terminal.flush();
+            self.is_written = true;
+        }
+    }
+
+    /// Takes the line away.
+    pub fn clear(&mut self)
+        ensures cleared { self.new.is_written ≡ false }
+        ensures silent { self.old.terminal ≡ None → self.new.terminal ≡ None }
+    {
+        if !self.is_written {
+            return;
+        }
+        if let Some(terminal) = &mut self.terminal {
+            let _ = write!(terminal, "\r\x1b[K");
+            let _ = terminal.flush();
+        }
+        self.is_written = false;
+    }
+}
