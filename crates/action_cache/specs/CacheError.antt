@@ -1,4 +1,4 @@
--- Of which refusal of the machine an error tells.
+-- Which refusal of the machine an error tells of.
 use Rattle.std.specs.Prelude.{◌≡◌, ◌⊎◌, ℕ, List, Option, Some, None, IfSome}
 use Rattle.eviction.specs.declared.error.BoundedError.{BoundedError}
 use Rattle.eviction.specs.declared.error.BoundedError.TheVariants as bounded
@@ -42,7 +42,7 @@ of_bounded bounded.NotHeld = cache.NotHeld
 of_bounded bounded.NotPinned = cache.NotPinned
 of_bounded bounded.Memory = cache.Memory
 
--- the refusal of which an error tells; want of memory is none of the machine's
+-- the refusal that an error tells of; want of memory is none of the machine's
 abbrev pub refusal_of : CacheError → Option Refusal
 refusal_of cache.HashDiffers = Some hash_differs
 refusal_of cache.TooLarge = Some too_large

@@ -108,7 +108,7 @@ module _ (reader : Reader) (s : CacheState) where
   or_full None = (refused full, s)
   or_full (Some t) = (done, t)
 
-  -- a blob that has the hash: no bytes are held already, and so is what stands under the hash
+  -- a blob that has the hash: the empty blob is held already, and so is what stands under the hash
   abbrev pub blob_stored : List ℕ → List ℕ → Answer × CacheState
   blob_stored h [] = (done, s)
   blob_stored h (x ∷ xs) =
@@ -125,7 +125,7 @@ module _ (reader : Reader) (s : CacheState) where
   got_blob h None = (nothing, s)
   got_blob h (Some b) = (given b, with_blobs (fronted h s.blobs))
 
-  -- a look-up of a blob, which moves to the front. No bytes are always held, and move nothing
+  -- a look-up of a blob, which moves to the front. The empty blob is always held, and moves nothing
   abbrev pub get_blob : List ℕ → Answer × CacheState
   get_blob h = if bytes_eq (sha256 []) h then (given [], s) else got_blob h (found h)
 

@@ -21,7 +21,7 @@ abbrev pub first_given : Option DigestValue → Option DigestValue → Option Di
 first_given None o = o
 first_given (Some d) o = Some d
 
--- a digest names a blob with this hash. No bytes are never stored, and so are left out
+-- a digest names a blob with this hash. The empty blob is never stored, and so is left out
 abbrev pub names_hash : List ℕ → DigestValue → Bool
 names_hash h d = not (is_empty d) && bytes_eq d.hash h
 
@@ -30,7 +30,7 @@ outputs_of reader bytes = unwrap_or (reader.outputs bytes) []
 
 -- files answers the digests of the files of a Tree, if it is held and decodes
 module _ (files : DigestValue → Option (List DigestValue)) where
-  -- a digest, and behind a Tree's those of its files
+  -- a digest, and after a Tree's those of its files
   abbrev pub digests_by : Reference → List DigestValue
   digests_by r = r.digest ∷ (if r.is_tree then unwrap_or (files r.digest) [] else [])
 

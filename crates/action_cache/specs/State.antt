@@ -1,4 +1,4 @@
--- For which state of the machine a cache stands.
+-- The state of the machine that a cache stands for.
 use Rattle.std.specs.Prelude.{ℕ, Bool, false, not, ◌&&◌, nat_lt, List, bytes_eq, Option, Some, None}
 use Rattle.std.specs.List.{fold}
 use Rattle.blob_digest.specs.DigestValue.{DigestValue}

@@ -12,28 +12,28 @@ use thiserror::Error;
 /// Why the cache can't do what is asked. It is as it was before.
 #[derive(Clone, Copy, Debug, PartialEq, Eq, Error)]
 pub enum CacheError {
-    /// Refusal 51: the bytes have another hash.
+    /// The bytes have another hash.
     #[error("the bytes have another hash")]
     HashDiffers,
-    /// Refusal 52: the blob has more than 16777216 bytes.
+    /// The blob has more than 16777216 bytes.
     #[error("the blob has more than 16777216 bytes")]
     TooLarge,
-    /// Refusal 61: what is new and the pinned others exceed the limit.
+    /// What is new and the pinned others exceed the limit.
     #[error("what is new and the pinned others exceed the limit")]
     Full,
-    /// Refusal 62: the result isn't held.
+    /// The result isn't held.
     #[error("the result isn't held")]
     NotHeld,
-    /// Refusal 63: the result isn't pinned.
+    /// The result isn't pinned.
     #[error("the result isn't pinned")]
     NotPinned,
-    /// Refusal 71: the bytes are no result, and why.
+    /// The bytes are no result, and why.
     #[error("the bytes are no result: {0}")]
     BadResult(MessageError),
-    /// Refusal 72: the result is pinned, and has other bytes.
+    /// The result is pinned, and has other bytes.
     #[error("the result is pinned, and has other bytes")]
     PinnedDiffers,
-    /// Refusal 73: the digest isn't held, or is of a Tree that doesn't decode.
+    /// The digest isn't held, or is of a Tree that doesn't decode.
     #[error("a blob to which the result refers isn't held, or is a Tree that doesn't decode")]
     Incomplete(Digest),
     /// No memory was left.

@@ -88,7 +88,7 @@ fn referred_to<A: Allocator + Copy>(
     Ok(out)
 }
 
-/// The result that the bytes are read as. Refusal 71 where they are none.
+/// The result that the bytes are read as. `BadResult` where they are none.
 pub(crate) fn read_result<A: Allocator + Copy>(
     alloc: A,
     bytes: &[u8],

@@ -10,7 +10,7 @@ use Rattle.wire.specs.Steps.{◌>>=◌}
 use Rattle.messages.specs.declared.error.MessageError.{MessageError}
 use Rattle.messages.specs.declared.error.MessageError.TheVariants.{Unsorted}
 
--- each element comes before all that stand behind it
+-- each element comes before all that stand after it
 abbrev pub IsAscendingBy : {X : Type 0} → (X → X → Ordering) → List X → Type 0
 IsAscendingBy cmp [] = Unit {0}
 IsAscendingBy cmp (x ∷ xs) = AllByRecursion (λ y. cmp x y ≡ Less) xs × IsAscendingBy cmp xs
@@ -26,7 +26,7 @@ pair_ascends Less = Ok tt
 pair_ascends Equal = Err Unsorted
 pair_ascends Greater = Err Unsorted
 
--- the first pair of neighbours that doesn't ascend, behind an element
+-- the first pair of neighbours that doesn't ascend, after an element
 abbrev pub is_ascending_past : {X : Type 0} → (X → X → Ordering) → Option X → List X
     → Result (Unit {0}) MessageError
 is_ascending_past cmp before [] = Ok tt

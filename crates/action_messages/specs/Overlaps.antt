@@ -14,7 +14,7 @@ ArePathsApart (path ∷ paths) =
 
 -- ---- the test, by the texts of the paths
 
--- the text goes on with a slash behind the other
+-- the text begins with the other, and goes on with a slash
 abbrev pub is_under : List ℕ → List ℕ → Bool
 is_under text [] = begins_with_slash text
 is_under [] (b ∷ above) = false
@@ -36,8 +36,8 @@ some_cross texts others =
 abbrev pub texts_of : List (List (List ℕ)) → List (List ℕ)
 texts_of paths = map path_text paths
 
--- where a text stands in an ascending list, or where it would stand: behind those before it and
--- before those behind it
+-- where a text stands in an ascending list, or where it would stand: after those before it and
+-- before those after it
 abbrev pub IsPlace : List (List ℕ) → List ℕ → Result ℕ ℕ → Type 0
 IsPlace texts text (Ok place) = slice_get texts place ≡ Some text
 IsPlace texts text (Err place) =

@@ -44,7 +44,7 @@ begun_at all out err r =
     else (if r.number == 12 then element_checked any_output_symlink r.value
     else Ok tt))))
 
--- the message that begins at a record behind others
+-- the message that begins at a record after others
 abbrev pub begun : List Record → List Record → Record → Result (Unit {0}) MessageError
 begun all before r = begun_at all (has_number 6 before) (has_number 8 before) r
 

@@ -172,8 +172,9 @@ impl<A: Allocator + Copy> Message<A> for Action<A> {
 
 impl<A: Allocator + Copy> Action<A> {
     /// The action whose canonical encoding the bytes are. The first refusal is that of the first
-    /// of: the fields (31, 36), the digests and the platform in the order of the bytes (31, 36,
-    /// 39, 33), and the missing digests by number (37).
+    /// of: the fields (`Wire`, `Unsupported`), the digests and the platform in the order of the
+    /// bytes (`Wire`, `Unsupported`, `BadDigest`, `Unsorted`), and the missing digests by number
+    /// (`MissingField`).
     pub fn decode(alloc: A, bytes: &[u8]) -> Result<Action<A>, MessageError>
         ensures found { IfOk result (λ a. IsAction a × (bytes.now ≡ action_bytes a)) }
         ensures only { (a : ActionValue)

@@ -151,8 +151,8 @@ impl<A: Allocator> ActionResult<A> {
         Ok(made)
     }
 
-    /// The result of these fields. Refusals: 33 by the order of each list in turn, then 34 where
-    /// two outputs overlap.
+    /// The result of these fields. Refusals: `Unsorted` by the order of each list in turn, then
+    /// `SameName` where two outputs overlap.
     pub fn new(
         files: Vec<OutputFile<A>, A>,
         directories: Vec<OutputDirectory<A>, A>,
@@ -265,7 +265,8 @@ impl<A: Allocator + Copy> Encode<A> for ActionResult<A> {
     }
 }
 
-/// The result of what bytes say, its outputs put in the order of their paths. 34 where two overlap.
+/// The result of what bytes say, its outputs put in the order of their paths. `SameName` where two
+/// overlap.
 fn ordered<A: Allocator>(read: Unordered<A>) -> Result<ActionResult<A>, MessageError>
     ensures found { IfOk result (λ r. IsActionResult r × IsOrderingOf read r) }
     ensures refused { IfErr result (λ e. (e ≡ SameName)
@@ -290,8 +291,9 @@ fn ordered<A: Allocator>(read: Unordered<A>) -> Result<ActionResult<A>, MessageE
 
 impl<A: Allocator + Copy> ActionResult<A> {
     /// The result that the bytes are read as by protobuf's tolerant rules. Else the refusal is that
-    /// of the first field that is refused (31, 36), or of the first field at which an output or a
-    /// digest begins that is refused (31, 36, 39, 37, 35), or 34 where two outputs overlap.
+    /// of the first field that is refused (`Wire`, `Unsupported`), or of the first field at which
+    /// an output or a digest begins that is refused (`Wire`, `Unsupported`, `BadDigest`,
+    /// `MissingField`, `BadPath`), or `SameName` where two outputs overlap.
     pub fn decode(alloc: A, bytes: &[u8]) -> Result<ActionResult<A>, MessageError>
         ensures found { IfOk result (λ r. Reads r bytes.now) }
         ensures only { (r : ActionResultValue) → Reads r bytes.now

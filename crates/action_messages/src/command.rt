@@ -235,9 +235,10 @@ impl<A: Allocator> Command<A> {
     }
 
     /// The command of these fields; without a working directory it runs in the input root. The
-    /// first refusal is that of the first of: a missing argument (37), the texts of the arguments
-    /// and of the environment (40), the order of the environment (33, 34) and of the output paths
-    /// (33), and an output path under another (34).
+    /// first refusal is that of the first of: a missing argument (`MissingField`), the texts of the
+    /// arguments and of the environment (`BadText`), the order of the environment (`Unsorted`,
+    /// `SameName`) and of the output paths (`Unsorted`), and an output path under another
+    /// (`SameName`).
     pub fn new(
         arguments: Vec<String<A>, A>,
         environment: Vec<EnvironmentVariable<A>, A>,
@@ -356,9 +357,10 @@ impl<A: Allocator + Copy> Command<A> {
     }
 
     /// The command whose canonical encoding the bytes are. The first refusal is that of the first
-    /// of: the fields (31, 36), the variables in the order of the bytes (31, 36), a missing
-    /// argument (37), texts and paths by field and place (40, 35), the order of each list (33,
-    /// 34), and an output path under another (34).
+    /// of: the fields (`Wire`, `Unsupported`), the variables in the order of the bytes (`Wire`,
+    /// `Unsupported`), a missing argument (`MissingField`), texts and paths by field and place
+    /// (`BadText`, `BadPath`), the order of each list (`Unsorted`, `SameName`), and an output path
+    /// under another (`SameName`).
     pub fn decode(alloc: A, bytes: &[u8]) -> Result<Command<A>, MessageError>
         ensures found { IfOk result (λ c. IsCommand c × (bytes.now ≡ command_bytes c)) }
         ensures only { (c : CommandValue)

@@ -127,7 +127,7 @@ impl<A: Allocator + Copy> Frame<A> {
         })
     }
 
-    /// Writes the fields behind the digests: 7, 9 and 10.
+    /// Writes the fields after the digests: 7, 9 and 10.
     pub(crate) fn write_settings(&self, alloc: A, out: &mut Vec<u8, A>) -> Result<(), AllocError>
         ensures { OnOk result
             (out.new.items
@@ -176,9 +176,9 @@ impl<A: Allocator + Copy> Message<A> for Frame<A> {
 }
 
 impl<A: Allocator + Copy> Frame<A> {
-    /// The frame whose canonical encoding the bytes are. The first refusal is that of the first
-    /// of: the fields (31, 36), the digest and the platform (31, 36, 39, 33), and the missing
-    /// digest (37).
+    /// The frame whose canonical encoding the bytes are. The first refusal is that of the first of:
+    /// the fields (`Wire`, `Unsupported`), the digest and the platform (`Wire`, `Unsupported`,
+    /// `BadDigest`, `Unsorted`), and the missing digest (`MissingField`).
     pub fn decode(alloc: A, bytes: &[u8]) -> Result<Frame<A>, MessageError>
         ensures found { IfOk result (λ f. IsFrame f × (bytes.now ≡ frame_bytes f)) }
         ensures only { (f : FrameValue)

@@ -57,7 +57,7 @@ fn check_properties<A: Allocator>(properties: &[Setting<A>]) -> Result<(), Messa
 }
 
 impl<A: Allocator> Platform<A> {
-    /// The platform of these properties. Refusal 33 where they don't strictly ascend.
+    /// The platform of these properties. `Unsorted` where they don't strictly ascend.
     #[tactic(auto, unfolding(crate::specs::Platform::platform_of))]
     pub fn new(properties: Vec<Property<A>, A>) -> Result<Platform<A>, MessageError>
         ensures some { IsOk result ↔ IsAscendingBy setting_cmp properties.items }
@@ -156,8 +156,8 @@ pub(crate) fn write_platform<A: Allocator + Copy>(
 
 impl<A: Allocator + Copy> Platform<A> {
     /// The platform whose canonical encoding the bytes are. The first refusal is that of the first
-    /// of: the fields (31, 36), the properties in the order of the bytes (31, 36), and their order
-    /// (33).
+    /// of: the fields (`Wire`, `Unsupported`), the properties in the order of the bytes (`Wire`,
+    /// `Unsupported`), and their order (`Unsorted`).
     pub fn decode(alloc: A, bytes: &[u8]) -> Result<Platform<A>, MessageError>
         ensures found { IfOk result (λ p. IsPlatform p × (bytes.now ≡ platform_bytes p)) }
         ensures only { (p : PlatformValue)

@@ -54,7 +54,7 @@ LooksIn o path r =
 
 -- ---- what the private functions of a look-up speak of
 
--- where the path at or above another stands, and that the rest is what is behind as many names as
+-- where the path at or above another stands, and that the rest is what comes after as many names as
 -- it has
 abbrev pub IsOver : List (List (List ℕ)) → List (List ℕ) → Option Over → Type 0
 IsOver paths path None = AllByRecursion (λ above. ¬ StandsOver above path) paths

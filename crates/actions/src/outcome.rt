@@ -84,7 +84,7 @@ impl<A: Allocator> Outcome<A> {
 }
 
 /// Whether one of ascending paths lies under the path of this text: the first that could is that at
-/// the place of the text with a slash behind it.
+/// the place of the text with a slash after it.
 fn some_lies_under<A: Allocator, L: Listed>(
     alloc: A,
     items: &[L],
@@ -130,7 +130,7 @@ fn room_for<A: Allocator + Copy>(
 }
 
 impl<A: Allocator + Copy> Outcome<A> {
-    /// One more output, in its place by the path's text. Refusal 45 where the path equals, lies
+    /// One more output, in its place by the path's text. `Overlap` where the path equals, lies
     /// under or lies above one that is there. The place and the overlaps are found by binary
     /// searches, one for each name of the path; after a refusal nothing has changed.
     pub fn add(&mut self, alloc: A, path: Path<A>, output: Output<A>) -> Result<(), AddError<A>>

@@ -18,7 +18,8 @@ use tree::{BlobSource, Memo, TreeError};
 
 impl<A: Allocator + Copy> Output<A> {
     /// What an output of a result stands for: a directory is the Tree with its digest, the one
-    /// thing for which the source is asked. Refusals 42 to 44.
+    /// thing for which the source is asked. Refusals: `BlobMissing`, `BlobWrong` and
+    /// `BlobMalformed`.
     pub fn read<S: BlobSource<A>>(
         alloc: A,
         recorded: &RecordedOutput<'_, A>,
@@ -37,7 +38,7 @@ impl<A: Allocator + Copy> Output<A> {
     }
 
     /// What an output of a result stands for, as `read` answers it, over what was told before: a
-    /// Tree that is kept isn't asked for. Refusals 42 to 44.
+    /// Tree that is kept isn't asked for. The refusals are those of `read`.
     pub fn read_with<S: BlobSource<A>>(
         alloc: A,
         recorded: &RecordedOutput<'_, A>,
@@ -95,7 +96,8 @@ fn read_outputs<A: Allocator + Copy, S: BlobSource<A>>(
 }
 
 /// The outcome that a result stands for. Of the blobs only the Trees of its directories are
-/// fetched, in the order of the paths' texts; the first that isn't told ends it. Refusals 42 to 44.
+/// fetched, in the order of the paths' texts; the first that isn't told ends it. Refusals:
+/// `BlobMissing`, `BlobWrong` and `BlobMalformed`.
 pub fn recorded<A: Allocator + Copy, S: BlobSource<A>>(
     alloc: A,
     made: &ActionResult<A>,

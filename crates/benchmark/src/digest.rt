@@ -17,7 +17,7 @@ fn time_sha2(rt: &HostRuntime, blob: &[u8]) -> Result<(Duration, u8)> {
     Ok((start.elapsed(rt)?, hash[0]))
 }
 
-/// Prints how long it takes to hash so many MiB.
+/// Prints how long it takes to hash this many MiB.
 pub fn measure_digest(rt: &HostRuntime, mebibytes: usize) -> Result<()> {
     let len = mebibytes.saturating_mul(1 << 20);
     let blob: Vec<u8> = vec![in rt.alloc(); 0x61; len]?;

@@ -20,7 +20,7 @@ fn encoded_file(rt: &HostRuntime, number: u32) -> Result<Vec<u8>> {
     Ok(directory.encode(alloc)?)
 }
 
-/// The encoding of a directory of so many files: those of directories of one file each, in order.
+/// The encoding of a directory of this many files: those of directories of one file each, in order.
 fn encoded_files(rt: &HostRuntime, files: u32) -> Result<Vec<u8>> {
     let mut bytes = Vec::with_capacity(rt.alloc(), 90usize.saturating_mul(files as usize))?;
     for number in 0..files {
@@ -57,7 +57,7 @@ fn time_decode(rt: &HostRuntime, bytes: &[u8]) -> Result<(Duration, usize)> {
     Ok((start.elapsed(rt)?, directory.files().len()))
 }
 
-/// Prints how long it takes to hash and to decode a directory of so many files, and how much
+/// Prints how long it takes to hash and to decode a directory of this many files, and how much
 /// memory decoding takes.
 pub fn measure_directory(rt: &HostRuntime, files: u32) -> Result<()> {
     let bytes = encoded_files(rt, files)?;

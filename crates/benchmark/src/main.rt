@@ -1,7 +1,8 @@
 //! Measures the product by hand: `benchmark digest 64` hashes 64 MiB by `Digest::of` and by `sha2`
-//! alone, `benchmark directory 200000` hashes and decodes a directory of so many files, `benchmark
-//! result 10000` a result of so many outputs. Each is done five times in turn, and the least time
-//! is printed. `benchmark store 100000` puts and gets entries of 1 KiB in a full store of so many.
+//! alone, `benchmark directory 200000` hashes and decodes a directory of that many files,
+//! `benchmark result 10000` a result of that many outputs. Each is done five times in turn, and the
+//! least time is printed. `benchmark store 100000` puts and gets entries of 1 KiB in a full store
+//! of that many.
 #![tactic(auto)]
 
 mod digest;

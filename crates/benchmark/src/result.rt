@@ -22,7 +22,8 @@ fn encoded_output(rt: &HostRuntime, number: u32) -> Result<Vec<u8>> {
     Ok(result.encode(alloc)?)
 }
 
-/// A result of so many files, the last first or the first first: those of results of one file each.
+/// A result of this many files, the last first or the first first: those of results of one file
+/// each.
 fn encoded_outputs(rt: &HostRuntime, outputs: u32, backwards: bool) -> Result<Vec<u8>> {
     let mut bytes = Vec::with_capacity(rt.alloc(), 100usize.saturating_mul(outputs as usize))?;
     for number in 0..outputs {
@@ -63,8 +64,8 @@ fn measure_order(rt: &HostRuntime, outputs: u32, backwards: bool) -> Result<()> 
     ).context("printing")
 }
 
-/// Prints how long it takes to hash and to decode a result of so many files, in the order of their
-/// paths and backwards.
+/// Prints how long it takes to hash and to decode a result of this many files, in the order of
+/// their paths and backwards.
 pub fn measure_result(rt: &HostRuntime, outputs: u32) -> Result<()> {
     measure_order(rt, outputs, false)?;
     measure_order(rt, outputs, true)

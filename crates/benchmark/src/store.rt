@@ -24,7 +24,7 @@ fn pin(store: &mut Bounded<u64, Global>, key: u64) -> Result<()> {
     Ok(())
 }
 
-/// A full store of so many entries. The keys of the pinned ones, a tenth, begin at one of them.
+/// A full store of this many entries. The keys of the pinned ones, a tenth, begin at one of them.
 fn filled(rt: &HostRuntime, entries: u64, pinned_from: u64) -> Result<Bounded<u64, Global>> {
     let limit = entries.saturating_mul(LENGTH as u64).min(1 << 62);
     let mut store = Bounded::new(rt.alloc(), RandomState::new(rt)?, limit, 0)?;
@@ -77,7 +77,8 @@ fn each(time: Duration, calls: u64) -> u128 {
     time.as_nanos().checked_div(u128::from(calls)).unwrap_or(0)
 }
 
-/// Prints how long puts and gets of 1 KiB take in a full store of so many entries, a tenth pinned.
+/// Prints how long puts and gets of 1 KiB take in a full store of this many entries, a tenth
+/// pinned.
 pub fn measure_store(rt: &HostRuntime, entries: u64) -> Result<()> {
     ensure!(entries >= CALLS.saturating_mul(2), "too few entries");
     let newest = entries - entries / 10;

@@ -7,7 +7,7 @@ use crate::hasher::Hasher;
 use std::alloc::{AllocError, Allocator};
 use std::marker::Model;
 
-/// The most bytes that a blob has which is held whole.
+/// The most bytes that a blob held whole may have.
 pub const GREATEST_BLOB: usize = 16_777_216;
 
 /// A blob that comes in pieces. Each piece is hashed once, as it is pushed.

@@ -81,7 +81,7 @@ fn read_size(text: &[u8]) -> Option<u64>
     }
 }
 
-/// The hash at the front, and what follows the slash behind it.
+/// The hash at the front, and what follows the slash after it.
 fn split_hash(text: &[u8]) -> Option<([u8; 32], &[u8])>
     ensures some { IsSome result ↔ BeginsWithHash text.now }
     ensures found { IfSome result

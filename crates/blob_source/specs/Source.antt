@@ -53,7 +53,7 @@ pub record AsksResult (d : DigestValue) (old new : Telling) : Type 0 where
   pub puts : new.puts ≡ old.puts
   pub counts : CountsCall old new
 
--- any calls, one after another, and at most so many
+-- any calls, one after another, and at most this many
 pub record Asks (most : ℕ) (old new : Telling) : Type 0 where
   pub blobs : Grows old.blobs new.blobs
   pub results : Grows old.results new.results

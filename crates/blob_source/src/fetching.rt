@@ -26,13 +26,13 @@ pub enum Fetched<A: Allocator> {
 /// Why no message with a digest is answered.
 #[derive(Clone, Copy, Debug, PartialEq, Eq, Error)]
 pub enum MessageFetchError {
-    /// Refusal 42: the source has no blob with the digest.
+    /// The source has no blob with the digest.
     #[error("the source has no blob with the digest")]
     Missing(Digest),
-    /// Refusal 43: what the source has under the digest has another hash or length.
+    /// What the source has under the digest has another hash or length.
     #[error("what the source has under the digest has another hash or length")]
     Wrong(Digest),
-    /// Refusal 44: the blob with the digest is no message of the kind that was asked for.
+    /// The blob with the digest is no message of the kind that was asked for.
     #[error("the blob with the digest is no message of the kind")]
     Malformed(Digest),
     /// The source failed, and counted that.
@@ -82,7 +82,7 @@ pub fn fetch_blob<A: Allocator + Copy, S: BlobSource<A>>(
     }
 }
 
-/// Fetches the message with a digest. Refusals 42, 43 and 44.
+/// Fetches the message with a digest. Refusals: `Missing`, `Wrong` and `Malformed`.
 pub fn fetch_message<A: Allocator + Copy, S: BlobSource<A>, M: Message<A>>(
     alloc: A,
     source: &mut S,

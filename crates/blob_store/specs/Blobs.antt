@@ -22,11 +22,11 @@ of_size n (Some b) = if length b == n then Some b else None
 
 -- found answers the bytes that are stored under a hash
 module _ (found : List ℕ → Option (List ℕ)) where
-  -- the bytes under a hash: those that are stored. No bytes are always held
+  -- the bytes under a hash: those that are stored. The empty blob is always held
   abbrev pub held_under : List ℕ → Option (List ℕ)
   held_under h = if bytes_eq (sha256 []) h then Some [] else found h
 
-  -- the bytes that a digest names: stored under its hash, and as long as it says. No bytes are
+  -- the bytes that a digest names: stored under its hash, and as long as it says. The empty blob is
   -- always held
   abbrev pub blob_of : DigestValue → Option (List ℕ)
   blob_of d = if is_empty d then Some [] else of_size d.size (found d.hash)

@@ -10,12 +10,12 @@ use Rattle.blob_store.specs.declared.error.BlobError.{BlobError}
 use Rattle.blob_store.specs.declared.error.BlobError.TheVariants.{TooLarge, HashDiffers, Full}
 use Rattle.blob_store.specs.declared.error.BlobError.TheVariants.{Memory}
 
--- The store after a blob was used: it is first. No bytes stand nowhere, and move nothing.
+-- The store after a blob was used: it is first. The empty blob stands nowhere, and moves nothing.
 abbrev pub used : Kept (List ℕ) → List ℕ → Kept (List ℕ)
 used s h = if bytes_eq (sha256 []) h then s else touched bytes_eq s h
 
--- The store after a put of a blob under its hash, if there is room. No bytes are never stored; what
--- is stored stays and moves to the front.
+-- The store after a put of a blob under its hash, if there is room. The empty blob is never
+-- stored; what is stored stays and moves to the front.
 abbrev pub blob_put : Kept (List ℕ) → List ℕ → List ℕ → Option (Kept (List ℕ))
 blob_put s h [] = Some s
 blob_put s h (x ∷ xs) =

@@ -125,9 +125,9 @@ impl<A: Allocator + Copy> BlobStore<A> {
         self.blobs.held_bytes()
     }
 
-    /// Puts a blob under its hash. What is held already stays, and moves to the front; no bytes are
-    /// held without being stored. Refused is, in this order, a blob that is too large, that has
-    /// another hash, or that doesn't fit beside the pinned ones.
+    /// Puts a blob under its hash. What is held already stays, and moves to the front; the empty
+    /// blob is held without being stored. A blob is refused, in this order, where it is too large,
+    /// has another hash, or doesn't fit beside the pinned ones.
     pub fn put(&mut self, hash: [u8; 32], bytes: Vec<u8, A>) -> Result<(), BlobError>
         ensures ok { OnOk result (blob_put self.old hash bytes.items ≡ Some self.new) }
         ensures passed { OnOk result (refused_put self.old hash bytes.items ≡ None) }
@@ -191,7 +191,7 @@ impl<A: Allocator + Copy> BlobStore<A> {
         self.blobs.touch(hash)
     }
 
-    /// Whether the blob with the digest is held: under its hash, with its length. No bytes are
+    /// Whether the blob with the digest is held: under its hash, with its length. The empty blob is
     /// always held. Nothing moves.
     pub fn contains(&self, digest: &Digest) -> bool
         ensures { result ≡ is_held (found_in self.now.entries) digest.now }

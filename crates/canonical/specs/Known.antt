@@ -41,7 +41,7 @@ AreKnown entries skipped rs =
 abbrev pub AreRead : List Entry → List ℕ → List (List ℕ) → List Record → Type 0
 AreRead entries skipped texts rs = SpellsEach texts rs × AreKnown entries skipped rs
 
--- behind known records of the texts, the bytes of one of them go on with the rest
+-- after known records of the texts, the bytes of one of them go on with the rest
 pub record GoesOn (entries : List Entry) (skipped : List ℕ) (texts : List (List ℕ)) (rest : List ℕ)
     : Type 0 where
   pub firsts : List (List ℕ)

@@ -34,7 +34,7 @@ pub fn check_any<'a, A: Allocator>(
         → AreRead shape.now skipped.now (slices texts.now) rs
         → GivesUnlessMemory (λ v. records_of v.items) result (Ok rs) }
 
-    // Behind known records, the record that can't be read or breaks a rule decides.
+    // After known records, the record that can't be read or breaks a rule decides.
     ensures unread { (rest : List ℕ) (e : WireError) → AllByRecursion IsBytes (slices texts.now)
         → GoesOn shape.now skipped.now (slices texts.now) rest
         → 0 < length rest → any_record_at rest ≡ Err e

@@ -1,4 +1,4 @@
--- The block of a head: the bytes up to and with the first CR LF CR LF (RFC 9112, section 2.1).
+-- The block of a head: the bytes up to and including the first CR LF CR LF (RFC 9112, section 2.1).
 use Rattle.std.specs.Prelude.{◌≡◌, ◌≢◌, ℕ, List, [], ◌∷◌, ◌++◌}
 use Rattle.std.specs.List.{AllByRecursion}
 

@@ -11,6 +11,6 @@ is_close part = same_name (trim_ows part) (codes "close")
 abbrev pub lists_close : List ℕ → Bool
 lists_close value = list_any is_close (slice_split (λ b. b == 44) value)
 
--- the fields, names with values, ask to close the connection behind the answer
+-- the fields, names with values, ask to close the connection after the answer
 abbrev pub closes_of : List (List ℕ × List ℕ) → Bool
 closes_of fields = list_any (λ f. same_name f.0 (codes "connection") && lists_close f.1) fields

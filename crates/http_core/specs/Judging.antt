@@ -9,7 +9,7 @@ use Rattle.http_core.specs.declared.judging.Head.{Head}
 use Rattle.http_core.specs.Head.{head_parts, parts_at}
 use Rattle.http_core.specs.Rules.{JudgesParts}
 
--- how many LF follow a CR at once, where one may stand in front
+-- how many LF stand right after a CR, where one may stand in front
 abbrev pub pairs_behind : Bool → List ℕ → ℕ
 pairs_behind after [] = 0
 pairs_behind after (b ∷ bytes) = (if after && b == 10 then 1 else 0) + pairs_behind (b == 13) bytes

@@ -1,4 +1,4 @@
--- What stands before each target: segments of a path, each behind a slash (RFC 3986, sections 2.3
+-- What stands before each target: segments of a path, each after a slash (RFC 3986, sections 2.3
 -- and 3.3).
 use Rattle.std.specs.Prelude.{ℕ, ◌==◌, ◌&&◌, ◌||◌, nat_lt, nat_le, Bool, true, List, [], ◌∷◌}
 use Rattle.std.specs.Prelude.{length}

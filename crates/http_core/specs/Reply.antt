@@ -30,7 +30,7 @@ allow_line status = if status == 405 then codes "Allow: GET, PUT\r\n" else []
 abbrev pub connection_line : Bool → List ℕ
 connection_line close = if close then codes "Connection: close\r\n" else []
 
--- the head of an answer with so many bytes of body
+-- the head of an answer with this many bytes of body
 unfoldable pub head_text : ℕ → ℕ → Bool → List ℕ
 head_text status size close =
     codes "HTTP/1.1 " ++ decimal status ++ codes " " ++ reason status

@@ -42,7 +42,7 @@ IsWanting stages.Block body = ⊤
 IsWanting (stages.Body area hash size close) body = (length body < size) × (size ≤ greatest_blob)
 IsWanting stages.Closed body = ⊤
 
--- the state behind these bytes of a request that isn't whole
+-- the state after these bytes of a request that isn't whole
 abbrev pub Holds : List ℕ → SessionState → List ℕ → Type 0
 Holds prefix (Reading bytes) rest = (rest ≡ bytes) × HasNoBlock bytes × (length bytes < 16384)
 Holds prefix (Taking area hash size close body) rest =
@@ -60,12 +60,12 @@ unfoldable pub Stands : SessionValue → List ℕ → List EventValue → Type 0
 Stands s stream events =
     (left : Option (List ℕ)) × Cuts s.prefix stream events left × Leaves s.prefix s.state left
 
--- the state behind a request
+-- the state after a request
 abbrev pub ended : Bool → SessionState
 ended true = Closed
 ended false = Reading []
 
--- the state behind these bytes of a request, which make the event if there is one
+-- the state after these bytes of a request, which make the event if there is one
 abbrev pub Follows : List ℕ → List ℕ → Option EventValue → SessionState → Type 0
 Follows prefix bytes None state = Holds prefix state bytes
 Follows prefix bytes (Some event) state =
@@ -92,7 +92,7 @@ IsAllowed (judgements.Refuse status close) = ⊤
 IsAllowed (judgements.Get area hash close) = IsServed (Get area hash)
 IsAllowed (judgements.Put area hash size close) = size ≤ greatest_blob
 
--- the event that a block with this judgement makes at once, and the state behind it
+-- the event that a block with this judgement makes at once, and the state after it
 abbrev pub first_event : Judgement → Option EventValue
 first_event (judgements.Refuse status close) = Some (Refused status close)
 first_event (judgements.Get area hash close) = Some (Asked (Get area hash) close)

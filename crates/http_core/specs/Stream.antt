@@ -7,7 +7,7 @@ use Rattle.http_core.specs.Block.{HasNoBlock, IsBlock}
 use Rattle.http_core.specs.Event.{Get, Put, EventValue, Asked, Refused, closes}
 use Rattle.http_core.specs.Judging.{Judges}
 
--- how many bytes the body has behind a block with this judgement
+-- how many bytes the body has after a block with this judgement
 abbrev pub body_length : Judgement → ℕ
 body_length (judgements.Refuse status close) = 0
 body_length (judgements.Get area hash close) = 0
@@ -48,7 +48,7 @@ IsPartial prefix bytes =
     → bytes ≡ front ++ rest → Completes prefix front event → ⊥
 
 -- The stream is cut into these events, and what is left is the beginning of a request, or nothing
--- behind an event that closes: bytes behind it don't count.
+-- after an event that closes: bytes after it don't count.
 unfoldable pub Cuts : List ℕ → List ℕ → List EventValue → Option (List ℕ) → Type 0
 Cuts prefix stream [] left = IsPartial prefix stream × (left ≡ Some stream)
 Cuts prefix stream (event ∷ events) left =

@@ -1,7 +1,7 @@
 ghost use Rattle.std.specs.Prelude.{◌≡◌, ◌≤◌, ◌<◌, ◌⊎◌, ◌↔◌, length, take, IsTrue};
 ghost use Rattle.http_core.specs.Block.{EndsBlock, IsHeadLine};
 
-/// The bytes up to the first line feed and with it: at most so many, but at least one.
+/// The bytes up to and including the first line feed: at most `most` of them, but at least one.
 pub(crate) fn first_line(bytes: &[u8], most: usize) -> &[u8]
     requires { 0 < length bytes.now }
     ensures line { IsHeadLine result.now }
@@ -17,7 +17,7 @@ pub(crate) fn first_line(bytes: &[u8], most: usize) -> &[u8]
     line
 }
 
-/// Whether the bytes end in an empty line behind a line.
+/// Whether the bytes end in a line and then an empty line.
 pub(crate) fn ends_block(bytes: &[u8]) -> bool
     ensures { IsTrue result ↔ EndsBlock bytes.now }
 {

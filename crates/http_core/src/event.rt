@@ -18,7 +18,7 @@ pub enum Ask<A: Allocator> {
     Put(Area, [u8; 32], Sealed<A>),
 }
 
-/// A whole request, or the status that refuses it; and whether the session closes behind its
+/// A whole request, or the status that refuses it; and whether the session closes after its
 /// answer.
 #[derive(Drop)]
 pub enum Event<A: Allocator> {

@@ -24,7 +24,7 @@ impl Model for HeadText {
 }
 
 impl HeadText {
-    /// The head of an answer with so many bytes of body, behind which the session closes or stays
+    /// The head of an answer with this many bytes of body, after which the session closes or stays
     /// open.
     pub fn new(status: u16, length: usize, close: bool) -> HeadText
         ensures { result ≡ head_text status length close }

@@ -8,7 +8,7 @@ use std::marker::Model;
 /// The most bytes that a prefix has.
 const MAX_PREFIX: usize = 256;
 
-/// What stands before the area in each target: nothing, or segments, each behind a slash.
+/// What stands before the area in each target: nothing, or segments, each after a slash.
 #[derive(Drop)]
 pub struct Prefix<A: Allocator> {
     text: Vec<u8, A>,
@@ -50,7 +50,7 @@ fn all_are_segments(text: &[u8]) -> bool
     text.split(|b| *b == b'/').all(is_segment)
 }
 
-/// Whether it is a list of segments, each behind a slash.
+/// Whether it is a list of segments, each after a slash.
 fn are_segments(text: &[u8]) -> bool
     ensures { result ≡ are_segments text.now }
 {

@@ -20,7 +20,7 @@ impl<A: Allocator> Model for Reply<A> {
     ghost view = { λ r. record { status = r.status; body = r.body.items } };
 }
 
-/// The text of an answer, behind which the session closes or stays open.
+/// The text of an answer, after which the session closes or stays open.
 #[tactic(auto, unfolding(crate::specs::Reply::reply_text))]
 pub fn write_reply<A: Allocator + Copy>(
     alloc: A,
@@ -35,7 +35,7 @@ pub fn write_reply<A: Allocator + Copy>(
     Ok(text)
 }
 
-/// Adds the head of an answer whose body has so many bytes. An `Err` adds nothing.
+/// Adds the head of an answer whose body has this many bytes. An `Err` adds nothing.
 pub fn append_head<A: Allocator>(
     out: &mut Vec<u8, A>,
     status: u16,

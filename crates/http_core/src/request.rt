@@ -8,7 +8,7 @@ use crate::rules::text_of;
 use std::alloc::{AllocError, Allocator};
 
 /// The text of a request for the hash in the area: a PUT of the body, or a GET where there is none.
-/// The host isn't judged here (`Host::read` is).
+/// The host isn't judged here; `Host::read` does that.
 #[tactic(auto, unfolding(crate::specs::Request::request_text))]
 pub fn write_request<A: Allocator + Copy>(
     alloc: A,

@@ -213,7 +213,7 @@ fn named(prefix: &[u8], put: bool, target: &[u8]) -> Option<(Area, [u8; 32])>
     Some((Area::Unpin, hash))
 }
 
-/// Judges the target of a request whose body has so many bytes.
+/// Judges the target of a request whose body has this many bytes.
 fn judge_target(prefix: &[u8], put: bool, target: &[u8], size: usize, close: bool) -> Judgement
     ensures { Targets prefix.now put close target.now size result }
 {

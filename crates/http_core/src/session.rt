@@ -156,7 +156,7 @@ impl<A: Allocator + Copy> Session<A> {
         Ok((line.len(), Some(Event::Refuse(431, true))))
     }
 
-    /// Goes on behind a block.
+    /// Goes on after a block.
     fn follow(&mut self, alloc: A, judgement: Judgement) -> Option<Event<A>>
         requires { IsAllowed judgement }
         ensures event { option_event result ≡ first_event judgement }

@@ -73,7 +73,7 @@ fn put<A: Allocator + Copy>(
     store.put(Digest::of(name).hash(), Vec::from_slice(alloc, bytes)?)
 }
 
-/// Puts so many zeros under their hash.
+/// Puts this many zeros under their hash.
 fn put_zeros<A: Allocator + Copy>(
     store: &mut BlobStore<A>,
     alloc: A,

@@ -56,7 +56,7 @@ fn bytes<A: Allocator + Copy>(alloc: A, count: u64) -> Result<Vec<u8, A>, AllocE
     Ok(bytes)
 }
 
-/// Puts an entry of so many bytes; or so many entries of one byte, numbered from the first.
+/// Puts an entry of this many bytes; or this many entries of one byte, numbered from the first.
 fn put<A: Allocator + Copy>(
     alloc: A,
     store: &mut Bounded<u64, A>,

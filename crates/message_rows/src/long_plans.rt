@@ -6,7 +6,7 @@ use std::alloc::{AllocError, Global};
 /// The digest of no bytes.
 const FRAME: &str = "e3b0c44298fc1c149afbf4c8996fb92427ae41e4649b934ca495991b7852b855/0";
 
-/// A plan without steps that begins with so many lines.
+/// A plan without steps that begins with this many lines.
 fn plan_of_lines(global: Global, count: u64) -> Result<String, AllocError> {
     let mut text = String::from_str(global, "buildplan 1\nroot\n")?;
     for number in 0..count {
@@ -15,7 +15,7 @@ fn plan_of_lines(global: Global, count: u64) -> Result<String, AllocError> {
     Ok(text)
 }
 
-/// A plan that begins with so many steps.
+/// A plan that begins with this many steps.
 fn plan_of_steps(global: Global, count: u64) -> Result<String, AllocError> {
     let mut text = String::from_str(global, "buildplan 1\n")?;
     for number in 0..count {

@@ -104,7 +104,7 @@ fn added<A: Allocator + Copy>(
     }
 }
 
-/// The paths of the outputs, each with a comma behind it.
+/// The paths of the outputs, each with a comma after it.
 fn outputs<A: Allocator>(global: Global, outcome: &Outcome<A>) -> Answer {
     let mut paths = Vec::new(global);
     for output in outcome.outputs() {

@@ -231,7 +231,7 @@ fn child<A: Allocator + Copy>(global: Global, alloc: A, name: &[u8]) -> Answer {
     }
 }
 
-/// The paths of a result's outputs of all kinds, each with a comma behind it.
+/// The paths of a result's outputs of all kinds, each with a comma after it.
 fn ordered<A: Allocator + Copy>(global: Global, alloc: A, bytes: &[u8]) -> Answer {
     let result = ActionResult::decode(alloc, bytes)?;
     let mut paths = Vec::new(global);

@@ -83,7 +83,7 @@ fn pair(global: Global, first: &[u8], second: &[u8]) -> Answer {
     Ok(format!(in global; "{place} {order}")?.into_bytes())
 }
 
-/// The path of so many names `a`.
+/// The path of this many names `a`.
 fn path_of<A: Allocator + Copy>(alloc: A, names: u64) -> Result<Path<A>, MessageError> {
     let name = Name::new(alloc, b"a")?;
     let mut path = Path::of_name(alloc, &name)?;
@@ -93,7 +93,7 @@ fn path_of<A: Allocator + Copy>(alloc: A, names: u64) -> Result<Path<A>, Message
     Path::copy_of(alloc, &path).map_err(MessageError::from)
 }
 
-/// How many bytes and names the path of so many names has.
+/// How many bytes and names the path of this many names has.
 fn deep<A: Allocator + Copy>(global: Global, alloc: A, names: u64) -> Answer {
     let path = path_of(alloc, names)?;
     let bytes = path.as_bytes().len();

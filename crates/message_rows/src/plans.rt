@@ -109,7 +109,7 @@ fn record<A: Allocator + Copy>(global: Global, alloc: A, plan: &[u8], text: &[u8
     )
 }
 
-/// The digests of the record, each with a comma behind it.
+/// The digests of the record, each with a comma after it.
 fn digests<A: Allocator + Copy>(global: Global, alloc: A, plan: &[u8], text: &[u8]) -> Answer {
     let plan = Plan::read(alloc, plan)?;
     let record = Record::read(alloc, text, &plan)?;

@@ -161,7 +161,7 @@ fn nothing<A: Allocator + Copy>(global: Global, alloc: A, bytes: &[u8]) -> Answe
     said(global, "nothing")
 }
 
-/// Whether a message of so many elements is read.
+/// Whether a message of this many elements is read.
 fn elements<A: Allocator + Copy>(global: Global, alloc: A, count: u64) -> Answer {
     let mut bytes = Vec::new(alloc);
     for _ in 0..count {

@@ -71,8 +71,8 @@ pub fn hold_as<A: Allocator + Copy>(
     said(global, "held")
 }
 
-/// Holds the Directory of these bytes below so many of one directory of this name, of one letter, and
-/// tells the digest of the highest.
+/// Holds the Directory of these bytes below this many of one directory of this name, of one letter,
+/// and tells the digest of the highest.
 fn nested<A: Allocator + Copy>(
     global: Global,
     alloc: A,
@@ -145,7 +145,7 @@ fn unfolded<A: Allocator + Copy>(
     Ok(format!(in global; "{entries} entries {directories} directories")?.into_bytes())
 }
 
-/// The digests of the Directories, in the order of their first visits, each with a comma behind it.
+/// The digests of the Directories, in the order of their first visits, each with a comma after it.
 pub fn directories_told<A: Allocator>(global: Global, folded: &Folded<A>) -> Answer {
     let mut told = Vec::new(global);
     for (number, directory) in folded.directories.iter().enumerate() {

@@ -10,11 +10,11 @@ use Rattle.wire.specs.Steps.{◌>>=◌}
 use Rattle.messages.specs.declared.error.MessageError.{MessageError}
 use Rattle.messages.specs.declared.error.MessageError.TheVariants.{Unsorted, SameName}
 
--- bytes by bytes, a beginning before what goes on behind it
+-- bytes by bytes, a beginning before what goes on from it
 abbrev pub bytes_cmp : List ℕ → List ℕ → Ordering
 bytes_cmp = slice_cmp nat_cmp
 
--- each name comes before all that stand behind it
+-- each name comes before all that stand after it
 abbrev pub IsAscending : List (List ℕ) → Type 0
 IsAscending [] = Unit {0}
 IsAscending (name ∷ names) =
@@ -32,7 +32,7 @@ pair_ordered Less = Ok tt
 pair_ordered Equal = Err SameName
 pair_ordered Greater = Err Unsorted
 
--- the first pair of neighbours that doesn't ascend, behind a name
+-- the first pair of neighbours that doesn't ascend, after a name
 abbrev pub ordered_behind : Option (List ℕ) → List (List ℕ) → Result (Unit {0}) MessageError
 ordered_behind before [] = Ok tt
 ordered_behind None (name ∷ names) = ordered_behind (Some name) names

@@ -79,7 +79,8 @@ impl<A: Allocator + Copy> Tolerant<A> for Digest {
     }
 }
 
-/// The digest whose canonical encoding the bytes are. Refusals: 31, 36, then 39.
+/// The digest whose canonical encoding the bytes are. Refusals: `Wire` and `Unsupported`, then
+/// `BadDigest`.
 pub fn decode_digest<A: Allocator + Copy>(alloc: A, bytes: &[u8]) -> Result<Digest, MessageError>
     ensures found { IfOk result (λ digest. IsDigest digest × (bytes.now ≡ digest_bytes digest)) }
     ensures only { (digest : DigestValue) → IsDigest digest → bytes.now ≡ digest_bytes digest

@@ -77,8 +77,8 @@ fn check_names<A: Allocator>(
 }
 
 impl<A: Allocator> Directory<A> {
-    /// The directory of these three lists. Refusals: 33 and 34 by the order of each list in turn,
-    /// then 34 where two children of two kinds have one name.
+    /// The directory of these three lists. Refusals: `Unsorted` and `SameName` by the order of each
+    /// list in turn, then `SameName` where two children of two kinds have one name.
     #[tactic(auto, unfolding(crate::specs::DirectoryRules::directory_checked))]
     pub fn new(
         files: Vec<FileNode<A>, A>,
@@ -160,9 +160,10 @@ impl<A: Allocator + Copy> Message<A> for Directory<A> {
 }
 
 impl<A: Allocator + Copy> Directory<A> {
-    /// The directory whose canonical encoding the bytes are. The first refusal is that of the
-    /// first of: the fields (31, 36), the nodes in the order of the bytes (31, 36, 39, 37, 32,
-    /// 35), the order of each list (33, 34), and children of two kinds with one name (34).
+    /// The directory whose canonical encoding the bytes are. The first refusal is that of the first
+    /// of: the fields (`Wire`, `Unsupported`), the nodes in the order of the bytes (`Wire`,
+    /// `Unsupported`, `BadDigest`, `MissingField`, `BadName`, `BadPath`), the order of each list
+    /// (`Unsorted`, `SameName`), and children of two kinds with one name (`SameName`).
     pub fn decode(alloc: A, bytes: &[u8]) -> Result<Directory<A>, MessageError>
         ensures found { IfOk result (λ d. IsDirectory d × (bytes.now ≡ directory_bytes d)) }
         ensures only { (d : DirectoryValue) → IsDirectory d → bytes.now ≡ directory_bytes d
@@ -173,7 +174,7 @@ impl<A: Allocator + Copy> Directory<A> {
         decode(alloc, bytes)
     }
 
-    /// The child of this name. Each list is searched by halves.
+    /// The child of this name. Each list is searched by binary search.
     pub fn child(&self, alloc: A, name: &[u8]) -> Result<Option<Node<A>>, AllocError>
         // What is answered stands under the name, and nothing else does.
         ensures found { IfOk result (λ node. IsChild name.now self.now node) }

@@ -10,34 +10,34 @@ use thiserror::Error;
 /// Why bytes or values are no message.
 #[derive(Clone, Copy, Debug, PartialEq, Eq, Error)]
 pub enum MessageError {
-    /// Refusal 31: the bytes are no canonical encoding of the message's fields.
+    /// The bytes are no canonical encoding of the message's fields.
     #[error("{0}")]
     Wire(CanonError),
-    /// Refusal 32: a name is absent or unlawful.
+    /// A name is absent or unlawful.
     #[error("a name has 1 to 255 bytes of UTF-8 without / and NUL, and is neither . nor ..")]
     BadName,
-    /// Refusal 33: a list is out of order.
+    /// A list is out of order.
     #[error("a list is out of order")]
     Unsorted,
-    /// Refusal 34: two names are one, or a path equals or lies under another.
+    /// Two names are one, or a path equals or lies under another.
     #[error("a name or path comes twice, or lies under another")]
     SameName,
-    /// Refusal 35: a path or a target is absent or unlawful.
+    /// A path or a target is absent or unlawful.
     #[error("a path has 1 to 64 names joined by /, a target 1 to 4096 bytes without NUL")]
     BadPath,
-    /// Refusal 36: the message has no field of this number that is supported.
+    /// The message has no field of this number that is supported.
     #[error("field {0} is not supported")]
     Unsupported(u32),
-    /// Refusal 37: the field of this number has to be there.
+    /// The field of this number has to be there.
     #[error("field {0} is missing")]
     MissingField(u32),
-    /// Refusal 38: the children of a tree are not those that its directories name.
+    /// The children of a tree are not those that its directories name.
     #[error("the children of a tree are not those that its directories name")]
     BadTree,
-    /// Refusal 39: a digest's hash or size is unlawful.
+    /// A digest's hash or size is unlawful.
     #[error("{0}")]
     BadDigest(DigestError),
-    /// Refusal 40: a text of the field of this number is unlawful.
+    /// A text of the field of this number is unlawful.
     #[error("a text of field {0} is unlawful")]
     BadText(u32),
     /// No memory was left.

@@ -81,7 +81,7 @@ pub fn read_optional<A: Allocator + Copy, M: Message<A>>(
     }
 }
 
-/// Writes the messages as the elements of a field, in order, behind what stands in the buffer.
+/// Writes the messages as the elements of a field, in order, after what stands in the buffer.
 /// Where memory runs out, the buffer is as it was.
 pub fn write_each<A: Allocator + Copy, M: Encode<A>>(
     alloc: A,

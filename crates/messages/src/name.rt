@@ -123,7 +123,7 @@ fn read_name<A: Allocator>(alloc: A, text: &[u8]) -> Result<Name<A>, MessageErro
 }
 
 impl<A: Allocator> Name<A> {
-    /// The name of these bytes. Refusal 32 where they are none.
+    /// The name of these bytes. `BadName` where they are none.
     pub fn new(alloc: A, text: &[u8]) -> Result<Name<A>, MessageError>
         ensures found { IfOk result (λ name. IsName name × (text.now ≡ name)) }
         ensures only { IsName text.now → GivesUnlessMemory (λ n. n) result (Ok text.now) }

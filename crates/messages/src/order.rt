@@ -21,7 +21,7 @@ pub trait Named {
         ensures kept { keeps self.now };
 }
 
-/// Whether the names strictly ascend; else the first pair of neighbours that doesn't decides.
+/// Whether the names strictly ascend. If not, the first pair of neighbours that doesn't decides.
 pub fn check_order<N: Named>(nodes: &[N]) -> Result<(), MessageError>
     ensures exact { Gives (λ x. x) result (ordered_behind None (map N.name_in nodes.now)) }
     ensures kept { OnOk result (AllByRecursion N.keeps nodes.now) }
@@ -59,8 +59,8 @@ pub fn share_a_name<N: Named, M: Named>(nodes: &[N], others: &[M]) -> bool
     false
 }
 
-/// The element of this name, of a list in the order of names: at each step half of what is left is
-/// put aside.
+/// The element of this name, of a list in the order of names: each step drops half of what is
+/// left.
 pub fn find_named<'a, N: Named>(nodes: &'a [N], name: &[u8]) -> Option<&'a N>
     requires { IsAscending (map N.name_in nodes.now) }
     ensures { option_copied result ≡ find (λ n. is_same (N.name_in n) name.now) nodes.now }

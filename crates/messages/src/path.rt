@@ -69,7 +69,7 @@ fn read_path<A: Allocator>(alloc: A, text: &[u8]) -> Result<Path<A>, MessageErro
 }
 
 impl<A: Allocator> Path<A> {
-    /// The path of this text. Refusal 35 where it is none.
+    /// The path of this text. `BadPath` where it is none.
     pub fn new(alloc: A, text: &[u8]) -> Result<Path<A>, MessageError>
         ensures found { IfOk result (λ path. IsPath path × (text.now ≡ path_text path)) }
         ensures only { (path : List (List ℕ)) → IsPath path → text.now ≡ path_text path
@@ -98,7 +98,7 @@ impl<A: Allocator> Path<A> {
         })
     }
 
-    /// The path of one more name below this one. Refusal 35 where this one has 64 names.
+    /// The path of one more name below this one. `BadPath` where this one has 64 names.
     pub fn below<B: Allocator, C: Allocator>(
         alloc: A,
         parent: &Path<B>,

@@ -75,7 +75,7 @@ fn read_target<A: Allocator>(alloc: A, text: &[u8]) -> Result<Target<A>, Message
 }
 
 impl<A: Allocator> Target<A> {
-    /// The target of these bytes. Refusal 35 where they are none.
+    /// The target of these bytes. `BadPath` where they are none.
     pub fn new(alloc: A, text: &[u8]) -> Result<Target<A>, MessageError>
         ensures found { IfOk result (λ target. IsTarget target × (text.now ≡ target)) }
         ensures only { IsTarget text.now → GivesUnlessMemory (λ n. n) result (Ok text.now) }

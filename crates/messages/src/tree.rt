@@ -217,7 +217,7 @@ fn checked_tree<A: Allocator + Copy>(
 }
 
 impl<A: Allocator + Copy> Tree<A> {
-    /// The tree of this root and these children. Refusal 38 where the children are not those that
+    /// The tree of this root and these children. `BadTree` where the children are not those that
     /// are named. Each child is hashed once.
     pub fn new(
         alloc: A,
@@ -311,8 +311,8 @@ impl<A: Allocator + Copy> Message<A> for Tree<A> {
 
 impl<A: Allocator + Copy> Tree<A> {
     /// The tree whose canonical encoding the bytes are. The first refusal is that of the first of:
-    /// the fields (31, 36), the directories in the order of the bytes, the missing root (37), and
-    /// the rule of children (38).
+    /// the fields (`Wire`, `Unsupported`), the directories in the order of the bytes, the missing
+    /// root (`MissingField`), and the rule of children (`BadTree`).
     pub fn decode(alloc: A, bytes: &[u8]) -> Result<Tree<A>, MessageError>
         ensures found { IfOk result (λ t. IsTree t × (bytes.now ≡ tree_bytes t)) }
         ensures only { (t : TreeValue) → IsTree t → bytes.now ≡ tree_bytes t

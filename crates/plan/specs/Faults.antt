@@ -13,7 +13,7 @@ use Rattle.plan.specs.Values.{LineValue, StepValue}
 
 -- ---- beginnings
 
--- What may stand in front of a line: the header; or it, whole steps, and a step with its lines so
+-- What may stand before a line: the header; or it, whole steps, and a step with its lines so
 -- far; or it, all steps, and the lines of the root so far.
 pub data Beginning : Type 0 where
   at_start : Beginning
@@ -38,7 +38,7 @@ abbrev pub line_count : List StepValue → ℕ
 line_count [] = 0
 line_count (step ∷ steps) = 1 + length step.lines + line_count steps
 
--- the number of the line behind a beginning; the header is line 1
+-- the number of the line after a beginning; the header is line 1
 abbrev pub next_number : Beginning → ℕ
 next_number at_start = 2
 next_number (in_step earlier step) = 3 + line_count earlier + length step.lines
@@ -50,8 +50,8 @@ next_number (in_root steps lines) = 3 + line_count steps + length lines
 abbrev pub BeginsWithLine : WrittenLine → List ℕ → Type 0
 BeginsWithLine line text = IsWrittenLine line × Begins (line_text (written_words line)) text
 
--- where a line may stand: an `in` line in a step or the root, a `step` or `root` line in front of
--- the root
+-- where a line may stand: an `in` line in a step or the root, a `step` or `root` line before the
+-- root
 abbrev pub MayStand : Beginning → WrittenLine → Type 0
 MayStand at_start (step_line name frame) = Unit {0}
 MayStand at_start root_line = Unit {0}
@@ -71,16 +71,16 @@ abbrev pub IsLater : List StepValue → WrittenOrigin → Type 0
 IsLater steps (from_source path) = ⊥
 IsLater steps (from_step name path) = ¬ HasStep steps name
 
--- The faults of a step of this name behind these steps: one of them has its name, or else they are
+-- The faults of a step of this name after these steps: one of them has its name, or else they are
 -- as many as may be.
 abbrev pub IsStepFault : List StepValue → List ℕ → Fault → Type 0
 IsStepFault steps name faults.SameStep = HasStep steps name
 IsStepFault steps name faults.TooMany = (¬ HasStep steps name) × (length steps ≡ 4096)
 IsStepFault steps name _ = ⊥
 
--- The faults of a line behind these lines of a directory, in front of which these steps stand: it
--- reads a later step; or else the lines are as many as may be; or else its target overlaps that of
--- one of them.
+-- The faults of a line after these lines of a directory, before which these steps stand: it reads a
+-- later step; or else the lines are as many as may be; or else its target overlaps that of one of
+-- them.
 abbrev pub IsInFault : List StepValue → List LineValue → List (List ℕ) → WrittenOrigin → Fault
     → Type 0
 IsInFault earlier lines target origin faults.LaterStep = IsLater earlier origin
@@ -91,7 +91,7 @@ IsInFault earlier lines target origin faults.Overlap =
     × OverlapsAny target (map (λ other. other.target) lines)
 IsInFault earlier lines target origin _ = ⊥
 
--- the faults of a line that may stand behind the beginning
+-- the faults of a line that may stand after the beginning
 abbrev pub IsLineFault : Beginning → WrittenLine → Fault → Type 0
 IsLineFault at_start line fault = ⊥
 IsLineFault (in_step earlier step) (step_line name frame) fault =
@@ -110,13 +110,13 @@ MayEnd at_start = ⊥
 MayEnd (in_step earlier step) = ⊥
 MayEnd (in_root steps lines) = Unit {0}
 
--- the text is not that of no more lines, and begins with no line that may stand here
+-- The text begins with no line that may stand here, and where a plan may end here it isn't empty.
 abbrev pub NoLineStands : Beginning → List ℕ → Type 0
 NoLineStands start rest =
     (MayEnd start → rest ≢ [])
     × ((line : WrittenLine) → MayStand start line → ¬ BeginsWithLine line rest)
 
--- what is wrong with the text behind a beginning
+-- what is wrong with the text after a beginning
 abbrev pub IsNextFault : Beginning → List ℕ → Fault → Type 0
 IsNextFault start rest fault =
     ((fault ≡ faults.BadLine) × NoLineStands start rest)

@@ -1,4 +1,4 @@
--- Texts of lines: each ends with one newline, and its words are parted by one space.
+-- Texts of lines: each ends with one newline, and its words are separated by one space.
 use Rattle.std.specs.Prelude.{◌≡◌, ℕ, ◌<◌, ◌≤◌, Bool, ◌&&◌, ◌||◌, ◌==◌, nat_le, List, [], ◌∷◌, ◌++◌}
 use Rattle.std.specs.Prelude.{length, codes}
 use Rattle.std.specs.List.{AllPass}

@@ -15,7 +15,7 @@ pub data WrittenOrigin : Type 0 where
   from_source : List (List ℕ) → WrittenOrigin
   from_step : List ℕ → List (List ℕ) → WrittenOrigin
 
--- A line behind the header as it is written.
+-- A line after the header as it is written.
 pub data WrittenLine : Type 0 where
   step_line : List ℕ → DigestValue → WrittenLine
   root_line : WrittenLine

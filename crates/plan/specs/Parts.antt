@@ -17,7 +17,7 @@ use Rattle.plan.specs.Values.{LineValue, StepValue}
 abbrev pub items_of : {A : Type 0} → List (Vec ℕ A) → List (List ℕ)
 items_of texts = map (λ v. v.items) texts
 
--- why words are no origin of a line behind these steps
+-- why words are no origin of a line after these steps
 abbrev pub IsOriginFault : List StepValue → List ℕ → Fault → Type 0
 IsOriginFault steps words faults.BadLine =
     (origin : WrittenOrigin) → IsWrittenOrigin origin → words ≢ written_origin_words origin
@@ -26,7 +26,7 @@ IsOriginFault steps words faults.LaterStep =
     × IsLater steps origin
 IsOriginFault steps words _ = ⊥
 
--- why words are no line of a directory behind these steps
+-- why words are no line of a directory after these steps
 abbrev pub IsWordsFault : List StepValue → List ℕ → Fault → Type 0
 IsWordsFault steps words faults.BadLine =
     (target : List (List ℕ)) (origin : WrittenOrigin) → IsWrittenLine (in_line target origin)
@@ -37,7 +37,7 @@ IsWordsFault steps words faults.LaterStep =
     × IsLater steps origin
 IsWordsFault steps words _ = ⊥
 
--- why a text begins with no line of a directory behind these steps
+-- why a text begins with no line of a directory after these steps
 abbrev pub IsFirstFault : List StepValue → List ℕ → Fault → Type 0
 IsFirstFault steps text faults.BadLine =
     (target : List (List ℕ)) (origin : WrittenOrigin)
@@ -47,7 +47,7 @@ IsFirstFault steps text faults.LaterStep =
     × BeginsWithLine (in_line target origin) text × IsLater steps origin
 IsFirstFault steps text _ = ⊥
 
--- what is wrong with an `in` line behind these lines
+-- what is wrong with an `in` line after these lines
 abbrev pub IsNextInFault : List StepValue → List LineValue → List ℕ → Fault → Type 0
 IsNextInFault steps good rest fault =
     ((fault ≡ faults.BadLine) × Begins (codes "in ") rest
@@ -56,7 +56,7 @@ IsNextInFault steps good rest fault =
     ⊎ ((target : List (List ℕ)) × (origin : WrittenOrigin)
     × BeginsWithLine (in_line target origin) rest × IsInFault steps good target origin fault)
 
--- The text begins with lines of a directory behind these steps, of which the first has this number,
+-- The text begins with lines of a directory after these steps, of which the first has this number,
 -- and the next `in` line is at fault.
 pub record IsLinesFault (steps : List StepValue) (first : ℕ) (text : List ℕ)
     (e : PlanError) : Type 0 where
@@ -67,7 +67,7 @@ pub record IsLinesFault (steps : List StepValue) (first : ℕ) (text : List ℕ)
   pub number : e.line ≡ first + length good
   pub fault : IsNextInFault steps good rest e.fault
 
--- The text, behind the header, begins with these steps, and with no further one. The next line has
+-- The text, after the header, begins with these steps, and with no further one. The next line has
 -- this number.
 pub record IsFront (text : List ℕ) (steps : List StepValue) (rest : List ℕ)
     (number : ℕ) : Type 0 where

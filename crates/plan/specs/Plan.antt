@@ -15,13 +15,13 @@ HaveApartTargets [] = Unit {0}
 HaveApartTargets (line ∷ lines) =
     AllByRecursion (λ other. ¬ Overlap line.target other.target) lines × HaveApartTargets lines
 
--- the lines of one directory, in front of which so many steps stand
+-- the lines of one directory, before which this many steps stand
 pub record AreLines (before : ℕ) (lines : List LineValue) : Type 0 where
   pub few : length lines ≤ 65536
   pub each : AllByRecursion (IsLine before) lines
   pub apart : HaveApartTargets lines
 
--- a step behind these steps
+-- a step after these steps
 pub record IsStep (earlier : List StepValue) (step : StepValue) : Type 0 where
   pub name : IsStepName step.name
   pub new : AllByRecursion (λ other. other.name ≢ step.name) earlier
@@ -51,7 +51,7 @@ lines_text steps lines = flat_map (λ line. line_text (in_words steps line)) lin
 abbrev pub step_text : List StepValue → StepValue → List ℕ
 step_text steps step = line_text (step_words step.name step.frame) ++ lines_text steps step.lines
 
--- the header, the steps, and the lines of the root behind `root`
+-- the header, the steps, and the lines of the root after `root`
 abbrev pub plan_text : PlanValue → List ℕ
 plan_text plan =
     plan_header

@@ -27,12 +27,12 @@ pub record PlanValue : Type 0 where
 
 -- ---- rules
 
--- the origin of a line in front of which so many steps stand
+-- the origin of a line before which this many steps stand
 abbrev pub IsOrigin : ℕ → OriginValue → Type 0
 IsOrigin before (source path) = (path ≡ []) ⊎ IsPath path
 IsOrigin before (output step path) = (step < before) × IsPath path
 
--- a line in front of which so many steps stand
+-- a line before which this many steps stand
 pub record IsLine (before : ℕ) (line : LineValue) : Type 0 where
   pub target : IsPath line.target
   pub origin : IsOrigin before line.origin

@@ -7,25 +7,25 @@ use thiserror::Error;
 /// What is wrong with a line of a plan or a record.
 #[derive(Clone, Copy, Debug, PartialEq, Eq, Error)]
 pub enum Fault {
-    /// Refusal 91.
+    /// Line 1 isn't the header.
     #[error("a plan begins with the line `buildplan 1`, and a record with `buildrecord 1`")]
     BadHeader,
-    /// Refusal 92.
+    /// The line isn't one that may stand here.
     #[error("not a line that may stand here")]
     BadLine,
-    /// Refusal 93.
+    /// An earlier step has the name.
     #[error("an earlier step has this name")]
     SameStep,
-    /// Refusal 94.
+    /// No earlier step has the name that the line reads.
     #[error("no earlier step has this name")]
     LaterStep,
-    /// Refusal 95.
+    /// The target is that of an earlier line, or lies under or above it.
     #[error("the target is an earlier line's target, or lies under or above it")]
     Overlap,
-    /// Refusal 96.
+    /// 4,096 steps, or 65,536 lines of the directory, stand before the line.
     #[error("more than 4096 steps or 65536 lines")]
     TooMany,
-    /// Refusal 97.
+    /// The record's steps aren't those of the plan.
     #[error("the record names other steps than the plan")]
     RecordDiffers,
 }

@@ -43,7 +43,7 @@ impl<A: Allocator> Model for Line<A> {
     ghost view = { λ a. record { target = a.target; origin = origin_value a.origin } };
 }
 
-/// The origin behind `src `.
+/// The origin after `src `.
 fn read_source<A: Allocator + Copy>(
     alloc: A,
     steps: &Steps<A>,
@@ -63,7 +63,7 @@ fn read_source<A: Allocator + Copy>(
     }
 }
 
-/// The origin behind `out `.
+/// The origin after `out `.
 fn read_output<A: Allocator + Copy>(
     alloc: A,
     steps: &Steps<A>,
@@ -108,7 +108,7 @@ fn read_origin<A: Allocator + Copy>(
     }
 }
 
-/// The line of these words, behind these steps.
+/// The line of these words, after these steps.
 fn read_line<A: Allocator + Copy>(
     alloc: A,
     steps: &Steps<A>,
@@ -133,7 +133,7 @@ fn read_line<A: Allocator + Copy>(
     }
 }
 
-/// The line that a text begins with, behind these steps, and the text behind it.
+/// The line that a text begins with, after these steps, and the text after it.
 pub(crate) fn first_line<'a, A: Allocator + Copy>(
     alloc: A,
     steps: &Steps<A>,
@@ -222,7 +222,7 @@ fn write_line<A: Allocator + Copy>(
     Ok(())
 }
 
-/// Writes the lines, behind these steps, behind the text.
+/// Writes the lines, which stand after these steps, at the end of the text.
 pub(crate) fn write_lines<A: Allocator + Copy>(
     alloc: A,
     text: &mut Vec<u8, A>,

@@ -50,15 +50,15 @@ impl<A: Allocator> Model for Plan<A> {
 /// What a text begins with.
 #[derive(Drop)]
 struct Front<'a, A: Allocator> {
-    /// The steps in front of the root.
+    /// The steps before the root.
     steps: Steps<A>,
-    /// The text behind them.
+    /// The text after them.
     rest: &'a [u8],
     /// The number of its first line.
     number: u64,
 }
 
-/// The lines of a directory behind these steps, and the text behind them. The first line has this
+/// The lines of a directory after these steps, and the text after them. The first line has this
 /// number.
 fn read_lines<'a, A: Allocator + Copy>(
     alloc: A,
@@ -95,7 +95,7 @@ fn read_lines<'a, A: Allocator + Copy>(
     Ok((lines, rest))
 }
 
-/// The steps in front of the root, the first line of which is line 2.
+/// The steps before the root, the first line of which is line 2.
 fn read_steps<A: Allocator + Copy>(alloc: A, text: &[u8]) -> Result<Front<'_, A>, ReadError>
     ensures found { IfOk result
         (λ front. IsFront text.now front.steps front.rest.now front.number) }
@@ -129,9 +129,9 @@ fn read_steps<A: Allocator + Copy>(alloc: A, text: &[u8]) -> Result<Front<'_, A>
 }
 
 impl<A: Allocator + Copy> Plan<A> {
-    /// The plan of this text. The first line at fault decides: its form (91 and 92), then a
-    /// step's name (93), the step that it reads (94), the number of steps or lines (96), then
-    /// targets that overlap (95).
+    /// The plan of this text. The first line at fault decides: its form (`BadHeader`, `BadLine`),
+    /// then a step's name (`SameStep`), the step that it reads (`LaterStep`), the number of steps
+    /// or lines (`TooMany`), then targets that overlap (`Overlap`).
     pub fn read(alloc: A, text: &[u8]) -> Result<Plan<A>, ReadError>
         // The text is that of the plan.
         ensures found { IfOk result (λ plan. IsPlan plan × (text.now ≡ plan_text plan)) }
@@ -192,7 +192,7 @@ impl<A: Allocator + Copy> Plan<A> {
     }
 }
 
-/// Writes the step's line and its lines behind the text.
+/// Writes the step's line and its lines at the end of the text.
 fn write_step<A: Allocator + Copy>(
     alloc: A,
     text: &mut Vec<u8, A>,

@@ -92,7 +92,7 @@ fn read_entries<A: Allocator + Copy>(
     Err(ReadError::at(digests.len() as u64 + 2, end_fault(rest)))
 }
 
-/// What is wrong with a text behind the last entry.
+/// What is wrong with a text after the last entry.
 fn end_fault(text: &[u8]) -> Fault
     requires { text.now ≢ [] }
     ensures { IsNextEntryFault [] text.now result }
@@ -129,8 +129,8 @@ impl<A: Allocator + Copy> Record<A> {
         })
     }
 
-    /// The record of this text, for the plan. The first line at fault decides: its form (91 and
-    /// 92), then whether the plan's next step is another (97).
+    /// The record of this text, for the plan. The first line at fault decides: its form
+    /// (`BadHeader`, `BadLine`), then whether the plan's next step is another (`RecordDiffers`).
     pub fn read(alloc: A, text: &[u8], plan: &Plan<A>) -> Result<Record<A>, ReadError>
         // The text is that of the record, which is of the plan.
         ensures found { IfOk result

@@ -103,7 +103,7 @@ impl<A: Allocator> Model for Step<A> {
     ghost view = { λ a. record { name = a.name; frame = a.frame; lines = a.lines.items } };
 }
 
-/// Writes the line of a step, or of an entry of a record, behind the text.
+/// Writes the line of a step, or of an entry of a record, at the end of the text.
 pub(crate) fn write_step_line<A: Allocator + Copy>(
     alloc: A,
     text: &mut Vec<u8, A>,

@@ -9,7 +9,7 @@ use std::collections::BTreeSet;
 use std::marker::Model;
 use std::ops::Bound;
 
-/// The names of a path, in the order of the names. What lies under a path stands right behind it.
+/// The names of a path, in the order of the names. What lies under a path stands right after it.
 #[derive(Drop)]
 struct Names<A: Allocator> {
     names: Vec<Name<A>, A>,
@@ -126,7 +126,7 @@ impl<A: Allocator + Copy> Targets<A> {
         }
     }
 
-    /// Whether one of the targets is this path or lies under it: it is the one behind the path.
+    /// Whether one of the targets is this path or lies under it: it is the one after the path.
     fn has_longer(&self, names: &Names<A>) -> bool
         ensures { IsTrue result ↔
             ((below : List (List ℕ)) × Contains self.now below × IsAtOrBelow below names.now) }

@@ -7,7 +7,7 @@ ghost use Rattle.plan.specs.Lines.{step_line};
 use crate::step::is_step_name;
 use blob_digest::Digest;
 
-/// What stands behind these bytes at the front.
+/// What follows these bytes at the front.
 pub(crate) fn strip<'a>(text: &'a [u8], front: &[u8]) -> Option<&'a [u8]>
     ensures { MatchOption result (¬ Begins front.now text.now)
         (λ rest. text.now ≡ front.now ++ rest.now) }
@@ -15,7 +15,7 @@ pub(crate) fn strip<'a>(text: &'a [u8], front: &[u8]) -> Option<&'a [u8]>
     text.strip_prefix(front)
 }
 
-/// What stands before the first such byte, and what behind it.
+/// What stands before the first such byte, and what after it.
 pub(crate) fn split_once(text: &[u8], byte: u8) -> Option<(&[u8], &[u8])>
     ensures { MatchOption result (¬ Contains text.now byte)
         (λ parts. (text.now ≡ parts.0.now ++ byte ∷ parts.1.now) × ¬ Contains parts.0.now byte) }
@@ -48,7 +48,7 @@ fn read_step_words(words: &[u8]) -> Option<(&[u8], Digest)>
 pub(crate) struct StepLine<'a> {
     pub(crate) name: &'a [u8],
     pub(crate) digest: Digest,
-    /// The text behind the line.
+    /// The text after the line.
     pub(crate) behind: &'a [u8],
 }
 

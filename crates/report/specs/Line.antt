@@ -12,7 +12,7 @@ use Rattle.verifier.specs.declared.verdict.Place.TheVariants.{Step, Root}
 use Rattle.verifier.specs.declared.verdict.Cause.{Cause}
 use Rattle.verifier.specs.declared.verdict.Cause.TheVariants as causes
 
--- a word and what it names, parted by a space
+-- a word and what it names, separated by a space
 abbrev pub named : List ℕ → List ℕ → List ℕ
 named word text = word ++ 32 ∷ text
 

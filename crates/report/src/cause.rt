@@ -10,7 +10,7 @@ use plan::write_path;
 use std::alloc::{AllocError, Allocator};
 use verifier::Cause;
 
-/// The word and the digest, parted by a space.
+/// The word and the digest, separated by a space.
 fn digest_named<A: Allocator + Copy>(
     alloc: A,
     word: &str,
@@ -28,7 +28,7 @@ fn digest_named<A: Allocator + Copy>(
     format!(in alloc; "{word} {digest}")
 }
 
-/// The word and the path, parted by a space.
+/// The word and the path, separated by a space.
 fn path_named<A: Allocator + Copy, B: Allocator>(
     alloc: A,
     word: &str,
@@ -43,7 +43,7 @@ fn path_named<A: Allocator + Copy, B: Allocator>(
     format!(in alloc; "{word} {path}")
 }
 
-/// The word and the exit code, parted by a space.
+/// The word and the exit code, separated by a space.
 fn code_named<A: Allocator + Copy>(alloc: A, word: &str, code: i32) -> Result<String<A>, AllocError>
     requires { HasNoNewline word.now }
     ensures value { IfOk result (λ text. string_bytes text ≡ named word.now (signed_decimal code)) }

@@ -2,8 +2,8 @@
 //!
 //! A line `{NAME} := TEXT` has a text stand for a name in all lines; it may name what is defined
 //! after it. A line that begins with `#` is for the reader. Each other line is a row of fields, set
-//! apart by ` | `, of which the last is what the row comes to. In a field `\n` is a newline and `\x`
-//! with two hex digits is a byte. Rows without an empty line between them are a group.
+//! apart by ` | `, of which the last is what the row comes to. In a field `\n` is a newline and
+//! `\x` with two hex digits is a byte. Rows without an empty line between them are a group.
 #![tactic(auto)]
 
 use std::alloc::{AllocError, Global};

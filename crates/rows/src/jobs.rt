@@ -31,7 +31,7 @@ pub fn answer(global: Global, stock: &[Row], fields: &[Vec<u8>]) -> Answer {
     over_memos(global, &mut engine, &mut source)
 }
 
-/// What the start after so many of the first step is told, and how many jobs run then.
+/// What the start after this many of the first step is told, and how many jobs run then.
 fn many_jobs(
     global: Global,
     engine: &mut Engine<Global>,
@@ -47,7 +47,7 @@ fn many_jobs(
     Ok(format!(in global; "{last} beside {running}")?)
 }
 
-/// Whether so many starts of the first step are told as jobs with this action, in their order.
+/// Whether this many starts of the first step are told as jobs with this action, in their order.
 fn are_started(
     global: Global,
     engine: &mut Engine<Global>,

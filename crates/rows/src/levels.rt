@@ -23,7 +23,7 @@ fn level<A: Allocator + Copy>(alloc: A, below: Digest) -> Result<Vec<u8, A>, Bro
     Ok(directory.encode(alloc)?)
 }
 
-/// A plan of so many pairs of lines: the first of each goes down by `a`, the second by `b`.
+/// A plan of this many pairs of lines: the first of each goes down by `a`, the second by `b`.
 fn plan_of<A: Allocator + Copy>(alloc: A, pairs: u8) -> Result<Vec<u8, A>, Broken> {
     let mut text = Vec::from_slice(alloc, b"buildplan 1\nroot\n")?;
     for (target, name) in [(b"t", b"a/"), (b"u", b"b/")] {

@@ -64,8 +64,8 @@ fn answer<A: Allocator + Copy>(
     }
 }
 
-/// How many requests for memory of the row are refused, each so many after the other, and told as
-/// such, where it comes to what it says.
+/// How many requests for memory of the row are refused, every `apart`-th from the first, and told
+/// as such, where it comes to what it says.
 fn refused_in_turn(
     subject: Subject,
     global: Global,

@@ -140,7 +140,7 @@ impl<A: Allocator + Copy> Engine<A> {
         }
     }
 
-    /// Ends a job that was lost. Refusal 102. It takes no memory.
+    /// Ends a job that was lost. `NoSuchJob` where none with the number runs. It takes no memory.
     pub fn lose(&mut self, id: u64) -> Result<(), RunsError<A>>
         ensures lost { OnOk result (self.new ≡ without_job id self.old) }
         ensures refused { IfErr result (λ e. e ≡ RunsError.NoSuchJob) }

@@ -163,8 +163,8 @@ fn keep_first<A: Allocator>(
     }
 }
 
-/// Whether the outcome is taken: its exit code is 0, and the command lists each output. Refusals
-/// 103 and 105.
+/// Whether the outcome is taken: its exit code is 0, and the command lists each output. Refusals:
+/// `ExitCode` and `Unlisted`.
 fn check_outcome<A: Allocator + Copy>(
     alloc: A,
     command: &Command<A>,
@@ -211,9 +211,9 @@ fn check_listed<A: Allocator + Copy>(
 
 impl<A: Allocator + Copy> Engine<A> {
     /// Ends a job that came to an outcome. The first refusal is that of the first of: no job with
-    /// the number (102), an exit code that isn't 0 (103), an output that the command doesn't list
-    /// (105), and that the step, or one that finished with the same action, has another outcome
-    /// (104). What a step came to stays what it was at its first finish.
+    /// the number (`NoSuchJob`), an exit code that isn't 0 (`ExitCode`), an output that the command
+    /// doesn't list (`Unlisted`), and that the step, or one that finished with the same action, has
+    /// another outcome (`Disagrees`). What a step came to stays what it was at its first finish.
     pub fn finish(&mut self, alloc: A, id: u64, outcome: Outcome<A>) -> Result<(), RunsError<A>>
         ensures finished { OnOk result (IsFinished id outcome self.old self.new) }
         ensures refused { IfErr result (IsFinishFault self.old id outcome) }

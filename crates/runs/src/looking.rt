@@ -159,8 +159,9 @@ impl<A: Allocator + Copy> Engine<A> {
         Ok(graft(alloc, &nodes)?.root)
     }
 
-    /// The digest of the tree in which the build ends. Refusals 101 while a step hasn't finished,
-    /// 106 and 107. A Directory that the memo knows isn't fetched, and one that is fetched is kept.
+    /// The digest of the tree in which the build ends. Refusals: `NotReady` while a step hasn't
+    /// finished, `Origin` and `Source`. A Directory that the memo knows isn't fetched, and one that
+    /// is fetched is kept.
     pub fn root<S: BlobSource<A>>(
         &self,
         alloc: A,
@@ -176,7 +177,7 @@ impl<A: Allocator + Copy> Engine<A> {
         ensures served { IfOk result (IsServedYes A (S.tells source.new).blobs self.now) }
         ensures refused { IfErr result (IsRootFault (S.tells source.new).blobs self.now) }
         ensures stands { IfErr result (StandsIn (S.tells source.new).blobs) }
-        // Refusal 106 says that nothing stands at the origin in any run that the engine mirrors.
+        // `Origin` says that nothing stands at the origin in any run that the engine mirrors.
         ensures missing { IfErr result
             (TellsMissing (S.tells source.new).blobs self.now self.now.plan.root_lines) }
         ensures called { Called (S.tells source.old) (S.tells source.new)

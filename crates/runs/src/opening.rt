@@ -114,7 +114,8 @@ fn none_finished<A: Allocator + Copy>(
 
 impl<A: Allocator + Copy> Engine<A> {
     /// An engine of the plan, over sources with this digest. The frame and the command of each step
-    /// are fetched, in the order of the plan; the first fault ends it. Refusals 107 and 108.
+    /// are fetched, in the order of the plan; the first fault ends it. Refusals: `Source` and
+    /// `DoNotCache`.
     pub fn new<S: BlobSource<A>>(
         alloc: A,
         plan: Plan<A>,

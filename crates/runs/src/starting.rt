@@ -61,7 +61,7 @@ pub(crate) fn place<A: Allocator>(
 
 impl<A: Allocator + Copy> Engine<A> {
     /// The job of a step that may start: its lines are looked up and grafted, and its frame with
-    /// the root of the graft is the action. Refusals 106 and 107.
+    /// the root of the graft is the action. Refusals: `Origin` and `Source`.
     fn prepare<S: BlobSource<A>>(
         &self,
         alloc: A,
@@ -108,9 +108,9 @@ const MOST_JOBS: usize = 4096;
 
 impl<A: Allocator + Copy> Engine<A> {
     /// Starts a step as a job, also one that runs or has finished. The first refusal is that of the
-    /// first of: a step that its lines read hasn't finished (101), 4,096 jobs run (109), and the
-    /// first line without an origin (106, 107). A Directory that the memo knows isn't fetched, and
-    /// one that is fetched is kept.
+    /// first of: a step that its lines read hasn't finished (`NotReady`), 4,096 jobs run (`Full`),
+    /// and the first line without an origin (`Origin`, `Source`). A Directory that the memo knows
+    /// isn't fetched, and one that is fetched is kept.
     pub fn start<S: BlobSource<A>>(
         &mut self,
         alloc: A,
@@ -128,7 +128,7 @@ impl<A: Allocator + Copy> Engine<A> {
         ensures ready { IfOk result (λ _. IsReady self.old step) }
         ensures refused { IfErr result (IsStartFault (S.tells source.new).blobs self.old step) }
         ensures stands { IfErr result (StandsIn (S.tells source.new).blobs) }
-        // Refusal 106 says that nothing stands at the origin in any run that the engine mirrors.
+        // `Origin` says that nothing stands at the origin in any run that the engine mirrors.
         ensures missing { (s : StepValue) → slice_get self.old.plan.steps step ≡ Some s
             → IfErr result (TellsMissing (S.tells source.new).blobs self.old s.lines) }
         ensures unchanged { OnErr result (self.new ≡ self.old) }

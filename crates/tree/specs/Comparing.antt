@@ -46,7 +46,7 @@ abbrev pub IsUnlikeIfAny : NodeValue → NodeValue → Option Unlike → Type 0
 IsUnlikeIfAny x y None = x ≡ y
 IsUnlikeIfAny x y (Some unlike) = IsUnlike (Some x) (Some y) unlike
 
--- the first name that two Directories have not the same child of, and how
+-- the first name under which two Directories don't have the same child, and how they differ
 pub record IsFirst {A : Type 0} (grafted recorded : DirectoryValue) (f : FirstName A) : Type 0 where
   pub name : IsFirstName grafted recorded f.name
   pub unlike : IsUnlike (child_of f.name grafted) (child_of f.name recorded) f.unlike

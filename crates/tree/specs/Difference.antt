@@ -60,7 +60,7 @@ pub data Differing : Type 0 where
 abbrev pub child_of : Name → DirectoryValue → Option NodeValue
 child_of n m = child n m
 
--- the least name at which two Directories have not the same
+-- the least name at which two Directories differ
 pub record IsFirstName (grafted recorded : DirectoryValue) (n : Name) : Type 0 where
   pub same : (k : Name) → name_cmp k n ≡ Less → child_of k grafted ≡ child_of k recorded
   pub other : child_of n grafted ≢ child_of n recorded

@@ -43,7 +43,7 @@ expand (folder n below rest) = folder n (expand below) (expand rest)
 abbrev pub IsApart : List Name → List Name → Type 0
 IsApart p q = Overlap p q → ⊥
 
--- no target equals another or lies under it
+-- no target is empty, equals another or lies under it
 abbrev pub HaveApartTargets : {X : Type 0} → List (List Name × X) → Type 0
 HaveApartTargets [] = Unit {0}
 HaveApartTargets (l ∷ ls) =

@@ -51,7 +51,7 @@ ExplainsChild above Memory = Unit {0}
 abbrev pub prefixed : List Name → FlatValue → FlatValue
 prefixed above entries = map (λ e. (above ++ e.0, e.1)) entries
 
--- behind the entries that were there stand those of the tree that is told under a digest, below a
+-- after the entries that were there stand those of the tree that is told under a digest, below a
 -- path
 pub record Appends (B : Blobs) (d : DigestValue) (above : List Name)
     (old new : FlatValue) : Type 0 where

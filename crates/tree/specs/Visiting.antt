@@ -30,7 +30,7 @@ Apart [] q = ⊥
 Apart (n ∷ p) [] = ⊥
 Apart (n ∷ p) (m ∷ q) = n ≡ m → Apart p q
 
--- no target equals another or lies under it
+-- no target is empty, equals another or lies under it
 abbrev pub HaveApart : {X : Type 0} → List (List Name × X) → Type 0
 HaveApart [] = Unit {0}
 HaveApart (l ∷ ls) =
@@ -69,7 +69,7 @@ entry_lines entries = map (λ e. (e.0.items, node_value e.1)) entries
 abbrev pub items_of : {A : Type 0} → List (Vec ℕ A) → List (List ℕ)
 items_of encodings = map (λ v. v.items) encodings
 
--- the children of one directory, and behind them those of another
+-- the children of one directory, and after them those of another
 abbrev pub joined : DirectoryValue → DirectoryValue → DirectoryValue
 joined a b =
     record {

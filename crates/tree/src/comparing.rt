@@ -87,7 +87,7 @@ fn read_directory<A: Allocator + Copy, S: BlobSource<A>>(
     }
 }
 
-/// The first difference below a path, where paths may have `deeper` names more.
+/// The first difference below a path, where paths may have `deeper` more names.
 fn difference_below<A: Allocator + Copy, S: BlobSource<A>>(
     alloc: A,
     own: &OwnDirectories<'_, A>,
@@ -143,7 +143,8 @@ fn difference_below<A: Allocator + Copy, S: BlobSource<A>>(
 }
 
 /// The first difference of a graft and the directory with a digest, as `first_difference` answers
-/// it, over what was told before: a Directory that is kept isn't asked for. Refusals 42 to 44.
+/// it, over what was told before: a Directory that is kept isn't asked for. Refusals:
+/// `BlobMissing`, `BlobWrong` and `BlobMalformed`.
 pub fn first_difference_with<A: Allocator + Copy, S: BlobSource<A>>(
     alloc: A,
     grafted: &Folded<A>,
@@ -183,7 +184,7 @@ pub fn first_difference_with<A: Allocator + Copy, S: BlobSource<A>>(
 /// The first difference of a graft and the directory with a digest, Directory by Directory, names
 /// in their order: `None` where the digest is the graft's. The recorded Directory is read before
 /// the grafted one; one that the graft made is never fetched, and nothing is that isn't compared.
-/// Refusals 42 to 44.
+/// Refusals: `BlobMissing`, `BlobWrong` and `BlobMalformed`.
 pub fn first_difference<A: Allocator + Copy, S: BlobSource<A>>(
     alloc: A,
     grafted: &Folded<A>,

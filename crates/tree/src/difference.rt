@@ -66,7 +66,7 @@ fn how_unlike<A: Allocator>(grafted: &Node<A>, recorded: &Node<A>) -> Option<Unl
     (!is_same).then_some(Unlike::Others)
 }
 
-/// The first name at which two directories have not the same child, side by side.
+/// The first name at which two directories don't have the same child, side by side.
 pub(crate) fn first_name<A: Allocator + Copy>(
     alloc: A,
     grafted: &Directory<A>,

@@ -13,19 +13,19 @@ use thiserror::Error;
 #[derive(Drop, Error)]
 #[derive_where(Debug)]
 pub enum TreeError<A: Allocator> {
-    /// Refusal 41: nothing stands at the path.
+    /// Nothing stands at the path.
     #[error("nothing stands at the path")]
     Absent(Path<A>),
-    /// Refusal 42: the source has no blob with the digest.
+    /// The source has no blob with the digest.
     #[error("the source has no blob with the digest")]
     BlobMissing(Digest),
-    /// Refusal 43: what the source has under the digest has another hash or length.
+    /// What the source has under the digest has another hash or length.
     #[error("what the source has under the digest has another hash or length")]
     BlobWrong(Digest),
-    /// Refusal 44: the blob with the digest is no message of the kind that was asked for.
+    /// The blob with the digest is no message of the kind that was asked for.
     #[error("the blob with the digest is no message of the kind")]
     BlobMalformed(Digest),
-    /// Refusal 46: at the path, of 64 names, stands a directory that isn't empty.
+    /// At the path, of 64 names, stands a directory that isn't empty.
     #[error("a directory at a path of 64 names isn't empty")]
     TooDeep(Path<A>),
     /// The source failed.
@@ -81,7 +81,7 @@ impl<A: Allocator, T: Drop> From<AllocFailed<T>> for TreeError<A> {
 #[derive(Drop, Error)]
 #[derive_where(Debug)]
 pub enum AddError<A: Allocator> {
-    /// Refusal 45: what is there already leaves no room for this path.
+    /// What is there already leaves no room for this path.
     #[error("what is there leaves no room for the path")]
     Overlap(Path<A>),
     /// No memory was left.

@@ -11,8 +11,8 @@ use blob_source::BlobSource;
 use messages::Message;
 use std::alloc::Allocator;
 
-/// Fetches the message with a digest. This is the call of `blob_source` with its refusals, 42 to
-/// 44, among those of trees, for calls that tell both.
+/// Fetches the message with a digest. This is the call of `blob_source` with its refusals among
+/// those of trees, for calls that tell both.
 pub fn fetch_message<A: Allocator + Copy, S: BlobSource<A>, M: Message<A>>(
     alloc: A,
     source: &mut S,

@@ -206,7 +206,7 @@ impl<A: Allocator + Copy> FlatTree<A> {
         }
     }
 
-    /// Adds an entry, and the directories above it that are missing. Refusal 45 where something
+    /// Adds an entry, and the directories above it that are missing. `Overlap` where something
     /// stands at the path, or a file or a link above it. After a refusal nothing has changed.
     pub fn add(&mut self, alloc: A, path: Path<A>, entry: FlatEntry<A>) -> Result<(), AddError<A>>
         ensures added { OnOk result (IsAdded 1 path (entry_value entry) self.old self.new) }

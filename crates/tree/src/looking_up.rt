@@ -14,7 +14,7 @@ use std::alloc::Allocator;
 
 /// The node at a path below the directory with a digest, Directory by Directory. No path is that
 /// directory itself, and nothing is fetched. A link isn't followed, and a file's bytes are never
-/// read. Refusals 41 to 44.
+/// read. Refusals: `Absent`, `BlobMissing`, `BlobWrong` and `BlobMalformed`.
 #[tactic(auto, using(crate::proofs::LookupLemmas::looks_tell))]
 pub fn lookup<A: Allocator + Copy, S: BlobSource<A>>(
     alloc: A,

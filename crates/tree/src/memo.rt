@@ -136,8 +136,8 @@ impl<A: Allocator + Copy> Memo<A> {
         Ok(())
     }
 
-    /// The message with a digest, fetched unless it is kept, and kept. Refusals 42 to 44, after
-    /// which what is kept is as it was.
+    /// The message with a digest, fetched unless it is kept, and kept. Refusals: `BlobMissing`,
+    /// `BlobWrong` and `BlobMalformed`, after which what is kept is as it was.
     pub fn message<S: BlobSource<A>, M: Message<A>>(
         &mut self,
         alloc: A,

@@ -105,7 +105,7 @@ pub(crate) fn children_by_name<A: Allocator + Copy>(
     Ok(children)
 }
 
-/// The path of a child. Refusal 46 where the path of its directory has 64 names.
+/// The path of a child. `TooDeep` where the path of its directory has 64 names.
 pub(crate) fn child_path<A: Allocator + Copy>(
     alloc: A,
     above: Option<&Path<A>>,
@@ -173,8 +173,9 @@ fn by_path<A: Allocator + Copy>(alloc: A, entries: Entries<A>) -> Result<EntryMa
     Ok(map)
 }
 
-/// The tree with a digest, Directory by Directory: each is fetched where it stands. Refusals 42 to
-/// 44, and 46 where a directory with an entry stands at a path of 64 names.
+/// The tree with a digest, Directory by Directory: each is fetched where it stands. Refusals:
+/// `BlobMissing`, `BlobWrong`, `BlobMalformed`, and `TooDeep` where a directory with an entry
+/// stands at a path of 64 names.
 pub fn unfold<A: Allocator + Copy, S: BlobSource<A>>(
     alloc: A,
     root: &Digest,

@@ -47,7 +47,7 @@ impl<A: Allocator + Copy> Children<A> {
         }
     }
 
-    /// One more file, behind the others.
+    /// One more file, after the others.
     pub(crate) fn push_file(
         &mut self,
         alloc: A,
@@ -69,7 +69,7 @@ impl<A: Allocator + Copy> Children<A> {
         Ok(())
     }
 
-    /// One more symbolic link, behind the others.
+    /// One more symbolic link, after the others.
     pub(crate) fn push_symlink(
         &mut self,
         alloc: A,
@@ -89,7 +89,7 @@ impl<A: Allocator + Copy> Children<A> {
         Ok(())
     }
 
-    /// One more child, behind the others of its kind. Nothing below a directory is known.
+    /// One more child, after the others of its kind. Nothing below a directory is known.
     pub(crate) fn push(
         &mut self,
         alloc: A,

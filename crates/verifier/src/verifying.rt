@@ -145,10 +145,10 @@ fn decide<A: Allocator + Copy, S: BlobSource<A>>(
     }
 }
 
-/// Whether every build of the plan, from sources with this digest, ends in the claimed root, as far
-/// as equal actions come to the same and the recorded ones to what was recorded. The record says
-/// which actions the steps had. The steps are checked in the order of the plan, and then the lines
-/// of the root; the first fault decides. A file's content is never fetched.
+/// The verdict on a plan and its record. Yes says that every build of the plan, from sources with
+/// this digest, ends in the claimed root, under the premises of `EveryRunEndsIn`; no says what the
+/// first fault is, and where. The record says which actions the steps had. The steps are checked in
+/// the order of the plan, and then the lines of the root. A file's content is never fetched.
 pub fn verify<A: Allocator + Copy, S: BlobSource<A>>(
     alloc: A,
     sources: &Digest,

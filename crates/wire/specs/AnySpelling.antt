@@ -10,15 +10,15 @@ use Rattle.wire.specs.declared.error.WireError.TheVariants.{NotMinimal}
 use Rattle.wire.specs.Varint.{varint, group_sum, AreGroups, HasVarintFault}
 
 -- Groups of seven bits, ten at most, that make a number of 64 bits: the top bit is set in each byte
--- but the last, and the last groups may be nought.
+-- but the last, and the last groups may be zero.
 pub record IsVarint (n : ℕ) (text : List ℕ) : Type 0 where
   pub form : AreGroups text
   pub sum : group_sum text ≡ n
   pub few : length text ≤ 10
   pub fits : n < 2 ^ 64
 
--- the faults, of which no bytes have two: those of a varint in its shortest form, but that it isn't
--- in it
+-- the faults, of which no bytes have two: those of a varint in its shortest form, except that it
+-- isn't in it
 abbrev pub HasAnyVarintFault : WireError → List ℕ → Type 0
 HasAnyVarintFault e bytes = HasVarintFault e bytes × (e ≢ NotMinimal)
 
@@ -34,7 +34,7 @@ HasVarintFaultBy false e bytes = HasAnyVarintFault e bytes
 
 -- ---- records
 
--- bytes behind their length
+-- bytes after their length
 pub record HasLength (bytes text : List ℕ) : Type 0 where
   pub len : List ℕ
   pub counts : IsVarint (length bytes) len

@@ -40,8 +40,8 @@ pub record IsShortest (n : ℕ) (bytes : List ℕ) : Type 0 where
 
 -- ---- reading
 
--- A number and the bytes after it, or the first fault: the groups behind a first one, of which at
--- most count and one come. The last is not nought where the shortest form is asked for.
+-- A number and the bytes after it, or the first fault: the groups after a first one, of which at
+-- most count and one come. The last is not zero where the shortest form is asked for.
 unfoldable pub groups_by : Bool → ℕ → List ℕ → Result (ℕ × List ℕ) WireError
 groups_by shortest count [] = Err Truncated
 groups_by shortest zero (b ∷ bytes) =
@@ -66,7 +66,7 @@ any_varint_at bytes = varint_by false bytes
 
 -- ---- the faults, of which no bytes have two
 
--- behind bytes that each say that another follows stands b
+-- b stands after bytes that each say that another follows
 pub record StandsBehind (front : List ℕ) (b : ℕ) (bytes : List ℕ) : Type 0 where
   pub follow : AllByRecursion (λ a. 128 ≤ a) front
   pub rest : List ℕ

@@ -11,7 +11,7 @@ use std::alloc::{AllocError, Allocator};
 /// The most bytes that a number of 64 bits takes, seven bits a byte.
 const MAX_LEN: usize = 10;
 
-/// The number at the front, and how many bytes it takes. What comes behind isn't looked at.
+/// The number at the front, and how many bytes it takes. What comes after them isn't looked at.
 pub fn read_varint(bytes: &[u8]) -> Result<(u64, usize), WireError>
     ensures exact { Gives (λ found. (found.0, drop found.1 bytes.now)) result
         (varint_at bytes.now) }

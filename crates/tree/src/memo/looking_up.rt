@@ -16,7 +16,8 @@ use std::alloc::Allocator;
 
 impl<A: Allocator + Copy> Memo<A> {
     /// The node at a path below the directory with a digest, as `lookup` answers it. A Directory on
-    /// the way is read once, and kept. Refusals 41 to 44.
+    /// the way is read once, and kept. Refusals: `Absent`, `BlobMissing`, `BlobWrong` and
+    /// `BlobMalformed`.
     #[tactic(auto, using(crate::proofs::LookupLemmas::looks_tell, crate::proofs::Learning::learns_none))]
     pub fn lookup<S: BlobSource<A>>(
         &mut self,
