@@ -20,7 +20,7 @@ use crate::fields::{read_paths, read_strings, write_paths, write_strings};
 use crate::listed::{check_paths, has_text, some_under};
 use crate::setting::{EnvironmentVariable, Setting};
 use crate::shapes::command_shape;
-use canonical::{read_bytes, read_elements, write_bytes};
+use canonical::{read_bytes, write_bytes};
 use messages::{Encode, Message, MessageError, Path, decode, read_each, read_fields, write_each};
 use std::alloc::{AllocError, Allocator};
 use std::cmp::Ordering;
@@ -333,11 +333,11 @@ impl<A: Allocator + Copy> Message<A> for Command<A> {
 
     fn read(alloc: A, bytes: &[u8]) -> Result<Command<A>, MessageError> {
         let fields = read_fields(alloc, &command_shape(), bytes)?;
-        let arguments = read_strings(alloc, &read_elements(alloc, &fields, 1)?)?;
-        let environment = read_each(alloc, &read_elements(alloc, &fields, 2)?)?;
+        let arguments = read_strings(alloc, &fields, 1)?;
+        let environment = read_each(alloc, &fields, 2)?;
         check_texts(&arguments, &environment)?;
         let working_directory = read_directory(alloc, read_bytes(&fields, 6))?;
-        let output_paths = read_paths(alloc, &read_elements(alloc, &fields, 7)?)?;
+        let output_paths = read_paths(alloc, &fields, 7)?;
         check_lists(&environment, &output_paths)?;
         Ok(Command::of_checked(arguments, environment, working_directory, output_paths))
     }

@@ -2,7 +2,8 @@ ghost use Rattle.std.specs.Prelude.{◌≡◌, ◌≤◌, ◌++◌, OnOk, map};
 ghost use Rattle.std.specs.String.{string_bytes};
 ghost use Rattle.wire.specs.Spelling.{spelling};
 ghost use Rattle.wire.specs.Steps.{Gives};
-ghost use Rattle.canonical.specs.Fields.{element_fields};
+ghost use Rattle.wire.specs.Record.{records_of};
+ghost use Rattle.canonical.specs.Fields.{element_fields, elements_at};
 ghost use Rattle.canonical.specs.Told.{each};
 ghost use Rattle.canonical.specs.View.{slices};
 ghost use Rattle.messages.specs.Gives.{GivesUnlessMemory};
@@ -10,9 +11,10 @@ ghost use Rattle.messages.specs.Path.{path_of};
 ghost use Rattle.action_messages.specs.Fields.{string_of, required};
 ghost use Rattle.action_messages.specs.Overlaps.{texts_of};
 
-use canonical::{CanonError, write_element};
+use canonical::{CanonError, read_elements, write_element};
 use messages::{MessageError, Path};
 use std::alloc::{AllocError, Allocator};
+use wire::Field;
 
 /// The value of the field of this number, which has to be there.
 pub fn required<T>(number: u32, value: Option<T>) -> Result<T, MessageError>
@@ -33,8 +35,7 @@ fn copy_text<A: Allocator>(alloc: A, bytes: &[u8]) -> Result<String<A>, MessageE
     }
 }
 
-/// The strings of the elements, in order.
-pub fn read_strings<A: Allocator + Copy>(
+fn strings_of<A: Allocator + Copy>(
     alloc: A,
     elements: &[&[u8]],
 ) -> Result<Vec<String<A>, A>, MessageError>
@@ -48,8 +49,19 @@ pub fn read_strings<A: Allocator + Copy>(
     Ok(strings)
 }
 
-/// The paths of the elements, in order.
-pub fn read_paths<A: Allocator + Copy>(
+/// The strings of the repeated field of this number, in order.
+pub fn read_strings<A: Allocator + Copy>(
+    alloc: A,
+    fields: &[Field<'_>],
+    number: u32,
+) -> Result<Vec<String<A>, A>, MessageError>
+    ensures { GivesUnlessMemory (λ v. map string_bytes v.items) result
+        (each string_of (elements_at number (records_of fields.now))) }
+{
+    strings_of(alloc, &read_elements(alloc, fields, number)?)
+}
+
+fn paths_of<A: Allocator + Copy>(
     alloc: A,
     elements: &[&[u8]],
 ) -> Result<Vec<Path<A>, A>, MessageError>
@@ -60,6 +72,18 @@ pub fn read_paths<A: Allocator + Copy>(
         paths.push(Path::new(alloc, bytes)?)?;
     }
     Ok(paths)
+}
+
+/// The paths of the repeated field of this number, in order.
+pub fn read_paths<A: Allocator + Copy>(
+    alloc: A,
+    fields: &[Field<'_>],
+    number: u32,
+) -> Result<Vec<Path<A>, A>, MessageError>
+    ensures { GivesUnlessMemory (λ v. v.items) result
+        (each path_of (elements_at number (records_of fields.now))) }
+{
+    paths_of(alloc, &read_elements(alloc, fields, number)?)
 }
 
 /// Writes the strings as the elements of a field, in order.

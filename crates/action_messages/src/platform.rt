@@ -13,7 +13,7 @@ ghost use Rattle.action_messages.specs.Platform.{platform_bytes, decoded_platfor
 use crate::copying::copy_settings;
 use crate::setting::{Property, Setting};
 use crate::shapes::platform_shape;
-use canonical::{CanonError, read_elements, write_message};
+use canonical::{CanonError, write_message};
 use messages::{Encode, Message, MessageError, decode, read_each, read_fields, write_each};
 use std::alloc::{AllocError, Allocator};
 use std::cmp::Ordering;
@@ -116,7 +116,7 @@ impl<A: Allocator + Copy> Message<A> for Platform<A> {
 
     fn read(alloc: A, bytes: &[u8]) -> Result<Platform<A>, MessageError> {
         let fields = read_fields(alloc, &platform_shape(), bytes)?;
-        let properties = read_each(alloc, &read_elements(alloc, &fields, 1)?)?;
+        let properties = read_each(alloc, &fields, 1)?;
         Platform::new(properties)
     }
 }

@@ -1,8 +1,6 @@
 ghost use Rattle.std.specs.Prelude.{◌≡◌, ◌⊎◌, ℕ, ◌<◌, IfOk, IfErr, OnOk, Ok};
 ghost use Rattle.wire.specs.Record.{record_of, records_of, value_of};
 ghost use Rattle.messages.specs.Gives.{GivesUnlessMemory};
-ghost use Rattle.messages.specs.Tolerant.{in_occurrences, any_digest};
-ghost use Rattle.canonical.specs.Fields.{elements_at};
 ghost use Rattle.messages.specs.declared.error.MessageError.TheVariants.{Memory};
 ghost use Rattle.action_messages.specs.Unordered.{any_stream_at, unordered_in, unordered};
 ghost use Rattle.action_messages.specs.Refused.{element_checked, digest_checked, begun_at};
@@ -15,7 +13,7 @@ use crate::shapes::{
 };
 use crate::stream::Stream;
 use blob_digest::Digest;
-use canonical::{read_bool, read_bytes, read_elements, read_int32};
+use canonical::{read_bool, read_bytes, read_int32};
 use messages::{
     MessageError, Path, Target, Tolerant, read_any_each, read_any_fields, read_any_optional,
 };
@@ -31,7 +29,7 @@ impl<A: Allocator + Copy> Tolerant<A> for OutputFile<A> {
 
     fn read_any(alloc: A, texts: &[&[u8]]) -> Result<OutputFile<A>, MessageError> {
         let fields = read_any_fields(alloc, &output_file_shape(), &[], texts)?;
-        let digest = read_any_optional(alloc, &read_elements(alloc, &fields, 2)?)?;
+        let digest = read_any_optional(alloc, &fields, 2)?;
         let digest = required(2, digest)?;
         let path = Path::new(alloc, read_bytes(&fields, 1))?;
         Ok(OutputFile {
@@ -50,7 +48,7 @@ impl<A: Allocator + Copy> Tolerant<A> for OutputDirectory<A> {
 
     fn read_any(alloc: A, texts: &[&[u8]]) -> Result<OutputDirectory<A>, MessageError> {
         let fields = read_any_fields(alloc, &output_directory_shape(), &[4], texts)?;
-        let tree_digest = read_any_optional(alloc, &read_elements(alloc, &fields, 3)?)?;
+        let tree_digest = read_any_optional(alloc, &fields, 3)?;
         let tree_digest = required(3, tree_digest)?;
         let path = Path::new(alloc, read_bytes(&fields, 1))?;
         Ok(OutputDirectory { path, tree_digest })
@@ -71,18 +69,6 @@ impl<A: Allocator + Copy> Tolerant<A> for OutputSymlink<A> {
     }
 }
 
-/// The digest of a single field.
-fn read_any_digest<A: Allocator + Copy>(
-    alloc: A,
-    fields: &[Field<'_>],
-    number: u32,
-) -> Result<Option<Digest>, MessageError>
-    ensures { GivesUnlessMemory (λ d. d) result
-        (in_occurrences any_digest (elements_at number (records_of fields.now))) }
-{
-    read_any_optional(alloc, &read_elements(alloc, fields, number)?)
-}
-
 /// The bytes of the field of this number, and the digest of the next.
 #[tactic(auto, unfolding(crate::specs::Unordered::any_stream_at))]
 fn read_any_stream<A: Allocator + Copy>(
@@ -93,7 +79,7 @@ fn read_any_stream<A: Allocator + Copy>(
     requires { number < 536870911 }
     ensures { GivesUnlessMemory (λ s. s) result (any_stream_at number (records_of fields.now)) }
 {
-    let digest = read_any_digest(alloc, fields, number + 1)?;
+    let digest = read_any_optional(alloc, fields, number + 1)?;
     let raw = Vec::from_slice(alloc, read_bytes(fields, number))?;
     Ok(Stream::new(raw, digest))
 }
@@ -123,7 +109,7 @@ fn check_digest<A: Allocator + Copy>(
         (digest_checked came number (records_of fields.now)) }
 {
     if !came {
-        let _read = read_any_digest(alloc, fields, number)?;
+        let _read: Option<Digest> = read_any_optional(alloc, fields, number)?;
     }
     Ok(())
 }
@@ -199,11 +185,11 @@ fn read_unordered_in<A: Allocator + Copy>(
 ) -> Result<Unordered<A>, MessageError>
     ensures { GivesUnlessMemory (λ u. u) result (unordered_in (records_of fields.now)) }
 {
-    let files = read_any_each(alloc, &read_elements(alloc, fields, 2)?)?;
-    let directories = read_any_each(alloc, &read_elements(alloc, fields, 3)?)?;
+    let files = read_any_each(alloc, fields, 2)?;
+    let directories = read_any_each(alloc, fields, 3)?;
     let stdout = read_any_stream(alloc, fields, 5)?;
     let stderr = read_any_stream(alloc, fields, 7)?;
-    let symlinks = read_any_each(alloc, &read_elements(alloc, fields, 12)?)?;
+    let symlinks = read_any_each(alloc, fields, 12)?;
     let exit_code = read_int32(fields, 4);
     Ok(Unordered {
         files,

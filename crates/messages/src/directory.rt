@@ -18,7 +18,6 @@ use crate::node::{DirectoryNode, FileNode, Node, SymlinkNode};
 use crate::order::{check_order, find_named, share_a_name};
 use crate::shapes::directory_shape;
 use crate::target::Target;
-use canonical::read_elements;
 use std::alloc::{AllocError, Allocator};
 use std::marker::Model;
 
@@ -152,9 +151,9 @@ impl<A: Allocator + Copy> Message<A> for Directory<A> {
 
     fn read(alloc: A, bytes: &[u8]) -> Result<Directory<A>, MessageError> {
         let fields = read_fields(alloc, &directory_shape(), bytes)?;
-        let files = read_each(alloc, &read_elements(alloc, &fields, 1)?)?;
-        let directories = read_each(alloc, &read_elements(alloc, &fields, 2)?)?;
-        let symlinks = read_each(alloc, &read_elements(alloc, &fields, 3)?)?;
+        let files = read_each(alloc, &fields, 1)?;
+        let directories = read_each(alloc, &fields, 2)?;
+        let symlinks = read_each(alloc, &fields, 3)?;
         Directory::new(files, directories, symlinks)
     }
 }

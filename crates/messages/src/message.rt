@@ -1,7 +1,7 @@
 ghost use Rattle.std.specs.Prelude.{◌≡◌, ◌≤◌, ◌++◌, List, ℕ, Result, IfOk, OnOk, OnErr, option_map};
 ghost use Rattle.std.specs.Prelude.{map, take, length};
 ghost use Rattle.wire.specs.Spelling.{spelling};
-ghost use Rattle.canonical.specs.Fields.{element_fields};
+ghost use Rattle.canonical.specs.Fields.{element_fields, elements_at};
 ghost use Rattle.wire.specs.Bytes.{AreBytes};
 ghost use Rattle.wire.specs.Record.{records_of};
 ghost use Rattle.canonical.specs.View.{slices};
@@ -12,7 +12,7 @@ ghost use Rattle.canonical.specs.Told.{each, in_option};
 ghost use Rattle.messages.specs.Told.{shape_checked};
 
 use crate::error::MessageError;
-use canonical::{Shape, check, write_element};
+use canonical::{Shape, check, read_elements, write_element};
 use std::alloc::{AllocError, Allocator};
 use wire::Field;
 
@@ -53,8 +53,7 @@ pub fn read_fields<'a, A: Allocator>(
     Ok(check(alloc, shape, bytes)?)
 }
 
-/// The messages of the elements, in order.
-pub fn read_each<A: Allocator + Copy, M: Message<A>>(
+fn read_all<A: Allocator + Copy, M: Message<A>>(
     alloc: A,
     elements: &[&[u8]],
 ) -> Result<Vec<M, A>, MessageError>
@@ -65,6 +64,18 @@ pub fn read_each<A: Allocator + Copy, M: Message<A>>(
         messages.push(M::read(alloc, bytes)?)?;
     }
     Ok(messages)
+}
+
+/// The messages of the repeated field of this number, in order.
+pub fn read_each<A: Allocator + Copy, M: Message<A>>(
+    alloc: A,
+    fields: &[Field<'_>],
+    number: u32,
+) -> Result<Vec<M, A>, MessageError>
+    ensures { GivesUnlessMemory (λ v. v.items) result
+        (each M.reads (elements_at number (records_of fields.now))) }
+{
+    read_all(alloc, &read_elements(alloc, fields, number)?)
 }
 
 /// The message of a single field, if the field is there.

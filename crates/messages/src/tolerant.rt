@@ -1,5 +1,6 @@
 ghost use Rattle.std.specs.Prelude.{List, ℕ, Result};
 ghost use Rattle.wire.specs.Record.{records_of};
+ghost use Rattle.canonical.specs.Fields.{elements_at};
 ghost use Rattle.canonical.specs.Told.{each};
 ghost use Rattle.canonical.specs.View.{slices};
 ghost use Rattle.messages.specs.declared.error.MessageError.{MessageError};
@@ -7,7 +8,7 @@ ghost use Rattle.messages.specs.Gives.{GivesUnlessMemory};
 ghost use Rattle.messages.specs.Tolerant.{known_checked, in_occurrences, alone};
 
 use crate::error::MessageError;
-use canonical::{Shape, check_any};
+use canonical::{Shape, check_any, read_elements};
 use std::alloc::Allocator;
 use wire::Field;
 
@@ -33,8 +34,7 @@ pub fn read_any_fields<'a, A: Allocator>(
     Ok(check_any(alloc, shape, skipped, texts)?)
 }
 
-/// The messages of the elements, in order.
-pub fn read_any_each<A: Allocator + Copy, M: Tolerant<A>>(
+fn read_any_all<A: Allocator + Copy, M: Tolerant<A>>(
     alloc: A,
     elements: &[&[u8]],
 ) -> Result<Vec<M, A>, MessageError>
@@ -47,15 +47,30 @@ pub fn read_any_each<A: Allocator + Copy, M: Tolerant<A>>(
     Ok(messages)
 }
 
-/// The message of a single field, if it is there.
+/// The messages of the repeated field of this number, in order.
+pub fn read_any_each<A: Allocator + Copy, M: Tolerant<A>>(
+    alloc: A,
+    fields: &[Field<'_>],
+    number: u32,
+) -> Result<Vec<M, A>, MessageError>
+    ensures { GivesUnlessMemory (λ v. v.items) result
+        (each (alone M.says) (elements_at number (records_of fields.now))) }
+{
+    read_any_all(alloc, &read_elements(alloc, fields, number)?)
+}
+
+/// The message of the single field of this number, from all its occurrences, if there is one.
 pub fn read_any_optional<A: Allocator + Copy, M: Tolerant<A>>(
     alloc: A,
-    texts: &[&[u8]],
+    fields: &[Field<'_>],
+    number: u32,
 ) -> Result<Option<M>, MessageError>
-    ensures { GivesUnlessMemory (λ m. m) result (in_occurrences M.says (slices texts.now)) }
+    ensures { GivesUnlessMemory (λ m. m) result
+        (in_occurrences M.says (elements_at number (records_of fields.now))) }
 {
+    let texts = read_elements(alloc, fields, number)?;
     if texts.is_empty() {
         return Ok(None);
     }
-    Ok(Some(M::read_any(alloc, texts)?))
+    Ok(Some(M::read_any(alloc, &texts)?))
 }

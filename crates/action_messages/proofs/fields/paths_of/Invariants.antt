@@ -3,7 +3,7 @@ use Rattle.canonical.specs.View.{slices}
 use Rattle.canonical.specs.Told.{each}
 use Rattle.messages.specs.Path.{path_of}
 use Rattle.messages.proofs.Each.{with_front}
-use Rattle.action_messages.proofs.fields.read_paths.Given as goal
+use Rattle.action_messages.proofs.fields.paths_of.Given as goal
 
 abbrev pub invariant-loop-bytes : goal.invariant-loop-bytes
 invariant-loop-bytes g l = with_front l.paths.items (each path_of (slices (drop l.bytes-index l.elements))) ≡ each path_of (slices l.elements)
