@@ -35,7 +35,7 @@ IsFileFault path Memory = Unit {0}
 IsFileFault path _ = ⊥
 
 -- the text of the option isn't what is wanted
-abbrev pub IsUnlike : List ℕ → List ℕ → List ℕ → CommandError → Type 0
-IsUnlike option wanted text (Unlike o w t) =
+abbrev pub IsUnlikeWanted : List ℕ → List ℕ → List ℕ → CommandError → Type 0
+IsUnlikeWanted option wanted text (Unlike o w t) =
     (o.now ≡ option) × (w.now ≡ wanted) × (string_bytes t ≡ text)
-IsUnlike option wanted text _ = ⊥
+IsUnlikeWanted option wanted text _ = ⊥

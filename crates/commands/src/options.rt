@@ -1,7 +1,7 @@
 ghost use Rattle.std.specs.Prelude.{◌↔◌, IfErr, IfOk, IsTrue, SomeIff};
 ghost use Rattle.clap.specs.Words.{found_of, rows_of};
 ghost use Rattle.command_lines.specs.CommandLine.{option_text};
-ghost use Rattle.commands.specs.Faults.{IsDigestFault, IsUnlike};
+ghost use Rattle.commands.specs.Faults.{IsDigestFault, IsUnlikeWanted};
 ghost use Rattle.commands.specs.Options.{IsAddress, IsNumber, number_of};
 ghost use Rattle.commands.specs.Refusal.{IsCommandFault};
 ghost use Rattle.text_verifier.specs.Texts.{IsDigestText};
@@ -65,7 +65,7 @@ pub fn unlike(
     text: &str,
 ) -> Result<CommandError, AllocError>
     ensures fault { IfOk result IsCommandFault }
-    ensures told { IfOk result (IsUnlike option.now wanted.now text.now) }
+    ensures told { IfOk result (IsUnlikeWanted option.now wanted.now text.now) }
 {
     Ok(CommandError::Unlike {
         option,

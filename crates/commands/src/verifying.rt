@@ -5,8 +5,8 @@ ghost use Rattle.std.specs.Io.KnownBytes.{Appends};
 ghost use Rattle.blob_source.specs.Source.{Telling};
 ghost use Rattle.clap.specs.Words.{found_of, first_of, rows_of};
 ghost use Rattle.commands.specs.Printed.{NamesPlace, NamesStore, PrintsVerdict};
-ghost use Rattle.commands.specs.Refusal.{FailsDigests, FailsPlan, FailsRecord, FailsVerify, IsToldAs};
-ghost use Rattle.commands.specs.Refusal.{IsCommandFault};
+ghost use Rattle.commands.specs.Refusal.{FailsDigests, FailsPlan, FailsRecord, FailsVerify};
+ghost use Rattle.commands.specs.Refusal.{HasQuestion, IsCommandFault, IsToldAs};
 ghost use Rattle.commands.specs.Status.{status_of};
 ghost use Rattle.commands.specs.Told.{PrintsNoLine};
 ghost use Rattle.command_lines.specs.CommandLine.{option_text};
@@ -16,14 +16,14 @@ ghost use Rattle.text_verifier.specs.Answered.{IsAnswer};
 ghost use Rattle.text_verifier.specs.Texts.{HasPlan, HasRecord, IsDigestText, question_of};
 ghost use Rattle.verifier.specs.Verdict.{IsYes};
 
-use crate::connecting::{ServerOptions, open, read_server};
+use crate::connecting::{Client, ServerOptions, open, read_server};
 use crate::error::CommandError;
 use crate::files::file_bytes;
 use crate::telling::write_bytes;
 use clap::ArgMatches;
 use command_lines::{option_of, text_of};
 use plan::{Plan, Record};
-use remote::FolderSource;
+use remote::{FolderSource, Stream};
 use std::alloc::{AllocError, Global};
 use std::io::Write;
 use std::net::{Net, TcpStream};
@@ -200,10 +200,26 @@ fn judge_server<R: AllocGlobal + Net<Stream = TcpStream>>(
         (question_of digests.now.sources digests.now.claim plan.now noted.now) answer) }
     ensures fault { IfErr result (λ e. status_of e ≡ 3) }
 {
-    let mut source = open(rt, server)?;
-    match answer_question(rt.alloc(), digests, plan, noted, &mut source) {
+    let mut client = open(rt, server)?;
+    judge_by(rt.alloc(), &mut client, digests, plan, noted)
+}
+
+/// The answer by what the client's server gives.
+fn judge_by<S: Stream + Drop>(
+    alloc: Global,
+    client: &mut Client<'_, S>,
+    digests: &Digests,
+    plan: &Plan<Global>,
+    noted: &Record<Global>,
+) -> Result<Answer<Global>, CommandError>
+    requires { Fits noted.now plan.now }
+    ensures answered { IfOk result (λ answer. (told : Telling) × IsAnswer told
+        (question_of digests.now.sources digests.now.claim plan.now noted.now) answer) }
+    ensures fault { IfErr result (λ e. status_of e ≡ 3) }
+{
+    match answer_question(alloc, digests, plan, noted, client) {
         Ok(answer) => Ok(answer),
-        Err(TextError::Fetch) => Err(source.error(rt.alloc(), FetchError::Failed)?),
+        Err(TextError::Fetch) => Err(client.error(alloc, FetchError::Failed)?),
         Err(_e) => Err(CommandError::Memory),
     }
 }
@@ -225,6 +241,44 @@ fn judge<R: AllocGlobal + Files + Net<Stream = TcpStream>>(
         Place::Folder(folder) => judge_folder(rt, folder, digests, plan, noted),
         Place::Server(server) => judge_server(rt, server, digests, plan, noted),
     }
+}
+
+/// The answer on the plan that was read, once its record is read.
+fn judge_plan<R: AllocGlobal + Files + Net<Stream = TcpStream>>(
+    rt: &R,
+    matches: &ArgMatches<'_>,
+    place: &Place<'_>,
+    digests: &Digests,
+    plan: &Plan<Global>,
+) -> Result<Answer<Global>, CommandError>
+    requires place { NamesPlace (rows_of (found_of matches.now)) }
+    requires sources { IsDigestText
+        (option_text (rows_of (found_of matches.now)) (codes "sources")) digests.now.sources }
+    requires claim { IsDigestText
+        (option_text (rows_of (found_of matches.now)) (codes "claim")) digests.now.claim }
+    requires plan { (bytes : List ℕ) × HasPlan bytes plan.now }
+    ensures answered { IfOk result (λ answer. (asks : HasQuestion (rows_of (found_of matches.now)))
+        × (told : Telling) × IsAnswer told asks.question answer) }
+    ensures refused { IfErr result (FailsVerify (rows_of (found_of matches.now))) }
+{
+    let noted = record_in_file(rt, matches, plan)?;
+    judge(rt, place, digests, plan, &noted)
+}
+
+/// The answer over the place, once the digests, the plan and its record are read.
+fn judge_texts<R: AllocGlobal + Files + Net<Stream = TcpStream>>(
+    rt: &R,
+    matches: &ArgMatches<'_>,
+    place: &Place<'_>,
+) -> Result<Answer<Global>, CommandError>
+    requires { NamesPlace (rows_of (found_of matches.now)) }
+    ensures answered { IfOk result (λ answer. (asks : HasQuestion (rows_of (found_of matches.now)))
+        × (told : Telling) × IsAnswer told asks.question answer) }
+    ensures refused { IfErr result (FailsVerify (rows_of (found_of matches.now))) }
+{
+    let digests = typed_digests(rt.alloc(), matches)?;
+    let plan = plan_in_file(rt, matches)?;
+    judge_plan(rt, matches, place, &digests, &plan)
 }
 
 /// Prints the line of the answer, its newline last and alone, so that what an error leaves printed
@@ -264,10 +318,7 @@ where
     ensures refused { IfErr result (FailsVerify (rows_of (found_of matches.now))) }
 {
     let place = read_place(rt.alloc(), matches)?;
-    let digests = typed_digests(rt.alloc(), matches)?;
-    let plan = plan_in_file(rt, matches)?;
-    let noted = record_in_file(rt, matches, &plan)?;
-    let answer = judge(rt, &place, &digests, &plan, &noted)?;
+    let answer = judge_texts(rt, matches, &place)?;
     print_line(&answer, out)?;
     Ok(answer.is_yes)
 }
