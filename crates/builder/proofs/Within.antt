@@ -4,7 +4,7 @@ use Rattle.blob_digest.specs.Digest.{DigestValue}
 use Rattle.blob_source.specs.Source.{Telling}
 use Rattle.plan.specs.Values.{PlanValue}
 use Rattle.worker.specs.Outcomes.{Yields, YieldsNoMore}
-use Rattle.worker.proofs.Stopping.{led_within, refused_within}
+use Rattle.worker.proofs.Stopping.{built_by_within, led_within, refused_within}
 use Rattle.builder.specs.Built.{BuiltValue, IsBuilt}
 use Rattle.builder.specs.Refused.{IsBuildFault}
 use Rattle.builder.specs.Telling.{IsBuildTold}
@@ -21,7 +21,7 @@ module _ (A : Type 0) (z y : Yields) (most : ℕ) (plan : PlanValue) (sources : 
     ending = h.ending;
     still = h.still;
     last = h.last;
-    led = led_within A z y h.ending within h.led;
+    led = built_by_within A z y h.ending within h.led;
     of_plan = h.of_plan;
     of_sources = h.of_sources;
     asked = h.asked;

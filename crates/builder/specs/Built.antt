@@ -13,7 +13,7 @@ use Rattle.tree.specs.Tree.{Tree, Leaf}
 use Rattle.verifier.specs.Build.{Meaning, ActionMeaning, Outcome, Event, State}
 use Rattle.verifier.specs.Verdict.{IsVerdict}
 use Rattle.verifier.specs.declared.verdict.Verdict.TheVariants.{Yes}
-use Rattle.worker.specs.Calls.{IsLed}
+use Rattle.worker.specs.Calls.{IsBuiltBy}
 use Rattle.worker.specs.Outcomes.{Yields}
 use Rattle.worker.specs.Stored.{IsToldOrTree, IsStored}
 
@@ -44,7 +44,8 @@ pub record IsAnsweredYes (A : Type 0) (told : Telling) (last : EngineValue)
 
 -- Calls led from an engine of the plan, as the store told it, to one in which each step has
 -- finished. What each step came to, the runner yielded or the store had recorded, and the store has
--- it. The root and the record are that engine's, and are answered yes by what the store told.
+-- it. Results are put for those alone that the runner yielded, and others stay. The root and the
+-- record are that engine's, and are answered yes by what the store told.
 pub record IsBuilt (A : Type 0) (yields : Yields) (most : ℕ) (plan : PlanValue)
     (sources : DigestValue) (told : Telling) (b : BuiltValue) : Type 0 where
   pub opening : Telling
@@ -54,7 +55,7 @@ pub record IsBuilt (A : Type 0) (yields : Yields) (most : ℕ) (plan : PlanValue
   pub ending : Telling
   pub still : KeepsRight opening.blobs ending.blobs
   pub last : EngineValue
-  pub led : IsLed A yields ending most first last
+  pub led : IsBuiltBy A yields opening ending most first last
   pub of_plan : last.plan ≡ plan
   pub of_sources : last.sources ≡ sources
   -- the store is only asked after that

@@ -9,7 +9,7 @@ ghost use Rattle.builder.specs.Refused.{FailsOpening, RefusesStep, RefusesRoot, 
 ghost use Rattle.builder.specs.Watched.{IsProgressOfPlan, IsToldWhole};
 ghost use Rattle.builder.specs.declared.fault.Fault.TheVariants as faults;
 ghost use Rattle.runs.specs.Calls.{HaveAllFinished, IsOpened};
-ghost use Rattle.worker.specs.Calls.{IsLed, running};
+ghost use Rattle.worker.specs.Calls.{IsBuiltBy, running};
 ghost use Rattle.worker.specs.Stored.{HasNoneFinished, IsStored};
 ghost use Rattle.worker.specs.Watching.{IsProgress, IsUpToDate, IsWatched};
 
@@ -69,7 +69,8 @@ fn run<A: Allocator + Copy, S: BlobSink<A>, N: Runner<A>, W: Watcher>(
 ) -> Result<(), Fault>
     requires some { 0 < jobs }
     requires idle { running engine.old.jobs ≡ 0 }
-    ensures led { IsLed A (N.yields runner.old) (S.tells sink.new) jobs engine.old engine.new }
+    ensures led { IsBuiltBy A (N.yields runner.old) (S.tells sink.old) (S.tells sink.new) jobs
+        engine.old engine.new }
     ensures done { OnOk result (HaveAllFinished engine.new) }
     ensures refused { IfErr result
         (RefusesStep A (N.yields runner.old) jobs engine.old (S.tells sink.new)) }

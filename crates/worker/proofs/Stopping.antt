@@ -12,7 +12,7 @@ use Rattle.worker.specs.declared.error.BuildError.{BuildError}
 use Rattle.worker.specs.declared.child.Child.{Child}
 use Rattle.worker.specs.declared.turns.Turn.{Turn}
 use Rattle.worker.specs.declared.turns.Turn.TheVariants as turns
-use Rattle.worker.specs.Calls.{Call, started, ran, taken, lost, Does, Leads, IsLed}
+use Rattle.worker.specs.Calls.{Call, started, ran, taken, lost, Does, Leads, IsLed, IsBuiltBy}
 use Rattle.worker.specs.Going.{AreJobsOf, IsJobIn, job_value, IsOwnJob, IsGoing, IsTurn, Ends, HasEndedFirst}
 use Rattle.worker.specs.Outcomes.{Yields, YieldsNoMore, HasAllRight, IsYielded}
 use Rattle.worker.specs.Stores.{IsKept}
@@ -193,6 +193,12 @@ module _ (A : Type 0) (z y : Yields) (t : Telling) (within : YieldsNoMore z y) w
 
   pub led_within : {most : ℕ} {old new : EngineValue} → IsLed A z t most old new → IsLed A y t most old new
   led_within {most} {old} {new} h = record { calls = h.calls; leads = leads_within most h.calls old new h.leads }
+
+  pub built_by_within : {before : Telling} {most : ℕ} {old new : EngineValue} → IsBuiltBy A z before t most old new → IsBuiltBy A y before t most old new
+  built_by_within {before} {most} {old} {new} h = record {
+    led = record { calls = h.led.calls; leads = leads_within most h.led.calls old new h.led.leads };
+    puts = h.puts;
+  }
 
   pub refused_within : {most i : ℕ} {old : EngineValue} {r : Refusal A} → IsRefusedBuild A z t most old i r → IsRefusedBuild A y t most old i r
   refused_within {most} {i} {old} {r} h = record { at = h.at; led = led_within h.led; planned = h.planned; stops = stops_within z y t h.at i r within h.stops }

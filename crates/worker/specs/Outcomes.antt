@@ -67,7 +67,7 @@ pub record IsHeld (t : Telling) (d : DigestValue) (v : OutcomeValue) : Type 0 wh
 
 -- A job came to an outcome that the store has recorded for its action, and that a build takes for
 -- the command of its step.
-pub record IsTaken (t : Telling) (e : EngineValue) (j : JobValue) (v : OutcomeValue)
+pub record CanBeTakenFor (t : Telling) (e : EngineValue) (j : JobValue) (v : OutcomeValue)
     : Type 0 where
   pub held : IsHeld t j.action v
   pub command : CommandValue

@@ -11,18 +11,18 @@ use Rattle.worker.specs.declared.error.Refusal.TheVariants as refusals
 use Rattle.worker.specs.declared.runner.RunError.TheVariants as children
 use Rattle.worker.specs.declared.child.Child.{Child}
 use Rattle.worker.specs.Calls.{WasStarted, IsLed, IsStartable}
-use Rattle.worker.specs.Outcomes.{Yields, HasAllRight, IsYielded, IsTaken}
+use Rattle.worker.specs.Outcomes.{Yields, HasAllRight, IsYielded, CanBeTakenFor}
 use Rattle.worker.specs.Refusals.{IsLayoutFault}
 use Rattle.worker.specs.Stores.{IsKept}
 use Rattle.worker.specs.Values.{ProducedValue, IsAbsolute}
 
 -- what a job finishes with: what the runner yields for it, or what is taken from the store for it
 abbrev pub ComesTo : Yields → Telling → EngineValue → JobValue → OutcomeValue → Type 0
-ComesTo yields t e j v = IsYielded yields t.blobs e j v ⊎ IsTaken t e j v
+ComesTo yields t e j v = IsYielded yields t.blobs e j v ⊎ CanBeTakenFor t e j v
 
 -- a job of a step runs
-abbrev pub Runs : EngineValue → ℕ → Type 0
-Runs e i = (id : ℕ) × (j : JobValue) × (job_in id e ≡ Some j) × (j.step ≡ i)
+abbrev pub HasJobOf : EngineValue → ℕ → Type 0
+HasJobOf e i = (id : ℕ) × (j : JobValue) × (job_in id e ≡ Some j) × (j.step ≡ i)
 
 -- A step is refused: the engine doesn't start it, though it could be, or doesn't take what its job
 -- came to; or the input of its job isn't laid out; or its command doesn't name its program from the
@@ -37,8 +37,8 @@ StopsStep yields t e i (refusals.Layout why) =
     × IsLayoutFault t.blobs j.input why
 StopsStep yields t e i (refusals.Run children.NotAbsolute) =
     (c : CommandValue) × (slice_get e.commands i ≡ Some c) × (IsAbsolute c → ⊥)
-StopsStep yields t e i (refusals.Run children.Device) = Runs e i
-StopsStep yields t e i (refusals.Run (children.BadOutput p)) = Runs e i
+StopsStep yields t e i (refusals.Run children.Device) = HasJobOf e i
+StopsStep yields t e i (refusals.Run (children.BadOutput p)) = HasJobOf e i
 StopsStep yields t e i (refusals.Run children.Memory) = Unit {0}
 StopsStep yields t e i refusals.Fetch = Unit {0}
 StopsStep yields t e i refusals.Memory = Unit {0}

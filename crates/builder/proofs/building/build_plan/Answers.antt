@@ -43,12 +43,12 @@ returns-clause-built g c =
       still = c.run.ensures.right;
       last = c.run.new.engine;
       led = c.run.ensures.led;
-      of_plan = led_plan c.run.ensures.led ∙ opened.plan;
-      of_sources = led_sources c.run.ensures.led ∙ opened.sources;
+      of_plan = led_plan c.run.ensures.led.led ∙ opened.plan;
+      of_sources = led_sources c.run.ensures.led.led ∙ opened.sources;
       asked = c.end.ensures.asked;
       stored = stored;
       end = h;
-      answered = answered g.row.A.Denot (g.N.Runner.yields c.args.runner.now) c.args.jobs c.args.plan c.args.sources opening ending told c.in_ok-engine.engine c.run.new.engine built opened c.run.ensures.right c.run.ensures.led (right_grows asks.blobs) c.plan.ensures.lawful stored h;
+      answered = answered g.row.A.Denot (g.N.Runner.yields c.args.runner.now) c.args.jobs c.args.plan c.args.sources opening ending told c.in_ok-engine.engine c.run.new.engine built opened c.run.ensures.right c.run.ensures.led.led (right_grows asks.blobs) c.plan.ensures.lawful stored h;
     }) c.end.ensures.ended
 
 pub returns-in_err-engine-clause-refused : goal.returns-in_err-engine-clause-refused
@@ -76,7 +76,7 @@ returns-clause-refused g c = IfErr-weaker c.end.result _ _
       ending = g.S.BlobSource.tells c.run.new.sink;
       still = c.run.ensures.right;
       last = c.run.new.engine;
-      led = c.run.ensures.led;
+      led = c.run.ensures.led.led;
       complete = c.in_ok-run.ensures.done;
       asked = c.end.ensures.asked;
       stands = root;
@@ -94,7 +94,7 @@ returns-clause-watched g c = watched_of_plan (g.S.BlobSource.tells c.open.new.si
 pub returns-clause-whole : goal.returns-clause-whole
 returns-clause-whole g c =
     let opened = c.in_ok-engine.ensures.opened in
-    on_ok c.end.result (whole_of c.args.plan c.in_ok-engine.engine c.run.new.engine opened c.plan.ensures.lawful c.in_ok-run.ensures.done (led_plan c.run.ensures.led ∙ opened.plan)
+    on_ok c.end.result (whole_of c.args.plan c.in_ok-engine.engine c.run.new.engine opened c.plan.ensures.lawful c.in_ok-run.ensures.done (led_plan c.run.ensures.led.led ∙ opened.plan)
     (g.W.Watcher.told c.args.watcher.now) (g.W.Watcher.told c.run.new.watcher) c.in_ok-run.ensures.up_to_date)
 
 pub returns-in_err-engine-clause-fetched : goal.returns-in_err-engine-clause-fetched

@@ -11,7 +11,7 @@ pub returns-in-Err-clause-device : goal.returns-in-Err-clause-device
 returns-in-Err-clause-device g c = λ f. c.in-Err.ensures.device (device_refusal _ c.in-Err.error.refusal _ c.of_refusal.ensures f)
 
 pub returns-in-Ok-clause-led : goal.returns-in-Ok-clause-led
-returns-in-Ok-clause-led g c = c.build.ensures.led.led
+returns-in-Ok-clause-led g c = c.build.ensures.led
 
 pub returns-in-Err-clause-led : goal.returns-in-Err-clause-led
-returns-in-Err-clause-led g c = c.build.ensures.led.led
+returns-in-Err-clause-led g c = c.build.ensures.led

@@ -3,7 +3,7 @@ use Rattle.std.proofs.Common.{refl, sym, subst, inl, inr, ap, ◌∙◌, ◌++�
 use Rattle.blob_source.specs.Sink.{HasRight}
 use Rattle.std.specs.Prelude.{IfSome}
 use Rattle.worker.specs.declared.child.Child.{Child}
-use Rattle.worker.specs.Outcomes.{IsHeld, IsTaken, CanBeTaken}
+use Rattle.worker.specs.Outcomes.{IsHeld, CanBeTakenFor, CanBeTaken}
 use Rattle.worker.specs.Going.{job_value}
 use Rattle.worker.proofs.Stopping.{store_stops, child_stops}
 use Rattle.worker.proofs.Telling.{held_kept}
@@ -86,7 +86,7 @@ returns-in_err-finish-clause-refused g c =
     let p = err_from_is_err_and c.from_residual-in_err-finish.result c.from_residual-in_err-finish.ensures.1 in
     let t = g.S.BlobSource.tells c.recorded_outcome.new.sink in
     let held : IsHeld t c.args.job.now.digest c.in-Some.outcome = subst (λ o. IfSome o (IsHeld t c.args.job.now.digest)) c.in-Some.is c.in_ok-outcome.ensures.held in
-    let taken : IsTaken (g.S.BlobSource.tells c.put_trees.new.sink) c.args.engine.now (job_value c.args.job.now) c.in-Some.outcome = record {
+    let taken : CanBeTakenFor (g.S.BlobSource.tells c.put_trees.new.sink) c.args.engine.now (job_value c.args.job.now) c.in-Some.outcome = record {
       held = held_kept c.put_trees.ensures.kept held;
       command = c.args.job.now.command;
       of_step = c.requires.command;
