@@ -1,27 +1,39 @@
 #!/usr/bin/env python3
-"""Runs the gate (.ci/run) and tells what it took, as the table of docs/GATE.md: gate_minutes.py [LOG].
+"""Runs the gate (.ci/run) and tells what it took, as the table of docs/GATE.md: gate_minutes.py [--anew] [LOG].
 
 For each crate: the processor minutes of its proof, of its tests' proof and of its must-fail edits, and the most memory
-that one of these processes held. It looks at the processes of the toolchain twice a second, so what lives shorter isn't
-seen. The gate's own output goes to LOG (gate.log), each line after the minutes since the start.
+that one of these processes held. It looks at the gate's processes of the toolchain twice a second, so what lives shorter
+isn't seen. The gate's own output goes to LOG (gate.log), each line after the minutes since the start. With --anew the gate
+takes nothing from earlier runs on this machine.
 """
 import collections
 import os
+import shutil
 import subprocess
 import sys
+import tempfile
 import threading
 import time
 
 TICKS = os.sysconf("SC_CLK_TCK")
 
 
+def is_below(pid, top):
+    """Whether the process was started by the one of number top, or by one that was."""
+    while pid not in (0, top):
+        with open(f"/proc/{pid}/stat") as it:
+            pid = int(it.read().rpartition(")")[2].split()[1])
+    return pid == top
+
+
 def processes():
-    """Each process of the toolchain that is at work: its number and start, its words, and the folder that it runs in."""
+    """Each process of the toolchain that this one or one below it started: its number and start, its words, the folder
+    that it runs in, the seconds that it took and the most memory that it held."""
     for pid in filter(str.isdigit, os.listdir("/proc")):
         try:
             with open(f"/proc/{pid}/cmdline", "rb") as it:
                 words = it.read().decode(errors="replace").split("\0")
-            if not words[0].endswith("/rattle") or "--crate-name" not in words:
+            if not words[0].endswith("/rattle") or "--crate-name" not in words or not is_below(int(pid), os.getpid()):
                 continue
             with open(f"/proc/{pid}/stat") as it:
                 fields = it.read().rpartition(")")[2].split()
@@ -39,13 +51,28 @@ def watch(seen, stopped):
             seen[key] = words[words.index("--crate-name") + 1], kind, seconds, peak
 
 
+def path_to_anew(room):
+    """A PATH in which `rt ci` takes nothing from earlier runs."""
+    with open(f"{room}/rt", "w", encoding="utf-8") as it:
+        it.write(f'#!/bin/sh\nexec {shutil.which("rt")} "$@" --anew\n')
+    os.chmod(it.name, 0o755)
+    return f"{room}:{os.environ['PATH']}"
+
+
 def main(words):
+    with tempfile.TemporaryDirectory() as room:
+        path = path_to_anew(room) if "--anew" in words else os.environ["PATH"]
+        return timed(next((it for it in words if it != "--anew"), "gate.log"), {**os.environ, "PATH": path})
+
+
+def timed(file, environment):
     top = os.path.dirname(os.path.dirname(os.path.realpath(__file__)))
     seen, stopped, began = {}, threading.Event(), time.time()
     watcher = threading.Thread(target=watch, args=(seen, stopped))
     watcher.start()
-    gate = subprocess.Popen([f"{top}/.ci/run"], cwd=top, stdout=subprocess.PIPE, stderr=subprocess.STDOUT, text=True, errors="replace")
-    with open(words[0] if words else "gate.log", "w", encoding="utf-8") as log:
+    how = {"stdout": subprocess.PIPE, "stderr": subprocess.STDOUT, "text": True, "errors": "replace", "env": environment}
+    gate = subprocess.Popen([f"{top}/.ci/run"], cwd=top, **how)
+    with open(file, "w", encoding="utf-8") as log:
         for line in gate.stdout:
             print(f"{(time.time() - began) / 60:6.1f} {line}", end="", file=log, flush=True)
             last = line.strip()
