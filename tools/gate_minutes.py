@@ -4,7 +4,7 @@
 For each crate: the processor minutes of its proof, of its tests' proof and of its must-fail edits, and the most memory
 that one of these processes held. It looks at the gate's processes of the toolchain twice a second, so what lives shorter
 isn't seen. The gate's own output goes to LOG (gate.log), each line after the minutes since the start. With --anew the gate
-takes nothing from earlier runs on this machine.
+takes nothing from earlier runs on this machine; a kit whose `rt help` doesn't know that word never does.
 """
 import collections
 import os
@@ -53,6 +53,9 @@ def watch(seen, stopped):
 
 def path_to_anew(room):
     """A PATH in which `rt ci` takes nothing from earlier runs."""
+    said = subprocess.run(["rt", "help"], capture_output=True, text=True, check=False)
+    if "--anew" not in said.stdout + said.stderr:
+        return os.environ["PATH"]
     with open(f"{room}/rt", "w", encoding="utf-8") as it:
         it.write(f'#!/bin/sh\nexec {shutil.which("rt")} "$@" --anew\n')
     os.chmod(it.name, 0o755)
