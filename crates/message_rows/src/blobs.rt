@@ -1,8 +1,9 @@
 //! Rows of stores of blobs, of which each group has one. A blob is told by its bytes.
-use crate::answers::{Answer, Broken, compared, is, limit_in, number, number_in, said, yes_or_no};
+use crate::answers::{
+    Answer, Broken, compared, limit_in, number, number_in, said, word, yes_or_no,
+};
 use blob_digest::{Body, Digest, Sealed};
 use blob_store::{BlobError, BlobStore};
-use refusing::Refusing;
 use row_files::Row;
 use std::alloc::{AllocError, Allocator, Global};
 use std::hash::RandomState;
@@ -33,34 +34,52 @@ fn answer<A: Allocator + Copy>(
     store: &mut BlobStore<A>,
     fields: &[Vec<u8>],
 ) -> Answer {
-    if acted(alloc, store, fields)? {
-        return number(global, store.held_bytes());
-    }
     match fields {
-        [kind, bytes, _] => asked(global, store, kind, bytes),
-        [kind, bytes, size, _] if is(kind, "contains") => {
-            yes_or_no(global, store.contains(&sized(bytes, size)?))
-        }
+        [kind, bytes, _] => of_one(global, alloc, store, word(kind), bytes),
+        [kind, first, second, _] => of_two(global, alloc, store, word(kind), first, second),
         _ => Err(Broken::NoRow),
     }
 }
 
-/// Does what the row says, if it says what is to be done.
-fn acted<A: Allocator + Copy>(
+/// What the store answers of a blob, or how many bytes it holds after what was done.
+fn of_one<A: Allocator + Copy>(
+    global: Global,
     alloc: A,
     store: &mut BlobStore<A>,
-    fields: &[Vec<u8>],
-) -> Result<bool, Broken> {
-    match fields {
-        [kind, bytes, _] if is(kind, "put") => put(store, alloc, bytes, bytes)?,
-        [kind, bytes, _] if is(kind, "put in pieces") => put_in_pieces(store, alloc, bytes)?,
-        [kind, count, _] if is(kind, "put zeros") => put_zeros(store, alloc, number_in(count)?)?,
-        [kind, bytes, _] if is(kind, "unpin") => unpin(store, alloc, Digest::of(bytes))?,
-        [kind, name, bytes, _] if is(kind, "put as") => put(store, alloc, name, bytes)?,
-        [kind, bytes, size, _] if is(kind, "pin") => pin(store, alloc, sized(bytes, size)?)?,
-        _ => return Ok(false),
+    kind: &str,
+    bytes: &[u8],
+) -> Answer {
+    let hash = Digest::of(bytes).hash();
+    match kind {
+        "get" => return found(global, store.get(&hash), bytes),
+        "peek" => return found(global, store.peek(&hash), bytes),
+        "touch" => return yes_or_no(global, store.touch(&hash)),
+        "pins" => return number(global, store.pins(&hash)),
+        "put" => put(store, alloc, bytes, bytes)?,
+        "put in pieces" => put_in_pieces(store, alloc, bytes)?,
+        "put zeros" => put_zeros(store, alloc, number_in(bytes)?)?,
+        "unpin" => unpin(store, alloc, Digest::of(bytes))?,
+        _ => return Err(Broken::NoRow),
     }
-    Ok(true)
+    number(global, store.held_bytes())
+}
+
+/// The same of two blobs, or of a blob and a size.
+fn of_two<A: Allocator + Copy>(
+    global: Global,
+    alloc: A,
+    store: &mut BlobStore<A>,
+    kind: &str,
+    first: &[u8],
+    second: &[u8],
+) -> Answer {
+    match kind {
+        "contains" => return yes_or_no(global, store.contains(&sized(first, second)?)),
+        "put as" => put(store, alloc, first, second)?,
+        "pin" => pin(store, alloc, sized(first, second)?)?,
+        _ => return Err(Broken::NoRow),
+    }
+    number(global, store.held_bytes())
 }
 
 /// Puts the bytes under the hash of the first.
@@ -142,33 +161,4 @@ pub fn found(global: Global, found: Option<&[u8]>, bytes: &[u8]) -> Answer {
         Some(found) => said(global, if found == bytes { "found" } else { "others" }),
         None => said(global, "none"),
     }
-}
-
-/// What the store answers of a blob.
-fn asked<A: Allocator + Copy>(
-    global: Global,
-    store: &mut BlobStore<A>,
-    kind: &[u8],
-    bytes: &[u8],
-) -> Answer {
-    let hash = Digest::of(bytes).hash();
-    match kind {
-        kind if is(kind, "get") => found(global, store.get(&hash), bytes),
-        kind if is(kind, "peek") => found(global, store.peek(&hash), bytes),
-        kind if is(kind, "touch") => yes_or_no(global, store.touch(&hash)),
-        kind if is(kind, "pins") => number(global, store.pins(&hash)),
-        _ => Err(Broken::NoRow),
-    }
-}
-
-/// Whether a blob is found without memory.
-pub fn is_spare(global: Global, state: RandomState) -> Result<bool, Broken> {
-    let heap = Refusing::new(global, 0);
-    let mut store: BlobStore<&Refusing<Global>> = BlobStore::new(&heap, state, 20)?;
-    put(&mut store, &heap, b"123456789", b"123456789")?;
-    let nine = Digest::of(b"123456789");
-    heap.refuse(1);
-    let is_held = store.contains(&nine) && store.touch(&nine.hash());
-    let is_found = store.peek(&nine.hash()).is_some() && store.get(&nine.hash()).is_some();
-    Ok(is_held && is_found && store.held_bytes() == 9 && !heap.has_refused())
 }

@@ -1,10 +1,9 @@
 //! Rows of caches of blobs and results, of which each group has one. A blob is told by its bytes, a
 //! result by the number that each byte of its hash has.
-use crate::answers::{Answer, Broken, compared, is, limit_in, number, number_in, said};
+use crate::answers::{Answer, Broken, compared, limit_in, number, number_in, said, word};
 use crate::blobs::found;
 use action_cache::{ActionCache, CacheError};
 use blob_digest::{Digest, Sealed};
-use refusing::Refusing;
 use row_files::Row;
 use std::alloc::{Allocator, Global};
 use std::hash::RandomState;
@@ -34,7 +33,6 @@ pub fn run<A: Allocator + Copy>(
     Ok(())
 }
 
-/// What the cache answers, or how many bytes of blobs are held afterwards.
 fn answer<A: Allocator + Copy>(
     global: Global,
     alloc: A,
@@ -42,39 +40,48 @@ fn answer<A: Allocator + Copy>(
     fields: &[Vec<u8>],
 ) -> Answer {
     match fields {
-        [kind, bytes, _] if is(kind, "get") => {
-            found(global, cache.get_blob(&Digest::of(bytes).hash()), bytes)
-        }
-        [kind, name, bytes, _] if is(kind, "get result") => {
-            result(global, alloc, cache, name, bytes)
-        }
-        _ => {
-            act(alloc, cache, fields)?;
-            number(global, cache.held_bytes())
-        }
+        [kind, given, _] => of_one(global, alloc, cache, word(kind), given),
+        [kind, name, bytes, _] => of_two(global, alloc, cache, word(kind), name, bytes),
+        _ => Err(Broken::NoRow),
     }
 }
 
-/// Does what the row says.
-fn act<A: Allocator + Copy>(
+/// What the cache answers of a blob or a result, or how many bytes of blobs it holds after what was
+/// done.
+fn of_one<A: Allocator + Copy>(
+    global: Global,
     alloc: A,
     cache: &mut ActionCache<A>,
-    fields: &[Vec<u8>],
-) -> Result<(), Broken> {
-    match fields {
-        [kind, bytes, _] if is(kind, "put") => put(cache, alloc, bytes, bytes)?,
-        [kind, name, _] if is(kind, "pin") => cache.pin(alloc, &key_in(name)?)?,
-        [kind, name, _] if is(kind, "unpin") => cache.unpin(alloc, &key_in(name)?)?,
-        [kind, name, bytes, _] if is(kind, "put as") => put(cache, alloc, name, bytes)?,
-        [kind, name, bytes, _] if is(kind, "put sealed as") => {
-            put_sealed(cache, alloc, name, bytes)?
-        }
-        [kind, name, bytes, _] if is(kind, "put result") => {
-            cache.put_result(alloc, key_in(name)?, Vec::from_slice(alloc, bytes)?)?
-        }
+    kind: &str,
+    given: &[u8],
+) -> Answer {
+    match kind {
+        "get" => return found(global, cache.get_blob(&Digest::of(given).hash()), given),
+        "put" => put(cache, alloc, given, given)?,
+        "pin" => cache.pin(alloc, &key_in(given)?)?,
+        "unpin" => cache.unpin(alloc, &key_in(given)?)?,
         _ => return Err(Broken::NoRow),
     }
-    Ok(())
+    number(global, cache.held_bytes())
+}
+
+/// The same of bytes under a name.
+fn of_two<A: Allocator + Copy>(
+    global: Global,
+    alloc: A,
+    cache: &mut ActionCache<A>,
+    kind: &str,
+    name: &[u8],
+    bytes: &[u8],
+) -> Answer {
+    match kind {
+        "get result" => return result(global, alloc, cache, name, bytes),
+        "put as" => put(cache, alloc, name, bytes)?,
+        "put sealed as" => put_sealed(cache, alloc, name, bytes)?,
+        "put result" => cache.put_result(alloc, key_in(name)?, Vec::from_slice(alloc, bytes)?)?,
+        _ => return Err(Broken::NoRow),
+    }
+    number(global, cache.held_bytes())
 }
 
 /// The hash of a result.
@@ -117,14 +124,4 @@ fn result<A: Allocator + Copy>(
         Some(result) => found(global, Some(result.as_slice()), bytes),
         None => said(global, "none"),
     }
-}
-
-/// Whether a blob is found without memory.
-pub fn is_spare(global: Global, state: RandomState) -> Result<bool, Broken> {
-    let heap = Refusing::new(global, 0);
-    let mut cache: ActionCache<&Refusing<Global>> = ActionCache::new(&heap, state, 20, 1000)?;
-    put(&mut cache, &heap, b"123456789", b"123456789")?;
-    heap.refuse(1);
-    let is_found = cache.get_blob(&Digest::of(b"123456789").hash()).is_some();
-    Ok(is_found && cache.held_bytes() == 9 && !heap.has_refused())
 }

@@ -1,15 +1,18 @@
 //! Rows of digests: blobs and their digests' texts, which `sha256sum` prints, and texts.
-use crate::answers::{Answer, Broken, digest_text, is, number, said};
+use crate::answers::{Answer, Broken, digest_text, number, said, word};
 use blob_digest::{Body, Digest, Hasher, Sealed, read_hash};
 use refusing::Refusing;
 use std::alloc::{AllocError, Allocator, Global};
 
 pub fn answer<A: Allocator + Copy>(global: Global, alloc: A, fields: &[Vec<u8>]) -> Answer {
-    match fields {
-        [kind, given, _] if is(kind, "blob") => blob(global, alloc, given),
-        [kind, given, _] if is(kind, "text") => number(global, Digest::read_text(given)?.size()),
-        [kind, given, _] if is(kind, "hash") => hash(global, given),
-        [kind, given, _] if is(kind, "refused") => after_refusal(global, given),
+    let [kind, given, _] = fields else {
+        return Err(Broken::NoRow);
+    };
+    match word(kind) {
+        "blob" => blob(global, alloc, given),
+        "text" => number(global, Digest::read_text(given)?.size()),
+        "hash" => hash(global, given),
+        "refused" => after_refusal(global, given),
         _ => Err(Broken::NoRow),
     }
 }

@@ -1,7 +1,6 @@
 //! Rows of bounded stores of numbered entries, of which each group has one.
-use crate::answers::{Answer, Broken, compared, is, limit_in, number, number_in, said};
+use crate::answers::{Answer, Broken, compared, limit_in, number, number_in, word};
 use eviction::{Bounded, BoundedError};
-use refusing::Refusing;
 use row_files::Row;
 use std::alloc::{AllocError, Allocator, Global};
 use std::hash::RandomState;
@@ -38,9 +37,15 @@ fn answer<A: Allocator + Copy>(
     fields: &[Vec<u8>],
 ) -> Answer {
     match fields {
-        [kind, key, _] => number(global, asked(store, kind, number_in(key)?)?),
+        [kind, key, _] => number(global, asked(store, word(kind), number_in(key)?)?),
         [kind, first, second, _] => {
-            put(alloc, store, kind, number_in(first)?, number_in(second)?)?;
+            put(
+                alloc,
+                store,
+                word(kind),
+                number_in(first)?,
+                number_in(second)?,
+            )?;
             number(global, store.held_bytes())
         }
         _ => Err(Broken::NoRow),
@@ -60,13 +65,13 @@ fn bytes<A: Allocator + Copy>(alloc: A, count: u64) -> Result<Vec<u8, A>, AllocE
 fn put<A: Allocator + Copy>(
     alloc: A,
     store: &mut Bounded<u64, A>,
-    kind: &[u8],
+    kind: &str,
     first: u64,
     second: u64,
 ) -> Result<(), Broken> {
     match kind {
-        kind if is(kind, "put") => Ok(store.put(first, bytes(alloc, second)?)?),
-        kind if is(kind, "put each") => {
+        "put" => Ok(store.put(first, bytes(alloc, second)?)?),
+        "put each" => {
             for key in first..second {
                 store.put(key, bytes(alloc, 1)?)?;
             }
@@ -100,39 +105,18 @@ fn length(found: Option<&[u8]>) -> u64 {
 /// What the store answers, or how many bytes are held afterwards.
 fn asked<A: Allocator + Copy>(
     store: &mut Bounded<u64, A>,
-    kind: &[u8],
+    kind: &str,
     key: u64,
 ) -> Result<u64, Broken> {
     match kind {
-        kind if is(kind, "pin") => pin(store, key)?,
-        kind if is(kind, "unpin") => unpin(store, key)?,
-        kind if is(kind, "get") => return Ok(length(store.get(&key))),
-        kind if is(kind, "peek") => return Ok(length(store.peek(&key))),
-        kind if is(kind, "touch") => return Ok(store.touch(&key) as u64),
-        kind if is(kind, "contains") => return Ok(store.contains(&key) as u64),
-        kind if is(kind, "pins") => return Ok(store.pins(&key)),
+        "pin" => pin(store, key)?,
+        "unpin" => unpin(store, key)?,
+        "get" => return Ok(length(store.get(&key))),
+        "peek" => return Ok(length(store.peek(&key))),
+        "touch" => return Ok(store.touch(&key) as u64),
+        "contains" => return Ok(store.contains(&key) as u64),
+        "pins" => return Ok(store.pins(&key)),
         _ => return Err(Broken::NoRow),
     }
     Ok(store.held_bytes())
-}
-
-/// Whether an entry is found, pinned and unpinned without memory.
-pub fn is_spare(global: Global, state: RandomState) -> Result<bool, Broken> {
-    let heap = Refusing::new(global, 0);
-    let mut store: Bounded<u64, &Refusing<Global>> = Bounded::new(&heap, state, 30, 0)?;
-    store.put(5, bytes(&heap, 5)?)?;
-    heap.refuse(1);
-    for kind in [
-        b"touch".as_slice(),
-        b"contains",
-        b"get",
-        b"peek",
-        b"pin",
-        b"unpin",
-    ] {
-        if asked(&mut store, kind, 5)? == 0 {
-            return Ok(false);
-        }
-    }
-    Ok(!heap.has_refused())
 }

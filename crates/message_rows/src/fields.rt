@@ -1,12 +1,15 @@
 //! Rows of protobuf's wire: varints, and the records of a message.
-use crate::answers::{Answer, Broken, is, number, said};
+use crate::answers::{Answer, Broken, number, said, word};
 use std::alloc::{AllocError, Allocator, Global};
 use wire::{Field, Fields, MAX_NUMBER, Payload, read_varint, write_field, write_varint};
 
 pub fn answer<A: Allocator + Copy>(global: Global, alloc: A, fields: &[Vec<u8>]) -> Answer {
-    match fields {
-        [kind, given, _] if is(kind, "varint") => varint(global, alloc, given),
-        [kind, given, _] if is(kind, "records") => records(global, alloc, given),
+    let [kind, given, _] = fields else {
+        return Err(Broken::NoRow);
+    };
+    match word(kind) {
+        "varint" => varint(global, alloc, given),
+        "records" => records(global, alloc, given),
         _ => Err(Broken::NoRow),
     }
 }

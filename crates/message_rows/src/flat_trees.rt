@@ -1,5 +1,5 @@
 //! Rows of flat trees, which are filled entry by entry: each group has one of its own.
-use crate::answers::{Answer, Broken, compared, is, number, said};
+use crate::answers::{Answer, Broken, compared, number, said, word};
 use crate::nodes::{file_told, node_of, phrase};
 use crate::trees::directories_told;
 use messages::{Node, Path};
@@ -22,20 +22,34 @@ fn answer<A: Allocator + Copy>(
     fields: &[Vec<u8>],
 ) -> Answer {
     match fields {
-        [kind, _] if is(kind, "entries") => number(global, tree.len() as u64),
-        [kind, _] if is(kind, "fold") => directories_told(global, &fold(alloc, tree)?),
-        [kind, path, _] if is(kind, "at") => standing(global, alloc, tree, path),
-        [kind, path, _] if is(kind, "directory") => added(
-            global,
-            alloc,
-            tree,
-            path,
-            FlatEntry::Dir,
-        ),
+        [kind, _] => of_all(global, alloc, tree, word(kind)),
+        [kind, path, _] => of_path(global, alloc, tree, word(kind), path),
         [kind, path, rest, _] => {
             let entry = entry_of(alloc, kind, rest)?;
             added(global, alloc, tree, path, entry)
         }
+        _ => Err(Broken::NoRow),
+    }
+}
+
+fn of_all<A: Allocator + Copy>(global: Global, alloc: A, tree: &FlatTree<A>, kind: &str) -> Answer {
+    match kind {
+        "entries" => number(global, tree.len() as u64),
+        "fold" => directories_told(global, &fold(alloc, tree)?),
+        _ => Err(Broken::NoRow),
+    }
+}
+
+fn of_path<A: Allocator + Copy>(
+    global: Global,
+    alloc: A,
+    tree: &mut FlatTree<A>,
+    kind: &str,
+    path: &[u8],
+) -> Answer {
+    match kind {
+        "at" => standing(global, alloc, tree, path),
+        "directory" => added(global, alloc, tree, path, FlatEntry::Dir),
         _ => Err(Broken::NoRow),
     }
 }

@@ -1,5 +1,5 @@
 //! Rows of plans with as many lines and steps as they may have, and what is added to such a plan.
-use crate::answers::{Answer, Broken, is, number_in};
+use crate::answers::{Answer, Broken, number_in, word};
 use crate::plans::plan;
 use std::alloc::{AllocError, Global};
 
@@ -25,15 +25,16 @@ fn plan_of_steps(global: Global, count: u64) -> Result<String, AllocError> {
 }
 
 pub fn answer(global: Global, fields: &[Vec<u8>]) -> Answer {
-    let (text, more) = match fields {
-        [kind, count, more, _] => match kind {
-            kind if is(kind, "lines") => (plan_of_lines(global, number_in(count)?)?, more),
-            kind if is(kind, "steps") => (plan_of_steps(global, number_in(count)?)?, more),
-            _ => return Err(Broken::NoRow),
-        },
-        _ => return Err(Broken::NoRow),
+    let [kind, count, more, _] = fields else {
+        return Err(Broken::NoRow);
     };
-    let mut text = text.into_bytes();
+    let count = number_in(count)?;
+    let mut text = match word(kind) {
+        "lines" => plan_of_lines(global, count)?,
+        "steps" => plan_of_steps(global, count)?,
+        _ => return Err(Broken::NoRow),
+    }
+    .into_bytes();
     text.extend_from_slice(more)?;
     plan(global, global, &text)
 }

@@ -188,15 +188,6 @@ fn told_of(
     Ok(rows)
 }
 
-/// Whether what takes no memory took none.
-fn is_spare(global: Global, state: RandomState) -> Result<bool, Broken> {
-    Ok(
-        entries::is_spare(global, state)?
-            && blobs::is_spare(global, state)?
-            && caches::is_spare(global, state)?,
-    )
-}
-
 fn print_told(rt: &HostRuntime, file: &str, told: Result<u64, Broken>) -> io::Result<()> {
     match told {
         Ok(rows) => println!(rt; "{file}: {rows} rows come to what they say"),
@@ -217,8 +208,5 @@ fn main(rt: HostRuntime) -> io::Result<()> {
         let told = told_of(rt.alloc(), state, text.as_str(), subject, few);
         print_told(&rt, file, told)?;
     }
-    match is_spare(rt.alloc(), state) {
-        Ok(true) => println!(rt; "what is asked of stores takes no memory"),
-        _ => println!(rt; "what is asked of stores takes memory"),
-    }
+    Ok(())
 }

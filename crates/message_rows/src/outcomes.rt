@@ -1,5 +1,5 @@
 //! Rows of outcomes, of which the last that was made is asked, and of a source: each group has one.
-use crate::answers::{Answer, Broken, compared, is, number, said};
+use crate::answers::{Answer, Broken, compared, number, said, word};
 use crate::nodes::{node_of, node_told, refusal_told};
 use crate::trees::{hold, hold_as};
 use actions::{ActionResult, Outcome, Output, recorded};
@@ -29,18 +29,44 @@ fn answer<A: Allocator + Copy>(
     fields: &[Vec<u8>],
 ) -> Answer {
     match fields {
-        [kind, _] if is(kind, "outputs") => outputs(global, outcome),
-        [kind, _] if is(kind, "link alone") => {
-            *outcome = with_link(alloc)?;
-            number(global, outcome.exit_code().unsigned_abs() as u64)
-        }
-        [kind, bytes, _] if is(kind, "hold") => hold(global, alloc, source, bytes),
-        [kind, bytes, _] if is(kind, "recorded") => read(global, alloc, outcome, source, bytes),
-        [kind, path, _] if is(kind, "at") => standing(global, alloc, outcome, path),
-        [kind, digest, bytes, _] if is(kind, "hold as") => {
+        [kind, _] => of_all(global, alloc, outcome, word(kind)),
+        [kind, given, _] => of_one(global, alloc, source, outcome, word(kind), given),
+        [kind, digest, bytes, _] if word(kind) == "hold as" => {
             hold_as(global, alloc, source, digest, bytes)
         }
         [kind, path, rest, _] => added(global, alloc, outcome, path, output_of(alloc, kind, rest)?),
+        _ => Err(Broken::NoRow),
+    }
+}
+
+fn of_all<A: Allocator + Copy>(
+    global: Global,
+    alloc: A,
+    outcome: &mut Outcome<A>,
+    kind: &str,
+) -> Answer {
+    match kind {
+        "outputs" => outputs(global, outcome),
+        "link alone" => {
+            *outcome = with_link(alloc)?;
+            number(global, outcome.exit_code().unsigned_abs() as u64)
+        }
+        _ => Err(Broken::NoRow),
+    }
+}
+
+fn of_one<A: Allocator + Copy>(
+    global: Global,
+    alloc: A,
+    source: &mut MemorySource<A>,
+    outcome: &mut Outcome<A>,
+    kind: &str,
+    given: &[u8],
+) -> Answer {
+    match kind {
+        "hold" => hold(global, alloc, source, given),
+        "recorded" => read(global, alloc, outcome, source, given),
+        "at" => standing(global, alloc, outcome, given),
         _ => Err(Broken::NoRow),
     }
 }
@@ -78,11 +104,11 @@ fn standing<A: Allocator + Copy>(
 }
 
 /// The output of a file or a link, or of the Tree with this encoding.
-fn output_of<A: Allocator + Copy>(alloc: A, word: &[u8], rest: &[u8]) -> Result<Output<A>, Broken> {
-    if is(word, "tree") {
+fn output_of<A: Allocator + Copy>(alloc: A, kind: &[u8], rest: &[u8]) -> Result<Output<A>, Broken> {
+    if kind == b"tree".as_slice() {
         return Ok(Output::Tree(Tree::decode(alloc, rest)?));
     }
-    match node_of(alloc, word, rest)? {
+    match node_of(alloc, kind, rest)? {
         Node::File { digest, executable } => Ok(Output::File { digest, executable }),
         Node::Link { target } => Ok(Output::Link { target }),
         Node::Dir(_) => Err(Broken::NoRow),

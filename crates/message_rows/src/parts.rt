@@ -1,51 +1,41 @@
-//! Rows of messages that are made of their parts, and whose parts are shown.
-use crate::answers::{Answer, Broken, copied, is, said, yes_or_no};
+//! Rows of messages that are made of their parts.
+use crate::answers::{Answer, Broken, copied, said, word, yes_or_no};
 use crate::nodes::node_told;
 use action_messages::*;
 use blob_digest::Digest;
 use messages::*;
 use std::alloc::{AllocError, Allocator, Global};
-use std::cmp::Ordering;
 
 pub fn answer<A: Allocator + Copy>(global: Global, alloc: A, fields: &[Vec<u8>]) -> Answer {
-    match fields {
-        [kind, given, _] if is(kind, "made") => made(global, alloc, given),
-        [kind, given, _] if is(kind, "shows") => yes_or_no(global, shows(alloc, given)?),
-        [kind, given, _] if is(kind, "lists") => yes_or_no(global, command_lists(alloc, given)?),
-        [kind, given, _] if is(kind, "child") => child(global, alloc, given),
-        [kind, given, _] if is(kind, "frame") => copied(global, &frame_in(alloc, given)?),
-        [kind, given, _] if is(kind, "action") => copied(global, &action_of(alloc, given)?),
-        [kind, given, _] if is(kind, "outputs") => ordered(global, alloc, given),
+    let [kind, given, _] = fields else {
+        return Err(Broken::NoRow);
+    };
+    match word(kind) {
+        "made" => made(global, alloc, given),
+        "link" => link_copied(global, alloc, given),
+        "lists" => yes_or_no(global, command_lists(alloc, given)?),
+        "child" => child(global, alloc, given),
+        "frame" => copied(global, &frame_in(alloc, given)?),
+        "action" => copied(global, &action_of(alloc, given)?),
+        "outputs" => ordered(global, alloc, given),
         _ => Err(Broken::NoRow),
     }
 }
 
 /// The encoding of what is made of parts.
 fn made<A: Allocator + Copy>(global: Global, alloc: A, name: &[u8]) -> Answer {
-    let bytes = match name {
-        name if is(name, "Command") => command_by_parts(alloc)?,
-        name if is(name, "Result") => result_by_parts(alloc)?,
-        name if is(name, "Action") => action_by_parts(alloc)?,
-        name if is(name, "Directory") => three(alloc)?.encode(alloc)?,
-        name if is(name, "Tree") => small_tree(alloc)?.encode(alloc)?,
-        name if is(name, "Tree without its child") => {
+    let bytes = match word(name) {
+        "Command" => command_by_parts(alloc)?,
+        "Result" => result_by_parts(alloc)?,
+        "Action" => action_by_parts(alloc)?,
+        "Directory" => three(alloc)?.encode(alloc)?,
+        "Tree" => small_tree(alloc)?.encode(alloc)?,
+        "Tree without its child" => {
             Tree::new(alloc, three(alloc)?, Vec::new(alloc))?.encode(alloc)?
         }
         _ => return Err(Broken::NoRow),
     };
     copied(global, &bytes)
-}
-
-/// Whether what is read shows the parts that it was made of.
-fn shows<A: Allocator + Copy>(alloc: A, name: &[u8]) -> Result<bool, Broken> {
-    Ok(match name {
-        name if is(name, "Command") => command_shows(alloc)?,
-        name if is(name, "Action") => action_shows(alloc)?,
-        name if is(name, "Result") => result_shows(alloc)?,
-        name if is(name, "Tree") => tree_shows(&small_tree(alloc)?),
-        name if is(name, "Link") => link_shows(alloc)?,
-        _ => return Err(Broken::NoRow),
-    })
 }
 
 fn string<A: Allocator>(alloc: A, text: &str) -> Result<String<A>, AllocError> {
@@ -117,60 +107,10 @@ fn action_of<A: Allocator + Copy>(alloc: A, bytes: &[u8]) -> Result<Vec<u8, A>, 
     )
 }
 
-/// Whether the getters of the command made of parts show the parts.
-fn command_shows<A: Allocator + Copy>(alloc: A) -> Result<bool, MessageError> {
-    let command = Command::decode(alloc, &command_by_parts(alloc)?)?;
-    let texts = match command.arguments() {
-        [text] => text.as_str() == "/bin/true",
-        _ => false,
-    };
-    let environment = match command.environment() {
-        [variable] => variable.name() == "A" && variable.value() == "",
-        _ => false,
-    };
-    let outputs = match command.output_paths() {
-        [path] => path.as_str() == "out",
-        _ => false,
-    };
-    let directory = match command.working_directory() {
-        Some(path) => path.as_str() == "w",
-        None => false,
-    };
-    Ok(texts && environment && directory && outputs)
-}
-
 /// Whether a command with the output paths `a-b`, `a/b` and `a0` lists this one.
 fn command_lists<A: Allocator + Copy>(alloc: A, text: &[u8]) -> Result<bool, MessageError> {
     let command = Command::decode(alloc, b"\x0a\x09/bin/true\x3a\x03a-b\x3a\x03a/b\x3a\x02a0")?;
     Ok(command.lists(&Path::new(alloc, text)?))
-}
-
-/// Whether the getters of the action made of parts, and those of its frame, show the parts.
-fn action_shows<A: Allocator + Copy>(alloc: A) -> Result<bool, MessageError> {
-    let action = Action::decode(alloc, &action_by_parts(alloc)?)?;
-    let frame = action.frame();
-    let digests = action.command_digest() == Digest::of(b"\n")
-        && frame.command_digest() == Digest::of(b"\n")
-        && action.input_root_digest() == Digest::empty();
-    let salts = action.salt() == b"s".as_slice() && frame.salt() == b"s".as_slice();
-    let platforms = action.platform().properties().len() == 1
-        && frame.platform().properties().len() == 1;
-    Ok(digests && salts && platforms && action.do_not_cache() && frame.do_not_cache())
-}
-
-/// Whether the getters of the result made of parts show the parts.
-fn result_shows<A: Allocator + Copy>(alloc: A) -> Result<bool, MessageError> {
-    let result = ActionResult::decode(alloc, &result_by_parts(alloc)?)?;
-    let lists = [
-        result.files().len(),
-        result.directories().len(),
-        result.symlinks().len(),
-    ];
-    let stdout = result.stdout();
-    let streams = stdout.raw() == b"o".as_slice()
-        && stdout.digest().is_none()
-        && result.stderr().digest() == Some(Digest::empty());
-    Ok(lists == [1, 1, 1] && streams && result.exit_code() == -1)
 }
 
 /// A directory of a file `f`, a directory `d` and a symbolic link `l`, by its parts.
@@ -202,25 +142,12 @@ fn small_tree<A: Allocator + Copy>(alloc: A) -> Result<Tree<A>, MessageError> {
     Tree::new(alloc, three(alloc)?, children)
 }
 
-/// Whether the tree of an empty child shows its parts.
-fn tree_shows<A: Allocator>(tree: &Tree<A>) -> bool {
-    let root = tree.root();
-    tree.children().len() == 1
-        && root.files().len() == 1
-        && root.directories().len() == 1
-        && root.symlinks().len() == 1
-}
-
-/// Whether the copy of a link has the same name and target.
-fn link_shows<A: Allocator + Copy>(alloc: A) -> Result<bool, MessageError> {
-    let node: SymlinkNode<A> = decode(alloc, b"\x0a\x01l\x12\x01t")?;
-    let again = node.clone()?;
-    Ok(
-        node.name == again.name
-            && node.target == again.target
-            && node.name.cmp(&again.name) == Ordering::Equal
-            && again.name.as_str() == "l",
-    )
+/// The name and the target of a copy of the link.
+fn link_copied<A: Allocator + Copy>(global: Global, alloc: A, bytes: &[u8]) -> Answer {
+    let node: SymlinkNode<A> = decode(alloc, bytes)?;
+    let SymlinkNode { name, target } = node.clone()?;
+    let (name, target) = (name.as_str(), target.as_str());
+    Ok(format!(in global; "{name} to {target}")?.into_bytes())
 }
 
 /// The child of this name in the directory of three.

@@ -1,5 +1,5 @@
 //! Rows of names, targets and paths, of their order and of their spelling in a plan.
-use crate::answers::{Answer, Broken, is, number_in, said};
+use crate::answers::{Answer, Broken, number_in, said, word};
 use messages::*;
 use plan::{StepName, is_step_name, read_path, write_path};
 use refusing::Refusing;
@@ -8,11 +8,18 @@ use std::cmp::Ordering;
 
 pub fn answer<A: Allocator + Copy>(global: Global, alloc: A, fields: &[Vec<u8>]) -> Answer {
     match fields {
-        [kind, given, _] if is(kind, "text") => text(global, alloc, given),
-        [kind, given, _] if is(kind, "deep") => deep(global, alloc, number_in(given)?),
-        [kind, given, _] if is(kind, "spell") => spelled(global, alloc, given),
-        [kind, given, _] if is(kind, "step") => step(global, alloc, given),
+        [kind, given, _] => of_one(global, alloc, word(kind), given),
         [_, first, second, _] => pair(global, first, second),
+        _ => Err(Broken::NoRow),
+    }
+}
+
+fn of_one<A: Allocator + Copy>(global: Global, alloc: A, kind: &str, given: &[u8]) -> Answer {
+    match kind {
+        "text" => text(global, alloc, given),
+        "deep" => deep(global, alloc, number_in(given)?),
+        "spell" => spelled(global, alloc, given),
+        "step" => step(global, alloc, given),
         _ => Err(Broken::NoRow),
     }
 }

@@ -1,22 +1,52 @@
 //! Rows of plans and records, as texts.
-use crate::answers::{Answer, Broken, digest_text, is, said, yes_or_no};
+use crate::answers::{Answer, Broken, digest_text, said, word, yes_or_no};
 use blob_digest::Digest;
 use plan::{Line, Origin, Plan, ReadError, Record, Step};
 use std::alloc::{AllocError, Allocator, Global};
 
 pub fn answer<A: Allocator + Copy>(global: Global, alloc: A, fields: &[Vec<u8>]) -> Answer {
     match fields {
-        [kind, text, _] if is(kind, "plan") => plan(global, alloc, text),
-        [kind, text, _] if is(kind, "lines") => lines(global, alloc, text),
-        [kind, text, _] if is(kind, "fault") => fault(global, alloc, text),
-        [kind, text, record, _] if is(kind, "record") => self::record(global, alloc, text, record),
-        [kind, text, record, _] if is(kind, "digests") => digests(global, alloc, text, record),
-        [kind, text, first, second, _] if is(kind, "fits") => fits(
-            global, alloc, text, first, second,
-        ),
-        [kind, text, first, second, _] if is(kind, "noted") => noted(
-            global, alloc, text, first, second,
-        ),
+        [kind, text, _] => of_plan(global, alloc, word(kind), text),
+        [kind, text, record, _] => of_record(global, alloc, word(kind), text, record),
+        [kind, text, first, second, _] => of_two(global, alloc, word(kind), text, first, second),
+        _ => Err(Broken::NoRow),
+    }
+}
+
+fn of_plan<A: Allocator + Copy>(global: Global, alloc: A, kind: &str, text: &[u8]) -> Answer {
+    match kind {
+        "plan" => plan(global, alloc, text),
+        "lines" => lines(global, alloc, text),
+        "fault" => fault(global, alloc, text),
+        _ => Err(Broken::NoRow),
+    }
+}
+
+fn of_record<A: Allocator + Copy>(
+    global: Global,
+    alloc: A,
+    kind: &str,
+    text: &[u8],
+    record: &[u8],
+) -> Answer {
+    match kind {
+        "record" => self::record(global, alloc, text, record),
+        "digests" => digests(global, alloc, text, record),
+        _ => Err(Broken::NoRow),
+    }
+}
+
+fn of_two<A: Allocator + Copy>(
+    global: Global,
+    alloc: A,
+    kind: &str,
+    text: &[u8],
+    first: &[u8],
+    second: &[u8],
+) -> Answer {
+    match kind {
+        "fits" => fits(global, alloc, text, first, second),
+        "noted" => noted(global, alloc, text, first, second),
         _ => Err(Broken::NoRow),
     }
 }

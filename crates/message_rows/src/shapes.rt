@@ -1,17 +1,24 @@
 //! Rows of canonical messages by a shape with a field of each kind.
 ghost use Rattle.std.specs.Prelude.{◌≤◌};
 
-use crate::answers::{Answer, Broken, is, number_in, said, yes_or_no};
+use crate::answers::{Answer, Broken, number_in, said, word, yes_or_no};
 use canonical::*;
 use std::alloc::{AllocError, Allocator, Global};
 use wire::{Field, MAX_NUMBER};
 
 pub fn answer<A: Allocator + Copy>(global: Global, alloc: A, fields: &[Vec<u8>]) -> Answer {
     match fields {
-        [kind, given, _] if is(kind, "message") => message(global, alloc, given),
-        [kind, given, _] if is(kind, "nothing") => nothing(global, alloc, given),
-        [kind, given, _] if is(kind, "elements") => elements(global, alloc, number_in(given)?),
+        [kind, given, _] => of_one(global, alloc, word(kind), given),
         [_, first, second, _] => shape(global, number_in(first)?, number_in(second)?),
+        _ => Err(Broken::NoRow),
+    }
+}
+
+fn of_one<A: Allocator + Copy>(global: Global, alloc: A, kind: &str, given: &[u8]) -> Answer {
+    match kind {
+        "message" => message(global, alloc, given),
+        "nothing" => nothing(global, alloc, given),
+        "elements" => elements(global, alloc, number_in(given)?),
         _ => Err(Broken::NoRow),
     }
 }

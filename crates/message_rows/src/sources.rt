@@ -1,5 +1,5 @@
 //! Rows of a source in memory, and of what is fetched from it: each group has one of its own.
-use crate::answers::{Answer, Broken, compared, digest_text, is, number, said};
+use crate::answers::{Answer, Broken, compared, digest_text, number, said, word};
 use crate::nodes::{phrase, with_digest};
 use blob_digest::Digest;
 use blob_source::{
@@ -24,28 +24,41 @@ fn answer<A: Allocator + Copy>(
     fields: &[Vec<u8>],
 ) -> Answer {
     match fields {
-        [kind, _] if is(kind, "calls") => number(global, source.calls()),
-        [kind, _] if is(kind, "puts") => puts(global, source),
-        [kind, given, _] if is(kind, "blob") => blob(
+        [kind, _] => of_all(global, source, word(kind)),
+        [kind, bytes, _] if word(kind) == "put" => {
+            digest_text(global, &source.put_blob(alloc, bytes)?)
+        }
+        [kind, given, _] => of_one(
             global,
             alloc,
             source,
+            word(kind),
             &Digest::read_text(given)?,
         ),
-        [kind, given, _] if is(kind, "result") => result(
-            global,
-            alloc,
-            source,
-            &Digest::read_text(given)?,
-        ),
-        [kind, given, _] if is(kind, "directory") => directory(
-            global,
-            alloc,
-            source,
-            &Digest::read_text(given)?,
-        ),
-        [kind, given, _] if is(kind, "put") => digest_text(global, &source.put_blob(alloc, given)?),
-        [kind, digest, bytes, _] => held(global, alloc, source, kind, digest, bytes),
+        [kind, digest, bytes, _] => held(global, alloc, source, word(kind), digest, bytes),
+        _ => Err(Broken::NoRow),
+    }
+}
+
+fn of_all<A: Allocator + Copy>(global: Global, source: &MemorySource<A>, kind: &str) -> Answer {
+    match kind {
+        "calls" => number(global, source.calls()),
+        "puts" => puts(global, source),
+        _ => Err(Broken::NoRow),
+    }
+}
+
+fn of_one<A: Allocator + Copy>(
+    global: Global,
+    alloc: A,
+    source: &mut MemorySource<A>,
+    kind: &str,
+    digest: &Digest,
+) -> Answer {
+    match kind {
+        "blob" => blob(global, alloc, source, digest),
+        "result" => result(global, alloc, source, digest),
+        "directory" => directory(global, alloc, source, digest),
         _ => Err(Broken::NoRow),
     }
 }
@@ -55,18 +68,15 @@ fn held<A: Allocator + Copy>(
     global: Global,
     alloc: A,
     source: &mut MemorySource<A>,
-    kind: &[u8],
+    kind: &str,
     digest: &[u8],
     bytes: &[u8],
 ) -> Answer {
     let digest = Digest::read_text(digest)?;
     match kind {
-        kind if is(kind, "hold") => source.hold_blob(digest, Vec::from_slice(alloc, bytes)?)?,
-        kind if is(kind, "hold result") => source.hold_result(
-            digest,
-            Vec::from_slice(alloc, bytes)?,
-        )?,
-        kind if is(kind, "put result") => source.put_result(alloc, &digest, bytes)?,
+        "hold" => source.hold_blob(digest, Vec::from_slice(alloc, bytes)?)?,
+        "hold result" => source.hold_result(digest, Vec::from_slice(alloc, bytes)?)?,
+        "put result" => source.put_result(alloc, &digest, bytes)?,
         _ => return Err(Broken::NoRow),
     }
     said(global, "done")

@@ -1,5 +1,5 @@
 //! Rows of look-ups, graftings, comparisons and unfoldings: each group has a source of its own.
-use crate::answers::{Answer, Broken, compared, digest_text, is, number_in, said};
+use crate::answers::{Answer, Broken, compared, digest_text, number_in, said, word};
 use crate::grafts::{grafted, lines_in};
 use crate::nodes::{node_told, phrase, refusal_told};
 use blob_digest::Digest;
@@ -22,20 +22,59 @@ fn answer<A: Allocator + Copy>(
     source: &mut MemorySource<A>,
     fields: &[Vec<u8>],
 ) -> Answer {
-    match fields {
-        [kind, bytes, _] if is(kind, "hold") => hold(global, alloc, source, bytes),
-        [kind, root, _] if is(kind, "unfold") => unfolded(global, alloc, source, root),
-        [kind, lines @ .., _] if is(kind, "graft") => made(global, alloc, lines),
-        [kind, root, path, _] if is(kind, "lookup") => looked_up(global, alloc, source, root, path),
-        [kind, digest, bytes, _] if is(kind, "hold as") => {
-            hold_as(global, alloc, source, digest, bytes)
-        }
-        [kind, name, count, bytes, _] if is(kind, "nested") => {
+    let [kind, given @ .., _] = fields else {
+        return Err(Broken::NoRow);
+    };
+    match word(kind) {
+        "graft" => made(global, alloc, given),
+        "compare" => difference(global, alloc, source, given),
+        kind => other(global, alloc, source, kind, given),
+    }
+}
+
+/// What has a number of fields of its own.
+fn other<A: Allocator + Copy>(
+    global: Global,
+    alloc: A,
+    source: &mut MemorySource<A>,
+    kind: &str,
+    given: &[Vec<u8>],
+) -> Answer {
+    match given {
+        [given] => of_one(global, alloc, source, kind, given),
+        [first, second] => of_two(global, alloc, source, kind, first, second),
+        [name, count, bytes] if kind == "nested" => {
             nested(global, alloc, source, (name, number_in(count)?), bytes)
         }
-        [kind, recorded, lines @ .., _] if is(kind, "compare") => {
-            difference(global, alloc, source, recorded, lines)
-        }
+        _ => Err(Broken::NoRow),
+    }
+}
+
+fn of_one<A: Allocator + Copy>(
+    global: Global,
+    alloc: A,
+    source: &mut MemorySource<A>,
+    kind: &str,
+    given: &[u8],
+) -> Answer {
+    match kind {
+        "hold" => hold(global, alloc, source, given),
+        "unfold" => unfolded(global, alloc, source, given),
+        _ => Err(Broken::NoRow),
+    }
+}
+
+fn of_two<A: Allocator + Copy>(
+    global: Global,
+    alloc: A,
+    source: &mut MemorySource<A>,
+    kind: &str,
+    first: &[u8],
+    second: &[u8],
+) -> Answer {
+    match kind {
+        "lookup" => looked_up(global, alloc, source, first, second),
+        "hold as" => hold_as(global, alloc, source, first, second),
         _ => Err(Broken::NoRow),
     }
 }
@@ -164,14 +203,16 @@ fn made<A: Allocator + Copy>(global: Global, alloc: A, lines: &[Vec<u8>]) -> Ans
     directories_told(global, &grafted(alloc, &lines_in(alloc, lines)?)?)
 }
 
-/// The first difference of the graft of the lines and a recorded directory.
+/// The first difference of the graft of lines and a recorded directory, which stands before them.
 fn difference<A: Allocator + Copy>(
     global: Global,
     alloc: A,
     source: &mut MemorySource<A>,
-    recorded: &[u8],
-    lines: &[Vec<u8>],
+    given: &[Vec<u8>],
 ) -> Answer {
+    let [recorded, lines @ ..] = given else {
+        return Err(Broken::NoRow);
+    };
     let recorded = Digest::read_text(recorded)?;
     let grafted = grafted(alloc, &lines_in(alloc, lines)?)?;
     let told = match first_difference(alloc, &grafted, &recorded, source) {

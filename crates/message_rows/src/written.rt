@@ -1,5 +1,5 @@
 //! Rows of messages that are read and written again.
-use crate::answers::{Answer, Broken, is, said};
+use crate::answers::{Answer, Broken, said, word};
 use action_messages::{Action, ActionResult, Command, Frame, Platform};
 use messages::{Directory, MessageError, Tree, decode_digest, encode_digest};
 use std::alloc::{Allocator, Global};
@@ -44,15 +44,15 @@ pub fn written<A: Allocator + Copy>(
     kind: &[u8],
     bytes: &[u8],
 ) -> Result<Vec<u8, A>, Broken> {
-    Ok(match kind {
-        kind if is(kind, "Digest") => digest(alloc, bytes)?,
-        kind if is(kind, "Directory") => directory(alloc, bytes)?,
-        kind if is(kind, "Tree") => tree(alloc, bytes)?,
-        kind if is(kind, "Platform") => platform(alloc, bytes)?,
-        kind if is(kind, "Command") => command(alloc, bytes)?,
-        kind if is(kind, "Frame") => frame(alloc, bytes)?,
-        kind if is(kind, "Action") => action(alloc, bytes)?,
-        kind if is(kind, "Result") => result(alloc, bytes)?,
+    Ok(match word(kind) {
+        "Digest" => digest(alloc, bytes)?,
+        "Directory" => directory(alloc, bytes)?,
+        "Tree" => tree(alloc, bytes)?,
+        "Platform" => platform(alloc, bytes)?,
+        "Command" => command(alloc, bytes)?,
+        "Frame" => frame(alloc, bytes)?,
+        "Action" => action(alloc, bytes)?,
+        "Result" => result(alloc, bytes)?,
         _ => return Err(Broken::NoRow),
     })
 }
