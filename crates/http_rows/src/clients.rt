@@ -50,8 +50,7 @@ pub fn fail_each(row: &Row<'_>, text: &mut String) -> Result<u64, AllocError> {
         let fault = remote.last_fault();
         let is_told = faulty && fault == Some(Fault::Io) && is_broken(row.heap, &mut remote);
         if !(is_told && expected.as_str().starts_with(told.as_str())) {
-            let line = format!(in row.heap; "otherwise where call {number} fails\n{told}")?;
-            text.push_str(line.as_str())?;
+            write!(text, "otherwise where call {number} fails\n{told}")?;
             return Ok(number);
         }
     }
@@ -107,8 +106,8 @@ fn call_all<A: Allocator + Copy>(
     let (calls, _) = calls_of(row);
     for call in calls.split(", ") {
         match answer(alloc, remote, call) {
-            Ok(length) => tell_answer(row.heap, call, length, text)?,
-            Err(FetchError::Failed) => tell_fault(row.heap, call, remote.last_fault(), text)?,
+            Ok(length) => tell_answer(call, length, text)?,
+            Err(FetchError::Failed) => tell_fault(call, remote.last_fault(), text)?,
             Err(FetchError::Memory) => {
                 if remote.last_fault().is_some() || !is_broken(alloc, remote) {
                     text.push_str("goes on after a want of memory\n")?;
@@ -120,14 +119,9 @@ fn call_all<A: Allocator + Copy>(
     Ok(())
 }
 
-fn tell_fault(
-    heap: Global,
-    call: &str,
-    fault: Option<Fault>,
-    text: &mut String,
-) -> Result<(), AllocError> {
+fn tell_fault(call: &str, fault: Option<Fault>, text: &mut String) -> Result<(), AllocError> {
     let fault = fault.unwrap_or(Fault::Status(0));
-    text.push_str(format!(in heap; "{call}: {fault:?}\n")?.as_str())
+    writeln!(text, "{call}: {fault:?}")
 }
 
 /// Adds what each call comes to, up to a fault. Whether there was one.
@@ -140,7 +134,7 @@ fn call_till_fault<A: Allocator + Copy>(
     let (calls, _) = calls_of(row);
     for call in calls.split(", ") {
         match answer(alloc, remote, call) {
-            Ok(length) => tell_answer(row.heap, call, length, text)?,
+            Ok(length) => tell_answer(call, length, text)?,
             Err(_) => return Ok(true),
         }
     }
@@ -148,18 +142,12 @@ fn call_till_fault<A: Allocator + Copy>(
 }
 
 /// Adds how many bytes a call answered.
-fn tell_answer(
-    heap: Global,
-    call: &str,
-    length: Option<usize>,
-    text: &mut String,
-) -> Result<(), AllocError> {
-    let line = match length {
-        Some(_) if call.starts_with("put") => format!(in heap; "{call}: done\n")?,
-        Some(length) => format!(in heap; "{call}: {length} bytes\n")?,
-        None => format!(in heap; "{call}: none\n")?,
-    };
-    text.push_str(line.as_str())
+fn tell_answer(call: &str, length: Option<usize>, text: &mut String) -> Result<(), AllocError> {
+    match length {
+        Some(_) if call.starts_with("put") => writeln!(text, "{call}: done"),
+        Some(length) => writeln!(text, "{call}: {length} bytes"),
+        None => writeln!(text, "{call}: none"),
+    }
 }
 
 /// How many bytes a call answers: `fetch TEXT` and `put TEXT` are about the blob TEXT,

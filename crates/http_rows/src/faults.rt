@@ -15,8 +15,7 @@ pub fn fail_reads_and_writes(row: &Row<'_>, text: &mut String) -> Result<(), All
     let end = run_faulty(row, 0, &mut whole)?;
     let digest = Digest::of(&whole.taken).write_text(row.heap)?;
     let most = whole.longest;
-    let line = format!(in row.heap; "{end}, {digest} in at most {most} bytes at once\n")?;
-    text.push_str(line.as_str())?;
+    writeln!(text, "{end}, {digest} in at most {most} bytes at once")?;
     fail_reads(row, text)?;
     fail_writes(row, &whole.taken, text)
 }
@@ -27,8 +26,7 @@ fn fail_reads(row: &Row<'_>, text: &mut String) -> Result<(), AllocError> {
         let mut writer = writer_to(row.heap, 0, &flushed);
         let end = run_faulty(row, number, &mut writer)?;
         let length = writer.taken.len();
-        let line = format!(in row.heap; "read {number}: {end} after {length} bytes\n")?;
-        text.push_str(line.as_str())?;
+        writeln!(text, "read {number}: {end} after {length} bytes")?;
     }
     Ok(())
 }
@@ -40,8 +38,7 @@ fn fail_writes(row: &Row<'_>, whole: &[u8], text: &mut String) -> Result<(), All
         let end = run_faulty(row, 0, &mut writer)?;
         let begins = whole.starts_with(&writer.taken);
         let taken = if begins { "a beginning" } else { "other bytes" };
-        let line = format!(in row.heap; "write {number}: {end} after {taken}\n")?;
-        text.push_str(line.as_str())?;
+        writeln!(text, "write {number}: {end} after {taken}")?;
     }
     Ok(())
 }

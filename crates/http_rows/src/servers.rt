@@ -57,7 +57,8 @@ pub fn serve<A: Allocator + Copy>(
     let mut answers = Vec::new(row.heap);
     let held = run_over(alloc, row, &mut answers);
     show(row.heap, &answers, text)?;
-    text.push_str(format!(in row.heap; "held {}\n", held?)?.as_str())?;
+    let held = held?;
+    writeln!(text, "held {held}")?;
     if answered(alloc, row)? == answers {
         return Ok(());
     }
@@ -145,8 +146,7 @@ pub fn count<A: Allocator + Copy>(
         hits,
         misses,
     } = counted(alloc, row)?;
-    let line = format!(in row.heap; "requests {requests}, hits {hits}, misses {misses}\n")?;
-    text.push_str(line.as_str())
+    writeln!(text, "requests {requests}, hits {hits}, misses {misses}")
 }
 
 fn counted<A: Allocator + Copy>(alloc: A, row: &Row<'_>) -> Result<Counts, AllocError> {
@@ -196,8 +196,7 @@ fn tell_reply<A: Allocator + Copy>(
     text: &mut String,
 ) -> Result<(), AllocError> {
     let reply = cache.apply(alloc, ask)?;
-    let line = format!(in row.heap; "{}, {} bytes\n", reply.status, reply.body.len())?;
-    text.push_str(line.as_str())
+    writeln!(text, "{}, {} bytes", reply.status, reply.body.len())
 }
 
 /// `refuse_first ..`: what a second connection is answered to the stream where the first wanted
@@ -215,8 +214,7 @@ pub fn refuse_first(row: &Row<'_>, text: &mut String) -> Result<u64, AllocError>
         }
         if end == Ok(false) {
             if answers != expected {
-                let line = format!(in row.heap; "otherwise where request {number} is refused\n")?;
-                text.push_str(line.as_str())?;
+                writeln!(text, "otherwise where request {number} is refused")?;
             }
             refused = refused.saturating_add(1);
         }

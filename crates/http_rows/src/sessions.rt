@@ -34,24 +34,29 @@ fn tell_all<A: Allocator>(
     text: &mut String,
 ) -> Result<(), AllocError> {
     for event in events {
-        text.push_str(line_of(heap, &event)?.as_str())?;
+        tell(heap, &event, text)?;
     }
     Ok(())
 }
 
-/// What is asked, under which hash, and the digest of what is put; or the status. Whether the
+/// Adds what is asked, under which hash, and the digest of what is put; or the status. Whether the
 /// session closes.
-fn line_of<A: Allocator>(heap: Global, event: &Event<A>) -> Result<String, AllocError> {
+fn tell<A: Allocator>(heap: Global, event: &Event<A>, text: &mut String) -> Result<(), AllocError> {
     match event {
-        Event::Refuse(status, close) => { format!(in heap; "{status}{}\n", closing(*close)) }
+        Event::Refuse(status, close) => writeln!(text, "{status}{}", closing(*close)),
         Event::Ask(Ask::Get(area, hash), close) => {
-            let asked = asked(heap, *area, *hash)?;
-            format!(in heap; "get {asked}{}\n", closing(*close))
+            let hash = hash_text(heap, *hash)?;
+            writeln!(text, "get {} {hash}{}", name_of(*area), closing(*close))
         }
         Event::Ask(Ask::Put(area, hash, body), close) => {
-            let asked = asked(heap, *area, *hash)?;
+            let hash = hash_text(heap, *hash)?;
             let digest = body.digest().write_text(heap)?;
-            format!(in heap; "put {asked} {digest}{}\n", closing(*close))
+            writeln!(
+                text,
+                "put {} {hash} {digest}{}",
+                name_of(*area),
+                closing(*close)
+            )
         }
     }
 }
@@ -60,15 +65,15 @@ fn closing(close: bool) -> &'static str {
     if close { " close" } else { "" }
 }
 
-/// The area and the hash.
-fn asked(heap: Global, area: Area, hash: [u8; 32]) -> Result<String, AllocError> {
-    let area = match area {
+fn name_of(area: Area) -> &'static str {
+    match area {
         Area::Ac => "ac",
         Area::Cas => "cas",
         Area::Pin => "pin",
         Area::Unpin => "unpin",
-    };
-    let hash = Digest::new(hash, 0).hash_text();
-    let hash = String::from_utf8_lossy(heap, &hash)?;
-    format!(in heap; "{area} {hash}")
+    }
+}
+
+fn hash_text(heap: Global, hash: [u8; 32]) -> Result<String, AllocError> {
+    String::from_utf8_lossy(heap, &Digest::new(hash, 0).hash_text())
 }

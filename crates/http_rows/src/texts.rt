@@ -82,6 +82,5 @@ pub fn head(row: &Row<'_>, text: &mut String) -> Result<(), AllocError> {
         return text.push_str("no head\n");
     };
     let close = if head.close { ", close" } else { "" };
-    let line = format!(in row.heap; "{}, {} bytes{close}\n", head.status, head.length)?;
-    text.push_str(line.as_str())
+    writeln!(text, "{}, {} bytes{close}", head.status, head.length)
 }

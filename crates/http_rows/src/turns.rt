@@ -2,7 +2,7 @@
 ghost use Rattle.std.specs.Prelude.{◌≤◌, length};
 
 use crate::faults::writer_to;
-use crate::faulty::TurnReader;
+use crate::faulty::{FaultyWriter, TurnReader};
 use crate::rows::Row;
 use crate::servers::{cache_of, prefix_of};
 use cache_server::{ConnError, run};
@@ -17,10 +17,7 @@ pub fn turns<A: Allocator + Copy>(
     row: &Row<'_>,
     text: &mut String,
 ) -> Result<(), AllocError> {
-    let mut cache = cache_of(alloc, row)?;
-    let prefix = prefix_of(alloc, row)?;
-    let mut pieces = requests_of(row)?;
-    pieces.push(row.next)?;
+    let pieces = pieces_of(row)?;
     let flushed = Cell::new(0);
     let mut reader = TurnReader {
         pieces: &pieces,
@@ -28,12 +25,8 @@ pub fn turns<A: Allocator + Copy>(
         noted: Vec::new(row.heap),
     };
     let mut writer = writer_to(row.heap, 0, &flushed);
-    let end = run(alloc, &mut reader, &mut writer, &mut cache, &prefix);
-    for (at, length) in reader.noted.iter().enumerate() {
-        let number = at + 1;
-        let line = format!(in row.heap; "read {number}: {length} bytes flushed before\n")?;
-        text.push_str(line.as_str())?;
-    }
+    let end = run_turns(alloc, row, &mut reader, &mut writer);
+    tell_reads(&reader.noted, text)?;
     if writer.taken.len() != flushed.get() {
         text.push_str("not flushed at the end\n")?;
     }
@@ -44,8 +37,27 @@ pub fn turns<A: Allocator + Copy>(
     }
 }
 
-/// The requests of the stream.
-fn requests_of<'a>(row: &Row<'a>) -> Result<Vec<&'a [u8]>, AllocError> {
+fn run_turns<A: Allocator + Copy>(
+    alloc: A,
+    row: &Row<'_>,
+    reader: &mut TurnReader<'_>,
+    writer: &mut FaultyWriter<'_>,
+) -> Result<(), ConnError> {
+    let mut cache = cache_of(alloc, row)?;
+    let prefix = prefix_of(alloc, row)?;
+    run(alloc, reader, writer, &mut cache, &prefix)
+}
+
+fn tell_reads(noted: &[usize], text: &mut String) -> Result<(), AllocError> {
+    for (at, length) in noted.iter().enumerate() {
+        let number = at.saturating_add(1);
+        writeln!(text, "read {number}: {length} bytes flushed before")?;
+    }
+    Ok(())
+}
+
+/// The requests of the first stream, and all of the second.
+fn pieces_of<'a>(row: &Row<'a>) -> Result<Vec<&'a [u8]>, AllocError> {
     let mut requests = Vec::new(row.heap);
     let mut rest = row.stream;
     for _ in 0..row.stream.len() {
@@ -55,6 +67,7 @@ fn requests_of<'a>(row: &Row<'a>) -> Result<Vec<&'a [u8]>, AllocError> {
             requests.push(request)?;
         }
     }
+    requests.push(row.next)?;
     Ok(requests)
 }
 

@@ -71,7 +71,7 @@ fn tell_beginnings(row: &Row<'_>, text: &mut String) -> Result<(), AllocError> {
             },
         )?;
         if length == 0 || next != last {
-            text.push_str(format!(in row.heap; "{length} bytes\n{next}")?.as_str())?;
+            write!(text, "{length} bytes\n{next}")?;
         }
         last = next;
     }
@@ -96,8 +96,7 @@ fn tell_in_each_way(verb: &str, row: &Row<'_>, text: &mut String) -> Result<u64,
         let lengths = *lengths;
         let other = told(verb, &Row { lengths, ..*row })?;
         if other != expected {
-            let line = format!(in row.heap; "in pieces of {lengths:?}\n{other}")?;
-            text.push_str(line.as_str())?;
+            write!(text, "in pieces of {lengths:?}\n{other}")?;
         }
     }
     refuse_each(verb, row, expected.as_str(), text)
@@ -123,8 +122,7 @@ fn refuse_each(
         }
         let is_told = end.is_err() && expected.starts_with(other.as_str());
         if !(is_told || is_whole && serves) {
-            let line = format!(in row.heap; "where request {number} is refused\n{other}")?;
-            text.push_str(line.as_str())?;
+            write!(text, "where request {number} is refused\n{other}")?;
             return Ok(refused);
         }
         refused = refused.saturating_add(1);
