@@ -37,13 +37,16 @@ client_line name =
     may_have (may_have (must_have (new_app name) (codes "server")) (codes "prefix"))
     (codes "timeout")
 
--- `verify` and its options
+-- `verify` with the options that say where the recorded build is, and with all
+abbrev pub placed_line : App
+placed_line =
+    may_have
+    (may_have (may_have (may_have (new_app (codes "verify")) (codes "server")) (codes "store"))
+    (codes "prefix")) (codes "timeout")
+
 abbrev pub verify_line : App
 verify_line =
-    must_have (must_have (must_have (must_have
-    (may_have
-    (may_have (may_have (may_have (new_app (codes "verify")) (codes "server")) (codes "store"))
-    (codes "prefix")) (codes "timeout"))
+    must_have (must_have (must_have (must_have placed_line
     (codes "sources")) (codes "plan")) (codes "record")) (codes "claim")
 
 -- `serve` and its options

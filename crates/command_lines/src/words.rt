@@ -2,8 +2,9 @@ ghost use Rattle.std.specs.Prelude.{◌≡◌, IfOk, map, string_bytes, false};
 ghost use Rattle.clap.specs.Words.{FailsBy, app_of, fault_of, rule_of, subcommand_of};
 ghost use Rattle.clap.specs.Words.{subcommand_rows_of};
 ghost use Rattle.command_lines.specs.CommandLine.{optional_option, required_option, required_word};
-ghost use Rattle.command_lines.specs.CommandLine.{client_line, verify_line, serve_line, put_line};
-ghost use Rattle.command_lines.specs.CommandLine.{build_line, get_line, program_line};
+ghost use Rattle.command_lines.specs.CommandLine.{build_line, client_line, get_line};
+ghost use Rattle.command_lines.specs.CommandLine.{placed_line, program_line, put_line};
+ghost use Rattle.command_lines.specs.CommandLine.{serve_line, verify_line};
 
 use clap::{Arg, ArgAction, ArgMatches, Command, Error};
 use std::alloc::{AllocError, Global};
@@ -57,8 +58,9 @@ fn word<'a>(alloc: Global, name: &'static str, value: &'static str, help: &'stat
         .action(ArgAction::Set)
 }
 
-fn verify_command<'a>(alloc: Global) -> Result<Command<'a>, AllocError>
-    ensures { IfOk result (λ c. app_of c ≡ verify_line) }
+/// `verify` with the options that say where the recorded build is.
+fn placed_command<'a>(alloc: Global) -> Result<Command<'a>, AllocError>
+    ensures { IfOk result (λ c. app_of c ≡ placed_line) }
 {
     Command::new(alloc, "verify")
         .about("Say whether every build of a plan ends in exactly the claimed root")
@@ -85,7 +87,13 @@ fn verify_command<'a>(alloc: Global) -> Result<Command<'a>, AllocError>
             "timeout",
             "SECONDS",
             "How long the server may be silent (60; 0: for ever)",
-        ))?
+        ))
+}
+
+fn verify_command<'a>(alloc: Global) -> Result<Command<'a>, AllocError>
+    ensures { IfOk result (λ c. app_of c ≡ verify_line) }
+{
+    placed_command(alloc)?
         .arg(required(
             alloc,
             "sources",
