@@ -77,6 +77,11 @@ pub fn is(field: &[u8], word: &str) -> bool {
     field == word.as_bytes()
 }
 
+/// The field as a word, which is empty where the field is no text.
+pub fn word(field: &[u8]) -> &str {
+    str::from_utf8(field).unwrap_or("")
+}
+
 /// The text, for a row.
 pub fn said(global: Global, text: &str) -> Answer {
     Ok(String::from_str(global, text)?)

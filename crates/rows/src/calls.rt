@@ -1,5 +1,5 @@
 //! What an engine answers to calls.
-use crate::answers::{Answer, Broken, is, number_in, said};
+use crate::answers::{Answer, Broken, number_in, said, word};
 use crate::engines::fault_told;
 use actions::Outcome;
 use blob_digest::Digest;
@@ -17,17 +17,42 @@ pub fn answered<A: Allocator + Copy>(
     outcome: Outcome<A>,
 ) -> Answer {
     match fields {
-        [kind, _] if is(kind, "record") => record(global, alloc, engine),
-        [kind, _] if is(kind, "root") => root(global, alloc, engine, source),
-        [kind, number, _] if is(kind, "lose") => ended(global, engine.lose(number_in(number)?)),
-        [kind, number, _] if is(kind, "start") => {
-            start(global, alloc, engine, source, step_in(number)?)
-        }
-        [kind, number, _] => asked(global, alloc, engine, kind, step_in(number)?),
-        [kind, number, ..] if is(kind, "finish") => {
+        [kind, _] => of_all(global, alloc, engine, source, word(kind)),
+        [kind, number, _] => of_number(global, alloc, engine, source, word(kind), number),
+        [kind, number, ..] if word(kind) == "finish" => {
             ended(global, engine.finish(alloc, number_in(number)?, outcome))
         }
         _ => Err(Broken::NoRow),
+    }
+}
+
+fn of_all<A: Allocator + Copy>(
+    global: Global,
+    alloc: A,
+    engine: &Engine<A>,
+    source: &mut MemorySource<A>,
+    kind: &str,
+) -> Answer {
+    match kind {
+        "record" => record(global, alloc, engine),
+        "root" => root(global, alloc, engine, source),
+        _ => Err(Broken::NoRow),
+    }
+}
+
+/// The answer to a call about a job or a step of this number.
+fn of_number<A: Allocator + Copy>(
+    global: Global,
+    alloc: A,
+    engine: &mut Engine<A>,
+    source: &mut MemorySource<A>,
+    kind: &str,
+    number: &[u8],
+) -> Answer {
+    match kind {
+        "lose" => ended(global, engine.lose(number_in(number)?)),
+        "start" => start(global, alloc, engine, source, step_in(number)?),
+        kind => asked(global, alloc, engine, kind, step_in(number)?),
     }
 }
 
@@ -119,23 +144,20 @@ pub fn asked<A: Allocator + Copy>(
     global: Global,
     alloc: A,
     engine: &Engine<A>,
-    kind: &[u8],
+    kind: &str,
     step: usize,
 ) -> Answer {
     if step >= engine.plan().steps().len() {
         return Err(Broken::NoRow);
     }
     match kind {
-        kind if is(kind, "ready") => said(global, if engine.ready(step) { "yes" } else { "no" }),
-        kind if is(kind, "finished") => said(
-            global,
-            if engine.finished(step) { "yes" } else { "no" },
-        ),
-        kind if is(kind, "running") => {
+        "ready" => said(global, if engine.ready(step) { "yes" } else { "no" }),
+        "finished" => said(global, if engine.finished(step) { "yes" } else { "no" }),
+        "running" => {
             let count = engine.running(step);
             Ok(format!(in global; "{count}")?)
         }
-        kind if is(kind, "result") && engine.finished(step) => {
+        "result" if engine.finished(step) => {
             let bytes = engine.result(alloc, step)?.encode(alloc)?;
             let digest = Digest::of(&bytes).write_text(global)?;
             Ok(format!(in global; "result {digest}")?)

@@ -1,6 +1,6 @@
 //! Rows of calls of an engine, of which each group has one, over a source with the stock. Each
 //! request for memory of a call is refused in turn before the engine is asked once more.
-use crate::answers::{Answer, Broken, compared, is, said};
+use crate::answers::{Answer, Broken, compared, said, word};
 use crate::calls::answered;
 use crate::stock::source_of;
 use actions::{Outcome, Output};
@@ -40,9 +40,7 @@ pub fn run(global: Global, stock: &[Row], group: &[Row]) -> Result<u64, Broken> 
 /// Whether the call takes no memory.
 fn is_spare(fields: &[Vec<u8>]) -> bool {
     match fields.first() {
-        Some(kind) => {
-            is(kind, "ready") || is(kind, "finished") || is(kind, "running") || is(kind, "lose")
-        }
+        Some(kind) => matches!(word(kind), "ready" | "finished" | "running" | "lose"),
         None => false,
     }
 }
@@ -77,14 +75,14 @@ fn insisted<'h>(
 fn outcome_in<A: Allocator + Copy>(alloc: A, fields: &[Vec<u8>]) -> Result<Outcome<A>, Broken> {
     let mut outcome = Outcome::new(alloc, 0);
     match fields {
-        [kind, _, code, _] if is(kind, "finish") => {
+        [kind, _, code, _] if word(kind) == "finish" => {
             match str::from_utf8(code)?.parse::<i32>() {
                 Ok(code) => return Ok(Outcome::new(alloc, code)),
                 Err(_) => return Err(Broken::NoRow),
             }
         }
-        [_, _, word, path, rest, _] => {
-            let output = output_of(alloc, word, rest)?;
+        [_, _, kind, path, rest, _] => {
+            let output = output_of(alloc, word(kind), rest)?;
             if outcome.add(alloc, Path::new(alloc, path)?, output).is_err() {
                 return Err(Broken::NoRow);
             }
@@ -94,16 +92,16 @@ fn outcome_in<A: Allocator + Copy>(alloc: A, fields: &[Vec<u8>]) -> Result<Outco
     Ok(outcome)
 }
 
-fn output_of<A: Allocator + Copy>(alloc: A, word: &[u8], rest: &[u8]) -> Result<Output<A>, Broken> {
-    Ok(match word {
-        word if is(word, "file") => Output::File {
+fn output_of<A: Allocator + Copy>(alloc: A, kind: &str, rest: &[u8]) -> Result<Output<A>, Broken> {
+    Ok(match kind {
+        "file" => Output::File {
             digest: Digest::read_text(rest)?,
             executable: false,
         },
-        word if is(word, "link") => Output::Link {
+        "link" => Output::Link {
             target: Target::new(alloc, rest)?,
         },
-        word if is(word, "folder") => Output::Tree(Tree::decode(alloc, rest)?),
+        "folder" => Output::Tree(Tree::decode(alloc, rest)?),
         _ => return Err(Broken::NoRow),
     })
 }

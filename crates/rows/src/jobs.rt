@@ -43,7 +43,7 @@ fn many_jobs(
         return said(global, "another job");
     }
     let last = start(global, global, engine, source, 0)?;
-    let running = asked(global, global, engine, b"running", 0)?;
+    let running = asked(global, global, engine, "running", 0)?;
     Ok(format!(in global; "{last} beside {running}")?)
 }
 
