@@ -1,12 +1,16 @@
 -- Why `verify` ends without its answer: the first fault, in the order words, digests, plan, record,
 -- connection and work. Of a file, that it can't be read comes before what is wrong in its text.
 use Rattle.std.specs.Prelude.{◌≡◌, ◌≢◌, ◌⊎◌, ℕ, List, codes, string_bytes}
+use Rattle.std.specs.declared.alloc.Global.{Global}
 use Rattle.blob_digest.specs.declared.error.DigestError.{DigestError}
+use Rattle.blob_source.specs.Source.{Telling}
 use Rattle.clap.specs.Words.{Row}
 use Rattle.plan.specs.Faults.{IsPlanFault}
 use Rattle.plan.specs.Record.{IsRecordFault, names_of}
 use Rattle.plan.specs.Values.{PlanValue}
 use Rattle.plan.specs.declared.error.PlanError.{PlanError}
+use Rattle.text_verifier.specs.Answered.{IsAnswer}
+use Rattle.text_verifier.specs.declared.answering.Answer.{Answer}
 use Rattle.text_verifier.specs.declared.error.TextError.{TextError}
 use Rattle.text_verifier.specs.declared.error.TextError.TheVariants as texts
 use Rattle.text_verifier.specs.Refused.{IsNoDigest, IsSpelled}
@@ -41,6 +45,14 @@ pub record HasQuestion (options : List Row) : Type 0 where
   pub question : Question
   pub texts : HasTexts (option_text options (codes "sources")) (option_text options (codes "claim"))
       plan_bytes noted_bytes question
+
+-- an answer to the question, by what some store told
+abbrev pub IsAnswered : Question → Answer Global → Type 0
+IsAnswered question answer = (told : Telling) × IsAnswer told question answer
+
+-- a question is asked, and this is an answer to it
+abbrev pub AnswersAsked : List Row → Answer Global → Type 0
+AnswersAsked options answer = (asks : HasQuestion options) × IsAnswered asks.question answer
 
 -- ---- faults
 

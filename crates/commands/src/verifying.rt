@@ -2,17 +2,15 @@ ghost use Rattle.std.specs.Prelude.{◌≡◌, ◌≢◌, ◌↔◌, ℕ, List, 
 ghost use Rattle.std.specs.Prelude.{None};
 ghost use Rattle.std.specs.Prelude.{OnErr, OnOk, codes, string_bytes};
 ghost use Rattle.std.specs.Io.KnownBytes.{Appends};
-ghost use Rattle.blob_source.specs.Source.{Telling};
 ghost use Rattle.clap.specs.Words.{found_of, first_of, rows_of};
 ghost use Rattle.commands.specs.Printed.{NamesPlace, NamesStore, PrintsVerdict};
 ghost use Rattle.commands.specs.Refusal.{FailsDigests, FailsPlan, FailsRecord, FailsVerify};
-ghost use Rattle.commands.specs.Refusal.{HasQuestion, IsCommandFault, IsToldAs};
+ghost use Rattle.commands.specs.Refusal.{AnswersAsked, IsAnswered, IsCommandFault, IsToldAs};
 ghost use Rattle.commands.specs.Status.{status_of};
 ghost use Rattle.commands.specs.Told.{PrintsNoLine};
 ghost use Rattle.command_lines.specs.CommandLine.{option_text};
 ghost use Rattle.plan.specs.Record.{Fits};
 ghost use Rattle.report.specs.Line.{IsOneLine};
-ghost use Rattle.text_verifier.specs.Answered.{IsAnswer};
 ghost use Rattle.text_verifier.specs.Texts.{HasPlan, HasRecord, IsDigestText, question_of};
 ghost use Rattle.verifier.specs.Verdict.{IsYes};
 
@@ -171,8 +169,8 @@ fn judge_folder<R: Files + AllocGlobal>(
     noted: &Record<Global>,
 ) -> Result<Answer<Global>, CommandError>
     requires { Fits noted.now plan.now }
-    ensures answered { IfOk result (λ answer. (told : Telling) × IsAnswer told
-        (question_of digests.now.sources digests.now.claim plan.now noted.now) answer) }
+    ensures answered { IfOk result (IsAnswered
+        (question_of digests.now.sources digests.now.claim plan.now noted.now)) }
     ensures fault { IfErr result (λ e. status_of e ≡ 3) }
 {
     let folder = String::from_str(rt.alloc(), folder)?;
@@ -196,8 +194,8 @@ fn judge_server<R: AllocGlobal + Net<Stream = TcpStream>>(
     noted: &Record<Global>,
 ) -> Result<Answer<Global>, CommandError>
     requires { Fits noted.now plan.now }
-    ensures answered { IfOk result (λ answer. (told : Telling) × IsAnswer told
-        (question_of digests.now.sources digests.now.claim plan.now noted.now) answer) }
+    ensures answered { IfOk result (IsAnswered
+        (question_of digests.now.sources digests.now.claim plan.now noted.now)) }
     ensures fault { IfErr result (λ e. status_of e ≡ 3) }
 {
     let mut client = open(rt, server)?;
@@ -213,8 +211,8 @@ fn judge_by<S: Stream + Drop>(
     noted: &Record<Global>,
 ) -> Result<Answer<Global>, CommandError>
     requires { Fits noted.now plan.now }
-    ensures answered { IfOk result (λ answer. (told : Telling) × IsAnswer told
-        (question_of digests.now.sources digests.now.claim plan.now noted.now) answer) }
+    ensures answered { IfOk result (IsAnswered
+        (question_of digests.now.sources digests.now.claim plan.now noted.now)) }
     ensures fault { IfErr result (λ e. status_of e ≡ 3) }
 {
     match answer_question(alloc, digests, plan, noted, client) {
@@ -233,8 +231,8 @@ fn judge<R: AllocGlobal + Files + Net<Stream = TcpStream>>(
     noted: &Record<Global>,
 ) -> Result<Answer<Global>, CommandError>
     requires { Fits noted.now plan.now }
-    ensures answered { IfOk result (λ answer. (told : Telling) × IsAnswer told
-        (question_of digests.now.sources digests.now.claim plan.now noted.now) answer) }
+    ensures answered { IfOk result (IsAnswered
+        (question_of digests.now.sources digests.now.claim plan.now noted.now)) }
     ensures fault { IfErr result (λ e. status_of e ≡ 3) }
 {
     match place {
@@ -257,8 +255,7 @@ fn judge_plan<R: AllocGlobal + Files + Net<Stream = TcpStream>>(
     requires claim { IsDigestText
         (option_text (rows_of (found_of matches.now)) (codes "claim")) digests.now.claim }
     requires plan { (bytes : List ℕ) × HasPlan bytes plan.now }
-    ensures answered { IfOk result (λ answer. (asks : HasQuestion (rows_of (found_of matches.now)))
-        × (told : Telling) × IsAnswer told asks.question answer) }
+    ensures answered { IfOk result (AnswersAsked (rows_of (found_of matches.now))) }
     ensures refused { IfErr result (FailsVerify (rows_of (found_of matches.now))) }
 {
     let noted = record_in_file(rt, matches, plan)?;
@@ -272,8 +269,7 @@ fn judge_texts<R: AllocGlobal + Files + Net<Stream = TcpStream>>(
     place: &Place<'_>,
 ) -> Result<Answer<Global>, CommandError>
     requires { NamesPlace (rows_of (found_of matches.now)) }
-    ensures answered { IfOk result (λ answer. (asks : HasQuestion (rows_of (found_of matches.now)))
-        × (told : Telling) × IsAnswer told asks.question answer) }
+    ensures answered { IfOk result (AnswersAsked (rows_of (found_of matches.now))) }
     ensures refused { IfErr result (FailsVerify (rows_of (found_of matches.now))) }
 {
     let digests = typed_digests(rt.alloc(), matches)?;

@@ -1,9 +1,7 @@
 use Rattle.std.proofs.lemmas.Result.{IfOk-weaker}
-use Rattle.blob_source.specs.Source.{Telling}
 use Rattle.clap.specs.Words.{found_of, rows_of}
-use Rattle.text_verifier.specs.Answered.{IsAnswer}
 use Rattle.text_verifier.specs.Texts.{question_of}
-use Rattle.commands.specs.Refusal.{FailsVerify, HasPlanToo, HasQuestion}
+use Rattle.commands.specs.Refusal.{AnswersAsked, FailsVerify, HasPlanToo, HasQuestion, IsAnswered}
 use Rattle.commands.specs.Refusal.FailsVerify.{in_record, in_work}
 use Rattle.commands.proofs.Exits.{err_weaker, exit_by}
 use Rattle.commands.proofs.verifying.judge_plan.Goals as goal
@@ -26,8 +24,7 @@ pub returns-clause-answered : goal.returns-clause-answered
 returns-clause-answered g c =
     let options = rows_of (found_of c.args.matches.now) in
     let question = question_of c.args.digests.now.sources c.args.digests.now.claim c.args.plan.now c.in_ok-noted.noted in
-    IfOk-weaker c.judge.result (λ answer. (told : Telling) × IsAnswer told question answer)
-    (λ answer. (asked : HasQuestion options) × (told : Telling) × IsAnswer told asked.question answer)
+    IfOk-weaker c.judge.result (IsAnswered question) (AnswersAsked options)
     (λ answer is. (
       record {
         place = c.requires.place;
@@ -41,8 +38,7 @@ returns-clause-answered g c =
           noted_is = c.in_ok-noted.ensures.found.1;
         };
       },
-      is.0,
-      is.1,
+      is,
     )) c.judge.ensures.answered
 
 pub returns-clause-refused : goal.returns-clause-refused

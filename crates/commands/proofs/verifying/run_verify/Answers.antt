@@ -17,14 +17,14 @@ returns-in_err-print_line-clause-refused g c =
 pub returns-clause-printed : goal.returns-clause-printed
 returns-clause-printed g c =
     let asked = c.in_ok-answer.ensures.answered.0 in
-    let is = c.in_ok-answer.ensures.answered.2 in (
+    let is = c.in_ok-answer.ensures.answered.1.1 in (
       record {
         place = asked.place;
         plan_bytes = asked.plan_bytes;
         noted_bytes = asked.noted_bytes;
         question = asked.question;
         texts = asked.texts;
-        told = c.in_ok-answer.ensures.answered.1;
+        told = c.in_ok-answer.ensures.answered.1.0;
         verdict = is.verdict;
         judged = is.judged;
         printed = search rules;
