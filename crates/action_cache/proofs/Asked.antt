@@ -1,12 +1,21 @@
 -- What a list of asks leaves.
-use Rattle.std.proofs.Common.{◌≡◌, ℕ, true, false, cond, not, List, [], ◌∷◌, ◌++◌, Option, Some, None, is_some, is_none, refl, sym, ◌∙◌, subst, arith}
+use Rattle.std.proofs.Common.{◌≡◌, ℕ, true, false, cond, not, List, [], ◌∷◌, ◌++◌, Option, Some, None, is_some, is_none, bytes_eq, refl, ap, sym, ◌∙◌, subst, arith}
+use Rattle.std.proofs.lemmas.Slice.Eq.{bytes_eq-Decides}
+use Rattle.sha2.specs.Sha256.{sha256}
 use Rattle.std.specs.List.{find, AllByRecursion, IsDistinct}
 use Rattle.blob_digest.specs.DigestValue.{DigestValue}
 use Rattle.action_cache.specs.References.{Reference, Reader, is_held, files_of, fault_of, fault_in_tree, first_given, refers, is_complete, outputs_of, first_fault}
-use Rattle.action_cache.specs.Machine.{CacheState, Answer, Marked, given, nothing, opened, under, found, result_used, got_result, get_result}
+use Rattle.action_cache.specs.Machine.{CacheState, Answer, Marked, given, nothing, opened, under, found, result_used, got_blob, get_blob, got_result, get_result}
 use Rattle.action_cache.specs.Asking.{CacheAsk, Unpin, after_ask, after, IsWhole, AreWhole, StaysPinned}
 use Rattle.action_cache.proofs.Keeping.{both_true, all_under, same_complete, same_refers_to, wanted_under}
-use Rattle.action_cache.proofs.Leading.{IsSound, leads_ask, stays_ask, used_found}
+use Rattle.action_cache.proofs.Leading.{AreUnderHashes, IsSound, leads_ask, stays_ask, used_found}
+
+hash_found : (h b : List ℕ) (bs : List (List ℕ × List ℕ)) → AreUnderHashes bs → under h bs ≡ Some b → sha256 b ≡ h
+hash_found h b [] a e = absurd cc
+hash_found h b (x ∷ bs) a e = (elim (bytes_eq h x.0) as (λ y. bytes_eq h x.0 ≡ y → cond y (Some x.1) (under h bs) ≡ Some b → sha256 b ≡ h) [
+  | true ↦ λ t f. let same : x.1 ≡ b = cc in ap sha256 (sym same) ∙ a.0 ∙ sym ((bytes_eq-Decides h x.0).0 t)
+  | false ↦ λ t f. hash_found h b bs a.1 f
+]) refl e
 
 module _ (reader : Reader) where
   -- ---- complete results, in words
@@ -58,6 +67,7 @@ module _ (reader : Reader) where
     distinct = tt;
     whole = tt;
     within = record { blobs = omega arith; results = omega arith };
+    hashes = tt;
   }
 
   pub sound_after : (asks : List CacheAsk) (s : CacheState) → IsSound reader s → IsSound reader (after reader s asks)
@@ -84,6 +94,17 @@ module _ (reader : Reader) where
         blobs = λ b w. on.blobs b (same_refers_to reader (found reader s) (found reader t) r.bytes kept b ∙ w) ∙ kept b w;
         whole = on.whole;
       }
+
+  -- a blob that is answered has the hash that was asked for
+  pub hash_answered : (s : CacheState) → IsSound reader s → (h bytes : List ℕ) → (get_blob reader s h).0 ≡ given bytes → sha256 bytes ≡ h
+  hash_answered s k h bytes e = (elim (bytes_eq (sha256 []) h) as (λ y. bytes_eq (sha256 []) h ≡ y → (cond {A = Answer × CacheState} y (given [], s) (got_blob reader s h (found reader s h))).0 ≡ given bytes → sha256 bytes ≡ h) [
+    | true ↦ λ t g. let none : [] ≡ bytes = cc in ap sha256 (sym none) ∙ (bytes_eq-Decides (sha256 []) h).0 t
+    | false ↦ λ t g. by (found reader s h) refl g
+  ]) refl e
+    where
+      by : (o : Option (List ℕ)) → found reader s h ≡ o → (got_blob reader s h o).0 ≡ given bytes → sha256 bytes ≡ h
+      by None f g = absurd cc
+      by (Some b) f g = let same : b ≡ bytes = cc in ap sha256 (sym same) ∙ hash_found h b s.blobs k.hashes f
 
   pub whole_answer : (s : CacheState) → IsSound reader s → (h bytes : List ℕ) → (get_result reader s h).0 ≡ given bytes → AreWhole reader (get_result reader s h).1 bytes
   whole_answer s k h bytes e = by (under h s.results) e

@@ -9,12 +9,19 @@ use Rattle.blob_digest.specs.DigestValue.{DigestValue}
 use Rattle.blob_digest.specs.Body.{greatest_blob}
 use Rattle.eviction.specs.Kept.{total}
 use Rattle.eviction.specs.Entering.{spared_last}
-use Rattle.blob_store.proofs.BlobLemmas.{all_filter}
+use Rattle.blob_store.proofs.BlobLemmas.{all_filter, all_spared_last}
 use Rattle.action_cache.specs.References.{Reader, is_complete, references, outputs_of}
 use Rattle.action_cache.specs.Machine.{CacheState, Marked, Answer, done, given, nothing, refused, too_large, hash_differs, pinned_differs, bad_result, not_pinned, why_incomplete, under, others_than, fronted, found, blob_is_pinned, with_blobs, with_results, blobs_entered, results_entered, or_full, blob_stored, put_blob, got_blob, get_blob, result_used, got_result, get_result, differs_pinned, put_result, marked, pinned_now, pin, unpinned_now, unpin}
 use Rattle.action_cache.specs.Asking.{CacheAsk, PutBlob, GetBlob, PutResult, GetResult, Pin, Unpin, after_ask, IsWithin}
 use Rattle.action_cache.proofs.Thinning.{filter_shorter, Enters, enters, thins_last, thins_all, pinned_found, all_found}
 use Rattle.action_cache.proofs.Keeping.{under_fronted, under_others, all_under, each_under, fronted_distinct, fronted_all, fronted_total, entered_distinct, is_wanted, ArePinnedWhole, still_whole, wanted_held}
+
+-- a blob stands under its hash
+abbrev pub IsUnderHash : List ℕ × List ℕ → Type 0
+IsUnderHash b = sha256 b.1 ≡ b.0
+
+abbrev pub AreUnderHashes : List (List ℕ × List ℕ) → Type 0
+AreUnderHashes bs = AllByRecursion IsUnderHash bs
 
 module _ (reader : Reader) where
   -- what holds of each state that a cache comes to
@@ -22,6 +29,7 @@ module _ (reader : Reader) where
     pub distinct : IsDistinct bytes_eq (keys_of s.results)
     pub whole : ArePinnedWhole reader (found reader s) s.results
     pub within : IsWithin s
+    pub hashes : AreUnderHashes s.blobs
 
   -- what an ask leaves: a sound state, and what pinned results want as it was
   pub record Leads (s t : CacheState) : Type 0 where
@@ -39,23 +47,25 @@ module _ (reader : Reader) where
 
   module _ (s : CacheState) (k : IsSound s) where
     blobs_change : (bs : List (List ℕ × List ℕ)) → ((b : List ℕ) → is_wanted reader (found reader s) s.results b ≡ true → under b bs ≡ under b s.blobs)
-        → total (λ b. length b.1) bs ≤ s.limit → Leads s (with_blobs reader s bs)
-    blobs_change bs on fits = record {
+        → total (λ b. length b.1) bs ≤ s.limit → AreUnderHashes bs → Leads s (with_blobs reader s bs)
+    blobs_change bs on fits hashes = record {
       sound = record {
         distinct = k.distinct;
         whole = still_whole reader (found reader s) (λ h. under h bs) s.results on k.whole;
         within = record { blobs = fits; results = k.within.results };
+        hashes = hashes;
       };
       blobs = on;
     }
 
     pub blobs_fronted : (h : List ℕ) → Leads s (with_blobs reader s (fronted h s.blobs))
-    blobs_fronted h = blobs_change (fronted h s.blobs) (λ b w. under_fronted b h s.blobs) (subst (λ n. n ≤ s.limit) (sym (fronted_total (λ b. length b.1) h s.blobs)) k.within.blobs)
+    blobs_fronted h = blobs_change (fronted h s.blobs) (λ b w. under_fronted b h s.blobs) (subst (λ n. n ≤ s.limit) (sym (fronted_total (λ b. length b.1) h s.blobs)) k.within.blobs) (fronted_all IsUnderHash h s.blobs k.hashes)
 
-    pub blobs_enter : (h bytes : List ℕ) (out : List (List ℕ × List ℕ)) → is_some (found reader s h) ≡ false → blobs_entered reader s h bytes ≡ Some out → Leads s (with_blobs reader s out)
-    blobs_enter h bytes out absent e =
+    pub blobs_enter : (h bytes : List ℕ) (out : List (List ℕ × List ℕ)) → sha256 bytes ≡ h → is_some (found reader s h) ≡ false → blobs_entered reader s h bytes ≡ Some out → Leads s (with_blobs reader s out)
+    blobs_enter h bytes out has absent e =
         let n = enters (blob_is_pinned reader s) (λ b. length b.1) s.limit (h, bytes) (others_than h s.blobs) (length s.blobs) out (filter_shorter (λ b. not (bytes_eq h b.0)) s.blobs) e in
         blobs_change out (λ b w. ap (under b) n.out_is ∙ kept n.most b w) n.within
+        (subst AreUnderHashes (sym n.out_is) (has, all_spared_last IsUnderHash (blob_is_pinned reader s) n.most (others_than h s.blobs) (all_filter IsUnderHash (λ b. not (bytes_eq h b.0)) s.blobs k.hashes)))
       where
         clash : {y : Bool} → y ≡ true → y ≡ false → ⊥
         clash t f = let e : true ≡ false = sym t ∙ f in cc
@@ -77,18 +87,23 @@ module _ (reader : Reader) where
     leads_put_blob h bytes =
         elim (nat_lt greatest_blob (length bytes)) as (λ y. Leads s (cond {A = Answer × CacheState} y (refused too_large, s) (cond (bytes_eq (sha256 bytes) h) (blob_stored reader s h bytes) (refused hash_differs, s))).1) [
           | true ↦ leads_same s k
-          | false ↦ elim (bytes_eq (sha256 bytes) h) as (λ y. Leads s (cond {A = Answer × CacheState} y (blob_stored reader s h bytes) (refused hash_differs, s)).1) [
-            | true ↦ stored bytes
-            | false ↦ leads_same s k
-          ]
+          | false ↦ (elim (bytes_eq (sha256 bytes) h) as (λ y. bytes_eq (sha256 bytes) h ≡ y → Leads s (cond {A = Answer × CacheState} y (blob_stored reader s h bytes) (refused hash_differs, s)).1) [
+            | true ↦ λ t. stored bytes ((bytes_eq-Decides (sha256 bytes) h).0 t)
+            | false ↦ λ t. leads_same s k
+          ]) refl
         ]
       where
-        stored : (bytes : List ℕ) → Leads s (blob_stored reader s h bytes).1
-        stored [] = leads_same s k
-        stored (x ∷ xs) = (elim (is_some (found reader s h)) as (λ y. is_some (found reader s h) ≡ y → Leads s (cond {A = Answer × CacheState} y (done, with_blobs reader s (fronted h s.blobs)) (or_full reader s (option_map (with_blobs reader s) (blobs_entered reader s h (x ∷ xs))))).1) [
-          | true ↦ λ t. blobs_fronted h
-          | false ↦ λ t. into_blobs (blobs_entered reader s h (x ∷ xs)) (λ out e. blobs_enter h (x ∷ xs) out t e)
-        ]) refl
+        put : List ℕ → Answer × CacheState
+        put bytes = cond {A = Answer × CacheState} (is_some (found reader s h)) (done, with_blobs reader s (fronted h s.blobs)) (or_full reader s (option_map (with_blobs reader s) (blobs_entered reader s h bytes)))
+
+        stored : (bytes : List ℕ) → sha256 bytes ≡ h → Leads s (blob_stored reader s h bytes).1
+        stored bytes has = elim (bytes_eq (sha256 []) h) as (λ z. Leads s (cond {A = Answer × CacheState} z (done, s) (put bytes)).1) [
+          | true ↦ leads_same s k
+          | false ↦ (elim (is_some (found reader s h)) as (λ y. is_some (found reader s h) ≡ y → Leads s (cond {A = Answer × CacheState} y (done, with_blobs reader s (fronted h s.blobs)) (or_full reader s (option_map (with_blobs reader s) (blobs_entered reader s h bytes)))).1) [
+            | true ↦ λ t. blobs_fronted h
+            | false ↦ λ t. into_blobs (blobs_entered reader s h bytes) (λ out e. blobs_enter h bytes out has t e)
+          ]) refl
+        ]
 
     pub leads_get_blob : (h : List ℕ) → Leads s (get_blob reader s h).1
     leads_get_blob h = elim (bytes_eq (sha256 []) h) as (λ y. Leads s (cond {A = Answer × CacheState} y (given [], s) (got_blob reader s h (found reader s h))).1) [
@@ -114,11 +129,14 @@ module _ (reader : Reader) where
           ]
         ]
       where
+        put : (bytes : List ℕ) (y : Bool) → Stays s (cond {A = Answer × CacheState} y (done, with_blobs reader s (fronted h s.blobs)) (or_full reader s (option_map (with_blobs reader s) (blobs_entered reader s h bytes)))).1 q
+        put bytes true = λ r u p. u
+        put bytes false = into_stays q (blobs_entered reader s h bytes)
+
         stored : (bytes : List ℕ) → Stays s (blob_stored reader s h bytes).1 q
-        stored [] = λ r u p. u
-        stored (x ∷ xs) = elim (is_some (found reader s h)) as (λ y. Stays s (cond {A = Answer × CacheState} y (done, with_blobs reader s (fronted h s.blobs)) (or_full reader s (option_map (with_blobs reader s) (blobs_entered reader s h (x ∷ xs))))).1 q) [
+        stored bytes = elim (bytes_eq (sha256 []) h) as (λ z. Stays s (cond {A = Answer × CacheState} z (done, s) (cond (is_some (found reader s h)) (done, with_blobs reader s (fronted h s.blobs)) (or_full reader s (option_map (with_blobs reader s) (blobs_entered reader s h bytes))))).1 q) [
           | true ↦ λ r u p. u
-          | false ↦ into_stays q (blobs_entered reader s h (x ∷ xs))
+          | false ↦ put bytes (is_some (found reader s h))
         ]
 
     pub blob_got_stays : (h q : List ℕ) → Stays s (get_blob reader s h).1 q
@@ -136,7 +154,7 @@ module _ (reader : Reader) where
     results_change : (rs : List (List ℕ × Marked)) → IsDistinct bytes_eq (keys_of rs) → ArePinnedWhole reader (found reader s) rs
         → total (λ r. length r.1.bytes + 64) rs ≤ s.result_limit → Leads s (with_results reader s rs)
     results_change rs d w fits = record {
-      sound = record { distinct = d; whole = w; within = record { blobs = k.within.blobs; results = fits } };
+      sound = record { distinct = d; whole = w; within = record { blobs = k.within.blobs; results = fits }; hashes = k.hashes };
       blobs = λ b w. refl;
     }
 
@@ -222,6 +240,10 @@ module _ (reader : Reader) where
     total_used [] bs = refl
     total_used (d ∷ ds) bs = total_used ds (fronted d.hash bs) ∙ fronted_total (λ (x : List ℕ × List ℕ). length x.1) d.hash bs
 
+    hashes_used : (ds : List DigestValue) (bs : List (List ℕ × List ℕ)) → AreUnderHashes bs → AreUnderHashes (fold (λ l (d : DigestValue). fronted d.hash l) bs ds)
+    hashes_used [] bs a = a
+    hashes_used (d ∷ ds) bs a = hashes_used ds (fronted d.hash bs) (fronted_all IsUnderHash d.hash bs a)
+
     pub used_found : (h bytes b : List ℕ) → found reader (result_used reader s h bytes) b ≡ found reader s b
     used_found h bytes b = blobs_used b (references (found reader s) reader (outputs_of reader bytes)) s.blobs
 
@@ -235,6 +257,7 @@ module _ (reader : Reader) where
           blobs = subst (λ n. n ≤ s.limit) (sym (total_used (references (found reader s) reader (outputs_of reader bytes)) s.blobs)) k.within.blobs;
           results = subst (λ n. n ≤ s.result_limit) (sym (fronted_total (λ (r : List ℕ × Marked). length r.1.bytes + 64) h s.results)) k.within.results;
         };
+        hashes = hashes_used (references (found reader s) reader (outputs_of reader bytes)) s.blobs k.hashes;
       };
       blobs = λ b w. used_found h bytes b;
     }

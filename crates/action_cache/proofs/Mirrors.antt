@@ -76,13 +76,14 @@ module _ (reader : Reader) (s : Kept (List ℕ)) (rl : ℕ) (results : List (Lis
       }
 
   pub put_ok : (b : List ℕ) (u : Kept (List ℕ)) → blob_put s h b ≡ Some u → put_refusal s h b ≡ None → IsPut u (put_blob reader st h b)
-  put_ok [] u e n = let q = none_refused (nat_lt greatest_blob 0) (bytes_eq (sha256 []) h) (is_none (blob_put s h [])) n in stays u (put_blob reader st h []) (cc) (rw q.1 refl)
-  put_ok (x ∷ xs) u e n =
-      let b = x ∷ xs in
-      let q = none_refused (nat_lt greatest_blob (length (x ∷ xs))) (bytes_eq (sha256 (x ∷ xs)) h) (is_none (blob_put s h (x ∷ xs))) n in
-      (elim (is_held bytes_eq s.entries h) as (λ y. is_held bytes_eq s.entries h ≡ y → IsPut u (put_blob reader st h (x ∷ xs))) [
-        | true ↦ λ t. let e' = rw t at e in moves u (put_blob reader st h (x ∷ xs)) (cc) (rw (q.0, q.1, held_is, t) refl)
-        | false ↦ λ t. let e' = rw t at e in enters (x ∷ xs) u (put_blob reader st h (x ∷ xs)) (absent (lookup (bytes_eq h) s.entries) t) e' (rw (q.0, q.1, held_is, t) refl)
+  put_ok b u e n =
+      let q = none_refused (nat_lt greatest_blob (length b)) (bytes_eq (sha256 b) h) (is_none (blob_put s h b)) n in
+      (elim (bytes_eq (sha256 []) h) as (λ z. bytes_eq (sha256 []) h ≡ z → IsPut u (put_blob reader st h b)) [
+        | true ↦ λ z. let e' = rw z at e in stays u (put_blob reader st h b) (cc) (rw (q.0, q.1, z) refl)
+        | false ↦ λ z. (elim (is_held bytes_eq s.entries h) as (λ y. is_held bytes_eq s.entries h ≡ y → IsPut u (put_blob reader st h b)) [
+          | true ↦ λ t. let e' = rw (z, t) at e in moves u (put_blob reader st h b) (cc) (rw (q.0, q.1, z, held_is, t) refl)
+          | false ↦ λ t. let e' = rw (z, t) at e in enters b u (put_blob reader st h b) (absent (lookup (bytes_eq h) s.entries) t) e' (rw (q.0, q.1, z, held_is, t) refl)
+        ]) refl
       ]) refl
 
   -- why a put is refused: the length, the hash, want of room, or memory
@@ -100,13 +101,15 @@ module _ (reader : Reader) (s : Kept (List ℕ)) (rl : ℕ) (results : List (Lis
   wrong_hash b p q = rw (p, q) refl
 
   no_room : (b : List ℕ) → nat_lt greatest_blob (length b) ≡ false → bytes_eq (sha256 b) h ≡ true → is_none (blob_put s h b) ≡ true → put_blob reader st h b ≡ (refused full, st)
-  no_room [] p q n = absurd cc
-  no_room (x ∷ xs) p q n = (elim (is_held bytes_eq s.entries h) as (λ y. is_held bytes_eq s.entries h ≡ y → put_blob reader st h (x ∷ xs) ≡ (refused full, st)) [
-    | true ↦ λ t. let n' = rw t at n in absurd cc
-    | false ↦ λ t.
-        let n' = rw t at n in
-        let full : entered bytes_eq s h (x ∷ xs) ≡ None = nothing (entered bytes_eq s h (x ∷ xs)) n' in
-        rw (p, q, held_is, t) (ap (λ o. or_full reader st (option_map (with_blobs reader st) o)) (entered_marked reader s flat d h (x ∷ xs) rl results tied ∙ ap (option_map (λ (t : Kept (List ℕ)). plain t.entries)) full))
+  no_room b p q n = (elim (bytes_eq (sha256 []) h) as (λ z. bytes_eq (sha256 []) h ≡ z → put_blob reader st h b ≡ (refused full, st)) [
+    | true ↦ λ z. let n' = rw z at n in absurd cc
+    | false ↦ λ z. (elim (is_held bytes_eq s.entries h) as (λ y. is_held bytes_eq s.entries h ≡ y → put_blob reader st h b ≡ (refused full, st)) [
+      | true ↦ λ t. let n' = rw (z, t) at n in absurd cc
+      | false ↦ λ t.
+          let n' = rw (z, t) at n in
+          let full : entered bytes_eq s h b ≡ None = nothing (entered bytes_eq s h b) n' in
+          rw (p, q, z, held_is, t) (ap (λ o. or_full reader st (option_map (with_blobs reader st) o)) (entered_marked reader s flat d h b rl results tied ∙ ap (option_map (λ (t : Kept (List ℕ)). plain t.entries)) full))
+    ]) refl
   ]) refl
     where
       nothing : (o : Option (Kept (List ℕ))) → is_none o ≡ true → o ≡ None

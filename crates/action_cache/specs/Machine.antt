@@ -110,10 +110,10 @@ module _ (reader : Reader) (s : CacheState) where
 
   -- a blob that has the hash: the empty blob is held already, and so is what stands under the hash
   abbrev pub blob_stored : List ℕ → List ℕ → Answer × CacheState
-  blob_stored h [] = (done, s)
-  blob_stored h (x ∷ xs) =
-      if is_some (found h) then (done, with_blobs (fronted h s.blobs))
-      else or_full (option_map with_blobs (blobs_entered h (x ∷ xs)))
+  blob_stored h bytes =
+      if bytes_eq (sha256 []) h then (done, s)
+      else (if is_some (found h) then (done, with_blobs (fronted h s.blobs))
+      else or_full (option_map with_blobs (blobs_entered h bytes)))
 
   -- a put of a blob under a hash
   abbrev pub put_blob : List ℕ → List ℕ → Answer × CacheState

@@ -4,6 +4,7 @@ ghost use Rattle.std.specs.Prelude.{option_map, option_copied, bytes_eq};
 ghost use Rattle.std.specs.Borrow.{sem};
 ghost use Rattle.eviction.specs.Kept.{bytes_under, total};
 ghost use Rattle.eviction.specs.Pinning.{pins_of};
+ghost use Rattle.blob_store.specs.Blobs.{HasHash};
 ghost use Rattle.blob_store.specs.Storing.{used};
 ghost use Rattle.messages.specs.declared.error.MessageError.{MessageError};
 ghost use Rattle.action_messages.specs.Refused.{IsRefusedResult as IsRefusedAs};
@@ -21,7 +22,7 @@ use crate::reference::read_result;
 use crate::survey::walk;
 use blob_digest::{Digest, Sealed};
 use blob_store::BlobStore;
-use eviction::Bounded;
+use eviction::{Bounded, Shared};
 use std::alloc::{AllocError, Allocator};
 use std::hash::RandomState;
 use std::marker::Model;
@@ -152,10 +153,24 @@ impl<A: Allocator + Copy> ActionCache<A> {
 
     /// The blob under the hash, if it is held. Nothing moves.
     pub fn peek_blob(&self, hash: &[u8; 32]) -> Option<&[u8]>
-        ensures { option_copied result
+        ensures value { option_copied result
             ≡ bytes_given (blob_got by_messages self.now hash.now).0 }
+        ensures hash { HasHash (option_copied result) hash.now }
     {
         self.blobs.peek(hash)
+    }
+
+    /// The blob under the hash, if it is held, for one holder more: it stays in memory where the
+    /// cache gives it up. Nothing is copied, and nothing moves.
+    pub fn share_blob(&self, alloc: A, hash: &[u8; 32]) -> Result<Option<Shared<A>>, AllocError>
+        ensures value { IfOk result
+            (λ found. found ≡ bytes_given (blob_got by_messages self.now hash.now).0) }
+        ensures hash { IfOk result (λ found. HasHash found hash.now) }
+        ensures memory { OnErr result
+            (IsSome (bytes_given (blob_got by_messages self.now hash.now).0)) }
+    {
+        let found = self.blobs.share(alloc, hash)?;
+        Ok(found)
     }
 
     /// Puts a result under its hash. One that is pinned takes no other bytes. The bytes are read

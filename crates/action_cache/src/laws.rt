@@ -1,13 +1,17 @@
 ghost use Rattle.std.specs.Prelude.{◌≡◌, ℕ, true, List, ◌++◌, Some, None};
 ghost use Rattle.std.specs.List.{AllByRecursion};
-ghost use Rattle.wire.specs.Bytes.{IsBytes};
+ghost use Rattle.sha2.specs.Sha256.{sha256};
+ghost use Rattle.wire.specs.Bytes.{IsBytes, AreBytes};
+ghost use Rattle.blob_digest.specs.DigestValue.{DigestValue};
+ghost use Rattle.messages.specs.Tree.{TreeValue, IsTree, tree_bytes};
 ghost use Rattle.messages.specs.declared.error.MessageError.{MessageError};
 ghost use Rattle.action_messages.specs.ActionResult.{ActionResultValue};
 ghost use Rattle.action_messages.specs.Reads.{Reads};
 ghost use Rattle.action_messages.specs.Refused.{IsRefusedResult};
 ghost use Rattle.action_cache.specs.References.{Reader};
-ghost use Rattle.action_cache.specs.Reading.{referred_to, references_in};
-ghost use Rattle.action_cache.specs.Machine.{Marked, given, opened, under, get_result};
+ghost use Rattle.action_cache.specs.Reading.{referred_to, references_in, files_in, files_in_tree};
+ghost use Rattle.action_cache.specs.Machine.{Marked, given, opened, under, get_blob};
+ghost use Rattle.action_cache.specs.Machine.{get_result};
 ghost use Rattle.action_cache.specs.Asking.{CacheAsk, Unpin, after, AreWhole, StaysPinned};
 ghost use Rattle.action_cache.specs.Asking.{IsWithin};
 
@@ -19,6 +23,17 @@ pub fn results_refer_to_what_is_read()
     // Bytes that are refused refer to nothing.
     ensures refused { (e : MessageError) (bytes : List ℕ)
         → IsBytes bytes → IsRefusedResult e bytes → references_in bytes ≡ None }
+{}
+
+/// Which files a Tree has. A law: it does nothing.
+pub fn trees_have_the_files_that_are_read()
+    // Bytes are read as a Tree where they are its encoding, and give its files.
+    ensures read { (t : TreeValue) (bytes : List ℕ)
+        → AreBytes bytes → IsTree t → bytes ≡ tree_bytes t → files_in bytes ≡ Some (files_in_tree t) }
+    // No other bytes give files.
+    ensures only { (bytes : List ℕ) (files : List DigestValue)
+        → IsBytes bytes → files_in bytes ≡ Some files
+        → (t : TreeValue) × IsTree t × (bytes ≡ tree_bytes t) × (files ≡ files_in_tree t) }
 {}
 
 /// What holds of a cache, whatever was asked of it since it held nothing, in whatever order, and
@@ -38,6 +53,11 @@ pub fn caches_keep_what_is_pinned()
         → (get_result reader (after reader (opened limit result_limit) asks) h).0 ≡ given bytes
         → AreWhole reader (get_result reader (after reader (opened limit result_limit) asks) h).1
         bytes }
+    // A blob that is answered has the hash that was asked for.
+    ensures hash { (reader : Reader) (limit result_limit : ℕ) (asks : List CacheAsk)
+        (h bytes : List ℕ)
+        → (get_blob reader (after reader (opened limit result_limit) asks) h).0 ≡ given bytes
+        → sha256 bytes ≡ h }
     // Costs stay within the limits.
     ensures within { (reader : Reader) (limit result_limit : ℕ) (asks : List CacheAsk)
         → IsWithin (after reader (opened limit result_limit) asks) }

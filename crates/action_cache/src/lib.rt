@@ -11,4 +11,6 @@ mod trees;
 
 pub use cache::ActionCache;
 pub use error::CacheError;
-pub use laws::{caches_keep_what_is_pinned, results_refer_to_what_is_read};
+pub use laws::{
+    caches_keep_what_is_pinned, results_refer_to_what_is_read, trees_have_the_files_that_are_read,
+};

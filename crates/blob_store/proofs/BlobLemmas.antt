@@ -8,13 +8,13 @@ use Rattle.std.proofs.lemmas.List.{take_more}
 use mathlib.Core.List.{reverse_aux}
 use Rattle.sha2.specs.Sha256.{sha256}
 use Rattle.lru.proofs.CallerLemmas.{Contains-lookup_entry}
-use Rattle.eviction.specs.Kept.{Held, Kept, is_pinned, others, moved_to_front, touched}
+use Rattle.eviction.specs.Kept.{Held, Kept, bytes_under, is_pinned, others, moved_to_front, touched}
 use Rattle.eviction.specs.Entering.{spared, spared_last, stored_key, given_up, entered}
 use Rattle.eviction.specs.Pinning.{repinned, is_held, pins_of, all_pinned, all_held as all_stored}
 use Rattle.eviction.proofs.Entered.{entered_is}
 use Rattle.std.specs.Prelude.{◌==◌, ◌&&◌, ◌||◌, nat_lt, is_some}
 use Rattle.blob_digest.specs.Digest.{DigestValue, digest_of, empty_digest}
-use Rattle.blob_store.specs.Blobs.{AreBlobs, found_in, held_under, all_held, hashes_of, is_empty, of_size, is_kept, is_held as is_blob_held}
+use Rattle.blob_store.specs.Blobs.{AreBlobs, HasHash, found_in, held_under, all_held, hashes_of, is_empty, of_size, is_kept, is_held as is_blob_held}
 use Rattle.blob_store.specs.Storing.{blob_put, used}
 use Rattle.eviction.proofs.Looks.{lookup_moved}
 use Rattle.std.specs.Cmp.Lexicographic.{nat_list_eq_equiv}
@@ -70,21 +70,35 @@ key_or es k (Some e) h = sym ((bytes_eq-Decides k e.0).0 (Contains-lookup_entry 
 pub stored_key_is : (es : List (List ℕ × Held)) (k : List ℕ) → stored_key bytes_eq es k ≡ k
 stored_key_is es k = key_or es k (lookup_entry (bytes_eq k) es) refl
 
-pub entered_blobs : (s t : Kept (List ℕ)) (k b : List ℕ) → entered bytes_eq s k b ≡ Some t → k ≡ sha256 b → 0 < length b → AreBlobs s.entries → AreBlobs t.entries
+pub entered_blobs : (s t : Kept (List ℕ)) (k b : List ℕ) → entered bytes_eq s k b ≡ Some t → k ≡ sha256 b → bytes_eq (sha256 []) k ≡ false → AreBlobs s.entries → AreBlobs t.entries
 entered_blobs s t k b e h some a =
     let is = entered_is bytes_eq s t k b e in
-    let P : List ℕ × Held → Type 0 = λ x. (x.0 ≡ sha256 x.1.bytes) × (0 < length x.1.bytes) in
-    subst AreBlobs (sym is.entries) ((stored_key_is s.entries k ∙ h, some), all_spared_last P is_pinned (given_up bytes_eq s k b) (others bytes_eq k s.entries) (all_filter P (λ x. not (bytes_eq k x.0)) s.entries a))
-
--- how a blob of some bytes is put
-pub blob_put_some : (s : Kept (List ℕ)) (h b : List ℕ) → 0 < length b → blob_put s h b ≡ cond (is_held bytes_eq s.entries h) (Some (touched bytes_eq s h)) (entered bytes_eq s h b)
-blob_put_some s h [] some = absurd (omega arith)
-blob_put_some s h (x ∷ xs) some = refl
+    let P : List ℕ × Held → Type 0 = λ x. (x.0 ≡ sha256 x.1.bytes) × (bytes_eq (sha256 []) x.0 ≡ false) in
+    let at = stored_key_is s.entries k in
+    subst AreBlobs (sym is.entries) ((at ∙ h, ap (bytes_eq (sha256 [])) at ∙ some), all_spared_last P is_pinned (given_up bytes_eq s k b) (others bytes_eq k s.entries) (all_filter P (λ x. not (bytes_eq k x.0)) s.entries a))
 
 pub found_is : (h : List ℕ) (es : List (List ℕ × Held)) → found_in es h ≡ option_map (λ (x : Held). x.bytes) (lookup (bytes_eq h) es)
 found_is h [] = refl
 found_is h (e ∷ es) = elim (bytes_eq h e.0) as (λ b. cond b (Some e.1.bytes) (found_in es h) ≡ option_map (λ (x : Held). x.bytes) (cond b (Some e.1) (lookup (bytes_eq h) es)))
     [ true ↦ refl | false ↦ found_is h es ]
+
+-- what is stored is what is held, but for no bytes
+pub held_found : (es : List (List ℕ × Held)) (h : List ℕ) → bytes_eq (sha256 []) h ≡ false → bytes_under bytes_eq es h ≡ held_under (found_in es) h
+held_found es h off = sym (found_is h es) ∙ ap (λ y. cond y (Some []) (found_in es h)) (sym off)
+
+-- what is held under a hash has it
+found_has_hash : (es : List (List ℕ × Held)) (h : List ℕ) → AreBlobs es → HasHash (found_in es h) h
+found_has_hash [] h a = tt
+found_has_hash (e ∷ es) h a = (elim (bytes_eq h e.0) as (λ y. bytes_eq h e.0 ≡ y → HasHash (cond y (Some e.1.bytes) (found_in es h)) h) [
+  | true ↦ λ t. sym a.0.0 ∙ sym ((bytes_eq-Decides h e.0).0 t)
+  | false ↦ λ t. found_has_hash es h a.1
+]) refl
+
+pub held_has_hash : (es : List (List ℕ × Held)) (h : List ℕ) → AreBlobs es → HasHash (held_under (found_in es) h) h
+held_has_hash es h a = (elim (bytes_eq (sha256 []) h) as (λ y. bytes_eq (sha256 []) h ≡ y → HasHash (cond y (Some []) (found_in es h)) h) [
+  | true ↦ λ t. (bytes_eq-Decides (sha256 []) h).0 t
+  | false ↦ λ t. found_has_hash es h a
+]) refl
 
 -- what a passed-on refusal says
 pub told : {X : Type 0} (r : Result X BlobError) (f g : BoundedError) (Q : Type 0) → IsErrAnd r (λ e. e ≡ of_bounded f) → f ≡ g → Q → IfErr r (λ e. (e ≡ of_bounded g) × Q)
@@ -97,10 +111,10 @@ wanting_not (Ok x) e a not is = absurd a
 wanting_not (Err d) e a not is = let same : d ≡ e = cc in not (sym same ∙ a)
 
 pub touched_blobs : (k : List ℕ) (es : List (List ℕ × Held)) → AreBlobs es → AreBlobs (moved_to_front bytes_eq k es)
-touched_blobs k es a = all_touched (λ k b. (k ≡ sha256 b) × (0 < length b)) k es a
+touched_blobs k es a = all_touched (λ k b. (k ≡ sha256 b) × (bytes_eq (sha256 []) k ≡ false)) k es a
 
 pub repinned_blobs : (f : List ℕ → ℕ → ℕ) (es : List (List ℕ × Held)) → AreBlobs es → AreBlobs (repinned f es)
-repinned_blobs f es a = all_repinned (λ k b. (k ≡ sha256 b) × (0 < length b)) f es a
+repinned_blobs f es a = all_repinned (λ k b. (k ≡ sha256 b) × (bytes_eq (sha256 []) k ≡ false)) f es a
 
 pub hash_of : (b : List ℕ) → (digest_of b).hash ≡ sha256 b
 unfolding digest_of

@@ -1,6 +1,6 @@
 -- Blobs by what is held under hashes.
-use Rattle.std.specs.Prelude.{◌≡◌, ℕ, ◌==◌, ◌<◌, Bool, not, ◌&&◌, ◌||◌, nat_lt, List, [], map}
-use Rattle.std.specs.Prelude.{length, bytes_eq, Option, Some, None, is_some, if◌then◌else◌}
+use Rattle.std.specs.Prelude.{◌≡◌, ℕ, ◌==◌, Bool, false, not, ◌&&◌, ◌||◌, nat_lt, List, [], map}
+use Rattle.std.specs.Prelude.{length, bytes_eq, Option, Some, None, is_some, ⊤, if◌then◌else◌}
 use Rattle.std.specs.List.{filter, list_all, AllByRecursion}
 use Rattle.std.specs.Map.{lookup}
 use Rattle.sha2.specs.Sha256.{sha256}
@@ -44,9 +44,15 @@ plain es = map (λ e. (e.0, e.1.bytes)) es
 abbrev pub found_in : List (List ℕ × Held) → List ℕ → Option (List ℕ)
 found_in es h = lookup (bytes_eq h) (plain es)
 
--- each blob stands under its hash, and none is empty
+-- each blob stands under its hash, and none under that of no bytes
 abbrev pub AreBlobs : List (List ℕ × Held) → Type 0
-AreBlobs es = AllByRecursion (λ e. (e.0 ≡ sha256 e.1.bytes) × (0 < length e.1.bytes)) es
+AreBlobs es =
+    AllByRecursion (λ e. (e.0 ≡ sha256 e.1.bytes) × (bytes_eq (sha256 []) e.0 ≡ false)) es
+
+-- the bytes, if there are any, have the hash
+abbrev pub HasHash : Option (List ℕ) → List ℕ → Type 0
+HasHash None h = ⊤
+HasHash (Some b) h = sha256 b ≡ h
 
 -- the blob that a digest names is pinned, or has no bytes
 unfoldable pub is_kept : List (List ℕ × Held) → DigestValue → Bool

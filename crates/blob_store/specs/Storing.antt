@@ -1,5 +1,5 @@
 -- How a blob is put.
-use Rattle.std.specs.Prelude.{◌≡◌, ℕ, not, nat_lt, List, [], ◌∷◌, length, bytes_eq, Option, Some}
+use Rattle.std.specs.Prelude.{◌≡◌, ℕ, not, nat_lt, List, [], length, bytes_eq, Option, Some}
 use Rattle.std.specs.Prelude.{None, is_none, if◌then◌else◌}
 use Rattle.sha2.specs.Sha256.{sha256}
 use Rattle.blob_digest.specs.Body.{greatest_blob}
@@ -17,10 +17,10 @@ used s h = if bytes_eq (sha256 []) h then s else touched bytes_eq s h
 -- The store after a put of a blob under its hash, if there is room. The empty blob is never
 -- stored; what is stored stays and moves to the front.
 abbrev pub blob_put : Kept (List ℕ) → List ℕ → List ℕ → Option (Kept (List ℕ))
-blob_put s h [] = Some s
-blob_put s h (x ∷ xs) =
-    if is_held bytes_eq s.entries h then Some (touched bytes_eq s h)
-    else entered bytes_eq s h (x ∷ xs)
+blob_put s h b =
+    if bytes_eq (sha256 []) h then Some s
+    else (if is_held bytes_eq s.entries h then Some (touched bytes_eq s h)
+    else entered bytes_eq s h b)
 
 -- why a put is refused, if it is
 abbrev pub refused_put : Kept (List ℕ) → List ℕ → List ℕ → Option BlobError

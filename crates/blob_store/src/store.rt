@@ -1,19 +1,19 @@
 ghost use Rattle.std.specs.Prelude.{◌≡◌, ◌↔◌, ◌⊎◌, ◌<◌, ◌^◌, [], map, true, false, bytes_eq};
 ghost use Rattle.std.specs.Prelude.{Err};
-ghost use Rattle.std.specs.Prelude.{IfOk, IfErr, OnOk, OnErr, Some, None, option_copied};
+ghost use Rattle.std.specs.Prelude.{IsSome, IfOk, IfErr, OnOk, OnErr, Some, None, option_copied};
 ghost use Rattle.std.specs.Borrow.{sem};
 ghost use Rattle.std.specs.List.{IsDistinct, list_all};
 ghost use Rattle.eviction.specs.Kept.{IsKept, total_cost, touched};
 ghost use Rattle.eviction.specs.Pinning.{CanPinMore, pins_of, is_held as is_stored, all_pinned};
 ghost use Rattle.eviction.specs.Pinning.{pinned_all, unpinned_all};
 ghost use Rattle.blob_store.specs.Blobs.{is_empty, is_held, all_held, held_under, hashes_of};
-ghost use Rattle.blob_store.specs.Blobs.{found_in, is_kept, AreBlobs};
+ghost use Rattle.blob_store.specs.Blobs.{found_in, is_kept, AreBlobs, HasHash};
 ghost use Rattle.blob_store.specs.Storing.{blob_put, used, refused_put, IsRefusal};
 ghost use Rattle.sha2.specs.Sha256.{sha256};
 
 use crate::error::BlobError;
 use blob_digest::{Digest, GREATEST_BLOB, Sealed};
-use eviction::Bounded;
+use eviction::{Bounded, Shared};
 use std::alloc::{AllocError, Allocator};
 use std::hash::RandomState;
 use std::marker::Model;
@@ -153,7 +153,7 @@ impl<A: Allocator + Copy> BlobStore<A> {
         if !has_hash(&sealed, &hash) {
             return Err(BlobError::HashDiffers);
         }
-        if sealed.as_slice().is_empty() {
+        if self.no_bytes == hash {
             return Ok(());
         }
         if self.blobs.contains(&hash) {
@@ -178,9 +178,25 @@ impl<A: Allocator + Copy> BlobStore<A> {
 
     /// The blob under the hash, if it is held. Nothing moves.
     pub fn peek(&self, hash: &[u8; 32]) -> Option<&[u8]>
-        ensures { option_copied result ≡ held_under (found_in self.now.entries) hash.now }
+        ensures value { option_copied result ≡ held_under (found_in self.now.entries) hash.now }
+        ensures hash { HasHash (option_copied result) hash.now }
     {
         held_under(&self.blobs, &self.no_bytes, hash)
+    }
+
+    /// The blob under the hash, if it is held, for one holder more: it stays in memory where the
+    /// store gives it up. Nothing is copied, and nothing moves.
+    pub fn share(&self, alloc: A, hash: &[u8; 32]) -> Result<Option<Shared<A>>, AllocError>
+        ensures value { IfOk result
+            (λ found. found ≡ held_under (found_in self.now.entries) hash.now) }
+        ensures hash { IfOk result (λ found. HasHash found hash.now) }
+        ensures err { OnErr result (IsSome (held_under (found_in self.now.entries) hash.now)) }
+    {
+        if self.no_bytes == *hash {
+            return Ok(Some(Shared::new(alloc, Vec::new(alloc))?));
+        }
+        let found = self.blobs.share(hash)?;
+        Ok(found)
     }
 
     /// Moves the blob under the hash to the front, and answers whether it is stored.

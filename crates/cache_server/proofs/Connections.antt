@@ -1,5 +1,5 @@
 -- A run over one connection.
-use Rattle.std.proofs.Common.{◌≡◌, ℕ, inl, inr, Option, Some, None, List, [], ◌++◌, take, refl, sym, ◌∙◌, ap, subst, append_assoc}
+use Rattle.std.proofs.Common.{◌≡◌, ℕ, inl, inr, Option, Some, None, List, [], ◌++◌, ◌≤◌, length, take, arith, refl, sym, ◌∙◌, ap, subst, append_assoc}
 use Rattle.std.proofs.lemmas.List.{append-nil}
 use Rattle.std.specs.Io.KnownBytes.{Appends, Consumes, Keeps, IsAtEnd}
 use Rattle.std.proofs.KnownBytes.{Appends-nil, Appends-trans, Consumes-nil, Consumes-trans, Consumes-kept}
@@ -10,7 +10,7 @@ use Rattle.http_core.proofs.Cutting.{cut_within, HasMore, empty_partial}
 use Rattle.cache_server.specs.Cache.{CacheValue}
 use Rattle.cache_server.specs.Serving.{ServesAll}
 use Rattle.cache_server.specs.Writing.{TellsAll, TellsSome}
-use Rattle.cache_server.specs.Connection.{Runs, RunsSome, Exchanges, ExchangesSome}
+use Rattle.cache_server.specs.Connection.{Runs, RunsSome, ReadsNoFurther, Exchanges, ExchangesSome}
 use Rattle.cache_server.proofs.Serving.{serves_none, serves_join}
 use Rattle.cache_server.proofs.Telling.{appends_kept}
 
@@ -98,6 +98,26 @@ exchanged old new events cache after written mid more piece feeds all k = record
   appends = appends_kept written mid more all.text all.appends k;
 }
 
+-- what was read leaves a beginning of a request
+pub record IsOpenAfter (prefix read : List ℕ) (events : List EventValue) : Type 0 where
+  pub rest : List ℕ
+  pub cut : Cuts prefix read events (Some rest)
+
+open_left : (prefix : List ℕ) (state : SessionState) (stream : List ℕ) (events : List EventValue) (left : Option (List ℕ)) → (state ≡ Closed → ⊥) → Cuts prefix stream events left → Leaves prefix state left → IsOpenAfter prefix stream events
+open_left prefix state stream events None o c l = absurd (o l)
+open_left prefix state stream events (Some rest) o c l = record { rest = rest; cut = c }
+
+pub stands_open : (session : SessionValue) (stream : List ℕ) (events : List EventValue) → (session.state ≡ Closed → ⊥) → Stands session stream events → IsOpenAfter session.prefix stream events
+unfolding Stands
+stands_open session stream events o (left, cut, leaves) = open_left session.prefix session.state stream events left o cut leaves
+
+-- nothing more was read, and one piece more
+pub nothing_further : (prefix read : List ℕ) (events : List EventValue) → IsOpenAfter prefix read events → ReadsNoFurther prefix (read ++ [])
+nothing_further prefix read events o = record { earlier = read; piece = []; whole = refl; few = omega arith; events = events; rest = o.rest; open_before = o.cut }
+
+pub piece_further : (prefix read piece more : List ℕ) (events : List EventValue) → IsOpenAfter prefix read events → length piece ≤ 65536 → more ≡ read ++ piece → ReadsNoFurther prefix more
+piece_further prefix read piece more events o few e = record { earlier = read; piece = piece; whole = e; few = few; events = events; rest = o.rest; open_before = o.cut }
+
 -- so far
 pub record RunsOn (prefix : List ℕ) (old : CacheValue) (input input_left written_before written : Option (List ℕ)) (session : SessionValue) (now : CacheValue) : Type 0 where
   pub read : List ℕ
@@ -127,8 +147,8 @@ runs_more prefix old input left more written_before written written_more session
 }
 
 unfoldable pub runs_ended : (prefix : List ℕ) (old : CacheValue) (input left more written_before written : Option (List ℕ)) (session : SessionValue) (now : CacheValue) (count : ℕ) (buffer : List ℕ)
-    → RunsOn prefix old input left written_before written session now → count ≡ 0 → Consumes left more (take count buffer) → IsAtEnd more → Runs prefix old input more written_before written now
-runs_ended prefix old input left more written_before written session now count buffer r zero_is c end =
+    → (r : RunsOn prefix old input left written_before written session now) → IsOpenAfter prefix r.read r.before → count ≡ 0 → Consumes left more (take count buffer) → IsAtEnd more → Runs prefix old input more written_before written now
+runs_ended prefix old input left more written_before written session now count buffer r o zero_is c end =
     let d : (rest : Option (List ℕ)) × Cuts session.prefix r.read r.before rest = stands_cut session r.read r.before r.stands in
     let e : Consumes left more [] = subst (λ n. Consumes left more (take n buffer)) zero_is c in
     record {
@@ -139,18 +159,31 @@ runs_ended prefix old input left more written_before written session now count b
       appends = r.appends;
       answered = record { events = r.before; cut = subst (λ z. Cuts z r.read r.before d.0) r.same d.1; served = r.served };
       stops = inl end;
+      no_further = subst (ReadsNoFurther prefix) (append-nil r.read) (nothing_further prefix r.read r.before o);
     }
 
-unfoldable pub runs_closed : (prefix : List ℕ) (old : CacheValue) (input left written_before written : Option (List ℕ)) (session : SessionValue) (now : CacheValue)
-    → RunsOn prefix old input left written_before written session now → session.state ≡ Closed → Runs prefix old input left written_before written now
-runs_closed prefix old input left written_before written session now r shut =
-    let c : Cuts session.prefix r.read r.before None = stands_shut session r.read r.before shut r.stands in
-    record { read = r.read; text = r.text; left = None; consumes = r.consumes; appends = r.appends; answered = record { events = r.before; cut = subst (λ z. Cuts z r.read r.before None) r.same c; served = r.served }; stops = inr refl }
+unfoldable pub runs_closed : (prefix : List ℕ) (old : CacheValue) (input left more written_before written written_more : Option (List ℕ)) (session new : SessionValue) (now after : CacheValue) (piece : List ℕ)
+    → (r : RunsOn prefix old input left written_before written session now) → IsOpenAfter prefix r.read r.before → length piece ≤ 65536 → Consumes left more piece → Exchanges session now written piece new after written_more
+    → new.state ≡ Closed → Runs prefix old input more written_before written_more after
+unfolding runs_more
+runs_closed prefix old input left more written_before written written_more session new now after piece r o few k x shut =
+    let m : RunsOn prefix old input more written_before written_more new after = runs_more prefix old input left more written_before written written_more session new now after piece r k x in
+    let c : Cuts new.prefix (r.read ++ piece) (r.before ++ x.events) None = stands_shut new (r.read ++ piece) (r.before ++ x.events) shut (x.stands r.read r.before r.stands) in
+    record {
+      read = r.read ++ piece;
+      text = r.text ++ x.text;
+      left = None;
+      consumes = m.consumes;
+      appends = m.appends;
+      answered = record { events = r.before ++ x.events; cut = subst (λ z. Cuts z (r.read ++ piece) (r.before ++ x.events) None) (x.kept ∙ r.same) c; served = m.served };
+      stops = inr refl;
+      no_further = piece_further prefix r.read piece (r.read ++ piece) r.before o few refl;
+    }
 
 -- given up between two pieces
 unfoldable pub runs_stopped : (prefix : List ℕ) (old : CacheValue) (input left more written_before written : Option (List ℕ)) (session : SessionValue) (now : CacheValue)
-    → RunsOn prefix old input left written_before written session now → Keeps left more → RunsSome prefix old input more written_before written now
-runs_stopped prefix old input left more written_before written session now r kept =
+    → (r : RunsOn prefix old input left written_before written session now) → IsOpenAfter prefix r.read r.before → Keeps left more → RunsSome prefix old input more written_before written now
+runs_stopped prefix old input left more written_before written session now r o kept =
     let c : (rest : Option (List ℕ)) × Cuts session.prefix r.read r.before rest = stands_cut session r.read r.before r.stands in
     record {
       front = r.read;
@@ -161,13 +194,14 @@ runs_stopped prefix old input left more written_before written session now r kep
       consumes = subst (Consumes input more) (sym (append-nil r.read)) (Consumes-kept input left more r.read r.consumes kept);
       appends = r.appends;
       answered = record { events = r.before; cut = subst (λ z. Cuts z r.read r.before c.0) r.same c.1; served = subst (λ z. ServesAll old r.before z now) (sym (append-nil r.text)) r.served };
+      no_further = nothing_further prefix r.read r.before o;
     }
 
 -- given up within a piece
 unfoldable pub runs_broken : (prefix : List ℕ) (old : CacheValue) (input left more written_before written written_more : Option (List ℕ)) (session : SessionValue) (now after : CacheValue) (piece : List ℕ)
-    → (r : RunsOn prefix old input left written_before written session now) → Consumes left more piece → ExchangesSome session.prefix r.read r.before now written piece after written_more
+    → (r : RunsOn prefix old input left written_before written session now) → IsOpenAfter prefix r.read r.before → length piece ≤ 65536 → Consumes left more piece → ExchangesSome session.prefix r.read r.before now written piece after written_more
     → RunsSome prefix old input more written_before written_more after
-runs_broken prefix old input left more written_before written written_more session now after piece r c x = record {
+runs_broken prefix old input left more written_before written written_more session now after piece r o few c x = record {
   front = r.read ++ x.front;
   rest = x.rest;
   told = r.text ++ x.told;
@@ -180,6 +214,7 @@ runs_broken prefix old input left more written_before written written_more sessi
     cut = subst (λ z. Cuts z (r.read ++ x.front) (r.before ++ x.done) x.left) r.same x.cut;
     served = subst (λ z. ServesAll old (r.before ++ x.done) z after) (sym (append_assoc r.text x.told x.lost)) (serves_join old now after r.before x.done r.text (x.told ++ x.lost) r.served x.served);
   };
+  no_further = piece_further prefix r.read piece ((r.read ++ x.front) ++ x.rest) r.before o few (append_assoc r.read x.front x.rest ∙ ap (λ z. r.read ++ z) (sym x.whole));
 }
 
 -- given up before the first piece
@@ -193,6 +228,7 @@ runs_none prefix old input written c = record {
   consumes = Consumes-nil input;
   appends = Appends-nil written;
   answered = record { events = []; cut = c; served = serves_none old };
+  no_further = nothing_further prefix [] [] (record { rest = []; cut = c });
 }
 
 pub nothing_cut : (prefix : List ℕ) → Cuts prefix [] [] (Some [])

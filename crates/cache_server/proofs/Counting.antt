@@ -1,5 +1,5 @@
 -- What was answered, counted.
-use Rattle.std.proofs.Common.{◌≡◌, ℕ, inl, inr, Option, Some, List, [], ◌∷◌, ◌++◌, refl, sym, ◌∙◌, ap, append_assoc, take, Result, Ok, Err, IfOk, arith}
+use Rattle.std.proofs.Common.{◌≡◌, ℕ, inl, inr, Option, Some, List, [], ◌∷◌, ◌++◌, refl, sym, ◌∙◌, ap, append_assoc, ◌≤◌, length, subst, take, Result, Ok, Err, IfOk, arith}
 use Rattle.std.proofs.lemmas.List.{append-nil}
 use Rattle.std.specs.Io.KnownBytes.{Consumes, Keeps, IsAtEnd}
 use Rattle.http_core.specs.Event.{AskValue, EventValue, Asked, Refused}
@@ -13,7 +13,7 @@ use Rattle.cache_server.specs.Serving.{ServesAll, ServesOne}
 use Rattle.cache_server.specs.Writing.{Tells, MayTell, TellsSomeCounting, TellsFrontCounting}
 use Rattle.cache_server.specs.declared.counts.Counts.{Counts}
 use Rattle.cache_server.specs.declared.error.ConnError.{ConnError}
-use Rattle.cache_server.proofs.Connections.{RunsOn, runs_first, runs_more, runs_ended, runs_closed, runs_stopped, runs_broken, runs_none}
+use Rattle.cache_server.proofs.Connections.{RunsOn, IsOpenAfter, stands_open, runs_first, runs_more, runs_ended, runs_closed, runs_stopped, runs_broken, runs_none}
 use Rattle.cache_server.proofs.Serving.{serves_none, serves_join}
 use Rattle.cache_server.proofs.Telling.{TellsOn, told_first, told_more, told_some, some_kept}
 
@@ -128,61 +128,82 @@ pub record RunsOnCounting (prefix : List ℕ) (old : CacheValue) (input input_le
   pub on : RunsOn prefix old input input_left written_before written session now
   pub counts : last ≡ count_all first old on.before
 
-pub counting_first : (prefix : List ℕ) (old : CacheValue) (input written : Option (List ℕ)) (session : SessionValue) (c : Counts) → session.prefix ≡ prefix → Stands session [] []
-    → RunsOnCounting prefix old input input written written session old c c
-unfolding runs_first
-counting_first prefix old input written session c same s = record { on = runs_first prefix old input written session same s; counts = sym (count_none c old) }
+-- the counts after one piece more
+counts_more : (prefix : List ℕ) (old : CacheValue) (input left written_before written written_more : Option (List ℕ)) (session new : SessionValue) (now after : CacheValue) (piece : List ℕ) (c d e : Counts)
+    → (r : RunsOnCounting prefix old input left written_before written session now c d) → (x : ExchangesCounting session now written piece new after written_more d e) → e ≡ count_all c old (r.on.before ++ x.exchanges.events)
+counts_more prefix old input left written_before written written_more session new now after piece c d e r x =
+    x.counts ∙ ap (λ z. count_all z now x.exchanges.events) r.counts ∙ sym (count_join c old now r.on.before x.exchanges.events r.on.text r.on.served)
 
-pub counting_more : (prefix : List ℕ) (old : CacheValue) (input left more written_before written written_more : Option (List ℕ)) (session new : SessionValue) (now after : CacheValue) (piece : List ℕ) (c d e : Counts)
-    → RunsOnCounting prefix old input left written_before written session now c d → Consumes left more piece → ExchangesCounting session now written piece new after written_more d e
-    → RunsOnCounting prefix old input more written_before written_more new after c e
-unfolding runs_more
-counting_more prefix old input left more written_before written written_more session new now after piece c d e r k x = record {
-  on = runs_more prefix old input left more written_before written written_more session new now after piece r.on k x.exchanges;
-  counts = x.counts ∙ ap (λ z. count_all z now x.exchanges.events) r.counts ∙ sym (count_join c old now r.on.before x.exchanges.events r.on.text r.on.served);
+-- what the loop keeps: the session is open
+pub record IsRunning (prefix : List ℕ) (old : CacheValue) (input input_left written_before written : Option (List ℕ)) (session : SessionValue) (now : CacheValue) (first last : Counts) : Type 0 where
+  pub runs : RunsOnCounting prefix old input input_left written_before written session now first last
+  pub is_open : IsOpenAfter prefix runs.on.read runs.on.before
+
+pub running_first : (prefix : List ℕ) (old : CacheValue) (input written : Option (List ℕ)) (session : SessionValue) (c : Counts) → session.prefix ≡ prefix → Stands session [] [] → Cuts prefix [] [] (Some [])
+    → IsRunning prefix old input input written written session old c c
+unfolding runs_first
+running_first prefix old input written session c same s cut = record {
+  runs = record { on = runs_first prefix old input written session same s; counts = sym (count_none c old) };
+  is_open = record { rest = []; cut = cut };
 }
+
+pub running_more : (prefix : List ℕ) (old : CacheValue) (input left more written_before written written_more : Option (List ℕ)) (session new : SessionValue) (now after : CacheValue) (piece : List ℕ) (c d e : Counts)
+    → IsRunning prefix old input left written_before written session now c d → Consumes left more piece → ExchangesCounting session now written piece new after written_more d e → (new.state ≡ Closed → ⊥)
+    → IsRunning prefix old input more written_before written_more new after c e
+unfolding runs_more
+running_more prefix old input left more written_before written written_more session new now after piece c d e r k x o =
+    let on = r.runs.on in
+    let w = x.exchanges in
+    record {
+      runs = record {
+        on = runs_more prefix old input left more written_before written written_more session new now after piece on k w;
+        counts = counts_more prefix old input left written_before written written_more session new now after piece c d e r.runs x;
+      };
+      is_open = subst (λ z. IsOpenAfter z (on.read ++ piece) (on.before ++ w.events)) (w.kept ∙ on.same) (stands_open new (on.read ++ piece) (on.before ++ w.events) o (w.stands on.read on.before on.stands));
+    }
 
 pub counting_ended : (prefix : List ℕ) (old : CacheValue) (input left more written_before written : Option (List ℕ)) (session : SessionValue) (now : CacheValue) (count : ℕ) (buffer : List ℕ) (c d : Counts)
-    → RunsOnCounting prefix old input left written_before written session now c d → count ≡ 0 → Consumes left more (take count buffer) → IsAtEnd more → RunsCounting prefix old input more written_before written now c d
+    → IsRunning prefix old input left written_before written session now c d → count ≡ 0 → Consumes left more (take count buffer) → IsAtEnd more → RunsCounting prefix old input more written_before written now c d
 unfolding runs_ended
 counting_ended prefix old input left more written_before written session now count buffer c d r none k end = record {
-  runs = runs_ended prefix old input left more written_before written session now count buffer r.on none k end;
-  counts = r.counts;
+  runs = runs_ended prefix old input left more written_before written session now count buffer r.runs.on r.is_open none k end;
+  counts = r.runs.counts;
 }
 
-pub counting_closed : (prefix : List ℕ) (old : CacheValue) (input left written_before written : Option (List ℕ)) (session : SessionValue) (now : CacheValue) (c d : Counts)
-    → RunsOnCounting prefix old input left written_before written session now c d → session.state ≡ Closed → RunsCounting prefix old input left written_before written now c d
+pub counting_closed : (prefix : List ℕ) (old : CacheValue) (input left more written_before written written_more : Option (List ℕ)) (session new : SessionValue) (now after : CacheValue) (piece : List ℕ) (c d e : Counts)
+    → IsRunning prefix old input left written_before written session now c d → length piece ≤ 65536 → Consumes left more piece → ExchangesCounting session now written piece new after written_more d e → new.state ≡ Closed
+    → RunsCounting prefix old input more written_before written_more after c e
 unfolding runs_closed
-counting_closed prefix old input left written_before written session now c d r shut = record {
-  runs = runs_closed prefix old input left written_before written session now r.on shut;
-  counts = r.counts;
+counting_closed prefix old input left more written_before written written_more session new now after piece c d e r few k x shut = record {
+  runs = runs_closed prefix old input left more written_before written written_more session new now after piece r.runs.on r.is_open few k x.exchanges shut;
+  counts = counts_more prefix old input left written_before written written_more session new now after piece c d e r.runs x;
 }
 
 pub counting_stopped : (prefix : List ℕ) (old : CacheValue) (input left more written_before written : Option (List ℕ)) (session : SessionValue) (now : CacheValue) (c d : Counts)
-    → RunsOnCounting prefix old input left written_before written session now c d → Keeps left more → RunsSomeCounting prefix old input more written_before written now c d
+    → IsRunning prefix old input left written_before written session now c d → Keeps left more → RunsSomeCounting prefix old input more written_before written now c d
 unfolding runs_stopped
 counting_stopped prefix old input left more written_before written session now c d r kept = record {
-  runs = runs_stopped prefix old input left more written_before written session now r.on kept;
-  counts = counts_whole c d old now r.on.before r.on.text r.on.served r.counts;
+  runs = runs_stopped prefix old input left more written_before written session now r.runs.on r.is_open kept;
+  counts = counts_whole c d old now r.runs.on.before r.runs.on.text r.runs.on.served r.runs.counts;
 }
 
 pub counting_broken : (prefix : List ℕ) (old : CacheValue) (input left more written_before written written_more : Option (List ℕ)) (session : SessionValue) (now after : CacheValue) (piece : List ℕ) (c d e : Counts)
-    → (r : RunsOnCounting prefix old input left written_before written session now c d) → Consumes left more piece → ExchangesSomeCounting session.prefix r.on.read r.on.before now written piece after written_more d e
+    → (q : IsRunning prefix old input left written_before written session now c d) → length piece ≤ 65536 → Consumes left more piece → ExchangesSomeCounting session.prefix q.runs.on.read q.runs.on.before now written piece after written_more d e
     → RunsSomeCounting prefix old input more written_before written_more after c e
 unfolding runs_broken
-counting_broken prefix old input left more written_before written written_more session now after piece c d e r k x = record {
-  runs = runs_broken prefix old input left more written_before written written_more session now after piece r.on k x.exchanges;
+counting_broken prefix old input left more written_before written written_more session now after piece c d e q few k x = record {
+  runs = runs_broken prefix old input left more written_before written written_more session now after piece q.runs.on q.is_open few k x.exchanges;
   counts = record {
-    front = r.on.before ++ x.counts.front;
+    front = q.runs.on.before ++ x.counts.front;
     rest = x.counts.rest;
-    text = r.on.text ++ x.counts.text;
+    text = q.runs.on.text ++ x.counts.text;
     part = x.counts.part;
     between = x.counts.between;
     few = x.counts.few;
-    served = serves_join old now x.counts.between r.on.before x.counts.front r.on.text x.counts.text r.on.served x.counts.served;
-    written = ap (λ z. r.on.text ++ z) x.counts.written ∙ sym (append_assoc r.on.text x.counts.text x.counts.part);
-    whole = ap (λ z. r.on.before ++ z) x.counts.whole ∙ sym (append_assoc r.on.before x.counts.front x.counts.rest);
-    counts = x.counts.counts ∙ ap (λ z. count_all z now x.counts.front) r.counts ∙ sym (count_join c old now r.on.before x.counts.front r.on.text r.on.served);
+    served = serves_join old now x.counts.between q.runs.on.before x.counts.front q.runs.on.text x.counts.text q.runs.on.served x.counts.served;
+    written = ap (λ z. q.runs.on.text ++ z) x.counts.written ∙ sym (append_assoc q.runs.on.text x.counts.text x.counts.part);
+    whole = ap (λ z. q.runs.on.before ++ z) x.counts.whole ∙ sym (append_assoc q.runs.on.before x.counts.front x.counts.rest);
+    counts = x.counts.counts ∙ ap (λ z. count_all z now x.counts.front) q.runs.counts ∙ sym (count_join c old now q.runs.on.before x.counts.front q.runs.on.text q.runs.on.served);
   };
 }
 
@@ -202,27 +223,27 @@ front_none prefix old input written c cut = record {
 }
 
 pub front_stopped : (prefix : List ℕ) (old : CacheValue) (input left more written_before written : Option (List ℕ)) (session : SessionValue) (now : CacheValue) (c d : Counts)
-    → RunsOnCounting prefix old input left written_before written session now c d → Keeps left more → AnswersFrontCounting prefix old input more written_before written now c d
+    → IsRunning prefix old input left written_before written session now c d → Keeps left more → AnswersFrontCounting prefix old input more written_before written now c d
 unfolding runs_stopped
 front_stopped prefix old input left more written_before written session now c d r kept = record {
-  answers = record { runs = runs_stopped prefix old input left more written_before written session now r.on kept; all_told = refl };
-  counts = r.counts;
+  answers = record { runs = runs_stopped prefix old input left more written_before written session now r.runs.on r.is_open kept; all_told = refl };
+  counts = r.runs.counts;
 }
 
 pub front_broken : (prefix : List ℕ) (old : CacheValue) (input left more written_before written written_more : Option (List ℕ)) (session : SessionValue) (now after : CacheValue) (piece : List ℕ) (c d e : Counts)
-    → (r : RunsOnCounting prefix old input left written_before written session now c d) → Consumes left more piece → ExchangesFrontCounting session.prefix r.on.read r.on.before now written piece after written_more d e
+    → (q : IsRunning prefix old input left written_before written session now c d) → length piece ≤ 65536 → Consumes left more piece → ExchangesFrontCounting session.prefix q.runs.on.read q.runs.on.before now written piece after written_more d e
     → AnswersFrontCounting prefix old input more written_before written_more after c e
 unfolding runs_broken
-front_broken prefix old input left more written_before written written_more session now after piece c d e r k x = record {
-  answers = record { runs = runs_broken prefix old input left more written_before written written_more session now after piece r.on k x.exchanges; all_told = x.all_told };
-  counts = x.counts ∙ ap (λ z. count_all z now x.exchanges.done) r.counts ∙ sym (count_join c old now r.on.before x.exchanges.done r.on.text r.on.served);
+front_broken prefix old input left more written_before written written_more session now after piece c d e q few k x = record {
+  answers = record { runs = runs_broken prefix old input left more written_before written written_more session now after piece q.runs.on q.is_open few k x.exchanges; all_told = x.all_told };
+  counts = x.counts ∙ ap (λ z. count_all z now x.exchanges.done) q.runs.counts ∙ sym (count_join c old now q.runs.on.before x.exchanges.done q.runs.on.text q.runs.on.served);
 }
 
 -- the reader failed
 pub counting_read : (prefix : List ℕ) (old : CacheValue) (input left more written_before written : Option (List ℕ)) (session : SessionValue) (now : CacheValue) (c d : Counts)
-    → RunsOnCounting prefix old input left written_before written session now c d → Keeps left more → AnswersReadCounting prefix old input more written_before written now c d
+    → IsRunning prefix old input left written_before written session now c d → Keeps left more → AnswersReadCounting prefix old input more written_before written now c d
 unfolding runs_stopped
 counting_read prefix old input left more written_before written session now c d r kept = record {
-  answers = record { runs = runs_stopped prefix old input left more written_before written session now r.on kept; all_read = refl; all_told = refl };
-  counts = r.counts;
+  answers = record { runs = runs_stopped prefix old input left more written_before written session now r.runs.on r.is_open kept; all_read = refl; all_told = refl };
+  counts = r.runs.counts;
 }

@@ -5,8 +5,10 @@ pub mod Replying
 pub mod Histories
 pub mod Gaining
 pub mod Standing
+pub mod Turning
 pub mod Connections
 pub mod StepOnce
 pub mod Once
 pub mod Total
+pub mod Hashes
 pub mod Counting

@@ -179,7 +179,7 @@ stands_failed opening old new k history front done text after gains serves p oth
 -- want of memory before the piece was cut
 closes_by : (opening : CacheValue) (old new : ServerValue) (k : ℕ) (piece : List ℕ) (history : List HistoryEntry) (held : Option SessionValue)
     → session_at old k ≡ held → IsClosedAt held (session_at new k) → KeepsOthers old k new → KeepsSession old.prefix held k history → ServerStands opening old history → StandsOrFails opening old k piece new history
-closes_by opening old new k piece history None is gone kept keeps stands = inl (is, stands_unknown opening old new k history is gone kept stands)
+closes_by opening old new k piece history None is gone kept keeps stands = inl (is, gone, stands_unknown opening old new k history is gone kept stands)
 closes_by opening old new k piece history (Some session) is (after, at, same, closed) kept keeps stands =
     let c : IsCut old.prefix (stream_of k history) = keeps_cut old.prefix session k history keeps in
     let quiet : stream_of k (history ++ Piece k [] ∷ []) ≡ stream_of k history = stream_aside k history (Piece k []) refl (own_bytes k []) in

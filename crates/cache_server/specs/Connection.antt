@@ -1,5 +1,5 @@
 -- What a run over one connection reads, writes and does.
-use Rattle.std.specs.Prelude.{◌≡◌, ℕ, ◌⊎◌, List, [], ◌++◌, Option, None}
+use Rattle.std.specs.Prelude.{◌≡◌, ℕ, ◌≤◌, ◌⊎◌, List, [], ◌++◌, length, Option, Some, None}
 use Rattle.std.specs.Io.KnownBytes.{Appends, Consumes, IsAtEnd}
 use Rattle.http_core.specs.Event.{EventValue}
 use Rattle.http_core.specs.Session.{SessionValue, Stands}
@@ -18,6 +18,16 @@ pub record IsAnswered
   pub cut : Cuts prefix stream events left
   pub served : ServesAll old events text new
 
+-- All but the last piece was read while further bytes could be answered.
+pub record ReadsNoFurther (prefix read : List ℕ) : Type 0 where
+  pub earlier : List ℕ
+  pub piece : List ℕ
+  pub whole : read ≡ earlier ++ piece
+  pub few : length piece ≤ 65536
+  pub events : List EventValue
+  pub rest : List ℕ
+  pub open_before : Cuts prefix earlier events (Some rest)
+
 -- the input has ended, or an event in what was read closes, and all its answers are written
 pub record Runs
     (prefix : List ℕ) (old : CacheValue) (input input_left before after : Option (List ℕ))
@@ -30,6 +40,7 @@ pub record Runs
   pub appends : Appends before after text
   pub answered : IsAnswered prefix old read text left new
   pub stops : IsAtEnd input_left ⊎ (left ≡ None)
+  pub no_further : ReadsNoFurther prefix read
 
 -- the requests in a beginning of what was read did their work, and a beginning of their answers is
 -- written
@@ -45,6 +56,7 @@ pub record RunsSome
   pub consumes : Consumes input input_left (front ++ rest)
   pub appends : Appends before after told
   pub answered : IsAnswered prefix old front (told ++ lost) left new
+  pub no_further : ReadsNoFurther prefix (front ++ rest)
 
 -- the requests in a beginning of what was read did their work, and all of their answers are written
 pub record AnswersFront

@@ -1,4 +1,5 @@
 pub mod Status
+pub mod Answer
 pub mod Cache
 pub mod Serving
 pub mod Counts
@@ -6,5 +7,6 @@ pub mod Writing
 pub mod History
 pub mod Server
 pub mod Sessions
+pub mod Turn
 pub mod Connection
 pub mod Laws

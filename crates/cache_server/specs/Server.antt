@@ -1,6 +1,6 @@
 -- Where a server stands after a history.
 use Rattle.std.specs.Prelude.{◌≡◌, ℕ, ◌⊎◌, Bool, true, false, List, [], ◌∷◌, ◌++◌, Option, Some}
-use Rattle.std.specs.Prelude.{None}
+use Rattle.std.specs.Prelude.{None, ⊤}
 use Rattle.std.specs.Ordering.{nat_cmp}
 use Rattle.std.specs.BTreeMap.{is_at}
 use Rattle.std.specs.Map.{lookup}
@@ -41,11 +41,27 @@ pub record ServerStands (opening : CacheValue) (s : ServerValue) (history : List
   pub cache : CacheAfter s.prefix opening history s.cache
   pub sessions : (k : ℕ) → KeepsSession s.prefix (session_at s k) k history
 
--- After want of memory: nothing was kept of a connection without a session. Else the requests in a
+-- After want of memory: there was none for a session, and there is none. Else the requests in a
 -- beginning of the piece were served, and the connection failed.
 abbrev pub StandsOrFails :
     CacheValue → ServerValue → ℕ → List ℕ → ServerValue → List HistoryEntry → Type 0
 StandsOrFails opening old k piece new history =
-    ((session_at old k ≡ None) × ServerStands opening new history)
+    ((session_at old k ≡ None) × (session_at new k ≡ None) × ServerStands opening new history)
     ⊎ ((front : List ℕ) × (rest : List ℕ) × (piece ≡ front ++ rest)
     × ServerStands opening new (history ++ (Piece k front ∷ Fail k ∷ [])))
+
+-- whatever history led to the one server, a longer one leads to the other
+abbrev pub GoesOn : ServerValue → ServerValue → Type 0
+GoesOn old new =
+    (opening : CacheValue) (history : List HistoryEntry) → ServerStands opening old history
+    → (more : List HistoryEntry) × ServerStands opening new (history ++ more)
+
+-- how many bytes are kept of a request that isn't whole
+abbrev pub held_bytes_at : Option SessionValue → ℕ
+held_bytes_at None = 0
+held_bytes_at (Some session) = sessions.held_bytes session.state
+
+-- a connection without a session will have a new one
+abbrev pub IsOpenAt : Option SessionValue → Type 0
+IsOpenAt None = ⊤
+IsOpenAt (Some session) = sessions.IsOpen session

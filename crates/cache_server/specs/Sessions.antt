@@ -46,3 +46,21 @@ ForgetsAt old k new = (session_at new k ≡ None) × KeepsOthers old k new
 
 abbrev pub HoldsAt : ServerValue → ℕ → SessionValue → ServerValue → Type 0
 HoldsAt old k session new = (session_at new k ≡ Some session) × KeepsOthers old k new
+
+-- the connection has the session that it had, or a fresh one
+pub record OpensAt (old : ServerValue) (k : ℕ) (new : ServerValue) : Type 0 where
+  pub session : SessionValue
+  pub held : IsSessionFor old.prefix (session_at old k) session
+  pub at : session_at new k ≡ Some session
+  pub kept : KeepsOthers old k new
+
+-- the session of the connection took a front of the piece, to the end of its first event
+pub record FeedsFirstAt
+    (old : ServerValue) (k : ℕ) (piece : List ℕ) (taken : ℕ) (event : Option EventValue)
+    (new : ServerValue) : Type 0 where
+  pub before : SessionValue
+  pub after : SessionValue
+  pub held : session_at old k ≡ Some before
+  pub feeds : sessions.FeedsFirst before piece taken event after
+  pub at : session_at new k ≡ Some after
+  pub kept : KeepsOthers old k new

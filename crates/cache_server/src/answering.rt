@@ -1,16 +1,19 @@
-ghost use Rattle.std.specs.Prelude.{◌≡◌, ◌≢◌, Err, IfErr, OnOk, OnErr};
+ghost use Rattle.std.specs.Prelude.{◌≡◌, ◌≢◌, Err, IfOk, IfErr, OnOk, OnErr};
 ghost use Rattle.std.specs.Io.KnownBytes.{Keeps};
+ghost use Rattle.cache_server.specs.Answer.{text_of};
 ghost use Rattle.cache_server.specs.Counts.{count_all, count_event};
+ghost use Rattle.cache_server.specs.Serving.{ServesOne};
 ghost use Rattle.http_core.specs.Event.{events_of, event_of};
 ghost use Rattle.cache_server.specs.Writing.{Tells, MayTell, TellsAll, TellsSomeCounting};
 ghost use Rattle.cache_server.specs.Writing.{TellsFrontCounting};
 
+use crate::answer::Answer;
 use crate::cache::Cache;
 use crate::counts::Counts;
 use crate::error::ConnError;
 use crate::writing::write_answer;
 use http_core::{Ask, Event};
-use std::alloc::Allocator;
+use std::alloc::{AllocError, Allocator};
 use std::io::Write;
 
 /// Answers the events one after another, and counts them. After an `Err` the cache is as some of
@@ -41,8 +44,41 @@ pub(crate) fn answer_all<A: Allocator + Copy, W: Write>(
     Ok(())
 }
 
+/// The answer to the event, which is counted. An `Err` changes nothing.
+pub(crate) fn reply_to<A: Allocator + Copy>(
+    alloc: A,
+    cache: &mut Cache<A>,
+    event: Event<A>,
+    counts: &mut Counts,
+) -> Result<Answer<A>, AllocError>
+    ensures ok { IfOk result
+        (λ answer. ServesOne cache.old (event_of event) (text_of answer) cache.new) }
+    ensures counted { OnOk result
+        (counts.new ≡ count_event counts.old cache.old (event_of event)) }
+    ensures err { OnErr result ((cache.new ≡ cache.old) × (counts.new ≡ counts.old)) }
+{
+    match event {
+        Event::Refuse(status, close) => {
+            counts.add_other();
+            Ok(Answer::bare(status, close))
+        }
+        Event::Ask(ask, close) => match ask {
+            Ask::Get(area, hash) => {
+                let (status, answer) = cache.look_up(alloc, area, &hash, close)?;
+                counts.add_look_up(status);
+                Ok(answer)
+            }
+            Ask::Put(area, hash, body) => {
+                let status = cache.put(alloc, area, hash, body)?;
+                counts.add_other();
+                Ok(Answer::bare(status, close))
+            }
+        },
+    }
+}
+
 /// Answers the event, and counts it.
-fn answer<A: Allocator + Copy, W: Write>(
+pub(crate) fn answer<A: Allocator + Copy, W: Write>(
     alloc: A,
     cache: &mut Cache<A>,
     event: Event<A>,

@@ -1,15 +1,19 @@
 ghost use Rattle.std.specs.Prelude.{◌≡◌, ◌<◌, ◌^◌, [], length, IfOk, IfErr, OnOk, OnErr};
 ghost use Rattle.std.specs.Prelude.{option_copied, option_map, IsSome};
 ghost use Rattle.eviction.specs.Kept.{total};
-ghost use Rattle.http_core.specs.Event.{Get, Put, ask_of};
+ghost use Rattle.http_core.specs.Event.{Get, Put, Asked, ask_of};
+ghost use Rattle.http_core.specs.Reply.{reply_text};
 ghost use Rattle.http_core.specs.declared.event.Area.TheVariants.{Ac, Cas};
 ghost use Rattle.action_cache.specs.Machine.{get_blob as blob_got};
 ghost use Rattle.action_cache.specs.Reading.{by_messages};
 ghost use Rattle.cache_server.specs.Cache.{Step, MayWant, bare, found_reply};
+ghost use Rattle.cache_server.specs.Answer.{text_of};
 ghost use Rattle.cache_server.specs.Counts.{IsStatusOf};
+ghost use Rattle.cache_server.specs.Serving.{ServesOne};
 ghost use Rattle.cache_server.specs.Status.{IsToldBy, WantsMemory};
 ghost use Rattle.cache_server.specs.Writing.{AnswersAsk, FailsAsk};
 
+use crate::answer::{Answer, Body};
 use crate::error::ConnError;
 use crate::writing::{write_answer, write_found};
 use action_cache::{ActionCache, CacheError};
@@ -80,6 +84,18 @@ fn reply_with<A: Allocator>(alloc: A, found: Option<Vec<u8, A>>) -> Reply<A>
             status: 404,
             body: Vec::new(alloc),
         },
+    }
+}
+
+/// The answer to a look-up, with what was found, and its status.
+fn answer_with<A: Allocator>(found: Option<Vec<u8, A>>, close: bool) -> (u16, Answer<A>)
+    ensures status { result.0 ≡ (found_reply (option_map (λ v. v.items) found)).status }
+    ensures text { text_of result.1
+        ≡ reply_text (found_reply (option_map (λ v. v.items) found)) close }
+{
+    match found {
+        Some(body) => (200, Answer::new(200, Body::Owned(body), close)),
+        None => (404, Answer::bare(404, close)),
     }
 }
 
@@ -229,6 +245,62 @@ impl<A: Allocator + Copy> Cache<A> {
         let _lent = self.store.get_blob(hash);
     }
 
+    /// The answer to a look-up, and its status.
+    pub(crate) fn look_up(
+        &mut self,
+        alloc: A,
+        area: Area,
+        hash: &[u8; 32],
+        close: bool,
+    ) -> Result<(u16, Answer<A>), AllocError>
+        ensures ok { IfOk result (λ x.
+            ServesOne self.old (Asked (Get area hash.now) close) (text_of x.1) self.new) }
+        ensures status { IfOk result (λ x. IsStatusOf self.old (Get area hash.now) x.0) }
+        ensures err { OnErr result (self.new ≡ self.old) }
+    {
+        match area {
+            Area::Cas => self.share_blob(alloc, hash, close),
+            Area::Ac => self.own_result(alloc, hash, close),
+            Area::Pin | Area::Unpin => Ok((404, Answer::bare(404, close))),
+        }
+    }
+
+    /// The blob under the hash, which the cache holds too, or 404.
+    fn share_blob(
+        &mut self,
+        alloc: A,
+        hash: &[u8; 32],
+        close: bool,
+    ) -> Result<(u16, Answer<A>), AllocError>
+        ensures ok { IfOk result (λ x.
+            ServesOne self.old (Asked (Get Cas hash.now) close) (text_of x.1) self.new) }
+        ensures status { IfOk result (λ x. IsStatusOf self.old (Get Cas hash.now) x.0) }
+        ensures err { OnErr result (self.new ≡ self.old) }
+    {
+        let found = self.store.share_blob(alloc, hash)?;
+        self.use_blob(hash);
+        match found {
+            Some(bytes) => Ok((200, Answer::new(200, Body::Shared(bytes), close))),
+            None => Ok((404, Answer::bare(404, close))),
+        }
+    }
+
+    /// The result under the hash, or 404.
+    fn own_result(
+        &mut self,
+        alloc: A,
+        hash: &[u8; 32],
+        close: bool,
+    ) -> Result<(u16, Answer<A>), AllocError>
+        ensures ok { IfOk result (λ x.
+            ServesOne self.old (Asked (Get Ac hash.now) close) (text_of x.1) self.new) }
+        ensures status { IfOk result (λ x. IsStatusOf self.old (Get Ac hash.now) x.0) }
+        ensures err { OnErr result (self.new ≡ self.old) }
+    {
+        let found = self.store.get_result(alloc, hash)?;
+        Ok(answer_with(found, close))
+    }
+
     /// The result under the hash, or 404.
     fn copy_result(&mut self, alloc: A, hash: &[u8; 32]) -> Result<Reply<A>, AllocError>
         ensures ok { IfOk result (λ reply. Step self.old (Get Ac hash.now) reply self.new) }
@@ -260,7 +332,7 @@ impl<A: Allocator + Copy> Cache<A> {
     }
 
     /// Puts, pins or unpins, and gives the status of the reply, which has no body.
-    fn put(
+    pub(crate) fn put(
         &mut self,
         alloc: A,
         area: Area,

@@ -2,6 +2,7 @@
 //! answered, to the byte.
 #![tactic(auto)]
 
+mod answer;
 mod answering;
 mod cache;
 mod counts;
@@ -11,9 +12,13 @@ mod running;
 mod server;
 mod writing;
 
+pub use answer::Answer;
 pub use cache::Cache;
 pub use counts::Counts;
 pub use error::ConnError;
-pub use laws::{answers_begin_the_answers_to_the_whole, histories_are_answered_in_one_way};
+pub use laws::{
+    answers_begin_the_answers_to_the_whole, blobs_are_answered_under_their_hashes,
+    histories_are_answered_in_one_way,
+};
 pub use running::{run, run_counting};
 pub use server::Server;

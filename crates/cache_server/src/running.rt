@@ -1,4 +1,6 @@
-ghost use Rattle.std.specs.Prelude.{◌≡◌, ◌≢◌, ℕ, List, Err, IfErr, OnErr, OnOk};
+ghost use Rattle.std.specs.Prelude.{◌≡◌, ◌≢◌, ◌<◌, ◌≤◌, ℕ, List, length, take, Err, IfOk, IfErr};
+ghost use Rattle.std.specs.Prelude.{OnErr, OnOk};
+ghost use Rattle.std.specs.Io.KnownBytes.{Consumes, IsAtEnd, Keeps};
 ghost use Rattle.http_core.specs.Event.{EventValue};
 ghost use Rattle.http_core.specs.Session.{Stands};
 ghost use Rattle.cache_server.specs.Connection.{ExchangesCounting, ExchangesSomeCounting};
@@ -79,9 +81,7 @@ pub fn run_counting<A: Allocator + Copy, R: Read, W: Write>(
     let mut session = Session::new(alloc, prefix)?;
     let mut buffer = [0; PIECE];
     for _ in 0..u64::MAX {
-        let Ok(count) = reader.read(&mut buffer) else {
-            return Err(ConnError::ReadFault);
-        };
+        let count = read_some(reader, &mut buffer)?;
         let (piece, _) = buffer.split_at(count);
         if count == 0 {
             return Ok(());
@@ -92,6 +92,24 @@ pub fn run_counting<A: Allocator + Copy, R: Read, W: Write>(
         }
     }
     Err(ConnError::Memory)
+}
+
+/// Reads bytes into the buffer, and gives how many they are: none at the end of the input. What fails
+/// here is the reader.
+fn read_some<R: Read>(reader: &mut R, buffer: &mut [u8]) -> Result<usize, ConnError>
+    ensures ok { IfOk result (λ count. Consumes (R.remaining reader.old) (R.remaining reader.new)
+        (take count buffer.new)) }
+    ensures end { IfOk result (λ count. count ≡ 0 → 0 < length buffer.old
+        → IsAtEnd (R.remaining reader.new)) }
+    ensures within { IfOk result (λ count. count ≤ length buffer.old) }
+    ensures buffer { length buffer.new ≡ length buffer.old }
+    ensures err { OnErr result (Keeps (R.remaining reader.old) (R.remaining reader.new)) }
+    ensures fault { IfErr result (λ e. e ≡ ConnError.ReadFault) }
+{
+    match reader.read(buffer) {
+        Ok(count) => Ok(count),
+        Err(_) => Err(ConnError::ReadFault),
+    }
 }
 
 /// Answers a piece, and flushes the answers; where memory is wanting, those that were written. A

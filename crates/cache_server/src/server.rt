@@ -1,11 +1,17 @@
-ghost use Rattle.std.specs.Prelude.{◌≡◌, ℕ, List, ◌∷◌, ◌++◌, [], IfOk, OnErr, OnOk, None, IsSome};
-ghost use Rattle.http_core.specs.Event.{events_of};
+ghost use Rattle.std.specs.Prelude.{◌≡◌, ◌↔◌, ℕ, List, ◌∷◌, ◌++◌, [], take, IfOk, OnErr, OnOk, None};
+ghost use Rattle.std.specs.Prelude.{IsSome, IsTrue, unwrap_or};
+ghost use Rattle.http_core.specs.Event.{events_of, option_event};
 ghost use Rattle.cache_server.specs.Cache.{CacheValue};
 ghost use Rattle.cache_server.specs.History.{HistoryEntry, Piece, End, AnswersTo};
 ghost use Rattle.cache_server.specs.Server.{session_at, ServerStands, StandsOrFails};
-ghost use Rattle.cache_server.specs.Sessions.{FeedsAt, ClosesAt, ForgetsAt, HoldsAt};
+ghost use Rattle.cache_server.specs.Server.{GoesOn, IsOpenAt, held_bytes_at};
+ghost use Rattle.cache_server.specs.Sessions.{FeedsAt, ClosesAt, ForgetsAt, HoldsAt, OpensAt};
+ghost use Rattle.cache_server.specs.Sessions.{FeedsFirstAt};
+ghost use Rattle.cache_server.specs.Answer.{text_if_any};
+ghost use Rattle.cache_server.specs.Turn.{AnswersOne};
 
-use crate::answering::answer_all;
+use crate::answer::Answer;
+use crate::answering::{answer_all, reply_to};
 use crate::cache::Cache;
 use crate::counts::Counts;
 use http_core::{Event, Prefix, Session};
@@ -48,8 +54,9 @@ impl<A: Allocator + Copy> Server<A> {
     }
 
     /// The answers to the next piece on the connection, which is a new one where none has the
-    /// number. After an `Err` the connection is closed, or still unknown where it was a new one,
-    /// the answers are lost, and the cache is as some of the requests left it, from the first on.
+    /// number. After an `Err` the connection is closed, or still unknown where there was no memory
+    /// for its session, the answers are lost, and the cache is as some of the requests left it, from
+    /// the first on.
     pub fn event(
         &mut self,
         alloc: A,
@@ -66,6 +73,7 @@ impl<A: Allocator + Copy> Server<A> {
             → ServerStands opening self.old history
             → StandsOrFails opening self.old connection piece.now self.new history) }
     {
+        self.open(alloc, connection)?;
         let events = self.feed(alloc, connection, piece)?;
         let mut text = Vec::new(alloc);
         let mut counts = Counts::none();
@@ -78,37 +86,79 @@ impl<A: Allocator + Copy> Server<A> {
         }
     }
 
+    /// The answer to the first request that the piece completes on the connection, which is a new
+    /// one where none has the number, and how many bytes of the piece were taken: those to the end
+    /// of that request, or all where it completes none. The request is counted. After an `Err` the
+    /// connection is closed: it answers nothing more.
+    pub fn next(
+        &mut self,
+        alloc: A,
+        connection: u64,
+        piece: &[u8],
+        counts: &mut Counts,
+    ) -> Result<(usize, Option<Answer<A>>), AllocError>
+        ensures one { IfOk result (λ x.
+            AnswersOne self.old piece.now x.0 (text_if_any x.1) self.new counts.old counts.new) }
+        ensures answers { IfOk result (λ x. (opening : CacheValue) (history : List HistoryEntry)
+            → ServerStands opening self.old history
+            → AnswersTo self.old.prefix opening history (Piece connection (take x.0 piece.now))
+            (unwrap_or (text_if_any x.1) [])) }
+        ensures ok { IfOk result (λ x. (opening : CacheValue) (history : List HistoryEntry)
+            → ServerStands opening self.old history
+            → ServerStands opening self.new
+            (history ++ Piece connection (take x.0 piece.now) ∷ [])) }
+        ensures err { OnErr result ((opening : CacheValue) (history : List HistoryEntry)
+            → ServerStands opening self.old history
+            → StandsOrFails opening self.old connection piece.now self.new history) }
+        ensures goes_on { GoesOn self.old self.new }
+    {
+        self.open(alloc, connection)?;
+        let (taken, event) = self.first(alloc, connection, piece)?;
+        let Some(event) = event else {
+            return Ok((taken, None));
+        };
+        match reply_to(alloc, &mut self.cache, event, counts) {
+            Ok(answer) => Ok((taken, Some(answer))),
+            Err(error) => {
+                self.close(alloc, connection);
+                Err(error)
+            }
+        }
+    }
+
+    /// Whether further bytes on the connection can be answered.
+    pub fn is_open(&self, connection: u64) -> bool
+        ensures { IsTrue result ↔ IsOpenAt (session_at self.now connection) }
+    {
+        match self.sessions.get(&connection) {
+            Some(session) => session.is_open(),
+            None => true,
+        }
+    }
+
+    /// How many bytes are kept of a request on the connection that isn't whole, but for the head
+    /// before a body.
+    pub fn held_bytes(&self, connection: u64) -> usize
+        ensures { result ≡ held_bytes_at (session_at self.now connection) }
+    {
+        match self.sessions.get(&connection) {
+            Some(session) => session.held_bytes(),
+            None => 0,
+        }
+    }
+
     /// Forgets the connection.
     pub fn end(&mut self, connection: u64)
-        ensures { (opening : CacheValue) (history : List HistoryEntry)
+        ensures goes_on { GoesOn self.old self.new }
+        ensures stands { (opening : CacheValue) (history : List HistoryEntry)
             → ServerStands opening self.old history
             → ServerStands opening self.new (history ++ End connection ∷ []) }
     {
         self.forget(connection);
     }
 
-    /// Hands the piece to the session of the connection, which is a new one where it has none.
-    fn feed(
-        &mut self,
-        alloc: A,
-        connection: u64,
-        piece: &[u8],
-    ) -> Result<Vec<Event<A>, A>, AllocError>
-        ensures ok { IfOk result (λ events.
-            FeedsAt self.old connection piece.now (events_of events.items) self.new) }
-        ensures err { OnErr result (ClosesAt self.old connection self.new) }
-    {
-        if self.sessions.contains_key(&connection) {
-            return self.feed_held(alloc, connection, piece);
-        }
-        let mut session = Session::new(alloc, &self.prefix)?;
-        let events = session.feed(alloc, piece)?;
-        self.keep(connection, session)?;
-        Ok(events)
-    }
-
     /// Hands the piece to the session that the connection has.
-    fn feed_held(
+    fn feed(
         &mut self,
         alloc: A,
         connection: u64,
@@ -123,6 +173,36 @@ impl<A: Allocator + Copy> Server<A> {
             return session.feed(alloc, piece);
         }
         Ok(Vec::new(alloc))
+    }
+
+    /// Has the connection a session, which is a new one where it has none.
+    fn open(&mut self, alloc: A, connection: u64) -> Result<(), AllocError>
+        ensures ok { OnOk result (OpensAt self.old connection self.new) }
+        ensures err { OnErr result (ClosesAt self.old connection self.new) }
+    {
+        if self.sessions.contains_key(&connection) {
+            return Ok(());
+        }
+        let session = Session::new(alloc, &self.prefix)?;
+        self.keep(connection, session)
+    }
+
+    /// Hands the piece to the session that the connection has, as far as its first event.
+    fn first(
+        &mut self,
+        alloc: A,
+        connection: u64,
+        piece: &[u8],
+    ) -> Result<(usize, Option<Event<A>>), AllocError>
+        requires { IsSome (session_at self.old connection) }
+        ensures ok { IfOk result (λ x.
+            FeedsFirstAt self.old connection piece.now x.0 (option_event x.1) self.new) }
+        ensures err { OnErr result (ClosesAt self.old connection self.new) }
+    {
+        if let Some(session) = self.sessions.get_mut(&connection) {
+            return session.next(alloc, piece);
+        }
+        Ok((piece.len(), None))
     }
 
     /// Keeps the session of a connection that has none.

@@ -90,10 +90,10 @@ module _ {K A : Type 0} where
 
   module _ (test : K → Bool) (overhead : ℕ) where
     -- an entry that is found costs no more than all
-    pub cost_within : (es : List (K × Entry A)) (v : Entry A) → lookup test es ≡ Some v → length v.bytes.items + overhead ≤ total_cost overhead (held_all es)
+    pub cost_within : (es : List (K × Entry A)) (v : Entry A) → lookup test es ≡ Some v → length v.bytes + overhead ≤ total_cost overhead (held_all es)
     cost_within [] v h = absurd cc
-    cost_within (e ∷ es) v h = (elim (test e.0) as (λ b. test e.0 ≡ b → length v.bytes.items + overhead ≤ total_cost overhead (held_all (e ∷ es))) [
-      | true ↦ λ t. let h' = rw t at h in let same : length e.1.bytes.items ≡ length v.bytes.items = cc in omega arith
+    cost_within (e ∷ es) v h = (elim (test e.0) as (λ b. test e.0 ≡ b → length v.bytes + overhead ≤ total_cost overhead (held_all (e ∷ es))) [
+      | true ↦ λ t. let h' = rw t at h in let same : length e.1.bytes ≡ length v.bytes = cc in omega arith
       | false ↦ λ t. let on = cost_within es v (rw t at h) in omega arith
     ]) refl
 
@@ -102,20 +102,20 @@ module _ {A : Type 0} where
   pins_found None = refl
   pins_found (Some v) = refl
 
-  found_cost : (overhead : ℕ) (o : Option (Entry A)) → option_map_or (λ (h : Held). length h.bytes + overhead) (option_map held o) 0 ≡ option_map_or (λ (v : Entry A). length v.bytes.items + overhead) o 0
+  found_cost : (overhead : ℕ) (o : Option (Entry A)) → option_map_or (λ (h : Held). length h.bytes + overhead) (option_map held o) 0 ≡ option_map_or (λ (v : Entry A). length v.bytes + overhead) o 0
   found_cost overhead None = refl
   found_cost overhead (Some v) = refl
 
 module _ {K A : Type 0} where
-  pub cost_found : (overhead : ℕ) (eq : K → K → Bool) (k : K) (es : List (K × Entry A)) → cost_under overhead eq k (held_all es) ≡ option_map_or (λ (v : Entry A). length v.bytes.items + overhead) (lookup (eq k) es) 0
+  pub cost_found : (overhead : ℕ) (eq : K → K → Bool) (k : K) (es : List (K × Entry A)) → cost_under overhead eq k (held_all es) ≡ option_map_or (λ (v : Entry A). length v.bytes + overhead) (lookup (eq k) es) 0
   cost_found overhead eq k es = ap (λ o. option_map_or (λ (h : Held). length h.bytes + overhead) o 0) (lookup_held (eq k) es) ∙ found_cost overhead (lookup (eq k) es)
 
   pub stands : (eq : K → K → Bool) (laws : IsEquivalence eq) (k : K) (overhead : ℕ) (es : List (K × Entry A)) (o : Option (Entry A)) → IsDistinct eq (keys_of es) → o ≡ lookup (eq k) es
-      → Stands eq k overhead (held_all es) (option_map_or (λ (v : Entry A). length v.bytes.items + overhead) o 0) (option_map_or (λ (v : Entry A). v.pins) o 0)
+      → Stands eq k overhead (held_all es) (option_map_or (λ (v : Entry A). length v.bytes + overhead) o 0) (option_map_or (λ (v : Entry A). v.pins) o 0)
   stands eq laws k overhead es o d e =
       let d' = distinct_held eq es d in
       let pins : option_map_or (λ (v : Entry A). v.pins) o 0 ≡ pins_of eq (held_all es) k = pins_found o ∙ ap (λ q. option_map_or (λ (h : Held). h.pins) (option_map held q) 0) e ∙ ap (λ q. option_map_or (λ (h : Held). h.pins) q 0) (sym (lookup_held (eq k) es)) in
-      let costs : option_map_or (λ (v : Entry A). length v.bytes.items + overhead) o 0 ≡ cost_under overhead eq k (held_all es) = ap (λ q. option_map_or (λ (v : Entry A). length v.bytes.items + overhead) q 0) e ∙ sym (cost_found overhead eq k es) in
+      let costs : option_map_or (λ (v : Entry A). length v.bytes + overhead) o 0 ≡ cost_under overhead eq k (held_all es) = ap (λ q. option_map_or (λ (v : Entry A). length v.bytes + overhead) q 0) e ∙ sym (cost_found overhead eq k es) in
       record {
         pins_are = pins;
         rest_are = rw costs (total_others overhead eq laws k (held_all es) d');
@@ -124,7 +124,7 @@ module _ {K A : Type 0} where
 
   -- what is taken out and what stays cost together what all did
   pub cost_taken : (overhead : ℕ) (eq : K → K → Bool) (laws : IsEquivalence eq) (k : K) (es : List (K × Entry A)) (fs : List (K × Entry A)) (o : Option (Entry A)) → IsDistinct eq (keys_of es)
-      → fs ≡ remove_entry (eq k) es → o ≡ lookup (eq k) es → option_map_or (λ (v : Entry A). length v.bytes.items + overhead) o 0 + total_cost overhead (held_all fs) ≡ total_cost overhead (held_all es)
+      → fs ≡ remove_entry (eq k) es → o ≡ lookup (eq k) es → option_map_or (λ (v : Entry A). length v.bytes + overhead) o 0 + total_cost overhead (held_all fs) ≡ total_cost overhead (held_all es)
   cost_taken overhead eq laws k es fs o d f g =
       rw (f, g, removed_held eq laws k es d, ← cost_found overhead eq k es) (total_others overhead eq laws k (held_all es) (distinct_held eq es d))
 
@@ -168,12 +168,12 @@ module _ {K : Type 0} (eq : K → K → Bool) where
 module _ {K A : Type 0} (eq : K → K → Bool) (laws : IsEquivalence eq) where
   -- what a look-up after a promotion finds is what one before it finds
   pub found_before : (k : K) (es fs : List (K × Entry A)) (o : Option (Entry A)) → IsDistinct eq (keys_of es) → fs ≡ promoted (eq k) es → o ≡ lookup (eq k) fs
-      → option_map (λ (e : Entry A). e.bytes.items) o ≡ bytes_under eq (held_all es) k
+      → option_map (λ (e : Entry A). e.bytes) o ≡ bytes_under eq (held_all es) k
   found_before k es fs o d p l =
-      ap (option_map (λ (e : Entry A). e.bytes.items)) l
+      ap (option_map (λ (e : Entry A). e.bytes)) l
       ∙ both (lookup (eq k) fs)
       ∙ ap (option_map (λ (h : Held). h.bytes)) (sym (lookup_held (eq k) fs) ∙ ap (lookup (eq k)) (ap held_all p ∙ promoted_held eq laws k es d) ∙ lookup_moved eq laws k k (held_all es))
     where
-      both : (o : Option (Entry A)) → option_map (λ (e : Entry A). e.bytes.items) o ≡ option_map (λ (h : Held). h.bytes) (option_map held o)
+      both : (o : Option (Entry A)) → option_map (λ (e : Entry A). e.bytes) o ≡ option_map (λ (h : Held). h.bytes) (option_map held o)
       both None = refl
       both (Some e) = refl

@@ -120,7 +120,7 @@ module _ {K : Type 0} where
 module _ {K A : Type 0} (eq : K → K → Bool) (k : K) where
   only_here : (up : ℕ → ℕ) (es : List (K × Entry A)) → NonePasses (eq k) es → repinned (λ j n. cond (eq k j) (up n) n) (held_all es) ≡ held_all es
   only_here up [] h = refl
-  only_here up (e ∷ es) h = λ i. (e.0, record { bytes = e.1.bytes.items; pins = cond (h.0 i) (up e.1.pins) e.1.pins }) ∷ only_here up es h.1 i
+  only_here up (e ∷ es) h = λ i. (e.0, record { bytes = e.1.bytes; pins = cond (h.0 i) (up e.1.pins) e.1.pins }) ∷ only_here up es h.1 i
 
   pub repinned_none : (up : ℕ → ℕ) (es : List (K × Entry A)) → lookup (eq k) es ≡ None → repinned (λ j n. cond (eq k j) (up n) n) (held_all es) ≡ held_all es
   repinned_none up [] h = refl
@@ -130,14 +130,14 @@ module _ {K A : Type 0} (eq : K → K → Bool) (k : K) where
   ]) refl
 
   -- an entry that is written with another count
-  pub repinned_set : IsEquivalence eq → (up : ℕ → ℕ) (es : List (K × Entry A)) (v w : Entry A) → IsDistinct eq (keys_of es) → lookup (eq k) es ≡ Some v → w.bytes.items ≡ v.bytes.items → w.pins ≡ up v.pins
+  pub repinned_set : IsEquivalence eq → (up : ℕ → ℕ) (es : List (K × Entry A)) (v w : Entry A) → IsDistinct eq (keys_of es) → lookup (eq k) es ≡ Some v → w.bytes ≡ v.bytes → w.pins ≡ up v.pins
       → held_all (set_value (eq k) es w) ≡ repinned (λ j n. cond (eq k j) (up n) n) (held_all es)
   repinned_set laws up [] v w d h b p = absurd cc
-  repinned_set laws up (e ∷ es) v w d h b p = (elim (eq k e.0) as (λ y. eq k e.0 ≡ y → held_all (cond y ((e.0, w) ∷ es) (e ∷ set_value (eq k) es w)) ≡ (e.0, record { bytes = e.1.bytes.items; pins = cond y (up e.1.pins) e.1.pins }) ∷ repinned (λ j n. cond (eq k j) (up n) n) (held_all es)) [
+  repinned_set laws up (e ∷ es) v w d h b p = (elim (eq k e.0) as (λ y. eq k e.0 ≡ y → held_all (cond y ((e.0, w) ∷ es) (e ∷ set_value (eq k) es w)) ≡ (e.0, record { bytes = e.1.bytes; pins = cond y (up e.1.pins) e.1.pins }) ∷ repinned (λ j n. cond (eq k j) (up n) n) (held_all es)) [
     | true ↦ λ t.
         let h' = rw t at h in
         let same : e.1 ≡ v = cc in
-        let bytes : w.bytes.items ≡ e.1.bytes.items = b ∙ ap (λ (x : Entry A). x.bytes.items) (sym same) in
+        let bytes : w.bytes ≡ e.1.bytes = b ∙ ap (λ (x : Entry A). x.bytes) (sym same) in
         let pins : w.pins ≡ up e.1.pins = p ∙ ap (λ (x : Entry A). up x.pins) (sym same) in
         let rest = only_here up es (none_past_head laws k e es d t) in
         λ i. (e.0, record { bytes = bytes i; pins = pins i }) ∷ sym rest i
@@ -145,30 +145,30 @@ module _ {K A : Type 0} (eq : K → K → Bool) (k : K) where
   ]) refl
 
   -- what that does to the costs of the pinned entries
-  pub pinned_set : (overhead : ℕ) (es : List (K × Entry A)) (v w : Entry A) → lookup (eq k) es ≡ Some v → w.bytes.items ≡ v.bytes.items
-      → part_if_pinned v.pins (length v.bytes.items + overhead) + pinned_cost overhead (held_all (set_value (eq k) es w)) ≡ part_if_pinned w.pins (length v.bytes.items + overhead) + pinned_cost overhead (held_all es)
+  pub pinned_set : (overhead : ℕ) (es : List (K × Entry A)) (v w : Entry A) → lookup (eq k) es ≡ Some v → w.bytes ≡ v.bytes
+      → part_if_pinned v.pins (length v.bytes + overhead) + pinned_cost overhead (held_all (set_value (eq k) es w)) ≡ part_if_pinned w.pins (length v.bytes + overhead) + pinned_cost overhead (held_all es)
   pinned_set overhead [] v w h b = absurd cc
-  pinned_set overhead (e ∷ es) v w h b = (elim (eq k e.0) as (λ y. eq k e.0 ≡ y → part_if_pinned v.pins (length v.bytes.items + overhead) + pinned_cost overhead (held_all (cond y ((e.0, w) ∷ es) (e ∷ set_value (eq k) es w))) ≡ part_if_pinned w.pins (length v.bytes.items + overhead) + pinned_cost overhead (held_all (e ∷ es))) [
+  pinned_set overhead (e ∷ es) v w h b = (elim (eq k e.0) as (λ y. eq k e.0 ≡ y → part_if_pinned v.pins (length v.bytes + overhead) + pinned_cost overhead (held_all (cond y ((e.0, w) ∷ es) (e ∷ set_value (eq k) es w))) ≡ part_if_pinned w.pins (length v.bytes + overhead) + pinned_cost overhead (held_all (e ∷ es))) [
     | true ↦ λ t.
         let h' = rw t at h in
         let same : e.1 ≡ v = cc in
-        let l : length w.bytes.items ≡ length v.bytes.items = ap length b in
-        subst (λ (x : Entry A). part_if_pinned v.pins (length v.bytes.items + overhead) + pinned_cost overhead ((e.0, held w) ∷ held_all es) ≡ part_if_pinned w.pins (length v.bytes.items + overhead) + pinned_cost overhead ((e.0, held x) ∷ held_all es)) (sym same)
+        let l : length w.bytes ≡ length v.bytes = ap length b in
+        subst (λ (x : Entry A). part_if_pinned v.pins (length v.bytes + overhead) + pinned_cost overhead ((e.0, held w) ∷ held_all es) ≡ part_if_pinned w.pins (length v.bytes + overhead) + pinned_cost overhead ((e.0, held x) ∷ held_all es)) (sym same)
         (swap (nat_lt 0 v.pins) (nat_lt 0 w.pins) l)
     | false ↦ λ t. step (is_pinned (e.0, held e.1)) (pinned_set overhead es v w (rw t at h) b)
   ]) refl
     where
-      swap : (p q : Bool) → length w.bytes.items ≡ length v.bytes.items
-          → cond p (length v.bytes.items + overhead) 0 + total_cost overhead (cond q ((e.0, held w) ∷ filter is_pinned (held_all es)) (filter is_pinned (held_all es)))
-          ≡ cond q (length v.bytes.items + overhead) 0 + total_cost overhead (cond p ((e.0, held v) ∷ filter is_pinned (held_all es)) (filter is_pinned (held_all es)))
+      swap : (p q : Bool) → length w.bytes ≡ length v.bytes
+          → cond p (length v.bytes + overhead) 0 + total_cost overhead (cond q ((e.0, held w) ∷ filter is_pinned (held_all es)) (filter is_pinned (held_all es)))
+          ≡ cond q (length v.bytes + overhead) 0 + total_cost overhead (cond p ((e.0, held v) ∷ filter is_pinned (held_all es)) (filter is_pinned (held_all es)))
       swap true true l = omega arith
       swap true false l = omega arith
       swap false true l = omega arith
       swap false false l = refl
 
-      step : (p : Bool) → part_if_pinned v.pins (length v.bytes.items + overhead) + pinned_cost overhead (held_all (set_value (eq k) es w)) ≡ part_if_pinned w.pins (length v.bytes.items + overhead) + pinned_cost overhead (held_all es)
-          → part_if_pinned v.pins (length v.bytes.items + overhead) + total_cost overhead (cond p ((e.0, held e.1) ∷ filter is_pinned (held_all (set_value (eq k) es w))) (filter is_pinned (held_all (set_value (eq k) es w))))
-          ≡ part_if_pinned w.pins (length v.bytes.items + overhead) + total_cost overhead (cond p ((e.0, held e.1) ∷ filter is_pinned (held_all es)) (filter is_pinned (held_all es)))
+      step : (p : Bool) → part_if_pinned v.pins (length v.bytes + overhead) + pinned_cost overhead (held_all (set_value (eq k) es w)) ≡ part_if_pinned w.pins (length v.bytes + overhead) + pinned_cost overhead (held_all es)
+          → part_if_pinned v.pins (length v.bytes + overhead) + total_cost overhead (cond p ((e.0, held e.1) ∷ filter is_pinned (held_all (set_value (eq k) es w))) (filter is_pinned (held_all (set_value (eq k) es w))))
+          ≡ part_if_pinned w.pins (length v.bytes + overhead) + total_cost overhead (cond p ((e.0, held e.1) ∷ filter is_pinned (held_all es)) (filter is_pinned (held_all es)))
       step true on = omega arith
       step false on = on
 

@@ -6,7 +6,7 @@ use Rattle.eviction.specs.declared.entry.Entry.{Entry}
 use Rattle.eviction.specs.Kept.{Held}
 
 abbrev pub held : {A : Type 0} → Entry A → Held
-held e = record { bytes = e.bytes.items; pins = e.pins }
+held e = record { bytes = e.bytes; pins = e.pins }
 
 abbrev pub held_all : {K A : Type 0} → List (K × Entry A) → List (K × Held)
 held_all es = map (λ e. (e.0, held e.1)) es

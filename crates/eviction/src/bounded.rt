@@ -1,5 +1,5 @@
 ghost use Rattle.std.specs.Prelude.{◌≡◌, ◌↔◌, ◌⊎◌, ◌<◌, ◌^◌, [], Some, Err, true, false, IfOk};
-ghost use Rattle.std.specs.Prelude.{IfErr, OnOk, OnErr, option_copied};
+ghost use Rattle.std.specs.Prelude.{IsSome, IfErr, OnOk, OnErr, option_copied};
 ghost use Rattle.std.specs.Borrow.{sem};
 ghost use Rattle.std.specs.List.{IsDistinct};
 ghost use Rattle.eviction.specs.Kept.{IsKept, total_cost, touched, bytes_under};
@@ -11,6 +11,7 @@ use crate::entry::{Entry, part_of_pinned, standing_under};
 use crate::error::BoundedError;
 use crate::evicting::{choose, put_first, take_out};
 use crate::pinning::{count_under, holds_all, pin_each, pins_all, unpin_each};
+use crate::shared::Shared;
 use lru::LruCache;
 use std::alloc::{AllocError, Allocator};
 use std::hash::{Hash, RandomState};
@@ -100,7 +101,7 @@ impl<K: Copy + Eq + Hash, A: Allocator + Copy> Bounded<K, A> {
         let whole = self.held - old.cost + cost;
         let excess = whole.saturating_sub(self.limit);
         let chosen = choose(*self.cache.allocator(), &self.cache, &key, overhead, excess)?;
-        put_first(&mut self.cache, key, Entry { bytes, pins })?;
+        put_first(&mut self.cache, key, bytes, pins)?;
         let freed = take_out(&mut self.cache, &chosen, overhead);
         self.held = whole - freed;
         self.pinned = pinned_others + part_of_pinned(pins, cost);
@@ -136,6 +137,20 @@ impl<K: Copy + Eq + Hash, A: Allocator + Copy> Bounded<K, A> {
     {
         let entry = self.cache.peek(key)?;
         Some(entry.bytes.as_slice())
+    }
+
+    /// The bytes under the key, if it is held, for one holder more: they stay in memory where the
+    /// store gives them up. Nothing is copied, and nothing moves. It costs a look-up.
+    #[tactic(auto, using(crate::proofs::Looks::lookup_held))]
+    pub fn share(&self, key: &K) -> Result<Option<Shared<A>>, AllocError>
+        ensures value { IfOk result
+            (λ found. found ≡ bytes_under K.eq self.now.entries key.now) }
+        ensures err { OnErr result (IsSome (bytes_under K.eq self.now.entries key.now)) }
+    {
+        match self.cache.peek(key) {
+            Some(entry) => Ok(Some(entry.bytes.share()?)),
+            None => Ok(None),
+        }
     }
 
     /// Whether the key is held. Nothing moves. It costs a look-up.

@@ -5,6 +5,7 @@ ghost use Rattle.eviction.specs.Kept.{total_cost};
 ghost use Rattle.eviction.specs.Victims.{Stands, part_if_pinned};
 ghost use Rattle.eviction.specs.View.{held_all};
 
+use crate::shared::Shared;
 use lru::LruCache;
 use std::alloc::Allocator;
 use std::hash::{Hash, RandomState};
@@ -12,7 +13,7 @@ use std::hash::{Hash, RandomState};
 /// What stands under a key.
 #[derive(Drop)]
 pub(crate) struct Entry<A: Allocator> {
-    pub(crate) bytes: Vec<u8, A>,
+    pub(crate) bytes: Shared<A>,
     pub(crate) pins: u64,
 }
 

@@ -4,10 +4,11 @@ ghost use Rattle.std.specs.Map.{keys_of};
 ghost use Rattle.std.specs.List.{IsDistinct};
 ghost use Rattle.eviction.specs.Kept.{total_cost, others};
 ghost use Rattle.eviction.specs.Victims.{victims, without_keys, placed_first};
-ghost use Rattle.eviction.specs.View.{held, held_all};
+ghost use Rattle.eviction.specs.View.{held_all};
 
 use crate::entry::{Entries, Entry};
 use crate::error::BoundedError;
+use crate::shared::Shared;
 use std::alloc::{AllocError, Allocator};
 use std::hash::Hash;
 use std::num::NonZeroUsize;
@@ -54,19 +55,22 @@ fn make_room<K: Copy + Eq + Hash, A: Allocator + Copy>(cache: &mut Entries<K, A>
     }
 }
 
-/// Puts the entry first, in place of one under an equal key.
+/// Puts the bytes first, pinned so often, in place of those under an equal key.
 pub(crate) fn put_first<K: Copy + Eq + Hash, A: Allocator + Copy>(
     cache: &mut Entries<K, A>,
     key: K,
-    entry: Entry<A>,
+    bytes: Vec<u8, A>,
+    pins: u64,
 ) -> Result<(), BoundedError>
     ensures ok { OnOk result (held_all cache.new.entries
-        ≡ placed_first K.eq key (held entry) (held_all cache.old.entries)) }
+        ≡ placed_first K.eq key (record { bytes = bytes.items; pins = pins })
+        (held_all cache.old.entries)) }
     ensures err { OnErr result (cache.new.entries ≡ cache.old.entries) }
     ensures memory { IfErr result (λ e. e ≡ BoundedError.Memory) }
 {
+    let bytes = Shared::new(*cache.allocator(), bytes)?;
     make_room(cache);
-    cache.put(key, entry)?;
+    cache.put(key, Entry { bytes, pins })?;
     Ok(())
 }
 

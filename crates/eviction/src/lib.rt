@@ -8,7 +8,9 @@ mod error;
 mod evicting;
 mod laws;
 mod pinning;
+mod shared;
 
 pub use bounded::Bounded;
 pub use error::BoundedError;
 pub use laws::{entering_gives_up_the_fewest, entering_keeps_what_is_pinned};
+pub use shared::Shared;

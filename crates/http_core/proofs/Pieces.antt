@@ -1,25 +1,43 @@
 -- A session within a piece.
 use Rattle.std.proofs.Common.{◌≡◌, ◌≢◌, ℕ, ◌≤◌, ◌+◌, Some, None, List, [], ◌∷◌, ◌++◌, length, take, drop, refl, sym, ◌∙◌, ap, subst, append_assoc}
 use Rattle.std.proofs.Math.Seq.{take-add}
-use Rattle.std.proofs.lemmas.List.{map-append, take_all, take-append-drop}
+use Rattle.std.proofs.lemmas.List.{append-nil, map-append, take_all, take-append-drop}
 use Rattle.http_core.specs.declared.event.Event.{Event}
-use Rattle.http_core.specs.Event.{EventValue, event_of, events_of, IsLawful}
-use Rattle.http_core.specs.Session.{SessionState, Reading, Taking, Closed, SessionValue, Stands, Moves}
+use Rattle.http_core.specs.Event.{EventValue, closes, event_of, events_of, IsLawful}
+use Rattle.http_core.specs.Session.{SessionState, Reading, Taking, Closed, SessionValue, Stands, Moves, Feeds, ended}
 use Rattle.std.specs.List.{AllByRecursion}
 use Rattle.http_core.proofs.Fitting.{lawful_with}
-use Rattle.http_core.proofs.Standing.{stands_on, stands_event, stands_closed}
+use Rattle.http_core.proofs.Standing.{stands_on, stands_event, stands_closed, stands_stop}
 
 further : (stream piece rest : List ℕ) (at taken : ℕ) → rest ≡ drop at piece → (stream ++ take at piece) ++ take taken rest ≡ stream ++ take (at + taken) piece
 further stream piece rest at taken e = append_assoc stream (take at piece) (take taken rest) ∙ ap (λ z. stream ++ (take at piece ++ take taken z)) e ∙ ap (λ z. stream ++ z) (sym (take-add at taken piece))
 
-pub piece_event : {A : Type 0} (now new : SessionValue) (stream piece rest : List ℕ) (at taken : ℕ) (before : List EventValue) (events more : List (Event A)) (event : Event A)
-    → new.prefix ≡ now.prefix → now.state ≢ Closed → rest ≡ drop at piece → Moves now (take taken rest) (Some (event_of event)) new → more ≡ events ++ event ∷ []
-    → Stands now (stream ++ take at piece) (before ++ events_of events)
-    → Stands new (stream ++ take (at + taken) piece) (before ++ events_of more)
-piece_event now new stream piece rest at taken before events more event e open_ back moves pushed s =
-    let t : Stands new ((stream ++ take at piece) ++ take taken rest) ((before ++ events_of events) ++ event_of event ∷ []) = stands_event now new (stream ++ take at piece) (take taken rest) (before ++ events_of events) (event_of event) e open_ moves s in
-    let k : (before ++ events_of events) ++ event_of event ∷ [] ≡ before ++ events_of more = append_assoc before (events_of events) (event_of event ∷ []) ∙ ap (λ z. before ++ z) (sym (map-append event_of events (event ∷ []))) ∙ ap (λ z. before ++ events_of z) (sym pushed) in
-    subst (Stands new (stream ++ take (at + taken) piece)) k (subst (λ z. Stands new z ((before ++ events_of events) ++ event_of event ∷ [])) (further stream piece rest at taken back) t)
+-- as far as the first event, and where the session stands then
+pub first_event_at : (now new : SessionValue) (stream piece rest : List ℕ) (at taken : ℕ) (before : List EventValue) (event : EventValue)
+    → new.prefix ≡ now.prefix → now.state ≢ Closed → rest ≡ drop at piece → Moves now (take taken rest) (Some event) new
+    → Stands now (stream ++ take at piece) before
+    → Stands new (stream ++ take (at + taken) piece) (before ++ event ∷ [])
+first_event_at now new stream piece rest at taken before event e open_ back moves s =
+    subst (λ z. Stands new z (before ++ event ∷ [])) (further stream piece rest at taken back) (stands_event now new (stream ++ take at piece) (take taken rest) before event e open_ moves s)
+
+pub first_event_stops : (now new : SessionValue) (stream piece rest : List ℕ) (at taken : ℕ) (before : List EventValue) (event : EventValue)
+    → now.state ≢ Closed → Moves now (take taken rest) (Some event) new
+    → Stands now (stream ++ take at piece) before → new.state ≡ ended (closes event)
+first_event_stops now new stream piece rest at taken before event open_ moves s = stands_stop now new (stream ++ take at piece) (take taken rest) before event open_ moves s
+
+-- with the events of a front of the rest
+pub piece_fed : (now new : SessionValue) (stream piece rest : List ℕ) (at taken : ℕ) (before earlier more : List EventValue)
+    → rest ≡ drop at piece → Feeds now (take taken rest) more new
+    → Stands now (stream ++ take at piece) (before ++ earlier)
+    → Stands new (stream ++ take (at + taken) piece) (before ++ (earlier ++ more))
+piece_fed now new stream piece rest at taken before earlier more back fed s =
+    subst (Stands new (stream ++ take (at + taken) piece)) (append_assoc before earlier more) (subst (λ z. Stands new z ((before ++ earlier) ++ more)) (further stream piece rest at taken back) (fed.stands (stream ++ take at piece) (before ++ earlier) s))
+
+pub events_pushed : {A : Type 0} (events more : List (Event A)) (event : Event A) → more ≡ events ++ event ∷ [] → events_of events ++ event_of event ∷ [] ≡ events_of more
+events_pushed events more event e = sym (map-append event_of events (event ∷ [])) ∙ ap (λ z. events_of z) (sym e)
+
+pub nothing_more : {A : Type 0} (events : List (Event A)) → events_of events ++ [] ≡ events_of events
+nothing_more events = append-nil (events_of events)
 
 pub piece_on : (now new : SessionValue) (stream piece rest : List ℕ) (at taken : ℕ) (before : List EventValue)
     → new.prefix ≡ now.prefix → now.state ≢ Closed → rest ≡ drop at piece → Moves now (take taken rest) None new

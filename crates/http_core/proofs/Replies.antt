@@ -1,10 +1,12 @@
 -- A block has one reply head.
-use Rattle.std.proofs.Common.{◌≡◌, ℕ, List, [], Option, Some, None, map, take, sym, ◌∙◌, ap}
-use Rattle.std.specs.Prelude.{IfNone}
+use Rattle.std.proofs.Common.{◌≡◌, ◌≤◌, length, ℕ, List, [], Option, Some, None, map, take, sym, ◌∙◌, ap}
+use Rattle.std.specs.Prelude.{IfSome, IfNone}
 use Rattle.httparse.specs.Spans.{header_bytes}
 use Rattle.httparse.proofs.GrammarLemmas.{response_unique}
 use Rattle.http_core.specs.declared.reply_head.ReplyHead.{ReplyHead}
 use Rattle.http_core.specs.declared.reply_head.Response.{Response}
+use Rattle.http_core.specs.Block.{IsBlock}
+use Rattle.http_core.specs.Judging.{pairs}
 use Rattle.http_core.specs.ReplyHead.{IsReplyHead, ShowsResponse, reply_of, said_by}
 
 same_parts : (m n a b : ℕ) (x y : List (List ℕ × List ℕ)) → m ≡ n → a ≡ b → x ≡ y → reply_of m a x ≡ reply_of n b y
@@ -16,6 +18,12 @@ pub shown_says : (block : List ℕ) (x : Response) (head : ReplyHead) → ShowsR
 shown_says block x head s h =
     let same : s.response ≡ h.response = (response_unique block s.response h.response [] [] s.reads.0 h.reads.0).0 in
     same_parts _ _ _ _ _ _ s.version s.code s.fields ∙ ap said_by same ∙ h.is
+
+-- what is shown is lawful, where it says something
+pub lawful_head : (o : Option ReplyHead) (block : List ℕ) (x : Response) → IsBlock block → length block ≤ 16384 → pairs block ≤ 66 → ShowsResponse block x
+    → o ≡ reply_of x.spans.version x.spans.code (map (header_bytes block) (take x.spans.headers x.headers)) → IfSome o (λ head. IsReplyHead block head)
+lawful_head None block x b fits few s e = tt
+lawful_head (Some head) block x b fits few s e = record { ends = b; fits = fits; few = few; response = s.response; reads = s.reads; is = sym (same_parts _ _ _ _ _ _ s.version s.code s.fields) ∙ sym e }
 
 pub unlawful : (o : Option ReplyHead) (P : ReplyHead → Type 0) → ((head : ReplyHead) → P head → o ≡ Some head) → IfNone o ((head : ReplyHead) → P head → ⊥)
 unlawful None P f = λ head p. let e : None ≡ Some head = f head p in cc

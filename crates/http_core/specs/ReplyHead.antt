@@ -9,6 +9,7 @@ use Rattle.http_core.specs.declared.reply_head.ReplyHead.{ReplyHead}
 use Rattle.http_core.specs.declared.reply_head.Response.{Response}
 use Rattle.http_core.specs.declared.rules.Length.{Length}
 use Rattle.http_core.specs.declared.rules.Length.TheVariants.{Absent, Bad, Is}
+use Rattle.http_core.specs.Block.{IsBlock}
 use Rattle.http_core.specs.Connection.{closes_of}
 use Rattle.http_core.specs.Judging.{pairs}
 use Rattle.http_core.specs.Rules.{count_of, length_of}
@@ -45,8 +46,10 @@ reply_of minor status fields =
 abbrev pub said_by : ResponseHead → Option ReplyHead
 said_by h = reply_of h.minor (status_code h) (map name_and_value h.fields)
 
--- the block is that of a reply with this head
+-- the block is cut as a head is, and is that of a reply with this head
 pub record IsReplyHead (block : List ℕ) (head : ReplyHead) : Type 0 where
+  pub ends : IsBlock block
+  pub fits : length block ≤ 16384
   pub few : pairs block ≤ 66
   pub response : ResponseHead
   pub reads : IsResponseOf block response

@@ -30,6 +30,12 @@ state_of stages.Block block body = Reading block
 state_of (stages.Body area hash size close) block body = Taking area hash size close body
 state_of stages.Closed block body = Closed
 
+-- how many bytes of a block or of a body came
+abbrev pub held_bytes : SessionState → ℕ
+held_bytes (Reading bytes) = length bytes
+held_bytes (Taking area hash size close body) = length body
+held_bytes Closed = 0
+
 abbrev pub IsClosed : SessionValue → Type 0
 IsClosed s = s.state ≡ Closed
 
@@ -125,6 +131,28 @@ pub record Feeds
   pub closed : IsClosed old → IsClosed new × (events ≡ [])
   pub lawful : AllByRecursion IsLawful events
   pub prefix : new.prefix ≡ old.prefix
+
+-- the one event, if there is one
+abbrev pub if_any : Option EventValue → List EventValue
+if_any None = []
+if_any (Some event) = event ∷ []
+
+-- a session is where a request ends, if there is an event
+abbrev pub IsEndedBy : Option EventValue → SessionState → Type 0
+IsEndedBy None state = ⊤
+IsEndedBy (Some event) state = state ≡ ended (closes event)
+
+-- The session took a front of the piece: to the end of the first event which the cut of its stream
+-- has with it and didn't have before, or the whole piece where there is none.
+pub record FeedsFirst
+    (old : SessionValue) (piece : List ℕ) (taken : ℕ)
+    (event : Option EventValue) (new : SessionValue) : Type 0 where
+  pub within : taken ≤ length piece
+  pub some : 0 < length piece → 0 < taken
+  pub all : event ≡ None → taken ≡ length piece
+  pub feeds : Feeds old (take taken piece) (if_any event) new
+  pub stops : (stream : List ℕ) (before : List EventValue)
+      → Stands old stream before → IsEndedBy event new.state
 
 -- the session took the pieces one after another, and answered these events together
 abbrev pub FeedsAll : SessionValue → List (List ℕ) → List EventValue → SessionValue → Type 0

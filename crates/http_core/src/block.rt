@@ -1,5 +1,8 @@
 ghost use Rattle.std.specs.Prelude.{◌≡◌, ◌≤◌, ◌<◌, ◌⊎◌, ◌↔◌, length, take, IsTrue};
-ghost use Rattle.http_core.specs.Block.{EndsBlock, IsHeadLine};
+ghost use Rattle.http_core.specs.Block.{EndsBlock, IsBlock, IsHeadLine};
+
+/// The greatest length of a block.
+pub(crate) const MAX_BLOCK: usize = 16384;
 
 /// The bytes up to and including the first line feed: at most `most` of them, but at least one.
 pub(crate) fn first_line(bytes: &[u8], most: usize) -> &[u8]
@@ -15,6 +18,22 @@ pub(crate) fn first_line(bytes: &[u8], most: usize) -> &[u8]
     }
     let (line, _) = bytes.split_at(last + 1);
     line
+}
+
+/// Whether the bytes are the block of a head: they end where the first of their beginnings does
+/// that ends in an empty line.
+pub(crate) fn is_block(bytes: &[u8]) -> bool
+    ensures { IsTrue result ↔ IsBlock bytes.now }
+{
+    let mut end = 0;
+    while end < bytes.len() {
+        let (front, _) = bytes.split_at(end);
+        if ends_block(front) {
+            return false;
+        }
+        end += 1;
+    }
+    ends_block(bytes)
 }
 
 /// Whether the bytes end in a line and then an empty line.

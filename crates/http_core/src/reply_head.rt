@@ -4,6 +4,7 @@ ghost use Rattle.httparse.specs.Spans.{IsResponseWithin, header_bytes};
 ghost use Rattle.http_core.specs.ReplyHead.{IsReplyHead, IsResponseOf, ShowsResponse, most_body};
 ghost use Rattle.http_core.specs.ReplyHead.{reply_length, reply_of};
 
+use crate::block::{MAX_BLOCK, is_block};
 use crate::connection::closes;
 use crate::judging::{MAX_PAIRS, count_pairs};
 use crate::rules::{Length, body_length, count_named};
@@ -27,13 +28,17 @@ pub(crate) struct Response {
     pub headers: [HeaderSpan; 64],
 }
 
-/// Reads the head of a reply from its block, if it is lawful: of version 1.1, without
+/// Reads the head of a reply from its block, if it is lawful: of at most 16,384 bytes up to its first
+/// empty line, of version 1.1, without
 /// `Transfer-Encoding`, with one `Content-Length` of at most 16,777,216; with status 204 it may be
 /// absent and is else 0.
 pub fn read_reply_head(block: &[u8]) -> Option<ReplyHead>
     ensures some { IfSome result (λ head. IsReplyHead block.now head) }
     ensures none { IfNone result ((head : ReplyHead) → IsReplyHead block.now head → ⊥) }
 {
+    if block.len() > MAX_BLOCK || !is_block(block) {
+        return None;
+    }
     if count_pairs(block) > MAX_PAIRS {
         return None;
     }

@@ -3,9 +3,9 @@ ghost use Rattle.std.specs.Prelude.{IsTrue, IfOk, OnErr, OnOk, Option};
 ghost use Rattle.http_core.specs.Event.{EventValue, events_of, option_event};
 ghost use Rattle.http_core.specs.Session.{SessionValue, Stands, Feeds, IsOpen, IsClosed, Holds};
 ghost use Rattle.http_core.specs.Session.{Takes, IsAllowed, IsReading, IsTaking, first_event};
-ghost use Rattle.http_core.specs.Session.{first_state, ended};
+ghost use Rattle.http_core.specs.Session.{first_state, ended, held_bytes, FeedsFirst};
 
-use crate::block::{ends_block, first_line};
+use crate::block::{MAX_BLOCK, ends_block, first_line};
 use crate::event::{Area, Ask, Event};
 use crate::judging::{Judgement, judge};
 use crate::prefix::Prefix;
@@ -13,9 +13,6 @@ use blob_digest::Body;
 use std::alloc::{AllocError, Allocator};
 use std::marker::Model;
 use std::mem;
-
-/// The greatest length of a block.
-const MAX_BLOCK: usize = 16384;
 
 /// What comes next: a byte of a block, or of the body that a PUT has, of which the area, the hash,
 /// the length and whether it closes are known.
@@ -91,6 +88,33 @@ impl<A: Allocator + Copy> Session<A> {
         }
     }
 
+    /// Takes the next piece of the stream as far as its first event, and answers how many bytes
+    /// that is, and the event. Where the piece completes none, all of it is taken. After an `Err`
+    /// the session is closed.
+    pub fn next(&mut self, alloc: A, piece: &[u8]) -> Result<(usize, Option<Event<A>>), AllocError>
+        ensures ok { IfOk result
+            (λ x. FeedsFirst self.old piece.now x.0 (option_event x.1) self.new) }
+        ensures err { OnErr result (IsClosed self.new) }
+        ensures prefix { self.new.prefix ≡ self.old.prefix }
+    {
+        let first = self.take_first(alloc, piece);
+        if first.is_err() {
+            self.close(alloc);
+        }
+        first
+    }
+
+    /// How many bytes it keeps of a request that isn't whole, but for the head before a body.
+    pub fn held_bytes(&self) -> usize
+        ensures { result ≡ held_bytes self.now.state }
+    {
+        match self.stage {
+            Stage::Block => self.block.len(),
+            Stage::Body(..) => self.body.len(),
+            Stage::Closed => 0,
+        }
+    }
+
     /// Closes the session. The bytes of a body that isn't whole are given up.
     pub fn close(&mut self, alloc: A)
         ensures state { IsClosed self.new }
@@ -109,15 +133,38 @@ impl<A: Allocator + Copy> Session<A> {
     {
         let mut events = Vec::new(alloc);
         let mut at = 0;
-        while at < piece.len() && self.is_open() {
+        while at < piece.len() {
             let (_, rest) = piece.split_at(at);
-            let (taken, event) = self.advance(alloc, rest)?;
+            let (taken, event) = self.take_first(alloc, rest)?;
             at += taken;
             if let Some(event) = event {
                 events.push(event)?;
             }
         }
         Ok(events)
+    }
+
+    /// Takes the piece to the end of its first event. After an `Err` the session is in the middle
+    /// of it.
+    fn take_first(
+        &mut self,
+        alloc: A,
+        piece: &[u8],
+    ) -> Result<(usize, Option<Event<A>>), AllocError>
+        ensures ok { IfOk result
+            (λ x. FeedsFirst self.old piece.now x.0 (option_event x.1) self.new) }
+        ensures prefix { self.new.prefix ≡ self.old.prefix }
+    {
+        let mut at = 0;
+        while at < piece.len() && self.is_open() {
+            let (_, rest) = piece.split_at(at);
+            let (taken, event) = self.advance(alloc, rest)?;
+            at += taken;
+            if let Some(event) = event {
+                return Ok((at, Some(event)));
+            }
+        }
+        Ok((piece.len(), None))
     }
 
     /// Takes a front of the piece, at most to the end of a request.

@@ -2,7 +2,7 @@
 use blob_digest::Digest;
 use blob_source::{BlobSource, FetchError};
 use refusing::Refusing;
-use remote::{FileError, FolderSource};
+use remote::{FileError, FolderSource, SystemFiles};
 use std::alloc::Allocator;
 use std::rt::Files;
 use std::{fs, io};
@@ -18,7 +18,7 @@ const NO_FILE: &str = "kept/ac/ca978112ca1bbdcafac231b39a23dc4da786eff8147c4e72b
 /// The lengths of a blob, and of its result.
 fn lengths<R: Files + Alloc<A = A>, A: Allocator + Copy>(
     rt: &R,
-    source: &mut FolderSource<'_, R, A>,
+    source: &mut FolderSource<'_, SystemFiles<'_, R>, A>,
 ) -> Result<(Option<usize>, Option<usize>), FetchError> {
     let nine = Digest::of(b"123456789");
     let blob = source.fetch(rt.alloc(), &nine)?.map(|bytes| bytes.len());
@@ -31,7 +31,8 @@ fn lengths_there<R: Files + Alloc<A = A>, A: Allocator + Copy>(
     rt: &R,
 ) -> Result<(Option<usize>, Option<usize>), FetchError> {
     let place = String::from_str(rt.alloc(), "kept")?;
-    let mut source = FolderSource::new(rt, place);
+    let files = SystemFiles(rt);
+    let mut source = FolderSource::new(rt.alloc(), &files, place);
     lengths(rt, &mut source)
 }
 
@@ -45,7 +46,8 @@ pub fn read_folder(rt: &HostRuntime) -> io::Result<()> {
         "each request for memory refused: {}",
         refusals_are_told(rt)
     )?;
-    let mut source = FolderSource::new(rt, String::from_str(heap, "kept")?);
+    let files = SystemFiles(rt);
+    let mut source = FolderSource::new(heap, &files, String::from_str(heap, "kept")?);
     println!(rt; "a blob: {:?}", lengths(rt, &mut source))?;
     fs::remove_file(rt, BLOB)?;
     fs::write(rt, RESULT, b"result")?;

@@ -1,6 +1,7 @@
 //! A server: what its connections are answered, and what its cache holds.
 use crate::rows::Row;
 use crate::text::show;
+use crate::turns::first_length;
 use blob_digest::{Body, Digest};
 use cache_server::*;
 use http_core::{Area, Ask, Prefix};
@@ -59,10 +60,13 @@ pub fn serve<A: Allocator + Copy>(
     show(row.heap, &answers, text)?;
     let held = held?;
     writeln!(text, "held {held}")?;
-    if answered(alloc, row)? == answers {
-        return Ok(());
+    if answered(alloc, row)? != answers {
+        text.push_str("otherwise in pieces\n")?;
     }
-    text.push_str("otherwise in pieces\n")
+    if answered_singly(alloc, row)? != answers {
+        text.push_str("otherwise one request at a time\n")?;
+    }
+    Ok(())
 }
 
 /// Adds what a run over the stream answers, and gives how many bytes of blobs are held then.
@@ -88,6 +92,85 @@ fn answered<A: Allocator + Copy>(alloc: A, row: &Row<'_>) -> Result<Vec<u8>, All
         answers.extend_from_slice(&server.event(alloc, 1, piece)?)?;
     }
     Ok(answers)
+}
+
+/// What a server answers to the stream in its pieces, one request at a time.
+fn answered_singly<A: Allocator + Copy>(alloc: A, row: &Row<'_>) -> Result<Vec<u8>, AllocError> {
+    let mut server = server_of(alloc, row)?;
+    let mut answers = Vec::new(row.heap);
+    for piece in row.pieces()? {
+        push_each(alloc, &mut server, 1, piece, &mut answers)?;
+    }
+    Ok(answers)
+}
+
+/// Adds the answers to the next piece on a connection, of which each call takes one request.
+fn push_each<A: Allocator + Copy>(
+    alloc: A,
+    server: &mut Server<A>,
+    connection: u64,
+    piece: &[u8],
+    answers: &mut Vec<u8>,
+) -> Result<(), AllocError> {
+    let mut counts = Counts::none();
+    let mut rest = piece;
+    for _ in 0..piece.len() {
+        if rest.is_empty() {
+            return Ok(());
+        }
+        let (taken, answer) = server.next(alloc, connection, rest, &mut counts)?;
+        let (_, more) = rest.split_at(taken.min(rest.len()));
+        rest = more;
+        if let Some(answer) = answer {
+            answers.extend_from_slice(answer.head())?;
+            answers.extend_from_slice(answer.body())?;
+        }
+    }
+    Ok(())
+}
+
+/// `refuse_within ..`: what a second connection is answered to the last request of the second
+/// stream, where the first wanted memory within a body that this request ends. The first may get no
+/// answer to it. How often it wanted memory there.
+pub fn refuse_within(row: &Row<'_>, text: &mut String) -> Result<u64, AllocError> {
+    let mut refused = 0u64;
+    for number in 1..1000u64 {
+        let alloc = Refusing::new(row.heap, number);
+        let mut first = Vec::new(row.heap);
+        let mut second = Vec::new(row.heap);
+        let end = answer_within(&alloc, row, &mut first, &mut second);
+        if !alloc.has_refused() {
+            break;
+        }
+        if end == Ok(true) {
+            if !first.is_empty() {
+                writeln!(text, "answered where request {number} is refused")?;
+            }
+            if refused == 0 {
+                show(row.heap, &second, text)?;
+            }
+            refused = refused.saturating_add(1);
+        }
+    }
+    Ok(refused)
+}
+
+/// Hands the first stream and the front of the second to one connection, and then the rest of it to
+/// that and to another. Whether memory was wanting in that front.
+fn answer_within<A: Allocator + Copy>(
+    alloc: A,
+    row: &Row<'_>,
+    first: &mut Vec<u8>,
+    second: &mut Vec<u8>,
+) -> Result<bool, AllocError> {
+    let mut server = server_of(alloc, row)?;
+    push_answers(alloc, &mut server, 1, row.stream, first)?;
+    let (front, request) = row.next.split_at(first_length(row.next));
+    let is_refused = push_each(alloc, &mut server, 1, front, first).is_err();
+    push_each(alloc, &mut server, 1, request, first)?;
+    push_answers(alloc, &mut server, 1, request, first)?;
+    push_each(alloc, &mut server, 2, request, second)?;
+    Ok(is_refused)
 }
 
 /// `serve_two ..`: what two connections are answered to whom the pieces of the stream come in turn,

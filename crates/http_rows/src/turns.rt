@@ -72,7 +72,7 @@ fn pieces_of<'a>(row: &Row<'a>) -> Result<Vec<&'a [u8]>, AllocError> {
 }
 
 /// The length of the first request, up to where another begins.
-fn first_length(stream: &[u8]) -> usize
+pub fn first_length(stream: &[u8]) -> usize
     ensures { result ≤ length stream.now }
 {
     for at in 1..stream.len() {

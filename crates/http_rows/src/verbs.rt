@@ -3,7 +3,7 @@
 use crate::clients::{ask, fail_each, sent};
 use crate::faults::fail_reads_and_writes;
 use crate::rows::Row;
-use crate::servers::{count, look_up, refuse_first, serve, serve_two};
+use crate::servers::{count, look_up, refuse_first, refuse_within, serve, serve_two};
 use crate::sessions::session;
 use crate::texts::{answer, head, host, prefix, request};
 use crate::turns::turns;
@@ -17,6 +17,7 @@ pub fn run_row(verb: &str, row: &Row<'_>, text: &mut String) -> Result<u64, Allo
         "beginnings" => tell_beginnings(row, text)?,
         "fail_reads_and_writes" => fail_reads_and_writes(row, text)?,
         "refuse_first" => return refuse_first(row, text),
+        "refuse_within" => return refuse_within(row, text),
         "fail_each" => return fail_each(row, text),
         _ => return tell_in_each_way(verb, row, text),
     }

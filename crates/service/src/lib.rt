@@ -4,8 +4,13 @@
 
 mod closing;
 mod error;
+mod load;
+mod member;
 mod metered;
+mod part;
 mod serving;
+mod together;
 
 pub use error::NotAccepted;
 pub use serving::serve;
+pub use together::serve_together;

@@ -21,11 +21,11 @@ const TRIES: u32 = 100;
 
 /// What came of a connection.
 #[derive(Drop)]
-struct Ended {
-    end: Result<(), ConnError>,
-    counts: Counts,
-    read: u64,
-    written: u64,
+pub(crate) struct Ended {
+    pub(crate) end: Result<(), ConnError>,
+    pub(crate) counts: Counts,
+    pub(crate) read: u64,
+    pub(crate) written: u64,
 }
 
 /// Serves so many connections of the listener, one after another. One that is silent for `idle`, or
@@ -74,7 +74,7 @@ fn accept<R: Log>(
 }
 
 /// Tells of a connection that has ended in the log.
-fn tell<R: Log>(rt: &R, number: u64, peer: &SocketAddr, ended: &Ended) {
+pub(crate) fn tell<R: Log>(rt: &R, number: u64, peer: &SocketAddr, ended: &Ended) {
     let Counts {
         requests,
         hits,

@@ -1,7 +1,7 @@
 use Rattle.std.proofs.Common.{subst, sym}
 use Rattle.action_cache.specs.Machine.{opened}
 use Rattle.action_cache.specs.Asking.{after, StaysPinned}
-use Rattle.action_cache.proofs.Asked.{sound_opened, sound_after, after-append, stays_after, whole_answer}
+use Rattle.action_cache.proofs.Asked.{sound_opened, sound_after, after-append, stays_after, whole_answer, hash_answered}
 use Rattle.action_cache.proofs.laws.caches_keep_what_is_pinned.Goals as goal
 
 pub returns-clause-pinned : goal.returns-clause-pinned
@@ -17,3 +17,7 @@ returns-clause-whole c = λ reader limit result_limit asks h bytes e. whole_answ
 pub returns-clause-within : goal.returns-clause-within
 returns-clause-within c = λ reader limit result_limit asks.
     (sound_after reader asks (opened limit result_limit) (sound_opened reader limit result_limit)).within
+
+pub returns-clause-hash : goal.returns-clause-hash
+returns-clause-hash c = λ reader limit result_limit asks h bytes e. hash_answered reader (after reader (opened limit result_limit) asks)
+    (sound_after reader asks (opened limit result_limit) (sound_opened reader limit result_limit)) h bytes e

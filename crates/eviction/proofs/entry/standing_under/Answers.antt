@@ -7,7 +7,7 @@ overflow_add-result g c = let within = cost_within (g.K.PartialEq.eq c.args.key.
 
 pub returns-in-Some-clause-stands : goal.returns-in-Some-clause-stands
 returns-in-Some-clause-stands g c =
-    let len : c.len.result ≡ length c.in-Some.entry.now.bytes.items = omega arith in
+    let len : c.len.result ≡ length c.in-Some.entry.now.bytes = omega arith in
     rw len (stands g.K.PartialEq.eq g.met.K.Eq.laws c.args.key.now c.args.overhead c.args.cache.now.entries (Some c.in-Some.entry.now) c.len-count.ensures.valid.0 c.in-Some.ensures)
 
 pub returns-in-None-clause-stands : goal.returns-in-None-clause-stands

@@ -22,10 +22,10 @@ returns-in-Some-clause-costs g c =
     let v = c.in-Some.entry.now in
     let w : Entry g.row.A.Denot = record { bytes = v.bytes; pins = v.pins + 1 } in
     let sum = pinned_set g.K.PartialEq.eq c.args.key.now c.args.overhead c.args.cache.now.entries v w (sym c.in-Some.ensures.value) refl in
-    let len : c.len.result ≡ length v.bytes.items = omega arith in
+    let len : c.len.result ≡ length v.bytes = omega arith in
     let before = c.part_of_pinned-before.ensures ∙ ap (λ n. part_if_pinned v.pins (n + c.args.overhead)) len in
     let after = c.part_of_pinned.ensures ∙ ap (λ n. part_if_pinned (v.pins + 1) (n + c.args.overhead)) len in
-    let order = part_more v.pins (length v.bytes.items + c.args.overhead) in
+    let order = part_more v.pins (length v.bytes + c.args.overhead) in
     omega arith
 
 pub returns-in-None-clause-entries : goal.returns-in-None-clause-entries

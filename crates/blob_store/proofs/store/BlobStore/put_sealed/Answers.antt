@@ -14,7 +14,7 @@ pub invariant_of-self-2 : goal.invariant_of-self-2
 invariant_of-self-2 g c =
     let s = c.self.inside.blobs in
     let b = c.args.sealed in
-    let some : 0 < length b = let e = c.is_empty.ensures in let f = c.if-is_empty.false in let t = ap length c.as_slice-2.ensures in grind (arith, nat_tests) in
+    let off = ap (λ n. bytes_eq n c.args.hash) (sym c.self.invariant.2) ∙ sym c.eq.ensures ∙ c.if-eq.false in
     let hash : c.args.hash ≡ sha256 b = sym ((bytes_eq-Decides (sha256 b) c.args.hash).0 (sym c.has_hash.ensures ∙ c.if-not-has_hash.false)) in
     let put = ap (λ l. entered bytes_eq s c.args.hash l) (sym c.into_bytes.ensures) ∙ c.in_ok-put.ensures.ok in
-    (entered_blobs s c.put.new.self c.args.hash b put hash some c.self.invariant.0, (entered_is bytes_eq s c.put.new.self c.args.hash b put).overhead ∙ c.self.invariant.1, c.self.invariant.2)
+    (entered_blobs s c.put.new.self c.args.hash b put hash off c.self.invariant.0, (entered_is bytes_eq s c.put.new.self c.args.hash b put).overhead ∙ c.self.invariant.1, c.self.invariant.2)

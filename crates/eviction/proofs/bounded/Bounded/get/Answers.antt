@@ -29,4 +29,4 @@ returns g c =
     let p = ap (λ s. s.entries) c.promote-found.ensures.entries in
     let moved = ap held_all p ∙ promoted_held eq g.met.K.Eq.laws c.args.key.now es distinct in
     let v = found_before eq g.met.K.Eq.laws c.args.key.now es c.promote-found.new.self.entries (Some c.in_ok-first.first.now) distinct p (rw c.in_ok-first.was at c.peek.ensures) in
-    rw (← c.self.view_is) ((refl, λ _. tt, ap (λ fs. record { entries = fs; limit = c.self.inside.limit; overhead = c.self.inside.overhead }) moved), record { moves = tt; value = ap Some c.as_slice.ensures.value ∙ v })
+    rw (← c.self.view_is) ((refl, λ _. tt, ap (λ fs. record { entries = fs; limit = c.self.inside.limit; overhead = c.self.inside.overhead }) moved), record { moves = tt; value = ap Some c.as_slice.ensures ∙ v })

@@ -1,0 +1,55 @@
+use Rattle.std.proofs.Common.{◌≡◌, ◌≢◌, ℕ, ◌<◌, ◌≤◌, subst, true, Some, None, rules, arith, refl, ◌∙◌, ◌++◌, ◌∷◌, List, [], take, length, sym, ap}
+use Rattle.std.proofs.lemmas.List.{append-nil, take_all}
+use Rattle.http_core.specs.Event.{EventValue, event_of, option_event, IsLawfulIfAny}
+use Rattle.http_core.specs.Session.{SessionValue, Stands, Moves, Closed}
+use Rattle.http_core.proofs.Pieces.{first_event_at, first_event_stops, piece_on, piece_closed, piece_done, not_open}
+use Rattle.http_core.proofs.session.Session.take_first.Goals as goal
+use Rattle.http_core.proofs.session.Session.take_first.Goals.{then-loop-at-test+else-is_open, else-loop-at-test}
+
+-- all of a piece, without an event
+whole : (s : SessionValue) (stream piece : List ℕ) (before : List EventValue) → Stands s (stream ++ piece) before → Stands s (stream ++ take (length piece) piece) (before ++ [])
+whole s stream piece before h =
+    subst (λ z. Stands s (stream ++ take (length piece) piece) z) (sym (append-nil before)) (subst (λ z. Stands s (stream ++ z) before) (sym (take_all (length piece) piece (omega arith))) h)
+
+pub returns-in-Some-clause-ok : goal.returns-in-Some-clause-ok
+returns-in-Some-clause-ok g c =
+    let open_ : c.loop-at.self.state ≢ Closed = c.is_open.ensures.0 (search (rules, c.if-is_open.true)) in
+    let moves : Moves c.loop-at.self (take c.in_ok-taken.taken c.split_at.result.1.now) (Some (event_of c.in-Some.event)) c.advance.new.self = subst (λ z. Moves c.loop-at.self (take c.in_ok-taken.taken c.split_at.result.1.now) (option_event z) c.advance.new.self) c.in-Some.is c.in_ok-taken.ensures.takes.moves in
+    record {
+      within = omega (arith, c.in_ok-taken.ensures.takes.within, c.split_at.ensures.back_len);
+      some = λ n. omega (arith, c.in_ok-taken.ensures.takes.some);
+      all = λ e. cc;
+      feeds = record {
+        stands = λ stream before h. first_event_at c.loop-at.self c.advance.new.self stream c.args.piece.now c.split_at.result.1.now c.loop-at.at c.in_ok-taken.taken before (event_of c.in-Some.event) c.in_ok-taken.ensures.prefix open_ c.split_at.ensures.back moves (c.loop-at.invariant.stands stream before h);
+        closed = λ shut. absurd (open_ (c.loop-at.invariant.closed shut));
+        lawful = (subst (λ z. IsLawfulIfAny (option_event z)) c.in-Some.is c.in_ok-taken.ensures.takes.lawful, tt);
+        prefix = c.in_ok-taken.ensures.prefix ∙ c.loop-at.invariant.prefix;
+      };
+      stops = λ stream before h. first_event_stops c.loop-at.self c.advance.new.self stream c.args.piece.now c.split_at.result.1.now c.loop-at.at c.in_ok-taken.taken before (event_of c.in-Some.event) open_ moves (c.loop-at.invariant.stands stream before h);
+    }
+
+pub loop-at-preserved : goal.loop-at-preserved
+loop-at-preserved g c = record {
+  within = omega (arith, c.in_ok-taken.ensures.takes.within, c.split_at.ensures.back_len);
+  prefix = c.in_ok-taken.ensures.prefix ∙ c.loop-at.invariant.prefix;
+  closed = λ shut. absurd (c.is_open.ensures.0 (search (rules, c.if-is_open.true)) (c.loop-at.invariant.closed shut));
+  stands = λ stream before h. let open_ : c.loop-at.self.state ≢ Closed = c.is_open.ensures.0 (search (rules, c.if-is_open.true)) in let moves : Moves c.loop-at.self (take c.in_ok-taken.taken c.split_at.result.1.now) None c.advance.new.self = subst (λ z. Moves c.loop-at.self (take c.in_ok-taken.taken c.split_at.result.1.now) (option_event z) c.advance.new.self) c.in_default.is c.in_ok-taken.ensures.takes.moves in
+      piece_on c.loop-at.self c.advance.new.self stream c.args.piece.now c.split_at.result.1.now c.loop-at.at c.in_ok-taken.taken before c.in_ok-taken.ensures.prefix open_ c.split_at.ensures.back moves (c.loop-at.invariant.stands stream before h);
+}
+
+pub returns-clause-ok : goal.returns-clause-ok
+returns-clause-ok g c = record {
+  within = omega arith;
+  some = λ n. n;
+  all = λ e. refl;
+  feeds = record {
+    stands = λ stream before h. whole c.loop-at.self stream c.args.piece.now before (elim c.loop-at-test.branch [
+      | then-loop-at-test+else-is_open w ↦ let shut : c.loop-at.self.state ≡ Closed = not_open c.loop-at.self.state (λ o. let t : w.is_open.result ≡ true = search (rules, w.is_open.ensures.1 o) in let f = w.if-is_open.false in cc) in piece_closed c.loop-at.self stream c.args.piece.now c.loop-at.at before shut (c.loop-at.invariant.stands stream before h)
+      | else-loop-at-test w ↦ piece_done c.loop-at.self stream c.args.piece.now c.loop-at.at before (omega (arith, w.loop-at-test.false)) (c.loop-at.invariant.stands stream before h)
+    ]);
+    closed = λ shut. (c.loop-at.invariant.closed shut, refl);
+    lawful = tt;
+    prefix = c.loop-at.invariant.prefix;
+  };
+  stops = λ stream before h. tt;
+}

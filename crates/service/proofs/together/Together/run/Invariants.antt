@@ -1,0 +1,5 @@
+use Rattle.cache_server.specs.Server.{GoesOn}
+use Rattle.service.proofs.together.Together.run.Given as goal
+
+abbrev pub invariant-loop-place : goal.invariant-loop-place
+invariant-loop-place g l = GoesOn l.fn.server l.server

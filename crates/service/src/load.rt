@@ -1,0 +1,47 @@
+/// The most bytes that may be held of answers that nothing else holds, and of requests that aren't
+/// whole: over all connections, and of each kind.
+pub(crate) const GREATEST: u64 = 268_435_456;
+
+/// How many bytes of answers aren't sent, and how many of requests are kept that aren't whole.
+#[derive(Clone, Copy, Debug, PartialEq, Eq)]
+pub(crate) struct Load {
+    pub(crate) answers: u64,
+    pub(crate) requests: u64,
+}
+
+impl Load {
+    pub(crate) fn none() -> Load {
+        Load {
+            answers: 0,
+            requests: 0,
+        }
+    }
+
+    pub(crate) fn with(&self, other: &Load) -> Load {
+        Load {
+            answers: self.answers.saturating_add(other.answers),
+            requests: self.requests.saturating_add(other.requests),
+        }
+    }
+
+    pub(crate) fn without(&self, other: &Load) -> Load {
+        Load {
+            answers: self.answers.saturating_sub(other.answers),
+            requests: self.requests.saturating_sub(other.requests),
+        }
+    }
+
+    /// Whether less is held of one kind or the other.
+    pub(crate) fn is_less_than(&self, other: &Load) -> bool {
+        self.answers < other.answers || self.requests < other.requests
+    }
+}
+
+/// What a connection may do in a turn.
+#[derive(Clone, Copy)]
+pub(crate) struct Leave {
+    /// Another request may be answered.
+    pub(crate) answers: bool,
+    /// So many bytes of a request may be kept before more are read.
+    pub(crate) kept: u64,
+}
