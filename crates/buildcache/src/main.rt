@@ -2,6 +2,7 @@
 #![tactic(auto)]
 
 use cli::run_words;
+use commands::System;
 use std::alloc::AllocError;
 use std::env;
 use std::io::{ErrorKind, IsTerminal};
@@ -20,6 +21,7 @@ fn main(rt: HostRuntime) -> ExitCode {
     match words(&rt) {
         Ok(Some(words)) => ExitCode::from(run_words(
             &rt,
+            &System(&rt),
             words.as_slice(),
             &mut rt.stdout(),
             &mut rt.stderr(),

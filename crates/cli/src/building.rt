@@ -1,13 +1,15 @@
-ghost use Rattle.std.specs.Prelude.{◌≡◌, ◌<◌, ℕ, List, IfErr, IfOk, IsTrue, OnOk, codes};
+ghost use Rattle.std.specs.Prelude.{◌≡◌, ◌<◌, IfErr, IfOk, IsTrue, OnOk, codes};
 ghost use Rattle.std.specs.Prelude.{string_bytes};
 ghost use Rattle.std.specs.Io.KnownBytes.{Appends};
 ghost use Rattle.clap.specs.Words.{found_of, rows_of};
-ghost use Rattle.cli.specs.Built.{IsJobs, IsToldOf, PrintsBuild};
+ghost use Rattle.cli.specs.Built.{IsJobs, IsNoted, IsToldOf, PrintsBuild, is_whole, line_of};
 ghost use Rattle.cli.specs.Faults.{IsFolderFault};
+ghost use Rattle.commands.specs.Places.{IsFresh, IsToldOver};
 ghost use Rattle.commands.specs.Refusal.{IsCommandFault};
 ghost use Rattle.commands.specs.Status.{status_of};
 ghost use Rattle.command_lines.specs.CommandLine.{option_text};
-ghost use Rattle.text_verifier.specs.Texts.{HasPlan, IsDigestText};
+ghost use Rattle.remote.specs.Remote.{connection_of, telling_of};
+ghost use Rattle.text_verifier.specs.Texts.{IsDigestText};
 
 use crate::build_progress::BuildProgress;
 use blob_digest::Digest;
@@ -15,16 +17,16 @@ use builder::{Fault, Told, place_text, tell_build};
 use clap::ArgMatches;
 use command_lines::text_of;
 use commands::{
-    Client, CommandError, ServerOptions, file_error, number_in, open, plan_in_file, read_digest,
-    read_server, unlike,
+    Client, CommandError, Origin, ServerOptions, World, file_error, number_in, open, plan_in_file,
+    read_digest, read_server, unlike,
 };
 use plan::Plan;
 use processes::{Disk, ProcessRunner};
-use remote::Stream;
+use remote::{Remote, Stream};
 use std::alloc::Global;
 use std::fs;
 use std::io::Write;
-use std::net::{Net, TcpStream};
+use std::marker::Brand;
 use std::rt::{Files, Processes};
 use tree::FetchError;
 
@@ -33,8 +35,8 @@ const GREATEST_JOBS: u64 = 64;
 
 /// What the words of `build` ask for.
 #[derive(Drop)]
-struct Asked<'a> {
-    server: ServerOptions<'a>,
+struct Asked {
+    server: ServerOptions,
     jobs: usize,
     sources: Digest,
 }
@@ -52,9 +54,15 @@ fn read_jobs(alloc: Global, matches: &ArgMatches<'_>) -> Result<usize, CommandEr
     }
 }
 
-fn read_asked<'a>(alloc: Global, matches: &ArgMatches<'a>) -> Result<Asked<'a>, CommandError>
+fn read_asked(alloc: Global, matches: &ArgMatches<'_>) -> Result<Asked, CommandError>
     ensures some { IfOk result (λ asked. 0 < asked.jobs) }
     ensures jobs { IfOk result (λ asked. IsJobs (rows_of (found_of matches.now)) asked.jobs) }
+    ensures address { IfOk result (λ asked. string_bytes asked.server.address
+        ≡ option_text (rows_of (found_of matches.now)) (codes "server")) }
+    ensures host { IfOk result (λ asked. asked.server.host
+        ≡ option_text (rows_of (found_of matches.now)) (codes "server")) }
+    ensures prefix { IfOk result (λ asked. asked.server.prefix
+        ≡ option_text (rows_of (found_of matches.now)) (codes "prefix")) }
     ensures sources { IfOk result (λ asked.
         IsDigestText (option_text (rows_of (found_of matches.now)) (codes "sources"))
         asked.sources) }
@@ -69,30 +77,42 @@ fn read_asked<'a>(alloc: Global, matches: &ArgMatches<'a>) -> Result<Asked<'a>, 
     })
 }
 
-/// What a build tells, whose processes run in the folder that the words name.
-fn build_in_folder<R, S: Stream + Drop, T: Write + Drop>(
+/// What a build tells over the marked connection, whose processes run in a folder.
+fn build_in_folder<R, S: Stream + Drop, K: Origin, T: Write + Drop>(
     rt: &R,
-    work: &str,
-    asked: &Asked<'_>,
+    work: String,
+    asked: &Asked,
     plan: &Plan<Global>,
-    client: &mut Client<'_, S>,
+    remote: Remote<S, Global>,
     progress: &mut BuildProgress<'_, T>,
 ) -> Result<Told<Global>, CommandError>
 where
     R: AllocGlobal + Files + Processes + Clone + Drop,
-    requires { 0 < asked.now.jobs }
-    ensures told { IfOk result (IsToldOf asked.now.jobs plan.now asked.now.sources) }
+    requires some { 0 < asked.now.jobs }
+    requires start { K.start ≡ connection_of S.flow remote }
+    requires fresh { IsFresh (telling_of remote) }
+    ensures told { IfOk result
+        (IsToldOf (IsToldOver K.start) asked.now.jobs plan.now asked.now.sources) }
     ensures fault { IfErr result (λ e. status_of e ≡ 3) }
 {
     let alloc = rt.alloc();
-    let mut runner = ProcessRunner::new(Disk(rt), String::from_str(alloc, work)?);
+    let mut client: Client<S, K> = Client::new(remote);
+    let mut runner = ProcessRunner::new(Disk(rt), work);
     let (sources, jobs) = (&asked.sources, asked.jobs);
-    match tell_build(alloc, sources, plan, client, &mut runner, progress, jobs) {
+    match tell_build(
+        alloc,
+        sources,
+        plan,
+        &mut client,
+        &mut runner,
+        progress,
+        jobs,
+    ) {
         Ok(told) => Ok(told),
         Err(Fault::Device(place)) => Err(CommandError::Process {
             place: place_text(alloc, plan, place)?,
         }),
-        Err(Fault::Fetch(_)) => Err(client.error(alloc, FetchError::Failed)?),
+        Err(Fault::Fetch(_)) => Err(client.error(alloc, &asked.server, FetchError::Failed)?),
         Err(_e) => Err(CommandError::Memory),
     }
 }
@@ -115,64 +135,82 @@ fn check_work<R: Files + AllocGlobal>(rt: &R, path: &str) -> Result<(), CommandE
     })
 }
 
-/// Writes the record's file: a new one beside it, which then takes its place.
-fn write_record<R: AllocGlobal + Files>(rt: &R, path: &str, text: &[u8]) -> Result<(), CommandError>
+/// Writes the record of a build that came to its root to the file that the words name.
+fn write_record<W: World>(
+    alloc: Global,
+    world: &W,
+    matches: &ArgMatches<'_>,
+    told: &Told<Global>,
+) -> Result<(), CommandError>
+    ensures noted { OnOk result (IsNoted W.sees (rows_of (found_of matches.now)) told.now) }
     ensures fault { IfErr result (λ e. status_of e ≡ 3) }
 {
-    let fresh = format!(in rt.alloc(); "{path}.new")?;
-    if let Err(fault) = fs::write(rt, fresh.as_str(), text) {
-        return Err(file_error(rt, fresh.as_str(), fault)?);
+    match told {
+        Told::Built { noted, .. } => {
+            let path = text_of(matches, "record");
+            match world.write(alloc, path, noted) {
+                Ok(()) => Ok(()),
+                Err(fault) => Err(CommandError::File {
+                    path: String::from_str(alloc, path)?,
+                    fault,
+                }),
+            }
+        }
+        Told::Failed { .. } => Ok(()),
     }
-    if let Err(fault) = fs::rename(rt, fresh.as_str(), path) {
-        return Err(file_error(rt, path, fault)?);
-    }
-    Ok(())
 }
 
-/// Prints a line.
-fn print_text<O: Write>(line: &str, out: &mut O) -> Result<(), CommandError>
-    ensures printed { OnOk result (Appends (O.contents out.old) (O.contents out.new) line.now) }
+/// Prints the line of a build, and answers whether that came to its root.
+fn print_told<O: Write>(told: &Told<Global>, out: &mut O) -> Result<bool, CommandError>
+    ensures printed { OnOk result
+        (Appends (O.contents out.old) (O.contents out.new) (line_of told.now)) }
+    ensures whole { IfOk result (λ whole. is_whole told.now ≡ whole) }
     ensures fault { IfErr result (λ e. status_of e ≡ 3) }
 {
+    let (line, whole) = match told {
+        Told::Built { line, .. } => (line, true),
+        Told::Failed { line } => (line, false),
+    };
     out.write_all(line.as_bytes())
         .map_err(CommandError::Output)?;
     out.flush().map_err(CommandError::Output)?;
-    Ok(())
+    Ok(whole)
 }
 
 /// Builds the plan that the words name, and prints the line of what it came to. Where it came to
 /// its root, the record is written first. It answers whether it did. On a terminal it tells how far
 /// the build is, until that ends.
-pub(crate) fn run_build<R, O: Write, T: Write + Drop>(
+pub(crate) fn run_build<R, W: World, O: Write, T: Write + Drop>(
     rt: &R,
+    world: &W,
     matches: &ArgMatches<'_>,
     out: &mut O,
     terminal: Option<T>,
 ) -> Result<bool, CommandError>
 where
-    R: AllocGlobal + Files + Net<Stream = TcpStream> + Processes + Clone + Drop,
-    ensures printed { IfOk result (λ whole. PrintsBuild (rows_of (found_of matches.now)) whole
-        (O.contents out.old) (O.contents out.new)) }
+    R: AllocGlobal + Files + Processes + Clone + Drop,
+    ensures printed { IfOk result (λ whole. PrintsBuild W.sees (rows_of (found_of matches.now))
+        whole (O.contents out.old) (O.contents out.new)) }
     ensures unprinted { IfErr result
         (λ fault. status_of fault ≡ 2 → O.contents out.new ≡ O.contents out.old) }
 {
-    let asked = read_asked(rt.alloc(), matches)?;
-    let plan = plan_in_file(rt, matches)?;
+    let alloc = rt.alloc();
+    let asked = read_asked(alloc, matches)?;
+    let plan = plan_in_file(alloc, world, matches)?;
     check_work(rt, text_of(matches, "work"))?;
-    let mut client = open(rt, &asked.server)?;
-    let mut progress = BuildProgress::new(rt.alloc(), &plan, terminal);
-    let work = text_of(matches, "work");
-    let told = build_in_folder(rt, work, &asked, &plan, &mut client, &mut progress);
+    let work = String::from_str(alloc, text_of(matches, "work"))?;
+    let remote = open(alloc, world, &asked.server)?;
+    let mut progress = BuildProgress::new(alloc, &plan, terminal);
+    let told = build_in_folder::<R, W::Link, Brand, T>(
+        rt,
+        work,
+        &asked,
+        &plan,
+        remote,
+        &mut progress,
+    );
     progress.clear();
-    match told? {
-        Told::Built { line, noted } => {
-            write_record(rt, text_of(matches, "record"), &noted)?;
-            print_text(line.as_str(), out)?;
-            Ok(true)
-        }
-        Told::Failed { line } => {
-            print_text(line.as_str(), out)?;
-            Ok(false)
-        }
-    }
+    let told = told?;
+    write_record(alloc, world, matches, &told)?;
+    print_told(&told, out)
 }

@@ -6,13 +6,13 @@ ghost use Rattle.cli.specs.Ended.{IsDone, IsNo};
 ghost use Rattle.commands.specs.Printed.{GetsPart};
 ghost use Rattle.commands.specs.Refusal.{FailsVerify, EndsRefused};
 ghost use Rattle.commands.specs.Status.{status_of};
-ghost use Rattle.commands.specs.Told.{PrintsNoLine, TellsError};
+ghost use Rattle.commands.specs.Told.{EndsTold, PrintsNoLine};
 ghost use Rattle.command_lines.specs.CommandLine.{CallsCommand, options_of};
 
 use crate::building::run_build;
 use clap::error::{Error, ErrorKind};
 use command_lines::parse;
-use commands::{CommandError, run_get, run_put, run_serve, run_verify, tell};
+use commands::{CommandError, World, run_get, run_put, run_serve, run_verify, tell};
 use log::Log;
 use std::alloc::{AllocError, Global};
 use std::io::Write;
@@ -31,8 +31,9 @@ enum Ended {
 /// beginning `error: ` goes to `err`. The status: 0 done or yes, 1 no, 2 where the words or the
 /// texts that they name are at fault, 3 where a file, the output or memory is. On a terminal, where
 /// there is one, `put` and `build` tell how far they are.
-pub fn run_words<R, O: Write, E: Write, T: Write + Drop>(
+pub fn run_words<R, W: World, O: Write, E: Write, T: Write + Drop>(
     rt: &R,
+    world: &W,
     words: &[String],
     out: &mut O,
     err: &mut E,
@@ -46,29 +47,30 @@ where
     // digest of what they put, the address that was served or the line of a build's root went to
     // standard output, and nothing else.
     ensures done { result ≡ 0
-        → IsDone (map string_bytes words.now) (O.contents out.old) (O.contents out.new) }
+        → IsDone W.sees (map string_bytes words.now) (O.contents out.old) (O.contents out.new) }
     // With status 1, the line of their no, or of a build's refusal; or the blob that they name
     // isn't there.
     ensures no { result ≡ 1
-        → IsNo (map string_bytes words.now) (O.contents out.old) (O.contents out.new) }
+        → IsNo W.sees (map string_bytes words.now) (O.contents out.old) (O.contents out.new) }
     // With status 2, nothing was printed.
     ensures unprinted { result ≡ 2 → O.contents out.new ≡ O.contents out.old }
     // With an answer, standard error stays as it was.
     ensures quiet { result < 2 → E.contents err.new ≡ E.contents err.old }
     // With another status it grew by one line that begins `error: `, or by a beginning of it.
-    ensures told { 2 ≤ result → TellsError (E.contents err.old) (E.contents err.new) }
+    ensures told { 2 ≤ result → EndsTold result (E.contents err.old) (E.contents err.new) }
     // Where the words call `verify`, it printed no whole line then,
     ensures unended { 2 ≤ result → CallsCommand (map string_bytes words.now) (codes "verify")
         → PrintsNoLine (O.contents out.old) (O.contents out.new) }
-    // and the error is for the first fault, in its order.
+    // and the error that was told is for the first fault, in its order.
     ensures refused { 2 ≤ result → CallsCommand (map string_bytes words.now) (codes "verify")
-        → EndsRefused (options_of (map string_bytes words.now)) result }
+        → EndsRefused W.sees (options_of (map string_bytes words.now)) result
+        (E.contents err.old) (E.contents err.new) }
     // Where they call `get`, it wrote nothing then that isn't the beginning of their blob.
     ensures begun { 2 ≤ result → CallsCommand (map string_bytes words.now) (codes "get")
         → GetsPart (options_of (map string_bytes words.now))
         (O.contents out.old) (O.contents out.new) }
 {
-    match run(rt, words, out, terminal) {
+    match run(rt, world, words, out, terminal) {
         Ok(Ended::Done) => 0,
         Ok(Ended::No) => 1,
         Err(error) => {
@@ -78,8 +80,9 @@ where
     }
 }
 
-fn run<R, O: Write, T: Write + Drop>(
+fn run<R, W: World, O: Write, T: Write + Drop>(
     rt: &R,
+    world: &W,
     words: &[String],
     out: &mut O,
     terminal: Option<T>,
@@ -89,17 +92,17 @@ where
     R: Net<Listener = TcpListener, Stream = TcpStream>,
     ensures done { IfOk result
         (λ ended. ended ≡ Ended.Done
-        → IsDone (map string_bytes words.now) (O.contents out.old) (O.contents out.new)) }
+        → IsDone W.sees (map string_bytes words.now) (O.contents out.old) (O.contents out.new)) }
     ensures no { IfOk result
         (λ ended. ended ≡ Ended.No
-        → IsNo (map string_bytes words.now) (O.contents out.old) (O.contents out.new)) }
+        → IsNo W.sees (map string_bytes words.now) (O.contents out.old) (O.contents out.new)) }
     ensures unprinted { IfErr result
         (λ fault. status_of fault ≡ 2 → O.contents out.new ≡ O.contents out.old) }
     ensures unended { OnErr result (CallsCommand (map string_bytes words.now) (codes "verify")
         → PrintsNoLine (O.contents out.old) (O.contents out.new)) }
     ensures refused { IfErr result
         (λ fault. CallsCommand (map string_bytes words.now) (codes "verify")
-        → FailsVerify (options_of (map string_bytes words.now)) fault) }
+        → FailsVerify W.sees (options_of (map string_bytes words.now)) fault) }
     ensures begun { OnErr result (CallsCommand (map string_bytes words.now) (codes "get")
         → GetsPart (options_of (map string_bytes words.now))
         (O.contents out.old) (O.contents out.new)) }
@@ -110,18 +113,18 @@ where
     };
     match matches.subcommand() {
         Some(("verify", inner)) => {
-            if run_verify(rt, inner, out)? {
+            if run_verify(rt.alloc(), world, inner, out)? {
                 Ok(Ended::Done)
             } else {
                 Ok(Ended::No)
             }
         }
         Some(("put", inner)) => {
-            run_put(rt, inner, out, terminal)?;
+            run_put(rt, world, inner, out, terminal)?;
             Ok(Ended::Done)
         }
         Some(("get", inner)) => {
-            if run_get(rt, inner, out)? {
+            if run_get(rt.alloc(), world, inner, out)? {
                 Ok(Ended::Done)
             } else {
                 Ok(Ended::No)
@@ -132,7 +135,7 @@ where
             Ok(Ended::Done)
         }
         Some(("build", inner)) => {
-            if run_build(rt, inner, out, terminal)? {
+            if run_build(rt, world, inner, out, terminal)? {
                 Ok(Ended::Done)
             } else {
                 Ok(Ended::No)

@@ -94,7 +94,10 @@ serve_knows = record {
             knows (built_in_program serve_line) false (codes "prefix") refl refl refl (λ t. refl) refl (λ t. refl),
             (
               knows (built_in_program serve_line) false (codes "idle") refl refl refl (λ t. refl) refl (λ t. refl),
-              tt,
+              (
+                knows (built_in_program serve_line) false (codes "at-once") refl refl refl (λ t. refl) refl (λ t. refl),
+                tt,
+              ),
             ),
           ),
         ),

@@ -52,12 +52,12 @@ verify_line =
 -- `serve` and its options
 abbrev pub serve_line : App
 serve_line =
-    may_have (may_have
+    may_have (may_have (may_have
     (must_have
     (must_have
     (must_have (must_have (new_app (codes "serve")) (codes "listen")) (codes "connections"))
     (codes "limit")) (codes "result-limit"))
-    (codes "prefix")) (codes "idle")
+    (codes "prefix")) (codes "idle")) (codes "at-once")
 
 -- `put` with a file or a folder, and `get` with a digest
 abbrev pub put_line : App

@@ -114,7 +114,7 @@ fn serve_command<'a>(alloc: Global) -> Result<Command<'a>, AllocError>
     ensures { IfOk result (λ c. app_of c ≡ serve_line) }
 {
     Command::new(alloc, "serve")
-        .about("Serve a cache over HTTP, one connection after another")
+        .about("Serve a cache over HTTP")
         .arg(required(
             alloc,
             "listen",
@@ -145,6 +145,12 @@ fn serve_command<'a>(alloc: Global) -> Result<Command<'a>, AllocError>
             "idle",
             "SECONDS",
             "How long a client may be silent (60; 0: for ever)",
+        ))?
+        .arg(optional(
+            alloc,
+            "at-once",
+            "N",
+            "How many connections to serve at a time (1; at most 1024)",
         ))
 }
 

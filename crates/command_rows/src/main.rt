@@ -6,6 +6,7 @@ mod files;
 mod text;
 
 use cli::run_words;
+use commands::System;
 use files::{lay, lay_all};
 use std::{fs, io};
 use text::{named, spelled};
@@ -51,7 +52,14 @@ fn ended(rt: &HostRuntime, names: &str, line: &str) -> io::Result<(u8, Vec<u8>, 
     }
     let mut out = Vec::new(alloc);
     let mut err = Vec::new(alloc);
-    let status = run_words(rt, words.as_slice(), &mut out, &mut err, None::<Vec<u8>>);
+    let status = run_words(
+        rt,
+        &System(rt),
+        words.as_slice(),
+        &mut out,
+        &mut err,
+        None::<Vec<u8>>,
+    );
     Ok((status, out, err))
 }
 

@@ -8,7 +8,10 @@ use Rattle.std.proofs.Math.Seq.{drop-append_seam, take-append_seam, take-length}
 use Rattle.std.specs.Prelude.{Option}
 use Rattle.std.specs.Io.KnownBytes.{Appends, Keeps}
 use Rattle.std.proofs.KnownBytes.{Appends-nil, Appends-trans, Appends-kept}
-use Rattle.commands.specs.Told.{AppendsBeginning, AppendsPart, AppendsUpTo, IsErrorLine, PrintsNoLine, TellsError}
+use Rattle.commands.specs.Told.{AppendsBeginning, AppendsPart, AppendsUpTo, IsErrorLine, PrintsNoLine, TellsOf}
+use Rattle.commands.specs.declared.error.CommandError.{CommandError}
+use Rattle.commands.specs.declared.error.CommandError.TheVariants.{Memory}
+use Rattle.std.specs.Prelude.{codes}
 
 -- nothing is appended yet
 pub up_to_nothing : (a : Option (List ℕ)) (text : List ℕ) → AppendsUpTo a a text text
@@ -82,8 +85,10 @@ pub beginning_kept : (old mid new : Option (List ℕ)) (text : List ℕ) → App
 beginning_kept old mid new text h same = record { rest = h.rest; up_to = up_to_kept old mid new text h.rest h.up_to same }
 
 -- a line was told up to here, and what is written stays
-pub tells_by : (old mid new : Option (List ℕ)) (line : List ℕ) → IsErrorLine line → AppendsBeginning old mid line → Keeps mid new → TellsError old new
-tells_by old mid new line lawful begun same = record { line = line; lawful = lawful; appended = beginning_kept old mid new line begun same }
+pub tells_by : (error : CommandError) (old mid new : Option (List ℕ)) (line : List ℕ) → IsErrorLine line
+    → (error ≡ Memory → line ≡ codes "error: out of memory\n") → AppendsBeginning old mid line → Keeps mid new → TellsOf error old new
+tells_by error old mid new line lawful memory begun same =
+    record { line = line; lawful = lawful; memory = memory; appended = beginning_kept old mid new line begun same }
 
 -- the two parts of a line: its text, and the newline
 pub front_of_line : (text line : List ℕ) (n : ℕ) → line ≡ text ++ 10 ∷ [] → n ≡ length line - 1 → take n line ≡ text

@@ -10,8 +10,10 @@ pub record WritesRight (digest : DigestValue) (old new : Option (List ℕ)) : Ty
   pub right : digest_of bytes ≡ digest
   pub printed : Appends old new bytes
 
-pub record WritesNothing (digest : DigestValue) (old new : Option (List ℕ)) : Type 0 where
+pub record WritesNothing (source : Telling → Type 0) (digest : DigestValue)
+    (old new : Option (List ℕ)) : Type 0 where
   pub told : Telling
+  pub source_is : ∥ source told ∥₁
   pub missing : IsMissing told.blobs digest
   pub unprinted : new ≡ old
 
@@ -21,7 +23,8 @@ pub record WritesPart (digest : DigestValue) (old new : Option (List ℕ)) : Typ
   pub right : digest_of bytes ≡ digest
   pub begun : AppendsBeginning old new bytes
 
--- the blob with the digest, or nothing where a source told that there is none
-abbrev pub Writes : DigestValue → Option (List ℕ) → Option (List ℕ) → Bool → Type 0
-Writes digest old new true = WritesRight digest old new
-Writes digest old new false = WritesNothing digest old new
+-- the blob with the digest, or nothing where such a source told none
+abbrev pub Writes : (Telling → Type 0) → DigestValue → Option (List ℕ) → Option (List ℕ) → Bool
+    → Type 0
+Writes source digest old new true = WritesRight digest old new
+Writes source digest old new false = WritesNothing source digest old new

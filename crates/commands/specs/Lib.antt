@@ -1,8 +1,10 @@
 pub mod Faults
 pub mod Got
 pub mod Options
+pub mod Places
 pub mod Printed
 pub mod Put
 pub mod Refusal
 pub mod Status
 pub mod Told
+pub mod World

@@ -1,6 +1,6 @@
 -- What a command prints, by its options.
 use Rattle.std.specs.Prelude.{◌≡◌, ◌⊎◌, ℕ, true, Bool, List, [], ◌∷◌, ◌++◌, Option, None}
-use Rattle.std.specs.Prelude.{IsSome, codes}
+use Rattle.std.specs.Prelude.{IsSome, codes, string_bytes}
 use Rattle.std.specs.Io.KnownBytes.{Appends}
 use Rattle.std.specs.Net.Text.{socket_text}
 use Rattle.std.specs.declared.alloc.Global.{Global}
@@ -16,6 +16,10 @@ use Rattle.text_verifier.specs.Answered.{IsJudged}
 use Rattle.text_verifier.specs.Texts.{HasTexts, Question, IsDigestText}
 use Rattle.commands.specs.Got.{Writes, WritesPart}
 use Rattle.commands.specs.Options.{IsLawfulServer}
+use Rattle.commands.specs.Places.{IsOfFolder, IsOfServer}
+use Rattle.commands.specs.World.{Sight}
+use Rattle.commands.specs.declared.verifying.Build.{Build}
+use Rattle.commands.specs.declared.verifying.Build.TheVariants.{Folder, Server}
 use Rattle.command_lines.specs.CommandLine.{option_text}
 
 -- the options name a store folder, and nothing of a server
@@ -35,26 +39,61 @@ pub record NamesServer (options : List Row) : Type 0 where
 abbrev pub NamesPlace : List Row → Type 0
 NamesPlace options = NamesStore options ⊎ NamesServer options
 
--- The line of a verdict was printed: of the one on the question that these texts ask, by what a
--- store told. The texts are the two digests in the words, and the bytes that were read as the plan
--- and as the record.
-pub record PrintsVerdict (options : List Row) (old new : Option (List ℕ)) : Type 0 where
-  pub place : NamesPlace options
+-- ---- verify
+
+-- the folder, or the server, that the options name
+abbrev pub IsPlace : List Row → Build → Type 0
+IsPlace options (Folder folder) =
+    NamesStore options × (string_bytes folder ≡ option_text options (codes "store"))
+IsPlace options (Server server) = NamesServer options
+    × (string_bytes server.address ≡ option_text options (codes "server"))
+    × (server.host ≡ option_text options (codes "server"))
+    × (server.prefix ≡ option_text options (codes "prefix"))
+
+-- a client of the server that the options name, under the prefix that they give, told this
+abbrev pub IsOfOptions : Sight → List Row → Telling → Type 0
+IsOfOptions sees options =
+    IsOfServer sees (option_text options (codes "server")) (option_text options (codes "prefix"))
+
+-- a source over the place that the options name told this
+abbrev pub IsOfPlace : Sight → List Row → Telling → Type 0
+IsOfPlace sees options told =
+    (NamesStore options × IsOfFolder sees (option_text options (codes "store")) told)
+    ⊎ (NamesServer options × IsOfOptions sees options told)
+
+-- The digests in the words, and the files that they name, as they were read, ask this question.
+pub record AsksFor (sees : Sight) (options : List Row) (question : Question) : Type 0 where
   pub plan_bytes : List ℕ
+  pub plan_read : sees.reads (option_text options (codes "plan")) plan_bytes
   pub noted_bytes : List ℕ
-  pub question : Question
+  pub noted_read : sees.reads (option_text options (codes "record")) noted_bytes
   pub texts : HasTexts (option_text options (codes "sources")) (option_text options (codes "claim"))
       plan_bytes noted_bytes question
+
+-- The verdict is the one on that question, by what a source over the place that they name told.
+pub record JudgesAsked (sees : Sight) (options : List Row) (verdict : Verdict Global)
+    : Type 0 where
+  pub question : Question
+  pub asks : AsksFor sees options question
   pub told : Telling
-  pub verdict : Verdict Global
+  pub source : ∥ IsOfPlace sees options told ∥₁
   pub judged : IsJudged told question verdict
+
+-- the line of that verdict was printed
+pub record PrintsVerdict (sees : Sight) (options : List Row) (old new : Option (List ℕ))
+    : Type 0 where
+  pub verdict : Verdict Global
+  pub judged : JudgesAsked sees options verdict
   pub printed : Appends old new (report_line verdict)
 
+-- ---- the others
+
 -- the blob was written, or a server told that there is none, whose digest the options spell
-pub record GetsBlob (options : List Row) (old new : Option (List ℕ)) (found : Bool) : Type 0 where
+pub record GetsBlob (sees : Sight) (options : List Row) (old new : Option (List ℕ)) (found : Bool)
+    : Type 0 where
   pub digest : DigestValue
   pub spelled : IsDigestText (option_text options (codes "digest")) digest
-  pub writes : Writes digest old new found
+  pub writes : Writes (IsOfOptions sees options) digest old new found
 
 -- nothing was written, or a beginning of a blob whose digest the options spell
 abbrev pub GetsPart : List Row → Option (List ℕ) → Option (List ℕ) → Type 0
@@ -62,10 +101,12 @@ GetsPart options old new =
     (new ≡ old) ⊎ ((digest : DigestValue)
     × IsDigestText (option_text options (codes "digest")) digest × WritesPart digest old new)
 
--- the line of a digest was printed, under which some source then told a blob that has it
-pub record PrintsDigest (options : List Row) (old new : Option (List ℕ)) : Type 0 where
+-- the line of a digest was printed, under which a client of the server that the options name then
+-- told a blob that has it
+pub record PrintsDigest (sees : Sight) (options : List Row) (old new : Option (List ℕ)) : Type 0 where
   pub digest : DigestValue
   pub told : Telling
+  pub source : ∥ IsOfOptions sees options told ∥₁
   pub held : HasRight told.blobs digest
   pub printed : Appends old new (digest_text digest ++ 10 ∷ [])
 

@@ -1,26 +1,21 @@
-ghost use Rattle.std.specs.Prelude.{◌≡◌, ◌≢◌, [], IfErr, IfOk, IsTrue, OnOk, codes, true};
+ghost use Rattle.std.specs.Prelude.{◌≡◌, ◌≢◌, [], IfErr, IfOk, IsTrue, OnOk, codes, string_bytes};
+ghost use Rattle.std.specs.Prelude.{true};
 ghost use Rattle.std.specs.Io.{ReadsAtMost, WritesAtMost};
 ghost use Rattle.std.specs.Io.Buffered.{reader_buffer, reader_inner};
-ghost use Rattle.blob_digest.specs.Digest.{digest_of};
-ghost use Rattle.blob_source.specs.Sink.{HasRight};
 ghost use Rattle.clap.specs.Words.{first_of, found_of, rows_of};
 ghost use Rattle.command_lines.specs.CommandLine.{option_text};
 ghost use Rattle.commands.specs.Options.{IsAddress, IsLawfulServer, IsTimeout};
 ghost use Rattle.commands.specs.Refusal.{IsCommandFault};
-ghost use Rattle.commands.specs.Status.{status_of};
 ghost use Rattle.http_core.specs.Host.{is_host};
 ghost use Rattle.http_core.specs.Prefix.{is_prefix};
-ghost use Rattle.remote.specs.Remote.{IsFreshRemote, telling_of};
 
 use crate::error::CommandError;
 use crate::options::{is_address, number_in, unlike};
-use blob_digest::Digest;
-use blob_source::{BlobSink, BlobSource, FetchError};
 use clap::ArgMatches;
 use command_lines::{option_of, text_of};
 use http_core::{Host, Prefix};
-use remote::{Remote, Stream};
-use std::alloc::{AllocError, Global};
+use remote::Stream;
+use std::alloc::Global;
 use std::io;
 use std::io::{BufRead, BufReader, ErrorKind, Read, Write};
 use std::net::{Net, SocketAddr, TcpStream, ToSocketAddrs};
@@ -31,8 +26,8 @@ const SILENT: u64 = 60;
 
 /// A server, and what the words of a command say of it.
 #[derive(Drop)]
-pub struct ServerOptions<'a> {
-    pub address: &'a str,
+pub struct ServerOptions {
+    pub address: String,
     pub host: Host<Global>,
     pub prefix: Prefix<Global>,
     /// How long it may be silent; none: for ever.
@@ -91,11 +86,12 @@ pub(crate) fn read_prefix(
 }
 
 /// The server at this address, with the timeout and the prefix that the words give.
-pub fn read_server<'a>(
+pub fn read_server(
     alloc: Global,
     matches: &ArgMatches<'_>,
-    address: &'a str,
-) -> Result<ServerOptions<'a>, CommandError>
+    address: &str,
+) -> Result<ServerOptions, CommandError>
+    ensures address { IfOk result (λ server. string_bytes server.address ≡ address.now) }
     ensures host { IfOk result (λ server. server.host ≡ address.now) }
     ensures prefix { IfOk result
         (λ server. server.prefix ≡ option_text (rows_of (found_of matches.now)) (codes "prefix")) }
@@ -108,7 +104,7 @@ pub fn read_server<'a>(
     let timeout = read_timeout(alloc, matches)?;
     let prefix = read_prefix(alloc, matches)?;
     Ok(ServerOptions {
-        address,
+        address: String::from_str(alloc, address)?,
         host,
         prefix,
         timeout,
@@ -118,11 +114,12 @@ pub fn read_server<'a>(
 /// An open connection to one of the addresses that the server's name has.
 fn connect<R: Net<Stream = TcpStream>>(
     rt: &R,
-    server: &ServerOptions<'_>,
+    server: &str,
+    timeout: Option<Duration>,
 ) -> io::Result<TcpStream> {
     let mut fault = io::Error::from(ErrorKind::InvalidInput);
-    for address in server.address.to_socket_addrs(rt)? {
-        match connect_to(rt, address, server.timeout) {
+    for address in server.to_socket_addrs(rt)? {
+        match connect_to(rt, address, timeout) {
             Ok(stream) => return Ok(stream),
             Err(last) => fault = last,
         }
@@ -196,10 +193,29 @@ fn write_again<T: Write>(writer: &mut T, buf: &[u8]) -> io::Result<usize>
 /// A connection to a server, which is opened anew where the server has closed it. It reads ahead,
 /// so that a reply that is taken in small pieces costs few calls of the system.
 #[derive(Drop)]
-pub struct Connection<'a, R> {
-    rt: &'a R,
-    server: &'a ServerOptions<'a>,
+pub struct Connection<'r, R> {
+    rt: &'r R,
+    address: String,
+    timeout: Option<Duration>,
     reader: BufReader<TcpStream>,
+}
+
+impl<'r, R: Net<Stream = TcpStream>> Connection<'r, R> {
+    /// An open connection to the server.
+    pub(crate) fn open(
+        alloc: Global,
+        rt: &'r R,
+        server: &ServerOptions,
+    ) -> io::Result<Connection<'r, R>> {
+        let address = String::from_str(alloc, server.address.as_str())?;
+        let stream = connect(rt, server.address.as_str(), server.timeout)?;
+        Ok(Connection {
+            rt,
+            address,
+            timeout: server.timeout,
+            reader: BufReader::new(alloc, stream)?,
+        })
+    }
 }
 
 impl<R: Net<Stream = TcpStream>> Stream for Connection<'_, R> {
@@ -221,121 +237,8 @@ impl<R: Net<Stream = TcpStream>> Stream for Connection<'_, R> {
     }
 
     fn renew(&mut self) -> io::Result<()> {
-        replace(&mut self.reader, connect(self.rt, self.server)?);
+        let stream = connect(self.rt, self.address.as_str(), self.timeout)?;
+        replace(&mut self.reader, stream);
         Ok(())
-    }
-}
-
-/// A remote that knows its server's name and what it was asked last.
-#[derive(Drop)]
-pub struct Client<'a, S: Drop> {
-    pub address: &'a str,
-    pub remote: Remote<S, Global>,
-    pub asked: &'static str,
-    pub digest: Digest,
-}
-
-impl<'a, S: Stream + Drop> Client<'a, S> {
-    /// A client of the server over an open stream.
-    pub(crate) fn new(
-        alloc: Global,
-        server: &ServerOptions<'a>,
-        stream: S,
-    ) -> Result<Client<'a, S>, AllocError>
-        ensures { IfOk result (λ client. IsFreshRemote S.flow stream
-            server.now.host server.now.prefix client.remote) }
-    {
-        Ok(Client {
-            address: server.address,
-            remote: Remote::new(alloc, stream, &server.host, &server.prefix)?,
-            asked: "",
-            digest: Digest::empty(),
-        })
-    }
-
-    /// The error of a call that was refused.
-    pub fn error(&self, alloc: Global, refusal: FetchError) -> Result<CommandError, AllocError>
-        ensures { IfOk result (λ e. status_of e ≡ 3) }
-    {
-        match self.remote.last_fault() {
-            Some(fault) if refusal == FetchError::Failed => Ok(CommandError::Server {
-                server: String::from_str(alloc, self.address)?,
-                asked: self.asked,
-                digest: self.digest.write_text(alloc)?,
-                fault,
-            }),
-            _ => Ok(CommandError::Memory),
-        }
-    }
-
-    /// Puts a blob.
-    pub fn put(&mut self, alloc: Global, bytes: &[u8]) -> Result<Digest, CommandError>
-        ensures named { IfOk result (λ digest. digest ≡ digest_of bytes.now) }
-        ensures held { IfOk result (HasRight (telling_of self.new.remote).blobs) }
-    {
-        match self.put_blob(alloc, bytes) {
-            Ok(digest) => Ok(digest),
-            Err(refusal) => Err(self.error(alloc, refusal)?),
-        }
-    }
-}
-
-impl<'a, S: Stream + Drop> BlobSource<Global> for Client<'a, S> {
-    ghost use Rattle.remote.specs.Remote.{telling_of};
-
-    ghost tells = { λ c. telling_of c.remote };
-
-    fn fetch(&mut self, alloc: Global, digest: &Digest) -> Result<Option<Vec<u8>>, FetchError> {
-        self.asked = "get of blob";
-        self.digest = *digest;
-        self.remote.fetch(alloc, digest)
-    }
-
-    fn result(&mut self, alloc: Global, digest: &Digest) -> Result<Option<Vec<u8>>, FetchError> {
-        self.asked = "get of result";
-        self.digest = *digest;
-        self.remote.result(alloc, digest)
-    }
-}
-
-impl<'a, S: Stream + Drop> BlobSink<Global> for Client<'a, S> {
-    fn put_blob(&mut self, alloc: Global, bytes: &[u8]) -> Result<Digest, FetchError> {
-        self.asked = "put of blob";
-        self.digest = Digest::of(bytes);
-        self.remote.put_blob(alloc, bytes)
-    }
-
-    fn put_result(
-        &mut self,
-        alloc: Global,
-        digest: &Digest,
-        bytes: &[u8],
-    ) -> Result<(), FetchError> {
-        self.asked = "put of result";
-        self.digest = *digest;
-        self.remote.put_result(alloc, digest, bytes)
-    }
-}
-
-/// A client that is connected to the server.
-pub fn open<'a, R: AllocGlobal + Net<Stream = TcpStream>>(
-    rt: &'a R,
-    server: &'a ServerOptions<'a>,
-) -> Result<Client<'a, Connection<'a, R>>, CommandError>
-    ensures { IfErr result (λ e. status_of e ≡ 3) }
-{
-    match connect(rt, server) {
-        Ok(stream) => {
-            let Ok(reader) = BufReader::new(rt.alloc(), stream) else {
-                return Err(CommandError::Memory);
-            };
-            let connection = Connection { rt, server, reader };
-            Ok(Client::new(rt.alloc(), server, connection)?)
-        }
-        Err(fault) if fault.kind() == ErrorKind::OutOfMemory => Err(CommandError::Memory),
-        Err(fault) => Err(CommandError::Connection {
-            server: String::from_str(rt.alloc(), server.address)?,
-            fault,
-        }),
     }
 }

@@ -25,20 +25,6 @@ impl From<FileError<Global>> for CommandError {
     }
 }
 
-/// The bytes of the file there.
-#[tactic(auto, using(crate::proofs::FileErrors::file_fault))]
-pub(crate) fn file_bytes<R: Files + AllocGlobal>(
-    rt: &R,
-    path: &str,
-) -> Result<Vec<u8>, CommandError>
-    ensures fault { IfErr result (IsFileFault path.now) }
-{
-    match remote::read_file(rt, path) {
-        Ok(bytes) => Ok(bytes),
-        Err(error) => Err(CommandError::from(error)),
-    }
-}
-
 /// The error of a file.
 pub fn file_error<R: AllocGlobal>(
     rt: &R,

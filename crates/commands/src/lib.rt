@@ -2,6 +2,7 @@
 //! command stands on: its errors and statuses, files, digests in options, a client of a server.
 #![tactic(auto)]
 
+mod client;
 mod connecting;
 mod error;
 mod files;
@@ -10,11 +11,14 @@ mod options;
 mod progress;
 mod putting;
 mod serving;
+mod shelf;
 mod telling;
 mod terminal_line;
 mod verifying;
+mod world;
 
-pub use connecting::{Client, Connection, ServerOptions, open, read_server};
+pub use client::{Client, Origin, open};
+pub use connecting::{Connection, ServerOptions, read_server};
 pub use error::CommandError;
 pub use files::file_error;
 pub use getting::run_get;
@@ -24,3 +28,4 @@ pub use serving::run_serve;
 pub use telling::tell;
 pub use terminal_line::TerminalLine;
 pub use verifying::{plan_in_file, run_verify};
+pub use world::{System, World};

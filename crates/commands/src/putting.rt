@@ -3,24 +3,27 @@ ghost use Rattle.std.specs.Io.KnownBytes.{Appends};
 ghost use Rattle.blob_digest.specs.Text.{digest_text};
 ghost use Rattle.blob_source.specs.Sink.{HasRight};
 ghost use Rattle.clap.specs.Words.{found_of, rows_of};
+ghost use Rattle.commands.specs.Places.{IsFresh, IsToldOver};
 ghost use Rattle.commands.specs.Printed.{PrintsDigest};
-ghost use Rattle.commands.specs.Put.{IsFolderRoot};
+ghost use Rattle.commands.specs.Put.{IsFolderRoot, IsHeldBy};
 ghost use Rattle.commands.specs.Status.{status_of};
-ghost use Rattle.remote.specs.Remote.{telling_of};
+ghost use Rattle.remote.specs.Remote.{connection_of, telling_of};
 
-use crate::connecting::{Client, open, read_server};
+use crate::client::{Client, Origin, open};
+use crate::connecting::{ServerOptions, read_server};
 use crate::error::CommandError;
-use crate::files::{file_bytes, file_error};
+use crate::files::file_error;
 use crate::progress::PutProgress;
+use crate::world::World;
 use blob_digest::Digest;
 use clap::ArgMatches;
 use command_lines::text_of;
 use messages::{MessageError, Name, Path, Target};
-use remote::Stream;
+use remote::{Remote, Stream, read_file};
 use std::alloc::Global;
 use std::fs;
 use std::io::Write;
-use std::net::{Net, TcpStream};
+use std::marker::Brand;
 use std::rt::Files;
 use std::time::Clock;
 use tree::{AddError, FlatEntry, FlatTree, fold};
@@ -94,11 +97,20 @@ fn path_below(
     }
 }
 
+/// The bytes of the file there.
+fn bytes_at<R: Files + AllocGlobal>(rt: &R, place: &str) -> Result<Vec<u8>, CommandError> {
+    match read_file(rt, place) {
+        Ok(bytes) => Ok(bytes),
+        Err(error) => Err(CommandError::from(error)),
+    }
+}
+
 /// Puts what stands at an entry of a folder. A link is only read; of a folder, what stands in it
 /// waits.
-fn put_entry<R: Files + AllocGlobal + Clock, S: Stream + Drop, T: Write + Drop>(
+fn put_entry<R: Files + AllocGlobal + Clock, S: Stream + Drop, K: Origin, T: Write + Drop>(
     rt: &R,
-    client: &mut Client<'_, S>,
+    server: &ServerOptions,
+    client: &mut Client<S, K>,
     progress: &mut PutProgress<T>,
     place: &str,
 ) -> Result<FlatEntry<Global>, CommandError> {
@@ -124,8 +136,8 @@ fn put_entry<R: Files + AllocGlobal + Clock, S: Stream + Drop, T: Write + Drop>(
         )?;
         return Ok(FlatEntry::Link { target });
     }
-    let bytes = file_bytes(rt, place)?;
-    let digest = client.put(alloc, &bytes)?;
+    let bytes = bytes_at(rt, place)?;
+    let digest = client.put(alloc, server, &bytes)?;
     progress.count(rt, bytes.len());
     Ok(FlatEntry::File {
         digest,
@@ -134,9 +146,10 @@ fn put_entry<R: Files + AllocGlobal + Clock, S: Stream + Drop, T: Write + Drop>(
 }
 
 /// Puts the files in a folder, and adds its entries to the tree. The folders among them wait.
-fn put_entries<R: Files + AllocGlobal + Clock, S: Stream + Drop, T: Write + Drop>(
+fn put_entries<R: Files + AllocGlobal + Clock, S: Stream + Drop, K: Origin, T: Write + Drop>(
     rt: &R,
-    client: &mut Client<'_, S>,
+    server: &ServerOptions,
+    client: &mut Client<S, K>,
     progress: &mut PutProgress<T>,
     folder: &Folder,
     tree: &mut FlatTree<Global>,
@@ -147,7 +160,7 @@ fn put_entries<R: Files + AllocGlobal + Clock, S: Stream + Drop, T: Write + Drop
     for name in names.iter() {
         let place = format!(in alloc; "{}/{}", folder.place, name)?;
         let path = path_below(alloc, folder, place.as_str(), name.as_str())?;
-        let entry = put_entry(rt, client, progress, place.as_str())?;
+        let entry = put_entry(rt, server, client, progress, place.as_str())?;
         let below = Path::copy_of(alloc, &path)?;
         if entry.is_directory() {
             waiting.push(Folder {
@@ -167,9 +180,10 @@ fn put_entries<R: Files + AllocGlobal + Clock, S: Stream + Drop, T: Write + Drop
 }
 
 /// Puts the files in a folder and below it; gives the tree of all that is there.
-fn put_files<R: Files + AllocGlobal + Clock, S: Stream + Drop, T: Write + Drop>(
+fn put_files<R: Files + AllocGlobal + Clock, S: Stream + Drop, K: Origin, T: Write + Drop>(
     rt: &R,
-    client: &mut Client<'_, S>,
+    server: &ServerOptions,
+    client: &mut Client<S, K>,
     progress: &mut PutProgress<T>,
     place: &str,
 ) -> Result<FlatTree<Global>, CommandError> {
@@ -184,7 +198,15 @@ fn put_files<R: Files + AllocGlobal + Clock, S: Stream + Drop, T: Write + Drop>(
         match waiting.pop() {
             None => return Ok(tree),
             Some(folder) => {
-                put_entries(rt, client, progress, &folder, &mut tree, &mut waiting)?;
+                put_entries(
+                    rt,
+                    server,
+                    client,
+                    progress,
+                    &folder,
+                    &mut tree,
+                    &mut waiting,
+                )?;
             }
         }
     }
@@ -192,9 +214,10 @@ fn put_files<R: Files + AllocGlobal + Clock, S: Stream + Drop, T: Write + Drop>(
 }
 
 /// Puts the Directories of a tree, the root last; gives its digest.
-fn put_directories<S: Stream + Drop>(
+fn put_directories<S: Stream + Drop, K: Origin>(
     alloc: Global,
-    client: &mut Client<'_, S>,
+    server: &ServerOptions,
+    client: &mut Client<S, K>,
     tree: &FlatTree<Global>,
 ) -> Result<Digest, CommandError>
     ensures root { IfOk result (IsFolderRoot tree.now) }
@@ -205,17 +228,18 @@ fn put_directories<S: Stream + Drop>(
         None => Ok(folded.root),
         Some((root, below)) => {
             for directory in below.iter().rev() {
-                client.put(alloc, directory)?;
+                client.put(alloc, server, directory)?;
             }
-            client.put(alloc, root)
+            client.put(alloc, server, root)
         }
     }
 }
 
 /// Puts a file, or a folder with all below it; gives its digest.
-fn put_path<R: Files + AllocGlobal + Clock, S: Stream + Drop, T: Write + Drop>(
+fn put_path<R: Files + AllocGlobal + Clock, S: Stream + Drop, K: Origin, T: Write + Drop>(
     rt: &R,
-    client: &mut Client<'_, S>,
+    server: &ServerOptions,
+    client: &mut Client<S, K>,
     progress: &mut PutProgress<T>,
     place: &str,
 ) -> Result<Digest, CommandError>
@@ -226,10 +250,11 @@ fn put_path<R: Files + AllocGlobal + Clock, S: Stream + Drop, T: Write + Drop>(
         Err(fault) => return Err(file_error(rt, place, fault)?),
     };
     if metadata.is_dir() {
-        let tree = put_files(rt, client, progress, place)?;
-        put_directories(rt.alloc(), client, &tree)
+        let tree = put_files(rt, server, client, progress, place)?;
+        put_directories(rt.alloc(), server, client, &tree)
     } else {
-        client.put(rt.alloc(), &file_bytes(rt, place)?)
+        let bytes = bytes_at(rt, place)?;
+        client.put(rt.alloc(), server, &bytes)
     }
 }
 
@@ -247,27 +272,48 @@ fn print_digest<O: Write>(alloc: Global, digest: &Digest, out: &mut O) -> Result
     Ok(())
 }
 
+/// Puts what stands at the path, over the marked connection; gives its digest.
+fn put_over<R, S: Stream + Drop, K: Origin, T: Write + Drop>(
+    rt: &R,
+    server: &ServerOptions,
+    remote: Remote<S, Global>,
+    progress: &mut PutProgress<T>,
+    place: String,
+) -> Result<Digest, CommandError>
+where
+    R: Files + AllocGlobal + Clock,
+    requires start { K.start ≡ connection_of S.flow remote }
+    requires fresh { IsFresh (telling_of remote) }
+    ensures held { IfOk result (IsHeldBy (IsToldOver K.start)) }
+{
+    let mut client: Client<S, K> = Client::new(remote);
+    put_path(rt, server, &mut client, progress, place.as_str())
+}
+
 /// Puts the file or the folder that the words name, and prints its digest. On a terminal it tells
 /// how far it is, until it ends.
-pub fn run_put<R, O: Write, T: Write + Drop>(
+pub fn run_put<R, W: World, O: Write, T: Write + Drop>(
     rt: &R,
+    world: &W,
     matches: &ArgMatches<'_>,
     out: &mut O,
     terminal: Option<T>,
 ) -> Result<(), CommandError>
 where
-    R: AllocGlobal + Clock + Files + Net<Stream = TcpStream>,
-    ensures printed { OnOk result
-        (PrintsDigest (rows_of (found_of matches.now)) (O.contents out.old) (O.contents out.new)) }
+    R: AllocGlobal + Clock + Files,
+    ensures printed { OnOk result (PrintsDigest W.sees (rows_of (found_of matches.now))
+        (O.contents out.old) (O.contents out.new)) }
     ensures unprinted { IfErr result
         (λ fault. status_of fault ≡ 2 → O.contents out.new ≡ O.contents out.old) }
 {
-    let server = read_server(rt.alloc(), matches, text_of(matches, "server"))?;
-    let mut client = open(rt, &server)?;
+    let alloc = rt.alloc();
+    let server = read_server(alloc, matches, text_of(matches, "server"))?;
+    let place = String::from_str(alloc, text_of(matches, "path"))?;
+    let remote = open(alloc, world, &server)?;
     let mut progress = PutProgress::new(terminal);
-    let put = put_path(rt, &mut client, &mut progress, text_of(matches, "path"));
+    let put = put_over::<R, W::Link, Brand, T>(rt, &server, remote, &mut progress, place);
     progress.clear();
     let digest = put?;
-    print_digest(rt.alloc(), &digest, out)?;
+    print_digest(alloc, &digest, out)?;
     Ok(())
 }

@@ -9,12 +9,12 @@ ghost use Rattle.commands.specs.Status.{status_of};
 use crate::connecting::read_prefix;
 use crate::error::CommandError;
 use crate::options::{is_address, number_in, unlike};
-use cache_server::Cache;
+use cache_server::{Cache, Server};
 use clap::ArgMatches;
 use command_lines::text_of;
 use http_core::Prefix;
 use log::Log;
-use service::serve;
+use service::{serve, serve_together};
 use std::alloc::Global;
 use std::hash::RandomState;
 use std::io::Write;
@@ -28,6 +28,9 @@ const GREATEST_LIMIT: u64 = 9_223_372_036_854_775_807;
 /// For how many seconds a connection may be silent, where nothing else is said.
 const IDLE_SECONDS: u64 = 60;
 
+/// The most connections that are served at a time.
+const GREATEST_AT_ONCE: u64 = 1024;
+
 /// What the words of `serve` ask for.
 #[derive(Drop)]
 struct Asked<'a> {
@@ -36,6 +39,7 @@ struct Asked<'a> {
     limit: u64,
     result_limit: u64,
     idle: u64,
+    at_once: usize,
     prefix: Prefix<Global>,
 }
 
@@ -82,6 +86,17 @@ fn read_idle(alloc: Global, matches: &ArgMatches<'_>) -> Result<u64, CommandErro
     }
 }
 
+/// The number of `--at-once`, at least 1.
+fn read_at_once(alloc: Global, matches: &ArgMatches<'_>) -> Result<usize, CommandError> {
+    match matches.get_str("at-once") {
+        Some(_) => {
+            let number = read_number(alloc, matches, "at-once", GREATEST_AT_ONCE)?;
+            Ok((number as usize).max(1))
+        }
+        None => Ok(1),
+    }
+}
+
 fn read_asked<'a>(alloc: Global, matches: &ArgMatches<'a>) -> Result<Asked<'a>, CommandError>
     ensures { IfOk result (λ asked. (asked.limit < 2 ^ 63) × (asked.result_limit < 2 ^ 63)) }
 {
@@ -90,6 +105,7 @@ fn read_asked<'a>(alloc: Global, matches: &ArgMatches<'a>) -> Result<Asked<'a>, 
     let limit = read_number(alloc, matches, "limit", GREATEST_LIMIT)?;
     let result_limit = read_number(alloc, matches, "result-limit", GREATEST_LIMIT)?;
     let idle = read_idle(alloc, matches)?;
+    let at_once = read_at_once(alloc, matches)?;
     let prefix = read_prefix(alloc, matches)?;
     Ok(Asked {
         address,
@@ -97,6 +113,7 @@ fn read_asked<'a>(alloc: Global, matches: &ArgMatches<'a>) -> Result<Asked<'a>, 
         limit,
         result_limit,
         idle,
+        at_once,
         prefix,
     })
 }
@@ -162,6 +179,18 @@ where
         0 => None,
         seconds => Some(Duration::from_secs(seconds)),
     };
+    if asked.at_once > 1 {
+        let mut server = Server::new(alloc, cache, asked.prefix);
+        return serve_together(
+            rt,
+            listener,
+            asked.connections,
+            asked.at_once,
+            idle,
+            &mut server,
+        )
+        .map_err(CommandError::Accept);
+    }
     serve(
         rt,
         &listener,

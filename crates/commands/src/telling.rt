@@ -1,7 +1,8 @@
-ghost use Rattle.std.specs.Prelude.{◌≡◌, IfOk, IfErr, OnOk, OnErr};
+ghost use Rattle.std.specs.Prelude.{◌≡◌, ◌≢◌, IfOk, IfErr, OnOk, OnErr};
 ghost use Rattle.std.specs.Io.KnownBytes.{Appends};
+ghost use Rattle.commands.specs.Refusal.{IsOutputFault};
 ghost use Rattle.commands.specs.Status.{status_of};
-ghost use Rattle.commands.specs.Told.{AppendsPart, IsErrorLine, TellsError};
+ghost use Rattle.commands.specs.Told.{AppendsPart, IsErrorLine, TellsOf};
 ghost use Rattle.report.specs.Line.{HasNoNewline};
 
 use crate::error::CommandError;
@@ -13,6 +14,7 @@ pub(crate) fn write_bytes<O: Write>(out: &mut O, bytes: &[u8]) -> Result<(), Com
     ensures written { OnOk result (Appends (O.contents out.old) (O.contents out.new) bytes.now) }
     ensures part { OnErr result (AppendsPart (O.contents out.old) (O.contents out.new) bytes.now) }
     ensures fault { IfErr result (λ e. status_of e ≡ 3) }
+    ensures output { IfErr result IsOutputFault }
 {
     let mut rest = bytes;
     for _ in 0..u64::MAX {
@@ -48,10 +50,14 @@ fn in_one_line(alloc: Global, text: &[u8]) -> Result<Vec<u8>, AllocError>
     Ok(line)
 }
 
-/// The error's line.
+/// The error's line. That memory is wanting is told without any.
 fn error_line(alloc: Global, error: &CommandError) -> Result<Vec<u8>, AllocError>
-    ensures { IfOk result (λ line. IsErrorLine line.items) }
+    ensures lawful { IfOk result (λ line. IsErrorLine line.items) }
+    ensures other { IfOk result (λ _. error.now ≢ CommandError.Memory) }
 {
+    if matches!(error, CommandError::Memory) {
+        return Err(AllocError);
+    }
     let text = error.to_string(alloc)?;
     let told = in_one_line(alloc, text.as_bytes())?;
     let mut line = Vec::new(alloc);
@@ -63,7 +69,7 @@ fn error_line(alloc: Global, error: &CommandError) -> Result<Vec<u8>, AllocError
 
 /// Tells the error in one line. Where memory is out for that, the line tells want of memory.
 pub fn tell<E: Write>(alloc: Global, error: &CommandError, err: &mut E)
-    ensures { TellsError (E.contents err.old) (E.contents err.new) }
+    ensures { TellsOf error.now (E.contents err.old) (E.contents err.new) }
 {
     let _ = match error_line(alloc, error) {
         Ok(line) => write_bytes(err, &line),

@@ -10,7 +10,7 @@ use Rattle.std.specs.declared.io.ErrorKind.TheVariants.{NotFound, OutOfMemory}
 use Rattle.std.specs.declared.vec.Vec.{Vec}
 use Rattle.blob_digest.specs.Digest.{DigestValue}
 use Rattle.blob_digest.specs.Text.{digest_text}
-use Rattle.blob_source.specs.Source.{Telling}
+use Rattle.blob_source.specs.Source.{Telling, bytes_of}
 use Rattle.blob_source.specs.declared.source.FetchError.{FetchError}
 use Rattle.blob_source.specs.declared.source.FetchError.TheVariants.{Failed}
 use Rattle.remote.specs.declared.files.FileError.{FileError}
@@ -103,10 +103,19 @@ pub record IsFreshFolder {R A : Type 0} (place : List ℕ) (s : FolderSource R A
   pub calls : (telling_of s).calls ≡ 0
   pub unfailed : error_of s ≡ None
 
+-- what was read of the file at a path: its bytes, where it is there
+abbrev pub IsReadAt : (List ℕ → List ℕ → Type 0) → List ℕ → Option (List ℕ) → Type 0
+IsReadAt reads path None = Unit {0}
+IsReadAt reads path (Some bytes) = reads path bytes
+
+-- the file at a path couldn't be read, for this, or memory ran out
+abbrev pub FailsAt : {A : Type 0} → (List ℕ → FileError A → Type 0) → List ℕ → FileError A → Type 0
+FailsAt fails path e = (e ≡ Memory) ⊎ fails path e
+
 -- A call that asked for the file at a path, of this digest. What is kept is told without the file,
--- so that no fault of it is a failure.
+-- so that no fault of it is a failure, and else it is told what was read.
 pub record LooksInFolder {A : Type 0}
-    (path : List ℕ) (d : DigestValue) (old new : Option (FileError A)) (before after : Table A)
+    (reads : List ℕ → List ℕ → Type 0) (fails : List ℕ → FileError A → Type 0) (path : List ℕ) (d : DigestValue) (old new : Option (FileError A)) (before after : Table A)
     (result : Result (Option (Vec ℕ A)) FetchError) : Type 0 where
   pub kept : HasAnswer before d → IsErrOf result Failed → ⊥
   pub absent : HasAnswer before d → told_by before d ≡ None → result ≡ Ok None
@@ -114,5 +123,7 @@ pub record LooksInFolder {A : Type 0}
   pub held : IfOk result (λ answer. HasAnswer after d)
   pub unheld : OnErr result (KeepsAnswers before after)
   pub others : IsSameBut d before after
+  pub read : (HasAnswer before d → ⊥) → IfOk result (λ answer. IsReadAt reads path (bytes_of answer))
   pub failed : IsErrOf result Failed → IsSomeAnd new (IsFaultAt path)
+  pub fault : IsErrOf result Failed → IsSomeAnd new (FailsAt fails path)
   pub unfailed : (IsErrOf result Failed → ⊥) → new ≡ old

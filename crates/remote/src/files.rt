@@ -1,4 +1,4 @@
-ghost use Rattle.std.specs.Prelude.{◌≡◌, ◌≢◌, ◌≤◌, IfErr, IfOk, Ok, OnOk, vec_len};
+ghost use Rattle.std.specs.Prelude.{◌≡◌, ◌≢◌, ◌≤◌, ℕ, List, IfErr, IfOk, Ok, OnOk, vec_len};
 ghost use Rattle.remote.specs.Folder.{IsErrorOf, IsReadable, TellsFault, TellsUnreadable};
 
 use std::alloc::{AllocError, Allocator};
@@ -32,6 +32,38 @@ impl<A: Allocator> From<AllocError> for FileError<A> {
 
     fn from(_e: AllocError) -> FileError<A> {
         FileError::Memory
+    }
+}
+
+/// What reads files.
+pub trait FileReader<A: Allocator> {
+    ghost use Rattle.remote.specs.declared.files.FileError.{FileError};
+
+    /// The file at the path was read, and had these bytes.
+    ghost reads: { List ℕ → List ℕ → Type 0 };
+
+    /// It couldn't be read, for this.
+    ghost fails: { List ℕ → FileError A → Type 0 };
+
+    /// The bytes of the file there.
+    fn read_at(&self, alloc: A, path: &str) -> Result<Vec<u8, A>, FileError<A>>
+        ensures read { IfOk result (λ bytes. reads path.now bytes.items) }
+        ensures error { IfErr result (IsErrorOf path.now) }
+        ensures fault { IfErr result (fails path.now) };
+}
+
+/// The files of the system, of which nothing is known.
+#[derive(Drop)]
+pub struct SystemFiles<'r, R>(pub &'r R);
+
+impl<'r, R: Files + Alloc<A = A>, A: Allocator + Copy> FileReader<A> for SystemFiles<'r, R> {
+    ghost reads = { λ _ _. Unit {0} };
+
+    ghost fails = { λ _ _. Unit {0} };
+
+    fn read_at(&self, alloc: A, path: &str) -> Result<Vec<u8, A>, FileError<A>> {
+        let _alloc = alloc;
+        read_file(self.0, path)
     }
 }
 

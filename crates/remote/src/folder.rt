@@ -4,25 +4,24 @@ ghost use Rattle.std.specs.Prelude.{◌↔◌, IsTrue, codes, string_bytes};
 ghost use Rattle.blob_source.specs.Called.{Calls};
 ghost use Rattle.blob_source.specs.Source.{AsksBlob, AsksResult, GrowsAt, bytes_of, greatest_count};
 ghost use Rattle.remote.specs.Folder.{IsErrorOf, IsFaultAt, IsFreshFolder, IsNotThere, IsReadAs};
-ghost use Rattle.remote.specs.Folder.{LooksInFolder};
+ghost use Rattle.remote.specs.Folder.{FailsAt, IsReadAt, LooksInFolder};
 ghost use Rattle.remote.specs.Folder.{entry_path};
 ghost use Rattle.remote.specs.Folder.{blobs_of, error_of, place_of, results_of, telling_of};
 ghost use Rattle.remote.specs.Table.{HasAnswer, IsSameBut, KeepsAnswers, told_by};
 ghost use Rattle.remote.specs.declared.files.FileError.TheVariants as errors;
 
 use crate::asking::keep_answer;
-use crate::files::{FileError, read_file};
+use crate::files::{FileError, FileReader};
 use crate::table::Table;
 use blob_digest::Digest;
 use blob_source::{BlobSource, FetchError};
 use std::alloc::{AllocError, Allocator};
 use std::io::ErrorKind;
-use std::rt::Files;
 
 /// A folder of files, and how often reading them failed.
 #[derive(Drop)]
-struct Folder<'r, R, A: Allocator> {
-    rt: &'r R,
+struct Folder<'r, F, A: Allocator> {
+    files: &'r F,
     place: String<A>,
     failures: u64,
     error: Option<FileError<A>>,
@@ -32,23 +31,23 @@ struct Folder<'r, R, A: Allocator> {
 /// kept, also that a file isn't there, which is no blob; any other fault of a file is a failure.
 /// What the files hold isn't believed: who asks hashes it.
 #[derive(Drop)]
-pub struct FolderSource<'r, R, A: Allocator> {
-    folder: Folder<'r, R, A>,
+pub struct FolderSource<'r, F, A: Allocator> {
+    folder: Folder<'r, F, A>,
     blobs: Table<A>,
     results: Table<A>,
     calls: u64,
 }
 
-impl<'r, R: Files + Alloc<A = A>, A: Allocator + Copy> FolderSource<'r, R, A> {
+impl<'r, F: FileReader<A>, A: Allocator + Copy> FolderSource<'r, F, A> {
     /// The store in this folder.
-    pub fn new(rt: &'r R, place: String<A>) -> FolderSource<'r, R, A>
+    pub fn new(alloc: A, files: &'r F, place: String<A>) -> FolderSource<'r, F, A>
         ensures { IsFreshFolder (string_bytes place) result }
     {
         FolderSource {
-            blobs: Table::new(rt.alloc()),
-            results: Table::new(rt.alloc()),
+            blobs: Table::new(alloc),
+            results: Table::new(alloc),
             folder: Folder {
-                rt,
+                files,
                 place,
                 failures: 0,
                 error: None,
@@ -65,7 +64,7 @@ impl<'r, R: Files + Alloc<A = A>, A: Allocator + Copy> FolderSource<'r, R, A> {
     }
 }
 
-impl<'r, R: Files + Alloc<A = A>, A: Allocator + Copy> Folder<'r, R, A> {
+impl<'r, F: FileReader<A>, A: Allocator + Copy> Folder<'r, F, A> {
     /// Counts a failure, unless the error is want of memory or the count is full.
     fn fail(&mut self, error: FileError<A>) -> FetchError
         ensures kept { result ≡ FetchError.Failed → self.new.error ≡ Some error }
@@ -86,12 +85,21 @@ impl<'r, R: Files + Alloc<A = A>, A: Allocator + Copy> Folder<'r, R, A> {
     }
 
     /// The bytes of the file for a digest in a part of the folder, if it is there.
-    fn read(&self, part: &str, digest: &Digest) -> Result<Option<Vec<u8, A>>, FileError<A>>
-        ensures { IfErr result
+    fn read(
+        &self,
+        alloc: A,
+        part: &str,
+        digest: &Digest,
+    ) -> Result<Option<Vec<u8, A>>, FileError<A>>
+        ensures read { IfOk result (λ answer. IsReadAt F.reads
+            (entry_path (string_bytes self.now.place) part.now digest.now) (bytes_of answer)) }
+        ensures error { IfErr result
             (IsErrorOf (entry_path (string_bytes self.now.place) part.now digest.now)) }
+        ensures fault { IfErr result (FailsAt F.fails
+            (entry_path (string_bytes self.now.place) part.now digest.now)) }
     {
-        let path = entry_path(self.rt.alloc(), self.place.as_str(), part, digest)?;
-        answer_of(read_file(self.rt, path.as_str()))
+        let path = entry_path(alloc, self.place.as_str(), part, digest)?;
+        answer_of(self.files.read_at(alloc, path.as_str()))
     }
 
     /// Answers from the table, or else reads the file and keeps what it holds.
@@ -111,8 +119,13 @@ impl<'r, R: Files + Alloc<A = A>, A: Allocator + Copy> Folder<'r, R, A> {
         ensures same { HasAnswer table.old digest.now → KeepsAnswers table.old table.new }
         ensures unheld { OnErr result (KeepsAnswers table.old table.new) }
         ensures others { IsSameBut digest.now table.old table.new }
+        ensures read { (HasAnswer table.old digest.now → ⊥)
+            → IfOk result (λ answer. IsReadAt F.reads
+            (entry_path (string_bytes self.old.place) part.now digest.now) (bytes_of answer)) }
         ensures failed { IsErrOf result FetchError.Failed → IsSomeAnd self.new.error
             (IsFaultAt (entry_path (string_bytes self.old.place) part.now digest.now)) }
+        ensures fault { IsErrOf result FetchError.Failed → IsSomeAnd self.new.error
+            (FailsAt F.fails (entry_path (string_bytes self.old.place) part.now digest.now)) }
         ensures counted { IsErrOf result FetchError.Failed
             → self.new.failures ≡ self.old.failures + 1 }
         ensures unfailed { (IsErrOf result FetchError.Failed → ⊥) → self.new ≡ self.old }
@@ -124,7 +137,7 @@ impl<'r, R: Files + Alloc<A = A>, A: Allocator + Copy> Folder<'r, R, A> {
         if table.has(digest) {
             return Ok(table.copied(alloc, digest)?);
         }
-        match self.read(part, digest) {
+        match self.read(alloc, part, digest) {
             Ok(answer) => {
                 keep_answer(alloc, table, digest, &answer)?;
                 Ok(answer)
@@ -176,7 +189,7 @@ fn entry_path<A: Allocator + Copy>(
     format!(in alloc; "{place}/{part}/{hash}")
 }
 
-impl<'r, R: Files + Alloc<A = A>, A: Allocator + Copy> BlobSource<A> for FolderSource<'r, R, A> {
+impl<'r, F: FileReader<A>, A: Allocator + Copy> BlobSource<A> for FolderSource<'r, F, A> {
     ghost tells = { telling_of };
 
     fn fetch(&mut self, alloc: A, digest: &Digest) -> Result<Option<Vec<u8, A>>, FetchError>
@@ -184,7 +197,7 @@ impl<'r, R: Files + Alloc<A = A>, A: Allocator + Copy> BlobSource<A> for FolderS
             (λ answer. bytes_of answer ≡ (telling_of self.new).blobs digest.now) }
         ensures called { Calls (AsksBlob digest.now) (telling_of self.old) (telling_of self.new)
             (IsErrOf result FetchError.Failed) }
-        ensures looked { LooksInFolder
+        ensures looked { LooksInFolder F.reads F.fails
             (entry_path (place_of self.old) (codes "cas") digest.now) digest.now
             (error_of self.old) (error_of self.new) (blobs_of self.old) (blobs_of self.new) result }
         ensures untouched { results_of self.new ≡ results_of self.old }
@@ -199,7 +212,7 @@ impl<'r, R: Files + Alloc<A = A>, A: Allocator + Copy> BlobSource<A> for FolderS
             (λ answer. bytes_of answer ≡ (telling_of self.new).results digest.now) }
         ensures called { Calls (AsksResult digest.now) (telling_of self.old) (telling_of self.new)
             (IsErrOf result FetchError.Failed) }
-        ensures looked { LooksInFolder
+        ensures looked { LooksInFolder F.reads F.fails
             (entry_path (place_of self.old) (codes "ac") digest.now) digest.now
             (error_of self.old) (error_of self.new)
             (results_of self.old) (results_of self.new) result }

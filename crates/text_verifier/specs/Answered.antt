@@ -1,5 +1,5 @@
 -- Answers of the verifier as lines.
-use Rattle.std.specs.Prelude.{◌≡◌, ◌↔◌, ℕ, List, IsTrue, string_bytes}
+use Rattle.std.specs.Prelude.{◌≡◌, ◌↔◌, IsTrue, string_bytes}
 use Rattle.report.specs.Line.{IsOneLine, report_line}
 use Rattle.blob_source.specs.Source.{Telling}
 use Rattle.tree.specs.Memo.{Asked}
@@ -8,7 +8,7 @@ use Rattle.verifier.specs.Headline.{EveryRunEndsIn, NoRunIsStuck}
 use Rattle.verifier.specs.LooksAt.{PlanLooksAt}
 use Rattle.verifier.specs.Verdict.{IsVerdict, IsYes}
 use Rattle.text_verifier.specs.declared.answering.Answer.{Answer}
-use Rattle.text_verifier.specs.Texts.{HasTexts, Question}
+use Rattle.text_verifier.specs.Texts.{Question}
 
 -- The verdict on a question by what a store told. Where it is yes, every complete run of the plan
 -- ends in exactly the claimed root, and no run is ever stuck.
@@ -29,13 +29,6 @@ pub record IsAnswer {A : Type 0} (told : Telling) (q : Question) (answer : Answe
   pub verdict : Verdict A
   pub judged : IsJudged told q verdict
   pub tells : TellsVerdict answer verdict
-
--- the texts ask a question, and this is the answer to it
-pub record AnswersTexts {A : Type 0} (told : Telling) (sources claim plan noted : List ℕ)
-    (answer : Answer A) : Type 0 where
-  pub question : Question
-  pub texts : HasTexts sources claim plan noted question
-  pub is : IsAnswer told question answer
 
 -- what the verifier looks at for a question, up to the first fault
 abbrev pub AnswerLooksAt : (A : Type 0) → Telling → Question → Asked → Type 0

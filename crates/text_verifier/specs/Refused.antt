@@ -1,4 +1,4 @@
--- Why texts have no answer: the first fault, in the order sources, claim, plan, record.
+-- Why texts have no answer.
 use Rattle.std.specs.Prelude.{◌≡◌, ◌↔◌, ℕ, List, Result, Ok, Err}
 use Rattle.blob_digest.specs.Digest.{DigestValue}
 use Rattle.blob_digest.specs.Text.{BeginsWithHash}
@@ -6,20 +6,17 @@ use Rattle.blob_digest.specs.declared.error.DigestError.{DigestError}
 use Rattle.blob_digest.specs.declared.error.DigestError.TheVariants.{BadHex}
 use Rattle.plan.specs.declared.error.PlanError.{PlanError}
 use Rattle.plan.specs.Faults.{IsPlanFault}
-use Rattle.plan.specs.Record.{IsRecordFault, names_of}
-use Rattle.plan.specs.Values.{PlanValue}
+use Rattle.plan.specs.Record.{IsRecordFault}
 use Rattle.verifier.specs.declared.error.VerifyError.{VerifyError}
 use Rattle.verifier.specs.declared.error.VerifyError.TheVariants as verifying
 use Rattle.text_verifier.specs.declared.error.TextError.{TextError}
 use Rattle.text_verifier.specs.declared.error.TextError.TheVariants.{Sources, Claim, Plan, Record}
 use Rattle.text_verifier.specs.declared.error.TextError.TheVariants.{Fetch, Memory}
-use Rattle.text_verifier.specs.Texts.{HasPlan, HasTexts, Question, IsDigestText}
+use Rattle.text_verifier.specs.Texts.{IsDigestText}
 
 abbrev pub of_verify : VerifyError → TextError
 of_verify verifying.Fetch = Fetch
 of_verify verifying.Memory = Memory
-
--- ---- the parts
 
 -- why a text spells no digest
 pub record IsNoDigest (text : List ℕ) (fault : DigestError) : Type 0 where
@@ -66,31 +63,7 @@ IsNoFault (Record fault) = ⊥
 IsNoFault Fetch = Unit {0}
 IsNoFault Memory = Unit {0}
 
-abbrev pub IsTextFault : TextError → Type 0
-IsTextFault e = ¬ IsNoFault e
-
 -- this is answered, unless memory ran out
 abbrev pub GivesUnlessMemory : {X : Type 0} → Result X TextError → X → Type 0
 GivesUnlessMemory (Ok x) y = x ≡ y
 GivesUnlessMemory (Err e) y = e ≡ Memory
-
--- ---- the whole
-
--- The text of a record is none of the plan whose text this is.
-pub record IsRecordFaultOf (plan noted : List ℕ) (e : PlanError) : Type 0 where
-  pub planned : PlanValue
-  pub plan_is : HasPlan plan planned
-  pub fault : IsRecordFault (names_of planned) noted e
-
--- Why these texts have no answer. Where a text is at fault, those before it aren't; the source
--- fails only where none is, and memory is said to be wanting only where the digests are spelled.
-abbrev pub FailsTexts : List ℕ → List ℕ → List ℕ → List ℕ → TextError → Type 0
-FailsTexts sources claim plan noted (Sources fault) = IsNoDigest sources fault
-FailsTexts sources claim plan noted (Claim fault) = IsSpelled sources × IsNoDigest claim fault
-FailsTexts sources claim plan noted (Plan fault) =
-    IsSpelled sources × IsSpelled claim × IsPlanFault plan fault
-FailsTexts sources claim plan noted (Record fault) =
-    IsSpelled sources × IsSpelled claim × IsRecordFaultOf plan noted fault
-FailsTexts sources claim plan noted Fetch =
-    (question : Question) × HasTexts sources claim plan noted question
-FailsTexts sources claim plan noted Memory = IsSpelled sources × IsSpelled claim

@@ -1,14 +1,12 @@
 ghost use Rattle.std.specs.Prelude.{◌≤◌, ◌+◌, List, IfOk, IfErr, IsErrOf, length};
 ghost use Rattle.blob_source.specs.Called.{Called};
-ghost use Rattle.plan.specs.Record.{Fits};
 ghost use Rattle.text_verifier.specs.Answered.{IsAnswer, AnswerLooksAt};
 ghost use Rattle.text_verifier.specs.Refused.{IsNoFault};
-ghost use Rattle.text_verifier.specs.Texts.{question_of};
 ghost use Rattle.tree.specs.Memo.{Asked, Covers};
 
+use crate::case::Case;
 use crate::error::TextError;
 use crate::reading::Digests;
-use plan::{Plan, Record};
 use report::{is_yes, report};
 use std::alloc::Allocator;
 use tree::BlobSource;
@@ -24,29 +22,25 @@ pub struct Answer<A: Allocator> {
     pub is_yes: bool,
 }
 
-/// The answer on a plan and its record, by what the source tells.
+/// The answer on the case, by what the source tells.
 pub fn answer_question<A: Allocator + Copy, S: BlobSource<A>>(
     alloc: A,
-    digests: &Digests,
-    plan: &Plan<A>,
-    noted: &Record<A>,
+    case: &Case<A>,
     source: &mut S,
 ) -> Result<Answer<A>, TextError>
-    requires { Fits noted.now plan.now }
     // The line is that of the one verdict, and what a yes says holds.
-    ensures answered { IfOk result (IsAnswer (S.tells source.new)
-        (question_of digests.now.sources digests.now.claim plan.now noted.now)) }
+    ensures answered { IfOk result (IsAnswer (S.tells source.new) case.now) }
     // It is refused where the source fails or memory runs out.
     ensures refused { IfErr result IsNoFault }
     // The source is asked as the verifier asks.
     ensures called { Called (S.tells source.old) (S.tells source.new)
         (IsErrOf result TextError.Fetch) }
     ensures few { (list : List Asked)
-        → Covers (AnswerLooksAt A (S.tells source.new)
-        (question_of digests.now.sources digests.now.claim plan.now noted.now)) list
+        → Covers (AnswerLooksAt A (S.tells source.new) case.now) list
         → (S.tells source.new).calls ≤ (S.tells source.old).calls + length list }
 {
-    let verdict = verify(alloc, &digests.sources, plan, noted, &digests.claim, source)?;
+    let Digests { sources, claim } = case.digests;
+    let verdict = verify(alloc, &sources, &case.plan, &case.noted, &claim, source)?;
     Ok(Answer {
         line: report(alloc, &verdict)?,
         is_yes: is_yes(&verdict),

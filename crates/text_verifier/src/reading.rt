@@ -54,7 +54,7 @@ pub fn read_plan<A: Allocator + Copy>(alloc: A, text: &[u8]) -> Result<Plan<A>, 
 }
 
 /// The record of this text, for the plan.
-pub fn read_record<A: Allocator + Copy>(
+pub(crate) fn read_record<A: Allocator + Copy>(
     alloc: A,
     text: &[u8],
     plan: &Plan<A>,

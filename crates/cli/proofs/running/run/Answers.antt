@@ -36,5 +36,5 @@ pub returns-in_err-run_verify-in-Some-verify-default-clause-refused : goal.retur
 returns-in_err-run_verify-in-Some-verify-default-clause-refused g c =
     let words = map string_bytes c.args.words.now in
     let rows = options_found (subcommand_rows_of c.in-Ok.matches) (subcommand_of program_line words) _ c.in-Ok.ensures.called c.in-Some-verify-default.ensures.rows in
-    exit_by (λ fault. CallsCommand words (codes "verify") → FailsVerify (options_of words) fault) _ c.from_residual.ensures.1
+    exit_by (λ fault. CallsCommand words (codes "verify") → FailsVerify g.W.World.sees (options_of words) fault) _ c.from_residual.ensures.1
     (λ _. failed words rows c.in_err-run_verify-in-Some-verify-default.ensures.refused)

@@ -14,11 +14,11 @@ returns g c =
     let mid = g.E.Write.contents c.match-error_line.err in
     let new = g.E.Write.contents c.flush.new.self in
     elim c.match-error_line.branch [
-      | in-Ok w ↦ tells_by old mid new w.in-Ok.line.items (w.in-Ok.ensures {u = tt})
+      | in-Ok w ↦ tells_by c.args.error.now old mid new w.in-Ok.line.items w.in-Ok.ensures.lawful (λ is. absurd (w.in-Ok.ensures.other is))
           (subst (λ e. AppendsBeginning old (g.E.Write.contents e) w.in-Ok.line.items) (sym w.err-is)
           (subst (AppendsBeginning old (g.E.Write.contents w.write_bytes.new.out)) w.deref.ensures.value (beginning_of old (g.E.Write.contents w.write_bytes.new.out) _ w.write_bytes.result w.write_bytes.ensures.written w.write_bytes.ensures.part)))
           c.flush.ensures.bytes
-      | in-Err w ↦ tells_by old mid new (codes "error: out of memory\n") no_memory
+      | in-Err w ↦ tells_by c.args.error.now old mid new (codes "error: out of memory\n") no_memory (λ is. refl)
           (subst (λ e. AppendsBeginning old (g.E.Write.contents e) (codes "error: out of memory\n")) (sym w.err-is)
           (beginning_of old (g.E.Write.contents w.write_bytes-in-Err.new.out) (codes "error: out of memory\n") w.write_bytes-in-Err.result
           w.write_bytes-in-Err.ensures.written w.write_bytes-in-Err.ensures.part))

@@ -1,33 +1,46 @@
-use Rattle.std.proofs.Common.{rules}
+use Rattle.std.proofs.Common.{refl, rules}
 use Rattle.clap.specs.Words.{found_of, rows_of}
+use Rattle.commands.specs.Printed.{JudgesAsked}
 use Rattle.commands.specs.Refusal.{FailsVerify}
-use Rattle.commands.specs.Refusal.FailsVerify.{in_work}
+use Rattle.commands.specs.Refusal.FailsVerify.{in_output, in_place, in_record}
 use Rattle.commands.proofs.Exits.{exit_by}
+use Rattle.commands.proofs.Placed.{names_place}
+use Rattle.commands.proofs.Writing.{no_line_of_same, where_err}
 use Rattle.commands.proofs.verifying.run_verify.Goals as goal
+
+pub returns-in_err-case-clause-unended : goal.returns-in_err-case-clause-unended
+returns-in_err-case-clause-unended g c =
+    where_err c.from_residual-in_err-case.result (no_line_of_same (g.O.Write.contents c.args.out.now) (g.O.Write.contents c.args.out.now) refl)
+
+pub returns-in_err-case-clause-refused : goal.returns-in_err-case-clause-refused
+returns-in_err-case-clause-refused g c =
+    exit_by (FailsVerify g.W.World.sees (rows_of (found_of c.args.matches.now))) _ c.from_residual-in_err-case.ensures.1
+    (in_record c.in_ok-plan.plan (record {
+      place = names_place (rows_of (found_of c.args.matches.now)) c.in_ok-build.build c.in_ok-build.ensures.place;
+      sources = (c.in_ok-digests.digests.sources, c.in_ok-digests.ensures.sources);
+      claim = (c.in_ok-digests.digests.claim, c.in_ok-digests.ensures.claim);
+    }) c.in_ok-plan.ensures.found c.in_err-case.ensures.fault)
 
 pub returns-in_err-answer-clause-refused : goal.returns-in_err-answer-clause-refused
 returns-in_err-answer-clause-refused g c =
-    exit_by (FailsVerify (rows_of (found_of c.args.matches.now))) _ c.from_residual-in_err-answer.ensures.1 c.in_err-answer.ensures.refused
+    exit_by (FailsVerify g.W.World.sees (rows_of (found_of c.args.matches.now))) _ c.from_residual-in_err-answer.ensures.1
+    (in_place c.in_ok-case.case c.in_ok-case.ensures.asks c.in_err-answer.ensures.fault)
 
 pub returns-in_err-print_line-clause-refused : goal.returns-in_err-print_line-clause-refused
 returns-in_err-print_line-clause-refused g c =
-    exit_by (FailsVerify (rows_of (found_of c.args.matches.now))) _ c.from_residual-in_err-print_line.ensures.1
-    (in_work c.in_ok-answer.ensures.answered.0 c.in_err-print_line.ensures.fault)
+    let is = c.in_ok-answer.ensures.answered in
+    let judged : JudgesAsked g.W.World.sees (rows_of (found_of c.args.matches.now)) is.2.verdict =
+    record { question = c.in_ok-case.case; asks = c.in_ok-case.ensures.asks; told = is.0; source = is.1; judged = is.2.judged } in
+    exit_by (FailsVerify g.W.World.sees (rows_of (found_of c.args.matches.now))) _ c.from_residual-in_err-print_line.ensures.1
+    (in_output is.2.verdict judged c.in_err-print_line.ensures.fault)
 
 pub returns-clause-printed : goal.returns-clause-printed
 returns-clause-printed g c =
-    let asked = c.in_ok-answer.ensures.answered.0 in
-    let is = c.in_ok-answer.ensures.answered.1.1 in (
+    let is = c.in_ok-answer.ensures.answered in (
       record {
-        place = asked.place;
-        plan_bytes = asked.plan_bytes;
-        noted_bytes = asked.noted_bytes;
-        question = asked.question;
-        texts = asked.texts;
-        told = c.in_ok-answer.ensures.answered.1.0;
-        verdict = is.verdict;
-        judged = is.judged;
+        verdict = is.2.verdict;
+        judged = record { question = c.in_ok-case.case; asks = c.in_ok-case.ensures.asks; told = is.0; source = is.1; judged = is.2.judged };
         printed = search rules;
       },
-      is.tells.positive,
+      is.2.tells.positive,
     )

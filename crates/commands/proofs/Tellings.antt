@@ -1,0 +1,177 @@
+-- What a client and a store keep is what their calls brought.
+use Rattle.std.proofs.Common.{◌≡◌, ◌≢◌, ◌⊎◌, ◌∙◌, ℕ, List, Option, Some, None, Result, Ok, Err, IfOk, IfErr, OnErr, OnOk, inl, inr, refl, sym, ap, subst, Ordering}
+use Rattle.std.proofs.Math.Logic.{∥∥₁_map}
+use Rattle.std.specs.Prelude.{IsErrOf, IsSomeAnd}
+use Rattle.std.specs.Ordering.{nat_cmp, ordering_reverse, ordering_then}
+use Rattle.std.specs.Cmp.Lexicographic.{slice_cmp}
+use Rattle.std.specs.declared.alloc.Global.{Global}
+use Rattle.std.specs.declared.cmp.Ordering.TheVariants.{Less, Equal, Greater}
+use Rattle.std.specs.declared.vec.Vec.{Vec}
+use Rattle.std.proofs.lemmas.Cmp.{nat_cmp_total, nat_list_cmp_total}
+use Rattle.std.proofs.lemmas.Map.Lookups.{exact_bytes, exact_pairs, exact_unsigned}
+use Rattle.blob_digest.specs.Digest.{DigestValue, digest_cmp}
+use Rattle.blob_source.specs.Source.{Blobs, Grows, GrowsAt, bytes_of}
+use Rattle.blob_source.specs.Sink.{PutsAt}
+use Rattle.blob_source.specs.declared.source.FetchError.{FetchError}
+use Rattle.http_core.specs.declared.event.Area.{Area}
+use Rattle.remote.specs.Folder.{FailsAt, IsReadAt, LooksInFolder, entry_path}
+use Rattle.blob_source.specs.declared.source.FetchError.TheVariants.{Failed, Memory}
+use Rattle.remote.specs.Line.{ConnectionValue, Gets, Puts, get, put}
+use Rattle.remote.specs.Remote.{LooksUp, Stores}
+use Rattle.remote.specs.Table.{HasAnswer, answers, bytes_kept, told_by}
+use Rattle.remote.specs.declared.files.FileError.{FileError}
+use Rattle.remote.specs.declared.table.Table.{Table}
+use Rattle.commands.specs.Places.{CameAllOver, CameOver, Comes, FailsToRead, IsOver}
+use Rattle.commands.specs.Places.Comes.{fresh, got, taken, refused}
+use Rattle.commands.specs.World.{Sight}
+
+-- ---- digests
+
+self_equal : (o : Ordering) → o ≡ ordering_reverse o → o ≡ Equal
+self_equal Less e = absurd cc
+self_equal Equal e = refl
+self_equal Greater e = absurd cc
+
+digest_self : (d : DigestValue) → digest_cmp d d ≡ Equal
+digest_self d =
+    let hash = self_equal (slice_cmp nat_cmp d.hash d.hash) (nat_list_cmp_total.antisymm d.hash d.hash) in
+    let size = self_equal (nat_cmp d.size d.size) (nat_cmp_total.antisymm d.size d.size) in
+    ap (λ o. ordering_then o (nat_cmp d.size d.size)) hash ∙ size
+
+-- digests are the same or not
+pub same_or_other : (d e : DigestValue) → (e ≡ d) ⊎ (e ≢ d)
+same_or_other d e = by (digest_cmp d e) refl
+  where
+    less : Less ≡ Equal → ⊥
+    less h = cc
+
+    greater : Greater ≡ Equal → ⊥
+    greater h = cc
+
+    by : (o : Ordering) → digest_cmp d e ≡ o → (e ≡ d) ⊎ (e ≢ d)
+    by Equal q = inl (sym (ap (λ (p : List ℕ × ℕ). record { hash = p.0; size = p.1 }) (exact_pairs (slice_cmp nat_cmp) nat_cmp exact_bytes exact_unsigned (d.hash, d.size) (e.hash, e.size) q)))
+    by Less q = inr (λ is. less (sym q ∙ ap (digest_cmp d) is ∙ digest_self d))
+    by Greater q = inr (λ is. greater (sym q ∙ ap (digest_cmp d) is ∙ digest_self d))
+
+-- ---- what is there
+
+pub some_not_none : {X : Type 0} {x : X} → ◌≡◌ {A = Option X} (Some x) None → ⊥
+some_not_none e = cc
+
+there_or_not : {X : Type 0} (o : Option X) → (o ≢ None → ⊥) ⊎ (o ≢ None)
+there_or_not None = inl (λ h. h refl)
+there_or_not (Some x) = inr some_not_none
+
+same_bytes : {x y : List ℕ} → ◌≡◌ {A = Option (List ℕ)} (Some x) (Some y) → x ≡ y
+same_bytes e = cc
+
+-- what is told after a look-up was told before it, or is what the look-up answered
+pub told_anew : {A : Type 0} (P : DigestValue → List ℕ → Type 0) (d : DigestValue) (before after : Table A)
+    → ((e : DigestValue) (b : List ℕ) → told_by before e ≡ Some b → P e b)
+    → GrowsAt d (told_by before) (told_by after)
+    → ((b : List ℕ) → told_by before d ≡ None → told_by after d ≡ Some b → P d b)
+    → (e : DigestValue) (b : List ℕ) → told_by after e ≡ Some b → P e b
+told_anew P d before after held grows anew e b is = by (told_by before e) refl
+  where
+    by : (o : Option (List ℕ)) → told_by before e ≡ o → P e b
+    by (Some c) was = subst (P e) (same_bytes (sym (grows.kept e c was) ∙ is)) (held e c was)
+    by None was = elim (same_or_other d e) [
+      | inl same ↦ subst (λ x. P x b) (sym same) (anew b (subst (λ x. told_by before x ≡ None) same was) (subst (λ x. told_by after x ≡ Some b) same is))
+      | inr other ↦ absurd (some_not_none (sym is ∙ grows.others e other ∙ was))
+    ]
+
+-- ---- a server
+
+module _ {A : Type 0} (start : ConnectionValue) (area : Area) (d : DigestValue) (old new : ConnectionValue) (before after : Table A) where
+  -- the connection came to stand so
+  pub comes_on : (result : Result (Option (Vec ℕ A)) FetchError) → LooksUp area d old new before after result → Comes start old → Comes start new
+  comes_on (Ok answer) looks came = elim (there_or_not (answers before d)) [
+    | inl not ↦ got old new area d.hash (bytes_of answer) came (looks.answered not)
+    | inr has ↦ subst (Comes start) (sym (looks.kept has)) came
+  ]
+  comes_on (Err e) looks came = refused old new (get area d.hash) e came looks.refused
+
+  -- what is kept came over it
+  pub came_on : (result : Result (Option (Vec ℕ A)) FetchError) → LooksUp area d old new before after result → Comes start old
+      → IfOk result (λ answer. bytes_of answer ≡ told_by after d) → GrowsAt d (told_by before) (told_by after)
+      → CameAllOver start area (told_by before) → CameAllOver start area (told_by after)
+  came_on (Ok answer) looks came told grows held = told_anew (λ e b. CameOver start area e.hash b) d before after held grows anew
+    where
+      anew : (b : List ℕ) → told_by before d ≡ None → told_by after d ≡ Some b → CameOver start area d.hash b
+      anew b none is = elim (there_or_not (answers before d)) [
+        | inl not ↦ record { old = old; new = new; before = came; is = inl (subst (Gets old new area d.hash) (told ∙ is) (looks.answered not)) }
+        | inr has ↦ absurd (some_not_none (sym is ∙ ap bytes_kept ((looks.same has).same d) ∙ none))
+      ]
+  came_on (Err e) looks came told grows held = told_anew (λ e b. CameOver start area e.hash b) d before after held grows anew
+    where
+      anew : (b : List ℕ) → told_by before d ≡ None → told_by after d ≡ Some b → CameOver start area d.hash b
+      anew b none is = absurd (some_not_none (sym is ∙ ap bytes_kept (looks.unheld.same d) ∙ none))
+
+module _ {A T : Type 0} (start : ConnectionValue) (area : Area) (d : DigestValue) (bytes : List ℕ) (old new : ConnectionValue) (before after : Table A) where
+  pub comes_by_put : (result : Result T FetchError) → Stores area d bytes old new before after result → Comes start old → Comes start new
+  comes_by_put (Ok x) stores came = taken old new area d.hash bytes came stores.taken
+  comes_by_put (Err e) stores came = refused old new (put area d.hash bytes) e came stores.refused
+
+  -- what is kept came over it, or it took it
+  pub came_by_put : (result : Result T FetchError) → Stores area d bytes old new before after result → Comes start old
+      → PutsAt d bytes (told_by before) (told_by after) → CameAllOver start area (told_by before) → CameAllOver start area (told_by after)
+  came_by_put (Err e) stores came puts held f b is = held f b (sym (ap bytes_kept (stores.unheld.same f)) ∙ is)
+  came_by_put (Ok x) stores came puts held f b is = elim (same_or_other d f) [
+    | inr other ↦ held f b (sym (puts.others f other) ∙ is)
+    | inl same ↦ elim puts.there [
+      | inl stays ↦ held f b (subst (λ x. told_by before x ≡ Some b) (sym same) (sym stays ∙ subst (λ x. told_by after x ≡ Some b) same is))
+      | inr is_put ↦ record {
+        old = old;
+        new = new;
+        before = came;
+        is = subst (λ x. Gets old new area x.hash (Some b) ⊎ Puts old new area x.hash b) (sym same)
+            (inr (subst (Puts old new area d.hash) (same_bytes (sym is_put ∙ subst (λ x. told_by after x ≡ Some b) same is)) stores.taken));
+      }
+    ]
+  ]
+
+-- ---- a store folder
+
+module _ {A : Type 0} (reads : List ℕ → List ℕ → Type 0) (fails : List ℕ → FileError A → Type 0) where
+  -- what is kept was read
+  pub read_on : (at : DigestValue → List ℕ) (d : DigestValue) (error new_error : Option (FileError A)) (before after : Table A)
+      (result : Result (Option (Vec ℕ A)) FetchError)
+      → LooksInFolder reads fails (at d) d error new_error before after result
+      → IfOk result (λ answer. bytes_of answer ≡ told_by after d) → GrowsAt d (told_by before) (told_by after)
+      → ((e : DigestValue) (b : List ℕ) → told_by before e ≡ Some b → reads (at e) b)
+      → (e : DigestValue) (b : List ℕ) → told_by after e ≡ Some b → reads (at e) b
+  read_on at d error new_error before after (Ok answer) looks told grows held = told_anew (λ e b. reads (at e) b) d before after held grows anew
+    where
+      anew : (b : List ℕ) → told_by before d ≡ None → told_by after d ≡ Some b → reads (at d) b
+      anew b none is = elim (there_or_not (answers before d)) [
+        | inl not ↦ subst (IsReadAt reads (at d)) (told ∙ is) (looks.read not)
+        | inr has ↦ absurd (some_not_none (sym is ∙ ap bytes_kept ((looks.same has).same d) ∙ none))
+      ]
+  read_on at d error new_error before after (Err e) looks told grows held = told_anew (λ e b. reads (at e) b) d before after held grows anew
+    where
+      anew : (b : List ℕ) → told_by before d ≡ None → told_by after d ≡ Some b → reads (at d) b
+      anew b none is = absurd (some_not_none (sym is ∙ ap bytes_kept (looks.unheld.same d) ∙ none))
+
+of_some : {X : Type 0} (P : X → Type 0) (o : Option X) (x : X) → IsSomeAnd o P → o ≡ Some x → P x
+of_some P None x h e = absurd h
+of_some P (Some y) x h e = subst P (same_of e) h
+  where
+    same_of : ◌≡◌ (Some y) (Some x) → y ≡ x
+    same_of q = cc
+
+answered : {X : Type 0} (x : X) → ◌≡◌ {A = Result X FetchError} (Ok x) (Err Failed) → ⊥
+answered x e = cc
+
+refused_otherwise : {X : Type 0} → ◌≡◌ {A = Result X FetchError} (Err Memory) (Err Failed) → ⊥
+refused_otherwise e = cc
+
+-- the error of the last failure tells of a file in the folder
+pub failed_on : (sees : Sight) (folder part : List ℕ) (d : DigestValue) (error new_error : Option (FileError Global)) (before after : Table Global)
+    (result : Result (Option (Vec ℕ Global)) FetchError)
+    → LooksInFolder sees.reads sees.fails (entry_path folder part d) d error new_error before after result
+    → ((e : FileError Global) → error ≡ Some e → FailsToRead sees folder e)
+    → (e : FileError Global) → new_error ≡ Some e → FailsToRead sees folder e
+failed_on sees folder part d error new_error before after (Ok answer) looks was e is = was e (sym (looks.unfailed (answered answer)) ∙ is)
+failed_on sees folder part d error new_error before after (Err Memory) looks was e is = was e (sym (looks.unfailed refused_otherwise) ∙ is)
+failed_on sees folder part d error new_error before after (Err Failed) looks was e is =
+    record { part = part; digest = d; fails = of_some (FailsAt sees.fails (entry_path folder part d)) new_error e (looks.fault refl) is }

@@ -1,0 +1,27 @@
+use Rattle.std.proofs.Common.{subst, sym}
+use Rattle.std.proofs.Math.Logic.{∥∥₁_map}
+use Rattle.blob_digest.specs.Digest.{digest_of}
+use Rattle.http_core.specs.declared.event.Area.TheVariants.{Ac, Cas}
+use Rattle.remote.specs.Remote.{blobs_of, connection_of, results_of}
+use Rattle.remote.specs.Table.{told_by}
+use Rattle.commands.specs.Places.{CameAllOver}
+use Rattle.commands.proofs.Tellings.{came_by_put, comes_by_put}
+use Rattle.commands.proofs.client.ClientBlobSinkGlobal.put_result.Goals as goal
+
+pub invariant_of-self : goal.invariant_of-self
+invariant_of-self g c =
+    let start = g.K.Origin.start in
+    let flow = g.S.Stream.flow in
+    let old = c.args.self.now.remote in
+    let new = c.put_result.new.self in
+    let d = c.args.digest.now in
+    let bytes = c.args.bytes.now in
+    let stores = c.put_result.ensures.stored in
+    record {
+      over = ∥∥₁_map c.args.self.now.over (λ over. record {
+        came = comes_by_put start Ac d bytes (connection_of flow old) (connection_of flow new) (results_of old) (results_of new) c.put_result.result stores over.came;
+        results = came_by_put start Ac d bytes (connection_of flow old) (connection_of flow new) (results_of old) (results_of new) c.put_result.result stores over.came
+            c.put_result.ensures.called.asked.results over.results;
+        blobs = subst (λ t. CameAllOver start Cas (told_by t)) (sym c.put_result.ensures.untouched) over.blobs;
+      });
+    }

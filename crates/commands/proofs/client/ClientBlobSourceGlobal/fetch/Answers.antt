@@ -1,0 +1,25 @@
+use Rattle.std.proofs.Common.{subst, sym, ap}
+use Rattle.std.proofs.Math.Logic.{∥∥₁_map}
+use Rattle.http_core.specs.declared.event.Area.TheVariants.{Ac, Cas}
+use Rattle.remote.specs.Remote.{blobs_of, connection_of, results_of}
+use Rattle.remote.specs.Table.{told_by}
+use Rattle.commands.specs.Places.{CameAllOver}
+use Rattle.commands.proofs.Tellings.{came_on, comes_on}
+use Rattle.commands.proofs.client.ClientBlobSourceGlobal.fetch.Goals as goal
+
+pub invariant_of-self : goal.invariant_of-self
+invariant_of-self g c =
+    let start = g.K.Origin.start in
+    let flow = g.S.Stream.flow in
+    let old = c.args.self.now.remote in
+    let new = c.fetch.new.self in
+    let d = c.args.digest.now in
+    let looks = c.fetch.ensures.asked in
+    record {
+      over = ∥∥₁_map c.args.self.now.over (λ over. record {
+        came = comes_on start Cas d (connection_of flow old) (connection_of flow new) (blobs_of old) (blobs_of new) c.fetch.result looks over.came;
+        blobs = came_on start Cas d (connection_of flow old) (connection_of flow new) (blobs_of old) (blobs_of new) c.fetch.result looks over.came
+            c.fetch.ensures.told c.fetch.ensures.called.asked.blobs over.blobs;
+        results = subst (λ t. CameAllOver start Ac (told_by t)) (sym c.fetch.ensures.untouched) over.results;
+      });
+    }

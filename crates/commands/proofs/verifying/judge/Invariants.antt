@@ -1,0 +1,6 @@
+use Rattle.std.proofs.Common.{string_bytes}
+use Rattle.commands.proofs.verifying.judge.Given as goal
+
+-- the folder that the words name
+abbrev pub ghosts-judge_folder : goal.ghosts-judge_folder
+ghosts-judge_folder g a = record { place = string_bytes a.folder }

@@ -1,0 +1,132 @@
+-- What a source over a place outside tells: a store folder, or a server.
+use Rattle.std.specs.Prelude.{◌≡◌, ◌⊎◌, ℕ, false, List, [], Option, Some, None, codes}
+use Rattle.std.specs.Prelude.{string_bytes}
+use Rattle.std.specs.declared.alloc.Global.{Global}
+use Rattle.blob_digest.specs.Digest.{DigestValue}
+use Rattle.blob_source.specs.Source.{Blobs, Telling}
+use Rattle.blob_source.specs.declared.source.FetchError.{FetchError}
+use Rattle.http_core.specs.declared.event.Area.{Area}
+use Rattle.http_core.specs.declared.event.Area.TheVariants.{Ac, Cas}
+use Rattle.remote.specs.Flow.{unknown}
+use Rattle.remote.specs.Folder.{FailsAt, entry_path}
+use Rattle.remote.specs.Line.{ConnectionValue, Gets, Puts, RefusesRequest, Request}
+use Rattle.remote.specs.declared.files.FileError.{FileError}
+use Rattle.text_verifier.specs.Answered.{IsAnswer}
+use Rattle.text_verifier.specs.Texts.{Question}
+use Rattle.text_verifier.specs.declared.answering.Answer.{Answer}
+use Rattle.commands.specs.Faults.{of_file}
+use Rattle.commands.specs.World.{Sight}
+use Rattle.commands.specs.declared.error.CommandError.{CommandError}
+use Rattle.commands.specs.declared.error.CommandError.TheVariants.{Connection, Memory, Server}
+
+-- nothing is told so far
+pub record IsFresh (told : Telling) : Type 0 where
+  pub blobs : (d : DigestValue) → told.blobs d ≡ None
+  pub results : (d : DigestValue) → told.results d ≡ None
+
+-- the answer to the question by what such a source told
+abbrev pub IsTold : (Telling → Type 0) → Question → Answer Global → Type 0
+IsTold source question answer =
+    (told : Telling) × (∥ source told ∥₁) × IsAnswer told question answer
+
+-- ---- a store folder
+
+-- what is told was read in this part of the folder
+abbrev pub AreRead : Sight → List ℕ → List ℕ → Blobs → Type 0
+AreRead sees folder part told =
+    (d : DigestValue) (b : List ℕ) → told d ≡ Some b → sees.reads (entry_path folder part d) b
+
+-- a store in this folder told this
+pub record IsOfFolder (sees : Sight) (folder : List ℕ) (told : Telling) : Type 0 where
+  pub blobs : AreRead sees folder (codes "cas") told.blobs
+  pub results : AreRead sees folder (codes "ac") told.results
+
+-- a file of the store couldn't be read, for this
+pub record FailsToRead (sees : Sight) (folder : List ℕ) (e : FileError Global) : Type 0 where
+  pub part : List ℕ
+  pub digest : DigestValue
+  pub fails : FailsAt sees.fails (entry_path folder part digest) e
+
+-- and this is the error of its last failure
+pub record IsInFolder (sees : Sight) (folder : List ℕ) (told : Telling)
+    (error : Option (FileError Global)) : Type 0 where
+  pub told_is : IsOfFolder sees folder told
+  pub failed : (e : FileError Global) → error ≡ Some e → FailsToRead sees folder e
+
+-- the error tells that a file of the store couldn't be read, or that memory ran out
+abbrev pub FailsInFolder : Sight → List ℕ → CommandError → Type 0
+FailsInFolder sees folder e = (e ≡ Memory)
+    ⊎ ((f : FileError Global) × FailsToRead sees folder f × (e ≡ of_file f))
+
+-- ---- a server
+
+-- the error tells that no connection could be opened, or that memory ran out
+abbrev pub FailsToConnect : Sight → List ℕ → CommandError → Type 0
+FailsToConnect sees address (Connection server fault) =
+    (string_bytes server ≡ address) × sees.refuses address fault
+FailsToConnect sees address Memory = Unit {0}
+FailsToConnect sees address _ = ⊥
+
+-- a connection to the server at this address was opened, for requests with this host and prefix
+pub record IsOpened (sees : Sight) (address host prefix : List ℕ) (c : ConnectionValue)
+    : Type 0 where
+  pub connected : sees.connects address c.flow
+  pub host_is : c.host ≡ host
+  pub prefix_is : c.prefix ≡ prefix
+  pub unbroken : c.broken ≡ false
+  pub unfailed : c.fault ≡ None
+
+-- the connection came to stand so by requests, one after another, and replies to them
+pub data Comes (start : ConnectionValue) : ConnectionValue → Type 0 where
+  fresh : Comes start start
+  got : (old new : ConnectionValue) (area : Area) (hash : List ℕ) (answer : Option (List ℕ))
+      → Comes start old → Gets old new area hash answer → Comes start new
+  taken : (old new : ConnectionValue) (area : Area) (hash body : List ℕ)
+      → Comes start old → Puts old new area hash body → Comes start new
+  refused : (old new : ConnectionValue) (request : Request) (e : FetchError)
+      → Comes start old → RefusesRequest old new request e → Comes start new
+
+-- these bytes came over the connection as a reply for the hash, or it took them
+pub record CameOver (start : ConnectionValue) (area : Area) (hash bytes : List ℕ) : Type 0 where
+  pub old : ConnectionValue
+  pub new : ConnectionValue
+  pub before : Comes start old
+  pub is : Gets old new area hash (Some bytes) ⊎ Puts old new area hash bytes
+
+abbrev pub CameAllOver : ConnectionValue → Area → Blobs → Type 0
+CameAllOver start area told =
+    (d : DigestValue) (b : List ℕ) → told d ≡ Some b → CameOver start area d.hash b
+
+-- a client over the connection told this, which now stands so
+pub record IsOver (start now : ConnectionValue) (told : Telling) : Type 0 where
+  pub came : Comes start now
+  pub blobs : CameAllOver start Cas told.blobs
+  pub results : CameAllOver start Ac told.results
+
+-- the error tells of the last fault of the connection, or that memory ran out
+abbrev pub FailsOver : ConnectionValue → CommandError → Type 0
+FailsOver start (Server server asked digest fault) =
+    (now : ConnectionValue) × Comes start now × (now.fault ≡ Some fault)
+FailsOver start Memory = Unit {0}
+FailsOver start _ = ⊥
+
+abbrev pub IsToldOver : ConnectionValue → Telling → Type 0
+IsToldOver start told = (now : ConnectionValue) × IsOver start now told
+
+-- a client of the server at this address, under this prefix, told this
+pub record IsOfServer (sees : Sight) (address prefix : List ℕ) (told : Telling) : Type 0 where
+  pub start : ConnectionValue
+  pub opened : IsOpened sees address address prefix start
+  pub over : IsToldOver start told
+
+-- for a marker that names no connection
+abbrev pub no_connection : ConnectionValue
+no_connection = record {
+  flow = unknown;
+  host = [];
+  prefix = [];
+  broken = false;
+  shut = false;
+  failures = 0;
+  fault = None;
+}

@@ -1,0 +1,149 @@
+ghost use Rattle.std.specs.Prelude.{◌≡◌, IfErr, IfOk, string_bytes};
+ghost use Rattle.blob_digest.specs.Digest.{digest_of};
+ghost use Rattle.blob_source.specs.Sink.{HasRight};
+ghost use Rattle.commands.specs.Places.{FailsOver, FailsToConnect, IsFresh, IsOpened, IsOver};
+ghost use Rattle.commands.specs.Status.{status_of};
+ghost use Rattle.remote.specs.Remote.{connection_of, telling_of};
+
+use crate::connecting::ServerOptions;
+use crate::error::CommandError;
+use crate::world::World;
+use blob_digest::Digest;
+use blob_source::{BlobSink, BlobSource, FetchError};
+use remote::{Remote, Stream};
+use std::alloc::{AllocError, Global};
+use std::io::ErrorKind;
+use std::marker::{Brand, PhantomData};
+
+/// Marks a client by its connection, as that stood when it was opened.
+pub trait Origin {
+    ghost use Rattle.remote.specs.Line.{ConnectionValue};
+
+    ghost start: { ConnectionValue };
+}
+
+impl Origin for Brand {
+    ghost use Rattle.commands.specs.Places.{no_connection};
+
+    ghost start = { no_connection };
+}
+
+/// A remote over the marked connection, that knows what it was asked last.
+#[derive(Drop)]
+pub struct Client<S: Stream + Drop, K: Origin> {
+    remote: Remote<S, Global>,
+    asked: &'static str,
+    digest: Digest,
+    of: PhantomData<K>,
+    ghost over: { ∥ IsOver K.start (connection_of S.flow remote) (telling_of remote) ∥₁ },
+}
+
+impl<S: Stream + Drop, K: Origin> Client<S, K> {
+    /// A client over this connection.
+    pub fn new(remote: Remote<S, Global>) -> Client<S, K>
+        requires start { K.start ≡ connection_of S.flow remote }
+        requires fresh { IsFresh (telling_of remote) }
+    {
+        Client {
+            remote,
+            asked: "",
+            digest: Digest::empty(),
+            of: PhantomData,
+        }
+    }
+
+    /// Puts a blob.
+    pub(crate) fn put(
+        &mut self,
+        alloc: Global,
+        server: &ServerOptions,
+        bytes: &[u8],
+    ) -> Result<Digest, CommandError>
+        ensures named { IfOk result (λ digest. digest ≡ digest_of bytes.now) }
+        ensures held { IfOk result (HasRight (telling_of self.new.remote).blobs) }
+    {
+        match self.put_blob(alloc, bytes) {
+            Ok(digest) => Ok(digest),
+            Err(refusal) => Err(self.error(alloc, server, refusal)?),
+        }
+    }
+
+    /// The error of a call that was refused.
+    pub fn error(
+        &self,
+        alloc: Global,
+        server: &ServerOptions,
+        refusal: FetchError,
+    ) -> Result<CommandError, AllocError>
+        ensures over { IfOk result (λ e. ∥ FailsOver K.start e ∥₁) }
+        ensures status { IfOk result (λ e. status_of e ≡ 3) }
+    {
+        match self.remote.last_fault() {
+            Some(fault) if refusal == FetchError::Failed => Ok(CommandError::Server {
+                server: String::from_str(alloc, server.address.as_str())?,
+                asked: self.asked,
+                digest: self.digest.write_text(alloc)?,
+                fault,
+            }),
+            _ => Ok(CommandError::Memory),
+        }
+    }
+}
+
+impl<S: Stream + Drop, K: Origin> BlobSource<Global> for Client<S, K> {
+    ghost use Rattle.remote.specs.Remote.{telling_of};
+
+    ghost tells = { λ c. telling_of c.remote };
+
+    fn fetch(&mut self, alloc: Global, digest: &Digest) -> Result<Option<Vec<u8>>, FetchError> {
+        self.asked = "get of blob";
+        self.digest = *digest;
+        self.remote.fetch(alloc, digest)
+    }
+
+    fn result(&mut self, alloc: Global, digest: &Digest) -> Result<Option<Vec<u8>>, FetchError> {
+        self.asked = "get of result";
+        self.digest = *digest;
+        self.remote.result(alloc, digest)
+    }
+}
+
+impl<S: Stream + Drop, K: Origin> BlobSink<Global> for Client<S, K> {
+    fn put_blob(&mut self, alloc: Global, bytes: &[u8]) -> Result<Digest, FetchError> {
+        self.asked = "put of blob";
+        self.digest = Digest::of(bytes);
+        self.remote.put_blob(alloc, bytes)
+    }
+
+    fn put_result(
+        &mut self,
+        alloc: Global,
+        digest: &Digest,
+        bytes: &[u8],
+    ) -> Result<(), FetchError> {
+        self.asked = "put of result";
+        self.digest = *digest;
+        self.remote.put_result(alloc, digest, bytes)
+    }
+}
+
+/// A remote over a connection to the server, that was asked nothing.
+pub fn open<W: World>(
+    alloc: Global,
+    world: &W,
+    server: &ServerOptions,
+) -> Result<Remote<W::Link, Global>, CommandError>
+    ensures opened { IfOk result (λ remote. IsOpened W.sees (string_bytes server.now.address)
+        server.now.host server.now.prefix (connection_of W.Link.flow remote)) }
+    ensures fresh { IfOk result (λ remote. IsFresh (telling_of remote)) }
+    ensures fault { IfErr result (FailsToConnect W.sees (string_bytes server.now.address)) }
+{
+    match world.connect(alloc, server) {
+        Ok(link) => Ok(Remote::new(alloc, link, &server.host, &server.prefix)?),
+        Err(fault) if fault.kind() == ErrorKind::OutOfMemory => Err(CommandError::Memory),
+        Err(fault) => Err(CommandError::Connection {
+            server: String::from_str(alloc, server.address.as_str())?,
+            fault,
+        }),
+    }
+}

@@ -1,0 +1,68 @@
+ghost use Rattle.std.specs.Prelude.{◌≡◌, string_bytes};
+ghost use Rattle.commands.specs.Places.{FailsInFolder, IsInFolder};
+ghost use Rattle.remote.specs.Folder.{error_of, place_of, telling_of};
+
+use crate::error::CommandError;
+use crate::world::{FilesOf, World};
+use blob_digest::Digest;
+use blob_source::{BlobSource, FetchError};
+use remote::FolderSource;
+use std::alloc::Global;
+use std::marker::{Brand, PhantomData};
+
+/// Marks a store by its folder.
+pub trait Place {
+    ghost use Rattle.std.specs.Prelude.{ℕ, List};
+
+    ghost place: { List ℕ };
+}
+
+impl Place for Brand {
+    ghost use Rattle.std.specs.Prelude.{[]};
+
+    ghost place = { [] };
+}
+
+/// The store in the marked folder of a world.
+#[derive(Drop)]
+pub(crate) struct Shelf<'w, W: World, K: Place> {
+    store: FolderSource<'w, FilesOf<'w, W>, Global>,
+    of: PhantomData<K>,
+    ghost place: { place_of store ≡ K.place },
+    ghost told: { ∥ IsInFolder W.sees K.place (telling_of store) (error_of store) ∥₁ },
+}
+
+impl<'w, W: World, K: Place> Shelf<'w, W, K> {
+    pub(crate) fn new(alloc: Global, files: &'w FilesOf<'w, W>, folder: String) -> Shelf<'w, W, K>
+        requires { K.place ≡ string_bytes folder }
+    {
+        Shelf {
+            store: FolderSource::new(alloc, files, folder),
+            of: PhantomData,
+        }
+    }
+
+    /// The error of a look-up that failed.
+    pub(crate) fn into_error(self) -> CommandError
+        ensures { ∥ FailsInFolder W.sees K.place result ∥₁ }
+    {
+        match self.store.into_error() {
+            Some(error) => CommandError::from(error),
+            None => CommandError::Memory,
+        }
+    }
+}
+
+impl<W: World, K: Place> BlobSource<Global> for Shelf<'_, W, K> {
+    ghost use Rattle.remote.specs.Folder.{telling_of};
+
+    ghost tells = { λ s. telling_of s.store };
+
+    fn fetch(&mut self, alloc: Global, digest: &Digest) -> Result<Option<Vec<u8>>, FetchError> {
+        self.store.fetch(alloc, digest)
+    }
+
+    fn result(&mut self, alloc: Global, digest: &Digest) -> Result<Option<Vec<u8>>, FetchError> {
+        self.store.result(alloc, digest)
+    }
+}

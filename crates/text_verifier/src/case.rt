@@ -1,0 +1,53 @@
+ghost use Rattle.std.specs.Prelude.{◌≡◌, IfErr, IfOk};
+ghost use Rattle.plan.specs.Record.{names_of};
+ghost use Rattle.text_verifier.specs.Refused.{IsRecordRefusal};
+ghost use Rattle.text_verifier.specs.Texts.{HasRecord};
+
+use crate::error::TextError;
+use crate::reading::{Digests, read_record};
+use plan::{Plan, Record};
+use std::alloc::Allocator;
+use std::marker::Model;
+
+/// What is asked of the verifier, as it was read: whether each build of a plan, from sources with a
+/// digest, ends in a claimed root, and what a build of it noted.
+#[derive(Drop)]
+pub struct Case<A: Allocator> {
+    pub(crate) digests: Digests,
+    pub(crate) plan: Plan<A>,
+    pub(crate) noted: Record<A>,
+}
+
+impl<A: Allocator> Model for Case<A> {
+    ghost use Rattle.plan.specs.Record.{Fits};
+    ghost use Rattle.text_verifier.specs.Texts.{Question, question_of};
+
+    ghost Value = { Question };
+
+    ghost view = { λ c. question_of c.digests.sources c.digests.claim c.plan c.noted };
+
+    ghost invariant = { λ c. Fits c.noted c.plan };
+}
+
+impl<A: Allocator + Copy> Case<A> {
+    /// The case of these digests, this plan, and the record of it whose text this is.
+    pub fn read(
+        alloc: A,
+        digests: Digests,
+        plan: Plan<A>,
+        noted: &[u8],
+    ) -> Result<Case<A>, TextError>
+        ensures sources { IfOk result (λ case. case.sources ≡ digests.sources) }
+        ensures claim { IfOk result (λ case. case.claim ≡ digests.claim) }
+        ensures plan { IfOk result (λ case. case.plan ≡ plan) }
+        ensures noted { IfOk result (λ case. HasRecord plan noted.now case.noted) }
+        ensures fault { IfErr result (IsRecordRefusal (names_of plan) noted.now) }
+    {
+        let noted = read_record(alloc, noted, &plan)?;
+        Ok(Case {
+            digests,
+            plan,
+            noted,
+        })
+    }
+}
