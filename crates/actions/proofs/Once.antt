@@ -25,7 +25,8 @@ use Rattle.action_messages.specs.OutputSymlink.{OutputSymlinkValue}
 use Rattle.action_messages.specs.OutputDirectory.{OutputDirectoryValue}
 use Rattle.action_messages.specs.ActionResult.{ActionResultValue}
 use Rattle.actions.specs.Outcome.{OutputValue, OutcomeValue, IsOutcome, output_paths}
-use Rattle.actions.specs.OutcomeLookup.{IsFirstChild, NoFault, LooksBelow, LooksIn, StandsOver}
+use Rattle.tree.specs.Merging.{WithinValue}
+use Rattle.actions.specs.OutcomeLookup.{IsFirstChild, NoFault, LooksBelow, LooksIn, LiesWithin, within_output, StandsOver}
 use Rattle.action_messages.specs.Outputs.{RecordedValue, file, directory, link, files_among, directories_among, links_among, AreOutputs}
 use Rattle.actions.specs.Recorded.{StandsFor, StandForAll, IsRecorded, IsFirstTreeFault, IsOutputFault}
 use Rattle.action_messages.proofs.Merging.{texts}
@@ -223,3 +224,8 @@ looked_once o path r s is (inl h) (inl k) =
 looked_once o path r s is (inl h) (inr k) = absurd (all_at (λ e. ¬ StandsOver e.0 path) o.outputs h.0 k.0 h.1 (h.2, h.3))
 looked_once o path r s is (inr h) (inl k) = absurd (all_at (λ e. ¬ StandsOver e.0 path) o.outputs k.0 h.0 k.1 (k.2, k.3))
 looked_once o path r s is (inr h) (inr k) = h.1 ∙ sym k.1
+
+pub within_once : (o : OutcomeValue) (path : List (List ℕ)) (v w : WithinValue) → IsOutcome o → LiesWithin o path v → LiesWithin o path w → v ≡ w
+within_once o path v w is h k =
+    let same = one_output o.outputs h.0 k.0 is.apart h.1 k.1 (beginnings h.0.0 k.0.0 h.2.0 k.2.0 (sym h.2.1 ∙ k.2.1)) in
+    h.3 ∙ ap (λ (e : List (List ℕ) × OutputValue). within_output e.1) same ∙ sym k.3

@@ -1,18 +1,18 @@
 -- A look-up in an outcome, as the code has it.
-use Rattle.std.proofs.Common.{◌≡◌, ℕ, ◌<◌, List, [], ◌∷◌, ◌++◌, length, map, drop, get_or, Option, Some, Result, Ok, Err, refl, sym, ap, subst, ◌∙◌, inl, inr, arith}
-use Rattle.std.specs.Prelude.{Contains, slice_get, option_map, IfOk}
+use Rattle.std.proofs.Common.{◌≡◌, ℕ, ◌<◌, List, [], ◌∷◌, ◌++◌, length, map, drop, get_or, Some, refl, sym, ap, subst, ◌∙◌, inl, inr, arith}
+use Rattle.std.specs.Prelude.{Contains, slice_get, option_map}
 use Rattle.std.specs.List.{AllByRecursion}
 use Rattle.std.proofs.lemmas.List.{length-map}
 use Rattle.std.proofs.lemmas.Option.{slice_get-map, slice_get_within, slice_get_read}
-use Rattle.messages.specs.declared.node.Node.{Node}
 use Rattle.messages.specs.Order.{bytes_cmp}
 use Rattle.messages.specs.Path.{IsPath}
-use Rattle.tree.specs.Lookup.{nothing, looked}
+use Rattle.tree.specs.Lookup.{Looked, nothing}
+use Rattle.tree.specs.Merging.{WithinValue}
 use Rattle.actions.specs.declared.outcome.Output.{Output}
 use Rattle.action_messages.specs.Ascending.{IsAscendingBy}
 use Rattle.action_messages.specs.Overlaps.{texts_of}
 use Rattle.actions.specs.Outcome.{OutcomeValue, IsOutcome, output_value, outputs_in, output_paths}
-use Rattle.actions.specs.OutcomeLookup.{StandsOver, LooksBelow, LooksIn}
+use Rattle.actions.specs.OutcomeLookup.{StandsOver, LooksBelow, LooksIn, within_output, LiesWithin}
 use Rattle.actions.proofs.TreeLookups.{holds_mapped}
 
 module _ {A : Type 0} where
@@ -42,25 +42,25 @@ module _ {A : Type 0} where
       each [] k = tt
       each (d ∷ ds) k = (k.0, each ds k.1)
 
-  pub looks_over : {E : Type 0} (o : OutcomeValue) (path rest : List (List ℕ)) (es : List (List (List ℕ) × Output A)) (place names : ℕ) (item : List (List ℕ) × Output A) (above : List (List ℕ)) (r : Result (Option (Node A)) E)
-      → outputs_in es ≡ o.outputs → slice_get (paths_in es) place ≡ Some above → item ≡ get_or es place item → path ≡ above ++ drop names path → rest ≡ drop names path
-      → IfOk r (λ x. LooksBelow (output_value item.1) rest (looked x)) → IfOk r (λ x. LooksIn o path (looked x))
-  looks_over {E} o path rest es place names item above r e at is split left below = by r below
-    where
-      inside : place < length es
-      inside = within es place above at
+  module _ (o : OutcomeValue) (path rest : List (List ℕ)) (es : List (List (List ℕ) × Output A)) (place names : ℕ) (item : List (List ℕ) × Output A) (above : List (List ℕ))
+      (e : outputs_in es ≡ o.outputs) (at : slice_get (paths_in es) place ≡ Some above) (is : item ≡ get_or es place item) (split : path ≡ above ++ drop names path) (left : rest ≡ drop names path) where
+    inside : place < length es
+    inside = within es place above at
 
-      one : item.0 ≡ above
-      one =
-          let here : Some item.0 ≡ Some above = sym (slice_get-map (λ (d : List (List ℕ) × Output A). d.0) es place ∙ ap (option_map (λ (d : List (List ℕ) × Output A). d.0)) (slice_get_read es (length es) place item refl inside is)) ∙ at in
-          cc
+    one : item.0 ≡ above
+    one =
+        let here : Some item.0 ≡ Some above = sym (slice_get-map (λ (d : List (List ℕ) × Output A). d.0) es place ∙ ap (option_map (λ (d : List (List ℕ) × Output A). d.0)) (slice_get_read es (length es) place item refl inside is)) ∙ at in
+        cc
 
-      whole : path ≡ item.0 ++ rest
-      whole = split ∙ ap (λ p. p ++ drop names path) (sym one) ∙ ap (λ p. item.0 ++ p) (sym left)
+    -- the output is one of the outcome's, and the path is what comes after its names
+    pub path_is : path ≡ item.0 ++ rest
+    path_is = split ∙ ap (λ p. p ++ drop names path) (sym one) ∙ ap (λ p. item.0 ++ p) (sym left)
 
-      there : Contains o.outputs (item.0, output_value item.1)
-      there = subst (λ l. Contains l (item.0, output_value item.1)) e (holds_mapped (λ (d : List (List ℕ) × Output A). (d.0, output_value d.1)) es item (place, inside, sym is))
+    pub output_there : Contains o.outputs (item.0, output_value item.1)
+    output_there = subst (λ l. Contains l (item.0, output_value item.1)) e (holds_mapped (λ (d : List (List ℕ) × Output A). (d.0, output_value d.1)) es item (place, inside, sym is))
 
-      by : (s : Result (Option (Node A)) E) → IfOk s (λ x. LooksBelow (output_value item.1) rest (looked x)) → IfOk s (λ x. LooksIn o path (looked x))
-      by (Ok x) h = inl ((item.0, output_value item.1), there, rest, whole, h)
-      by (Err f) h = tt
+    pub looks_over : (r : Looked) → LooksBelow (output_value item.1) rest r → LooksIn o path r
+    looks_over r below = inl ((item.0, output_value item.1), output_there, rest, path_is, below)
+
+    pub lies_over : (w : WithinValue) → w ≡ within_output (output_value item.1) → LiesWithin o path w
+    lies_over w same = ((item.0, output_value item.1), output_there, (rest, path_is), same)

@@ -2,7 +2,7 @@
 use Rattle.std.proofs.Common.{◌≡◌, ℕ, ◌+◌, ◌<◌, List, [], ◌∷◌, ◌++◌, length, take, drop, get_or, refl, sym, ap, subst, ◌∙◌, inl, inr, arith}
 use Rattle.std.proofs.lemmas.List.{length-append, take_more, drop_more, take-append-drop, map-append}
 use Rattle.tree.specs.declared.error.TreeError.{TreeError}
-use Rattle.tree.specs.declared.error.TreeError.TheVariants.{Absent, BlobMissing, BlobWrong, BlobMalformed, TooDeep, Fetch, Memory}
+use Rattle.tree.specs.declared.error.TreeError.TheVariants.{Absent, BlobMissing, BlobWrong, BlobMalformed, TooDeep, Conflict, Fetch, Memory}
 use Rattle.blob_source.specs.Source.{Blobs, Telling, Grows, Asks}
 use Rattle.blob_source.specs.Told.{Fault, missing, wrong, malformed}
 use Rattle.tree.specs.TreeError.{Explains}
@@ -56,6 +56,7 @@ explains P Q by (BlobMissing d) h = by (missing d) h
 explains P Q by (BlobWrong d) h = by (wrong d) h
 explains P Q by (BlobMalformed d) h = by (malformed d) h
 explains P Q by (TooDeep path) h = h
+explains P Q by (Conflict path) h = h
 explains P Q by Fetch h = h
 explains P Q by Memory h = h
 

@@ -1,6 +1,6 @@
 -- A look-up in a tree, name by name: each directory that a node names is one of the tree's children.
 use Rattle.std.proofs.Common.{◌≡◌, ◌≢◌, ℕ, true, false, eqb, ◌&&◌, zero, suc, ◌+◌, ◌<◌, ◌≤◌, List, [], ◌∷◌, ◌++◌, length, map, take, drop, get_or, Option, Some, None, option_map, refl, sym, ap, subst, ◌∙◌, inl, arith, drop-cons}
-use Rattle.std.specs.Prelude.{Contains, slice_get, MatchOption, IsSome, IfSome, nat_eq}
+use Rattle.std.specs.Prelude.{Contains, slice_get, MatchOption, IsSome, IfSome, Result, Ok, Err, IfOk, nat_eq}
 use Rattle.std.specs.Cmp.Lexicographic.{pointwise, bytes_decides}
 use Rattle.std.proofs.lemmas.Bool.{eq-eqb}
 use Rattle.std.proofs.lemmas.Option.{slice_get_read}
@@ -19,6 +19,7 @@ use Rattle.messages.specs.Node.{IsChild, child}
 use Rattle.messages.proofs.Children.{child_stands}
 use Rattle.tree.specs.Form.{NodeValue, node_value}
 use Rattle.tree.specs.Lookup.{Looked, nothing, found, LooksFrom}
+use Rattle.tree.specs.Merging.{in_tree, IsHeldIn}
 use Rattle.tree.proofs.Children.{child_value}
 use Rattle.actions.specs.OutcomeLookup.{IsFirstChild, NoFault, IsChildOf}
 
@@ -176,3 +177,18 @@ differ e d h same = let own = same_test e in let alike : false ≡ (pointwise na
 
 pub none_next : (d e : DigestValue) (ds : List DigestValue) (i : ℕ) → i < length ds → e ≡ get_or ds i e → (e ≡ d → ⊥) → NotAmong d (take i ds) → NotAmong d (take (i + 1) ds)
 none_next d e ds i lt is differs none = subst (NotAmong d) (sym (take_more ds i e lt ∙ ap (λ x. take i ds ++ x ∷ []) (sym is))) (none_push d e (take i ds) none differs)
+
+-- ---- a node of a tree is held there
+
+pub held_child : {A : Type 0} (t : TreeValue) (node : Node A) → IsTree t → IsChildOf t node → IsHeldIn (in_tree t) (node_value node)
+held_child t (File d e) is own = tt
+held_child t (Link l) is own = tt
+held_child t (Dir d) is own = (is, behind (digest_of (directory_bytes t.root)) (child_digests t) d (own d refl))
+
+pub held_found : {A E : Type 0} (t : TreeValue) (r : Result (Option (Node A)) E) → IsTree t → IfOk r (λ o. IfSome o (IsChildOf t)) → IfOk r (λ o. IfSome o (λ x. IsHeldIn (in_tree t) (node_value x)))
+held_found t (Ok None) is h = h
+held_found t (Ok (Some x)) is h = held_child t x is h
+held_found t (Err e) is h = h
+
+pub held_root : (t : TreeValue) (d : DigestValue) → IsTree t → d ≡ digest_of (directory_bytes t.root) → IsHeldIn (in_tree t) (Dir d)
+held_root t d is same = (is, (0, omega arith, sym same))

@@ -11,6 +11,7 @@ use Rattle.messages.specs.Tree.{TreeValue, child_digests}
 use Rattle.messages.specs.Node.{child}
 use Rattle.blob_source.specs.Told.{Fault}
 use Rattle.tree.specs.Lookup.{Looked, nothing, found, LooksFrom}
+use Rattle.tree.specs.Merging.{WithinValue, in_source, in_tree}
 use Rattle.actions.specs.declared.outcome.Output.TheVariants.{Tree}
 use Rattle.actions.specs.declared.looking_up.Over.{Over}
 use Rattle.actions.specs.Outcome.{OutputValue, OutcomeValue, output_node, tree_node}
@@ -51,6 +52,17 @@ LooksIn o path r =
     ((e : List (List ℕ) × OutputValue) × Contains o.outputs e × (names : List (List ℕ))
     × (path ≡ e.0 ++ names) × LooksBelow e.1 names r)
     ⊎ (AllByRecursion (λ e. ¬ StandsOver e.0 path) o.outputs × (r ≡ nothing))
+
+-- where the Directories below an output are read: in its own Tree, where it is one
+abbrev pub within_output : OutputValue → WithinValue
+within_output (Tree t) = in_tree t
+within_output x = in_source
+
+-- where those below a path are read: as those of the output that is at or above it
+abbrev pub LiesWithin : OutcomeValue → List (List ℕ) → WithinValue → Type 0
+LiesWithin o path within =
+    (e : List (List ℕ) × OutputValue) × Contains o.outputs e × StandsOver e.0 path
+    × (within ≡ within_output e.1)
 
 -- ---- what the private functions of a look-up speak of
 

@@ -30,6 +30,7 @@ module _ {A : Type 0} (place : Place) where
   from_fetch (refusals.Engine (runs.Source (tree.BlobWrong d))) h = h
   from_fetch (refusals.Engine (runs.Source (tree.BlobMalformed d))) h = h
   from_fetch (refusals.Engine (runs.Source (tree.TooDeep p))) h = h
+  from_fetch (refusals.Engine (runs.Source (tree.Conflict p))) h = h
   from_fetch (refusals.Engine (runs.Source tree.Memory)) h = h
   from_fetch (refusals.Engine runs.NotReady) h = h
   from_fetch (refusals.Engine runs.NoSuchJob) h = h
@@ -38,6 +39,7 @@ module _ {A : Type 0} (place : Place) where
   from_fetch (refusals.Engine (runs.Unlisted q)) h = h
   from_fetch (refusals.Engine (runs.Origin q)) h = h
   from_fetch (refusals.Engine runs.Full) h = h
+  from_fetch (refusals.Engine (runs.Conflict p)) h = h
   from_fetch (refusals.Engine runs.Memory) h = h
   from_fetch (refusals.Layout (layouts.Source tree.Fetch)) h = h
   from_fetch (refusals.Layout (layouts.Source (tree.Absent p))) h = h
@@ -45,6 +47,7 @@ module _ {A : Type 0} (place : Place) where
   from_fetch (refusals.Layout (layouts.Source (tree.BlobWrong d))) h = h
   from_fetch (refusals.Layout (layouts.Source (tree.BlobMalformed d))) h = h
   from_fetch (refusals.Layout (layouts.Source (tree.TooDeep p))) h = h
+  from_fetch (refusals.Layout (layouts.Source (tree.Conflict p))) h = h
   from_fetch (refusals.Layout (layouts.Source tree.Memory)) h = h
   from_fetch (refusals.Layout (layouts.LinkInput q)) h = h
   from_fetch (refusals.Layout layouts.Memory) h = h
@@ -62,6 +65,7 @@ module _ {A : Type 0} (place : Place) where
   to_fetch (refusals.Engine (runs.Source (tree.BlobWrong d))) h = h
   to_fetch (refusals.Engine (runs.Source (tree.BlobMalformed d))) h = h
   to_fetch (refusals.Engine (runs.Source (tree.TooDeep p))) h = h
+  to_fetch (refusals.Engine (runs.Source (tree.Conflict p))) h = h
   to_fetch (refusals.Engine (runs.Source tree.Memory)) h = h
   to_fetch (refusals.Engine runs.NotReady) h = h
   to_fetch (refusals.Engine runs.NoSuchJob) h = h
@@ -70,6 +74,7 @@ module _ {A : Type 0} (place : Place) where
   to_fetch (refusals.Engine (runs.Unlisted q)) h = h
   to_fetch (refusals.Engine (runs.Origin q)) h = h
   to_fetch (refusals.Engine runs.Full) h = h
+  to_fetch (refusals.Engine (runs.Conflict p)) h = h
   to_fetch (refusals.Engine runs.Memory) h = h
   to_fetch (refusals.Layout (layouts.Source tree.Fetch)) h = h
   to_fetch (refusals.Layout (layouts.Source (tree.Absent p))) h = h
@@ -77,6 +82,7 @@ module _ {A : Type 0} (place : Place) where
   to_fetch (refusals.Layout (layouts.Source (tree.BlobWrong d))) h = h
   to_fetch (refusals.Layout (layouts.Source (tree.BlobMalformed d))) h = h
   to_fetch (refusals.Layout (layouts.Source (tree.TooDeep p))) h = h
+  to_fetch (refusals.Layout (layouts.Source (tree.Conflict p))) h = h
   to_fetch (refusals.Layout (layouts.Source tree.Memory)) h = h
   to_fetch (refusals.Layout (layouts.LinkInput q)) h = h
   to_fetch (refusals.Layout layouts.Memory) h = h
@@ -94,6 +100,7 @@ module _ {A : Type 0} (place : Place) where
   to_device (refusals.Engine (runs.Source (tree.BlobWrong d))) h = h
   to_device (refusals.Engine (runs.Source (tree.BlobMalformed d))) h = h
   to_device (refusals.Engine (runs.Source (tree.TooDeep p))) h = h
+  to_device (refusals.Engine (runs.Source (tree.Conflict p))) h = h
   to_device (refusals.Engine (runs.Source tree.Memory)) h = h
   to_device (refusals.Engine runs.NotReady) h = h
   to_device (refusals.Engine runs.NoSuchJob) h = h
@@ -102,6 +109,7 @@ module _ {A : Type 0} (place : Place) where
   to_device (refusals.Engine (runs.Unlisted q)) h = h
   to_device (refusals.Engine (runs.Origin q)) h = h
   to_device (refusals.Engine runs.Full) h = h
+  to_device (refusals.Engine (runs.Conflict p)) h = h
   to_device (refusals.Engine runs.Memory) h = h
   to_device (refusals.Layout (layouts.Source tree.Fetch)) h = h
   to_device (refusals.Layout (layouts.Source (tree.Absent p))) h = h
@@ -109,6 +117,7 @@ module _ {A : Type 0} (place : Place) where
   to_device (refusals.Layout (layouts.Source (tree.BlobWrong d))) h = h
   to_device (refusals.Layout (layouts.Source (tree.BlobMalformed d))) h = h
   to_device (refusals.Layout (layouts.Source (tree.TooDeep p))) h = h
+  to_device (refusals.Layout (layouts.Source (tree.Conflict p))) h = h
   to_device (refusals.Layout (layouts.Source tree.Memory)) h = h
   to_device (refusals.Layout (layouts.LinkInput q)) h = h
   to_device (refusals.Layout layouts.Memory) h = h
@@ -133,6 +142,7 @@ module _ {A : Type 0} {a b : ℕ} where
   opened (opening.Source i (tree.BlobWrong d)) h = counts_no (λ e. let is = e.1 in cc) (λ f. f) h
   opened (opening.Source i (tree.BlobMalformed d)) h = counts_no (λ e. let is = e.1 in cc) (λ f. f) h
   opened (opening.Source i (tree.TooDeep p)) h = counts_no (λ e. let is = e.1 in cc) (λ f. f) h
+  opened (opening.Source i (tree.Conflict p)) h = counts_no (λ e. let is = e.1 in cc) (λ f. f) h
   opened (opening.Source i tree.Memory) h = counts_no (λ e. let is = e.1 in cc) (λ f. f) h
   opened (opening.DoNotCache i) h = counts_no (λ e. let is = e.1 in cc) (λ f. f) h
   opened opening.Memory h = counts_no (λ e. let is = e.1 in cc) (λ f. f) h
@@ -148,6 +158,7 @@ opening_no_device (opening.Source i (tree.BlobMissing d)) f = f
 opening_no_device (opening.Source i (tree.BlobWrong d)) f = f
 opening_no_device (opening.Source i (tree.BlobMalformed d)) f = f
 opening_no_device (opening.Source i (tree.TooDeep p)) f = f
+opening_no_device (opening.Source i (tree.Conflict p)) f = f
 opening_no_device (opening.Source i tree.Memory) f = f
 opening_no_device (opening.DoNotCache i) f = f
 opening_no_device opening.Memory f = f

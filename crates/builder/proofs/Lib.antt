@@ -4,3 +4,4 @@ pub mod Refusing
 pub mod Within
 pub mod Watched
 mod Failing
+mod Staying

@@ -4,7 +4,7 @@ use Rattle.std.specs.Prelude.{◌⊎◌, slice_get, option_map, Contains}
 use Rattle.std.specs.List.{AllByRecursion}
 use Rattle.std.proofs.lemmas.Option.{slice_get_within}
 use Rattle.blob_digest.specs.Digest.{DigestValue, digest_of, NoClash}
-use Rattle.messages.specs.declared.node.Node.TheVariants.{File, Link, Dir}
+use Rattle.messages.specs.declared.node.Node.TheVariants.{Dir}
 use Rattle.messages.specs.Node.{child}
 use Rattle.action_messages.specs.Action.{with_input, action_bytes}
 use Rattle.action_messages.specs.Command.{IsCommand, command_bytes}
@@ -16,14 +16,15 @@ use Rattle.plan.specs.Values.{source, LineValue, StepValue, PlanValue}
 use Rattle.tree.specs.Tree.{Name, Tree, Leaf, Entry, single, whole, file, link, entry_of, below_entry}
 use Rattle.tree.specs.Form.{NodeValue, form, directory_of, top, root, entry_node}
 use Rattle.tree.specs.Lookup.{found, LooksFrom, Looks}
+use Rattle.tree.specs.Merging.{MergeLines, merged}
 use Rattle.tree.proofs.Children.{child-directory_of}
 use Rattle.tree.proofs.LookupLemmas.{IsBlobOfEntry, entry_blobs, ReadsTrees, told_reads}
 use Rattle.tree.proofs.OrderLemmas.{IsOrderedAt, entry_ordered}
-use Rattle.verifier.specs.Build.{Meaning, ActionMeaning, action_digest, Outcome, Event, State, action_of}
+use Rattle.verifier.specs.Build.{Meaning, ActionMeaning, action_digest, Outcome, Event, State, action_of, AreLinesOf}
 use Rattle.verifier.proofs.FreshRuns.{one_answer}
 use Rattle.runs.specs.Calls.{IsFinished, IsOpened, placed, kept_digests}
 use Rattle.runs.specs.Engine.{FinishedValue, JobValue, EngineValue, IsEngine, at_number, finished_in, job_in}
-use Rattle.runs.specs.Looking.{LooksUpOrigin, Resolves}
+use Rattle.runs.specs.Looking.{LooksUpOrigin, Resolves, PutTogether}
 use Rattle.runs.specs.Mirrors.{IsConcernedIn, IsMirrored}
 use Rattle.runs.specs.Served.{IsLineOf, TellsWay, Serves}
 use Rattle.runs.proofs.Lost.{steady_of}
@@ -34,21 +35,13 @@ use Rattle.worker.specs.Calls.{Call, started, ran, taken, lost, WasStarted, Does
 use Rattle.worker.specs.Outcomes.{Yields}
 use Rattle.worker.specs.Stored.{IsToldOrTree, IsStored}
 use Rattle.worker.proofs.Started.{job_of, after}
-use Rattle.worker.proofs.Storing.{which, right_blob}
-use Rattle.worker.proofs.Telling.{blob_still, told_still}
+use Rattle.worker.proofs.Storing.{which, grows, right_blob}
+use Rattle.worker.proofs.Telling.{blob_still}
 use Rattle.builder.specs.Built.{BuiltValue, IsEnd, IsAnsweredYes}
-use Rattle.builder.proofs.Leading.{led_plan, led_sources, led_frames, led_commands}
+use Rattle.builder.proofs.Leading.{led_plan, led_frames, led_commands}
+use Rattle.builder.proofs.Staying.{GoesOn, together_stays, resolves_once}
 
 -- ---- look-ups
-
-module _ {B C : Blobs} (keeps : KeepsRight B C) where
-  looks_still : (p : List Name) (o : Option NodeValue) (x : NodeValue) → LooksFrom (TellsDirectory B) (FailsDirectory B) p o (found x) → LooksFrom (TellsDirectory C) (FailsDirectory C) p o (found x)
-  looks_still p None x h = h
-  looks_still [] (Some n) x h = h
-  looks_still (n ∷ p) (Some (File d e)) x h = h
-  looks_still (n ∷ p) (Some (Link t)) x h = h
-  looks_still (n ∷ p) (Some (Dir d)) x (inl (m, told, rest)) = inl (m, told_still keeps told, looks_still p (child n m) x rest)
-  looks_still (n ∷ p) (Some (Dir d)) x (inr (f, fails, is)) = absurd (let e = is in cc)
 
 module _ (B : Blobs) (S : List ℕ → Type 0) (reads : ReadsTrees S (TellsDirectory B)) where
   abbrev IsWayTold : List Name → Option (Entry Leaf) → Type 0
@@ -82,12 +75,12 @@ module _ (B : Blobs) (S : List ℕ → Type 0) (reads : ReadsTrees S (TellsDirec
           let tail : p ≡ q ++ n ∷ r = cc in
           below q n r tail u (subst (λ j. below_entry q (entry_of j t) ≡ Some (whole u)) (sym head) at)
 
--- ---- which source paths were looked up
+-- ---- what lines of steps were put together
 
-lines_looked : (B : Blobs) (e : EngineValue) (ls : List LineValue) (xs : List (List Name × NodeValue)) → Resolves B e ls xs
+lines_looked : (B : Blobs) (e : EngineValue) (ls : List LineValue) (xs : MergeLines) → Resolves B e ls xs
     → (l : LineValue) → Contains ls l → (p : List Name) → l.origin ≡ source p → (x : NodeValue) × Looks B e.sources p (found x)
 lines_looked B e [] xs r l (k, lt, is) p from = absurd (omega (arith, lt))
-lines_looked B e (m ∷ ls) xs r l (zero, lt, is) p from = (r.0, subst (λ o. LooksUpOrigin B e o (found r.0)) (ap (λ (m : LineValue). m.origin) is ∙ from) r.1)
+lines_looked B e (m ∷ ls) xs r l (zero, lt, is) p from = (r.0.node, subst (λ o. LooksUpOrigin B e o (found r.0.node)) (ap (λ (m : LineValue). m.origin) is ∙ from) r.1.node)
 lines_looked B e (m ∷ ls) xs r l (suc k, lt, is) p from = lines_looked B e ls r.2 r.3 l (k, omega (arith, lt), is) p from
 
 placed_which : (js : List (Option JobValue)) (w v : ℕ) (j k : JobValue) → at_number (placed js w j) v ≡ Some k → (at_number js v ≡ Some k) ⊎ (k ≡ j)
@@ -98,64 +91,77 @@ placed_which (o ∷ js) zero (suc v) j k at = inl at
 placed_which (o ∷ js) (suc w) zero j k at = inl at
 placed_which (o ∷ js) (suc w) (suc v) j k at = placed_which js w v j k at
 
-module _ (A : Type 0) (y : Yields) (t : Telling) (plan : PlanValue) (sources : DigestValue) where
-  -- the source paths that a step's lines read
-  abbrev HasLooked : ℕ → Type 0
-  HasLooked i = (step : StepValue) → slice_get plan.steps i ≡ Some step → (l : LineValue) → Contains step.lines l → (p : List Name) → l.origin ≡ source p
-      → (x : NodeValue) × Looks t.blobs sources p (found x)
+-- what had finished stays
+goes_with : {old new : EngineValue} → new.sources ≡ old.sources → new.finished ≡ old.finished → GoesOn old new
+goes_with sources finished = record { sources = sources; finished = λ i f at. ap (λ fs. at_number fs i) finished ∙ at }
+
+goes_as_it_is : (e : EngineValue) → GoesOn e e
+goes_as_it_is e = goes_with refl refl
+
+module _ (A : Type 0) (y : Yields) (t : Telling) (plan : PlanValue) where
+  -- what a step's lines put together
+  abbrev IsTogether : EngineValue → ℕ → Type 0
+  IsTogether e i = (step : StepValue) → slice_get plan.steps i ≡ Some step → (made : Tree NodeValue) × PutTogether t.blobs e step.lines made
 
   -- those of each step that runs or has finished
-  record HaveLooked (e : EngineValue) : Type 0 where
+  record AreTogether (e : EngineValue) : Type 0 where
     plan_is : e.plan ≡ plan
-    sources_are : e.sources ≡ sources
-    finished : (i : ℕ) (f : FinishedValue) → finished_in i e ≡ Some f → HasLooked i
-    runs : (w : ℕ) (j : JobValue) → job_in w e ≡ Some j → HasLooked j.step
+    finished : (i : ℕ) (f : FinishedValue) → finished_in i e ≡ Some f → IsTogether e i
+    runs : (w : ℕ) (j : JobValue) → job_in w e ≡ Some j → IsTogether e j.step
 
-  started_looked : (i id : ℕ) (old new : EngineValue) → WasStarted A t.blobs i id old new → HaveLooked old → HaveLooked new
-  started_looked i id old new w h = record {
+  step_stays : {old new : EngineValue} → GoesOn old new → (i : ℕ) → IsTogether old i → IsTogether new i
+  step_stays more i h step at = let one = h step at in (one.0, together_stays (λ d b at right. at) more step.lines one.0 one.1)
+
+  started_together : (i id : ℕ) (old new : EngineValue) → WasStarted A t.blobs i id old new → AreTogether old → AreTogether new
+  started_together i id old new w h = record {
     plan_is = ap (λ (e : EngineValue). e.plan) (after w) ∙ h.plan_is;
-    sources_are = ap (λ (e : EngineValue). e.sources) (after w) ∙ h.sources_are;
-    finished = λ k f at. h.finished k f (sym (ap (λ (e : EngineValue). finished_in k e) (after w)) ∙ at);
-    runs = λ v j at. by v j (placed_which old.jobs id v (job_of w) j (sym (ap (λ (e : EngineValue). job_in v e) (after w)) ∙ at));
+    finished = λ k f at. step_stays more k (h.finished k f (sym (ap (λ (e : EngineValue). finished_in k e) (after w)) ∙ at));
+    runs = λ v j at. step_stays more j.step (by v j (placed_which old.jobs id v (job_of w) j (sym (ap (λ (e : EngineValue). job_in v e) (after w)) ∙ at)));
   }
     where
-      here : HasLooked i
-      here step at l inside p from =
+      more : GoesOn old new
+      more = goes_with (ap (λ (e : EngineValue). e.sources) (after w)) (ap (λ (e : EngineValue). e.finished) (after w))
+
+      here : IsTogether old i
+      here step at =
           let prepared = w.is.prepared in
           let same : prepared.planned ≡ step = one_answer (slice_get plan.steps i) prepared.planned step (sym (ap (λ (q : PlanValue). slice_get q.steps i) h.plan_is) ∙ prepared.at) at in
-          let looked = lines_looked w.told old prepared.planned.lines prepared.nodes prepared.resolved l (subst (λ (s : StepValue). Contains s.lines l) (sym same) inside) p from in
-          (looked.0, subst (λ d. Looks t.blobs d p (found looked.0)) h.sources_are (looks_still w.still p (Some (Dir old.sources)) looked.0 looked.1))
+          (prepared.tree, subst (λ (s : StepValue). PutTogether t.blobs old s.lines prepared.tree) same (together_stays w.still (goes_as_it_is old) prepared.planned.lines prepared.tree prepared.together))
 
-      by : (v : ℕ) (j : JobValue) → (at_number old.jobs v ≡ Some j) ⊎ (j ≡ job_of w) → HasLooked j.step
+      by : (v : ℕ) (j : JobValue) → (at_number old.jobs v ≡ Some j) ⊎ (j ≡ job_of w) → IsTogether old j.step
       by v j (inl before) = h.runs v j before
-      by v j (inr is) = subst HasLooked (sym (ap (λ (k : JobValue). k.step) is)) here
+      by v j (inr is) = subst (IsTogether old) (sym (ap (λ (k : JobValue). k.step) is)) here
 
-  finished_looked : (w : ℕ) (v : _) (old new : EngineValue) → IsFinished w v old new → HaveLooked old → HaveLooked new
-  finished_looked w v old new f h = record {
+  finished_together : (w : ℕ) (v : _) (old new : EngineValue) → IsFinished w v old new → AreTogether old → AreTogether new
+  finished_together w v old new f h = record {
     plan_is = ap (λ (e : EngineValue). e.plan) f.after ∙ h.plan_is;
-    sources_are = ap (λ (e : EngineValue). e.sources) f.after ∙ h.sources_are;
-    finished = λ k g at. by k g (which f k g at);
-    runs = λ u j at. h.runs u j (set_at old.jobs w u None j (sym (ap (λ (e : EngineValue). job_in u e) f.after) ∙ at) (λ e. cc));
+    finished = λ k g at. step_stays more k (by k g (which f k g at));
+    runs = λ u j at. step_stays more j.step (h.runs u j (set_at old.jobs w u None j (sym (ap (λ (e : EngineValue). job_in u e) f.after) ∙ at) (λ e. cc)));
   }
     where
-      by : (k : ℕ) (g : FinishedValue) → (finished_in k old ≡ Some g) ⊎ ((k ≡ f.job.step) × (g ≡ record { action = f.job.action; outcome = v })) → HasLooked k
+      more : GoesOn old new
+      more = record { sources = ap (λ (e : EngineValue). e.sources) f.after; finished = grows f }
+
+      by : (k : ℕ) (g : FinishedValue) → (finished_in k old ≡ Some g) ⊎ ((k ≡ f.job.step) × (g ≡ record { action = f.job.action; outcome = v })) → IsTogether old k
       by k g (inl before) = h.finished k g before
-      by k g (inr is) = subst HasLooked (sym is.0) (h.runs w f.job f.is)
+      by k g (inr is) = subst (IsTogether old) (sym is.0) (h.runs w f.job f.is)
 
-  does_looked : (later : List Call) (c : Call) (old new : EngineValue) → Does A y t later c old new → HaveLooked old → HaveLooked new
-  does_looked later (started i id) old new w h = started_looked i id old new w h
-  does_looked later (ran id d v) old new f h = finished_looked id v old new f.finished h
-  does_looked later (taken id d v) old new f h = finished_looked id v old new f.finished h
-  does_looked later (lost id) old new (j, at, gone) h = record {
+  does_together : (later : List Call) (c : Call) (old new : EngineValue) → Does A y t later c old new → AreTogether old → AreTogether new
+  does_together later (started i id) old new w h = started_together i id old new w h
+  does_together later (ran id d v) old new f h = finished_together id v old new f.finished h
+  does_together later (taken id d v) old new f h = finished_together id v old new f.finished h
+  does_together later (lost id) old new (j, at, gone) h = record {
     plan_is = ap (λ (e : EngineValue). e.plan) gone ∙ h.plan_is;
-    sources_are = ap (λ (e : EngineValue). e.sources) gone ∙ h.sources_are;
-    finished = λ k f there. h.finished k f (sym (ap (λ (e : EngineValue). finished_in k e) gone) ∙ there);
-    runs = λ u k there. h.runs u k (set_at old.jobs id u None k (sym (ap (λ (e : EngineValue). job_in u e) gone) ∙ there) (λ e. cc));
+    finished = λ k f there. step_stays more k (h.finished k f (sym (ap (λ (e : EngineValue). finished_in k e) gone) ∙ there));
+    runs = λ u k there. step_stays more k.step (h.runs u k (set_at old.jobs id u None k (sym (ap (λ (e : EngineValue). job_in u e) gone) ∙ there) (λ e. cc)));
   }
+    where
+      more : GoesOn old new
+      more = goes_with (ap (λ (e : EngineValue). e.sources) gone) (ap (λ (e : EngineValue). e.finished) gone)
 
-  leads_looked : (most : ℕ) (cs : List Call) (old new : EngineValue) → Leads A y t most cs old new → HaveLooked old → HaveLooked new
-  leads_looked most [] old new same h = subst HaveLooked (sym same) h
-  leads_looked most (c ∷ cs) old new (mid, does, few, rest) h = leads_looked most cs mid new rest (does_looked cs c old mid does h)
+  leads_together : (most : ℕ) (cs : List Call) (old new : EngineValue) → Leads A y t most cs old new → AreTogether old → AreTogether new
+  leads_together most [] old new same h = subst AreTogether (sym same) h
+  leads_together most (c ∷ cs) old new (mid, does, few, rest) h = leads_together most cs mid new rest (does_together cs c old mid does h)
 
 -- ---- an engine that was opened
 
@@ -179,10 +185,9 @@ recorded_of (Some ds) names noted is = let same : ◌≡◌ {A = RecordValue} (r
 module _ (A : Type 0) (y : Yields) (most : ℕ) (plan : PlanValue) (sources : DigestValue) (opening ending told : Telling) (first last : EngineValue) (b : BuiltValue)
     (opened : IsOpened opening.blobs plan sources first) (still : KeepsRight opening.blobs ending.blobs) (led : IsLed A y ending most first last) (grown : KeepsRight ending.blobs told.blobs)
     (engine : IsEngine last) (stored : IsStored told last) (end : IsEnd A last told b) where
-  looked : HaveLooked A y ending plan sources last
-  looked = leads_looked A y ending plan sources most led.calls first last led.leads (record {
+  together : AreTogether A y ending plan last
+  together = leads_together A y ending plan most led.calls first last led.leads (record {
     plan_is = opened.plan;
-    sources_are = opened.sources;
     finished = λ i f at. absurd (never (none_finished first opened.none_finished i) at);
     runs = λ w j at. absurd (never (ap (λ js. at_number js w) opened.none_runs) at);
   })
@@ -200,6 +205,19 @@ module _ (A : Type 0) (y : Yields) (most : ℕ) (plan : PlanValue) (sources : Di
       let f = kept_each last.finished b.noted.digests i kept (subst (λ n. i < n) (sym engine.count) lt) in
       (f.0, f.1)
 
+  -- what the lines of a step or of the root put together
+  lines_together : (ls : List LineValue) → AreLinesOf last.plan ls → (made : Tree NodeValue) × PutTogether told.blobs last ls made
+  lines_together ls (inl is) = (end.root.tree, subst (λ ls. PutTogether told.blobs last ls end.root.tree) (sym is) end.root.together)
+  lines_together ls (inr (i, step, at, is)) =
+      let f = done i step at in
+      let one = together.finished i f.0 f.1 step (subst (λ (q : PlanValue). slice_get q.steps i ≡ Some step) plan_is at) in
+      (one.0, subst (λ ls. PutTogether told.blobs last ls one.0) (sym is) (together_stays grown (goes_as_it_is last) step.lines one.0 one.1))
+
+  merges : (ls : List LineValue) → AreLinesOf last.plan ls → (xs : MergeLines) → Resolves told.blobs last ls xs → (u : Tree NodeValue) × (merged told.blobs xs).passes u
+  merges ls of_plan xs r =
+      let one = lines_together ls of_plan in
+      (one.0, subst (λ xs. (merged told.blobs xs).passes one.0) (resolves_once told.blobs last engine ls one.1.nodes xs one.1.resolved r) one.1.passes)
+
   module _ (t : Tree Leaf) (meaning : Meaning) (X : List (ActionMeaning × Outcome)) (es : List Event) (s : State) (k : IsMirrored told.blobs last t meaning X es s) where
     abbrev S : List ℕ → Type 0
     S = IsConcernedIn told.blobs last meaning t es
@@ -208,14 +226,15 @@ module _ (A : Type 0) (y : Yields) (most : ℕ) (plan : PlanValue) (sources : Di
     way_from p x look = way_told told.blobs S (told_reads told.blobs S (λ c q. inl (inl (inl q))) k.apart) p (Some (whole t)) x k.ordered (λ c q. inl (inr (inl (inl q))))
         (subst (λ d. LooksFrom (TellsDirectory told.blobs) (FailsDirectory told.blobs) p (Some (Dir d)) (found x)) (sym k.mirrors.sources) look)
 
-    ways : (l : LineValue) → IsLineOf last.plan l → (p : List Name) → l.origin ≡ source p → TellsWay told.blobs t p
-    ways l (inl (i, step, at, inside)) p from =
-        let f = done i step at in
-        let look = looked.finished i f.0 f.1 step (subst (λ (q : PlanValue). slice_get q.steps i ≡ Some step) plan_is at) l inside p from in
-        way_from p look.0 (subst (λ d. Looks told.blobs d p (found look.0)) (sym (led_sources led ∙ opened.sources)) (looks_still grown p (Some (Dir sources)) look.0 look.1))
-    ways l (inr inside) p from =
-        let look = lines_looked told.blobs last last.plan.root_lines end.root.nodes end.root.resolved l inside p from in
+    ways_of : (ls : List LineValue) → AreLinesOf last.plan ls → (l : LineValue) → Contains ls l → (p : List Name) → l.origin ≡ source p → TellsWay told.blobs t p
+    ways_of ls of_plan l inside p from =
+        let one = (lines_together ls of_plan).1 in
+        let look = lines_looked told.blobs last ls one.nodes one.resolved l inside p from in
         way_from p look.0 look.1
+
+    ways : (l : LineValue) → IsLineOf last.plan l → (p : List Name) → l.origin ≡ source p → TellsWay told.blobs t p
+    ways l (inl (i, step, at, inside)) p from = ways_of step.lines (inr (i, step, at, refl)) l inside p from
+    ways l (inr inside) p from = ways_of last.plan.root_lines (inl refl) l inside p from
 
     actions : (i : ℕ) (a : ActionMeaning) → action_of last.plan meaning t s i ≡ Some a
         → IsBlobUnder told.blobs (action_digest a) (action_bytes (with_input a.frame (root (form a.input)))) × IsBlobUnder told.blobs a.frame.command (command_bytes a.command)
@@ -255,7 +274,7 @@ module _ (A : Type 0) (y : Yields) (most : ℕ) (plan : PlanValue) (sources : Di
             (ap (λ cs. slice_get cs i) (sym (led_commands led)) ∙ k.mirrors.commands i m.step m.at ∙ m.command)).0.command
 
     serves : NoClash (IsToldOrTree told.blobs last) → Serves told.blobs told.results last t meaning s
-    serves apart = record { sources = ways; actions = actions; results = stored.results apart }
+    serves apart = record { sources = ways; merges = merges; actions = actions; results = stored.results apart }
 
   pub answered : IsAnsweredYes A told last b
   answered = record {

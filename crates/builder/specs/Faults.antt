@@ -37,6 +37,7 @@ of_runs place (runs.Unlisted path) = Refused place 105
 of_runs place (runs.Origin path) = Refused place 106
 of_runs place (runs.Source e) = of_source place e
 of_runs place runs.Full = Refused place 109
+of_runs place (runs.Conflict path) = Refused place 110
 of_runs place runs.Memory = Memory
 
 -- of what is laid out
@@ -46,6 +47,7 @@ of_told place (tree.BlobMissing digest) = Refused place 42
 of_told place (tree.BlobWrong digest) = Refused place 43
 of_told place (tree.BlobMalformed digest) = Refused place 44
 of_told place (tree.TooDeep path) = Refused place 46
+of_told place (tree.Conflict path) = Refused place 47
 of_told place tree.Fetch = Fetch place
 of_told place tree.Memory = Memory
 

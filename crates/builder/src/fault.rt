@@ -85,6 +85,7 @@ pub(crate) fn of_runs<A: Allocator>(place: Place, error: &RunsError<A>) -> Fault
         RunsError::Origin(_) => Fault::Refused(place, 106),
         RunsError::Source(error) => of_source(place, error),
         RunsError::Full => Fault::Refused(place, 109),
+        RunsError::Conflict(_) => Fault::Refused(place, 110),
         RunsError::Memory => Fault::Memory,
     }
 }
@@ -99,6 +100,7 @@ fn of_told<A: Allocator>(place: Place, error: &TreeError<A>) -> Fault
         TreeError::BlobWrong(_) => Fault::Refused(place, 43),
         TreeError::BlobMalformed(_) => Fault::Refused(place, 44),
         TreeError::TooDeep(_) => Fault::Refused(place, 46),
+        TreeError::Conflict(_) => Fault::Refused(place, 47),
         TreeError::Fetch => Fault::Fetch(place),
         TreeError::Memory => Fault::Memory,
     }

@@ -59,6 +59,7 @@ pub fn refusal_told<A: Allocator>(global: Global, error: TreeError<A>) -> Answer
         TreeError::BlobWrong(digest) => with_digest(global, "wrong", &digest),
         TreeError::BlobMalformed(digest) => with_digest(global, "malformed", &digest),
         TreeError::TooDeep(path) => phrase(global, "too deep", path.as_bytes()),
+        TreeError::Conflict(path) => phrase(global, "conflict", path.as_bytes()),
         TreeError::Memory => Err(Broken::Memory),
         TreeError::Fetch => Err(Broken::NoRow),
     }

@@ -1,6 +1,6 @@
-//! Rows of look-ups, graftings, comparisons and unfoldings: each group has a source of its own.
+//! Rows of look-ups, merges, comparisons and unfoldings: each group has a source of its own.
 use crate::answers::{Answer, Broken, compared, digest_text, number_in, said, word};
-use crate::grafts::{grafted, lines_in};
+use crate::merges::merged;
 use crate::nodes::{node_told, phrase, refusal_told};
 use blob_digest::Digest;
 use messages::Path;
@@ -26,7 +26,7 @@ fn answer<A: Allocator + Copy>(
         return Err(Broken::NoRow);
     };
     match word(kind) {
-        "graft" => made(global, alloc, given),
+        "merge" => made(global, alloc, source, given),
         "compare" => difference(global, alloc, source, given),
         kind => other(global, alloc, source, kind, given),
     }
@@ -198,12 +198,22 @@ pub fn directories_told<A: Allocator>(global: Global, folded: &Folded<A>) -> Ans
     Ok(told)
 }
 
-/// The Directories of the graft of the lines.
-fn made<A: Allocator + Copy>(global: Global, alloc: A, lines: &[Vec<u8>]) -> Answer {
-    directories_told(global, &grafted(alloc, &lines_in(alloc, lines)?)?)
+/// The Directories of what the lines put together.
+fn made<A: Allocator + Copy>(
+    global: Global,
+    alloc: A,
+    source: &mut MemorySource<A>,
+    lines: &[Vec<u8>],
+) -> Answer {
+    let told = match merged(alloc, lines, source)? {
+        Ok(folded) => directories_told(global, &folded),
+        Err(error) => refusal_told(global, error),
+    };
+    with_calls(global, told?, source.calls())
 }
 
-/// The first difference of the graft of lines and a recorded directory, which stands before them.
+/// The first difference of what lines put together and a recorded directory, which stands before
+/// them.
 fn difference<A: Allocator + Copy>(
     global: Global,
     alloc: A,
@@ -214,8 +224,11 @@ fn difference<A: Allocator + Copy>(
         return Err(Broken::NoRow);
     };
     let recorded = Digest::read_text(recorded)?;
-    let grafted = grafted(alloc, &lines_in(alloc, lines)?)?;
-    let told = match first_difference(alloc, &grafted, &recorded, source) {
+    let made = match merged(alloc, lines, source)? {
+        Ok(made) => made,
+        Err(error) => return refusal_told(global, error),
+    };
+    let told = match first_difference(alloc, &made, &recorded, source) {
         Ok(difference) => difference_told(global, &difference),
         Err(error) => refusal_told(global, error),
     };

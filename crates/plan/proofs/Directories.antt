@@ -1,5 +1,5 @@
 -- Lines of a directory, one more at a time.
-use Rattle.std.proofs.Common.{◌≡◌, ◌≢◌, ◌⊎◌, ◌↔◌, ℕ, zero, suc, ◌+◌, ◌<◌, Bool, false, List, [], ◌∷◌, ◌++◌, length, map, refl, ap, sym, ◌∙◌, subst, inl, inr, arith, codes, append_assoc, append-nil, length-append}
+use Rattle.std.proofs.Common.{◌≡◌, ◌≢◌, ◌⊎◌, ◌↔◌, ℕ, zero, suc, ◌+◌, ◌<◌, Bool, true, false, List, [], ◌∷◌, ◌++◌, length, map, refl, ap, sym, ◌∙◌, subst, inl, inr, arith, codes, append_assoc, append-nil, length-append}
 use Rattle.std.specs.List.{Contains, AllByRecursion}
 use Rattle.std.proofs.lemmas.Grind.{flat_map-append}
 use Rattle.std.proofs.lemmas.List.Elements.{Contains-append_cases, Contains-append_left, Contains-append_right}
@@ -8,13 +8,15 @@ use Rattle.plan.specs.declared.error.Fault.{Fault}
 use Rattle.plan.specs.declared.error.Fault.TheVariants as faults
 use Rattle.plan.specs.declared.error.ReadError.{ReadError}
 use Rattle.plan.specs.declared.error.ReadError.TheVariants.{Faulty}
+use Rattle.plan.specs.declared.version.Version.{Version}
+use Rattle.plan.specs.declared.version.Version.TheVariants.{One, Two}
 use Rattle.plan.specs.Faults.{BeginsWithLine, HasStep, IsLater}
 use Rattle.plan.specs.Parts.{IsFirstFault, IsNextInFault, IsLinesFault}
 use Rattle.plan.specs.Line.{line_text, Begins, IsStepName}
 use Rattle.plan.specs.Lines.{in_line, IsWrittenOrigin, in_words, written_origin, step_name}
-use Rattle.plan.specs.Plan.{AreLines, AreSteps, HaveApartTargets, lines_text}
+use Rattle.plan.specs.Plan.{AreLines, AreSteps, HaveApartTargets, KeepApart, lines_text}
 use Rattle.plan.specs.Reading.{FaultyUnlessMemory}
-use Rattle.plan.specs.Targets.{OverlapsAny, TakesTarget}
+use Rattle.plan.specs.Targets.{OverlapsAny, TakesIn}
 use Rattle.plan.specs.Values.{OriginValue, source, output, LineValue, StepValue, IsOrigin, IsLine}
 
 -- ---- one more line
@@ -49,15 +51,17 @@ apart_more (first ∷ lines) line h free = (
   apart_more lines line h.1 (λ w. free (w.0, there first.target w.0 (targets_of lines) w.1, w.2)),
 )
 
-pub lines_more : (n : ℕ) (lines : List LineValue) (line : LineValue) → AreLines n lines → IsLine n line → length lines ≢ 65536 → ¬ OverlapsAny line.target (targets_of lines)
-    → AreLines n (lines ++ line ∷ [])
-lines_more n lines line h is room free =
+pub lines_more : (n : ℕ) (lines : List LineValue) (line : LineValue) → AreLines n lines → IsLine n line → length lines ≢ 65536 → AreLines n (lines ++ line ∷ [])
+lines_more n lines line h is room =
     let len = length-append lines (line ∷ []) in
     let few = h.few in
-    record { few = omega arith; each = each_more n lines line h.each is; apart = apart_more lines line h.apart free }
+    record { few = omega arith; each = each_more n lines line h.each is }
 
 pub no_lines : (n : ℕ) → AreLines n []
-no_lines n = record { few = omega arith; each = tt; apart = tt }
+no_lines n = record { few = omega arith; each = tt }
+
+pub still_apart : (version : Version) (lines : List LineValue) (line : LineValue) → KeepApart version lines → (version ≡ One → ¬ OverlapsAny line.target (targets_of lines)) → KeepApart version (lines ++ line ∷ [])
+still_apart version lines line apart free one = apart_more lines line (apart one) (free one)
 
 -- the text of one more line
 pub text_more : (steps : List StepValue) (lines : List LineValue) (line : LineValue) (rest : List ℕ) → lines_text steps lines ++ (line_text (in_words steps line) ++ rest) ≡ lines_text steps (lines ++ line ∷ []) ++ rest
@@ -101,11 +105,29 @@ targets_more old new lines line same with_line p = (
     back (inl e) = inl e
     back (inr has) = inr ((same p).1 has)
 
+-- the set of targets is kept in version 1 alone
+abbrev pub AreTargetsIn : Version → List (List (List ℕ)) → List LineValue → Type 0
+AreTargetsIn version targets lines = version ≡ One → AreTargets targets lines
+
+pub targets_more_in : (version : Version) (old new : List (List (List ℕ))) (lines : List LineValue) (line : LineValue) → AreTargetsIn version old lines → TakesIn version true line.target old new → AreTargetsIn version new (lines ++ line ∷ [])
+targets_more_in One old new lines line same takes one = targets_more old new lines line (same one) takes.1
+targets_more_in Two old new lines line same takes one = absurd (cc one)
+
 overlaps_lines : (targets : List (List (List ℕ))) (lines : List LineValue) (p : List (List ℕ)) → AreTargets targets lines → OverlapsAny p targets → OverlapsAny p (targets_of lines)
 overlaps_lines targets lines p same w = (w.0, (same w.0).0 w.1, w.2)
 
-pub free_of_lines : (targets : List (List (List ℕ))) (lines : List LineValue) (p : List (List ℕ)) → AreTargets targets lines → ¬ OverlapsAny p targets → ¬ OverlapsAny p (targets_of lines)
+free_of_lines : (targets : List (List (List ℕ))) (lines : List LineValue) (p : List (List ℕ)) → AreTargets targets lines → ¬ OverlapsAny p targets → ¬ OverlapsAny p (targets_of lines)
 free_of_lines targets lines p same free w = free (w.0, (same w.0).1 w.1, w.2)
+
+pub free_in : (version : Version) (targets new : List (List (List ℕ))) (lines : List LineValue) (p : List (List ℕ)) → AreTargetsIn version targets lines → TakesIn version true p targets new
+    → version ≡ One → ¬ OverlapsAny p (targets_of lines)
+free_in One targets new lines p same takes one = free_of_lines targets lines p (same one) takes.0
+free_in Two targets new lines p same takes one = absurd (cc one)
+
+overlaps_in : (version : Version) (targets new : List (List (List ℕ))) (lines : List LineValue) (p : List (List ℕ)) → AreTargetsIn version targets lines → TakesIn version false p targets new
+    → (version ≡ One) × OverlapsAny p (targets_of lines)
+overlaps_in One targets new lines p same refusal = (refl, overlaps_lines targets lines p (same refl) refusal.0)
+overlaps_in Two targets new lines p same refusal = absurd (cc refusal)
 
 -- ---- a line that names earlier steps
 
@@ -141,41 +163,42 @@ pub begins_in : (steps : List StepValue) (line : LineValue) (rest behind : List 
     → BeginsWithLine (in_line line.target (written_origin steps line.origin)) rest
 begins_in steps line rest behind h is e = ((is.target, written_lawful steps line.origin h is.origin), (behind, e))
 
-lines_fault : (steps : List StepValue) (first : ℕ) (text rest : List ℕ) (good : List LineValue) (number : ℕ) (fault : Fault) (e : ReadError)
-    → text ≡ lines_text steps good ++ rest → AreLines (length steps) good → number ≡ first + length good → IsNextInFault steps good rest fault → e ≡ Faulty (record { line = number; fault = fault })
-    → FaultyUnlessMemory (IsLinesFault steps first text) e
-lines_fault steps first text rest good number fault e cut lawful at h told =
-    let told_fault : IsLinesFault steps first text (record { line = number; fault = fault }) = record { good = good; rest = rest; lawful = lawful; cut = cut; number = at; fault = h } in
-    subst (FaultyUnlessMemory (IsLinesFault steps first text)) (sym told) told_fault
+lines_fault : (version : Version) (steps : List StepValue) (first : ℕ) (text rest : List ℕ) (good : List LineValue) (number : ℕ) (fault : Fault) (e : ReadError)
+    → text ≡ lines_text steps good ++ rest → AreLines (length steps) good → KeepApart version good → number ≡ first + length good → IsNextInFault version steps good rest fault
+    → e ≡ Faulty (record { line = number; fault = fault }) → FaultyUnlessMemory (IsLinesFault version steps first text) e
+lines_fault version steps first text rest good number fault e cut lawful apart at h told =
+    let told_fault : IsLinesFault version steps first text (record { line = number; fault = fault }) = record { good = good; rest = rest; lawful = lawful; apart = apart; cut = cut; number = at; fault = h } in
+    subst (FaultyUnlessMemory (IsLinesFault version steps first text)) (sym told) told_fault
 
-next_fault : (steps : List StepValue) (good : List LineValue) (rest : List ℕ) (fault : Fault) → Begins (codes "in ") rest → IsFirstFault steps rest fault → IsNextInFault steps good rest fault
-next_fault steps good rest faults.BadLine begins h = inl (refl, begins, h)
-next_fault steps good rest faults.LaterStep begins h = inr (h.0, h.1, h.2, h.3)
-next_fault steps good rest faults.BadHeader begins h = absurd h
-next_fault steps good rest faults.SameStep begins h = absurd h
-next_fault steps good rest faults.Overlap begins h = absurd h
-next_fault steps good rest faults.TooMany begins h = absurd h
-next_fault steps good rest faults.RecordDiffers begins h = absurd h
+next_fault : (version : Version) (steps : List StepValue) (good : List LineValue) (rest : List ℕ) (fault : Fault) → Begins (codes "in ") rest → IsFirstFault steps rest fault → IsNextInFault version steps good rest fault
+next_fault version steps good rest faults.BadLine begins h = inl (refl, begins, h)
+next_fault version steps good rest faults.LaterStep begins h = inr (h.0, h.1, h.2, h.3)
+next_fault version steps good rest faults.BadHeader begins h = absurd h
+next_fault version steps good rest faults.SameStep begins h = absurd h
+next_fault version steps good rest faults.Overlap begins h = absurd h
+next_fault version steps good rest faults.TooMany begins h = absurd h
+next_fault version steps good rest faults.RecordDiffers begins h = absurd h
 
-pub form_fault : (steps : List StepValue) (first : ℕ) (text rest : List ℕ) (good : List LineValue) (number : ℕ) (fault : Fault) (e : ReadError)
-    → text ≡ lines_text steps good ++ rest → AreLines (length steps) good → number ≡ first + length good → Begins (codes "in ") rest → IsFirstFault steps rest fault → e ≡ Faulty (record { line = number; fault = fault })
-    → FaultyUnlessMemory (IsLinesFault steps first text) e
-form_fault steps first text rest good number fault e cut lawful at begins h told = lines_fault steps first text rest good number fault e cut lawful at (next_fault steps good rest fault begins h) told
+pub form_fault : (version : Version) (steps : List StepValue) (first : ℕ) (text rest : List ℕ) (good : List LineValue) (number : ℕ) (fault : Fault) (e : ReadError)
+    → text ≡ lines_text steps good ++ rest → AreLines (length steps) good → KeepApart version good → number ≡ first + length good → Begins (codes "in ") rest → IsFirstFault steps rest fault
+    → e ≡ Faulty (record { line = number; fault = fault }) → FaultyUnlessMemory (IsLinesFault version steps first text) e
+form_fault version steps first text rest good number fault e cut lawful apart at begins h told =
+    lines_fault version steps first text rest good number fault e cut lawful apart at (next_fault version steps good rest fault begins h) told
 
-pub many_fault : (steps : List StepValue) (first : ℕ) (text rest behind : List ℕ) (good : List LineValue) (line : LineValue) (number : ℕ) (e : ReadError)
-    → AreNamed steps → text ≡ lines_text steps good ++ rest → AreLines (length steps) good → number ≡ first + length good → IsLine (length steps) line → rest ≡ line_text (in_words steps line) ++ behind
-    → length good ≡ 65536 → e ≡ Faulty (record { line = number; fault = faults.TooMany }) → FaultyUnlessMemory (IsLinesFault steps first text) e
-many_fault steps first text rest behind good line number e h cut lawful at is f full told =
-    lines_fault steps first text rest good number faults.TooMany e cut lawful at
+pub many_fault : (version : Version) (steps : List StepValue) (first : ℕ) (text rest behind : List ℕ) (good : List LineValue) (line : LineValue) (number : ℕ) (e : ReadError)
+    → AreNamed steps → text ≡ lines_text steps good ++ rest → AreLines (length steps) good → KeepApart version good → number ≡ first + length good → IsLine (length steps) line → rest ≡ line_text (in_words steps line) ++ behind
+    → length good ≡ 65536 → e ≡ Faulty (record { line = number; fault = faults.TooMany }) → FaultyUnlessMemory (IsLinesFault version steps first text) e
+many_fault version steps first text rest behind good line number e h cut lawful apart at is f full told =
+    lines_fault version steps first text rest good number faults.TooMany e cut lawful apart at
     (inr (line.target, written_origin steps line.origin, begins_in steps line rest behind h is f, (not_later steps line.origin is.origin, full))) told
 
-pub overlap_fault : (steps : List StepValue) (first : ℕ) (text rest behind : List ℕ) (good : List LineValue) (line : LineValue) (number : ℕ) (targets new : List (List (List ℕ))) (target : List (List ℕ)) (taken : Bool) (e : ReadError)
-    → AreNamed steps → text ≡ lines_text steps good ++ rest → AreLines (length steps) good → number ≡ first + length good → IsLine (length steps) line → rest ≡ line_text (in_words steps line) ++ behind
-    → length good ≢ 65536 → AreTargets targets good → target ≡ line.target → taken ≡ false → TakesTarget taken target targets new → e ≡ Faulty (record { line = number; fault = faults.Overlap })
-    → FaultyUnlessMemory (IsLinesFault steps first text) e
-overlap_fault steps first text rest behind good line number targets new target taken e h cut lawful at is f room same target_is refused takes told =
+pub overlap_fault : (version : Version) (steps : List StepValue) (first : ℕ) (text rest behind : List ℕ) (good : List LineValue) (line : LineValue) (number : ℕ) (targets new : List (List (List ℕ))) (target : List (List ℕ)) (taken : Bool) (e : ReadError)
+    → AreNamed steps → text ≡ lines_text steps good ++ rest → AreLines (length steps) good → KeepApart version good → number ≡ first + length good → IsLine (length steps) line → rest ≡ line_text (in_words steps line) ++ behind
+    → length good ≢ 65536 → AreTargetsIn version targets good → target ≡ line.target → taken ≡ false → TakesIn version taken target targets new → e ≡ Faulty (record { line = number; fault = faults.Overlap })
+    → FaultyUnlessMemory (IsLinesFault version steps first text) e
+overlap_fault version steps first text rest behind good line number targets new target taken e h cut lawful apart at is f room same target_is refused takes told =
     let few = lawful.few in
-    let refusal : TakesTarget false target targets new = subst (λ (t : Bool). TakesTarget t target targets new) refused takes in
-    let overlaps = overlaps_lines targets good line.target same (subst (λ (p : List (List ℕ)). OverlapsAny p targets) target_is refusal.0) in
-    lines_fault steps first text rest good number faults.Overlap e cut lawful at
-    (inr (line.target, written_origin steps line.origin, begins_in steps line rest behind h is f, (not_later steps line.origin is.origin, omega arith, overlaps))) told
+    let refusal : TakesIn version false target targets new = subst (λ (t : Bool). TakesIn version t target targets new) refused takes in
+    let overlaps = overlaps_in version targets new good line.target same (subst (λ (p : List (List ℕ)). TakesIn version false p targets new) target_is refusal) in
+    lines_fault version steps first text rest good number faults.Overlap e cut lawful apart at
+    (inr (line.target, written_origin steps line.origin, begins_in steps line rest behind h is f, (overlaps.0, not_later steps line.origin is.origin, omega arith, overlaps.1))) told

@@ -2,6 +2,8 @@
 use Rattle.std.proofs.Common.{◌≡◌, ◌⊎◌, ℕ, zero, suc, ◌<◌, List, [], ◌∷◌, ◌++◌, length, refl, ap, sym, ◌∙◌, subst, inl, inr, arith}
 use Rattle.plan.specs.declared.error.Fault.{Fault}
 use Rattle.plan.specs.declared.error.Fault.TheVariants as faults
+use Rattle.plan.specs.declared.version.Version.{Version}
+use Rattle.plan.specs.declared.version.Version.TheVariants.{One}
 use Rattle.plan.specs.Faults.{Beginning, at_start, in_step, in_root, BeginsWithLine, MayStand, HasStep, IsLater, IsStepFault, IsInFault, IsLineFault, IsNextFault}
 use Rattle.plan.specs.Lines.{WrittenOrigin, WrittenLine, step_line, root_line, in_line, written_origin, step_name}
 use Rattle.plan.specs.Plan.{AreSteps}
@@ -50,18 +52,18 @@ line_with target origin = record { target = target; origin = origin }
 -- ---- one more line behind a beginning
 
 -- the lines of a directory, with one that may stand behind them
-pub record InFollows (earlier : List StepValue) (lines : List LineValue) (target : List (List ℕ)) (origin : WrittenOrigin) (next : List LineValue) : Type 0 where
+pub record InFollows (version : Version) (earlier : List StepValue) (lines : List LineValue) (target : List (List ℕ)) (origin : WrittenOrigin) (next : List LineValue) : Type 0 where
   pub steps : AreSteps [] earlier
   pub line : LineValue
   pub lawful : IsLine (length earlier) line
   pub at : target ≡ line.target
   pub from : origin ≡ written_origin earlier line.origin
   pub room : length lines < 65536
-  pub free : ¬ OverlapsAny target (targets_of lines)
+  pub free : version ≡ One → ¬ OverlapsAny target (targets_of lines)
   pub more : next ≡ lines ++ line ∷ []
 
-in_one : (earlier : List StepValue) (lines : List LineValue) (target : List (List ℕ)) (origin : WrittenOrigin) (a b : List LineValue) → InFollows earlier lines target origin a → InFollows earlier lines target origin b → a ≡ b
-in_one earlier lines target origin a b f g =
+in_one : (version : Version) (earlier : List StepValue) (lines : List LineValue) (target : List (List ℕ)) (origin : WrittenOrigin) (a b : List LineValue) → InFollows version earlier lines target origin a → InFollows version earlier lines target origin b → a ≡ b
+in_one version earlier lines target origin a b f g =
     let targets = sym f.at ∙ g.at in
     let origins = origin_same earlier f.line.origin g.line.origin f.steps f.lawful.origin g.lawful.origin (sym f.from ∙ g.from) in
     let same : f.line ≡ g.line = ap (λ (t : List (List ℕ)). line_with t f.line.origin) targets ∙ ap (λ (o : OriginValue). line_with g.line.target o) origins in
@@ -78,39 +80,39 @@ open_one at_start x y h k = h ∙ sym k
 open_one (in_step earlier step) x y h k = h ∙ sym k
 open_one (in_root earlier lines) x y h k = absurd h
 
-abbrev pub Follows : Beginning → WrittenLine → Beginning → Type 0
-Follows b (step_line name frame) next = (steps : List StepValue) × OpenAt b steps × (¬ HasStep steps name) × (length steps < 4096) × (next ≡ in_step steps (step_with name frame []))
-Follows b root_line next = (steps : List StepValue) × OpenAt b steps × (next ≡ in_root steps [])
-Follows at_start (in_line target origin) next = ⊥
-Follows (in_step earlier step) (in_line target origin) next = (lines : List LineValue) × InFollows earlier step.lines target origin lines × (next ≡ in_step earlier (step_with step.name step.frame lines))
-Follows (in_root steps lines) (in_line target origin) next = (more : List LineValue) × InFollows steps lines target origin more × (next ≡ in_root steps more)
+abbrev pub Follows : Version → Beginning → WrittenLine → Beginning → Type 0
+Follows version b (step_line name frame) next = (steps : List StepValue) × OpenAt b steps × (¬ HasStep steps name) × (length steps < 4096) × (next ≡ in_step steps (step_with name frame []))
+Follows version b root_line next = (steps : List StepValue) × OpenAt b steps × (next ≡ in_root steps [])
+Follows version at_start (in_line target origin) next = ⊥
+Follows version (in_step earlier step) (in_line target origin) next = (lines : List LineValue) × InFollows version earlier step.lines target origin lines × (next ≡ in_step earlier (step_with step.name step.frame lines))
+Follows version (in_root steps lines) (in_line target origin) next = (more : List LineValue) × InFollows version steps lines target origin more × (next ≡ in_root steps more)
 
-pub follows_one : (b : Beginning) (line : WrittenLine) (x y : Beginning) → Follows b line x → Follows b line y → x ≡ y
-follows_one b (step_line name frame) x y f g =
+pub follows_one : (version : Version) (b : Beginning) (line : WrittenLine) (x y : Beginning) → Follows version b line x → Follows version b line y → x ≡ y
+follows_one version b (step_line name frame) x y f g =
     let same = open_one b f.0 g.0 f.1 g.1 in
     f.4 ∙ ap (λ (steps : List StepValue). in_step steps (step_with name frame [])) same ∙ sym g.4
-follows_one b root_line x y f g =
+follows_one version b root_line x y f g =
     let same = open_one b f.0 g.0 f.1 g.1 in
     f.2 ∙ ap (λ (steps : List StepValue). in_root steps []) same ∙ sym g.2
-follows_one at_start (in_line target origin) x y f g = absurd f
-follows_one (in_step earlier step) (in_line target origin) x y f g =
-    let same = in_one earlier step.lines target origin f.0 g.0 f.1 g.1 in
+follows_one version at_start (in_line target origin) x y f g = absurd f
+follows_one version (in_step earlier step) (in_line target origin) x y f g =
+    let same = in_one version earlier step.lines target origin f.0 g.0 f.1 g.1 in
     f.2 ∙ ap (λ (lines : List LineValue). in_step earlier (step_with step.name step.frame lines)) same ∙ sym g.2
-follows_one (in_root steps lines) (in_line target origin) x y f g =
-    let same = in_one steps lines target origin f.0 g.0 f.1 g.1 in
+follows_one version (in_root steps lines) (in_line target origin) x y f g =
+    let same = in_one version steps lines target origin f.0 g.0 f.1 g.1 in
     f.2 ∙ ap (λ (more : List LineValue). in_root steps more) same ∙ sym g.2
 
 -- ---- a line that may follow is at no fault
 
-in_no_fault : (earlier : List StepValue) (lines : List LineValue) (target : List (List ℕ)) (origin : WrittenOrigin) (next : List LineValue) (fault : Fault)
-    → InFollows earlier lines target origin next → IsInFault earlier lines target origin fault → ⊥
-in_no_fault earlier lines target origin next faults.LaterStep f h = not_later earlier f.line.origin f.lawful.origin (subst (IsLater earlier) f.from h)
-in_no_fault earlier lines target origin next faults.TooMany f h = let room = f.room in omega (arith, h.1)
-in_no_fault earlier lines target origin next faults.Overlap f h = f.free h.2
-in_no_fault earlier lines target origin next faults.BadHeader f h = h
-in_no_fault earlier lines target origin next faults.BadLine f h = h
-in_no_fault earlier lines target origin next faults.SameStep f h = h
-in_no_fault earlier lines target origin next faults.RecordDiffers f h = h
+in_no_fault : (version : Version) (earlier : List StepValue) (lines : List LineValue) (target : List (List ℕ)) (origin : WrittenOrigin) (next : List LineValue) (fault : Fault)
+    → InFollows version earlier lines target origin next → IsInFault version earlier lines target origin fault → ⊥
+in_no_fault version earlier lines target origin next faults.LaterStep f h = not_later earlier f.line.origin f.lawful.origin (subst (IsLater earlier) f.from h)
+in_no_fault version earlier lines target origin next faults.TooMany f h = let room = f.room in omega (arith, h.1)
+in_no_fault version earlier lines target origin next faults.Overlap f h = f.free h.0 h.3
+in_no_fault version earlier lines target origin next faults.BadHeader f h = h
+in_no_fault version earlier lines target origin next faults.BadLine f h = h
+in_no_fault version earlier lines target origin next faults.SameStep f h = h
+in_no_fault version earlier lines target origin next faults.RecordDiffers f h = h
 
 step_no_fault : (steps : List StepValue) (name : List ℕ) (fault : Fault) → ¬ HasStep steps name → length steps < 4096 → IsStepFault steps name fault → ⊥
 step_no_fault steps name faults.SameStep new room h = new h
@@ -121,33 +123,33 @@ step_no_fault steps name faults.LaterStep new room h = h
 step_no_fault steps name faults.Overlap new room h = h
 step_no_fault steps name faults.RecordDiffers new room h = h
 
-follows_no_fault : (b : Beginning) (line : WrittenLine) (next : Beginning) (fault : Fault) → Follows b line next → IsLineFault b line fault → ⊥
-follows_no_fault at_start line next fault f h = h
-follows_no_fault (in_step earlier step) (step_line name frame) next fault f h =
+follows_no_fault : (version : Version) (b : Beginning) (line : WrittenLine) (next : Beginning) (fault : Fault) → Follows version b line next → IsLineFault version b line fault → ⊥
+follows_no_fault version at_start line next fault f h = h
+follows_no_fault version (in_step earlier step) (step_line name frame) next fault f h =
     step_no_fault f.0 name fault f.2 f.3 (subst (λ (steps : List StepValue). IsStepFault steps name fault) (sym f.1) h)
-follows_no_fault (in_step earlier step) root_line next fault f h = h
-follows_no_fault (in_step earlier step) (in_line target origin) next fault f h = in_no_fault earlier step.lines target origin f.0 fault f.1 h
-follows_no_fault (in_root steps lines) (step_line name frame) next fault f h = h
-follows_no_fault (in_root steps lines) root_line next fault f h = h
-follows_no_fault (in_root steps lines) (in_line target origin) next fault f h = in_no_fault steps lines target origin f.0 fault f.1 h
+follows_no_fault version (in_step earlier step) root_line next fault f h = h
+follows_no_fault version (in_step earlier step) (in_line target origin) next fault f h = in_no_fault version earlier step.lines target origin f.0 fault f.1 h
+follows_no_fault version (in_root steps lines) (step_line name frame) next fault f h = h
+follows_no_fault version (in_root steps lines) root_line next fault f h = h
+follows_no_fault version (in_root steps lines) (in_line target origin) next fault f h = in_no_fault version steps lines target origin f.0 fault f.1 h
 
-may_stand : (b : Beginning) (line : WrittenLine) (next : Beginning) → Follows b line next → MayStand b line
-may_stand at_start (step_line name frame) next f = tt
-may_stand at_start root_line next f = tt
-may_stand at_start (in_line target origin) next f = f
-may_stand (in_step earlier step) line next f = tt
-may_stand (in_root steps lines) (step_line name frame) next f = f.1
-may_stand (in_root steps lines) root_line next f = f.1
-may_stand (in_root steps lines) (in_line target origin) next f = tt
+may_stand : (version : Version) (b : Beginning) (line : WrittenLine) (next : Beginning) → Follows version b line next → MayStand b line
+may_stand version at_start (step_line name frame) next f = tt
+may_stand version at_start root_line next f = tt
+may_stand version at_start (in_line target origin) next f = f
+may_stand version (in_step earlier step) line next f = tt
+may_stand version (in_root steps lines) (step_line name frame) next f = f.1
+may_stand version (in_root steps lines) root_line next f = f.1
+may_stand version (in_root steps lines) (in_line target origin) next f = tt
 
 -- lines that a text begins with
 same_line : (a b : WrittenLine) (text : List ℕ) → BeginsWithLine a text → BeginsWithLine b text → a ≡ b
 same_line a b text f g = (first_one a b f.1.0 g.1.0 f.0 g.0 (sym f.1.1 ∙ g.1.1)).0
 
-pub no_next_fault : (b : Beginning) (line : WrittenLine) (next : Beginning) (rest : List ℕ) (fault : Fault) → BeginsWithLine line rest → Follows b line next → IsNextFault b rest fault → ⊥
-no_next_fault b line next rest fault first f (inl w) = w.1.1 line (may_stand b line next f) first
-no_next_fault b line next rest fault first f (inr w) =
-    follows_no_fault b line next fault f (subst (λ (l : WrittenLine). IsLineFault b l fault) (same_line w.0 line rest w.1 first) w.2)
+pub no_next_fault : (version : Version) (b : Beginning) (line : WrittenLine) (next : Beginning) (rest : List ℕ) (fault : Fault) → BeginsWithLine line rest → Follows version b line next → IsNextFault version b rest fault → ⊥
+no_next_fault version b line next rest fault first f (inl w) = w.1.1 line (may_stand version b line next f) first
+no_next_fault version b line next rest fault first f (inr w) =
+    follows_no_fault version b line next fault f (subst (λ (l : WrittenLine). IsLineFault version b l fault) (same_line w.0 line rest w.1 first) w.2)
 
 -- ---- one fault behind one beginning
 
@@ -170,21 +172,21 @@ step_fault_one steps name x y f g = by (step_fault_is steps name x f) (step_faul
     by (inr a) (inr b) = a.0 ∙ sym b.0
 
 -- the number of a line's fault, in their order
-in_fault_is : (earlier : List StepValue) (lines : List LineValue) (target : List (List ℕ)) (origin : WrittenOrigin) (fault : Fault) → IsInFault earlier lines target origin fault
+in_fault_is : (version : Version) (earlier : List StepValue) (lines : List LineValue) (target : List (List ℕ)) (origin : WrittenOrigin) (fault : Fault) → IsInFault version earlier lines target origin fault
     → ((fault ≡ faults.LaterStep) × IsLater earlier origin) ⊎ (((fault ≡ faults.TooMany) × (¬ IsLater earlier origin) × (length lines ≡ 65536)) ⊎ ((fault ≡ faults.Overlap) × (¬ IsLater earlier origin) × (length lines < 65536)))
-in_fault_is earlier lines target origin faults.LaterStep h = inl (refl, h)
-in_fault_is earlier lines target origin faults.TooMany h = inr (inl (refl, h.0, h.1))
-in_fault_is earlier lines target origin faults.Overlap h = inr (inr (refl, h.0, h.1))
-in_fault_is earlier lines target origin faults.BadHeader h = absurd h
-in_fault_is earlier lines target origin faults.BadLine h = absurd h
-in_fault_is earlier lines target origin faults.SameStep h = absurd h
-in_fault_is earlier lines target origin faults.RecordDiffers h = absurd h
+in_fault_is version earlier lines target origin faults.LaterStep h = inl (refl, h)
+in_fault_is version earlier lines target origin faults.TooMany h = inr (inl (refl, h.0, h.1))
+in_fault_is version earlier lines target origin faults.Overlap h = inr (inr (refl, h.1, h.2))
+in_fault_is version earlier lines target origin faults.BadHeader h = absurd h
+in_fault_is version earlier lines target origin faults.BadLine h = absurd h
+in_fault_is version earlier lines target origin faults.SameStep h = absurd h
+in_fault_is version earlier lines target origin faults.RecordDiffers h = absurd h
 
 apart_numbers : (n : ℕ) → n ≡ 65536 → n < 65536 → ⊥
 apart_numbers n e h = omega arith
 
-in_fault_one : (earlier : List StepValue) (lines : List LineValue) (target : List (List ℕ)) (origin : WrittenOrigin) (x y : Fault) → IsInFault earlier lines target origin x → IsInFault earlier lines target origin y → x ≡ y
-in_fault_one earlier lines target origin x y f g = by (in_fault_is earlier lines target origin x f) (in_fault_is earlier lines target origin y g)
+in_fault_one : (version : Version) (earlier : List StepValue) (lines : List LineValue) (target : List (List ℕ)) (origin : WrittenOrigin) (x y : Fault) → IsInFault version earlier lines target origin x → IsInFault version earlier lines target origin y → x ≡ y
+in_fault_one version earlier lines target origin x y f g = by (in_fault_is version earlier lines target origin x f) (in_fault_is version earlier lines target origin y g)
   where
     by : ((x ≡ faults.LaterStep) × IsLater earlier origin) ⊎ (((x ≡ faults.TooMany) × (¬ IsLater earlier origin) × (length lines ≡ 65536)) ⊎ ((x ≡ faults.Overlap) × (¬ IsLater earlier origin) × (length lines < 65536)))
         → ((y ≡ faults.LaterStep) × IsLater earlier origin) ⊎ (((y ≡ faults.TooMany) × (¬ IsLater earlier origin) × (length lines ≡ 65536)) ⊎ ((y ≡ faults.Overlap) × (¬ IsLater earlier origin) × (length lines < 65536))) → x ≡ y
@@ -198,25 +200,25 @@ in_fault_one earlier lines target origin x y f g = by (in_fault_is earlier lines
     by (inr (inr a)) (inr (inl b)) = absurd (apart_numbers (length lines) b.2 a.2)
     by (inr (inr a)) (inr (inr b)) = a.0 ∙ sym b.0
 
-line_fault_one : (b : Beginning) (line : WrittenLine) (x y : Fault) → IsLineFault b line x → IsLineFault b line y → x ≡ y
-line_fault_one at_start line x y f g = absurd f
-line_fault_one (in_step earlier step) (step_line name frame) x y f g = step_fault_one (earlier ++ step ∷ []) name x y f g
-line_fault_one (in_step earlier step) root_line x y f g = absurd f
-line_fault_one (in_step earlier step) (in_line target origin) x y f g = in_fault_one earlier step.lines target origin x y f g
-line_fault_one (in_root steps lines) (step_line name frame) x y f g = absurd f
-line_fault_one (in_root steps lines) root_line x y f g = absurd f
-line_fault_one (in_root steps lines) (in_line target origin) x y f g = in_fault_one steps lines target origin x y f g
+line_fault_one : (version : Version) (b : Beginning) (line : WrittenLine) (x y : Fault) → IsLineFault version b line x → IsLineFault version b line y → x ≡ y
+line_fault_one version at_start line x y f g = absurd f
+line_fault_one version (in_step earlier step) (step_line name frame) x y f g = step_fault_one (earlier ++ step ∷ []) name x y f g
+line_fault_one version (in_step earlier step) root_line x y f g = absurd f
+line_fault_one version (in_step earlier step) (in_line target origin) x y f g = in_fault_one version earlier step.lines target origin x y f g
+line_fault_one version (in_root steps lines) (step_line name frame) x y f g = absurd f
+line_fault_one version (in_root steps lines) root_line x y f g = absurd f
+line_fault_one version (in_root steps lines) (in_line target origin) x y f g = in_fault_one version steps lines target origin x y f g
 
-fault_stands : (b : Beginning) (line : WrittenLine) (x : Fault) → IsLineFault b line x → MayStand b line
-fault_stands at_start line x f = absurd f
-fault_stands (in_step earlier step) line x f = tt
-fault_stands (in_root steps lines) (step_line name frame) x f = f
-fault_stands (in_root steps lines) root_line x f = f
-fault_stands (in_root steps lines) (in_line target origin) x f = tt
+fault_stands : (version : Version) (b : Beginning) (line : WrittenLine) (x : Fault) → IsLineFault version b line x → MayStand b line
+fault_stands version at_start line x f = absurd f
+fault_stands version (in_step earlier step) line x f = tt
+fault_stands version (in_root steps lines) (step_line name frame) x f = f
+fault_stands version (in_root steps lines) root_line x f = f
+fault_stands version (in_root steps lines) (in_line target origin) x f = tt
 
-pub next_fault_one : (b : Beginning) (rest : List ℕ) (x y : Fault) → IsNextFault b rest x → IsNextFault b rest y → x ≡ y
-next_fault_one b rest x y (inl f) (inl g) = f.0 ∙ sym g.0
-next_fault_one b rest x y (inl f) (inr g) = absurd (f.1.1 g.0 (fault_stands b g.0 y g.2) g.1)
-next_fault_one b rest x y (inr f) (inl g) = absurd (g.1.1 f.0 (fault_stands b f.0 x f.2) f.1)
-next_fault_one b rest x y (inr f) (inr g) =
-    line_fault_one b g.0 x y (subst (λ (l : WrittenLine). IsLineFault b l x) (same_line f.0 g.0 rest f.1 g.1) f.2) g.2
+pub next_fault_one : (version : Version) (b : Beginning) (rest : List ℕ) (x y : Fault) → IsNextFault version b rest x → IsNextFault version b rest y → x ≡ y
+next_fault_one version b rest x y (inl f) (inl g) = f.0 ∙ sym g.0
+next_fault_one version b rest x y (inl f) (inr g) = absurd (f.1.1 g.0 (fault_stands version b g.0 y g.2) g.1)
+next_fault_one version b rest x y (inr f) (inl g) = absurd (g.1.1 f.0 (fault_stands version b f.0 x f.2) f.1)
+next_fault_one version b rest x y (inr f) (inr g) =
+    line_fault_one version b g.0 x y (subst (λ (l : WrittenLine). IsLineFault version b l x) (same_line f.0 g.0 rest f.1 g.1) f.2) g.2

@@ -4,12 +4,19 @@ use Rattle.std.specs.List.{flat_map}
 use Rattle.plan.specs.declared.error.PlanError.{PlanError}
 use Rattle.plan.specs.declared.error.Fault.{Fault}
 use Rattle.plan.specs.declared.error.Fault.TheVariants as faults
+use Rattle.plan.specs.declared.version.Version.{Version}
+use Rattle.plan.specs.declared.version.Version.TheVariants.{One}
 use Rattle.plan.specs.Line.{line_text, Begins}
 use Rattle.plan.specs.Lines.{WrittenOrigin, from_source, from_step, WrittenLine, step_line}
 use Rattle.plan.specs.Lines.{root_line, in_line, IsWrittenLine, written_words}
-use Rattle.plan.specs.Plan.{IsStep, AreSteps, IsPlan, plan_header, step_text, plan_text}
+use Rattle.plan.specs.Plan.{KeepApart, AllKeepApart, IsStep, AreSteps, IsPlan, plan_header}
+use Rattle.plan.specs.Plan.{step_text, plan_text}
 use Rattle.plan.specs.Targets.{OverlapsAny}
 use Rattle.plan.specs.Values.{LineValue, StepValue}
+
+-- the text begins with the header of no version
+abbrev pub HasNoHeader : List ℕ → Type 0
+HasNoHeader text = (version : Version) → ¬ Begins (plan_header version) text
 
 -- ---- beginnings
 
@@ -20,18 +27,21 @@ pub data Beginning : Type 0 where
   in_step : List StepValue → StepValue → Beginning
   in_root : List StepValue → List LineValue → Beginning
 
--- nothing in it is at fault
-abbrev pub IsBeginning : Beginning → Type 0
-IsBeginning at_start = Unit {0}
-IsBeginning (in_step earlier step) =
+-- nothing in it is at fault in the version
+abbrev pub IsBeginning : Version → Beginning → Type 0
+IsBeginning version at_start = Unit {0}
+IsBeginning version (in_step earlier step) =
     (length earlier < 4096) × AreSteps [] earlier × IsStep earlier step
-IsBeginning (in_root steps lines) = IsPlan (record { steps = steps; root_lines = lines })
+    × AllKeepApart version earlier × KeepApart version step.lines
+IsBeginning version (in_root steps lines) =
+    IsPlan (record { version = version; steps = steps; root_lines = lines })
 
-abbrev pub beginning_text : Beginning → List ℕ
-beginning_text at_start = plan_header
-beginning_text (in_step earlier step) =
-    plan_header ++ (flat_map (step_text earlier) earlier ++ step_text earlier step)
-beginning_text (in_root steps lines) = plan_text (record { steps = steps; root_lines = lines })
+abbrev pub beginning_text : Version → Beginning → List ℕ
+beginning_text version at_start = plan_header version
+beginning_text version (in_step earlier step) =
+    plan_header version ++ (flat_map (step_text earlier) earlier ++ step_text earlier step)
+beginning_text version (in_root steps lines) =
+    plan_text (record { version = version; steps = steps; root_lines = lines })
 
 -- how many lines steps are
 abbrev pub line_count : List StepValue → ℕ
@@ -79,30 +89,30 @@ IsStepFault steps name faults.TooMany = (¬ HasStep steps name) × (length steps
 IsStepFault steps name _ = ⊥
 
 -- The faults of a line after these lines of a directory, before which these steps stand: it reads a
--- later step; or else the lines are as many as may be; or else its target overlaps that of one of
--- them.
-abbrev pub IsInFault : List StepValue → List LineValue → List (List ℕ) → WrittenOrigin → Fault
-    → Type 0
-IsInFault earlier lines target origin faults.LaterStep = IsLater earlier origin
-IsInFault earlier lines target origin faults.TooMany =
+-- later step; or else the lines are as many as may be; or else, in version 1, its target overlaps
+-- that of one of them.
+abbrev pub IsInFault : Version → List StepValue → List LineValue → List (List ℕ) → WrittenOrigin
+    → Fault → Type 0
+IsInFault version earlier lines target origin faults.LaterStep = IsLater earlier origin
+IsInFault version earlier lines target origin faults.TooMany =
     (¬ IsLater earlier origin) × (length lines ≡ 65536)
-IsInFault earlier lines target origin faults.Overlap =
-    (¬ IsLater earlier origin) × (length lines < 65536)
+IsInFault version earlier lines target origin faults.Overlap =
+    (version ≡ One) × (¬ IsLater earlier origin) × (length lines < 65536)
     × OverlapsAny target (map (λ other. other.target) lines)
-IsInFault earlier lines target origin _ = ⊥
+IsInFault version earlier lines target origin _ = ⊥
 
 -- the faults of a line that may stand after the beginning
-abbrev pub IsLineFault : Beginning → WrittenLine → Fault → Type 0
-IsLineFault at_start line fault = ⊥
-IsLineFault (in_step earlier step) (step_line name frame) fault =
+abbrev pub IsLineFault : Version → Beginning → WrittenLine → Fault → Type 0
+IsLineFault version at_start line fault = ⊥
+IsLineFault version (in_step earlier step) (step_line name frame) fault =
     IsStepFault (earlier ++ step ∷ []) name fault
-IsLineFault (in_step earlier step) root_line fault = ⊥
-IsLineFault (in_step earlier step) (in_line target origin) fault =
-    IsInFault earlier step.lines target origin fault
-IsLineFault (in_root steps lines) (step_line name frame) fault = ⊥
-IsLineFault (in_root steps lines) root_line fault = ⊥
-IsLineFault (in_root steps lines) (in_line target origin) fault =
-    IsInFault steps lines target origin fault
+IsLineFault version (in_step earlier step) root_line fault = ⊥
+IsLineFault version (in_step earlier step) (in_line target origin) fault =
+    IsInFault version earlier step.lines target origin fault
+IsLineFault version (in_root steps lines) (step_line name frame) fault = ⊥
+IsLineFault version (in_root steps lines) root_line fault = ⊥
+IsLineFault version (in_root steps lines) (in_line target origin) fault =
+    IsInFault version steps lines target origin fault
 
 -- a plan may end here
 abbrev pub MayEnd : Beginning → Type 0
@@ -117,22 +127,23 @@ NoLineStands start rest =
     × ((line : WrittenLine) → MayStand start line → ¬ BeginsWithLine line rest)
 
 -- what is wrong with the text after a beginning
-abbrev pub IsNextFault : Beginning → List ℕ → Fault → Type 0
-IsNextFault start rest fault =
+abbrev pub IsNextFault : Version → Beginning → List ℕ → Fault → Type 0
+IsNextFault version start rest fault =
     ((fault ≡ faults.BadLine) × NoLineStands start rest)
-    ⊎ ((line : WrittenLine) × BeginsWithLine line rest × IsLineFault start line fault)
+    ⊎ ((line : WrittenLine) × BeginsWithLine line rest × IsLineFault version start line fault)
 
 -- The text begins with a beginning of a plan, and the next line is at fault.
 pub record IsFaultBehind (text : List ℕ) (e : PlanError) : Type 0 where
+  pub version : Version
   pub start : Beginning
   pub rest : List ℕ
-  pub lawful : IsBeginning start
-  pub cut : text ≡ beginning_text start ++ rest
+  pub lawful : IsBeginning version start
+  pub cut : text ≡ beginning_text version start ++ rest
   pub number : e.line ≡ next_number start
-  pub fault : IsNextFault start rest e.fault
+  pub fault : IsNextFault version start rest e.fault
 
--- why a text is no plan: the first line at fault
+-- why a text is no plan: its first line is no version's header, or else the first line at fault
 abbrev pub IsPlanFault : List ℕ → PlanError → Type 0
 IsPlanFault text e =
-    ((e ≡ record { line = 1; fault = faults.BadHeader }) × ¬ Begins plan_header text)
+    ((e ≡ record { line = 1; fault = faults.BadHeader }) × HasNoHeader text)
     ⊎ IsFaultBehind text e

@@ -6,11 +6,12 @@ use Rattle.blob_digest.specs.Digest.{DigestValue}
 use Rattle.plan.specs.declared.error.PlanError.{PlanError}
 use Rattle.plan.specs.declared.error.Fault.{Fault}
 use Rattle.plan.specs.declared.error.Fault.TheVariants as faults
+use Rattle.plan.specs.declared.version.Version.{Version}
 use Rattle.plan.specs.Faults.{line_count, BeginsWithLine, IsLater, IsInFault}
 use Rattle.plan.specs.Line.{Begins}
 use Rattle.plan.specs.Lines.{WrittenOrigin, step_line, in_line, IsWrittenOrigin, IsWrittenLine}
 use Rattle.plan.specs.Lines.{written_origin_words, written_words}
-use Rattle.plan.specs.Plan.{AreLines, AreSteps, lines_text, step_text}
+use Rattle.plan.specs.Plan.{KeepApart, AllKeepApart, AreLines, AreSteps, lines_text, step_text}
 use Rattle.plan.specs.Values.{LineValue, StepValue}
 
 -- texts that are kept as vectors
@@ -48,31 +49,33 @@ IsFirstFault steps text faults.LaterStep =
 IsFirstFault steps text _ = ⊥
 
 -- what is wrong with an `in` line after these lines
-abbrev pub IsNextInFault : List StepValue → List LineValue → List ℕ → Fault → Type 0
-IsNextInFault steps good rest fault =
+abbrev pub IsNextInFault : Version → List StepValue → List LineValue → List ℕ → Fault → Type 0
+IsNextInFault version steps good rest fault =
     ((fault ≡ faults.BadLine) × Begins (codes "in ") rest
     × ((target : List (List ℕ)) (origin : WrittenOrigin)
     → ¬ BeginsWithLine (in_line target origin) rest))
     ⊎ ((target : List (List ℕ)) × (origin : WrittenOrigin)
-    × BeginsWithLine (in_line target origin) rest × IsInFault steps good target origin fault)
+    × BeginsWithLine (in_line target origin) rest × IsInFault version steps good target origin fault)
 
 -- The text begins with lines of a directory after these steps, of which the first has this number,
 -- and the next `in` line is at fault.
-pub record IsLinesFault (steps : List StepValue) (first : ℕ) (text : List ℕ)
+pub record IsLinesFault (version : Version) (steps : List StepValue) (first : ℕ) (text : List ℕ)
     (e : PlanError) : Type 0 where
   pub good : List LineValue
   pub rest : List ℕ
   pub lawful : AreLines (length steps) good
+  pub apart : KeepApart version good
   pub cut : text ≡ lines_text steps good ++ rest
   pub number : e.line ≡ first + length good
-  pub fault : IsNextInFault steps good rest e.fault
+  pub fault : IsNextInFault version steps good rest e.fault
 
 -- The text, after the header, begins with these steps, and with no further one. The next line has
 -- this number.
-pub record IsFront (text : List ℕ) (steps : List StepValue) (rest : List ℕ)
+pub record IsFront (version : Version) (text : List ℕ) (steps : List StepValue) (rest : List ℕ)
     (number : ℕ) : Type 0 where
   pub few : length steps ≤ 4096
   pub lawful : AreSteps [] steps
+  pub apart : AllKeepApart version steps
   pub cut : text ≡ flat_map (step_text steps) steps ++ rest
   pub counted : number ≡ line_count steps + 2
   pub none : (name : List ℕ) (frame : DigestValue) → ¬ BeginsWithLine (step_line name frame) rest

@@ -1,8 +1,10 @@
 -- Plans: their rules, and their texts.
-use Rattle.std.specs.Prelude.{◌≢◌, ℕ, ◌≤◌, List, [], ◌∷◌, ◌++◌, length, codes}
+use Rattle.std.specs.Prelude.{◌≡◌, ◌≢◌, ℕ, ◌≤◌, List, [], ◌∷◌, ◌++◌, length, codes}
 use Rattle.std.specs.List.{AllByRecursion, flat_map}
 use Rattle.blob_digest.specs.Digest.{IsDigest}
 use Rattle.messages.specs.Path.{Overlap}
+use Rattle.plan.specs.declared.version.Version.{Version}
+use Rattle.plan.specs.declared.version.Version.TheVariants.{One, Two}
 use Rattle.plan.specs.Line.{line_text, IsStepName, step_words}
 use Rattle.plan.specs.Lines.{in_words}
 use Rattle.plan.specs.Values.{LineValue, StepValue, PlanValue, IsLine}
@@ -15,11 +17,18 @@ HaveApartTargets [] = Unit {0}
 HaveApartTargets (line ∷ lines) =
     AllByRecursion (λ other. ¬ Overlap line.target other.target) lines × HaveApartTargets lines
 
+-- the lines of a directory have apart targets, unless the version lets them meet
+abbrev pub KeepApart : Version → List LineValue → Type 0
+KeepApart version lines = version ≡ One → HaveApartTargets lines
+
+-- the lines of each step do
+abbrev pub AllKeepApart : Version → List StepValue → Type 0
+AllKeepApart version steps = AllByRecursion (λ step. KeepApart version step.lines) steps
+
 -- the lines of one directory, before which this many steps stand
 pub record AreLines (before : ℕ) (lines : List LineValue) : Type 0 where
   pub few : length lines ≤ 65536
   pub each : AllByRecursion (IsLine before) lines
-  pub apart : HaveApartTargets lines
 
 -- a step after these steps
 pub record IsStep (earlier : List StepValue) (step : StepValue) : Type 0 where
@@ -32,16 +41,20 @@ abbrev pub AreSteps : List StepValue → List StepValue → Type 0
 AreSteps earlier [] = Unit {0}
 AreSteps earlier (step ∷ steps) = IsStep earlier step × AreSteps (earlier ++ step ∷ []) steps
 
--- A plan: origins are outputs of earlier steps, and in no directory does a target overlap another.
+-- A plan: origins are outputs of earlier steps, and in version 1 no target of a directory overlaps
+-- another.
 pub record IsPlan (plan : PlanValue) : Type 0 where
   pub few : length plan.steps ≤ 4096
   pub steps : AreSteps [] plan.steps
   pub root_lines : AreLines (length plan.steps) plan.root_lines
+  pub apart : AllKeepApart plan.version plan.steps
+  pub root_apart : KeepApart plan.version plan.root_lines
 
 -- ---- texts
 
-abbrev pub plan_header : List ℕ
-plan_header = line_text (codes "buildplan 1")
+abbrev pub plan_header : Version → List ℕ
+plan_header One = line_text (codes "buildplan 1")
+plan_header Two = line_text (codes "buildplan 2")
 
 -- the lines of a directory
 abbrev pub lines_text : List StepValue → List LineValue → List ℕ
@@ -51,9 +64,9 @@ lines_text steps lines = flat_map (λ line. line_text (in_words steps line)) lin
 abbrev pub step_text : List StepValue → StepValue → List ℕ
 step_text steps step = line_text (step_words step.name step.frame) ++ lines_text steps step.lines
 
--- the header, the steps, and the lines of the root after `root`
+-- the header of the version, the steps, and the lines of the root after `root`
 abbrev pub plan_text : PlanValue → List ℕ
 plan_text plan =
-    plan_header
+    plan_header plan.version
     ++ (flat_map (step_text plan.steps) plan.steps
     ++ (line_text (codes "root") ++ lines_text plan.steps plan.root_lines))

@@ -16,6 +16,6 @@ GivesUnlessMemory (Ok x) y = x ≡ y
 GivesUnlessMemory (Err Memory) y = Unit {0}
 GivesUnlessMemory (Err (Faulty e)) y = ⊥
 
--- line 1 is not the header
+-- line 1 is not a header
 abbrev pub bad_header : ReadError
 bad_header = Faulty (record { line = 1; fault = BadHeader })

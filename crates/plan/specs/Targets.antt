@@ -5,6 +5,8 @@ use Rattle.std.specs.Ordering.{nat_cmp}
 use Rattle.std.specs.Cmp.Lexicographic.{slice_cmp}
 use Rattle.std.specs.List.{Contains}
 use Rattle.messages.specs.Path.{Overlap}
+use Rattle.plan.specs.declared.version.Version.{Version}
+use Rattle.plan.specs.declared.version.Version.TheVariants.{One, Two}
 
 -- a path overlaps one of the targets
 abbrev pub OverlapsAny : List (List ℕ) → List (List (List ℕ)) → Type 0
@@ -21,6 +23,12 @@ TakesTarget true path old new =
     (¬ OverlapsAny path old)
     × ((p : List (List ℕ)) → Contains new p ↔ ((p ≡ path) ⊎ Contains old p))
 TakesTarget false path old new = OverlapsAny path old × (new ≡ old)
+
+-- the target of one more line is taken so in the version: in version 2 each is
+abbrev pub TakesIn : Version → Bool → List (List ℕ) → List (List (List ℕ)) → List (List (List ℕ))
+    → Type 0
+TakesIn One taken path old new = TakesTarget taken path old new
+TakesIn Two taken path old new = taken ≡ true
 
 -- ---- what the code keeps
 

@@ -2,6 +2,7 @@
 use Rattle.std.specs.Prelude.{◌≡◌, ◌⊎◌, ◌<◌, ℕ, List, []}
 use Rattle.blob_digest.specs.Digest.{DigestValue}
 use Rattle.messages.specs.Path.{IsPath}
+use Rattle.plan.specs.declared.version.Version.{Version}
 
 -- Where the content of a line comes from: a path of the source tree, where no names are the whole
 -- tree; or a path of what an earlier step made, by the number of the step, counted from 0.
@@ -20,8 +21,9 @@ pub record StepValue : Type 0 where
   pub frame : DigestValue
   pub lines : List LineValue
 
--- A plan: its steps in order, and the lines of its result.
+-- A plan: its version, its steps in order, and the lines of its result.
 pub record PlanValue : Type 0 where
+  pub version : Version
   pub steps : List StepValue
   pub root_lines : List LineValue
 

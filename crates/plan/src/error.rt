@@ -7,8 +7,8 @@ use thiserror::Error;
 /// What is wrong with a line of a plan or a record.
 #[derive(Clone, Copy, Debug, PartialEq, Eq, Error)]
 pub enum Fault {
-    /// Line 1 isn't the header.
-    #[error("a plan begins with the line `buildplan 1`, and a record with `buildrecord 1`")]
+    /// Line 1 isn't a header.
+    #[error("a plan begins with the line `buildplan 1` or `buildplan 2`, and a record with `buildrecord 1`")]
     BadHeader,
     /// The line isn't one that may stand here.
     #[error("not a line that may stand here")]
@@ -19,7 +19,7 @@ pub enum Fault {
     /// No earlier step has the name that the line reads.
     #[error("no earlier step has this name")]
     LaterStep,
-    /// The target is that of an earlier line, or lies under or above it.
+    /// In version 1: the target is that of an earlier line, or lies under or above it.
     #[error("the target is an earlier line's target, or lies under or above it")]
     Overlap,
     /// 4,096 steps, or 65,536 lines of the directory, stand before the line.

@@ -10,6 +10,7 @@ mod record;
 mod step;
 mod steps;
 mod targets;
+mod version;
 mod words;
 
 pub use error::{Fault, PlanError, ReadError};
@@ -21,3 +22,4 @@ pub use line::{Line, Origin};
 pub use plan::Plan;
 pub use record::Record;
 pub use step::{Step, StepName, is_step_name};
+pub use version::Version;

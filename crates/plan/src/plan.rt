@@ -1,12 +1,13 @@
 ghost use Rattle.std.specs.Prelude.{◌≡◌, ◌+◌, ◌<◌, ◌≤◌, ◌^◌, ◌++◌, [], Err, IfOk, IfErr, OnOk};
-ghost use Rattle.std.specs.Prelude.{length, codes};
+ghost use Rattle.std.specs.Prelude.{MatchOption, length, codes};
 ghost use Rattle.std.specs.List.{AllByRecursion, flat_map};
-ghost use Rattle.plan.specs.Faults.{IsFaultBehind, IsPlanFault};
+ghost use Rattle.plan.specs.Faults.{HasNoHeader, IsFaultBehind, IsPlanFault};
 ghost use Rattle.plan.specs.Parts.{IsLinesFault, IsFront};
 ghost use Rattle.plan.specs.Line.{Begins};
-ghost use Rattle.plan.specs.Plan.{AreLines, AreSteps, IsPlan, plan_header, lines_text, step_text};
-ghost use Rattle.plan.specs.Plan.{plan_text};
+ghost use Rattle.plan.specs.Plan.{KeepApart, AreLines, AreSteps, IsPlan, plan_header, lines_text};
+ghost use Rattle.plan.specs.Plan.{step_text, plan_text};
 ghost use Rattle.plan.specs.Reading.{FaultyUnlessMemory, GivesUnlessMemory, bad_header};
+ghost use Rattle.plan.specs.Targets.{TakesIn};
 ghost use Rattle.plan.specs.Values.{PlanValue, IsLine};
 
 use crate::error::{Fault, ReadError};
@@ -14,11 +15,11 @@ use crate::line::{Line, first_line, write_lines};
 use crate::step::{Step, StepName, write_step_line};
 use crate::steps::Steps;
 use crate::targets::Targets;
+use crate::version::Version;
 use crate::words::{first_step, strip};
+use messages::Path;
 use std::alloc::{AllocError, Allocator};
 use std::marker::Model;
-
-const HEADER: &[u8] = b"buildplan 1\n";
 
 const ROOT: &[u8] = b"root\n";
 
@@ -28,10 +29,11 @@ const MOST_STEPS: usize = 4096;
 /// The most lines of a directory.
 const MOST_LINES: usize = 65_536;
 
-/// How an artifact is put together: its steps, and the lines of its root.
+/// How an artifact is put together: its version, its steps, and the lines of its root.
 #[derive(Drop)]
 #[derive_where(Debug)]
 pub struct Plan<A: Allocator> {
+    version: Version,
     steps: Vec<Step<A>, A>,
     root: Vec<Line<A>, A>,
 }
@@ -42,9 +44,40 @@ impl<A: Allocator> Model for Plan<A> {
 
     ghost Value = { PlanValue };
 
-    ghost view = { λ a. record { steps = a.steps.items; root_lines = a.root.items } };
+    ghost view = { λ a.
+        record { version = a.version; steps = a.steps.items; root_lines = a.root.items } };
 
-    ghost invariant = { λ a. IsPlan (record { steps = a.steps.items; root_lines = a.root.items }) };
+    ghost invariant = { λ a.
+        IsPlan (record { version = a.version; steps = a.steps.items; root_lines = a.root.items }) };
+}
+
+/// The version whose header the text begins with, and the text after the header.
+fn read_version(text: &[u8]) -> Option<(Version, &[u8])>
+    ensures { MatchOption result (HasNoHeader text.now)
+        (λ r. text.now ≡ plan_header r.0 ++ r.1.now) }
+{
+    if let Some(rest) = strip(text, Version::One.header()) {
+        return Some((Version::One, rest));
+    }
+    match strip(text, Version::Two.header()) {
+        Some(rest) => Some((Version::Two, rest)),
+        None => None,
+    }
+}
+
+/// Takes the target of one more line: in version 1, unless it overlaps another.
+fn take_target<A: Allocator + Copy>(
+    alloc: A,
+    version: Version,
+    targets: &mut Targets<A>,
+    target: &Path<A>,
+) -> Result<bool, AllocError>
+    ensures { IfOk result (λ taken. TakesIn version taken target.now targets.old targets.new) }
+{
+    match version {
+        Version::One => targets.insert(alloc, target),
+        Version::Two => Ok(true),
+    }
 }
 
 /// What a text begins with.
@@ -62,6 +95,7 @@ struct Front<'a, A: Allocator> {
 /// number.
 fn read_lines<'a, A: Allocator + Copy>(
     alloc: A,
+    version: Version,
     steps: &Steps<A>,
     text: &'a [u8],
     first: u64,
@@ -71,8 +105,9 @@ fn read_lines<'a, A: Allocator + Copy>(
     ensures found { IfOk result
         (λ r. AreLines (length steps.now) r.0.items
         × (text.now ≡ lines_text steps.now r.0.items ++ r.1.now)) }
+    ensures apart { IfOk result (λ r. KeepApart version r.0.items) }
     ensures none { IfOk result (λ r. ¬ Begins (codes "in ") r.1.now) }
-    ensures fault { IfErr result (FaultyUnlessMemory (IsLinesFault steps.now first text.now)) }
+    ensures fault { IfErr result (FaultyUnlessMemory (IsLinesFault version steps.now first text.now)) }
 {
     let mut lines = Vec::new(alloc);
     let mut targets = Targets::new(alloc);
@@ -86,7 +121,7 @@ fn read_lines<'a, A: Allocator + Copy>(
         if lines.len() == MOST_LINES {
             return Err(ReadError::at(number, Fault::TooMany));
         }
-        if !targets.insert(alloc, &line.target)? {
+        if !take_target(alloc, version, &mut targets, &line.target)? {
             return Err(ReadError::at(number, Fault::Overlap));
         }
         lines.push(line)?;
@@ -96,10 +131,15 @@ fn read_lines<'a, A: Allocator + Copy>(
 }
 
 /// The steps before the root, the first line of which is line 2.
-fn read_steps<A: Allocator + Copy>(alloc: A, text: &[u8]) -> Result<Front<'_, A>, ReadError>
+fn read_steps<A: Allocator + Copy>(
+    alloc: A,
+    version: Version,
+    text: &[u8],
+) -> Result<Front<'_, A>, ReadError>
     ensures found { IfOk result
-        (λ front. IsFront text.now front.steps front.rest.now front.number) }
-    ensures fault { IfErr result (FaultyUnlessMemory (IsFaultBehind (plan_header ++ text.now))) }
+        (λ front. IsFront version text.now front.steps front.rest.now front.number) }
+    ensures fault { IfErr result
+        (FaultyUnlessMemory (IsFaultBehind (plan_header version ++ text.now))) }
 {
     let mut steps = Steps::new(alloc);
     let mut rest = text;
@@ -111,7 +151,7 @@ fn read_steps<A: Allocator + Copy>(alloc: A, text: &[u8]) -> Result<Front<'_, A>
         if steps.len() == MOST_STEPS {
             return Err(ReadError::at(number, Fault::TooMany));
         }
-        let (lines, behind) = read_lines(alloc, &steps, line.behind, number + 1)?;
+        let (lines, behind) = read_lines(alloc, version, &steps, line.behind, number + 1)?;
         number += 1 + lines.len() as u64;
         let step = Step {
             name: StepName::of_lawful(alloc, line.name)?,
@@ -131,7 +171,7 @@ fn read_steps<A: Allocator + Copy>(alloc: A, text: &[u8]) -> Result<Front<'_, A>
 impl<A: Allocator + Copy> Plan<A> {
     /// The plan of this text. The first line at fault decides: its form (`BadHeader`, `BadLine`),
     /// then a step's name (`SameStep`), the step that it reads (`LaterStep`), the number of steps
-    /// or lines (`TooMany`), then targets that overlap (`Overlap`).
+    /// or lines (`TooMany`), then in version 1 targets that overlap (`Overlap`).
     pub fn read(alloc: A, text: &[u8]) -> Result<Plan<A>, ReadError>
         // The text is that of the plan.
         ensures found { IfOk result (λ plan. IsPlan plan × (text.now ≡ plan_text plan)) }
@@ -140,25 +180,34 @@ impl<A: Allocator + Copy> Plan<A> {
             → GivesUnlessMemory result plan }
         // Which line is at fault, and how.
         ensures fault { IfErr result (FaultyUnlessMemory (IsPlanFault text.now)) }
-        // A text without the header takes no memory to refuse.
-        ensures header { ¬ Begins plan_header text.now → result ≡ Err bad_header }
+        // A text without a header takes no memory to refuse.
+        ensures header { HasNoHeader text.now → result ≡ Err bad_header }
     {
-        let Some(rest) = strip(text, HEADER) else {
+        let Some((version, rest)) = read_version(text) else {
             return Err(ReadError::at(1, Fault::BadHeader));
         };
-        let front = read_steps(alloc, rest)?;
+        let front = read_steps(alloc, version, rest)?;
         let Some(rest) = strip(front.rest, ROOT) else {
             return Err(ReadError::at(front.number, Fault::BadLine));
         };
         let first = front.number + 1;
-        let (root, rest) = read_lines(alloc, &front.steps, rest, first)?;
+        let (root, rest) = read_lines(alloc, version, &front.steps, rest, first)?;
         if !rest.is_empty() {
             return Err(ReadError::at(first + root.len() as u64, Fault::BadLine));
         }
         Ok(Plan {
+            version,
             steps: front.steps.into_vec(),
             root,
         })
+    }
+
+    /// The version.
+    pub fn version(&self) -> Version
+        ensures value { result ≡ self.now.version }
+        ensures lawful { IsPlan self.now }
+    {
+        self.version
     }
 
     /// The steps, in order.
@@ -182,7 +231,7 @@ impl<A: Allocator + Copy> Plan<A> {
         ensures { IfOk result (λ text. text.items ≡ plan_text self.now) }
     {
         let mut text = Vec::new(alloc);
-        text.extend_from_slice(HEADER)?;
+        text.extend_from_slice(self.version.header())?;
         for step in &self.steps {
             write_step(alloc, &mut text, &self.steps, step)?;
         }

@@ -24,6 +24,7 @@ cause_text (causes.BlobMalformed digest) = named (codes "blob-malformed") (diges
 cause_text causes.DoNotCache = codes "do-not-cache"
 cause_text (causes.OriginMissing path) = named (codes "origin-missing") (escaped_path path)
 cause_text causes.FrameDiffers = codes "frame-differs"
+cause_text (causes.InputConflict path) = named (codes "input-conflict") (escaped_path path)
 cause_text (causes.InputUnexplained path) = named (codes "input-unexplained") (escaped_path path)
 cause_text (causes.InputAbsent path) = named (codes "input-absent") (escaped_path path)
 cause_text (causes.InputDiffers path) = named (codes "input-differs") (escaped_path path)

@@ -68,6 +68,7 @@ pub fn cause_text<A: Allocator + Copy, B: Allocator>(
         Cause::DoNotCache => String::from_str(alloc, "do-not-cache"),
         Cause::OriginMissing(path) => path_named(alloc, "origin-missing", path),
         Cause::FrameDiffers => String::from_str(alloc, "frame-differs"),
+        Cause::InputConflict(path) => path_named(alloc, "input-conflict", path),
         Cause::InputUnexplained(path) => path_named(alloc, "input-unexplained", path),
         Cause::InputAbsent(path) => path_named(alloc, "input-absent", path),
         Cause::InputDiffers(path) => path_named(alloc, "input-differs", path),

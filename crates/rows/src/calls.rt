@@ -83,6 +83,10 @@ fn refusal_told<A: Allocator>(global: Global, error: RunsError<A>) -> Answer {
             format!(in global; "107 {fault}")?
         }
         RunsError::Full => String::from_str(global, "109")?,
+        RunsError::Conflict(path) => {
+            let path = path.as_str();
+            format!(in global; "110 {path}")?
+        }
         RunsError::Memory => return Err(Broken::Memory),
     })
 }

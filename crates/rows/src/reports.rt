@@ -52,7 +52,7 @@ fn cause_of<A: Allocator + Copy>(alloc: A, number: u64, named: &[u8]) -> Result<
         10 => Cause::ResultMissing,
         11 => Cause::ResultMalformed,
         12 => Cause::ExitCode(code_in(named)?),
-        5 | 7 | 8 | 9 | 13 => of_path(number, Path::new(alloc, named)?),
+        5 | 7 | 8 | 9 | 13 | 15 => of_path(number, Path::new(alloc, named)?),
         _ => of_digest(number, Digest::read_text(named)?),
     })
 }
@@ -70,6 +70,7 @@ fn of_path<A: Allocator>(number: u64, path: Path<A>) -> Cause<A> {
         7 => Cause::InputUnexplained(path),
         8 => Cause::InputAbsent(path),
         9 => Cause::InputDiffers(path),
+        15 => Cause::InputConflict(path),
         _ => Cause::OutputUnlisted(path),
     }
 }

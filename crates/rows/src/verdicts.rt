@@ -79,6 +79,7 @@ fn cause_shown<A: Allocator>(alloc: Global, cause: &Cause<A>) -> Result<String, 
         Cause::ExitCode(code) => format!(in alloc; "12 {code}"),
         Cause::OutputUnlisted(path) => with_path(alloc, 13, path),
         Cause::RootDiffers(root) => with_digest(alloc, 14, root),
+        Cause::InputConflict(path) => with_path(alloc, 15, path),
     }
 }
 

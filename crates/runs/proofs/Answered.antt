@@ -5,11 +5,13 @@ use Rattle.std.specs.Prelude.{◌⊎◌, option_map, option_and_then, slice_get,
 use Rattle.std.specs.List.{AllByRecursion}
 use Rattle.std.proofs.lemmas.Option.{slice_get_within}
 use Rattle.blob_digest.specs.Digest.{DigestValue, NoClash}
-use Rattle.messages.specs.declared.node.Node.TheVariants.{Dir}
+use Rattle.messages.specs.declared.node.Node.TheVariants.{File, Link, Dir}
 use Rattle.messages.specs.Tree.{TreeValue, IsTree, tree_bytes}
 use Rattle.action_messages.specs.Action.{with_input, action_bytes}
 use Rattle.action_messages.specs.ActionResult.{ActionResultValue}
+use Rattle.actions.specs.declared.outcome.Output.TheVariants as outputs
 use Rattle.actions.specs.Outcome.{OutputValue, OutcomeValue, outputs_form, output_paths}
+use Rattle.actions.specs.OutcomeLookup.{LooksBelow, LooksIn, within_output, LiesWithin}
 use Rattle.action_messages.specs.OutputDirectory.{OutputDirectoryValue}
 use Rattle.action_messages.specs.Outputs.{RecordedValue, file, directory, link, directories_among}
 use Rattle.actions.specs.Recorded.{StandForAll, IsRecorded}
@@ -20,31 +22,38 @@ use Rattle.plan.specs.Plan.{IsPlan, AreSteps}
 use Rattle.plan.specs.Values.{OriginValue, source, output, LineValue, StepValue, IsLine, IsOrigin}
 use Rattle.tree.specs.Tree.{Name, Tree, Leaf, Entry, whole}
 use Rattle.tree.specs.Form.{NodeValue, entry_node, form, top, root}
-use Rattle.tree.specs.Graft.{graft, expand}
+use Rattle.tree.specs.Merge.{merge}
+use Rattle.tree.specs.MergeAgrees.{IsBlobIn}
+use Rattle.tree.specs.Merging.{WithinValue, in_source, MergeLines, IsHeldIn, AreHeld, merged}
+use Rattle.tree.specs.Merging.{IsDirectoryNode}
+use Rattle.tree.proofs.MergeAlike.{Twin, Twins, first_of, second_of, firsts, seconds, IsTwin, AreTwins, merge_alike}
 use Rattle.blob_source.specs.Source.{Blobs, Grows, IsUnder, IsBlobUnder}
 use Rattle.blob_source.specs.Told.{IsTold, TellsDirectory, FailsDirectory}
 use Rattle.tree.specs.Lookup.{found, LooksFrom, IsValue}
-use Rattle.tree.proofs.GraftRoots.{root-graft}
 use Rattle.tree.proofs.TreeDigests.{IsDigest-digest_of}
-use Rattle.verifier.specs.Accepted.{LooksUpOrigin, Resolves}
+use Rattle.verifier.specs.Accepted.{StandsAtOrigin, Resolves}
 use Rattle.verifier.specs.AsRecorded.{IsAsRecorded, AreAsRecorded, IsPlanAsRecorded}
-use Rattle.verifier.specs.Build.{Meaning, ActionMeaning, action_digest, Outcome, output_at, Event, State, origin_at, origins, graft_of, action_of}
+use Rattle.verifier.specs.Build.{Meaning, ActionMeaning, action_digest, Outcome, output_at, Event, State, origin_at, origins, graft_of, action_of, AreLinesOf}
 use Rattle.verifier.specs.Headline.{IsBlobOfAction, IsBlobOfOutcome, IsConcerned}
 use Rattle.verifier.specs.Holding.{HoldsResult}
 use Rattle.verifier.specs.Recorded.{IsRecordedAs, Agrees}
+use Rattle.verifier.proofs.HeldOrigins.{source_held, outcome_held}
 use Rattle.verifier.proofs.OutputLookups.{HoldsTree, HoldsOutput}
+use Rattle.verifier.proofs.Targets.{ArePaths, paths_of}
 use Rattle.verifier.proofs.Passing.{recorded_verdict}
 use Rattle.runs.specs.Engine.{FinishedValue, EngineValue, IsEngine, finished_in}
 use Rattle.runs.specs.Calls.{HaveOneForm, kept_digests}
 use Rattle.runs.specs.Mirrors.{IsFormOf, IsConcernedIn, IsMirrored}
+use Rattle.runs.specs.Looking as looking
+use Rattle.runs.specs.Looking.{PutTogether}
 use Rattle.runs.specs.Served.{TellsWay, Serves, IsServedYes}
 use Rattle.runs.specs.Ties.{IsRootOf}
 use Rattle.verifier.proofs.FreshRuns.{one_answer}
-use Rattle.runs.proofs.Places.{has_one}
+use Rattle.runs.proofs.Places.{has_one, taken_within}
 use Rattle.runs.proofs.Steady.{Steady, made_of}
 use Rattle.runs.proofs.Lost.{steady_of}
 use Rattle.runs.proofs.Noted.{outcome_there, kept_count, kept_each}
-use Rattle.runs.proofs.Resolved.{nodes_of}
+use Rattle.runs.proofs.Resolved.{lawful_tree, tree_blobs, holds_output, grafted}
 use Rattle.runs.proofs.Found.{way_found, outputs_found}
 
 -- ---- lists
@@ -101,13 +110,17 @@ form_paths : (es : List (List Name × OutputValue)) → map (λ (e : List Name �
 form_paths [] = refl
 form_paths (e ∷ es) = ap (λ ps. e.0 ∷ ps) (form_paths es)
 
--- what the graft of lines is made of
-graft_parts : (t : Tree Leaf) (s : State) (ls : List LineValue) (g : Tree Leaf) → graft_of t s ls ≡ Some g → (os : List (List Name × Entry Leaf)) × (origins t s ls ≡ Some os) × (expand (graft os) ≡ g)
-graft_parts t s ls g is = by (origins t s ls) refl is
+-- where what is below a path is read
+lies_in : (o : OutcomeValue) (p : List Name) (x : NodeValue) → LooksIn o p (found x) → (w : WithinValue) × LiesWithin o p w × (IsDirectoryNode x → w ≡ in_source → ⊥)
+lies_in o p x (inl (e, here, names, path, look)) = (within_output e.1, (e, here, (names, path), refl), by e.1 names look)
   where
-    by : (q : Option (List (List Name × Entry Leaf))) → origins t s ls ≡ q → option_map (λ es. expand (graft es)) q ≡ Some g → (os : List (List Name × Entry Leaf)) × (origins t s ls ≡ Some os) × (expand (graft os) ≡ g)
-    by None at is = absurd cc
-    by (Some os) at is = (os, at, cc)
+    by : (v : OutputValue) (names : List Name) → LooksBelow v names (found x) → IsDirectoryNode x → within_output v ≡ in_source → ⊥
+    by (outputs.File d b) [] look dir is = let same : x ≡ File d b = cc in subst IsDirectoryNode same dir
+    by (outputs.File d b) (n ∷ names) look dir is = cc
+    by (outputs.Link t) [] look dir is = let same : x ≡ Link t = cc in subst IsDirectoryNode same dir
+    by (outputs.Link t) (n ∷ names) look dir is = cc
+    by (outputs.Tree t) names look dir is = cc
+lies_in o p x (inr (none, is)) = absurd (let e = is in cc)
 
 there_and : {X : Type 0} (P : X → Type 0) (o : Option X) → IsSomeAnd o P → (x : X) × (o ≡ Some x) × P x
 there_and P None h = elim h [ ]
@@ -157,55 +170,129 @@ module _ (B C : Blobs) (e : EngineValue) (t : Tree Leaf) (meaning : Meaning) (X 
       by (inl h) = all j w h
       by (inr h) = subst (IsServed j) h.1 (subst (λ n. IsServed n v) (sym h.0) one)
 
-  -- a line
+  -- what stands at an origin is found by a verifier and in the engine
+  record OriginFound (before : List OutcomeValue) (o : OriginValue) (y : Entry Leaf) : Type 0 where
+    twin : Twin
+    node : twin.node ≡ entry_node y
+    by_engine : looking.StandsAtOrigin B e o (first_of twin)
+    recorded : StandsAtOrigin B e.sources before o (second_of twin)
+    is : IsTwin S twin
+    one : IsHeldIn twin.one twin.node
+    other : IsHeldIn twin.other twin.node
+
   origin_found : (before : List OutcomeValue) → AreServed before → (o : OriginValue) (y : Entry Leaf) → IsOrigin (length before) o → ((p : List Name) → o ≡ source p → TellsWay B t p)
-      → origin_at t s o ≡ Some y → LooksUpOrigin B e.sources before o (found (entry_node y))
+      → origin_at t s o ≡ Some y → OriginFound before o y
   origin_found before all (source p) y lawful tells is =
-      subst (λ d. LooksFrom (TellsDirectory B) (FailsDirectory B) p (Some (Dir d)) (found (entry_node y))) k.mirrors.sources
-      (way_found B p (Some (whole t)) y k.ordered (tells p refl) is)
+      let look = subst (λ d. LooksFrom (TellsDirectory B) (FailsDirectory B) p (Some (Dir d)) (found (entry_node y))) k.mirrors.sources (way_found B p (Some (whole t)) y k.ordered (tells p refl) is) in
+      record {
+        twin = record { node = entry_node y; one = in_source; other = in_source };
+        node = refl;
+        by_engine = record { node = look; within = refl };
+        recorded = record { node = look; within = refl };
+        is = record { alike = λ dir e. e; first = λ b q. absurd q; second = λ b q. absurd q };
+        one = source_held (entry_node y);
+        other = source_held (entry_node y);
+      }
   origin_found before all (output j p) y lawful tells is =
       let v = has_one before j lawful.0 in
-      let one = all j v.0 v.1 in
-      let o = outcome_there e t meaning s k.mirrors j one.finished one.is in
+      let served = all j v.0 v.1 in
+      let f = served.finished in
+      let o = outcome_there e t meaning s k.mirrors j f served.is in
       let at : output_at o.0.outputs p ≡ Some y = sym (ap (option_and_then (λ (o : Outcome). output_at o.outputs p)) o.1) ∙ is in
       let settled = steady.done j o.0 o.1 in
       let ruled = (k.table.actions settled.action o.0 settled.in_table).1 in
-      (v.0, v.1, outputs_found S k.apart o.0 v.0 ruled settled.own (holds_outputs one.stands.recorded v.0.outputs one.stands.outputs) (form_through v.0 one.finished.outcome o.0 one.form o.2) p y at)
+      let holds_v = holds_outputs served.stands.recorded v.0.outputs served.stands.outputs in
+      let holds_f = holds_output B e t meaning X es s engine k j f served.is in
+      let look_v = outputs_found S k.apart o.0 v.0 ruled settled.own holds_v (form_through v.0 f.outcome o.0 served.form o.2) p y at in
+      let look_f = outputs_found S k.apart o.0 f.outcome ruled settled.own holds_f o.2 p y at in
+      let lies_v = lies_in v.0 p (entry_node y) look_v in
+      let lies_f = lies_in f.outcome p (entry_node y) look_f in
+      let c = has_one e.commands j (subst (λ n. j < n) (engine.count ∙ sym engine.stand.commands_count) (taken_within e.finished j f served.is)) in
+      record {
+        twin = record { node = entry_node y; one = lies_f.0; other = lies_v.0 };
+        node = refl;
+        by_engine = record { node = (f, served.is, look_f); within = (f, served.is, lies_f.1) };
+        recorded = record { node = (v.0, v.1, look_v); within = (v.0, v.1, lies_v.1) };
+        is = record {
+          alike = λ dir e. absurd (lies_v.2 dir e);
+          first = λ b q. tree_blobs k.apart lies_f.1.0.1 (holds_f lies_f.1.0 lies_f.1.1) b (subst (λ w. IsBlobIn w b) lies_f.1.3 q);
+          second = λ b q. tree_blobs k.apart lies_v.1.0.1 (holds_v lies_v.1.0 lies_v.1.1) b (subst (λ w. IsBlobIn w b) lies_v.1.3 q);
+        };
+        one = outcome_held f.outcome (engine.taken j f c.0 served.is c.1).lawful (λ x here. lawful_tree k.apart x.1 (holds_f x here)) p (record { node = entry_node y; within = lies_f.0 }) look_f lies_f.1;
+        other = outcome_held v.0 served.stands.lawful (λ x here. lawful_tree k.apart x.1 (holds_v x here)) p (record { node = entry_node y; within = lies_v.0 }) look_v lies_v.1;
+      }
 
   -- lines
+  record LinesFound (before : List OutcomeValue) (ls : List LineValue) : Type 0 where
+    twins : Twins
+    by_engine : looking.Resolves B e ls (firsts twins)
+    recorded : Resolves B e.sources before ls (seconds twins)
+    are : AreTwins S twins
+    one : AreHeld (firsts twins)
+    other : AreHeld (seconds twins)
+
   lines_found : (before : List OutcomeValue) → AreServed before → (ls : List LineValue) (os : List (List Name × Entry Leaf)) → AllByRecursion (IsLine (length before)) ls
-      → ((l : LineValue) → Contains ls l → (p : List Name) → l.origin ≡ source p → TellsWay B t p) → origins t s ls ≡ Some os → Resolves B e.sources before ls (nodes_of os)
-  lines_found before all [] os lawful tells is = let same : [] ≡ os = cc in ap nodes_of (sym same)
+      → ((l : LineValue) → Contains ls l → (p : List Name) → l.origin ≡ source p → TellsWay B t p) → origins t s ls ≡ Some os → LinesFound before ls
+  lines_found before all [] os lawful tells is = record { twins = []; by_engine = refl; recorded = refl; are = tt; one = tt; other = tt }
   lines_found before all (l ∷ ls) os lawful tells is =
       by (origin_at t s l.origin) (origins t s ls) refl refl is (lines_found before all ls)
     where
       by : (o : Option (Entry Leaf)) (q : Option (List (List Name × Entry Leaf))) → origin_at t s l.origin ≡ o → origins t s ls ≡ q
           → option_and_then (λ e. option_map (λ es. (l.target, e) ∷ es) q) o ≡ Some os
-          → ((os : List (List Name × Entry Leaf)) → AllByRecursion (IsLine (length before)) ls → ((l : LineValue) → Contains ls l → (p : List Name) → l.origin ≡ source p → TellsWay B t p) → origins t s ls ≡ Some os → Resolves B e.sources before ls (nodes_of os))
-          → Resolves B e.sources before (l ∷ ls) (nodes_of os)
+          → ((os : List (List Name × Entry Leaf)) → AllByRecursion (IsLine (length before)) ls → ((l : LineValue) → Contains ls l → (p : List Name) → l.origin ≡ source p → TellsWay B t p) → origins t s ls ≡ Some os → LinesFound before ls)
+          → LinesFound before (l ∷ ls)
       by None q at those is rest = absurd cc
       by (Some y) None at those is rest = absurd cc
       by (Some y) (Some others) at those is rest =
-          let same : (l.target, y) ∷ others ≡ os = cc in (
-            entry_node y,
-            origin_found before all l.origin y lawful.0.origin (tells l (0, omega arith, refl)) at,
-            nodes_of others,
-            rest others lawful.1 (λ m c. tells m (behind l ls m c)) those,
-            ap nodes_of (sym same),
-          )
+          let one = origin_found before all l.origin y lawful.0.origin (tells l (0, omega arith, refl)) at in
+          let more = rest others lawful.1 (λ m c. tells m (behind l ls m c)) those in
+          record {
+            twins = (l.target, one.twin) ∷ more.twins;
+            by_engine = (first_of one.twin, one.by_engine, firsts more.twins, more.by_engine, refl);
+            recorded = (second_of one.twin, one.recorded, seconds more.twins, more.recorded, refl);
+            are = (one.is, more.are);
+            one = (one.one, more.one);
+            other = (one.other, more.other);
+          }
+
+  -- what they put together
+  record LinesMerge (before : List OutcomeValue) (ls : List LineValue) (g : Tree Leaf) : Type 0 where
+    nodes : MergeLines
+    tree : Tree NodeValue
+    resolved : Resolves B e.sources before ls nodes
+    put_together : (merged B nodes).passes tree
+    same : root tree ≡ root (form g)
+
+  lines_merge : (before : List OutcomeValue) → AreServed before → (ls : List LineValue) → AreLinesOf e.plan ls → ArePaths ls → AllByRecursion (IsLine (length before)) ls
+      → ((l : LineValue) → Contains ls l → (p : List Name) → l.origin ≡ source p → TellsWay B t p) → (g : Tree Leaf) → graft_of t s ls ≡ Some g → LinesMerge before ls g
+  lines_merge before all ls of_plan paths lawful tells g is = by (origins t s ls) refl is
+    where
+      by : (q : Option (List (List Name × Entry Leaf))) → origins t s ls ≡ q → option_and_then merge q ≡ Some g → LinesMerge before ls g
+      by None at is = absurd cc
+      by (Some os) at merges =
+          let found = lines_found before all ls os lawful tells at in
+          let made = serves.merges ls of_plan (firsts found.twins) found.by_engine in
+          let known = grafted B e t meaning X es s engine k ls paths made.0 (record { nodes = firsts found.twins; resolved = found.by_engine; passes = made.1 }) in
+          record {
+            nodes = seconds found.twins;
+            tree = made.0;
+            resolved = found.recorded;
+            put_together = merge_alike B S k.apart (λ b q. inl (inl (inl q))) found.twins found.are found.one found.other made.0 made.1;
+            same = sym known.2 ∙ ap (λ u. root (form u)) (one_answer (graft_of t s ls) known.0 g known.1 is);
+          }
 
   -- a step
   served_in : (i : ℕ) (f : FinishedValue) → finished_in i e ≡ Some f → (v : OutcomeValue) × IsServed i v
   served_in i f is = let r = serves.results i f is in (r.2, record { finished = f; is = is; result = r.0; held = r.1; stands = r.3; form = r.4 })
 
-  step_recorded : (before : List OutcomeValue) → AreServed before → (i : ℕ) (step : StepValue) → slice_get e.plan.steps i ≡ Some step → AllByRecursion (IsLine (length before)) step.lines
+  step_recorded : (before : List OutcomeValue) → AreServed before → (i : ℕ) (step : StepValue) → slice_get e.plan.steps i ≡ Some step → ArePaths step.lines → AllByRecursion (IsLine (length before)) step.lines
       → (v : OutcomeValue) (one : IsServed i v) → IsAsRecorded B C e.sources before step one.finished.action v
-  step_recorded before all i step at lawful v one =
+  step_recorded before all i step at paths_are lawful v one =
       let kept = k.mirrors.actions i one.finished one.is in
       let a = kept.0 in
       let made = made_of e.plan meaning t s i a kept.1 in
       let same : made.step ≡ step = one_answer (slice_get e.plan.steps i) made.step step made.at at in
-      let parts = graft_parts t s step.lines a.input (subst (λ (x : StepValue). graft_of t s x.lines ≡ Some a.input) same made.input) in
+      let parts = lines_merge before all step.lines (inr (i, step, at, refl)) paths_are lawful (λ l c p is. serves.sources l (inl (i, step, at, c)) p is) a.input (subst (λ (x : StepValue). graft_of t s x.lines ≡ Some a.input) same made.input) in
       let frame = k.mirrors.frames i step at ∙ made.frame in
       let command = k.mirrors.commands i step at ∙ made.command in
       let stands = engine.stand.each i step a.frame a.command at frame command in
@@ -216,7 +303,8 @@ module _ (B C : Blobs) (e : EngineValue) (t : Tree Leaf) (meaning : Meaning) (X 
       record {
         action = with_input a.frame (root (form a.input));
         command = a.command;
-        nodes = nodes_of parts.0;
+        nodes = parts.nodes;
+        tree = parts.tree;
         result = one.result;
         action_told = record {
           lawful = record { frame = stands.0.frame_lawful; input = IsDigest-digest_of (top (form a.input)) };
@@ -225,8 +313,9 @@ module _ (B C : Blobs) (e : EngineValue) (t : Tree Leaf) (meaning : Meaning) (X 
         may_be_cached = stands.1;
         frame = stands.0.frame_digest;
         command_told = record { lawful = stands.0.command_lawful; blob = told.1 };
-        resolved = lines_found before all step.lines parts.0 lawful (λ l c p is. serves.sources l (inl (i, step, at, c)) p is) parts.1;
-        input = sym (root-graft parts.0) ∙ ap (λ g. root (form g)) parts.2;
+        resolved = parts.resolved;
+        put_together = parts.put_together;
+        input = parts.same;
         held = one.held;
         exit_code = sym one.stands.exit_code ∙ one.form.exit_code ∙ taken.exit_code;
         recorded = one.stands;
@@ -264,7 +353,7 @@ module _ (B C : Blobs) (e : EngineValue) (t : Tree Leaf) (meaning : Meaning) (X 
       let at : slice_get e.plan.steps (length before) ≡ Some x = subst (λ m. slice_get e.plan.steps m ≡ Some x) here (rest.steps 0 x refl) in
       let digest : f.0.action ≡ d = (let both : ◌≡◌ {A = Option DigestValue} (Some d) (Some f.0.action) = f.2 in cc) in
       let lines = subst (λ m. AllByRecursion (IsLine m) x.lines) count lawful.0.lines.each in
-      let one = step_recorded before all (length before) x at lines v.0 v.1 in
+      let one = step_recorded before all (length before) x at (paths_of (length before) x.lines lines) lines v.0 v.1 in
       let grown = pushed_length before v.0 in
       let more = steps_recorded (earlier ++ x ∷ []) ss (before ++ v.0 ∷ []) ds lawful.1 (pushed_length earlier x ∙ ap suc count ∙ sym grown) (served_next before v.0 all v.1)
       (subst (λ m. Rest m ss ds) (sym grown) (rest_next (length before) x ss d ds rest)) in
@@ -281,16 +370,12 @@ module _ (B C : Blobs) (e : EngineValue) (t : Tree Leaf) (meaning : Meaning) (X 
         digests = λ j step at. let f = kept_each e.finished ds j kept (subst (λ m. j < m) (sym engine.count) (slice_get_within e.plan.steps j step at)) in (f.0, subst (λ m. finished_in m e ≡ Some f.0) (first j) f.1, f.2);
       }) in
       let g = there_and (λ g. root (form g) ≡ d) (graft_of t s e.plan.root_lines) ends in
-      let parts = graft_parts t s e.plan.root_lines g.0 g.1 in
       let lines = subst (λ m. AllByRecursion (IsLine m) e.plan.root_lines) (first (length e.plan.steps) ∙ sym all.3) plan.root_lines.each in
+      let parts = lines_merge all.0 all.2 e.plan.root_lines (inl refl) (paths_of (length all.0) e.plan.root_lines lines) lines (λ l c p is. serves.sources l (inr c) p is) g.0 g.1 in
       record {
         outcomes = all.0;
         steps = all.1;
-        root = record {
-          nodes = nodes_of parts.0;
-          resolved = lines_found all.0 all.2 e.plan.root_lines parts.0 lines (λ l c p is. serves.sources l (inr c) p is) parts.1;
-          same = sym (root-graft parts.0) ∙ ap (λ g. root (form g)) parts.2 ∙ g.2;
-        };
+        root = record { nodes = parts.nodes; tree = parts.tree; resolved = parts.resolved; put_together = parts.put_together; same = parts.same ∙ g.2 };
       }
     where
       first : (j : ℕ) → j ≡ 0 + j

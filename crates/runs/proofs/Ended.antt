@@ -2,19 +2,14 @@
 use Rattle.std.proofs.Common.{◌≡◌, ◌↔◌, ℕ, zero, suc, ◌+◌, ◌<◌, List, [], ◌∷◌, length, drop, get_or, Option, Some, None, refl, ap, sym, subst, arith, add-one, drop-cons, IsSome}
 use Rattle.std.specs.List.{AllByRecursion}
 use Rattle.std.specs.Prelude.{Result, Ok, Err, IfErr, IfOk}
-use Rattle.plan.specs.Plan.{AreLines}
-use Rattle.tree.specs.Tree.{Name}
-use Rattle.tree.specs.Form.{NodeValue}
-use Rattle.tree.specs.Graft.{IsApart, HaveApartTargets}
-use Rattle.verifier.specs.Accepted.{targets}
-use Rattle.verifier.proofs.Targets.{plan_targets}
+use Rattle.plan.specs.Plan.{IsPlan}
 use Rattle.plan.specs.Values.{OriginValue, source, output, LineValue, IsLine, IsOrigin}
 use Rattle.blob_digest.specs.Digest.{DigestValue}
 use Rattle.blob_source.specs.Source.{Blobs}
 use Rattle.runs.specs.declared.error.RunsError.{RunsError}
 use Rattle.runs.specs.declared.error.RunsError.TheVariants as errors
 use Rattle.runs.specs.Engine.{FinishedValue, EngineValue, IsEngine, at_number}
-use Rattle.runs.specs.Looking.{IsThereIn, Resolves, FirstFault, Explains}
+use Rattle.runs.specs.Looking.{IsThereIn, TreeFault, Explains}
 use Rattle.runs.specs.Calls.{HaveAllFinished, IsGraftedRoot, IsRootFault}
 use Rattle.runs.specs.Ties.{IsRootOf}
 use Rattle.runs.proofs.Starts.{root_event}
@@ -33,7 +28,7 @@ lines_there fs n (l ∷ ls) all count h = (one l.origin h.0.origin, lines_there 
     one (source p) h = tt
     one (output j p) h = all_there fs j all (subst (λ m. j < m) count h.0)
 
-pub root_fault : {A : Type 0} (B : Blobs) (e : EngineValue) → HaveAllFinished e → (why : RunsError A) → Explains (FirstFault B e e.plan.root_lines) why → IsRootFault B e why
+pub root_fault : {A : Type 0} (B : Blobs) (e : EngineValue) → HaveAllFinished e → (why : RunsError A) → Explains (TreeFault B e e.plan.root_lines) why → IsRootFault B e why
 root_fault B e all errors.NotReady h = elim h [ ]
 root_fault B e all errors.NoSuchJob h = (all, h)
 root_fault B e all (errors.ExitCode n) h = (all, h)
@@ -41,6 +36,7 @@ root_fault B e all errors.Disagrees h = (all, h)
 root_fault B e all (errors.Unlisted p) h = (all, h)
 root_fault B e all (errors.Origin p) h = (all, h)
 root_fault B e all (errors.Source why) h = (all, h)
+root_fault B e all (errors.Conflict p) h = (all, h)
 root_fault B e all errors.Full h = (all, h)
 root_fault B e all errors.Memory h = (all, h)
 
@@ -52,23 +48,10 @@ pub err_map : {T E : Type 0} {P Q : E → Type 0} (r : Result T E) → ((x : E) 
 err_map (Ok x) f h = h
 err_map (Err e) f h = f e h
 
-pub grafted_root : (B : Blobs) (e : EngineValue) (d : DigestValue) → IsEngine e → IsGraftedRoot B e d → IsRootOf B e d
-grafted_root B e d engine g = root_event B e g.nodes d engine g.resolved g.same
+pub grafted_root : (B : Blobs) (e : EngineValue) (d : DigestValue) → IsPlan e.plan → IsEngine e → IsGraftedRoot B e d → IsRootOf B e d
+grafted_root B e d plan engine g = root_event B e g.tree d plan engine g.together g.same
 
 pub some_next : (fs : List (Option FinishedValue)) (i : ℕ) (o : Option FinishedValue) → i < length fs → o ≡ get_or fs i o → IsSome o → AllByRecursion IsSome (drop i fs) ↔ AllByRecursion IsSome fs → AllByRecursion IsSome (drop (i + 1) fs) ↔ AllByRecursion IsSome fs
 some_next fs i o lt is some goes =
     let split : drop i fs ≡ o ∷ drop (i + 1) fs = rw (add-one, drop-cons fs i o lt) (ap (λ k. k ∷ drop (suc i) fs) (sym is)) in
     (λ h. goes.0 (subst (AllByRecursion IsSome) (sym split) (some, h)), λ h. (subst (AllByRecursion IsSome) split (goes.1 h)).1)
-
--- ---- targets
-
-all_nodes : (P : List Name → Type 0) (B : Blobs) (e : EngineValue) (ls : List LineValue) (xs : List (List Name × NodeValue)) → Resolves B e ls xs → AllByRecursion (λ (k : List Name × OriginValue). P k.0) (targets ls) → AllByRecursion (λ (k : List Name × NodeValue). P k.0) xs
-all_nodes P B e [] xs h a = subst (AllByRecursion (λ (k : List Name × NodeValue). P k.0)) (sym h) tt
-all_nodes P B e (l ∷ ls) xs h a = subst (AllByRecursion (λ (k : List Name × NodeValue). P k.0)) (sym h.4) (a.0, all_nodes P B e ls h.2 h.3 a.1)
-
-pub apart_nodes : (B : Blobs) (e : EngineValue) (ls : List LineValue) (xs : List (List Name × NodeValue)) → Resolves B e ls xs → HaveApartTargets (targets ls) → HaveApartTargets xs
-apart_nodes B e [] xs h a = subst HaveApartTargets (sym h) tt
-apart_nodes B e (l ∷ ls) xs h a = subst HaveApartTargets (sym h.4) (a.0, all_nodes (IsApart l.target) B e ls h.2 h.3 a.1, apart_nodes B e ls h.2 h.3 a.2)
-
-pub lines_apart : (B : Blobs) (e : EngineValue) (n : ℕ) (ls : List LineValue) (xs : List (List Name × NodeValue)) → Resolves B e ls xs → AreLines n ls → HaveApartTargets xs
-lines_apart B e n ls xs h lines = apart_nodes B e ls xs h (plan_targets n ls lines.each lines.apart)

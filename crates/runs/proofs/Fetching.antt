@@ -55,13 +55,14 @@ fetching_memory {T} {A} {r} {fails} {old} {new} exit none h =
     let p = err_from_is_err_and r exit in
     called_no none (λ is. let same : ◌≡◌ {A = Result T (RunsError A)} (Err errors.Memory) (Err (errors.Source tree.Fetch)) = ap Err (sym p.2) ∙ sym p.1 ∙ is in cc) h
 
--- the refusal of a look-up is a failure exactly where the look-up failed
+-- the refusal of a look-up or a merge is a failure exactly where that failed
 refused_fetch : {A : Type 0} (e : TreeError A) (r : RunsError A) → IsRefusalOf e r → r ≡ errors.Source tree.Fetch → e ≡ tree.Fetch
 refused_fetch (tree.Absent path) r h is = absurd cc
 refused_fetch (tree.BlobMissing d) r h is = absurd cc
 refused_fetch (tree.BlobWrong d) r h is = absurd cc
 refused_fetch (tree.BlobMalformed d) r h is = absurd cc
 refused_fetch (tree.TooDeep path) r h is = absurd h
+refused_fetch (tree.Conflict path) r h is = absurd cc
 refused_fetch tree.Fetch r h is = refl
 refused_fetch tree.Memory r h is = absurd cc
 

@@ -137,6 +137,7 @@ outcome_fault c v es same code (errors.ExitCode n) h = elim h [ ]
 outcome_fault c v es same code errors.Disagrees h = elim h [ ]
 outcome_fault c v es same code (errors.Origin path) h = elim h [ ]
 outcome_fault c v es same code (errors.Source why) h = elim h [ ]
+outcome_fault c v es same code (errors.Conflict path) h = elim h [ ]
 outcome_fault c v es same code errors.Full h = elim h [ ]
 
 pub kept_first_some : (o : Option FinishedValue) (fs : List (Option FinishedValue)) (i : ℕ) (f : FinishedValue) → is_some o ≡ true → fs ≡ first_kept o fs i f

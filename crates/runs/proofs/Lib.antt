@@ -24,3 +24,4 @@ pub mod Kept
 pub mod TwoStepsServed
 pub mod FreeNumbers
 pub mod Fetching
+pub mod VersionOne

@@ -1,5 +1,5 @@
 -- What lines need, one after another, while the source tells more and more.
-use Rattle.std.proofs.Common.{◌≡◌, ℕ, suc, ◌+◌, ◌<◌, List, [], ◌∷◌, length, drop, get_or, refl, ap, sym, subst, ◌∙◌, add-one, drop-cons}
+use Rattle.std.proofs.Common.{◌≡◌, ℕ, suc, ◌+◌, ◌<◌, List, [], ◌∷◌, length, drop, get_or, refl, ap, sym, subst, ◌∙◌, inl, inr, add-one, drop-cons}
 use Rattle.std.specs.Prelude.{Option, Some, slice_get}
 use Rattle.std.specs.List.{AllByRecursion}
 use Rattle.blob_digest.specs.Digest.{DigestValue}
@@ -9,13 +9,15 @@ use Rattle.tree.specs.Form.{NodeValue}
 use Rattle.tree.specs.Lookup.{found}
 use Rattle.tree.specs.LooksAt.{OnWay}
 use Rattle.tree.specs.Memo.{Asked, Known, Learns}
+use Rattle.tree.specs.Merging.{MergeLines}
+use Rattle.tree.specs.MergeLooks.{MergeLooksAt}
 use Rattle.blob_source.specs.Source.{Blobs, Telling, Grows}
 use Rattle.verifier.specs.LooksAt.{OriginLooksAt}
 use Rattle.verifier.proofs.Looking.{origin_look_still, origin_looked}
 use Rattle.runs.specs.Engine.{EngineValue}
-use Rattle.runs.specs.Looking.{LooksUpOrigin}
-use Rattle.runs.specs.LooksAt.{LinesNeed}
-use Rattle.runs.proofs.Looks.{still}
+use Rattle.runs.specs.Looking.{LooksUpOrigin, Resolves}
+use Rattle.runs.specs.LooksAt.{LinesNeed, TreeNeeds}
+use Rattle.runs.proofs.Looks.{still, resolves_still}
 
 -- the first line, and where it has its origin the others
 needs_here : (B : Blobs) (e : EngineValue) (l : LineValue) (ls : List LineValue) (a : Asked) → OriginLooksAt B e.sources l.origin a → LinesNeed B e (l ∷ ls) a
@@ -54,16 +56,24 @@ module _ (B C : Blobs) (e : EngineValue) (ls : List LineValue) (i : ℕ) (l : Li
         (subst (λ q. LinesNeed later e q a) (sym split) (needs_later later e l (drop (i + 1) ls) x a (still C later e l.origin x g there) h));
   }
 
+-- ---- lines and what they put together
+
+pub lines_first : (B C : Blobs) (e : EngineValue) (ls : List LineValue) (a : Asked) → Grows B C → LinesNeed B e ls a → TreeNeeds C e ls a
+lines_first B C e ls a g h = inl (needs_still B C e ls a g h)
+
+pub meets_next : (B C : Blobs) (e : EngineValue) (ls : List LineValue) (xs : MergeLines) (a : Asked) → Grows B C → Resolves B e ls xs → MergeLooksAt C xs a → TreeNeeds C e ls a
+meets_next B C e ls xs a g resolved h = inr (xs, resolves_still B C e ls xs g resolved, h)
+
 -- ---- the same, said of equal things
 
 module _ {refused : Type 0} {k0 k1 : Known} {t0 t1 : Telling} where
   pub origin_needed : (d f : DigestValue) (o : OriginValue) (p : List Name) → d ≡ f → o ≡ source p → Learns (OnWay t1.blobs d p) refused k0 k1 t0 t1 → Learns (OriginLooksAt t1.blobs f o) refused k0 k1 t0 t1
   origin_needed d f o p same is h = origin_looked f o p is (subst (λ x. Learns (OnWay t1.blobs x p) refused k0 k1 t0 t1) same h)
 
-  pub lines_needed : (e : EngineValue) {ls ls' : List LineValue} → ls ≡ ls' → Learns (LinesNeed t1.blobs e ls) refused k0 k1 t0 t1 → Learns (LinesNeed t1.blobs e ls') refused k0 k1 t0 t1
-  lines_needed e is h = subst (λ q. Learns (LinesNeed t1.blobs e q) refused k0 k1 t0 t1) is h
+  pub lines_needed : (e : EngineValue) {ls ls' : List LineValue} → ls ≡ ls' → Learns (TreeNeeds t1.blobs e ls) refused k0 k1 t0 t1 → Learns (TreeNeeds t1.blobs e ls') refused k0 k1 t0 t1
+  lines_needed e is h = subst (λ q. Learns (TreeNeeds t1.blobs e q) refused k0 k1 t0 t1) is h
 
-  pub step_needed : (e : EngineValue) (i : ℕ) (planned s : StepValue) {ls : List LineValue} → slice_get e.plan.steps i ≡ Some planned → slice_get e.plan.steps i ≡ Some s → ls ≡ planned.lines → Learns (LinesNeed t1.blobs e ls) refused k0 k1 t0 t1 → Learns (LinesNeed t1.blobs e s.lines) refused k0 k1 t0 t1
+  pub step_needed : (e : EngineValue) (i : ℕ) (planned s : StepValue) {ls : List LineValue} → slice_get e.plan.steps i ≡ Some planned → slice_get e.plan.steps i ≡ Some s → ls ≡ planned.lines → Learns (TreeNeeds t1.blobs e ls) refused k0 k1 t0 t1 → Learns (TreeNeeds t1.blobs e s.lines) refused k0 k1 t0 t1
   step_needed e i planned s there at is h =
       let same : planned ≡ s = some_is (sym there ∙ at) in
       lines_needed e (is ∙ ap (λ (x : StepValue). x.lines) same) h

@@ -14,11 +14,13 @@ use Rattle.tree.specs.Form.{NodeValue}
 use Rattle.blob_source.specs.Source.{Blobs, IsMissing, IsWrong}
 use Rattle.blob_source.specs.Told.{Fault, missing, wrong, malformed, IsMalformed, TellsDirectory, FailsDirectory}
 use Rattle.tree.specs.Lookup.{Looked, fault, nothing, found, LooksFrom}
+use Rattle.tree.specs.Merging.{MergeFault, conflict, unreadable, merged}
+use Rattle.tree.proofs.MergeFaults.{unread_in_merge}
 use Rattle.tree.specs.declared.error.TreeError.TheVariants as tree
 use Rattle.runs.specs.declared.error.RunsError.{RunsError}
 use Rattle.runs.specs.declared.error.RunsError.TheVariants as errors
 use Rattle.runs.specs.Engine.{EngineValue}
-use Rattle.runs.specs.Looking.{LooksUpOrigin, Refuses, fault_error, FirstFault, Explains, StandsIn}
+use Rattle.runs.specs.Looking.{LooksUpOrigin, Refuses, fault_error, merge_error, FirstFault, TreeFault, Explains, StandsIn}
 
 from_sources : (B : Blobs) (p : List Name) (o : Option NodeValue) (f : Fault) → LooksFrom (TellsDirectory B) (FailsDirectory B) p o (fault f) → (d : DigestValue) × FailsDirectory B d f
 from_sources B p None f h = cc
@@ -68,19 +70,29 @@ module _ (A : Type 0) (B : Blobs) (e : EngineValue) where
   first_stands (l ∷ ls) why (inl h) = at_line l.origin h.0 why h.1 h.2
   first_stands (l ∷ ls) why (inr h) = first_stands ls why h.2
 
-  pub stands_in : (ls : List LineValue) (why : RunsError A) → Explains (FirstFault B e ls) why → StandsIn B why
+  tree_stands : (ls : List LineValue) (why : RunsError A) → TreeFault B e ls why → StandsIn B why
+  tree_stands ls why (inl h) = first_stands ls why h
+  tree_stands ls why (inr (xs, resolved, f, fails, is)) = subst (StandsIn B) (sym is) (by f fails)
+    where
+      by : (f : MergeFault) → (merged B xs).fails f → StandsIn {A = A} B (merge_error f)
+      by (conflict p) fails = tt
+      by (unreadable f) fails = named f (unread_in_merge B xs f fails)
+
+  pub stands_in : (ls : List LineValue) (why : RunsError A) → Explains (TreeFault B e ls) why → StandsIn B why
   stands_in ls errors.NotReady h = tt
   stands_in ls errors.NoSuchJob h = tt
   stands_in ls (errors.ExitCode n) h = tt
   stands_in ls errors.Disagrees h = tt
   stands_in ls (errors.Unlisted p) h = tt
   stands_in ls (errors.Origin p) h = tt
-  stands_in ls (errors.Source (tree.Absent q)) h = first_stands ls (errors.Source (tree.Absent q)) h
-  stands_in ls (errors.Source (tree.BlobMissing d)) h = first_stands ls (errors.Source (tree.BlobMissing d)) h
-  stands_in ls (errors.Source (tree.BlobWrong d)) h = first_stands ls (errors.Source (tree.BlobWrong d)) h
-  stands_in ls (errors.Source (tree.BlobMalformed d)) h = first_stands ls (errors.Source (tree.BlobMalformed d)) h
-  stands_in ls (errors.Source (tree.TooDeep q)) h = first_stands ls (errors.Source (tree.TooDeep q)) h
+  stands_in ls (errors.Source (tree.Absent q)) h = tree_stands ls (errors.Source (tree.Absent q)) h
+  stands_in ls (errors.Source (tree.BlobMissing d)) h = tree_stands ls (errors.Source (tree.BlobMissing d)) h
+  stands_in ls (errors.Source (tree.BlobWrong d)) h = tree_stands ls (errors.Source (tree.BlobWrong d)) h
+  stands_in ls (errors.Source (tree.BlobMalformed d)) h = tree_stands ls (errors.Source (tree.BlobMalformed d)) h
+  stands_in ls (errors.Conflict p) h = tt
+  stands_in ls (errors.Source (tree.Conflict q)) h = tree_stands ls (errors.Source (tree.Conflict q)) h
+  stands_in ls (errors.Source (tree.TooDeep q)) h = tree_stands ls (errors.Source (tree.TooDeep q)) h
   stands_in ls (errors.Source tree.Fetch) h = tt
-  stands_in ls (errors.Source tree.Memory) h = first_stands ls (errors.Source tree.Memory) h
+  stands_in ls (errors.Source tree.Memory) h = tree_stands ls (errors.Source tree.Memory) h
   stands_in ls errors.Full h = tt
   stands_in ls errors.Memory h = tt

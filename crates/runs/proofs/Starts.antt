@@ -5,13 +5,12 @@ use Rattle.std.specs.Map.{lookup}
 use Rattle.std.proofs.lemmas.Bool.Decides.{eqb_tells}
 use Rattle.blob_digest.specs.Digest.{DigestValue, digest_of}
 use Rattle.action_messages.specs.Action.{with_input, action_bytes}
-use Rattle.tree.specs.Tree.{Name}
+use Rattle.tree.specs.Tree.{Tree}
 use Rattle.tree.specs.Form.{NodeValue, form, root}
-use Rattle.tree.specs.Graft.{graft}
 use Rattle.blob_source.specs.Source.{Blobs}
 use Rattle.verifier.specs.Build.{ActionMeaning, action_digest, State, job_of, action_of, started}
 use Rattle.runs.specs.Engine.{JobValue, EngineValue, IsEngine, at_number, job_in}
-use Rattle.runs.specs.Looking.{Resolves}
+use Rattle.runs.specs.Looking.{PutTogether}
 use Rattle.runs.specs.Calls.{IsLeastFree, placed, with_job, IsStarted, IsPrepared}
 use Rattle.runs.specs.declared.starting.Job.{Job}
 use Rattle.runs.specs.Mirrors.{job_value, Mirrors}
@@ -19,6 +18,8 @@ use Rattle.runs.specs.Ties.{IsStart, IsRootOf}
 use Rattle.runs.proofs.Places.{taken_within, first_same, first_other}
 use Rattle.runs.proofs.Steady.{Extends, make, action_still}
 use Rattle.runs.proofs.Resolved.{grafted}
+use Rattle.plan.specs.Plan.{IsPlan}
+use Rattle.verifier.proofs.Targets.{paths_of, step_paths}
 
 -- ---- one more job
 
@@ -57,11 +58,11 @@ no_job : (o : Option (ℕ × ActionMeaning)) → option_map job_value o ≡ None
 no_job None h = refl
 no_job (Some job) h = cc
 
-pub started_event : {A : Type 0} (B : Blobs) (i : ℕ) (old new : EngineValue) (job : Job A) → IsEngine old → IsStarted B i old new job → IsStart B old i job.id job.digest new
-started_event B i old new job engine st = let p = st.prepared in record {
+pub started_event : {A : Type 0} (B : Blobs) (i : ℕ) (old new : EngineValue) (job : Job A) → IsPlan old.plan → IsEngine old → IsStarted B i old new job → IsStart B old i job.id job.digest new
+started_event B i old new job plan engine st = let p = st.prepared in record {
   of_run = λ t meaning X es s k.
       let m = k.mirrors in
-      let g = grafted B old t meaning X es s engine k p.planned.lines p.nodes p.resolved in
+      let g = grafted B old t meaning X es s engine k p.planned.lines (step_paths [] old.plan.steps plan.steps i p.planned p.at) p.tree p.together in
       let a : ActionMeaning = record { frame = job.action.frame; command = job.command; input = g.0 } in
       let is : action_of old.plan meaning t s i ≡ Some a = make old.plan meaning t s i a (record {
         step = p.planned;
@@ -100,10 +101,10 @@ started_event B i old new job engine st = let p = st.prepared in record {
         (placed_same e.jobs id j le ∙ ap Some value ∙ sym (ap (option_map job_value) (first_same s.jobs id (i, a))))
     one_more e s i id a j value le jobs u (inr h) = placed_other e.jobs id u j le h.1 ∙ jobs u ∙ ap (option_map job_value) (sym (first_other s.jobs id u (i, a) h.1))
 
-pub root_event : (B : Blobs) (e : EngineValue) (nodes : List (List Name × NodeValue)) (d : DigestValue) → IsEngine e → Resolves B e e.plan.root_lines nodes → d ≡ root (graft nodes) → IsRootOf B e d
-root_event B e nodes d engine resolved is = record {
+pub root_event : (B : Blobs) (e : EngineValue) (made : Tree NodeValue) (d : DigestValue) → IsPlan e.plan → IsEngine e → PutTogether B e e.plan.root_lines made → d ≡ root made → IsRootOf B e d
+root_event B e made d plan engine together is = record {
   of_run = λ t meaning X es s k.
-      let g = grafted B e t meaning X es s engine k e.plan.root_lines nodes resolved in
+      let g = grafted B e t meaning X es s engine k e.plan.root_lines (paths_of (length e.plan.steps) e.plan.root_lines plan.root_lines.each) made together in
       let roots : root (form g.0) ≡ d = g.2 ∙ sym is in
       subst (λ o. IsSomeAnd o (λ g. root (form g) ≡ d)) (sym g.1) roots;
 }
@@ -159,8 +160,8 @@ started_as B i n old job x js p least lt is same = record {
   prepared = record {
     planned = p.planned;
     at = p.at;
-    nodes = p.nodes;
-    resolved = p.resolved;
+    tree = p.tree;
+    together = p.together;
     number = refl;
     of_step = p.of_step;
     frame = p.frame;

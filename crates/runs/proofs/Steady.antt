@@ -7,7 +7,7 @@ use Rattle.action_messages.specs.Command.{CommandValue}
 use Rattle.action_messages.specs.Frame.{FrameValue}
 use Rattle.plan.specs.Values.{OriginValue, source, output, LineValue, StepValue, PlanValue}
 use Rattle.tree.specs.Tree.{Name, Tree, Leaf, Entry}
-use Rattle.tree.specs.Graft.{graft, expand}
+use Rattle.tree.specs.Merge.{merge}
 use Rattle.verifier.specs.Build.{Meaning, ActionMeaning, Outcome, output_at, Event, start, finish, lose, State, opening, outcome_of, job_of, origin_at, origins, graft_of, step_action, action_of, started, finished, lost, happens, IsTable, Obeys, IsRun}
 use Rattle.verifier.specs.Headline.{IsBlobOfAction, IsBlobOfOutcome, IsBlobOfEvent, IsBlobOfEvents}
 use Rattle.verifier.proofs.FreshRuns.{one_answer}
@@ -43,9 +43,9 @@ module _ (t : Tree Leaf) (s r : State) (ext : Extends s r) where
   pub graft_still : (ls : List LineValue) (g : Tree Leaf) → graft_of t s ls ≡ Some g → graft_of t r ls ≡ Some g
   graft_still ls g is = by (origins t s ls) refl is
     where
-      by : (q : Option (List (List Name × Entry Leaf))) → origins t s ls ≡ q → option_map (λ es. expand (graft es)) q ≡ Some g → graft_of t r ls ≡ Some g
+      by : (q : Option (List (List Name × Entry Leaf))) → origins t s ls ≡ q → option_and_then merge q ≡ Some g → graft_of t r ls ≡ Some g
       by None those is = absurd cc
-      by (Some es) those is = ap (option_map (λ es. expand (graft es))) (origins_still ls es those) ∙ is
+      by (Some es) those is = ap (option_and_then merge) (origins_still ls es those) ∙ is
 
 -- what an action of a step is made of
 pub record IsMade (plan : PlanValue) (meaning : Meaning) (t : Tree Leaf) (s : State) (i : ℕ) (a : ActionMeaning) : Type 0 where

@@ -13,11 +13,13 @@ use Rattle.actions.specs.Outcome.{OutputValue}
 use Rattle.plan.specs.Values.{OriginValue, source, output, LineValue, StepValue}
 use Rattle.tree.specs.Tree.{Name}
 use Rattle.tree.specs.Form.{NodeValue, form, root}
+use Rattle.tree.specs.Merge.{merge}
 use Rattle.blob_source.specs.Source.{IsBlobUnder}
 use Rattle.verifier.specs.Build.{ActionMeaning, action_digest, StepFits, outcome_of, action_of}
 use Rattle.verifier.specs.Headline.{IsConcerned}
 use Rattle.verifier.specs.TwoSteps as two
-use Rattle.verifier.proofs.TwoSteps.{sources_named, input_named, newline_named, gen_tree_lawful, fits, table_lawful, out_path, res_path}
+use Rattle.runs.proofs.VersionOne.{apart_merges}
+use Rattle.verifier.proofs.TwoSteps.{plan_lawful, sources_named, input_named, newline_named, gen_tree_lawful, fits, table_lawful, out_path, res_path}
 use Rattle.verifier.proofs.TwoStepsRecorded.{tree_kept, gen_action_told, use_action_told, gen_command_told, use_command_told, gen_result_held, use_result_held, gen_recorded, use_recorded}
 use Rattle.verifier.proofs.TwoStepsRun.{is_run, gen_digest, use_digest}
 use Rattle.verifier.proofs.TwoStepsBlobs.{no_clash}
@@ -92,6 +94,15 @@ neither i j other = by (eqb_tells i j)
 none_done : (i : ℕ) → outcome_of (suc (suc i)) two.end ≡ None
 none_done i = other_done (suc (suc i)) (neither 1 (suc (suc i)) (λ e. absurd (omega (arith, e)))) (neither 0 (suc (suc i)) (λ e. absurd (omega (arith, e))))
 
+-- the actions of both steps
+gen_is : action_of two.plan two.meaning two.tree two.end 0 ≡ Some two.gen.0
+unfolding merge
+gen_is = refl
+
+use_is : action_of two.plan two.meaning two.tree two.end 1 ≡ Some two.uses.0
+unfolding merge
+use_is = refl
+
 mirrors : Mirrors example.engine two.tree two.meaning two.end
 mirrors = record {
   sources = sources_named;
@@ -108,8 +119,8 @@ mirrors = record {
     finished (suc (suc i)) = subst (IsFinishedAs None) (sym (none_done i)) tt
 
     actions : (i : ℕ) (f : FinishedValue) → finished_in i example.engine ≡ Some f → (a : ActionMeaning) × (action_of two.plan two.meaning two.tree two.end i ≡ Some a) × (f.action ≡ action_digest a)
-    actions zero f at = let same : example.gen_finished ≡ f = cc in (two.gen.0, refl, ap (λ (g : FinishedValue). g.action) (sym same) ∙ sym gen_digest)
-    actions (suc zero) f at = let same : example.use_finished ≡ f = cc in (two.uses.0, refl, ap (λ (g : FinishedValue). g.action) (sym same) ∙ sym use_digest)
+    actions zero f at = let same : example.gen_finished ≡ f = cc in (two.gen.0, gen_is, ap (λ (g : FinishedValue). g.action) (sym same) ∙ sym gen_digest)
+    actions (suc zero) f at = let same : example.use_finished ≡ f = cc in (two.uses.0, use_is, ap (λ (g : FinishedValue). g.action) (sym same) ∙ sym use_digest)
     actions (suc (suc i)) f at = absurd cc
 
 -- the engine has one Tree, which its source has too
@@ -179,16 +190,17 @@ from_steps l (inr inside) p is = one_line (record { target = codes "result" ∷ 
 pub is_served : Serves two.blobs two.results example.engine two.tree two.meaning two.end
 is_served = record {
   sources = λ l of_plan p is. absurd (from_steps l of_plan p is);
+  merges = apart_merges two.blobs example.engine plan_lawful refl;
   actions = actions;
   results = results;
 }
   where
     actions : (i : ℕ) (a : ActionMeaning) → action_of two.plan two.meaning two.tree two.end i ≡ Some a → HasBlobs a
-    actions zero a at = let same : two.gen.0 ≡ a = cc in subst HasBlobs same (
+    actions zero a at = let same : two.gen.0 ≡ a = one_answer (action_of two.plan two.meaning two.tree two.end 0) two.gen.0 a gen_is at in subst HasBlobs same (
       subst (λ d. IsBlobUnder two.blobs d (action_bytes (with_input two.gen.0.frame (root (form two.gen.0.input))))) (sym gen_digest) (subst (λ d. IsBlobUnder two.blobs two.gen_action_digest (action_bytes (with_input two.gen.0.frame d))) (sym sources_named) gen_action_told.blob),
       gen_command_told.blob,
     )
-    actions (suc zero) a at = let same : two.uses.0 ≡ a = cc in subst HasBlobs same (
+    actions (suc zero) a at = let same : two.uses.0 ≡ a = one_answer (action_of two.plan two.meaning two.tree two.end 1) two.uses.0 a use_is at in subst HasBlobs same (
       subst (λ d. IsBlobUnder two.blobs d (action_bytes (with_input two.uses.0.frame (root (form two.uses.0.input))))) (sym use_digest) (subst (λ d. IsBlobUnder two.blobs two.use_action_digest (action_bytes (with_input two.uses.0.frame d))) (sym input_named) use_action_told.blob),
       use_command_told.blob,
     )

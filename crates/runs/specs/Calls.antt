@@ -10,9 +10,8 @@ use Rattle.action_messages.specs.Frame.{FrameValue, IsFrame, frame_bytes}
 use Rattle.actions.specs.Outcome.{OutcomeValue, outputs_form, output_paths}
 use Rattle.plan.specs.Record.{RecordValue, names_of}
 use Rattle.plan.specs.Values.{StepValue, PlanValue}
-use Rattle.tree.specs.Tree.{Name}
+use Rattle.tree.specs.Tree.{Tree}
 use Rattle.tree.specs.Form.{NodeValue, root}
-use Rattle.tree.specs.Graft.{graft}
 use Rattle.tree.specs.Folded.{IsFoldOf}
 use Rattle.blob_source.specs.Source.{Blobs}
 use Rattle.blob_source.specs.Told.{IsTold, Fault, IsFault}
@@ -26,7 +25,7 @@ use Rattle.runs.specs.declared.starting.Job.{Job}
 use Rattle.runs.specs.Engine.{FinishedValue, JobValue, EngineValue, TakesOutcome, at_number}
 use Rattle.runs.specs.Engine.{finished_in, job_in}
 use Rattle.runs.specs.Looking as looking
-use Rattle.runs.specs.Looking.{AreThere, Resolves, FirstFault}
+use Rattle.runs.specs.Looking.{AreThere, PutTogether, TreeFault}
 
 -- ---- opening
 
@@ -198,21 +197,21 @@ placed (o ∷ js) (suc w) j = o ∷ placed js w j
 abbrev pub with_job : ℕ → JobValue → EngineValue → EngineValue
 with_job w j e = record e { jobs = placed e.jobs w j }
 
--- A job of a step is prepared: its action is the step's frame with the root of the graft of the
--- step's lines.
+-- A job of a step is prepared: its action is the step's frame with the root of what the step's
+-- lines put together.
 pub record IsPrepared {A : Type 0} (B : Blobs) (e : EngineValue) (i id : ℕ)
     (job : Job A) : Type 0 where
   pub planned : StepValue
   pub at : slice_get e.plan.steps i ≡ Some planned
-  pub nodes : List (List Name × NodeValue)
-  pub resolved : Resolves B e planned.lines nodes
+  pub tree : Tree NodeValue
+  pub together : PutTogether B e planned.lines tree
   pub number : job.id ≡ id
   pub of_step : job.step ≡ i
   pub frame : slice_get e.frames i ≡ Some job.action.frame
-  pub input : job.action.input ≡ root (graft nodes)
+  pub input : job.action.input ≡ root tree
   pub command : slice_get e.commands i ≡ Some job.command
   pub digest : job.digest ≡ digest_of (action_bytes job.action)
-  pub folded : IsFoldOf (graft nodes) job.input
+  pub folded : IsFoldOf tree job.input
 
 -- A job was started: it was prepared under the least free number, of which there are 4,096, and the
 -- engine has it.
@@ -233,28 +232,27 @@ abbrev pub HasRoomForJob : EngineValue → Type 0
 HasRoomForJob e = (id : ℕ) × IsLeastFree e id × (id < 4096)
 
 -- Why a step isn't started: the first of a step that its lines read that hasn't finished, 4,096
--- jobs, and the fault of the first line that has no origin.
+-- jobs, and why its lines put no tree together.
 abbrev pub IsStartFault : {A : Type 0} → Blobs → EngineValue → ℕ → RunsError A → Type 0
 IsStartFault B e i errors.NotReady = IsReady e i → ⊥
 IsStartFault B e i errors.Full = IsReady e i × IsLeastFree e 4096
 IsStartFault B e i why = IsReady e i × HasRoomForJob e
     × ((step : StepValue) → slice_get e.plan.steps i ≡ Some step
-    → looking.Explains (FirstFault B e step.lines) why)
+    → looking.Explains (TreeFault B e step.lines) why)
 
 -- ---- the root
 
--- the digest of the graft of what the root's lines resolve to
+-- the digest of what the root's lines put together
 pub record IsGraftedRoot (B : Blobs) (e : EngineValue) (d : DigestValue) : Type 0 where
-  pub nodes : List (List Name × NodeValue)
-  pub resolved : Resolves B e e.plan.root_lines nodes
-  pub same : d ≡ root (graft nodes)
+  pub tree : Tree NodeValue
+  pub together : PutTogether B e e.plan.root_lines tree
+  pub same : d ≡ root tree
 
 -- each step has finished
 abbrev pub HaveAllFinished : EngineValue → Type 0
 HaveAllFinished e = AllByRecursion IsSome e.finished
 
--- why there is no root: a step hasn't finished, or else the fault of the first of the root's lines
--- that has no origin
+-- why there is no root: a step hasn't finished, or else why the root's lines put no tree together
 abbrev pub IsRootFault : {A : Type 0} → Blobs → EngineValue → RunsError A → Type 0
 IsRootFault B e errors.NotReady = HaveAllFinished e → ⊥
-IsRootFault B e why = HaveAllFinished e × looking.Explains (FirstFault B e e.plan.root_lines) why
+IsRootFault B e why = HaveAllFinished e × looking.Explains (TreeFault B e e.plan.root_lines) why

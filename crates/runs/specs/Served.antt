@@ -11,11 +11,12 @@ use Rattle.actions.specs.Outcome.{OutcomeValue}
 use Rattle.actions.specs.Recorded.{IsRecorded}
 use Rattle.plan.specs.Values.{source, LineValue, StepValue, PlanValue}
 use Rattle.tree.specs.Tree.{Name, Tree, Leaf, whole, tree_at}
-use Rattle.tree.specs.Form.{form, directory_of, root}
+use Rattle.tree.specs.Form.{NodeValue, form, directory_of, root}
+use Rattle.tree.specs.Merging.{MergeLines, merged}
 use Rattle.blob_source.specs.Source.{Blobs, Telling, Grows, IsBlobUnder}
 use Rattle.blob_source.specs.Told.{TellsDirectory}
 use Rattle.verifier.specs.Build.{Meaning, ActionMeaning, action_digest, Outcome, Event, State}
-use Rattle.verifier.specs.Build.{action_of}
+use Rattle.verifier.specs.Build.{action_of, AreLinesOf}
 use Rattle.verifier.specs.Headline.{IsConcerned}
 use Rattle.verifier.specs.Holding.{HoldsResult}
 use Rattle.verifier.specs.Recorded.{Agrees}
@@ -23,6 +24,7 @@ use Rattle.verifier.specs.Verdict.{IsVerdict}
 use Rattle.verifier.specs.declared.verdict.Verdict.TheVariants.{Yes}
 use Rattle.runs.specs.Engine.{FinishedValue, EngineValue, finished_in}
 use Rattle.runs.specs.Calls.{HaveOneForm, kept_digests}
+use Rattle.runs.specs.Looking.{Resolves}
 use Rattle.runs.specs.Mirrors.{IsMirrored}
 
 -- a line of a step or of the root
@@ -49,6 +51,10 @@ pub record Serves (B C : Blobs) (e : EngineValue) (t : Tree Leaf) (meaning : Mea
   -- the Directories of the sources on the way to each origin
   pub sources : (l : LineValue) → IsLineOf e.plan l → (p : List Name) → l.origin ≡ source p
       → TellsWay B t p
+  -- the Directories that are read where the lines of a step or of the root meet: what they put
+  -- together is told
+  pub merges : (lines : List LineValue) → AreLinesOf e.plan lines → (nodes : MergeLines)
+      → Resolves B e lines nodes → (u : Tree NodeValue) × (merged B nodes).passes u
   -- the Action and the Command of each step
   pub actions : (i : ℕ) (a : ActionMeaning) → action_of e.plan meaning t s i ≡ Some a
       → IsBlobUnder B (action_digest a) (action_bytes (with_input a.frame (root (form a.input))))

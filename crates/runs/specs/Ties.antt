@@ -123,3 +123,15 @@ pub record IsWithoutOrigin (B : Blobs) (e : EngineValue) (lines : List LineValue
 abbrev pub TellsMissing : {A : Type 0} → Blobs → EngineValue → List LineValue → RunsError A → Type 0
 TellsMissing B e lines (errors.Origin path) = IsWithoutOrigin B e lines path
 TellsMissing B e lines why = Unit {0}
+
+-- whatever run the engine mirrors, lines have no graft after it
+pub record IsWithoutGraft (B : Blobs) (e : EngineValue) (lines : List LineValue) : Type 0 where
+  pub of_run : (t : Tree Leaf) (meaning : Meaning) (X : List (ActionMeaning × Outcome))
+      (es : List Event) (s : State) → IsMirrored B e t meaning X es s
+      → graft_of t s lines ≡ None
+
+-- a refusal of a conflict is so in each run that the engine mirrors
+abbrev pub TellsConflict : {A : Type 0} → Blobs → EngineValue → List LineValue → RunsError A
+    → Type 0
+TellsConflict B e lines (errors.Conflict path) = IsWithoutGraft B e lines
+TellsConflict B e lines why = Unit {0}

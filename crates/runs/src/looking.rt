@@ -1,21 +1,21 @@
 ghost use Rattle.std.specs.Prelude.{◌≡◌, ◌↔◌, IfOk, IfErr, IsErrOf, IsSome, IsTrue};
+ghost use Rattle.tree.specs.Merging.{AreHeld, IsHeldIn, merge_lines, node_within, within_value};
 ghost use Rattle.std.specs.Option.{option_copied};
 ghost use Rattle.runs.specs.Engine.{at_number};
 ghost use Rattle.plan.specs.Lines.{origin_value};
 ghost use Rattle.tree.specs.Form.{node_value};
-ghost use Rattle.tree.specs.Lines.{lines_of};
-ghost use Rattle.tree.specs.Lookup.{found};
 ghost use Rattle.tree.specs.Memo.{IsKnownOf, WasRefused, Learns, known_by};
 ghost use Rattle.verifier.specs.LooksAt.{OriginLooksAt};
 ghost use Rattle.blob_source.specs.Called.{Called};
 ghost use Rattle.verifier.specs.Answers.{IsTooDeep};
 ghost use Rattle.runs.specs.Calls.{HaveAllFinished, IsGraftedRoot, IsRootFault};
-ghost use Rattle.runs.specs.Ties.{IsRootOf, TellsMissing};
+ghost use Rattle.runs.specs.Ties.{IsRootOf, TellsConflict, TellsMissing};
 ghost use Rattle.runs.specs.Served.{IsServedYes};
 ghost use Rattle.std.specs.List.{AllByRecursion};
-ghost use Rattle.runs.specs.LooksAt.{LinesNeed, RootNeeds};
-ghost use Rattle.runs.specs.Looking.{IsThere, AreThere, LooksUpOrigin, Resolves, LineFault};
-ghost use Rattle.runs.specs.Looking.{FirstFault, Explains, StandsIn, IsRefusalOf};
+ghost use Rattle.runs.specs.LooksAt.{LinesNeed, TreeNeeds, RootNeeds};
+ghost use Rattle.runs.specs.Looking.{IsThere, AreThere, StandsAtOrigin, Resolves, LineFault};
+ghost use Rattle.runs.specs.Looking.{FirstFault, TreeFault, Explains, StandsIn, IsRefusalOf};
+ghost use Rattle.runs.specs.Looking.{IsFoldTogether};
 
 use crate::engine::{Engine, Finished};
 use crate::error::RunsError;
@@ -23,9 +23,9 @@ use blob_digest::Digest;
 use messages::Path;
 use plan::{Line, Origin};
 use std::alloc::Allocator;
-use tree::{BlobSource, Memo, Node, TreeError, graft};
+use tree::{BlobSource, Folded, Memo, Node, TreeError, Within, merge};
 
-/// The refusal that an error of a look-up is.
+/// The refusal that an error of a look-up or a merge is.
 fn refusal_of<A: Allocator>(error: TreeError<A>) -> RunsError<A>
     requires { IsTooDeep error → ⊥ }
     ensures { IsRefusalOf error result }
@@ -33,25 +33,27 @@ fn refusal_of<A: Allocator>(error: TreeError<A>) -> RunsError<A>
     match error {
         TreeError::Absent(path) => RunsError::Origin(path),
         TreeError::TooDeep(_) => unreachable!(),
+        TreeError::Conflict(path) => RunsError::Conflict(path),
         TreeError::Memory => RunsError::Memory,
         error => RunsError::Source(error),
     }
 }
 
 impl<A: Allocator + Copy> Engine<A> {
-    /// What stands at the line's origin, in the sources or in what a step came to.
-    fn find_origin<S: BlobSource<A>>(
-        &self,
+    /// What stands at the line's origin, in the sources or in what a step came to, and where what is
+    /// below it is read.
+    fn find_origin<'a, S: BlobSource<A>>(
+        &'a self,
         alloc: A,
         line: &Line<A>,
         memo: &mut Memo<A>,
         source: &mut S,
-    ) -> Result<Node<A>, RunsError<A>>
+    ) -> Result<(Node<A>, Within<'a, A>), RunsError<A>>
         requires there { IsThere self.now line.now.origin }
         requires known { IsKnownOf (known_by memo.old) (S.tells source.old) }
-        ensures told { IfOk result
-            (λ node. LooksUpOrigin (S.tells source.new).blobs self.now line.now.origin
-            (found (node_value node))) }
+        ensures told { IfOk result (λ x. StandsAtOrigin (S.tells source.new).blobs self.now
+            line.now.origin (node_within x.0 x.1)) }
+        ensures held { IfOk result (λ x. IsHeldIn (within_value x.1) (node_value x.0)) }
         ensures faulty { IfErr result
             (Explains (LineFault (S.tells source.new).blobs self.now line.now)) }
         ensures called { Called (S.tells source.old) (S.tells source.new)
@@ -63,15 +65,15 @@ impl<A: Allocator + Copy> Engine<A> {
     {
         match &line.origin {
             Origin::Source(path) => match memo.lookup(alloc, &self.sources, path.as_ref(), source) {
-                Ok(node) => Ok(node),
+                Ok(node) => Ok((node, Within::Source)),
                 Err(error) => Err(refusal_of(error)),
             },
             Origin::Output(step, path) => {
                 let Some(finished) = finished_at(&self.finished, *step) else {
                     return Err(RunsError::NotReady);
                 };
-                match finished.outcome.lookup(alloc, path)? {
-                    Some(node) => Ok(node),
+                match finished.outcome.lookup_within(alloc, path)? {
+                    Some(found) => Ok(found),
                     None => Err(RunsError::Origin(Path::copy_of(alloc, path)?)),
                 }
             }
@@ -93,19 +95,21 @@ pub(crate) fn finished_at<A: Allocator>(
 }
 
 impl<A: Allocator + Copy> Engine<A> {
-    /// The nodes of all lines with their targets, or the fault of the first that has none.
-    pub(crate) fn resolve<S: BlobSource<A>>(
-        &self,
+    /// What stands at the origin of each line, with its target, or the fault of the first that has
+    /// none.
+    fn resolve<'a, S: BlobSource<A>>(
+        &'a self,
         alloc: A,
         lines: &[Line<A>],
         memo: &mut Memo<A>,
         source: &mut S,
-    ) -> Result<Vec<(Path<A>, Node<A>), A>, RunsError<A>>
+    ) -> Result<Vec<(Path<A>, Node<A>, Within<'a, A>), A>, RunsError<A>>
         requires there { AreThere self.now lines.now }
         requires known { IsKnownOf (known_by memo.old) (S.tells source.old) }
         ensures told { IfOk result
             (λ nodes. Resolves (S.tells source.new).blobs self.now lines.now
-            (lines_of nodes.items)) }
+            (merge_lines nodes.items)) }
+        ensures held { IfOk result (λ nodes. AreHeld (merge_lines nodes.items)) }
         ensures faulty { IfErr result
             (Explains (FirstFault (S.tells source.new).blobs self.now lines.now)) }
         ensures called { Called (S.tells source.old) (S.tells source.new)
@@ -116,10 +120,37 @@ impl<A: Allocator + Copy> Engine<A> {
     {
         let mut nodes = Vec::new(alloc);
         for line in lines {
-            let node = self.find_origin(alloc, line, memo, source)?;
-            nodes.push((Path::copy_of(alloc, &line.target)?, node))?;
+            let (node, within) = self.find_origin(alloc, line, memo, source)?;
+            nodes.push((Path::copy_of(alloc, &line.target)?, node, within))?;
         }
         Ok(nodes)
+    }
+
+    /// The tree that lines put together. Refusals: `Origin`, `Source` and `Conflict`.
+    pub(crate) fn put_together<S: BlobSource<A>>(
+        &self,
+        alloc: A,
+        lines: &[Line<A>],
+        memo: &mut Memo<A>,
+        source: &mut S,
+    ) -> Result<Folded<A>, RunsError<A>>
+        requires there { AreThere self.now lines.now }
+        requires known { IsKnownOf (known_by memo.old) (S.tells source.old) }
+        ensures told { IfOk result
+            (IsFoldTogether (S.tells source.new).blobs self.now lines.now) }
+        ensures faulty { IfErr result
+            (Explains (TreeFault (S.tells source.new).blobs self.now lines.now)) }
+        ensures called { Called (S.tells source.old) (S.tells source.new)
+            (IsErrOf result (RunsError.Source TreeError.Fetch)) }
+        ensures learned { Learns (TreeNeeds (S.tells source.new).blobs self.now lines.now)
+            (WasRefused result)
+            (known_by memo.old) (known_by memo.new) (S.tells source.old) (S.tells source.new) }
+    {
+        let nodes = self.resolve(alloc, lines, memo, source)?;
+        match merge(alloc, &nodes, memo, source) {
+            Ok(input) => Ok(input),
+            Err(error) => Err(refusal_of(error)),
+        }
     }
 }
 
@@ -136,7 +167,7 @@ fn have_all_finished<A: Allocator>(finished: &[Option<Finished<A>>]) -> bool
 }
 
 impl<A: Allocator + Copy> Engine<A> {
-    /// The digest of the graft of the root's lines.
+    /// The digest of what the root's lines put together.
     fn graft_root<S: BlobSource<A>>(
         &self,
         alloc: A,
@@ -147,20 +178,22 @@ impl<A: Allocator + Copy> Engine<A> {
         requires known { IsKnownOf (known_by memo.old) (S.tells source.old) }
         ensures told { IfOk result (λ d. IsGraftedRoot (S.tells source.new).blobs self.now d) }
         ensures faulty { IfErr result
-            (Explains (FirstFault (S.tells source.new).blobs self.now self.now.plan.root_lines)) }
+            (Explains (TreeFault (S.tells source.new).blobs self.now self.now.plan.root_lines)) }
         ensures called { Called (S.tells source.old) (S.tells source.new)
             (IsErrOf result (RunsError.Source TreeError.Fetch)) }
-        ensures learned { Learns (LinesNeed (S.tells source.new).blobs self.now
+        ensures learned { Learns (TreeNeeds (S.tells source.new).blobs self.now
             self.now.plan.root_lines)
             (WasRefused result)
             (known_by memo.old) (known_by memo.new) (S.tells source.old) (S.tells source.new) }
     {
-        let nodes = self.resolve(alloc, self.plan().root(), memo, source)?;
-        Ok(graft(alloc, &nodes)?.root)
+        Ok(
+            self.put_together(alloc, self.plan().root(), memo, source)?
+                .root,
+        )
     }
 
     /// The digest of the tree in which the build ends. Refusals: `NotReady` while a step hasn't
-    /// finished, `Origin` and `Source`. A Directory that the memo knows isn't fetched, and one that
+    /// finished, `Origin`, `Source` and `Conflict`. A Directory that the memo knows isn't fetched, and one that
     /// is fetched is kept.
     pub fn root<S: BlobSource<A>>(
         &self,
@@ -180,6 +213,9 @@ impl<A: Allocator + Copy> Engine<A> {
         // `Origin` says that nothing stands at the origin in any run that the engine mirrors.
         ensures missing { IfErr result
             (TellsMissing (S.tells source.new).blobs self.now self.now.plan.root_lines) }
+        // `Conflict` says that the lines have no graft in any run that the engine mirrors.
+        ensures conflict { IfErr result
+            (TellsConflict (S.tells source.new).blobs self.now self.now.plan.root_lines) }
         ensures called { Called (S.tells source.old) (S.tells source.new)
             (IsErrOf result (RunsError.Source TreeError.Fetch)) }
         // Of what the lines need, the source is asked at most once for each that isn't known; and

@@ -4,16 +4,16 @@ ghost use Rattle.plan.specs.Values.{StepValue};
 ghost use Rattle.tree.specs.Memo.{IsKnownOf, WasRefused, Learns, known_by};
 ghost use Rattle.blob_source.specs.Called.{Called};
 ghost use Rattle.runs.specs.Calls.{IsLeastIn, placed, IsPrepared, IsStarted, IsReady, IsStartFault};
-ghost use Rattle.runs.specs.Ties.{IsStart, TellsMissing};
-ghost use Rattle.runs.specs.LooksAt.{LinesNeed, StartNeeds};
-ghost use Rattle.runs.specs.Looking.{AreThere, FirstFault, Explains, StandsIn};
+ghost use Rattle.runs.specs.Ties.{IsStart, TellsConflict, TellsMissing};
+ghost use Rattle.runs.specs.LooksAt.{TreeNeeds, StartNeeds};
+ghost use Rattle.runs.specs.Looking.{AreThere, TreeFault, Explains, StandsIn};
 
 use crate::engine::{Engine, Running};
 use crate::error::RunsError;
 use actions::{Action, Command, Frame};
 use blob_digest::Digest;
 use std::alloc::{AllocError, Allocator};
-use tree::{BlobSource, Folded, Memo, TreeError, graft};
+use tree::{BlobSource, Folded, Memo, TreeError};
 
 /// A job that was started.
 #[derive(Drop)]
@@ -60,8 +60,8 @@ pub(crate) fn place<A: Allocator>(
 }
 
 impl<A: Allocator + Copy> Engine<A> {
-    /// The job of a step that may start: its lines are looked up and grafted, and its frame with
-    /// the root of the graft is the action. Refusals: `Origin` and `Source`.
+    /// The job of a step that may start: its frame with the root of what its lines put together is
+    /// the action. Refusals: `Origin`, `Source` and `Conflict`.
     fn prepare<S: BlobSource<A>>(
         &self,
         alloc: A,
@@ -75,17 +75,16 @@ impl<A: Allocator + Copy> Engine<A> {
         requires known { IsKnownOf (known_by memo.old) (S.tells source.old) }
         ensures prepared { IfOk result (IsPrepared (S.tells source.new).blobs self.now step id) }
         ensures faulty { (s : StepValue) → slice_get self.now.plan.steps step ≡ Some s
-            → IfErr result (Explains (FirstFault (S.tells source.new).blobs self.now s.lines)) }
+            → IfErr result (Explains (TreeFault (S.tells source.new).blobs self.now s.lines)) }
         ensures called { Called (S.tells source.old) (S.tells source.new)
             (IsErrOf result (RunsError.Source TreeError.Fetch)) }
         ensures learned { (s : StepValue) → slice_get self.now.plan.steps step ≡ Some s
-            → Learns (LinesNeed (S.tells source.new).blobs self.now s.lines) (WasRefused result)
+            → Learns (TreeNeeds (S.tells source.new).blobs self.now s.lines) (WasRefused result)
             (known_by memo.old) (known_by memo.new) (S.tells source.old) (S.tells source.new) }
     {
         let steps = self.plan.steps();
         let planned = &steps[step];
-        let nodes = self.resolve(alloc, &planned.lines, memo, source)?;
-        let input = graft(alloc, &nodes)?;
+        let input = self.put_together(alloc, &planned.lines, memo, source)?;
         let frames = self.frames.as_slice();
         let frame = Frame::copy_of(alloc, &frames[step])?;
         let action = frame.with_input(input.root);
@@ -109,8 +108,9 @@ const MOST_JOBS: usize = 4096;
 impl<A: Allocator + Copy> Engine<A> {
     /// Starts a step as a job, also one that runs or has finished. The first refusal is that of the
     /// first of: a step that its lines read hasn't finished (`NotReady`), 4,096 jobs run (`Full`),
-    /// and the first line without an origin (`Origin`, `Source`). A Directory that the memo knows
-    /// isn't fetched, and one that is fetched is kept.
+    /// the first line without an origin (`Origin`, `Source`), and the first fault where lines meet
+    /// (`Conflict`, `Source`). A Directory that the memo knows isn't fetched, and one that is
+    /// fetched is kept.
     pub fn start<S: BlobSource<A>>(
         &mut self,
         alloc: A,
@@ -131,6 +131,9 @@ impl<A: Allocator + Copy> Engine<A> {
         // `Origin` says that nothing stands at the origin in any run that the engine mirrors.
         ensures missing { (s : StepValue) → slice_get self.old.plan.steps step ≡ Some s
             → IfErr result (TellsMissing (S.tells source.new).blobs self.old s.lines) }
+        // `Conflict` says that the lines have no graft in any run that the engine mirrors.
+        ensures conflict { (s : StepValue) → slice_get self.old.plan.steps step ≡ Some s
+            → IfErr result (TellsConflict (S.tells source.new).blobs self.old s.lines) }
         ensures unchanged { OnErr result (self.new ≡ self.old) }
         ensures called { Called (S.tells source.old) (S.tells source.new)
             (IsErrOf result (RunsError.Source TreeError.Fetch)) }
@@ -140,6 +143,7 @@ impl<A: Allocator + Copy> Engine<A> {
             (WasRefused result)
             (known_by memo.old) (known_by memo.new) (S.tells source.old) (S.tells source.new) }
     {
+        let _ = self.plan.steps();
         if !self.ready(step) {
             return Err(RunsError::NotReady);
         }

@@ -7,7 +7,7 @@ use Rattle.messages.specs.declared.node.Node.TheVariants.{File, Link, Dir}
 use Rattle.messages.specs.DirectoryRules.{DirectoryValue}
 use Rattle.messages.specs.Node.{child}
 use Rattle.tree.specs.declared.error.TreeError.{TreeError}
-use Rattle.tree.specs.declared.error.TreeError.TheVariants.{Absent, BlobMissing, BlobWrong, BlobMalformed, TooDeep, Fetch, Memory}
+use Rattle.tree.specs.declared.error.TreeError.TheVariants.{Absent, BlobMissing, BlobWrong, BlobMalformed, TooDeep, Conflict, Fetch, Memory}
 use Rattle.tree.specs.Tree.{Name}
 use Rattle.tree.specs.Form.{NodeValue, node_value}
 use Rattle.blob_source.specs.Source.{Blobs, Grows, IsUnder}
@@ -87,6 +87,7 @@ goes_wrong {A} B C d e p i why lt goes grows h = by why h
     by (BlobWrong f) h = stands (wrong f) h
     by (BlobMalformed f) h = stands (malformed f) h
     by (TooDeep path) h = elim h [ ]
+    by (Conflict path) h = elim h [ ]
     by Fetch h = tt
     by Memory h = tt
 

@@ -6,7 +6,7 @@ use Rattle.messages.specs.declared.node.Node.TheVariants.{File, Link, Dir}
 use Rattle.messages.specs.DirectoryRules.{DirectoryValue}
 use Rattle.tree.specs.declared.difference.Unlike.TheVariants.{OnlyRecorded, OnlyGrafted, Directories, Others}
 use Rattle.tree.specs.declared.error.TreeError.{TreeError}
-use Rattle.tree.specs.declared.error.TreeError.TheVariants.{Absent, BlobMissing, BlobWrong, BlobMalformed, TooDeep, Fetch, Memory}
+use Rattle.tree.specs.declared.error.TreeError.TheVariants.{Absent, BlobMissing, BlobWrong, BlobMalformed, TooDeep, Conflict, Fetch, Memory}
 use Rattle.tree.specs.Tree.{Name}
 use Rattle.tree.specs.Form.{NodeValue}
 use Rattle.blob_source.specs.Source.{Blobs, Grows}
@@ -114,6 +114,7 @@ module _ (own : List (List ℕ)) (B : Blobs) (above : List Name) (g r : DigestVa
   of_fault deeper P (BlobWrong d) f h = f (wrong d) h
   of_fault deeper P (BlobMalformed d) f h = f (malformed d) h
   of_fault deeper P (TooDeep path) f h = h
+  of_fault deeper P (Conflict path) f h = h
   of_fault deeper P Fetch f h = h
   of_fault deeper P Memory f h = h
 
@@ -131,6 +132,7 @@ child_fault Found deeper above (BlobWrong d) some depth h = absurd h
 child_fault Found deeper above (BlobMalformed d) some depth h = absurd h
 child_fault Found deeper None (TooDeep path) some depth h = h
 child_fault Found deeper (Some above) (TooDeep path) some depth h = absurd (omega (arith, some, depth, h.1))
+child_fault Found deeper above (Conflict path) some depth h = absurd h
 child_fault Found deeper above Fetch some depth h = tt
 child_fault Found deeper above Memory some depth h = tt
 
@@ -141,5 +143,6 @@ explains_below P Q (BlobMissing d) f h = f (unread (missing d)) h
 explains_below P Q (BlobWrong d) f h = f (unread (wrong d)) h
 explains_below P Q (BlobMalformed d) f h = f (unread (malformed d)) h
 explains_below P Q (TooDeep path) f h = h
+explains_below P Q (Conflict path) f h = h
 explains_below P Q Fetch f h = h
 explains_below P Q Memory f h = h

@@ -130,9 +130,13 @@ all_unseen P seen (b ∷ bs) h =
       | false ↦ (h.0, all_unseen P (seen ++ b ∷ []) bs h.1)
     ]
 
--- what a graft of lawful lines made are encodings of Directories
+-- the Directories of a lawful tree are encodings
+pub visits_lawful : (t : Tree NodeValue) → IsOrdered t → AreLawful t → AllByRecursion IsEncoding (first_visits t)
+visits_lawful t ordered h = all_unseen IsEncoding [] (top t ∷ tops_below t) (lawful_top t ordered h, lawful_tops t ordered h)
+
+-- and so are those that were made
 pub lawful_own : {A : Type 0} (f : Folded A) → IsFoldOfLawful f → AllByRecursion IsEncoding (made_by f)
-lawful_own f h = subst (AllByRecursion IsEncoding) (sym h.fold.directories) (all_unseen IsEncoding [] (top h.tree ∷ tops_below h.tree) (lawful_top h.tree h.ordered h.lawful, lawful_tops h.tree h.ordered h.lawful))
+lawful_own f h = subst (AllByRecursion IsEncoding) (sym h.fold.directories) (visits_lawful h.tree h.ordered h.lawful)
 
 -- ---- grafts
 
@@ -163,8 +167,7 @@ lawful_graft (l ∷ ls) h = lawful_put l.0 l.1 (graft ls) h.0.0 h.0.1 (lawful_gr
 
 -- what such a graft made are encodings of Directories
 pub lawful_visits : (ls : List (List Name × NodeValue)) → AllByRecursion IsGraftLine ls → AllByRecursion IsEncoding (first_visits (graft ls))
-lawful_visits ls h =
-    all_unseen IsEncoding [] (top (graft ls) ∷ tops_below (graft ls)) (lawful_top (graft ls) (ordered-graft ls) (lawful_graft ls h), lawful_tops (graft ls) (ordered-graft ls) (lawful_graft ls h))
+lawful_visits ls h = visits_lawful (graft ls) (ordered-graft ls) (lawful_graft ls h)
 
 pub fold_of_lawful : {A : Type 0} (f : Folded A) (ls : List (List Name × NodeValue)) → AllByRecursion IsGraftLine ls → IsFoldOf (graft ls) f → IsFoldOfLawful f
 fold_of_lawful f ls h fold = record { tree = graft ls; ordered = ordered-graft ls; lawful = lawful_graft ls h; fold = fold }

@@ -8,7 +8,7 @@ use Rattle.messages.specs.declared.error.MessageError.{MessageError}
 use Rattle.messages.specs.declared.error.MessageError.TheVariants as errors
 use Rattle.messages.specs.Gives.{FailsUnlessMemory}
 use Rattle.tree.specs.declared.error.TreeError.{TreeError}
-use Rattle.tree.specs.declared.error.TreeError.TheVariants.{Absent, BlobMissing, BlobWrong, BlobMalformed, TooDeep, Fetch, Memory}
+use Rattle.tree.specs.declared.error.TreeError.TheVariants.{Absent, BlobMissing, BlobWrong, BlobMalformed, TooDeep, Conflict, Fetch, Memory}
 use Rattle.blob_source.specs.Told.{Fault, missing, wrong, malformed}
 use Rattle.tree.specs.TreeError.{Explains}
 use Rattle.tree.specs.Visiting.{items_of}
@@ -79,6 +79,7 @@ explains_more P Q (BlobMissing d) f h = f (missing d) h
 explains_more P Q (BlobWrong d) f h = f (wrong d) h
 explains_more P Q (BlobMalformed d) f h = f (malformed d) h
 explains_more P Q (TooDeep path) f h = h
+explains_more P Q (Conflict path) f h = h
 explains_more P Q Fetch f h = h
 explains_more P Q Memory f h = h
 

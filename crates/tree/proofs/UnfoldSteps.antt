@@ -11,7 +11,7 @@ use Rattle.messages.specs.Directory.{directory_bytes}
 use Rattle.messages.specs.Node.{child}
 use Rattle.messages.specs.Path.{IsPath}
 use Rattle.tree.specs.declared.error.TreeError.{TreeError}
-use Rattle.tree.specs.declared.error.TreeError.TheVariants.{Absent, BlobMissing, BlobWrong, BlobMalformed, TooDeep, Fetch, Memory}
+use Rattle.tree.specs.declared.error.TreeError.TheVariants.{Absent, BlobMissing, BlobWrong, BlobMalformed, TooDeep, Conflict, Fetch, Memory}
 use Rattle.tree.specs.Tree.{Name, name_cmp, Tree, empty, leaf, folder, a_leaf, a_directory, IsBelowAll, IsOrdered}
 use Rattle.tree.specs.Form.{NodeValue, no_children, with_child, directory_of, root}
 use Rattle.blob_source.specs.Source.{Blobs, Grows, IsMissing, IsWrong}
@@ -218,6 +218,7 @@ fault_below {A} B d e m n above path why told is at h = by why h
     by (BlobMissing f) h = below f (missing f) h
     by (BlobWrong f) h = below f (wrong f) h
     by (BlobMalformed f) h = below f (malformed f) h
+    by (Conflict p) h = absurd h
     by (TooDeep p) h = record {
       below = n ∷ h.below;
       split = h.split ∙ ap (λ a. a ++ h.below) at ∙ append_assoc above (n ∷ []) h.below;
@@ -243,6 +244,7 @@ fault_here B d above (BlobMalformed f) h =
     let fault : FailsDirectory B f (malformed f) = (refl, subst (IsMalformed IsDirectory directory_bytes B) (sym h.0) h.1) in
     record { path = []; reached = ap (λ e. found (Dir e)) h.0; fault = fault }
 fault_here B d above (TooDeep p) h = absurd h
+fault_here B d above (Conflict p) h = absurd h
 fault_here B d above Fetch h = tt
 fault_here B d above Memory h = tt
 
@@ -252,6 +254,7 @@ too_deep B d m above names (Absent p) told some full h = absurd h
 too_deep B d m above names (BlobMissing e) told some full h = absurd h
 too_deep B d m above names (BlobWrong e) told some full h = absurd h
 too_deep B d m above names (BlobMalformed e) told some full h = absurd h
+too_deep B d m above names (Conflict p) told some full h = absurd h
 too_deep B d m above names (TooDeep p) told some full h =
     let is = full p h in
     record { below = []; split = is.0 ∙ sym (none_after names); names = is.1; digest = d; reached = refl; directory = m; told = told; some = some }

@@ -111,5 +111,6 @@ ExplainsDifference Found (errors.BlobMissing e) = Found (unread (missing e))
 ExplainsDifference Found (errors.BlobWrong e) = Found (unread (wrong e))
 ExplainsDifference Found (errors.BlobMalformed e) = Found (unread (malformed e))
 ExplainsDifference Found (errors.TooDeep path) = ⊥
+ExplainsDifference Found (errors.Conflict path) = ⊥
 ExplainsDifference Found errors.Fetch = Unit {0}
 ExplainsDifference Found errors.Memory = Unit {0}

@@ -14,3 +14,9 @@ pub mod Difference
 pub mod Comparing
 pub mod TrueDifference
 pub mod LooksAt
+pub mod Merge
+pub mod Stage
+pub mod Merging
+pub mod MergeLooks
+pub mod MergeParts
+pub mod MergeAgrees

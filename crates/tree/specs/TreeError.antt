@@ -9,7 +9,7 @@ use Rattle.tree.specs.declared.error.TreeError.{TreeError}
 use Rattle.tree.specs.declared.error.AddError.{AddError}
 use Rattle.tree.specs.declared.error.AddError.TheVariants as adding
 use Rattle.tree.specs.declared.error.TreeError.TheVariants.{Absent, BlobMissing, BlobWrong}
-use Rattle.tree.specs.declared.error.TreeError.TheVariants.{BlobMalformed, TooDeep, Fetch, Memory}
+use Rattle.tree.specs.declared.error.TreeError.TheVariants.{BlobMalformed, TooDeep, Conflict, Fetch, Memory}
 use Rattle.tree.specs.Tree.{Name}
 use Rattle.blob_source.specs.Source.{Blobs}
 use Rattle.blob_source.specs.Told.{Fault, missing, wrong, malformed}
@@ -34,6 +34,7 @@ Explains Fails (BlobMissing e) = Fails (missing e)
 Explains Fails (BlobWrong e) = Fails (wrong e)
 Explains Fails (BlobMalformed e) = Fails (malformed e)
 Explains Fails (TooDeep path) = ⊥
+Explains Fails (Conflict path) = ⊥
 Explains Fails Fetch = Unit {0}
 Explains Fails Memory = Unit {0}
 
@@ -45,6 +46,7 @@ ExplainsLookup B d p (BlobMissing e) = Looks B d p (fault (missing e))
 ExplainsLookup B d p (BlobWrong e) = Looks B d p (fault (wrong e))
 ExplainsLookup B d p (BlobMalformed e) = Looks B d p (fault (malformed e))
 ExplainsLookup B d p (TooDeep path) = ⊥
+ExplainsLookup B d p (Conflict path) = ⊥
 ExplainsLookup B d p Fetch = Unit {0}
 ExplainsLookup B d p Memory = Unit {0}
 
@@ -54,6 +56,7 @@ IsAbsent (BlobMissing e) = ⊥
 IsAbsent (BlobWrong e) = ⊥
 IsAbsent (BlobMalformed e) = ⊥
 IsAbsent (TooDeep path) = ⊥
+IsAbsent (Conflict path) = ⊥
 IsAbsent Fetch = ⊥
 IsAbsent Memory = ⊥
 

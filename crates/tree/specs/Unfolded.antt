@@ -5,7 +5,7 @@ use Rattle.messages.specs.declared.node.Node.TheVariants.{Dir}
 use Rattle.messages.specs.DirectoryRules.{DirectoryValue}
 use Rattle.tree.specs.declared.error.TreeError.{TreeError}
 use Rattle.tree.specs.declared.error.TreeError.TheVariants.{Absent, BlobMissing, BlobWrong}
-use Rattle.tree.specs.declared.error.TreeError.TheVariants.{BlobMalformed, TooDeep, Fetch, Memory}
+use Rattle.tree.specs.declared.error.TreeError.TheVariants.{BlobMalformed, TooDeep, Conflict, Fetch, Memory}
 use Rattle.tree.specs.Tree.{Name, Tree, empty, leaf, folder, Standing, nothing, a_leaf, a_directory}
 use Rattle.tree.specs.Form.{NodeValue, no_children, directory_of, root}
 use Rattle.blob_source.specs.Source.{Blobs}
@@ -67,5 +67,6 @@ ExplainsUnfold B d above (BlobMissing e) = IsFaultBelow B d e (missing e)
 ExplainsUnfold B d above (BlobWrong e) = IsFaultBelow B d e (wrong e)
 ExplainsUnfold B d above (BlobMalformed e) = IsFaultBelow B d e (malformed e)
 ExplainsUnfold B d above (TooDeep path) = IsDeep B d above path
+ExplainsUnfold B d above (Conflict path) = ⊥
 ExplainsUnfold B d above Fetch = Unit {0}
 ExplainsUnfold B d above Memory = Unit {0}

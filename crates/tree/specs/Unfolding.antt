@@ -7,7 +7,7 @@ use Rattle.messages.specs.DirectoryRules.{DirectoryValue}
 use Rattle.messages.specs.Path.{IsPath}
 use Rattle.tree.specs.declared.error.TreeError.{TreeError}
 use Rattle.tree.specs.declared.error.TreeError.TheVariants.{Absent, BlobMissing, BlobWrong}
-use Rattle.tree.specs.declared.error.TreeError.TheVariants.{BlobMalformed, TooDeep, Fetch, Memory}
+use Rattle.tree.specs.declared.error.TreeError.TheVariants.{BlobMalformed, TooDeep, Conflict, Fetch, Memory}
 use Rattle.blob_source.specs.Source.{Blobs}
 use Rattle.blob_digest.specs.Digest.{DigestValue}
 use Rattle.tree.specs.Tree.{Name, Tree, empty, leaf, IsOrdered}
@@ -44,6 +44,7 @@ ExplainsChild above (BlobMissing e) = ⊥
 ExplainsChild above (BlobWrong e) = ⊥
 ExplainsChild above (BlobMalformed e) = ⊥
 ExplainsChild above (TooDeep path) = IsFull above path
+ExplainsChild above (Conflict path) = ⊥
 ExplainsChild above Fetch = ⊥
 ExplainsChild above Memory = Unit {0}
 

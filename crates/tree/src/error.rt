@@ -28,6 +28,9 @@ pub enum TreeError<A: Allocator> {
     /// At the path, of 64 names, stands a directory that isn't empty.
     #[error("a directory at a path of 64 names isn't empty")]
     TooDeep(Path<A>),
+    /// At the path lines give nodes that don't merge.
+    #[error("lines give nodes at the path that don't merge")]
+    Conflict(Path<A>),
     /// The source failed.
     #[error("the blob source failed")]
     Fetch,

@@ -1,4 +1,4 @@
-//! Trees by digests: look-ups, grafts, differences, folds and unfolding, over what a blob source
+//! Trees by digests: look-ups, merges, differences, folds and unfolding, over what a blob source
 //! tells. Every blob that is fetched is hashed, and the empty blob is never asked for.
 #![tactic(auto)]
 
@@ -8,10 +8,11 @@ mod error;
 mod fetching;
 mod flat_tree;
 mod folding;
-mod grafting;
 mod laws;
 mod looking_up;
 mod memo;
+mod merge_laws;
+mod merging;
 mod unfolding;
 mod visiting;
 
@@ -24,7 +25,6 @@ pub use error::{AddError, TreeError};
 pub use fetching::fetch_message;
 pub use flat_tree::{FlatEntry, FlatTree};
 pub use folding::{Folded, fold};
-pub use grafting::graft;
 pub use laws::{
     answers_are_always_there, differences_are_single_valued, differences_are_true,
     flat_trees_are_trees, folds_hold_each_directory_once, look_ups_are_single_valued,
@@ -32,5 +32,7 @@ pub use laws::{
 };
 pub use looking_up::lookup;
 pub use memo::Memo;
+pub use merge_laws::{merges_are_single_valued, merges_are_unions, merges_tell_of_trees};
+pub use merging::{Within, merge};
 pub use messages::Node;
 pub use unfolding::unfold;

@@ -18,9 +18,9 @@ use Rattle.actions.specs.Recorded.{StandsFor, StandForAll}
 use Rattle.action_messages.specs.declared.recorded_output.RecordedOutput.{RecordedOutput}
 use Rattle.actions.proofs.Reading.{stands_still}
 use Rattle.plan.specs.Values.{LineValue}
-use Rattle.tree.specs.Tree.{Name}
+use Rattle.tree.specs.Tree.{Tree}
 use Rattle.tree.specs.Form.{NodeValue, root}
-use Rattle.tree.specs.Graft.{graft}
+use Rattle.tree.specs.Merging.{MergeLines}
 use Rattle.tree.specs.Folded.{IsFoldOf}
 use Rattle.tree.specs.declared.folding.Folded.{Folded}
 use Rattle.tree.specs.Difference.{FindsFirst, made_by}
@@ -35,7 +35,7 @@ use Rattle.verifier.specs.Answers.{IsDifference}
 use Rattle.verifier.specs.Stage.{Explains, Answers}
 use Rattle.verifier.specs.StepChecks.{IsRefusedOutput, OutputFault, grafted, held}
 use Rattle.verifier.proofs.Explained.{explains_map}
-use Rattle.verifier.proofs.Lines.{found_still}
+use Rattle.verifier.proofs.Lines.{origin_still}
 
 -- ---- answers
 
@@ -45,9 +45,9 @@ oks (Err e) P Q by h = tt
 
 -- ---- what passed stays so
 
-pub resolves_still : (B C : Blobs) (d : DigestValue) (os : List OutcomeValue) (ls : List LineValue) (xs : List (List Name × NodeValue)) → Grows B C → Resolves B d os ls xs → Resolves C d os ls xs
+pub resolves_still : (B C : Blobs) (d : DigestValue) (os : List OutcomeValue) (ls : List LineValue) (xs : MergeLines) → Grows B C → Resolves B d os ls xs → Resolves C d os ls xs
 resolves_still B C d os [] xs g h = h
-resolves_still B C d os (l ∷ ls) xs g h = (h.0, found_still B C d os l.origin h.0 g h.1, h.2, resolves_still B C d os ls h.2 g h.3, h.4)
+resolves_still B C d os (l ∷ ls) xs g h = (h.0, origin_still B C d os l.origin h.0 g h.1, h.2, resolves_still B C d os ls h.2 g h.3, h.4)
 
 -- ---- outputs one after another
 
@@ -95,22 +95,22 @@ module _ {A : Type 0} where
       none_more (f ∷ fs) = ap (λ q. f ∷ q) (none_more fs)
 
 -- the comparison with the recorded input looks at what the check of it does
-pub input_looked : {A' : Type 0} (B : Blobs) (act : ActionValue) (xs : List (List Name × NodeValue)) (f : Folded A') (input : DigestValue) → IsFoldOf (graft xs) f → input ≡ act.input → f.root ≢ input
-    → (a : Asked) → Compares (made_by f) B 64 f.root input a → InputLooksAt B act xs a
-input_looked B act xs f input fold is other a h = (
+pub input_looked : {A' : Type 0} (B : Blobs) (act : ActionValue) (t : Tree NodeValue) (f : Folded A') (input : DigestValue) → IsFoldOf t f → input ≡ act.input → f.root ≢ input
+    → (a : Asked) → Compares (made_by f) B 64 f.root input a → InputLooksAt B act t a
+input_looked B act t f input fold is other a h = (
   (λ same. other (fold.root ∙ same ∙ sym is)),
-  subst (λ own. Compares own B 64 (root (graft xs)) act.input a) fold.directories (subst (λ g. Compares (made_by f) B 64 g act.input a) fold.root (subst (λ r. Compares (made_by f) B 64 f.root r a) is h)),
+  subst (λ own. Compares own B 64 (root t) act.input a) fold.directories (subst (λ g. Compares (made_by f) B 64 g act.input a) fold.root (subst (λ r. Compares (made_by f) B 64 f.root r a) is h)),
 )
 
 module _ {A : Type 0} where
   -- why the graft isn't the recorded input
-  pub input_explained : {A' : Type 0} (B : Blobs) (a : ActionValue) (xs : List (List Name × NodeValue)) (f : Folded A') (input : DigestValue) (fault : faults_type.Fault A) → IsFoldOf (graft xs) f → input ≡ a.input → f.root ≢ input
-      → Explains (IsDifference (made_by f) B f.root input) fault → Explains (grafted {A = A} B a xs).fails fault
-  input_explained B a xs f input fault fold is other h = explains_map (IsDifference (made_by f) B f.root input) (grafted {A = A} B a xs).fails fault
+  pub input_explained : {A' : Type 0} (B : Blobs) (a : ActionValue) (t : Tree NodeValue) (f : Folded A') (input : DigestValue) (fault : faults_type.Fault A) → IsFoldOf t f → input ≡ a.input → f.root ≢ input
+      → Explains (IsDifference (made_by f) B f.root input) fault → Explains (grafted {A = A} B a t).fails fault
+  input_explained B a t f input fault fold is other h = explains_map (IsDifference (made_by f) B f.root input) (grafted {A = A} B a t).fails fault
       (λ cause k. (
         (λ same. other (fold.root ∙ same ∙ sym is)),
         k.0,
-        subst (λ own. FindsFirst own B (root (graft xs)) a.input k.0) fold.directories (subst (λ g. FindsFirst (made_by f) B g a.input k.0) fold.root (subst (λ r. FindsFirst (made_by f) B f.root r k.0) is k.1)),
+        subst (λ own. FindsFirst own B (root t) a.input k.0) fold.directories (subst (λ g. FindsFirst (made_by f) B g a.input k.0) fold.root (subst (λ r. FindsFirst (made_by f) B f.root r k.0) is k.1)),
         k.2,
       )) h
 

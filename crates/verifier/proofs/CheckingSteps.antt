@@ -10,10 +10,11 @@ use Rattle.verifier.specs.declared.verdict.Cause.{Cause}
 use Rattle.verifier.specs.declared.verdict.Place.{Place}
 use Rattle.verifier.specs.declared.verdict.Place.TheVariants.{Step, Root}
 use Rattle.verifier.specs.declared.verdict.Verdict.TheVariants.{Yes, No}
-use Rattle.verifier.specs.Stage.{◌and_then◌}
+use Rattle.tree.specs.Stage.{◌and_then◌}
+use Rattle.tree.specs.MergeLooks.{looks}
 use Rattle.verifier.specs.StepChecks.{step_check}
 use Rattle.tree.specs.Memo.{Asked}
-use Rattle.verifier.specs.LooksAt.{looks, StepLooksAt, StepsLookAt, RootLooksAt, PlanLooksAt}
+use Rattle.verifier.specs.LooksAt.{StepLooksAt, StepsLookAt, RootLooksAt, PlanLooksAt}
 use Rattle.verifier.specs.Verdict.{root_check, steps_check, IsVerdict}
 use Rattle.verifier.proofs.ChecksThen.{stable_step, stable_steps, steady_steps}
 

@@ -11,8 +11,8 @@ use Rattle.actions.specs.Outcome.{OutcomeValue}
 use Rattle.actions.proofs.Reading.{recorded_still}
 use Rattle.plan.specs.Values.{LineValue, StepValue}
 use Rattle.blob_source.specs.Called.{Called}
-use Rattle.tree.specs.Tree.{Name}
-use Rattle.tree.specs.Form.{NodeValue}
+use Rattle.tree.specs.Tree.{Tree}
+use Rattle.tree.specs.Form.{NodeValue, root}
 use Rattle.blob_source.specs.Source.{Telling, Grows}
 use Rattle.blob_source.proofs.Calling.{called_none, called_ok, called_exit}
 use Rattle.tree.specs.Memo.{Asked, Known, IsKnownOf, WasRefused, Learns, LooksAtBlob}
@@ -20,8 +20,12 @@ use Rattle.tree.proofs.Descent.{told_still}
 use Rattle.tree.proofs.Learning.{learns_none, learns_then, learns_more, learns_refused, refused_exit}
 use Rattle.tree.proofs.Ways.{compares_still}
 use Rattle.tree.specs.Folded.{first_visits}
-use Rattle.tree.specs.Form.{root}
-use Rattle.tree.specs.Graft.{graft}
+use Rattle.tree.specs.Merging.{MergeLines, merged}
+use Rattle.tree.specs.MergeLooks.{looks, MergeLooksAt}
+use Rattle.tree.specs.Stage.{Stage, ◌and_then◌}
+use Rattle.tree.proofs.MergeLooking.{steady_merged_in}
+use Rattle.tree.proofs.MergeStages.{stable_merged_in}
+use Rattle.tree.proofs.StageLaws.{looks_here, looks_next}
 use Rattle.verifier.specs.declared.fault.Fault.{Fault}
 use Rattle.verifier.specs.declared.fault.Fault.TheVariants as faults
 use Rattle.verifier.specs.declared.verdict.Cause.{Cause}
@@ -29,9 +33,9 @@ use Rattle.verifier.specs.declared.verdict.Place.{Place}
 use Rattle.verifier.specs.Answers.{IsStopped}
 use Rattle.verifier.specs.Checks.{Checks}
 use Rattle.verifier.specs.declared.verifying.Checked.{Checked}
-use Rattle.verifier.specs.Stage.{Stage, ◌and_then◌, Explains, Answers}
-use Rattle.verifier.specs.StepChecks.{message, resolved, grafted, held, read, step_check}
-use Rattle.verifier.specs.LooksAt.{looks, LinesLookAt, InputLooksAt, ResultLooksAt, StepLooksAt, StepsLookAt}
+use Rattle.verifier.specs.Stage.{Explains, Answers}
+use Rattle.verifier.specs.StepChecks.{message, resolved, put_together, grafted, held, read, step_check}
+use Rattle.verifier.specs.LooksAt.{LinesLookAt, InputLooksAt, ResultLooksAt, StepLooksAt, StepsLookAt}
 use Rattle.verifier.specs.Verdict.{located, steps_check}
 use Rattle.verifier.proofs.Checking.{resolves_still}
 use Rattle.verifier.proofs.Looking.{lines_look_still, outputs_look_still}
@@ -59,8 +63,12 @@ module _ {A : Type 0} where
   pub stable_resolved : (d : DigestValue) (os : List OutcomeValue) (ls : List LineValue) → IsStable (λ t. resolved {A = A} t.blobs d os ls)
   stable_resolved d os ls = record { still = λ old new g k v h. resolves_still old.blobs new.blobs d os ls v g h }
 
-  pub stable_grafted : (a : ActionValue) (xs : List (List Name × NodeValue)) → IsStable (λ t. grafted {A = A} t.blobs a xs)
-  stable_grafted a xs = record { still = λ old new g k v h. h }
+  pub stable_put_together : (xs : MergeLines) → IsStable (λ t. put_together {A = A} t.blobs xs)
+  unfolding merged
+  stable_put_together xs = record { still = λ old new g k v h. (stable_merged_in 64 [] xs).still old.blobs new.blobs g v h }
+
+  pub stable_grafted : (a : ActionValue) (made : Tree NodeValue) → IsStable (λ t. grafted {A = A} t.blobs a made)
+  stable_grafted a made = record { still = λ old new g k v h. h }
 
   pub stable_held : {d : DigestValue} → IsStable (λ t. held {A = A} t.results d)
   stable_held {d} = record { still = λ old new g k v h. (h.0, k d h.0 h.1, h.2) }
@@ -75,10 +83,11 @@ module _ {A : Type 0} where
       stable_then stable_message (λ m.
       stable_then stable_without (λ _.
       stable_then (stable_resolved d os s.lines) (λ xs.
-      stable_then (stable_grafted a xs) (λ _.
+      stable_then (stable_put_together xs) (λ made.
+      stable_then (stable_grafted a made) (λ _.
       stable_then stable_held (λ r.
       stable_then stable_without (λ _.
-      stable_read m r))))))))
+      stable_read m r)))))))))
 
   pub stable_steps : (d : DigestValue) (os : List OutcomeValue) (ss : List StepValue) (ds : List DigestValue) → IsStable (λ t. steps_check {A = A} t d os ss ds)
   stable_steps d os [] ds = stable_without
@@ -93,14 +102,6 @@ pub record IsSteady (look : Telling → Asked → Type 0) : Type 0 where
 pub steady_without : {look : Asked → Type 0} → IsSteady (λ _. look)
 steady_without = record { still = λ old new g k a h. h }
 
-pub looks_here : {E V : Type 0} (check : Stage E V) (Here : Asked → Type 0) (next : V → Asked → Type 0) (a : Asked) → Here a → looks check Here next a
-unfolding looks
-looks_here check Here next a h = inl h
-
-pub looks_next : {E V : Type 0} (check : Stage E V) (Here : Asked → Type 0) (next : V → Asked → Type 0) (a : Asked) (v : V) → check.passes v → next v a → looks check Here next a
-unfolding looks
-looks_next check Here next a v p h = inr (v, p, h)
-
 pub steady_looks : {E V : Type 0} {first : Telling → Stage E V} {here : Telling → Asked → Type 0} {next : Telling → V → Asked → Type 0} → IsStable first → IsSteady here → ((v : V) → IsSteady (λ t. next t v))
     → IsSteady (λ t. looks (first t) (here t) (next t))
 unfolding looks
@@ -113,8 +114,12 @@ steady_looks {first = first} {here = here} {next = next} stable steady rest = re
 pub steady_lines : (d : DigestValue) (os : List OutcomeValue) (ls : List LineValue) → IsSteady (λ t. LinesLookAt t.blobs d os ls)
 steady_lines d os ls = record { still = λ old new g k a h. lines_look_still old.blobs new.blobs d os ls a g h }
 
-pub steady_input : (act : ActionValue) (xs : List (List Name × NodeValue)) → IsSteady (λ t. InputLooksAt t.blobs act xs)
-steady_input act xs = record { still = λ old new g k a h. (h.0, compares_still (first_visits (graft xs)) g a 64 (root (graft xs)) act.input h.1) }
+pub steady_merge : (xs : MergeLines) → IsSteady (λ t. MergeLooksAt t.blobs xs)
+unfolding MergeLooksAt
+steady_merge xs = record { still = λ old new g k a h. (steady_merged_in 64 [] xs).still old.blobs new.blobs g a h }
+
+pub steady_input : (act : ActionValue) (made : Tree NodeValue) → IsSteady (λ t. InputLooksAt t.blobs act made)
+steady_input act made = record { still = λ old new g k a h. (h.0, compares_still (first_visits made) g a 64 (root made) act.input h.1) }
 
 pub steady_result : (m : CommandValue) (r : ActionResultValue) → IsSteady (λ t. ResultLooksAt t.blobs m r)
 steady_result m r = record { still = λ old new g k a h. (h.0, h.1, outputs_look_still old.blobs new.blobs m h.0 a g h.2) }
@@ -127,10 +132,11 @@ module _ (A : Type 0) where
       steady_looks (stable_message {A = A}) steady_without (λ m.
       steady_looks stable_without steady_without (λ _.
       steady_looks (stable_resolved {A = A} d os s.lines) (steady_lines d os s.lines) (λ xs.
-      steady_looks (stable_grafted {A = A} a xs) (steady_input a xs) (λ _.
+      steady_looks (stable_put_together {A = A} xs) (steady_merge xs) (λ made.
+      steady_looks (stable_grafted {A = A} a made) (steady_input a made) (λ _.
       steady_looks (stable_held {A = A}) steady_without (λ r.
       steady_looks stable_without steady_without (λ _.
-      steady_result m r))))))))
+      steady_result m r)))))))))
 
   pub steady_steps : (d : DigestValue) (os : List OutcomeValue) (ss : List StepValue) (ds : List DigestValue) → IsSteady (λ t. StepsLookAt A t d os ss ds)
   steady_steps d os [] ds = steady_without

@@ -1,5 +1,5 @@
 -- What runs of a plan keep, where the plan is as recorded and no two different blobs concerned share a digest.
-use Rattle.std.proofs.Common.{◌≡◌, ℕ, zero, suc, Bool, true, false, cond, List, [], ◌∷◌, map, Option, Some, None, length, refl, ap, sym, ◌∙◌, subst, arith, inl, inr}
+use Rattle.std.proofs.Common.{◌≡◌, ◌≢◌, ℕ, zero, suc, Bool, true, false, cond, List, [], ◌∷◌, Option, Some, None, length, refl, ap, sym, ◌∙◌, subst, arith, inl, inr}
 use Rattle.std.specs.Prelude.{◌==◌, pos, option_map, option_and_then, slice_get, IsSomeAnd, Contains}
 use Rattle.std.specs.List.{AllByRecursion}
 use Rattle.std.specs.Map.{lookup, remove_entry}
@@ -12,8 +12,9 @@ use Rattle.action_messages.specs.Action.{ActionValue, with_input, action_bytes}
 use Rattle.action_messages.specs.ActionResult.{ActionResultValue}
 use Rattle.action_messages.specs.Command.{CommandValue, command_bytes}
 use Rattle.action_messages.specs.Frame.{FrameValue, frame_bytes}
-use Rattle.actions.specs.Outcome.{OutputValue, OutcomeValue}
-use Rattle.actions.specs.OutcomeLookup.{LooksIn}
+use Rattle.actions.specs.declared.outcome.Output.TheVariants as outputs
+use Rattle.actions.specs.Outcome.{OutputValue, OutcomeValue, IsOutcome}
+use Rattle.actions.specs.OutcomeLookup.{LooksIn, within_output, LiesWithin}
 use Rattle.action_messages.specs.Outputs.{RecordedValue, file, directory, link}
 use Rattle.actions.specs.Recorded.{StandForAll}
 use Rattle.actions.proofs.EncodedOnce.{frame_bytes_injective, action_bytes_injective, command_bytes_injective}
@@ -22,25 +23,32 @@ use Rattle.action_messages.proofs.ReadOnce.{reads_once}
 use Rattle.actions.proofs.RecordedAt.{recorded_at}
 use Rattle.actions.proofs.TreeBytes.{tree_bytes_some}
 use Rattle.actions.proofs.Rooms.{holds_at}
+use Rattle.plan.specs.Plan.{IsPlan}
 use Rattle.plan.specs.Values.{OriginValue, source, output, LineValue, StepValue, PlanValue}
-use Rattle.tree.specs.Tree.{Name, Tree, Leaf, Entry, whole, IsOrdered, IsOrderedEntry}
+use Rattle.tree.specs.Tree.{Name, Tree, Leaf, Entry, single, whole, entry_of, below_entry, IsOrdered, IsOrderedEntry}
 use Rattle.tree.specs.Form.{NodeValue, entry_node, form, top, root, IsBlobOf}
-use Rattle.tree.specs.Graft.{graft, expand}
+use Rattle.tree.specs.Merge.{TreeLines, AreMergeable, merge}
+use Rattle.tree.specs.MergeAgrees.{StandFor, IsBlobIn, IsBlobOfTrees, IsBlobOfOne, IsBlobOfEntries, IsOfMerge}
+use Rattle.tree.specs.Merging.{NodeWithin, MergeLines, IsHeldIn, AreHeld, merged}
 use Rattle.blob_source.specs.Source.{Blobs, IsUnder, IsBlobUnder}
 use Rattle.blob_source.specs.Told.{IsTold, TellsDirectory, FailsDirectory}
 use Rattle.tree.specs.Lookup.{found, LooksFrom, IsValue}
-use Rattle.tree.proofs.GraftRoots.{root-graft}
-use Rattle.tree.proofs.LookupLemmas.{looks_from, told_reads}
-use Rattle.tree.proofs.OrderLemmas.{IsOrderedAt, ordered_at, ordered_grafted}
+use Rattle.tree.proofs.LookupLemmas.{looks_from, told_reads, entry_blobs}
+use Rattle.tree.proofs.LookupLemmas as lookups
+use Rattle.tree.proofs.MergeTold.{merges_tell}
+use Rattle.tree.proofs.MergeTotal.{tells_merge}
+use Rattle.tree.proofs.OrderLemmas.{IsOrderedAt, ordered_at}
 use Rattle.tree.proofs.SameRoot.{same_root}
 use Rattle.tree.proofs.TreeDigests.{IsDigest-digest_of, only_empty}
-use Rattle.verifier.specs.Accepted.{LooksUpOrigin, Resolves}
+use Rattle.verifier.specs.Accepted.{LooksUpOrigin, StandsAtOrigin, Resolves}
 use Rattle.verifier.specs.AsRecorded.{IsPlanAsRecorded}
-use Rattle.verifier.specs.Build.{Meaning, ActionMeaning, action_digest, Outcome, output_at, output_from, below_path, StepFits, MeaningFits, Event, start, finish, lose, State, opening, outcome_of, job_of, origin_at, origins, graft_of, step_action, action_of, started, finished, lost, happens, IsTable, Obeys, IsRun, HasFinishedAll}
-use Rattle.verifier.specs.Headline.{IsDirectoryInTree, IsBlobOfAction, IsBlobOfEvent, IsBlobOfEvents, IsBlobOfChosen, HasFinished, IsNotStuck, IsAsChosen}
+use Rattle.verifier.specs.Build.{Meaning, ActionMeaning, action_digest, Outcome, output_at, StepFits, MeaningFits, Event, start, finish, lose, State, opening, outcome_of, job_of, origin_at, origins, graft_of, step_action, action_of, started, finished, lost, happens, IsTable, Obeys, IsRun, HasFinishedAll}
+use Rattle.verifier.specs.Headline.{IsDirectoryInTree, IsBlobOfEntry, IsBlobOfAction, IsBlobOfOutcome, IsBlobOfEvent, IsBlobOfEvents, IsBlobOfChosen, HasFinished, IsNotStuck, IsAsChosen}
 use Rattle.verifier.specs.Recorded.{Agrees, IsRecordedAs, RecordsAt}
-use Rattle.verifier.proofs.OutputLookups.{HoldsTree, HoldsOutput, outputs_tell}
+use Rattle.verifier.proofs.HeldOrigins.{IsLawfulTree, source_held, outcome_held}
+use Rattle.verifier.proofs.OutputLookups.{HoldsTree, HoldsOutput, mapped_from, output_found, outputs_tell}
 use Rattle.verifier.proofs.RecordedSteps.{get_other, as_many, IsRecordedStep, step_at}
+use Rattle.verifier.proofs.Targets.{ArePaths, paths_of, step_paths, some_names, output_ordered}
 
 -- ---- lists and options
 
@@ -61,13 +69,25 @@ kept_rest : {A : Type 0} (P : ℕ × A → Type 0) (j : ℕ) (es : List (ℕ × 
 kept_rest P j [] h = tt
 kept_rest P j (y ∷ es) h = elim (y.0 == j) as (λ q. AllByRecursion P (cond q es (y ∷ remove_entry (λ k. k == j) es))) [ true ↦ h.1 | false ↦ (h.0, kept_rest P j es h.1) ]
 
-abbrev nodes_of : List (List Name × Entry Leaf) → List (List Name × NodeValue)
-nodes_of es = map (λ e. (e.0, entry_node e.1)) es
+-- ---- blobs of what stands below
 
--- an outcome's output at a path is in order
-pub output_ordered : (os : List (List Name × Entry Leaf)) (p : List Name) → AllByRecursion (λ (e : List Name × Entry Leaf). IsOrderedEntry e.1) os → IsOrderedAt (output_at os p)
-output_ordered [] p h = tt
-output_ordered (o ∷ os) p h = elim (below_path o.0 p) as (λ q. IsOrderedAt (output_from q o.1 (output_at os p))) [ None ↦ output_ordered os p h.1 | Some q ↦ ordered_at q (Some o.1) h.0 ]
+one_blob : (e : Entry Leaf) (b : List ℕ) → IsBlobOfOne e b → IsBlobOfEntry e b
+one_blob (single x) b h = h
+one_blob (whole t) b h = h
+
+pub blobs_below : (q : List Name) (o : Option (Entry Leaf)) (e : Entry Leaf) (b : List ℕ) → below_entry q o ≡ Some e → IsBlobOfOne e b → lookups.IsBlobOfEntry o b
+blobs_below [] o e b is h = subst (λ p. lookups.IsBlobOfEntry p b) (sym is) (by e h)
+  where
+    by : (e : Entry Leaf) → IsBlobOfOne e b → lookups.IsBlobOfEntry (Some e) b
+    by (single x) h = h
+    by (whole t) h = h
+blobs_below (n ∷ q) None e b is h = absurd cc
+blobs_below (n ∷ q) (Some (single x)) e b is h = absurd cc
+blobs_below (n ∷ q) (Some (whole t)) e b is h = inr (entry_blobs n t b (blobs_below q (entry_of n t) e b is h))
+
+pub blob_of_entry : (e : Entry Leaf) (b : List ℕ) → lookups.IsBlobOfEntry (Some e) b → IsBlobOfEntry e b
+blob_of_entry (single x) b h = h
+blob_of_entry (whole t) b h = h
 
 -- ---- a set of blobs without a clash
 
@@ -105,7 +125,7 @@ module _ (S : List ℕ → Type 0) (apart : NoClash S) where
     holds_outputs (x ∷ xs) (y ∷ es) h e (suc k, lt, is) = holds_outputs xs es h.2 e (k, omega (arith, lt), is)
 
     module _ (src : DigestValue) (plan : PlanValue) (ds : List DigestValue) (claim : DigestValue) (meaning : Meaning) (X : List (ActionMeaning × Outcome))
-        (ordered : IsOrdered t) (sources : root (form t) ≡ src) (fits : MeaningFits plan meaning) (table : IsTable X) (agrees : Agrees B C X chosen ds) (h : IsPlanAsRecorded B C src plan ds claim) where
+        (ordered : IsOrdered t) (sources : root (form t) ≡ src) (fits : MeaningFits plan meaning) (table : IsTable X) (agrees : Agrees B C X chosen ds) (rules : IsPlan plan) (h : IsPlanAsRecorded B C src plan ds claim) where
       -- ---- the steps, each with its chosen pair
 
       -- what was recorded of a step, and what was chosen for it
@@ -199,30 +219,96 @@ module _ (S : List ℕ → Type 0) (apart : NoClash S) where
       abbrev HaveFinished : State → List LineValue → Type 0
       HaveFinished s ls = AllByRecursion (λ (l : LineValue). HasFinished s l.origin) ls
 
-      lines_tell : (s : State) → Keeps s → (ls : List LineValue) (xs : List (List Name × NodeValue)) → Resolves B src h.outcomes ls xs → HaveFinished s ls
-          → (es : List (List Name × Entry Leaf)) × (origins t s ls ≡ Some es) × (nodes_of es ≡ xs) × AllByRecursion (λ (e : List Name × Entry Leaf). IsOrderedEntry e.1) es
-      lines_tell s keeps [] xs r done = ([], refl, sym r, tt)
-      lines_tell s keeps (l ∷ ls) xs r done = one (origin_at t s l.origin) refl (origin_tells s keeps l.origin r.0 r.1 done.0) (origin_ordered s keeps l.origin) (lines_tell s keeps ls r.2 r.3 done.1)
+      -- the blobs of what stands at an origin
+      origin_blobs : (s : State) → Keeps s → (o : OriginValue) (e : Entry Leaf) → origin_at t s o ≡ Some e → (b : List ℕ) → IsBlobOfOne e b → S b
+      origin_blobs s keeps (source p) e is b q = within.own b (blobs_below p (Some (whole t)) e b is q)
+      origin_blobs s keeps (output j p) e is b q = by (outcome_of j s) refl is
         where
-          one : (o : Option (Entry Leaf)) → origin_at t s l.origin ≡ o → option_map entry_node (origin_at t s l.origin) ≡ Some r.0 → IsOrderedAt (origin_at t s l.origin)
-              → (es : List (List Name × Entry Leaf)) × (origins t s ls ≡ Some es) × (nodes_of es ≡ r.2) × AllByRecursion (λ (e : List Name × Entry Leaf). IsOrderedEntry e.1) es
-              → (es : List (List Name × Entry Leaf)) × (origins t s (l ∷ ls) ≡ Some es) × (nodes_of es ≡ xs) × AllByRecursion (λ (e : List Name × Entry Leaf). IsOrderedEntry e.1) es
-          one None is told in_order rest = absurd (let none : ◌≡◌ {A = Option NodeValue} None (Some r.0) = sym (ap (option_map entry_node) is) ∙ told in cc)
-          one (Some e) is told in_order rest =
-              let both : ◌≡◌ {A = Option NodeValue} (Some (entry_node e)) (Some r.0) = sym (ap (option_map entry_node) is) ∙ told in
-              let node : entry_node e ≡ r.0 = cc in (
-                (l.target, e) ∷ rest.0,
-                ap (λ o. option_and_then (λ e. option_map (λ es. (l.target, e) ∷ es) (origins t s ls)) o) is ∙ ap (option_map (λ es. (l.target, e) ∷ es)) rest.1,
-                (λ i. (l.target, node i) ∷ rest.2 i) ∙ sym r.4,
-                (subst IsOrderedAt is in_order, rest.3),
-              )
+          by : (q : Option Outcome) → outcome_of j s ≡ q → option_and_then (λ (o : Outcome). output_at o.outputs p) q ≡ Some e → S b
+          by None at is = absurd cc
+          by (Some o) at is =
+              let done = found_one IsPublished j s.done o keeps.done at in
+              let there = output_found o.outputs p e is in
+              let own = blob_of_entry there.0.1 b (blobs_below there.2 (Some there.0.1) e b there.4 q) in
+              within.picked b (done.0, holds_at chosen j done.0 done.1, inr (subst (λ (z : Outcome). IsBlobOfOutcome z b) done.2 (there.0, there.1, own)))
 
-      -- the graft of lines whose steps have finished is there, with the digest that was found
-      grafts : (s : State) → Keeps s → (ls : List LineValue) (xs : List (List Name × NodeValue)) → Resolves B src h.outcomes ls xs → HaveFinished s ls
-          → (g : Tree Leaf) × (graft_of t s ls ≡ Some g) × (root (form g) ≡ root (graft xs)) × IsOrdered g
-      grafts s keeps ls xs r done =
-          let k = lines_tell s keeps ls xs r done in
-          (expand (graft k.0), ap (option_map (λ es. expand (graft es))) k.1, root-graft k.0 ∙ ap (λ ys. root (graft ys)) k.2, ordered_grafted k.0 k.3)
+      -- where what is below an origin is read
+      record IsRead (x : NodeWithin) : Type 0 where
+        held : IsHeldIn x.within x.node
+        blobs : (b : List ℕ) → IsBlobIn x.within b → S b
+
+      lawful_tree : (v : OutputValue) → HoldsOutput S apart v → IsLawfulTree v
+      lawful_tree (outputs.File d executable) k = tt
+      lawful_tree (outputs.Link target) k = tt
+      lawful_tree (outputs.Tree u) k = k.lawful
+
+      tree_blobs : (v : OutputValue) → HoldsOutput S apart v → (b : List ℕ) → IsBlobIn (within_output v) b → S b
+      tree_blobs (outputs.File d executable) k b q = absurd q
+      tree_blobs (outputs.Link target) k b q = absurd q
+      tree_blobs (outputs.Tree u) k b q = let m = mapped_from directory_bytes (u.root ∷ u.children) b q in subst S m.2 (k.held m.0 m.1)
+
+      origin_read : (o : OriginValue) (x : NodeWithin) → StandsAtOrigin B src h.outcomes o x → IsRead x
+      origin_read (source p) x k = record {
+        held = subst (λ w. IsHeldIn w x.node) (sym k.within) (source_held x.node);
+        blobs = λ b q. absurd (subst (λ w. IsBlobIn w b) k.within q);
+      }
+      origin_read (output j p) x k =
+          let step = origin_step j k.node.0 k.node.1 in
+          let c = chosen_at j step.0 step.1 in
+          let told = c.kept.step.recorded in
+          let v = k.node.0 in
+          let same : c.kept.outcome ≡ v = one_answer (slice_get h.outcomes j) c.kept.outcome v c.kept.outcome_at k.node.1 in
+          let other : k.within.0 ≡ v = one_answer (slice_get h.outcomes j) k.within.0 v k.within.1 k.node.1 in
+          let lies = subst (λ o. LiesWithin o p x.within) other k.within.2 in
+          let holds : (e : List Name × OutputValue) → Contains v.outputs e → HoldsOutput S apart e.1 =
+          subst (λ (o : OutcomeValue). (e : List Name × OutputValue) → Contains o.outputs e → HoldsOutput S apart e.1) same (holds_outputs told.recorded c.kept.outcome.outputs told.outputs) in
+          record {
+            held = outcome_held v (subst IsOutcome same told.lawful) (λ e here. lawful_tree e.1 (holds e here)) p x k.node.2 lies;
+            blobs = λ b q. tree_blobs lies.0.1 (holds lies.0 lies.1) b (subst (λ w. IsBlobIn w b) lies.3 q);
+          }
+
+      -- what stands at the origins of lines is what was looked up there
+      record LinesTell (s : State) (ls : List LineValue) (xs : MergeLines) : Type 0 where
+        entries : TreeLines
+        are : origins t s ls ≡ Some entries
+        stand : StandFor xs entries
+        held : AreHeld xs
+        trees : (b : List ℕ) → IsBlobOfTrees xs b → S b
+        blobs : (b : List ℕ) → IsBlobOfEntries entries b → S b
+        mergeable : AreMergeable entries
+
+      lines_tell : (s : State) → Keeps s → (ls : List LineValue) → ArePaths ls → (xs : MergeLines) → Resolves B src h.outcomes ls xs → HaveFinished s ls → LinesTell s ls xs
+      lines_tell s keeps [] paths xs r done = subst (LinesTell s []) (sym r) (record { entries = []; are = refl; stand = tt; held = tt; trees = λ b q. absurd q; blobs = λ b q. absurd q; mergeable = tt })
+      lines_tell s keeps (l ∷ ls) paths xs r done =
+          subst (LinesTell s (l ∷ ls)) (sym r.4)
+          (one (origin_at t s l.origin) refl (origin_tells s keeps l.origin r.0.node r.1.node done.0) (origin_ordered s keeps l.origin) (origin_read l.origin r.0 r.1) (lines_tell s keeps ls paths.1 r.2 r.3 done.1))
+        where
+          one : (o : Option (Entry Leaf)) → origin_at t s l.origin ≡ o → option_map entry_node (origin_at t s l.origin) ≡ Some r.0.node → IsOrderedAt (origin_at t s l.origin) → IsRead r.0 → LinesTell s ls r.2
+              → LinesTell s (l ∷ ls) ((l.target, r.0) ∷ r.2)
+          one None is told in_order read rest = absurd (let none : ◌≡◌ {A = Option NodeValue} None (Some r.0.node) = sym (ap (option_map entry_node) is) ∙ told in cc)
+          one (Some e) is told in_order read rest =
+              let both : ◌≡◌ {A = Option NodeValue} (Some (entry_node e)) (Some r.0.node) = sym (ap (option_map entry_node) is) ∙ told in
+              let node : entry_node e ≡ r.0.node = cc in
+              let ordered : IsOrderedEntry e = subst IsOrderedAt is in_order in
+              let some : l.target ≢ [] = some_names l.target paths.0.some in
+              record {
+                entries = (l.target, e) ∷ rest.entries;
+                are = ap (λ o. option_and_then (λ e. option_map (λ es. (l.target, e) ∷ es) (origins t s ls)) o) is ∙ ap (option_map (λ es. (l.target, e) ∷ es)) rest.are;
+                stand = (record { target = refl; node = sym node; ordered = ordered; some = some; few = paths.0.few }, rest.stand);
+                held = (read.held, rest.held);
+                trees = λ b q. elim q [ inl k ↦ read.blobs b k | inr k ↦ rest.trees b k ];
+                blobs = λ b q. elim q [ inl k ↦ origin_blobs s keeps l.origin e is b k | inr k ↦ rest.blobs b k ];
+                mergeable = ((some, ordered), rest.mergeable);
+              }
+
+      -- what lines whose steps have finished put together is there, with the digest that was found
+      grafts : (s : State) → Keeps s → (ls : List LineValue) → ArePaths ls → (xs : MergeLines) → Resolves B src h.outcomes ls xs → (made : Tree NodeValue) → (merged B xs).passes made → HaveFinished s ls
+          → (g : Tree Leaf) × (graft_of t s ls ≡ Some g) × (root (form g) ≡ root made) × IsOrdered g
+      grafts s keeps ls paths xs r made merges done =
+          let k = lines_tell s keeps ls paths xs r done in
+          let inside : (b : List ℕ) → IsOfMerge B xs k.entries b → S b = λ b q. elim q [ inl v ↦ within.values b v | inr (inl u) ↦ k.trees b u | inr (inr e) ↦ k.blobs b e ] in
+          let g = (merges_tell B xs).trees k.entries k.held k.stand (λ a b p q is. apart a b (inside a p) (inside b q) is) made merges in
+          (g.0, ap (option_and_then merge) k.are ∙ (tells_merge k.entries).complete k.mergeable g.0 g.1, g.2, g.1.ordered)
 
       -- where a graft is there, the steps that its lines read have finished
       origin_finished : (s : State) (o : OriginValue) (e : Entry Leaf) → origin_at t s o ≡ Some e → HasFinished s o
@@ -246,7 +332,7 @@ module _ (S : List ℕ → Type 0) (apart : NoClash S) where
       graft_finished : (s : State) (ls : List LineValue) (g : Tree Leaf) → graft_of t s ls ≡ Some g → HaveFinished s ls
       graft_finished s ls g is = by (origins t s ls) refl is
         where
-          by : (q : Option (List (List Name × Entry Leaf))) → origins t s ls ≡ q → option_map (λ es. expand (graft es)) q ≡ Some g → HaveFinished s ls
+          by : (q : Option (List (List Name × Entry Leaf))) → origins t s ls ≡ q → option_and_then merge q ≡ Some g → HaveFinished s ls
           by None those is = absurd cc
           by (Some es) those is = origins_finished s ls es those
 
@@ -308,7 +394,7 @@ module _ (S : List ℕ → Type 0) (apart : NoClash S) where
           let commands = apart (command_bytes a.command) (command_bytes A.command) (blobs _ (inr (inl refl))) (picked _ (inr (inl refl))) (sym p.fit.command_digest ∙ ap (λ (f : FrameValue). f.command) frame ∙ lawful.named) in
           let command = command_bytes_injective a.command A.command p.fit.command_lawful lawful.command commands in
           -- and the graft of the lines is its input
-          let g = grafts s keeps p.step.lines r.nodes r.resolved (graft_finished s p.step.lines a.input p.grafted) in
+          let g = grafts s keeps p.step.lines (step_paths [] plan.steps rules.steps i p.step p.at) r.nodes r.resolved r.tree r.put_together (graft_finished s p.step.lines a.input p.grafted) in
           let same : g.0 ≡ a.input = one_answer (graft_of t s p.step.lines) g.0 a.input g.1 p.grafted in
           let roots : root (form a.input) ≡ root (form A.input) = ap (λ u. root (form u)) (sym same) ∙ g.2 ∙ r.input ∙ told_input in
           let input = same_root S apart a.input A.input (subst IsOrdered same g.3) lawful.input (λ b q. blobs b (inr (inr q))) (λ b q. picked b (inr (inr q))) roots in
@@ -354,18 +440,19 @@ module _ (S : List ℕ → Type 0) (apart : NoClash S) where
 
       -- ---- what a run comes to
 
-      finished_all : (end : State) → HasFinishedAll plan end → (ls : List LineValue) (xs : List (List Name × NodeValue)) → Resolves B src h.outcomes ls xs → HaveFinished end ls
+      finished_all : (end : State) → HasFinishedAll plan end → (ls : List LineValue) (xs : MergeLines) → Resolves B src h.outcomes ls xs → HaveFinished end ls
       finished_all end all [] xs r = tt
-      finished_all end all (l ∷ ls) xs r = (one l.origin r.1, finished_all end all ls r.2 r.3)
+      finished_all end all (l ∷ ls) xs r = (one l.origin r.1.node, finished_all end all ls r.2 r.3)
         where
-          one : (o : OriginValue) → LooksUpOrigin B src h.outcomes o (found r.0) → HasFinished end o
+          one : (o : OriginValue) → LooksUpOrigin B src h.outcomes o (found r.0.node) → HasFinished end o
           one (source p) look = tt
           one (output j p) look = let step = origin_step j look.0 look.1 in all j step.0 step.1
 
       -- A complete run ends in a tree with the claim as its digest.
       pub ends_in_claim : (end : State) → Keeps end → HasFinishedAll plan end → IsSomeAnd (graft_of t end plan.root_lines) (λ g. root (form g) ≡ claim)
       ends_in_claim end keeps all =
-          let g = grafts end keeps plan.root_lines h.root.nodes h.root.resolved (finished_all end all plan.root_lines h.root.nodes h.root.resolved) in
+          let paths = paths_of (length plan.steps) plan.root_lines rules.root_lines.each in
+          let g = grafts end keeps plan.root_lines paths h.root.nodes h.root.resolved h.root.tree h.root.put_together (finished_all end all plan.root_lines h.root.nodes h.root.resolved) in
           let roots : root (form g.0) ≡ claim = g.2 ∙ h.root.same in
           subst (λ o. IsSomeAnd o (λ g. root (form g) ≡ claim)) (sym g.1) roots
 
@@ -375,7 +462,8 @@ module _ (S : List ℕ → Type 0) (apart : NoClash S) where
         starts = λ i w step at done free.
             let c = chosen_at i step at in
             let f = fits.steps i step at in
-            let g = grafts now keeps step.lines c.kept.step.nodes c.kept.step.resolved done in
+            let r = c.kept.step in
+            let g = grafts now keeps step.lines (step_paths [] plan.steps rules.steps i step at) r.nodes r.resolved r.tree r.put_together done in
             let a : ActionMeaning = record { frame = f.0; command = f.1; input = g.0 } in
             let made : action_of plan meaning t now i ≡ Some a = action_made now i step at ∙ ap (option_map {U = ActionMeaning} (λ input. record { frame = f.0; command = f.1; input = input })) g.1 in
             (record now { jobs = (w, (i, a)) ∷ now.jobs }, ap (λ q. started now i w q (action_of plan meaning t now i)) free ∙ ap (started now i w None) made);

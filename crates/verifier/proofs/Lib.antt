@@ -12,6 +12,7 @@ pub mod VerdictOnce
 pub mod Passing
 pub mod OutputLookups
 pub mod RecordedSteps
+pub mod HeldOrigins
 pub mod FreshRuns
 pub mod Explained
 pub mod Checking
@@ -22,6 +23,5 @@ pub mod StageLaws
 pub mod StepLaws
 pub mod CheckingSteps
 pub mod NoAtStep
-pub mod StageTotals
 pub mod Totals
 pub mod VerdictTotal

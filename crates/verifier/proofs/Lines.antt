@@ -10,12 +10,13 @@ use Rattle.std.specs.List.{AllByRecursion}
 use Rattle.plan.specs.Values.{OriginValue, source, output, LineValue, IsLine}
 use Rattle.tree.specs.Tree.{Name}
 use Rattle.tree.specs.Form.{NodeValue}
+use Rattle.tree.specs.Merging.{NodeWithin, MergeLines}
 use Rattle.blob_source.specs.Source.{Blobs, Grows}
 use Rattle.blob_source.specs.Told.{TellsDirectory, FailsDirectory}
 use Rattle.tree.specs.Lookup.{found, LooksFrom}
 use Rattle.tree.proofs.Descent.{told_still}
 use Rattle.verifier.specs.declared.verdict.Cause.{Cause}
-use Rattle.verifier.specs.Accepted.{LooksUpOrigin, Resolves}
+use Rattle.verifier.specs.Accepted.{LooksUpOrigin, StandsAtOrigin, Resolves}
 use Rattle.verifier.specs.Faults.{LineFault, FirstFault}
 
 -- a node that was found is found from then on
@@ -31,37 +32,40 @@ pub found_still : (B C : Blobs) (d : DigestValue) (os : List OutcomeValue) (o : 
 found_still B C d os (source p) x g h = found_from B C p (Some (Dir d)) x g h
 found_still B C d os (output step p) x g h = h
 
+pub origin_still : (B C : Blobs) (d : DigestValue) (os : List OutcomeValue) (o : OriginValue) (x : NodeWithin) → Grows B C → StandsAtOrigin B d os o x → StandsAtOrigin C d os o x
+origin_still B C d os o x g h = record { node = found_still B C d os o x.node g h.node; within = h.within }
+
 -- whatever is told later, what the rest of the lines gives is what all lines give
-pub record LinesGoOn (A : Type 0) (B : Blobs) (d : DigestValue) (os : List OutcomeValue) (ls : List LineValue) (xs : List (List Name × NodeValue)) (rest : List LineValue) : Type 0 where
-  pub resolves : (later : Blobs) → Grows B later → (ys : List (List Name × NodeValue)) → Resolves later d os rest ys → Resolves later d os ls (xs ++ ys)
+pub record LinesGoOn (A : Type 0) (B : Blobs) (d : DigestValue) (os : List OutcomeValue) (ls : List LineValue) (xs : MergeLines) (rest : List LineValue) : Type 0 where
+  pub resolves : (later : Blobs) → Grows B later → (ys : MergeLines) → Resolves later d os rest ys → Resolves later d os ls (xs ++ ys)
   pub faults : (later : Blobs) → Grows B later → (c : Cause A) → FirstFault later d os rest c → FirstFault later d os ls c
 
 module _ {A : Type 0} where
   pub lines_first : (B : Blobs) (d : DigestValue) (os : List OutcomeValue) (ls : List LineValue) → LinesGoOn A B d os ls [] ls
   lines_first B d os ls = record { resolves = λ later g ys h. h; faults = λ later g c h. h }
 
-  pub lines_next : (B C : Blobs) (d : DigestValue) (os : List OutcomeValue) (ls : List LineValue) (xs : List (List Name × NodeValue)) (i : ℕ) (l : LineValue) (x : NodeValue) → i < length ls → l ≡ get_or ls i l
-      → LinesGoOn A B d os ls xs (drop i ls) → Grows B C → LooksUpOrigin C d os l.origin (found x) → LinesGoOn A C d os ls (xs ++ (l.target, x) ∷ []) (drop (i + 1) ls)
+  pub lines_next : (B C : Blobs) (d : DigestValue) (os : List OutcomeValue) (ls : List LineValue) (xs : MergeLines) (i : ℕ) (l : LineValue) (x : NodeWithin) → i < length ls → l ≡ get_or ls i l
+      → LinesGoOn A B d os ls xs (drop i ls) → Grows B C → StandsAtOrigin C d os l.origin x → LinesGoOn A C d os ls (xs ++ (l.target, x) ∷ []) (drop (i + 1) ls)
   lines_next B C d os ls xs i l x lt is goes grows look =
       let split : drop i ls ≡ l ∷ drop (i + 1) ls = rw (add-one, drop-cons ls i l lt) (ap (λ k. k ∷ drop (suc i) ls) (sym is)) in
-      let still : (later : Blobs) → Grows C later → LooksUpOrigin later d os l.origin (found x) = λ later g. found_still C later d os l.origin x g look in
+      let still : (later : Blobs) → Grows C later → StandsAtOrigin later d os l.origin x = λ later g. origin_still C later d os l.origin x g look in
       let both : (later : Blobs) → Grows C later → Grows B later = λ later g e b q. g e b (grows e b q) in
       record {
         resolves = λ later g ys h. rw append_assoc (goes.resolves later (both later g) ((l.target, x) ∷ ys) (subst (λ q. Resolves later d os q ((l.target, x) ∷ ys)) (sym split) (x, still later g, ys, h, refl)));
-        faults = λ later g c h. goes.faults later (both later g) c (subst (λ q. FirstFault later d os q c) (sym split) (inr (x, still later g, h)));
+        faults = λ later g c h. goes.faults later (both later g) c (subst (λ q. FirstFault later d os q c) (sym split) (inr (x.node, (still later g).node, h)));
       }
 
-  pub lines_end : (B : Blobs) (d : DigestValue) (os : List OutcomeValue) (ls : List LineValue) (xs : List (List Name × NodeValue)) (i : ℕ) → length ls ≤ i → LinesGoOn A B d os ls xs (drop i ls) → Resolves B d os ls xs
+  pub lines_end : (B : Blobs) (d : DigestValue) (os : List OutcomeValue) (ls : List LineValue) (xs : MergeLines) (i : ℕ) → length ls ≤ i → LinesGoOn A B d os ls xs (drop i ls) → Resolves B d os ls xs
   lines_end B d os ls xs i le goes =
       let none = drop_all i ls le in
       let all = goes.resolves B (λ e b h. h) [] (subst (λ q. Resolves B d os q []) (sym none) refl) in
       subst (Resolves B d os ls) (none_more xs) all
     where
-      none_more : (ys : List (List Name × NodeValue)) → ys ++ [] ≡ ys
+      none_more : (ys : MergeLines) → ys ++ [] ≡ ys
       none_more [] = refl
       none_more (y ∷ ys) = ap (λ q. y ∷ q) (none_more ys)
 
-  pub lines_fault : (B C : Blobs) (d : DigestValue) (os : List OutcomeValue) (ls : List LineValue) (xs : List (List Name × NodeValue)) (i : ℕ) (l : LineValue) (c : Cause A) → i < length ls → l ≡ get_or ls i l
+  pub lines_fault : (B C : Blobs) (d : DigestValue) (os : List OutcomeValue) (ls : List LineValue) (xs : MergeLines) (i : ℕ) (l : LineValue) (c : Cause A) → i < length ls → l ≡ get_or ls i l
       → LinesGoOn A B d os ls xs (drop i ls) → Grows B C → LineFault C d os l c → FirstFault C d os ls c
   lines_fault B C d os ls xs i l c lt is goes grows h =
       let split : drop i ls ≡ l ∷ drop (i + 1) ls = rw (add-one, drop-cons ls i l lt) (ap (λ k. k ∷ drop (suc i) ls) (sym is)) in

@@ -5,11 +5,10 @@ use Rattle.std.proofs.lemmas.List.{append-nil, length-append}
 use Rattle.blob_digest.specs.Digest.{DigestValue}
 use Rattle.actions.specs.Outcome.{OutcomeValue}
 use Rattle.plan.specs.Values.{OriginValue, source, output, LineValue, StepValue}
-use Rattle.tree.specs.Tree.{Name}
-use Rattle.tree.specs.Form.{NodeValue}
+use Rattle.tree.specs.Merging.{WithinValue, NodeWithin, MergeLines}
 use Rattle.blob_source.specs.Source.{Blobs}
 use Rattle.tree.specs.Lookup.{Looked}
-use Rattle.verifier.specs.Accepted.{LooksUpOrigin, Resolves}
+use Rattle.verifier.specs.Accepted.{LooksUpOrigin, OriginWithin, StandsAtOrigin, Resolves}
 use Rattle.verifier.specs.AsRecorded.{IsAsRecorded, AreAsRecorded}
 
 -- ---- elements by their numbers
@@ -37,9 +36,16 @@ module _ (B C : Blobs) (src : DigestValue) where
   looks_more before more (source p) r h = h
   looks_more before more (output j p) r h = (h.0, get_left before more j h.0 h.1, h.2)
 
-  resolves_more : (before more : List OutcomeValue) (ls : List LineValue) (xs : List (List Name × NodeValue)) → Resolves B src before ls xs → Resolves B src (before ++ more) ls xs
+  within_more : (before more : List OutcomeValue) (o : OriginValue) (w : WithinValue) → OriginWithin before o w → OriginWithin (before ++ more) o w
+  within_more before more (source p) w h = h
+  within_more before more (output j p) w h = (h.0, get_left before more j h.0 h.1, h.2)
+
+  stands_more : (before more : List OutcomeValue) (o : OriginValue) (x : NodeWithin) → StandsAtOrigin B src before o x → StandsAtOrigin B src (before ++ more) o x
+  stands_more before more o x h = record { node = looks_more before more o _ h.node; within = within_more before more o x.within h.within }
+
+  resolves_more : (before more : List OutcomeValue) (ls : List LineValue) (xs : MergeLines) → Resolves B src before ls xs → Resolves B src (before ++ more) ls xs
   resolves_more before more [] xs h = h
-  resolves_more before more (l ∷ ls) xs h = (h.0, looks_more before more l.origin _ h.1, h.2, resolves_more before more ls h.2 h.3, h.4)
+  resolves_more before more (l ∷ ls) xs h = (h.0, stands_more before more l.origin h.0 h.1, h.2, resolves_more before more ls h.2 h.3, h.4)
 
   -- the outcomes begin with those that were there before
   ends_with : (before : List OutcomeValue) (ss : List StepValue) (ds : List DigestValue) (os : List OutcomeValue) → AreAsRecorded B C src before ss ds os → (more : List OutcomeValue) × (os ≡ before ++ more)
@@ -75,12 +81,14 @@ module _ (B C : Blobs) (src : DigestValue) where
     action = h.action;
     command = h.command;
     nodes = h.nodes;
+    tree = h.tree;
     result = h.result;
     action_told = h.action_told;
     may_be_cached = h.may_be_cached;
     frame = h.frame;
     command_told = h.command_told;
     resolved = subst (λ os. Resolves B src os s.lines h.nodes) (sym e) (resolves_more before more s.lines h.nodes h.resolved);
+    put_together = h.put_together;
     input = h.input;
     held = h.held;
     exit_code = h.exit_code;

@@ -5,7 +5,8 @@ use Rattle.std.specs.Result.{IsErrAnd}
 use Rattle.std.proofs.lemmas.Result.{err_from_is_err_and}
 use Rattle.verifier.specs.declared.fault.Fault.{Fault}
 use Rattle.verifier.specs.declared.verdict.Cause.{Cause}
-use Rattle.verifier.specs.Stage.{Stage, ◌and_then◌, Explains, Answers}
+use Rattle.tree.specs.Stage.{Stage, ◌and_then◌}
+use Rattle.verifier.specs.Stage.{Explains, Answers}
 use Rattle.verifier.proofs.Explained.{explains_map}
 
 module _ {A V W : Type 0} where

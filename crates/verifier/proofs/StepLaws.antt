@@ -1,5 +1,5 @@
 -- The check of a step has one answer, and passes exactly where the step is as recorded.
-use Rattle.std.proofs.Common.{◌≡◌, List, ap, sym, ◌∙◌, subst, inl, inr, refl}
+use Rattle.std.proofs.Common.{◌≡◌, List, [], ap, sym, ◌∙◌, subst, inl, inr, refl}
 use Rattle.std.specs.Prelude.{ℕ}
 use Rattle.blob_digest.specs.Digest.{DigestValue}
 use Rattle.action_messages.specs.Action.{ActionValue, IsAction, action_bytes}
@@ -12,20 +12,21 @@ use Rattle.actions.proofs.EncodedOnce.{action_bytes_injective, command_bytes_inj
 use Rattle.actions.proofs.Once.{outputs_once, recorded_once}
 use Rattle.action_messages.proofs.ReadOnce.{reads_once}
 use Rattle.plan.specs.Values.{LineValue, StepValue}
-use Rattle.tree.specs.Tree.{Name}
+use Rattle.tree.specs.Tree.{Tree}
 use Rattle.tree.specs.Form.{NodeValue, root}
 use Rattle.tree.specs.Folded.{first_visits}
-use Rattle.tree.specs.Graft.{graft}
+use Rattle.tree.specs.Merging.{MergeLines, merged}
+use Rattle.tree.specs.Stage.{◌and_then◌}
 use Rattle.blob_source.specs.Source.{Blobs, Telling}
 use Rattle.tree.proofs.DifferenceOnce.{finds_first_once}
 use Rattle.tree.proofs.LookupOnce.{told_or_fault, fault_once}
+use Rattle.tree.proofs.MergeStages.{once_merged_in}
+use Rattle.tree.proofs.StageLaws.{IsOnce, once_then, once_demands}
 use Rattle.verifier.specs.declared.verdict.Cause.{Cause}
 use Rattle.verifier.specs.AsRecorded.{IsAsRecorded}
-use Rattle.verifier.specs.Faults.{cause_of}
-use Rattle.verifier.specs.Stage.{◌and_then◌}
-use Rattle.verifier.specs.StepChecks.{difference_cause, OutputFault, message, resolved, grafted, held, read, step_check}
+use Rattle.verifier.specs.Faults.{cause_of, cause_of_merge}
+use Rattle.verifier.specs.StepChecks.{difference_cause, OutputFault, message, resolved, put_together, grafted, held, read, step_check}
 use Rattle.verifier.specs.Verdict.{root_check}
-use Rattle.verifier.proofs.StageLaws.{IsOnce, once_then, once_demands}
 use Rattle.verifier.proofs.StepsOnce.{IsSpelledOnce, told_once, output_fault_is_one, fault_or_all, bytes_are, none_some}
 use Rattle.verifier.proofs.VerdictOnceLines.{AreLawful, resolves_once, first_once, first_resolves}
 
@@ -46,10 +47,20 @@ module _ {A : Type 0} where
     either = λ xs c p q. first_resolves B sources outcomes lawful lines c xs q p;
   }
 
-  once_grafted : (B : Blobs) (a : ActionValue) (xs : List (List Name × NodeValue)) → IsOnce (grafted {A = A} B a xs)
-  once_grafted B a xs = record {
+  once_put_together : (B : Blobs) (xs : MergeLines) → IsOnce (put_together {A = A} B xs)
+  unfolding merged
+  once_put_together B xs =
+      let one = once_merged_in B 64 [] xs in
+      record {
+        value = one.value;
+        why = λ c e p q. p.2 ∙ ap cause_of_merge (one.why p.0 q.0 p.1 q.1) ∙ sym q.2;
+        either = λ t c p q. one.either t q.0 p q.1;
+      }
+
+  once_grafted : (B : Blobs) (a : ActionValue) (t : Tree NodeValue) → IsOnce (grafted {A = A} B a t)
+  once_grafted B a t = record {
     value = λ v w p q. refl;
-    why = λ c e p q. p.3 ∙ ap difference_cause (finds_first_once (first_visits (graft xs)) B (root (graft xs)) a.input p.1 q.1 p.2 q.2) ∙ sym q.3;
+    why = λ c e p q. p.3 ∙ ap difference_cause (finds_first_once (first_visits t) B (root t) a.input p.1 q.1 p.2 q.2) ∙ sym q.3;
     either = λ v c p q. q.0 p;
   }
 
@@ -86,29 +97,32 @@ module _ {A : Type 0} where
       once_then _ _ (once_message IsCommand command_bytes command_bytes_injective t.blobs a.frame.command) (λ m _.
       once_then _ _ (once_demands _ _) (λ _ _.
       once_then _ _ (once_resolved t.blobs sources outcomes s.lines lawful) (λ xs _.
-      once_then _ _ (once_grafted t.blobs a xs) (λ _ _.
+      once_then _ _ (once_put_together t.blobs xs) (λ made _.
+      once_then _ _ (once_grafted t.blobs a made) (λ _ _.
       once_then _ _ (once_held t.results d) (λ r _.
       once_then _ _ (once_demands _ _) (λ _ _.
-      once_read t.blobs m r))))))))
+      once_read t.blobs m r)))))))))
 
   pub once_root : (t : Telling) (sources : DigestValue) (outcomes : List OutcomeValue) (lines : List LineValue) (claim : DigestValue) → AreLawful outcomes → IsOnce (root_check {A = A} t sources outcomes lines claim)
-  once_root t sources outcomes lines claim lawful = once_then _ _ (once_resolved t.blobs sources outcomes lines lawful) (λ xs _. once_demands _ _)
+  once_root t sources outcomes lines claim lawful = once_then _ _ (once_resolved t.blobs sources outcomes lines lawful) (λ xs _. once_then _ _ (once_put_together t.blobs xs) (λ made _. once_demands _ _))
 
 -- ---- a step passes exactly where it is as recorded
 
 module _ (A : Type 0) (t : Telling) (sources : DigestValue) (before : List OutcomeValue) (s : StepValue) (d : DigestValue) (o : OutcomeValue) where
   pub recorded_from : (step_check {A = A} t sources before s d).passes o → IsAsRecorded t.blobs t.results sources before s d o
   unfolding ◌and_then◌
-  recorded_from (action, action_told, (_, cached, (command, command_told, (_, frame, (nodes, origins, (_, input, (result, kept, (_, exit_code, (recorded, listed))))))))) = record {
+  recorded_from (action, action_told, (_, cached, (command, command_told, (_, frame, (nodes, origins, (made, merges, (_, input, (result, kept, (_, exit_code, (recorded, listed)))))))))) = record {
     action = action;
     command = command;
     nodes = nodes;
+    tree = made;
     result = result;
     action_told = action_told;
     may_be_cached = cached;
     frame = frame;
     command_told = command_told;
     resolved = origins;
+    put_together = merges;
     input = input;
     held = kept;
     exit_code = exit_code;
@@ -119,4 +133,4 @@ module _ (A : Type 0) (t : Telling) (sources : DigestValue) (before : List Outco
   pub from_recorded : IsAsRecorded t.blobs t.results sources before s d o → (step_check {A = A} t sources before s d).passes o
   unfolding ◌and_then◌
   from_recorded h =
-      (h.action, h.action_told, (tt, h.may_be_cached, (h.command, h.command_told, (tt, h.frame, (h.nodes, h.resolved, (tt, h.input, (h.result, h.held, (tt, h.exit_code, (h.recorded, h.listed)))))))))
+      (h.action, h.action_told, (tt, h.may_be_cached, (h.command, h.command_told, (tt, h.frame, (h.nodes, h.resolved, (h.tree, h.put_together, (tt, h.input, (h.result, h.held, (tt, h.exit_code, (h.recorded, h.listed))))))))))

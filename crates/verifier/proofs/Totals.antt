@@ -13,8 +13,8 @@ use Rattle.messages.specs.Tree.{TreeValue, IsTree, tree_bytes, digests_of, child
 use Rattle.action_messages.specs.ActionResult.{ActionResultValue, IsActionResult}
 use Rattle.action_messages.specs.Command.{CommandValue}
 use Rattle.actions.specs.declared.outcome.Output.TheVariants.{File, Link, Tree}
-use Rattle.actions.specs.Outcome.{OutputValue, OutcomeValue, output_node, tree_node, output_paths}
-use Rattle.actions.specs.OutcomeLookup.{IsFirstChild, NoFault, LooksInTree, LooksBelow, StandsOver, LooksIn}
+use Rattle.actions.specs.Outcome.{OutputValue, OutcomeValue, IsOutcome, output_node, tree_node, output_paths}
+use Rattle.actions.specs.OutcomeLookup.{IsFirstChild, NoFault, LooksInTree, LooksBelow, StandsOver, LooksIn, within_output, LiesWithin}
 use Rattle.action_messages.specs.OutputFile.{OutputFileValue}
 use Rattle.action_messages.specs.OutputDirectory.{OutputDirectoryValue}
 use Rattle.action_messages.specs.OutputSymlink.{OutputSymlinkValue}
@@ -30,13 +30,14 @@ use Rattle.tree.specs.Form.{NodeValue}
 use Rattle.blob_source.specs.Source.{Blobs}
 use Rattle.blob_source.specs.Told.{Fault}
 use Rattle.tree.specs.Lookup.{Looked, fault, nothing, found}
+use Rattle.tree.specs.Merging.{WithinValue, in_source, MergeLines}
 use Rattle.tree.proofs.Totals.{told_or_faulty, looks_on, looks_total}
 use Rattle.verifier.specs.declared.verdict.Cause.{Cause}
 use Rattle.verifier.specs.declared.verdict.Cause.TheVariants.{OriginMissing, ResultMissing, ResultMalformed, OutputUnlisted}
-use Rattle.verifier.specs.Accepted.{LooksUpOrigin, Resolves}
+use Rattle.verifier.specs.Accepted.{LooksUpOrigin, OriginWithin, Resolves}
 use Rattle.verifier.specs.Faults.{cause_of, origin_path, FirstFault}
 use Rattle.verifier.specs.StepChecks.{OutputFault, message, resolved, held, read}
-use Rattle.verifier.proofs.StageTotals.{IsTotal}
+use Rattle.tree.proofs.StageLaws.{IsTotal}
 
 -- ---- look-ups in outcomes
 
@@ -47,7 +48,7 @@ IsLawfulOutput (Link target) = IsTarget target
 IsLawfulOutput (Tree t) = IsTree t
 
 abbrev pub AreLawfulOutputs : OutcomeValue → Type 0
-AreLawfulOutputs o = AllByRecursion (λ (e : List Name × OutputValue). IsLawfulOutput e.1) o.outputs
+AreLawfulOutputs o = IsOutcome o × AllByRecursion (λ (e : List Name × OutputValue). IsLawfulOutput e.1) o.outputs
 
 all_push : {X : Type 0} (P : X → Type 0) (xs : List X) (x : X) → AllByRecursion P xs → P x → AllByRecursion P (xs ++ x ∷ [])
 all_push P [] x h k = (k, tt)
@@ -94,7 +95,7 @@ none_over path (e ∷ es) none = ((λ over. none e (0, omega arith, refl) over),
 
 looks_in : (o : OutcomeValue) → AreLawfulOutputs o → (path : List Name) → ((r : Looked) → LooksIn o path r → ⊥) → ⊥
 looks_in o lawful path k = k nothing (inr (
-  none_over path o.outputs (λ e c over. looks_below e.1 (all_at (λ (x : List Name × OutputValue). IsLawfulOutput x.1) o.outputs e lawful c) over.0 (λ r h. k r (inl (e, c, over.0, over.1, h)))),
+  none_over path o.outputs (λ e c over. looks_below e.1 (all_at (λ (x : List Name × OutputValue). IsLawfulOutput x.1) o.outputs e lawful.1 c) over.0 (λ r h. k r (inl (e, c, over.0, over.1, h)))),
   refl,
 ))
 
@@ -117,14 +118,25 @@ module _ (B : Blobs) (sources : DigestValue) (os : List OutcomeValue) (lawful : 
       let o = outcome_there os i is.0 in
       looks_in o.0 (lawful_outcome_there os i o.0 lawful o.1) p (λ r h. k r (o.0, o.1, h))
 
+-- what is found lies somewhere
+lies_somewhere : (o : OutcomeValue) (p : List Name) (x : NodeValue) → LooksIn o p (found x) → (w : WithinValue) × LiesWithin o p w
+lies_somewhere o p x (inl (e, here, names, path, look)) = (within_output e.1, (e, here, (names, path), refl))
+lies_somewhere o p x (inr h) = absurd (let e = h.1 in cc)
+
+stands_somewhere : (B : Blobs) (sources : DigestValue) (os : List OutcomeValue) (o : OriginValue) (x : NodeValue) → LooksUpOrigin B sources os o (found x) → (w : WithinValue) × OriginWithin os o w
+stands_somewhere B sources os (source p) x h = (in_source, refl)
+stands_somewhere B sources os (output i p) x h = let w = lies_somewhere h.0 p x h.2 in (w.0, (h.0, h.1, w.1))
+
 module _ {A : Type 0} (B : Blobs) (sources : DigestValue) (os : List OutcomeValue) (lawful : AllByRecursion AreLawfulOutputs os) where
-  line_total : (l : LineValue) (ls : List LineValue) → (((xs : List (List Name × NodeValue)) → Resolves B sources os ls xs → ⊥) → ((c : Cause A) → FirstFault B sources os ls c → ⊥) → ⊥)
-      → ((xs : List (List Name × NodeValue)) → Resolves B sources os (l ∷ ls) xs → ⊥) → ((c : Cause A) → FirstFault B sources os (l ∷ ls) c → ⊥) → (r : Looked) → LooksUpOrigin B sources os l.origin r → ⊥
-  line_total l ls rest passes fails (found x) h = rest (λ xs q. passes ((l.target, x) ∷ xs) (x, h, xs, q, refl)) (λ c q. fails c (inr (x, h, q)))
+  line_total : (l : LineValue) (ls : List LineValue) → (((xs : MergeLines) → Resolves B sources os ls xs → ⊥) → ((c : Cause A) → FirstFault B sources os ls c → ⊥) → ⊥)
+      → ((xs : MergeLines) → Resolves B sources os (l ∷ ls) xs → ⊥) → ((c : Cause A) → FirstFault B sources os (l ∷ ls) c → ⊥) → (r : Looked) → LooksUpOrigin B sources os l.origin r → ⊥
+  line_total l ls rest passes fails (found x) h =
+      let w = stands_somewhere B sources os l.origin x h in
+      rest (λ xs q. passes ((l.target, record { node = x; within = w.0 }) ∷ xs) (record { node = x; within = w.0 }, record { node = h; within = w.1 }, xs, q, refl)) (λ c q. fails c (inr (x, h, q)))
   line_total l ls rest passes fails nothing h = fails (OriginMissing (origin_path l.origin)) (inl (nothing, h, refl))
   line_total l ls rest passes fails (fault f) h = fails (cause_of f) (inl (fault f, h, refl))
 
-  lines_total : (ls : List LineValue) → AllByRecursion (IsLine (length os)) ls → ((xs : List (List Name × NodeValue)) → Resolves B sources os ls xs → ⊥) → ((c : Cause A) → FirstFault B sources os ls c → ⊥) → ⊥
+  lines_total : (ls : List LineValue) → AllByRecursion (IsLine (length os)) ls → ((xs : MergeLines) → Resolves B sources os ls xs → ⊥) → ((c : Cause A) → FirstFault B sources os ls c → ⊥) → ⊥
   lines_total [] is passes fails = passes [] refl
   lines_total (l ∷ ls) is passes fails = looks_at B sources os lawful l.origin is.0.origin (line_total l ls (λ p f. lines_total ls is.1 p f) passes fails)
 

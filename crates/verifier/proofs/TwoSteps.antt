@@ -191,7 +191,7 @@ plan_lawful = record {
       name = record { some = omega arith; short = omega arith; bytes = AllPass-from_list_all is_step_name_byte (codes "gen") refl };
       new = tt;
       frame = subst IsDigest gen_frame_named (IsDigest-digest_of (frame_bytes two.gen.0.frame));
-      lines = record { few = omega arith; each = tt; apart = tt };
+      lines = record { few = omega arith; each = tt };
     },
     (
       record {
@@ -207,11 +207,12 @@ plan_lawful = record {
             },
             tt,
           );
-          apart = (tt, tt);
         };
       },
       tt,
     ),
   );
-  root_lines = record { few = omega arith; each = (record { target = one_name (codes "result") result_name; origin = (omega arith, res_path) }, tt); apart = (tt, tt) };
+  root_lines = record { few = omega arith; each = (record { target = one_name (codes "result") result_name; origin = (omega arith, res_path) }, tt) };
+  apart = (λ one. tt, (λ one. (tt, tt), tt));
+  root_apart = λ one. (tt, tt);
 }

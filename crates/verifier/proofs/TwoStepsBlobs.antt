@@ -23,6 +23,7 @@ use Rattle.actions.proofs.TreeLookups.{behind, holds_mapped}
 use Rattle.tree.specs.Tree.{Name, Tree, empty, leaf, Leaf, file, Entry}
 use Rattle.tree.specs.Form.{form, top, IsBlobOf}
 use Rattle.tree.specs.Lookup.{IsValue}
+use Rattle.tree.specs.Merge.{merge}
 use Rattle.verifier.specs.Build.{ActionMeaning, Outcome, Event, start, finish, lose, State, opening, action_of, happens}
 use Rattle.verifier.specs.Headline.{IsDirectoryInTree, IsBlobOfMeaning, IsBlobOfAction, IsBlobOfEntry, IsBlobOfOutcome, IsBlobOfEvent, IsBlobOfEvents, IsBlobOfChosen, IsConcerned}
 use Rattle.verifier.specs.TwoSteps as two
@@ -360,6 +361,7 @@ abbrev e1 : List Event
 e1 = start 0 1 ∷ e2
 
 of_run : (b : List ℕ) → OfEvents opening two.events b → Contains all_blobs b
+unfolding merge
 of_run b =
     and_then b opening s1 (start 0 0) e1 refl (starts_gen b opening 0 refl)
     (and_then b s1 s2 (start 0 1) e2 refl (starts_gen b s1 1 refl)

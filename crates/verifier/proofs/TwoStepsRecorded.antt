@@ -1,5 +1,5 @@
 -- The build of two steps is as recorded.
-use Rattle.std.proofs.Common.{◌≡◌, ℕ, zero, suc, Bool, true, ltb, ◌&&◌, List, [], ◌∷◌, Some, refl, ap, sym, subst, arith, inl, inr, false, lit<}
+use Rattle.std.proofs.Common.{◌≡◌, ◌≢◌, ◌≤◌, length, ℕ, zero, suc, Bool, true, ltb, ◌&&◌, List, [], ◌∷◌, Some, refl, ap, sym, subst, arith, inl, inr, false, lit<}
 use Rattle.std.specs.List.{list_all}
 use Rattle.std.proofs.lemmas.Bool.{ltb-true}
 use Rattle.wire.specs.Bytes.{IsBytes, AreBytes}
@@ -29,7 +29,9 @@ use Rattle.tree.specs.Form.{form, root, top}
 use Rattle.blob_source.specs.Told.{IsTold}
 use Rattle.tree.proofs.TreeDigests.{IsDigest-digest_of}
 use Rattle.plan.specs.Values.{output}
-use Rattle.tree.specs.Graft.{graft}
+use Rattle.tree.specs.Graft.{graft, HaveApartTargets}
+use Rattle.tree.specs.Merging.{in_source, in_tree, NodeWithin, MergeLines, nodes_in, merged}
+use Rattle.tree.proofs.MergeApart.{graft_passes, all_named, are_apart}
 use Rattle.verifier.specs.AsRecorded.{IsAsRecorded, IsPlanAsRecorded}
 use Rattle.verifier.specs.TwoSteps as two
 use Rattle.verifier.proofs.TwoSteps.{gen_action_named, gen_command_lawful, gen_command_named, gen_frame_lawful, gen_frame_named, gen_tree_lawful, input_named, newline_named, out_path, res_path, sources_named, tree_named, use_action_named, use_command_lawful, use_command_named, use_frame_lawful, use_frame_named}
@@ -183,17 +185,46 @@ pub root_named : root (graft ((codes "result" ∷ [], nodes.File two.newline_dig
 unfolding two.newline_digest two.claim first_words schedule rounds compress hash_after digest_bytes sha256 digest_of groups varint directory_bytes encode_with decode_pairs
 root_named = refl
 
+-- a line alone is grafted
+alone : (target : List (List ℕ)) (x : NodeWithin) → target ≢ [] → length target ≤ 64 → (merged two.blobs ((target, x) ∷ [])).passes (graft (nodes_in ((target, x) ∷ [])))
+unfolding merged
+alone target x some few = let apart : HaveApartTargets ((target, x) ∷ []) = (some, tt, tt) in graft_passes two.blobs 64 [] ((target, x) ∷ []) (all_named ((target, x) ∷ []) apart) (are_apart ((target, x) ∷ []) apart) (few, tt)
+
+nothing_merges : (merged two.blobs []).passes empty
+unfolding merged
+nothing_merges = graft_passes two.blobs 64 [] [] (all_named [] tt) (are_apart [] tt) tt
+
+abbrev made_file : NodeWithin
+made_file = record { node = nodes.File (digest_of (codes "123456789")) false; within = in_tree two.gen_tree }
+
+abbrev data_lines : MergeLines
+data_lines = (codes "data" ∷ codes "x" ∷ [], made_file) ∷ []
+
+data_merges : (merged two.blobs data_lines).passes (graft (nodes_in data_lines))
+data_merges = alone (codes "data" ∷ codes "x" ∷ []) made_file (λ e. cc) (omega arith)
+
+abbrev result_file : NodeWithin
+result_file = record { node = nodes.File two.newline_digest false; within = in_source }
+
+abbrev result_lines : MergeLines
+result_lines = (codes "result" ∷ [], result_file) ∷ []
+
+result_merges : (merged two.blobs result_lines).passes (graft (nodes_in result_lines))
+result_merges = alone (codes "result" ∷ []) result_file (λ e. cc) (omega arith)
+
 gen_passes : IsAsRecorded two.blobs two.results two.sources [] (record { name = codes "gen"; frame = two.gen_frame_digest; lines = [] }) two.gen_action_digest gen_outcome
 gen_passes = record {
   action = with_input two.gen.0.frame two.sources;
   command = two.gen.0.command;
   nodes = [];
+  tree = empty;
   result = two.gen_result;
   action_told = gen_action_told;
   may_be_cached = refl;
   frame = gen_frame_named;
   command_told = gen_command_told;
   resolved = refl;
+  put_together = nothing_merges;
   input = sources_named;
   held = gen_result_held;
   exit_code = refl;
@@ -205,19 +236,24 @@ use_passes : IsAsRecorded two.blobs two.results two.sources (gen_outcome ∷ [])
 use_passes = record {
   action = with_input two.uses.0.frame two.input_digest;
   command = two.uses.0.command;
-  nodes = (codes "data" ∷ codes "x" ∷ [], nodes.File (digest_of (codes "123456789")) false) ∷ [];
+  nodes = data_lines;
+  tree = graft (nodes_in data_lines);
   result = two.use_result;
   action_told = use_action_told;
   may_be_cached = refl;
   frame = use_frame_named;
   command_told = use_command_told;
   resolved = (
-    nodes.File (digest_of (codes "123456789")) false,
-    (gen_outcome, refl, inl ((codes "out" ∷ [], outputs.Tree two.gen_tree), (0, omega arith, refl), codes "a" ∷ [], refl, refl)),
+    made_file,
+    record {
+      node = (gen_outcome, refl, inl ((codes "out" ∷ [], outputs.Tree two.gen_tree), (0, omega arith, refl), codes "a" ∷ [], refl, refl));
+      within = (gen_outcome, refl, ((codes "out" ∷ [], outputs.Tree two.gen_tree), (0, omega arith, refl), (codes "a" ∷ [], refl), refl));
+    },
     [],
     refl,
     refl,
   );
+  put_together = data_merges;
   input = input_named;
   held = use_result_held;
   exit_code = refl;
@@ -230,14 +266,19 @@ as_recorded = record {
   outcomes = gen_outcome ∷ use_outcome ∷ [];
   steps = (gen_outcome, gen_passes, (use_outcome, use_passes, refl));
   root = record {
-    nodes = (codes "result" ∷ [], nodes.File two.newline_digest false) ∷ [];
+    nodes = result_lines;
+    tree = graft (nodes_in result_lines);
     resolved = (
-      nodes.File two.newline_digest false,
-      (use_outcome, refl, inl ((codes "res" ∷ [], outputs.File two.newline_digest false), (0, omega arith, refl), [], refl, refl)),
+      result_file,
+      record {
+        node = (use_outcome, refl, inl ((codes "res" ∷ [], outputs.File two.newline_digest false), (0, omega arith, refl), [], refl, refl));
+        within = (use_outcome, refl, ((codes "res" ∷ [], outputs.File two.newline_digest false), (0, omega arith, refl), ([], refl), refl));
+      },
       [],
       refl,
       refl,
     );
+    put_together = result_merges;
     same = root_named;
   };
 }

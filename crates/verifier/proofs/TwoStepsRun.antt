@@ -10,6 +10,7 @@ use Rattle.action_messages.specs.OutputFile.{OutputFileValue}
 use Rattle.action_messages.specs.OutputDirectory.{OutputDirectoryValue}
 use Rattle.actions.proofs.TreeBytes.{tree_bytes_injective}
 use Rattle.tree.specs.Tree.{Name, empty}
+use Rattle.tree.specs.Merge.{merge}
 use Rattle.tree.specs.Form.{NodeValue}
 use Rattle.blob_source.specs.Told.{IsTold}
 use Rattle.verifier.specs.Build.{ActionMeaning, action_digest, Outcome, finish, State, opening, job_of, Obeys, IsRun, HasFinishedAll}
@@ -57,6 +58,7 @@ uses_inside : Contains two.table two.uses
 uses_inside = (1, omega arith, refl)
 
 pub is_run : IsRun two.table two.plan two.meaning empty opening two.events two.end
+unfolding merge
 is_run = (
   tt,
   s1,

@@ -6,10 +6,11 @@ use Rattle.plan.specs.Values.{StepValue, PlanValue}
 use Rattle.blob_source.specs.Source.{Telling}
 use Rattle.verifier.specs.declared.verdict.Verdict.{Verdict}
 use Rattle.verifier.specs.declared.verdict.Verdict.TheVariants.{Yes, No}
-use Rattle.verifier.specs.Stage.{◌and_then◌}
+use Rattle.tree.specs.Stage.{◌and_then◌}
+use Rattle.tree.proofs.StageLaws.{IsOnce, once_then, once_comes_to}
 use Rattle.verifier.specs.StepChecks.{step_check}
 use Rattle.verifier.specs.Verdict.{steps_check, plan_check, IsVerdict}
-use Rattle.verifier.proofs.StageLaws.{IsOnce, once_then, once_comes_to, once_located}
+use Rattle.verifier.proofs.StageLaws.{once_located}
 use Rattle.verifier.proofs.StepLaws.{once_step, once_root, recorded_from}
 use Rattle.verifier.proofs.VerdictOnceLines.{AreLawful}
 

@@ -4,17 +4,17 @@ use Rattle.std.specs.Prelude.{Option, Some, slice_get}
 use Rattle.std.specs.List.{AllByRecursion}
 use Rattle.blob_digest.specs.Digest.{DigestValue}
 use Rattle.actions.specs.Outcome.{OutcomeValue, IsOutcome}
-use Rattle.actions.specs.OutcomeLookup.{LooksIn}
-use Rattle.actions.proofs.Once.{looked_once}
+use Rattle.actions.specs.OutcomeLookup.{LooksIn, LiesWithin}
+use Rattle.actions.proofs.Once.{looked_once, within_once}
 use Rattle.plan.specs.Values.{OriginValue, source, output, LineValue}
-use Rattle.tree.specs.Tree.{Name}
 use Rattle.tree.specs.Form.{NodeValue}
+use Rattle.tree.specs.Merging.{WithinValue, NodeWithin, MergeLines}
 use Rattle.blob_source.specs.Source.{Blobs}
 use Rattle.blob_source.specs.Told.{missing, wrong, malformed}
 use Rattle.tree.specs.Lookup.{Looked, fault, nothing, found}
 use Rattle.tree.proofs.LookupOnce.{looks_once}
 use Rattle.verifier.specs.declared.verdict.Cause.{Cause}
-use Rattle.verifier.specs.Accepted.{LooksUpOrigin, Resolves}
+use Rattle.verifier.specs.Accepted.{LooksUpOrigin, OriginWithin, StandsAtOrigin, Resolves}
 use Rattle.verifier.specs.Faults.{IsCauseOfLook, LineFault, FirstFault}
 
 abbrev pub AreLawful : List OutcomeValue → Type 0
@@ -41,10 +41,21 @@ module _ (B : Blobs) (d : DigestValue) (os : List OutcomeValue) (lawful : AreLaw
   looks_at_once (output step p) r s h k =
       looked_once h.0 p r s (lawful_there os step h.0 lawful h.1) h.2 (subst (λ o. LooksIn o p s) (one_there os step k.0 h.0 k.1 h.1) k.2)
 
-  pub resolves_once : (ls : List LineValue) (xs ys : List (List Name × NodeValue)) → Resolves B d os ls xs → Resolves B d os ls ys → xs ≡ ys
+  within_at_once : (o : OriginValue) (v w : WithinValue) → OriginWithin os o v → OriginWithin os o w → v ≡ w
+  within_at_once (source p) v w h k = h ∙ sym k
+  within_at_once (output step p) v w h k =
+      within_once h.0 p v w (lawful_there os step h.0 lawful h.1) h.2 (subst (λ o. LiesWithin o p w) (one_there os step k.0 h.0 k.1 h.1) k.2)
+
+  stands_once : (o : OriginValue) (x y : NodeWithin) → StandsAtOrigin B d os o x → StandsAtOrigin B d os o y → x ≡ y
+  stands_once o x y h k =
+      let node = found_is x.node y.node (looks_at_once o (found x.node) (found y.node) h.node k.node) in
+      let within = within_at_once o x.within y.within h.within k.within in
+      λ i. record { node = node i; within = within i }
+
+  pub resolves_once : (ls : List LineValue) (xs ys : MergeLines) → Resolves B d os ls xs → Resolves B d os ls ys → xs ≡ ys
   resolves_once [] xs ys h k = h ∙ sym k
   resolves_once (l ∷ ls) xs ys h k =
-      let nodes = found_is h.0 k.0 (looks_at_once l.origin (found h.0) (found k.0) h.1 k.1) in
+      let nodes = stands_once l.origin h.0 k.0 h.1 k.1 in
       let rest = resolves_once ls h.2 k.2 h.3 k.3 in
       h.4 ∙ (λ i. (l.target, nodes i) ∷ rest i) ∙ sym k.4
 
@@ -71,7 +82,7 @@ module _ (B : Blobs) (d : DigestValue) (os : List OutcomeValue) (lawful : AreLaw
     first_once (l ∷ ls) c e (inr h) (inr k) = first_once ls c e h.2 k.2
 
     -- lines that have their origins have no fault
-    pub first_resolves : (ls : List LineValue) (c : Cause A) (xs : List (List Name × NodeValue)) → FirstFault B d os ls c → Resolves B d os ls xs → ⊥
+    pub first_resolves : (ls : List LineValue) (c : Cause A) (xs : MergeLines) → FirstFault B d os ls c → Resolves B d os ls xs → ⊥
     first_resolves [] c xs h k = h
-    first_resolves (l ∷ ls) c xs (inl h) k = line_found l c k.0 h k.1
+    first_resolves (l ∷ ls) c xs (inl h) k = line_found l c k.0.node h k.1.node
     first_resolves (l ∷ ls) c xs (inr h) k = first_resolves ls c k.2 h.2 k.3

@@ -24,22 +24,28 @@ use Rattle.plan.specs.Plan.{AreSteps, IsPlan}
 use Rattle.tree.specs.Tree.{Name}
 use Rattle.tree.specs.Folded.{IsNode, first_visits}
 use Rattle.tree.specs.Form.{NodeValue, root}
-use Rattle.tree.specs.Graft.{graft}
-use Rattle.tree.specs.Lines as lines
+use Rattle.tree.specs.Merging.{MergeLines, AreHeld, merged}
+use Rattle.tree.specs.MergeParts.{AreLawfulLines}
+use Rattle.tree.specs.Stage.{◌and_then◌}
+use Rattle.tree.specs.Tree as trees
 use Rattle.tree.specs.Lookup.{found}
 use Rattle.blob_source.specs.Source.{Blobs, Telling}
 use Rattle.blob_source.specs.Told.{TellsDirectory, FailsDirectory}
 use Rattle.tree.proofs.FirstDifferences.{finds_first_total}
-use Rattle.tree.proofs.LawfulTrees.{lawful_visits}
+use Rattle.tree.proofs.LawfulTrees.{visits_lawful}
+use Rattle.tree.proofs.MergeHeld.{total_merged_in}
+use Rattle.tree.proofs.MergeLawful.{merged_lawful}
+use Rattle.tree.proofs.StageLaws.{IsTotal, total_then, total_demands, total_comes_to}
 use Rattle.tree.proofs.Totals.{looks_lawful, child_lawful}
 use Rattle.tree.proofs.TreeDigests.{IsDigest-digest_of}
 use Rattle.verifier.specs.declared.verdict.Verdict.{Verdict}
 use Rattle.verifier.specs.declared.verdict.Verdict.TheVariants.{Yes, No}
 use Rattle.verifier.specs.Accepted.{LooksUpOrigin, Resolves}
-use Rattle.verifier.specs.Stage.{◌and_then◌}
-use Rattle.verifier.specs.StepChecks.{difference_cause, grafted, step_check}
+use Rattle.verifier.specs.Faults.{cause_of_merge}
+use Rattle.verifier.specs.StepChecks.{difference_cause, put_together, grafted, step_check}
 use Rattle.verifier.specs.Verdict.{root_check, steps_check, plan_check, IsVerdict}
-use Rattle.verifier.proofs.StageTotals.{IsTotal, total_then, total_demands, total_comes_to, total_located}
+use Rattle.verifier.proofs.HeldOrigins.{IsLawfulTree, AreWithTrees, resolves_held}
+use Rattle.verifier.proofs.StageLaws.{total_located}
 use Rattle.verifier.proofs.StepLaws.{recorded_from}
 use Rattle.verifier.proofs.Totals.{IsLawfulOutput, AreLawfulOutputs, total_message, total_resolved, total_held, total_read}
 
@@ -64,13 +70,24 @@ below_lawful (Link l) h [] y e = subst IsNode (sym (found_is e)) h
 below_lawful (Link l) h (n ∷ names) y e = absurd cc
 
 in_lawful : (o : OutcomeValue) → AreLawfulOutputs o → (path : List Name) (y : NodeValue) → LooksIn o path (found y) → IsNode y
-in_lawful o h path y (inl k) = below_lawful k.0.1 (all_at (λ (e : List Name × OutputValue). IsLawfulOutput e.1) o.outputs k.0 h k.1) k.2 y k.4
+in_lawful o h path y (inl k) = below_lawful k.0.1 (all_at (λ (e : List Name × OutputValue). IsLawfulOutput e.1) o.outputs k.0 h.1 k.1) k.2 y k.4
 in_lawful o h path y (inr k) = absurd (let e = k.1 in cc)
 
 lawful_at : (os : List OutcomeValue) (i : ℕ) (o : OutcomeValue) → AllByRecursion AreLawfulOutputs os → slice_get os i ≡ Some o → AreLawfulOutputs o
 lawful_at [] i o h e = absurd cc
 lawful_at (x ∷ os) zero o h e = let same : x ≡ o = cc in subst AreLawfulOutputs same h.0
 lawful_at (x ∷ os) (suc i) o h e = lawful_at os i o h.1 e
+
+lawful_tree : (v : OutputValue) → IsLawfulOutput v → IsLawfulTree v
+lawful_tree (Tree t) h = h
+lawful_tree (File d b) h = tt
+lawful_tree (Link l) h = tt
+
+with_trees : (os : List OutcomeValue) → AllByRecursion AreLawfulOutputs os → AreWithTrees os
+with_trees os h = record {
+  lawful = λ i o at. (lawful_at os i o h at).0;
+  trees = λ i o at e here. lawful_tree e.1 (all_at (λ (x : List Name × OutputValue). IsLawfulOutput x.1) o.outputs e (lawful_at os i o h at).1 here);
+}
 
 module _ (B : Blobs) (sources : DigestValue) (is : IsDigest sources) (os : List OutcomeValue) (lawful : AllByRecursion AreLawfulOutputs os) where
   at_lawful : (o : OriginValue) (y : NodeValue) → LooksUpOrigin B sources os o (found y) → IsNode y
@@ -80,10 +97,10 @@ module _ (B : Blobs) (sources : DigestValue) (is : IsDigest sources) (os : List 
       some_is e = cc
   at_lawful (output i p) y h = in_lawful h.0 (lawful_at os i h.0 lawful h.1) p y h.2
 
-  -- the lines that a graft is made of
-  lawful_lines : (ls : List LineValue) (xs : List (List Name × NodeValue)) → AllByRecursion (IsLine (length os)) ls → Resolves B sources os ls xs → AllByRecursion lines.IsGraftLine xs
-  lawful_lines [] xs all h = subst (AllByRecursion lines.IsGraftLine) (sym h) tt
-  lawful_lines (l ∷ ls) xs all h = subst (AllByRecursion lines.IsGraftLine) (sym h.4) ((all.0.target.each, at_lawful l.origin h.0 h.1), lawful_lines ls h.2 all.1 h.3)
+  -- the lines that are merged
+  lawful_lines : (ls : List LineValue) (xs : MergeLines) → AllByRecursion (IsLine (length os)) ls → Resolves B sources os ls xs → AreLawfulLines xs
+  lawful_lines [] xs all h = subst AreLawfulLines (sym h) tt
+  lawful_lines (l ∷ ls) xs all h = subst AreLawfulLines (sym h.4) ((all.0.target.each, at_lawful l.origin h.0.node h.1.node), lawful_lines ls h.2 all.1 h.3)
 
 -- ---- outcomes that a step passes with keep their rules
 
@@ -97,7 +114,7 @@ stand_lawful B (link x ∷ xs) (e ∷ es) f l h = (subst IsLawfulOutput (sym h.1
 
 recorded_lawful : (B : Blobs) (r : ActionResultValue) (o : OutcomeValue) → IsActionResult r → IsRecorded B r o → AreLawfulOutputs o
 recorded_lawful B r o lawful h =
-    stand_lawful B h.recorded o.outputs (subst (AllByRecursion IsOutputFile) (sym h.ordered.files) lawful.files) (subst (AllByRecursion IsOutputSymlink) (sym h.ordered.symlinks) lawful.symlinks) h.outputs
+    (h.lawful, stand_lawful B h.recorded o.outputs (subst (AllByRecursion IsOutputFile) (sym h.ordered.files) lawful.files) (subst (AllByRecursion IsOutputSymlink) (sym h.ordered.symlinks) lawful.symlinks) h.outputs)
 
 module _ (A : Type 0) (t : Telling) (sources : DigestValue) (is : IsDigest sources) where
   passed_lawful : (os : List OutcomeValue) (s : StepValue) (d : DigestValue) (o : OutcomeValue) → (step_check {A = A} t sources os s d).passes o → AreLawfulOutputs o
@@ -107,11 +124,17 @@ module _ (A : Type 0) (t : Telling) (sources : DigestValue) (is : IsDigest sourc
 
   -- ---- the checks
 
-  total_grafted : (a : ActionValue) (xs : List (List Name × NodeValue)) → AllByRecursion lines.IsGraftLine xs → IsTotal (grafted {A = A} t.blobs a xs)
-  total_grafted a xs lawful = record {
+  total_put_together : (xs : MergeLines) → AreHeld xs → IsTotal (put_together {A = A} t.blobs xs)
+  unfolding merged
+  total_put_together xs held = record { ends = λ passes fails. (total_merged_in t.blobs 64 [] xs held).ends passes (λ why h. fails (cause_of_merge why) (why, h, refl)) }
+
+  total_grafted : (a : ActionValue) (xs : MergeLines) (made : trees.Tree NodeValue) → AreLawfulLines xs → AreHeld xs → (put_together {A = A} t.blobs xs).passes made → IsTotal (grafted {A = A} t.blobs a made)
+  unfolding merged
+  total_grafted a xs made lawful held merges = record {
     ends = λ passes fails.
-        let other : root (graft xs) ≢ a.input = λ e. passes tt e in
-        finds_first_total (first_visits (graft xs)) t.blobs (lawful_visits xs lawful) (root (graft xs)) a.input other (λ x h. fails (difference_cause x) (other, x, h, refl));
+        let rules = merged_lawful t.blobs 64 [] xs lawful held made merges in
+        let other : root made ≢ a.input = λ e. passes tt e in
+        finds_first_total (first_visits made) t.blobs (visits_lawful made rules.1 rules.0) (root made) a.input other (λ x h. fails (difference_cause x) (other, x, h, refl));
   }
 
   total_step : (os : List OutcomeValue) (s : StepValue) (d : DigestValue) → AllByRecursion AreLawfulOutputs os → AllByRecursion (IsLine (length os)) s.lines → IsTotal (step_check {A = A} t sources os s d)
@@ -121,13 +144,15 @@ module _ (A : Type 0) (t : Telling) (sources : DigestValue) (is : IsDigest sourc
       total_then _ _ (total_message IsCommand command_bytes t.blobs a.frame.command) (λ m _.
       total_then _ _ (total_demands _ _) (λ _ _.
       total_then _ _ (total_resolved t.blobs sources os lawful s.lines all) (λ xs h.
-      total_then _ _ (total_grafted a xs (lawful_lines t.blobs sources is os lawful s.lines xs all h)) (λ _ _.
+      let held = resolves_held t.blobs sources os (with_trees os lawful) s.lines xs h in
+      total_then _ _ (total_put_together xs held) (λ made merges.
+      total_then _ _ (total_grafted a xs made (lawful_lines t.blobs sources is os lawful s.lines xs all h) held merges) (λ _ _.
       total_then _ _ (total_held t.results d) (λ r kept.
       total_then _ _ (total_demands _ _) (λ _ _.
-      total_read t.blobs m r kept.2.2.lawful))))))))
+      total_read t.blobs m r kept.2.2.lawful)))))))))
 
   total_root : (os : List OutcomeValue) (ls : List LineValue) (claim : DigestValue) → AllByRecursion AreLawfulOutputs os → AllByRecursion (IsLine (length os)) ls → IsTotal (root_check {A = A} t sources os ls claim)
-  total_root os ls claim lawful all = total_then _ _ (total_resolved t.blobs sources os lawful ls all) (λ xs h. total_demands _ _)
+  total_root os ls claim lawful all = total_then _ _ (total_resolved t.blobs sources os lawful ls all) (λ xs h. total_then _ _ (total_put_together xs (resolves_held t.blobs sources os (with_trees os lawful) ls xs h)) (λ made _. total_demands _ _))
 
   one_more : (os : List OutcomeValue) (o : OutcomeValue) → AllByRecursion AreLawfulOutputs os → AreLawfulOutputs o → AllByRecursion AreLawfulOutputs (os ++ o ∷ [])
   one_more [] o h k = (k, tt)

@@ -13,20 +13,21 @@ use Rattle.verifier.specs.declared.fault.Fault.{Fault}
 use Rattle.verifier.specs.declared.fault.Fault.TheVariants as faults
 use Rattle.verifier.specs.declared.verdict.Cause.{Cause}
 use Rattle.verifier.specs.declared.verdict.Cause.TheVariants.{BlobMissing, BlobWrong, BlobMalformed}
-use Rattle.verifier.specs.declared.verdict.Cause.TheVariants.{OriginMissing}
+use Rattle.verifier.specs.declared.verdict.Cause.TheVariants.{OriginMissing, InputConflict}
 use Rattle.verifier.specs.declared.verdict.Place.TheVariants.{Step}
 use Rattle.verifier.specs.declared.verifying.Checked.{Checked}
 use Rattle.verifier.specs.declared.verifying.Checked.TheVariants.{Outcomes, First}
 use Rattle.verifier.specs.StepChecks.{difference_cause}
 use Rattle.verifier.specs.Verdict.{steps_check}
 
--- a look-up has gone as deep as it may
+-- An unfolding has gone as deep as it may. No check unfolds.
 abbrev pub IsTooDeep : {A : Type 0} → TreeError A → Type 0
 IsTooDeep (tree.Absent path) = ⊥
 IsTooDeep (tree.BlobMissing d) = ⊥
 IsTooDeep (tree.BlobWrong d) = ⊥
 IsTooDeep (tree.BlobMalformed d) = ⊥
 IsTooDeep (tree.TooDeep path) = Unit {0}
+IsTooDeep (tree.Conflict path) = ⊥
 IsTooDeep tree.Fetch = ⊥
 IsTooDeep tree.Memory = ⊥
 
@@ -37,6 +38,7 @@ IsFaultOf (tree.BlobMissing d) f = f ≡ faults.Cause (BlobMissing d)
 IsFaultOf (tree.BlobWrong d) f = f ≡ faults.Cause (BlobWrong d)
 IsFaultOf (tree.BlobMalformed d) f = f ≡ faults.Cause (BlobMalformed d)
 IsFaultOf (tree.TooDeep path) f = ⊥
+IsFaultOf (tree.Conflict path) f = f ≡ faults.Cause (InputConflict path)
 IsFaultOf tree.Fetch f = f ≡ faults.Fetch
 IsFaultOf tree.Memory f = f ≡ faults.Memory
 

@@ -9,9 +9,9 @@ use Rattle.action_messages.specs.Frame.{frame_bytes}
 use Rattle.actions.specs.Outcome.{OutcomeValue}
 use Rattle.actions.specs.Recorded.{IsRecorded}
 use Rattle.plan.specs.Values.{StepValue, PlanValue}
-use Rattle.tree.specs.Tree.{Name}
+use Rattle.tree.specs.Tree.{Tree}
 use Rattle.tree.specs.Form.{NodeValue, root}
-use Rattle.tree.specs.Graft.{graft}
+use Rattle.tree.specs.Merging.{MergeLines, merged}
 use Rattle.blob_source.specs.Source.{Blobs}
 use Rattle.blob_source.specs.Told.{IsTold}
 use Rattle.verifier.specs.Accepted.{Resolves, IsAccepted}
@@ -23,7 +23,8 @@ pub record IsAsRecorded (B C : Blobs) (sources : DigestValue) (before : List Out
     (step : StepValue) (d : DigestValue) (o : OutcomeValue) : Type 0 where
   pub action : ActionValue
   pub command : CommandValue
-  pub nodes : List (List Name × NodeValue)
+  pub nodes : MergeLines
+  pub tree : Tree NodeValue
   pub result : ActionResultValue
   -- the Action that is told under the digest may be cached, and its frame is the plan's
   pub action_told : IsTold IsAction action_bytes B d action
@@ -31,9 +32,10 @@ pub record IsAsRecorded (B C : Blobs) (sources : DigestValue) (before : List Out
   pub frame : digest_of (frame_bytes action.frame) ≡ step.frame
   -- its Command is told
   pub command_told : IsTold IsCommand command_bytes B action.frame.command command
-  -- its input is the graft of the step's lines
+  -- its input is what the step's lines put together
   pub resolved : Resolves B sources before step.lines nodes
-  pub input : root (graft nodes) ≡ action.input
+  pub put_together : (merged B nodes).passes tree
+  pub input : root tree ≡ action.input
   -- its result is held, with exit code 0, and stands for the outcome
   pub held : HoldsResult C d result
   pub exit_code : result.exit_code ≡ pos 0

@@ -1,6 +1,6 @@
 -- What a build is: the meaning of a plan's steps, their actions and outcomes, and runs of the plan.
-use Rattle.std.specs.Prelude.{◌≡◌, ◌==◌, ℕ, ℤ, bytes_eq, if◌then◌else◌, List, [], ◌∷◌, Option, Some}
-use Rattle.std.specs.Prelude.{None, option_map, option_and_then, slice_get, Contains}
+use Rattle.std.specs.Prelude.{◌≡◌, ◌⊎◌, ◌==◌, ℕ, ℤ, bytes_eq, if◌then◌else◌, List, [], ◌∷◌, Option}
+use Rattle.std.specs.Prelude.{Some, None, option_map, option_and_then, slice_get, Contains}
 use Rattle.std.specs.List.{AllByRecursion}
 use Rattle.std.specs.Map.{lookup, remove_entry}
 use Rattle.blob_digest.specs.Digest.{DigestValue, digest_of}
@@ -11,7 +11,8 @@ use Rattle.plan.specs.Values.{OriginValue, source, output, LineValue, StepValue,
 use Rattle.tree.specs.Tree.{Name, Tree, Leaf, Entry, tree_at, below_entry, IsOrdered}
 use Rattle.tree.specs.Tree.{IsOrderedEntry}
 use Rattle.tree.specs.Form.{form, root}
-use Rattle.tree.specs.Graft.{graft, expand, HaveApartTargets}
+use Rattle.tree.specs.Graft.{HaveApartTargets}
+use Rattle.tree.specs.Merge.{merge}
 
 -- ---- actions and outcomes
 
@@ -77,6 +78,11 @@ pub record MeaningFits (plan : PlanValue) (meaning : Meaning) : Type 0 where
       → (frame : FrameValue) × (command : CommandValue) × (slice_get meaning.frames i ≡ Some frame)
       × (slice_get meaning.commands i ≡ Some command) × StepFits step.frame frame command
 
+-- the lines of the root, or of a step
+abbrev pub AreLinesOf : PlanValue → List LineValue → Type 0
+AreLinesOf plan lines = (lines ≡ plan.root_lines) ⊎ ((i : ℕ) × (step : StepValue)
+    × (slice_get plan.steps i ≡ Some step) × (lines ≡ step.lines))
+
 -- ---- runs
 
 -- A step is started as a job, a job finishes with its outcome, or a job is lost.
@@ -112,11 +118,11 @@ origins t s (l ∷ ls) =
     option_and_then (λ e. option_map (λ es. (l.target, e) ∷ es) (origins t s ls))
     (origin_at t s l.origin)
 
--- the graft of lines, if each origin is there
+-- the tree that lines put together, if each origin is there and they merge
 abbrev pub graft_of : Tree Leaf → State → List LineValue → Option (Tree Leaf)
-graft_of t s ls = option_map (λ es. expand (graft es)) (origins t s ls)
+graft_of t s ls = option_and_then merge (origins t s ls)
 
--- the action of a step with this number: its frame, its command and the graft of its lines
+-- the action of a step with this number: its frame, its command and what its lines put together
 abbrev pub step_action : Meaning → Tree Leaf → State → ℕ → StepValue → Option ActionMeaning
 step_action meaning t s i step =
     option_and_then (λ frame. option_and_then (λ command.
@@ -142,8 +148,8 @@ abbrev pub lost : State → ℕ → Option (ℕ × ActionMeaning) → Option Sta
 lost s w None = None
 lost s w (Some job) = Some (record s { jobs = remove_entry (λ k. k == w) s.jobs })
 
--- The state after an event, if the event can happen: a start's number isn't in use, and each origin
--- is there.
+-- The state after an event, if the event can happen: a start's number isn't in use, each origin is
+-- there, and what stands there merges.
 abbrev pub happens : PlanValue → Meaning → Tree Leaf → State → Event → Option State
 happens plan meaning t s (start i w) = started s i w (job_of w s) (action_of plan meaning t s i)
 happens plan meaning t s (finish w o) = finished s w o (job_of w s)

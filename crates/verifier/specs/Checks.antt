@@ -6,7 +6,8 @@ use Rattle.tree.specs.Memo.{Asked, Known, WasRefused, Learns}
 use Rattle.verifier.specs.declared.fault.Fault.{Fault}
 use Rattle.verifier.specs.declared.fault.Fault.TheVariants as faults
 use Rattle.verifier.specs.declared.verdict.Cause.{Cause}
-use Rattle.verifier.specs.Stage.{Stage, Answers}
+use Rattle.tree.specs.Stage.{Stage}
+use Rattle.verifier.specs.Stage.{Answers}
 
 -- It answers by all that is told in the end, and asks for what isn't known of what it looks at.
 pub record Checks {A V : Type 0} (check : Telling → Stage (Cause A) V)

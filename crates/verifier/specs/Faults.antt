@@ -1,4 +1,4 @@
--- Faults: why something isn't told, and why a line has no origin.
+-- Faults: why something isn't told, why a line has no origin, and why lines don't merge.
 use Rattle.std.specs.Prelude.{◌≡◌, ◌⊎◌, List, [], ◌∷◌}
 use Rattle.blob_digest.specs.Digest.{DigestValue}
 use Rattle.actions.specs.Outcome.{OutcomeValue}
@@ -8,9 +8,10 @@ use Rattle.tree.specs.Form.{NodeValue}
 use Rattle.blob_source.specs.Source.{Blobs}
 use Rattle.blob_source.specs.Told.{Fault, missing, wrong, malformed}
 use Rattle.tree.specs.Lookup.{Looked, fault, nothing, found}
+use Rattle.tree.specs.Merging.{MergeFault, conflict, unreadable}
 use Rattle.verifier.specs.declared.verdict.Cause.{Cause}
 use Rattle.verifier.specs.declared.verdict.Cause.TheVariants.{BlobMissing, BlobWrong, BlobMalformed}
-use Rattle.verifier.specs.declared.verdict.Cause.TheVariants.{OriginMissing}
+use Rattle.verifier.specs.declared.verdict.Cause.TheVariants.{OriginMissing, InputConflict}
 use Rattle.verifier.specs.Accepted.{LooksUpOrigin}
 
 -- the cause that a message isn't told
@@ -18,6 +19,11 @@ abbrev pub cause_of : {A : Type 0} → Fault → Cause A
 cause_of (missing d) = BlobMissing d
 cause_of (wrong d) = BlobWrong d
 cause_of (malformed d) = BlobMalformed d
+
+-- the cause that lines don't merge
+abbrev pub cause_of_merge : {A : Type 0} → MergeFault → Cause A
+cause_of_merge (conflict path) = InputConflict path
+cause_of_merge (unreadable f) = cause_of f
 
 -- the path of an origin
 abbrev pub origin_path : OriginValue → List Name

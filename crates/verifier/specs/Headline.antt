@@ -123,7 +123,7 @@ HasFinished s (output j p) = (o : Outcome) × (outcome_of j s ≡ Some o)
 pub record IsNotStuck (X : List (ActionMeaning × Outcome)) (plan : PlanValue) (meaning : Meaning)
     (t : Tree Leaf) (s : State) : Type 0 where
   -- a step may start, as a job of any number that isn't in use, where the steps that its lines read
-  -- have finished: each origin is there
+  -- have finished: each origin is there, and what stands there merges
   pub starts : (i w : ℕ) (step : StepValue) → slice_get plan.steps i ≡ Some step
       → AllByRecursion (λ l. HasFinished s l.origin) step.lines → job_of w s ≡ None
       → (next : State) × (happens plan meaning t s (start i w) ≡ Some next)

@@ -10,24 +10,18 @@ use Rattle.actions.specs.Outcome.{OutcomeValue, OutputValue}
 use Rattle.actions.specs.LooksAt.{OutputLooksAt}
 use Rattle.actions.specs.Recorded.{StandsFor}
 use Rattle.plan.specs.Values.{OriginValue, source, output, LineValue, StepValue, PlanValue}
-use Rattle.tree.specs.Tree.{Name}
+use Rattle.tree.specs.Tree.{Tree}
 use Rattle.tree.specs.Form.{NodeValue, root}
 use Rattle.tree.specs.Folded.{first_visits}
-use Rattle.tree.specs.Graft.{graft}
+use Rattle.tree.specs.MergeLooks.{looks, MergeLooksAt}
 use Rattle.tree.specs.Lookup.{found}
 use Rattle.tree.specs.LooksAt.{OnWay, Compares}
 use Rattle.tree.specs.Memo.{Asked, LooksAtBlob, LooksAtResult}
 use Rattle.blob_source.specs.Source.{Blobs, Telling}
 use Rattle.verifier.specs.Accepted.{LooksUpOrigin}
-use Rattle.verifier.specs.Stage.{Stage}
-use Rattle.verifier.specs.StepChecks.{message, cached, framed, resolved, grafted, held, succeeded}
-use Rattle.verifier.specs.StepChecks.{step_check}
+use Rattle.verifier.specs.StepChecks.{message, cached, framed, resolved, put_together, grafted, held}
+use Rattle.verifier.specs.StepChecks.{succeeded, step_check}
 use Rattle.verifier.specs.Verdict.{steps_check}
-
--- A check looks at some things, and where it passes those after it look at theirs.
-unfoldable pub looks : {E V : Type 0} → Stage E V → (Asked → Type 0) → (V → Asked → Type 0) → Asked
-    → Type 0
-looks {E} {V} check Here next a = Here a ⊎ ((v : V) × check.passes v × next v a)
 
 -- a check of what is known already
 abbrev pub LooksAtNothing : Asked → Type 0
@@ -48,11 +42,10 @@ LinesLookAt B sources outcomes (l ∷ ls) a =
     ⊎ ((x : NodeValue) × LooksUpOrigin B sources outcomes l.origin (found x)
     × LinesLookAt B sources outcomes ls a)
 
--- the comparison with the recorded input, where the graft of the lines isn't that
-abbrev pub InputLooksAt : Blobs → ActionValue → List (List Name × NodeValue) → Asked → Type 0
-InputLooksAt B action nodes a =
-    (root (graft nodes) ≢ action.input)
-    × Compares (first_visits (graft nodes)) B 64 (root (graft nodes)) action.input a
+-- the comparison with the recorded input, where the tree isn't that
+abbrev pub InputLooksAt : Blobs → ActionValue → Tree NodeValue → Asked → Type 0
+InputLooksAt B action t a =
+    (root t ≢ action.input) × Compares (first_visits t) B 64 (root t) action.input a
 
 -- one output after another, as far as the command lists each and it is told
 abbrev pub OutputsLookAt : Blobs → CommandValue → List RecordedValue → Asked → Type 0
@@ -79,7 +72,8 @@ StepLooksAt A tells sources outcomes step d =
     looks (framed {A = A} action step.frame) LooksAtNothing λ _.
     looks (resolved {A = A} tells.blobs sources outcomes step.lines)
     (LinesLookAt tells.blobs sources outcomes step.lines) λ nodes.
-    looks (grafted {A = A} tells.blobs action nodes) (InputLooksAt tells.blobs action nodes) λ _.
+    looks (put_together {A = A} tells.blobs nodes) (MergeLooksAt tells.blobs nodes) λ t.
+    looks (grafted {A = A} tells.blobs action t) (InputLooksAt tells.blobs action t) λ _.
     looks (held {A = A} tells.results d) (LooksAtResult d) λ result.
     looks (succeeded {A = A} result) LooksAtNothing λ _.
     ResultLooksAt tells.blobs command result
@@ -99,7 +93,9 @@ abbrev pub RootLooksAt : (A : Type 0) → Telling → DigestValue → List Outco
     → Asked → Type 0
 RootLooksAt A tells sources outcomes lines =
     looks (resolved {A = A} tells.blobs sources outcomes lines)
-    (LinesLookAt tells.blobs sources outcomes lines) λ _. LooksAtNothing
+    (LinesLookAt tells.blobs sources outcomes lines) λ nodes.
+    looks (put_together {A = A} tells.blobs nodes) (MergeLooksAt tells.blobs nodes) λ _.
+    LooksAtNothing
 
 -- the checks of a plan: of its steps, and of its root
 abbrev pub PlanLooksAt : (A : Type 0) → Telling → DigestValue → PlanValue → List DigestValue

@@ -12,10 +12,11 @@ use Rattle.action_messages.specs.Reads.{Reads}
 use Rattle.action_messages.specs.Outputs.{RecordedValue, recorded_path, AreOutputs}
 use Rattle.actions.specs.Recorded.{StandsFor, IsOutputFault, IsRecorded}
 use Rattle.plan.specs.Values.{LineValue, StepValue}
-use Rattle.tree.specs.Tree.{Name}
+use Rattle.tree.specs.Tree.{Tree}
 use Rattle.tree.specs.Form.{NodeValue, root}
 use Rattle.tree.specs.Folded.{first_visits}
-use Rattle.tree.specs.Graft.{graft}
+use Rattle.tree.specs.Merging.{MergeLines, MergeFault, merged}
+use Rattle.tree.specs.Stage.{Stage, ◌and_then◌, demands}
 use Rattle.blob_source.specs.Source.{Blobs, Telling}
 use Rattle.blob_source.specs.Told.{Fault, IsTold, IsFault}
 use Rattle.tree.specs.Difference.{Differing, unexplained, absent, differs, unread, FindsFirst}
@@ -26,9 +27,8 @@ use Rattle.verifier.specs.declared.verdict.Cause.TheVariants.{InputDiffers, Resu
 use Rattle.verifier.specs.declared.verdict.Cause.TheVariants.{ResultMalformed, ExitCode}
 use Rattle.verifier.specs.declared.verdict.Cause.TheVariants.{OutputUnlisted}
 use Rattle.verifier.specs.Accepted.{Resolves}
-use Rattle.verifier.specs.Faults.{cause_of, FirstFault}
+use Rattle.verifier.specs.Faults.{cause_of, cause_of_merge, FirstFault}
 use Rattle.verifier.specs.Holding.{HoldsResult}
-use Rattle.verifier.specs.Stage.{Stage, ◌and_then◌, demands}
 
 -- ---- what a step must be, one check each
 
@@ -50,10 +50,17 @@ framed action frame = demands (digest_of (frame_bytes action.frame) ≡ frame) F
 
 -- each line has its origin
 abbrev pub resolved : {A : Type 0} → Blobs → DigestValue → List OutcomeValue → List LineValue
-    → Stage (Cause A) (List (List Name × NodeValue))
+    → Stage (Cause A) MergeLines
 resolved B sources outcomes lines = record {
   passes = Resolves B sources outcomes lines;
   fails = FirstFault B sources outcomes lines;
+}
+
+-- what stands at the origins merges
+abbrev pub put_together : {A : Type 0} → Blobs → MergeLines → Stage (Cause A) (Tree NodeValue)
+put_together B nodes = record {
+  passes = (merged B nodes).passes;
+  fails = λ cause. (why : MergeFault) × (merged B nodes).fails why × (cause ≡ cause_of_merge why);
 }
 
 -- the cause that a difference of the recorded input is
@@ -63,14 +70,14 @@ difference_cause (absent path) = InputAbsent path
 difference_cause (differs path) = InputDiffers path
 difference_cause (unread f) = cause_of f
 
--- the graft of the lines is the recorded input
-abbrev pub grafted : {A : Type 0} → Blobs → ActionValue → List (List Name × NodeValue)
+-- the tree that it merges into is the recorded input
+abbrev pub grafted : {A : Type 0} → Blobs → ActionValue → Tree NodeValue
     → Stage (Cause A) (Unit {0})
-grafted B action nodes = record {
-  passes = λ _. root (graft nodes) ≡ action.input;
+grafted B action t = record {
+  passes = λ _. root t ≡ action.input;
   fails = λ cause.
-      (root (graft nodes) ≢ action.input) × (x : Differing)
-      × FindsFirst (first_visits (graft nodes)) B (root (graft nodes)) action.input x
+      (root t ≢ action.input) × (x : Differing)
+      × FindsFirst (first_visits t) B (root t) action.input x
       × (cause ≡ difference_cause x);
 }
 
@@ -128,7 +135,8 @@ step_check tells sources outcomes step d =
     message IsCommand command_bytes tells.blobs action.frame.command and_then λ command.
     framed action step.frame and_then λ _.
     resolved tells.blobs sources outcomes step.lines and_then λ nodes.
-    grafted tells.blobs action nodes and_then λ _.
+    put_together tells.blobs nodes and_then λ t.
+    grafted tells.blobs action t and_then λ _.
     held tells.results d and_then λ result.
     succeeded result and_then λ _.
     read tells.blobs command result

@@ -13,6 +13,7 @@ use Rattle.action_messages.specs.ActionResult.{ActionResultValue, action_result_
 use Rattle.action_messages.specs.Command.{CommandValue, command_bytes}
 use Rattle.action_messages.specs.Frame.{FrameValue}
 use Rattle.action_messages.specs.Stream.{StreamValue}
+use Rattle.plan.specs.declared.version.Version.TheVariants.{One}
 use Rattle.plan.specs.Values.{output, PlanValue}
 use Rattle.tree.specs.Tree.{Tree, empty, leaf, folder, Leaf, file, single, whole}
 use Rattle.tree.specs.Form.{form, directory_of}
@@ -77,6 +78,7 @@ tree = empty
 
 abbrev pub plan : PlanValue
 plan = record {
+  version = One;
   steps =
       record { name = codes "gen"; frame = gen_frame_digest; lines = [] } ∷
       record {

@@ -5,7 +5,7 @@ use Rattle.blob_digest.specs.Digest.{DigestValue}
 use Rattle.actions.specs.Outcome.{OutcomeValue}
 use Rattle.plan.specs.Values.{LineValue, StepValue, PlanValue}
 use Rattle.tree.specs.Form.{root}
-use Rattle.tree.specs.Graft.{graft}
+use Rattle.tree.specs.Stage.{Stage, ◌and_then◌, demands, comes_to}
 use Rattle.blob_source.specs.Source.{Telling}
 use Rattle.verifier.specs.declared.verdict.Verdict.{Verdict}
 use Rattle.verifier.specs.declared.verdict.Verdict.TheVariants.{Yes, No}
@@ -13,15 +13,16 @@ use Rattle.verifier.specs.declared.verdict.Place.{Place}
 use Rattle.verifier.specs.declared.verdict.Place.TheVariants.{Step, Root}
 use Rattle.verifier.specs.declared.verdict.Cause.{Cause}
 use Rattle.verifier.specs.declared.verdict.Cause.TheVariants.{RootDiffers}
-use Rattle.verifier.specs.Stage.{Stage, ◌and_then◌, demands, comes_to}
-use Rattle.verifier.specs.StepChecks.{resolved, step_check}
+use Rattle.verifier.specs.StepChecks.{resolved, put_together, step_check}
 
--- the check of the root: each of its lines has its origin, and their graft is the claim
+-- the check of the root: each of its lines has its origin, and what stands there merges into the
+-- claim
 abbrev pub root_check : {A : Type 0} → Telling → DigestValue → List OutcomeValue → List LineValue
     → DigestValue → Stage (Cause A) (Unit {0})
 root_check tells sources outcomes lines claim =
     resolved tells.blobs sources outcomes lines and_then λ nodes.
-    demands (root (graft nodes) ≡ claim) (RootDiffers (root (graft nodes)))
+    put_together tells.blobs nodes and_then λ t.
+    demands (root t ≡ claim) (RootDiffers (root t))
 
 -- a check, which fails with its place
 abbrev pub located : {A V : Type 0} → Place A → Stage (Cause A) V → Stage (Place A × Cause A) V

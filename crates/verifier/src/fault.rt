@@ -58,6 +58,7 @@ pub(crate) fn fault_of<A: Allocator>(error: TreeError<A>) -> Fault<A>
         TreeError::BlobWrong(digest) => Fault::Cause(Cause::BlobWrong(digest)),
         TreeError::BlobMalformed(digest) => Fault::Cause(Cause::BlobMalformed(digest)),
         TreeError::TooDeep(_) => unreachable!(),
+        TreeError::Conflict(path) => Fault::Cause(Cause::InputConflict(path)),
         TreeError::Fetch => Fault::Fetch,
         TreeError::Memory => Fault::Memory,
     }

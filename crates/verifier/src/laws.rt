@@ -1,11 +1,16 @@
-ghost use Rattle.std.specs.Prelude.{◌≡◌, ◌↔◌, ℕ, List, [], length, ◌++◌, Some, Contains};
+ghost use Rattle.std.specs.Prelude.{◌≡◌, ◌↔◌, ℕ, List, [], length, ◌++◌, Some, Contains, option_map};
 ghost use Rattle.blob_digest.specs.Digest.{DigestValue, NoClash};
 ghost use Rattle.blob_digest.specs.DigestValue.{IsDigest};
 ghost use Rattle.plan.specs.Plan.{IsPlan};
-ghost use Rattle.plan.specs.Values.{StepValue, PlanValue};
+ghost use Rattle.plan.specs.Values.{LineValue, StepValue, PlanValue};
+ghost use Rattle.plan.specs.declared.version.Version.TheVariants.{One};
 ghost use Rattle.tree.specs.Form.{NodeValue, form, root};
 ghost use Rattle.blob_source.specs.Source.{Blobs, Telling};
-ghost use Rattle.tree.specs.Tree.{Name, Leaf, Entry, below_entry, IsOrdered};
+ghost use Rattle.tree.specs.Tree.{Name, Tree, Leaf, Entry, below_entry, IsOrdered};
+ghost use Rattle.tree.specs.Graft.{graft, expand};
+ghost use Rattle.tree.specs.Memo.{Asked};
+ghost use Rattle.tree.specs.Merging.{MergeLines, merged, nodes_in};
+ghost use Rattle.tree.specs.MergeLooks.{MergeLooksAt};
 ghost use Rattle.verifier.specs.declared.verdict.Cause.TheVariants.{RootDiffers};
 ghost use Rattle.verifier.specs.declared.verdict.Place.TheVariants.{Root, Step};
 ghost use Rattle.verifier.specs.declared.verdict.Verdict.{Verdict};
@@ -16,11 +21,12 @@ ghost use Rattle.std.specs.List.{AllByRecursion};
 ghost use Rattle.actions.specs.Recorded.{IsRecorded};
 ghost use Rattle.verifier.specs.AsRecorded.{IsAsRecorded, AreAsRecorded, IsFirstUnlikeRecorded};
 ghost use Rattle.verifier.specs.AsRecorded.{IsPlanAsRecorded};
-ghost use Rattle.verifier.specs.Accepted.{IsAccepted};
+ghost use Rattle.verifier.specs.Accepted.{IsAccepted, Resolves};
 ghost use Rattle.verifier.specs.StepChecks.{step_check};
 ghost use Rattle.verifier.specs.declared.verdict.Cause.{Cause};
 ghost use Rattle.verifier.specs.Build.{Outcome, IsTreeOutcome, output_at, opening, MeaningFits};
-ghost use Rattle.verifier.specs.Build.{IsTable, IsRun, HasFinishedAll};
+ghost use Rattle.verifier.specs.Build.{State, IsTable, IsRun, HasFinishedAll, AreLinesOf, graft_of};
+ghost use Rattle.verifier.specs.Build.{origins};
 ghost use Rattle.verifier.specs.Headline.{IsConcerned, EveryRunEndsIn, EveryRunIsAsChosen};
 ghost use Rattle.verifier.specs.Headline.{NoRunIsStuck};
 ghost use Rattle.verifier.specs.Recorded.{RecordsAt, Agrees};
@@ -29,22 +35,42 @@ ghost use Rattle.verifier.specs.Verdict.{IsVerdict, IsYes};
 
 use std::alloc::Allocator;
 
-/// Every complete run of a plan that is as recorded ends in exactly the claimed root, no run of it
-/// is stuck, and each runs the recorded actions and comes to the recorded outcomes. A law: it does
-/// nothing.
+/// Every complete run of a lawful plan that is as recorded ends in exactly the claimed root, no run
+/// of it is stuck, and each runs the recorded actions and comes to the recorded outcomes. A law: it
+/// does nothing.
 pub fn recorded_plans_end_in_the_claim()
     ensures ends { (blobs results : Blobs) (sources : DigestValue) (plan : PlanValue)
-        (recorded : List DigestValue) (claim : DigestValue)
+        (recorded : List DigestValue) (claim : DigestValue) → IsPlan plan
         → IsPlanAsRecorded blobs results sources plan recorded claim
         → EveryRunEndsIn blobs results sources plan recorded claim }
     ensures unstuck { (blobs results : Blobs) (sources : DigestValue) (plan : PlanValue)
-        (recorded : List DigestValue) (claim : DigestValue)
+        (recorded : List DigestValue) (claim : DigestValue) → IsPlan plan
         → IsPlanAsRecorded blobs results sources plan recorded claim
         → NoRunIsStuck blobs results sources plan recorded }
     ensures chosen { (blobs results : Blobs) (sources : DigestValue) (plan : PlanValue)
-        (recorded : List DigestValue) (claim : DigestValue)
+        (recorded : List DigestValue) (claim : DigestValue) → IsPlan plan
         → IsPlanAsRecorded blobs results sources plan recorded claim
         → EveryRunIsAsChosen blobs results sources plan recorded }
+{}
+
+/// What lines of a plan of version 1 put together is their graft. A law: it does nothing.
+pub fn version_one_is_grafted()
+    // By digests it is that of the nodes that stand at the origins, and nothing is looked at for it.
+    ensures nodes { (blobs : Blobs) (sources : DigestValue) (outcomes : List OutcomeValue)
+        (plan : PlanValue) (lines : List LineValue) (nodes : MergeLines)
+        → IsPlan plan → plan.version ≡ One → AreLinesOf plan lines
+        → Resolves blobs sources outcomes lines nodes
+        → (merged blobs nodes).passes (graft (nodes_in nodes)) }
+    ensures nothing { (blobs : Blobs) (sources : DigestValue) (outcomes : List OutcomeValue)
+        (plan : PlanValue) (lines : List LineValue) (nodes : MergeLines)
+        → IsPlan plan → plan.version ≡ One → AreLinesOf plan lines
+        → Resolves blobs sources outcomes lines nodes
+        → (a : Asked) → MergeLooksAt blobs nodes a → ⊥ }
+    // In a run it is that of what stands at the origins.
+    ensures trees { (plan : PlanValue) (lines : List LineValue) (t : Tree Leaf) (s : State)
+        → IsPlan plan → plan.version ≡ One → AreLinesOf plan lines
+        → IsOrdered t → AllByRecursion (λ done. IsTreeOutcome done.1) s.done
+        → graft_of t s lines ≡ option_map (λ es. expand (graft es)) (origins t s lines) }
 {}
 
 /// A verdict is yes exactly where each step is as recorded and the root is accepted, and there the

@@ -6,11 +6,10 @@ ghost use Rattle.actions.specs.Outcome.{output_value, outputs_in, output_paths};
 ghost use Rattle.action_messages.specs.Outputs.{recorded_value, recorded_values, recorded_path};
 ghost use Rattle.actions.specs.Recorded.{StandsFor, StandForAll};
 ghost use Rattle.plan.specs.Values.{IsLine};
-ghost use Rattle.tree.specs.Graft.{HaveApartTargets};
-ghost use Rattle.tree.specs.Lines.{lines_of};
-ghost use Rattle.verifier.specs.Accepted.{targets};
 ghost use Rattle.tree.specs.Difference.{made_by};
-ghost use Rattle.tree.specs.Folded.{IsFoldOfLawful};
+ghost use Rattle.tree.specs.Folded.{IsFoldOf, IsFoldOfLawful};
+ghost use Rattle.tree.specs.Form.{NodeValue};
+ghost use Rattle.tree.specs.Tree as trees;
 ghost use Rattle.verifier.specs.Answers.{IsDifference, IsDifferenceCause};
 ghost use Rattle.blob_source.specs.Called.{Called};
 ghost use Rattle.tree.specs.Memo.{IsKnownOf, WasRefused, Learns, known_by};
@@ -25,15 +24,15 @@ ghost use Rattle.verifier.specs.StepChecks.{IsRefusedOutput, OutputFault, cached
 ghost use Rattle.verifier.specs.StepChecks.{held, succeeded, read, step_check};
 
 use crate::fault::{Fault, fault_of};
-use crate::origins::resolve;
+use crate::origins::{merge_nodes, resolve};
 use crate::told::told;
 use crate::verdict::Cause;
 use actions::{Action, ActionResult, Command, Outcome, Output, RecordedOutput};
 use blob_digest::Digest;
-use messages::{MessageError, Node, Path};
+use messages::{MessageError, Path};
 use plan::Step;
 use std::alloc::Allocator;
-use tree::{BlobSource, Difference, Folded, Memo, first_difference_with, graft};
+use tree::{BlobSource, Difference, Folded, Memo, first_difference_with};
 
 /// The outcome that was recorded of a step, or its first fault. The steps before it came to these
 /// outcomes.
@@ -47,7 +46,6 @@ pub(crate) fn check_step<A: Allocator + Copy, S: BlobSource<A>>(
     source: &mut S,
 ) -> Result<Outcome<A>, Fault<A>>
     requires lines { AllByRecursion (IsLine (length outcomes.now)) step.now.lines }
-    requires apart { HaveApartTargets (targets step.now.lines) }
     requires known { IsKnownOf (known_by memo.old) (S.tells source.old) }
     ensures { Checks (λ tells. step_check tells sources.now outcomes.now step.now recorded.now)
         (λ tells. StepLooksAt A tells sources.now outcomes.now step.now recorded.now)
@@ -58,7 +56,8 @@ pub(crate) fn check_step<A: Allocator + Copy, S: BlobSource<A>>(
     let command: Command<A> = told(alloc, &action.command_digest(), memo, source)?;
     check_frame(alloc, &action, step)?;
     let nodes = resolve(alloc, sources, outcomes, &step.lines, memo, source)?;
-    check_input(alloc, &action, &nodes, memo, source)?;
+    let input = merge_nodes(alloc, &nodes, memo, source)?;
+    check_input(alloc, &action, &input, memo, source)?;
     let made = held_result(alloc, recorded, memo, source)?;
     check_exit_code(&made)?;
     read_outcome(alloc, &command, &made, memo, source)
@@ -91,27 +90,24 @@ fn check_frame<A: Allocator + Copy>(
     Ok(())
 }
 
-/// The action's input is the graft of these nodes.
+/// The action's input is the tree of which this is the fold.
 fn check_input<A: Allocator + Copy, S: BlobSource<A>>(
     alloc: A,
     action: &Action<A>,
-    nodes: &[(Path<A>, Node<A>)],
+    input: &Folded<A>,
     memo: &mut Memo<A>,
     source: &mut S,
 ) -> Result<(), Fault<A>>
-    requires apart { HaveApartTargets (lines_of nodes.now) }
+    requires lawful { IsFoldOfLawful input.now }
     requires known { IsKnownOf (known_by memo.old) (S.tells source.old) }
-    ensures checked { Answers (grafted (S.tells source.new).blobs action.now
-        (lines_of nodes.now)) result }
-    ensures called { Called (S.tells source.old) (S.tells source.new) (IsErrOf result Fault.Fetch) }
-    ensures learned { Learns (InputLooksAt (S.tells source.new).blobs action.now
-        (lines_of nodes.now)) (WasRefused result)
-        (known_by memo.old) (known_by memo.new) (S.tells source.old) (S.tells source.new) }
+    ensures { (t : trees.Tree NodeValue) → IsFoldOf t input.now
+        → Checks (λ tells. grafted tells.blobs action.now t)
+        (λ tells. InputLooksAt tells.blobs action.now t)
+        (known_by memo.old) (known_by memo.new) (S.tells source.old) (S.tells source.new) result }
 {
-    let grafted = graft(alloc, nodes)?;
-    let input = action.input_root_digest();
-    if grafted.root != input {
-        return Err(explain_difference(alloc, &grafted, &input, memo, source));
+    let recorded = action.input_root_digest();
+    if input.root != recorded {
+        return Err(explain_difference(alloc, input, &recorded, memo, source));
     }
     Ok(())
 }

@@ -40,6 +40,8 @@ pub enum Cause<A: Allocator> {
     OriginMissing(Path<A>),
     /// The recorded action without its input isn't the plan's.
     FrameDiffers,
+    /// What the lines put at the path doesn't merge.
+    InputConflict(Path<A>),
     /// The recorded input has the path, and the lines don't put anything there.
     InputUnexplained(Path<A>),
     /// The lines put something at the path, and the recorded input doesn't have it.

@@ -1,12 +1,10 @@
 ghost use Rattle.std.specs.Prelude.{◌≡◌, ◌≤◌, ◌+◌, List, [], IfOk, IsErrOf, length};
 ghost use Rattle.std.specs.List.{AllByRecursion};
 ghost use Rattle.plan.specs.Values.{IsLine};
-ghost use Rattle.plan.specs.Plan.{AreSteps};
+ghost use Rattle.plan.specs.Plan.{AreSteps, IsPlan};
 ghost use Rattle.plan.specs.Record.{Fits};
 ghost use Rattle.blob_source.specs.Called.{Called};
-ghost use Rattle.tree.specs.Graft.{HaveApartTargets};
 ghost use Rattle.tree.specs.Memo.{Asked, Covers, IsKnownOf, Learns, known_by};
-ghost use Rattle.verifier.specs.Accepted.{targets};
 ghost use Rattle.verifier.specs.Answers.{IsChecked, IsStopped};
 ghost use Rattle.verifier.specs.Checks.{Checks};
 ghost use Rattle.verifier.specs.Headline.{EveryRunEndsIn, NoRunIsStuck};
@@ -15,14 +13,14 @@ ghost use Rattle.verifier.specs.Verdict.{root_check, IsVerdict, IsYes};
 
 use crate::error::VerifyError;
 use crate::fault::Fault;
-use crate::origins::resolve;
+use crate::origins::{merge_nodes, resolve};
 use crate::steps::check_step;
 use crate::verdict::{Cause, Place, Verdict};
 use actions::Outcome;
 use blob_digest::Digest;
 use plan::{Line, Plan, Record, Step, StepName};
 use std::alloc::Allocator;
-use tree::{BlobSource, Memo, graft};
+use tree::{BlobSource, Memo};
 
 /// What was recorded of all steps, or the first fault and its step.
 #[derive(Drop)]
@@ -86,8 +84,8 @@ fn check_steps<A: Allocator + Copy, S: BlobSource<A>>(
     Ok(Checked::Outcomes(outcomes))
 }
 
-/// Each line of the root has its origin, and their graft is the claim. The steps came to these
-/// outcomes.
+/// Each line of the root has its origin, and what stands there merges into the claim. The steps
+/// came to these outcomes.
 fn check_root<A: Allocator + Copy, S: BlobSource<A>>(
     alloc: A,
     sources: &Digest,
@@ -98,14 +96,13 @@ fn check_root<A: Allocator + Copy, S: BlobSource<A>>(
     source: &mut S,
 ) -> Result<(), Fault<A>>
     requires lawful { AllByRecursion (IsLine (length outcomes.now)) lines.now }
-    requires apart { HaveApartTargets (targets lines.now) }
     requires known { IsKnownOf (known_by memo.old) (S.tells source.old) }
     ensures { Checks (λ tells. root_check tells sources.now outcomes.now lines.now claim.now)
         (λ tells. RootLooksAt A tells sources.now outcomes.now lines.now)
         (known_by memo.old) (known_by memo.new) (S.tells source.old) (S.tells source.new) result }
 {
     let nodes = resolve(alloc, sources, outcomes, lines, memo, source)?;
-    let root = graft(alloc, &nodes)?.root;
+    let root = merge_nodes(alloc, &nodes, memo, source)?.root;
     if root != *claim {
         return Err(Fault::Cause(Cause::RootDiffers(root)));
     }
@@ -126,6 +123,7 @@ fn decide<A: Allocator + Copy, S: BlobSource<A>>(
     requires known { IsKnownOf (known_by memo.old) (S.tells source.old) }
     ensures verdict { IfOk result (IsVerdict (S.tells source.new) sources.now plan.now
         recorded.now claim.now) }
+    ensures lawful { IsPlan plan.now }
     ensures called { Called (S.tells source.old) (S.tells source.new)
         (IsErrOf result VerifyError.Fetch) }
     ensures learned { Learns (PlanLooksAt A (S.tells source.new) sources.now plan.now

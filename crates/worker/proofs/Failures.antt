@@ -72,6 +72,7 @@ module _ {a b : ℕ} where
   counts_layout (laying.Source (tree.BlobWrong d)) h = counts_no (λ e. cc) (λ f. f) h
   counts_layout (laying.Source (tree.BlobMalformed d)) h = counts_no (λ e. cc) (λ f. f) h
   counts_layout (laying.Source (tree.TooDeep p)) h = counts_no (λ e. cc) (λ f. f) h
+  counts_layout (laying.Source (tree.Conflict p)) h = counts_no (λ e. cc) (λ f. f) h
   counts_layout (laying.Source tree.Memory) h = counts_no (λ e. cc) (λ f. f) h
   counts_layout (laying.LinkInput p) h = counts_no (λ e. cc) (λ f. f) h
   counts_layout (laying.Memory) h = counts_no (λ e. cc) (λ f. f) h
@@ -83,6 +84,7 @@ module _ {a b : ℕ} where
   counts_engine (runs.Source (tree.BlobWrong d)) h = counts_no (λ e. cc) (λ f. f) h
   counts_engine (runs.Source (tree.BlobMalformed d)) h = counts_no (λ e. cc) (λ f. f) h
   counts_engine (runs.Source (tree.TooDeep p)) h = counts_no (λ e. cc) (λ f. f) h
+  counts_engine (runs.Source (tree.Conflict p)) h = counts_no (λ e. cc) (λ f. f) h
   counts_engine (runs.Source tree.Memory) h = counts_no (λ e. cc) (λ f. f) h
   counts_engine (runs.NotReady) h = counts_no (λ e. cc) (λ f. f) h
   counts_engine (runs.NoSuchJob) h = counts_no (λ e. cc) (λ f. f) h
@@ -91,6 +93,7 @@ module _ {a b : ℕ} where
   counts_engine (runs.Unlisted p) h = counts_no (λ e. cc) (λ f. f) h
   counts_engine (runs.Origin p) h = counts_no (λ e. cc) (λ f. f) h
   counts_engine (runs.Full) h = counts_no (λ e. cc) (λ f. f) h
+  counts_engine (runs.Conflict p) h = counts_no (λ e. cc) (λ f. f) h
   counts_engine (runs.Memory) h = counts_no (λ e. cc) (λ f. f) h
 
   pub counts_run : {A T : Type 0} (e : RunError A) → (IsErrOf {T = T} (Err e) children.Device → a < b) → ((IsErrOf {T = T} (Err e) children.Device → ⊥) → b ≡ a) → Counts a b (IsDevice (refusals.Run e))
@@ -117,6 +120,7 @@ finish_no_fetch e w v runs.Disagrees h f = f
 finish_no_fetch e w v (runs.Unlisted p) h f = f
 finish_no_fetch e w v (runs.Origin p) h f = f
 finish_no_fetch e w v runs.Full h f = f
+finish_no_fetch e w v (runs.Conflict p) h f = f
 finish_no_fetch e w v runs.Memory h f = f
 
 pub store_no_device : {A : Type 0} (r : Refusal A) → IsStoreFault r → IsDevice r → ⊥

@@ -1,5 +1,5 @@
 -- What is known of a store stays known, whatever is put.
-use Rattle.std.proofs.Common.{◌≡◌, ℕ, List, [], ◌∷◌, Option, Some, None, sym, ◌∙◌, inl, inr}
+use Rattle.std.proofs.Common.{◌≡◌, ℕ, zero, suc, List, [], ◌∷◌, ◌++◌, Option, Some, None, sym, ◌∙◌, inl, inr}
 use Rattle.blob_digest.specs.Digest.{DigestValue, digest_of}
 use Rattle.messages.specs.declared.node.Node.TheVariants.{File, Link, Dir}
 use Rattle.messages.specs.Node.{child}
@@ -10,6 +10,10 @@ use Rattle.tree.specs.Tree.{Name}
 use Rattle.tree.specs.Form.{NodeValue}
 use Rattle.tree.specs.LooksAt.{OnWayFrom}
 use Rattle.tree.specs.Memo.{Asked, blob, result, Known, IsKnownOf, KnowsNothing, Learns}
+use Rattle.tree.specs.Tree.{Entry}
+use Rattle.tree.specs.Stage.{Stage}
+use Rattle.tree.specs.Merging.{WithinValue, in_source, in_tree, NodeWithin, MergeLines, grouped, counted, line_opened, opened, lone, entry_merged, merged_in}
+use Rattle.tree.specs.MergeLooks.{looks, NodeLooksAt, LineLooksAt, OpenedLooksAt, StandsOrLooksAt, EachLooksAt, MetLooksAt, MergeLooksIn, MergeLooksAt}
 use Rattle.verifier.specs.LooksAt.{OriginLooksAt}
 use Rattle.runs.specs.Engine.{EngineValue}
 use Rattle.runs.specs.LooksAt.{StartNeeds}
@@ -51,8 +55,48 @@ origin_of_blobs : (B : Blobs) (sources : DigestValue) (o : OriginValue) (d : Dig
 origin_of_blobs B sources (source p) d h = way_to_blobs B p (Some (Dir sources)) d h
 origin_of_blobs B sources (output j p) d h = h
 
+looks_of_blobs : {E V : Type 0} (check : Stage E V) (Here : Asked → Type 0) (next : V → Asked → Type 0) (d : DigestValue) → (Here (result d) → ⊥) → ((v : V) → next v (result d) → ⊥) → looks check Here next (result d) → ⊥
+unfolding looks
+looks_of_blobs check Here next d here rest (inl h) = here h
+looks_of_blobs check Here next d here rest (inr h) = rest h.0 h.2
+
+node_of_blobs : (within : WithinValue) (x : NodeValue) (d : DigestValue) → NodeLooksAt within x (result d) → ⊥
+node_of_blobs in_source (File e executable) d h = h
+node_of_blobs in_source (Link target) d h = h
+node_of_blobs in_source (Dir e) d h = other_kind h.0
+node_of_blobs (in_tree t) x d h = h
+
+line_of_blobs : (p : List Name) (g : NodeWithin) (d : DigestValue) → LineLooksAt p g (result d) → ⊥
+line_of_blobs [] g d h = node_of_blobs g.within g.node d h
+line_of_blobs (n ∷ p) g d h = h
+
+opened_of_blobs : (B : Blobs) (ls : MergeLines) (d : DigestValue) → OpenedLooksAt B ls (result d) → ⊥
+opened_of_blobs B [] d h = h
+opened_of_blobs B (l ∷ ls) d h = looks_of_blobs (line_opened B l.0 l.1) (LineLooksAt l.0 l.1) (λ _. OpenedLooksAt B ls) d (line_of_blobs l.0 l.1 d) (λ v. opened_of_blobs B ls d) h
+
+stands_of_blobs : (o : Option NodeValue) (Others : Type 0) → (Others → ⊥) → StandsOrLooksAt o Others → ⊥
+stands_of_blobs (Some x) Others none h = h
+stands_of_blobs None Others none h = none h
+
+each_of_blobs : {X E L : Type 0} (at : Name → X → Stage E (Entry L)) (Looks : Name → X → Asked → Type 0) (gs : List (Name × X)) (d : DigestValue) → ((n : Name) (x : X) → Looks n x (result d) → ⊥) → EachLooksAt at Looks gs (result d) → ⊥
+each_of_blobs at Looks [] d none h = h
+each_of_blobs at Looks (g ∷ gs) d none h = looks_of_blobs (at g.0 g.1) (Looks g.0 g.1) (λ _. EachLooksAt at Looks gs) d (none g.0 g.1) (λ v. each_of_blobs at Looks gs d none) h
+
+merge_of_blobs : (B : Blobs) (deeper : ℕ) (path : List Name) (ls : MergeLines) (d : DigestValue) → MergeLooksIn B deeper path ls (result d) → ⊥
+merge_of_blobs B zero path ls d h = h
+merge_of_blobs B (suc deeper) path ls d h =
+    each_of_blobs (λ n given. entry_merged B (merged_in B deeper (path ++ n ∷ [])) deeper (path ++ n ∷ []) (counted [] given))
+    (λ n given b. StandsOrLooksAt (lone (counted [] given)) (MetLooksAt B (MergeLooksIn B deeper (path ++ n ∷ [])) deeper (counted [] given) b)) (grouped ls) d
+    (λ n given. stands_of_blobs (lone (counted [] given)) (MetLooksAt B (MergeLooksIn B deeper (path ++ n ∷ [])) deeper (counted [] given) (result d)) (λ m.
+    looks_of_blobs (opened B (counted [] given)) (OpenedLooksAt B (counted [] given)) (MergeLooksIn B deeper (path ++ n ∷ [])) d (opened_of_blobs B (counted [] given) d) (λ new. merge_of_blobs B deeper (path ++ n ∷ []) new d) m.1)) h
+
+merging_of_blobs : (B : Blobs) (ls : MergeLines) (d : DigestValue) → MergeLooksAt B ls (result d) → ⊥
+unfolding MergeLooksAt
+merging_of_blobs B ls d h = merge_of_blobs B 64 [] ls d h
+
 start_of_blobs : (B : Blobs) (e : EngineValue) (i : ℕ) (d : DigestValue) → StartNeeds B e i (result d) → ⊥
-start_of_blobs B e i d (step, at, ready, room, (line, reached, h)) = origin_of_blobs B e.sources line.origin d h
+start_of_blobs B e i d (step, at, ready, room, inl (line, reached, h)) = origin_of_blobs B e.sources line.origin d h
+start_of_blobs B e i d (step, at, ready, room, inr (nodes, resolved, h)) = merging_of_blobs B nodes d h
 
 pub knows_started : {old new : Known} {t u : Telling} {refused : Type 0} (e : EngineValue) (i : ℕ) → KnowsBlobs old t.blobs → Learns (StartNeeds u.blobs e i) refused old new t u → KnowsBlobs new u.blobs
 knows_started {old} {new} {t} {u} e i h learned = record {

@@ -165,7 +165,7 @@ module _ {w : ℕ} {v : OutcomeValue} {old new : EngineValue} (h : IsFinished w 
   finished_after : new.finished ≡ first_kept (finished_in h.job.step old) old.finished h.job.step came
   finished_after = ap (λ (e : EngineValue). e.finished) h.after
 
-  grows : (k : ℕ) (f : FinishedValue) → finished_in k old ≡ Some f → finished_in k new ≡ Some f
+  pub grows : (k : ℕ) (f : FinishedValue) → finished_in k old ≡ Some f → finished_in k new ≡ Some f
   grows k f at = ap (λ fs. at_number fs k) finished_after ∙ kept_some old.finished (finished_in h.job.step old) h.job.step k came f refl at
 
   pub which : (k : ℕ) (f : FinishedValue) → finished_in k new ≡ Some f → (finished_in k old ≡ Some f) ⊎ ((k ≡ h.job.step) × (f ≡ came))

@@ -1,4 +1,4 @@
-use Rattle.actions.proofs.Once.{outputs_once, recorded_once, first_fault_once, recorded_or_fault, looked_once}
+use Rattle.actions.proofs.Once.{outputs_once, recorded_once, first_fault_once, recorded_or_fault, looked_once, within_once}
 use Rattle.actions.proofs.laws.outcomes_are_single_valued.Goals as goal
 
 pub returns-clause-outputs : goal.returns-clause-outputs
@@ -15,3 +15,6 @@ returns-clause-excluded c = recorded_or_fault
 
 pub returns-clause-looked : goal.returns-clause-looked
 returns-clause-looked c = looked_once
+
+pub returns-clause-within : goal.returns-clause-within
+returns-clause-within c = within_once

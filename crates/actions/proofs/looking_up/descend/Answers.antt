@@ -3,8 +3,8 @@ use Rattle.messages.specs.Node.{child}
 use Rattle.actions.proofs.TreeLookups.{child_named, first_there, descends_child, descends_nowhere}
 use Rattle.actions.proofs.looking_up.descend.Goals as goal
 
-pub returns-in-None : goal.returns-in-None
-returns-in-None g c =
+pub returns-in-None-clause-looked : goal.returns-in-None-clause-looked
+returns-in-None-clause-looked g c =
     descends_nowhere c.args.tree.now _ c.args.names.now _
     (descends_child c.args.tree.now _ c.args.names.now c.loop-name.name-index c.name-item.result c.loop-name.node c.in-Dir.digest c.in-Some.directory.now None c.loop-name-test.true c.name-item.is c.in-Dir.is c.loop-name.invariant.goes c.in-Some.ensures.found
     (sym c.in-None.is ∙ (c.in_ok-next.ensures {u = tt}).exact ∙ ap (λ n. child n c.in-Some.directory.now) c.as_bytes.ensures.value))

@@ -14,16 +14,16 @@ pub returns-then-is_some-clause-fault : goal.returns-then-is_some-clause-fault
 returns-then-is_some-clause-fault g c =
     let first = c.in-Some.ensures in
     let has : HasStep c.loop-line.steps c.in-Some.line.name.now = found_name c.loop-line.steps c.in-Some.line.name.now c.number_of.result c.number_of.ensures (sym c.is_some.ensures ∙ c.if-is_some.true) in
-    step_fault c.args.text.now c.loop-line.rest.now c.in-Some.line.behind.now c.loop-line.steps c.in-Some.line.name.now c.in-Some.line.digest c.loop-line.number faults.SameStep c.at.result
-    c.loop-line.invariant.few c.loop-line.invariant.lawful c.loop-line.invariant.cut c.loop-line.invariant.counted ((first.0, first.1), (c.in-Some.line.behind.now, first.2)) has c.at.ensures
+    step_fault c.args.version c.args.text.now c.loop-line.rest.now c.in-Some.line.behind.now c.loop-line.steps c.in-Some.line.name.now c.in-Some.line.digest c.loop-line.number faults.SameStep c.at.result
+    c.loop-line.invariant.few c.loop-line.invariant.lawful c.loop-line.invariant.apart c.loop-line.invariant.cut c.loop-line.invariant.counted ((first.0, first.1), (c.in-Some.line.behind.now, first.2)) has c.at.ensures
 
 pub returns-then-len-eq-MOST_STEPS-clause-fault : goal.returns-then-len-eq-MOST_STEPS-clause-fault
 returns-then-len-eq-MOST_STEPS-clause-fault g c =
     let first = c.in-Some.ensures in
     let new = new_name c.loop-line.steps c.in-Some.line.name.now c.number_of.result c.number_of.ensures (sym c.is_some.ensures ∙ c.if-is_some.false) in
     let full : length c.loop-line.steps ≡ 4096 = omega (arith, c.if-len-eq-MOST_STEPS.true, c.len.ensures) in
-    step_fault c.args.text.now c.loop-line.rest.now c.in-Some.line.behind.now c.loop-line.steps c.in-Some.line.name.now c.in-Some.line.digest c.loop-line.number faults.TooMany c.at-then-len-eq-MOST_STEPS.result
-    c.loop-line.invariant.few c.loop-line.invariant.lawful c.loop-line.invariant.cut c.loop-line.invariant.counted ((first.0, first.1), (c.in-Some.line.behind.now, first.2)) (new, full) c.at-then-len-eq-MOST_STEPS.ensures
+    step_fault c.args.version c.args.text.now c.loop-line.rest.now c.in-Some.line.behind.now c.loop-line.steps c.in-Some.line.name.now c.in-Some.line.digest c.loop-line.number faults.TooMany c.at-then-len-eq-MOST_STEPS.result
+    c.loop-line.invariant.few c.loop-line.invariant.lawful c.loop-line.invariant.apart c.loop-line.invariant.cut c.loop-line.invariant.counted ((first.0, first.1), (c.in-Some.line.behind.now, first.2)) (new, full) c.at-then-len-eq-MOST_STEPS.ensures
 
 pub overflow_add-number : goal.overflow_add-number
 overflow_add-number g c = omega (arith, count_few [] c.loop-line.steps c.loop-line.invariant.lawful, c.loop-line.invariant.few, c.loop-line.invariant.counted)
@@ -37,8 +37,8 @@ returns-in_err-lines-clause-fault g c =
     let new = new_name c.loop-line.steps c.in-Some.line.name.now c.number_of.result c.number_of.ensures (sym c.is_some.ensures ∙ c.if-is_some.false) in
     let few : length c.loop-line.steps ≢ 4096 = λ e. c.if-len-eq-MOST_STEPS.false (omega (arith, e, c.len.ensures)) in
     let is = is_step c.loop-line.steps (step_with c.in-Some.line.name.now c.in-Some.line.digest []) new first.0 first.1 (no_lines (length c.loop-line.steps)) in
-    handed_on c.from_residual.result c.in_err-lines.field-0.0 (IsLinesFault c.loop-line.steps (c.loop-line.number + 1) c.in-Some.line.behind.now) (IsFaultBehind (plan_header ++ c.args.text.now)) c.from_residual.ensures.1
-    (λ e h. lines_of_step c.args.text.now c.loop-line.rest.now c.in-Some.line.behind.now c.loop-line.steps c.in-Some.line.name.now c.in-Some.line.digest (c.loop-line.number + 1) e (omega (arith, few, c.loop-line.invariant.few)) c.loop-line.invariant.lawful c.loop-line.invariant.cut
+    handed_on c.from_residual.result c.in_err-lines.field-0.0 (IsLinesFault c.args.version c.loop-line.steps (c.loop-line.number + 1) c.in-Some.line.behind.now) (IsFaultBehind (plan_header c.args.version ++ c.args.text.now)) c.from_residual.ensures.1
+    (λ e h. lines_of_step c.args.version c.args.text.now c.loop-line.rest.now c.in-Some.line.behind.now c.loop-line.steps c.in-Some.line.name.now c.in-Some.line.digest (c.loop-line.number + 1) e (omega (arith, few, c.loop-line.invariant.few)) c.loop-line.invariant.lawful c.loop-line.invariant.apart c.loop-line.invariant.cut
     (omega (arith, c.loop-line.invariant.counted)) first.2 is h)
     c.in_err-lines.ensures.fault
 
@@ -65,5 +65,5 @@ loop-line-preserved g c =
     let step : StepValue = step_with c.in-Some.line.name.now c.in-Some.line.digest c.in_ok-lines.lines.items in
     let is = is_step c.loop-line.steps (step_with c.in-Some.line.name.now c.in-Some.line.digest c.in_ok-lines.lines.items) new first.0 first.1 found.0 in
     let next : c.in_ok-steps.steps ≡ c.loop-line.steps ++ step_with c.in-Some.line.name.now c.in-Some.line.digest c.in_ok-lines.lines.items ∷ [] = c.in_ok-steps.ensures ∙ ap (λ (n : List ℕ). c.loop-line.steps ++ step_with n c.in-Some.line.digest c.in_ok-lines.lines.items ∷ []) c.in_ok-of_lawful.ensures in
-    next_front c.args.text.now c.loop-line.rest.now c.in-Some.line.behind.now c.in_ok-lines.behind.now c.loop-line.steps (step_with c.in-Some.line.name.now c.in-Some.line.digest c.in_ok-lines.lines.items) c.in_ok-steps.steps c.loop-line.number (c.loop-line.number + (1 + c.len-in-Some.result))
-    c.loop-line.invariant.few (λ e. c.if-len-eq-MOST_STEPS.false (omega (arith, e, c.len.ensures))) c.loop-line.invariant.lawful is c.loop-line.invariant.cut c.loop-line.invariant.counted first.2 found.1 c.in_ok-lines.ensures.none next (omega (arith, c.len-in-Some.ensures, c.in_ok-lines.lines.ok))
+    next_front c.args.version c.args.text.now c.loop-line.rest.now c.in-Some.line.behind.now c.in_ok-lines.behind.now c.loop-line.steps (step_with c.in-Some.line.name.now c.in-Some.line.digest c.in_ok-lines.lines.items) c.in_ok-steps.steps c.loop-line.number (c.loop-line.number + (1 + c.len-in-Some.result))
+    c.loop-line.invariant.few (λ e. c.if-len-eq-MOST_STEPS.false (omega (arith, e, c.len.ensures))) c.loop-line.invariant.lawful c.loop-line.invariant.apart is c.in_ok-lines.ensures.apart c.loop-line.invariant.cut c.loop-line.invariant.counted first.2 found.1 c.in_ok-lines.ensures.none next (omega (arith, c.len-in-Some.ensures, c.in_ok-lines.lines.ok))

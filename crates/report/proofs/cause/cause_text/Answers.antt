@@ -8,6 +8,11 @@ returns-in-OriginMissing-clause-unbroken g c =
     subst (λ cause. IfOk c.path_named.result (λ text. HasNoNewline (cause_text cause)))
     (sym c.in-OriginMissing.is) c.path_named.ensures.unbroken
 
+pub returns-in-InputConflict-clause-unbroken : goal.returns-in-InputConflict-clause-unbroken
+returns-in-InputConflict-clause-unbroken g c =
+    subst (λ cause. IfOk c.path_named-in-InputConflict.result (λ text. HasNoNewline (cause_text cause)))
+    (sym c.in-InputConflict.is) c.path_named-in-InputConflict.ensures.unbroken
+
 pub returns-in-InputUnexplained-clause-unbroken : goal.returns-in-InputUnexplained-clause-unbroken
 returns-in-InputUnexplained-clause-unbroken g c =
     subst (λ cause. IfOk c.path_named-in-InputUnexplained.result (λ text. HasNoNewline (cause_text cause)))

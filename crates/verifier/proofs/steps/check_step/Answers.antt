@@ -1,14 +1,15 @@
 -- The checks, one after another: each exit of a `?` stands on the checks that have passed.
-use Rattle.std.proofs.Common.{◌≡◌, sym, subst, rules}
+use Rattle.std.proofs.Common.{◌≡◌, ap, sym, ◌∙◌, subst}
 use Rattle.blob_source.proofs.Asking.{ok_no_error}
-use Rattle.tree.specs.Lines.{lines_of}
+use Rattle.std.specs.Prelude.{Ok}
+use Rattle.tree.specs.Merging.{AreHeld, merge_lines}
+use Rattle.plan.specs.Values.{StepValue}
 use Rattle.verifier.specs.Faults.{FirstFault}
 use Rattle.verifier.specs.Stage.{Explains}
 use Rattle.blob_source.proofs.Calling.{called_none, called_no}
 use Rattle.verifier.proofs.Explained.{told_at, resolves_at}
-use Rattle.verifier.proofs.ChecksThen.{checks_none, checks_both, checks_then, checks_exit, stable_without, stable_message, stable_resolved, stable_grafted, stable_held, steady_without, steady_lines, steady_input, looked_blob, looked_lines}
+use Rattle.verifier.proofs.ChecksThen.{checks_none, checks_both, checks_then, checks_exit, stable_without, stable_message, stable_resolved, stable_put_together, stable_grafted, stable_held, steady_without, steady_lines, steady_merge, steady_input, looked_blob, looked_lines}
 use Rattle.tree.proofs.Learning.{learns_none}
-use Rattle.verifier.proofs.Targets.{apart_nodes}
 use Rattle.verifier.proofs.steps.check_step.Goals as goal
 
 pub returns-in_err-action : goal.returns-in_err-action
@@ -35,7 +36,7 @@ returns-in_err-check_frame g c =
 
 pub returns-in_err-nodes : goal.returns-in_err-nodes
 returns-in_err-nodes g c =
-    let same : c.deref.result.now ≡ c.args.step.now.lines = search rules in
+    let same : c.deref.result.now ≡ c.args.step.now.lines = c.deref.ensures.value ∙ ap (λ (z : StepValue). z.lines) c.step.view_is in
     let tells = g.S.BlobSource.tells c.resolve.new.source in
     let why = subst (λ ls. Explains (FirstFault tells.blobs c.args.sources.now c.args.outcomes.now ls) c.in_err-nodes.field-0.0) same c.in_err-nodes.ensures.faulty in
     checks_then _ _ stable_message steady_without (checks_both _ _ _ _ c.in_ok-action.ensures.checked c.in_ok-action.ensures.called c.in_ok-action.ensures.learned)
@@ -44,61 +45,74 @@ returns-in_err-nodes g c =
     (checks_then _ _ stable_without steady_without (checks_none _ _ _ c.in_ok-command.ensures.learned.known c.in_ok-check_frame.ensures.checked ok_no_error)
     (checks_exit _ _ _ _ c.from_residual-in_err-nodes.ensures.1 why c.in_err-nodes.ensures.called (looked_lines c.args.sources.now c.args.outcomes.now same c.in_err-nodes.ensures.learned)))))
 
-pub returns-in_err-check_input : goal.returns-in_err-check_input
-returns-in_err-check_input g c =
-    let same : c.deref.result.now ≡ c.args.step.now.lines = search rules in
+pub returns-in_err-input : goal.returns-in_err-input
+returns-in_err-input g c =
+    let same : c.deref.result.now ≡ c.args.step.now.lines = c.deref.ensures.value ∙ ap (λ (z : StepValue). z.lines) c.step.view_is in
     let origins = resolves_at (g.S.BlobSource.tells c.resolve.new.source).blobs c.args.sources.now c.args.outcomes.now _ _ _ _ same (sym c.deref-2.ensures.value) c.in_ok-nodes.ensures.told in
     checks_then _ _ stable_message steady_without (checks_both _ _ _ _ c.in_ok-action.ensures.checked c.in_ok-action.ensures.called c.in_ok-action.ensures.learned)
     (checks_then _ _ stable_without steady_without (checks_none _ _ _ c.in_ok-action.ensures.learned.known c.in_ok-check_cached.ensures.checked ok_no_error)
     (checks_then _ _ stable_message steady_without (checks_both _ _ _ _ (told_at c.command_digest.ensures.value c.in_ok-command.ensures.checked) c.in_ok-command.ensures.called (looked_blob c.command_digest.ensures.value c.in_ok-command.ensures.learned))
     (checks_then _ _ stable_without steady_without (checks_none _ _ _ c.in_ok-command.ensures.learned.known c.in_ok-check_frame.ensures.checked ok_no_error)
     (checks_then _ _ (stable_resolved _ _ _) (steady_lines _ _ _) (checks_both _ _ _ _ origins (called_no ok_no_error ok_no_error c.in_ok-nodes.ensures.called) (looked_lines c.args.sources.now c.args.outcomes.now same c.in_ok-nodes.ensures.learned))
-    (checks_exit _ _ _ _ c.from_residual-in_err-check_input.ensures.1 c.in_err-check_input.ensures.checked c.in_err-check_input.ensures.called c.in_err-check_input.ensures.learned)))))
+    (checks_exit _ _ _ _ c.from_residual-in_err-input.ensures.1 c.in_err-input.ensures.refused c.in_err-input.ensures.called c.in_err-input.ensures.learned)))))
+
+pub returns-in_err-check_input : goal.returns-in_err-check_input
+returns-in_err-check_input g c =
+    let same : c.deref.result.now ≡ c.args.step.now.lines = c.deref.ensures.value ∙ ap (λ (z : StepValue). z.lines) c.step.view_is in
+    let origins = resolves_at (g.S.BlobSource.tells c.resolve.new.source).blobs c.args.sources.now c.args.outcomes.now _ _ _ _ same (sym c.deref-2.ensures.value) c.in_ok-nodes.ensures.told in
+    checks_then _ _ stable_message steady_without (checks_both _ _ _ _ c.in_ok-action.ensures.checked c.in_ok-action.ensures.called c.in_ok-action.ensures.learned)
+    (checks_then _ _ stable_without steady_without (checks_none _ _ _ c.in_ok-action.ensures.learned.known c.in_ok-check_cached.ensures.checked ok_no_error)
+    (checks_then _ _ stable_message steady_without (checks_both _ _ _ _ (told_at c.command_digest.ensures.value c.in_ok-command.ensures.checked) c.in_ok-command.ensures.called (looked_blob c.command_digest.ensures.value c.in_ok-command.ensures.learned))
+    (checks_then _ _ stable_without steady_without (checks_none _ _ _ c.in_ok-command.ensures.learned.known c.in_ok-check_frame.ensures.checked ok_no_error)
+    (checks_then _ _ (stable_resolved _ _ _) (steady_lines _ _ _) (checks_both _ _ _ _ origins (called_no ok_no_error ok_no_error c.in_ok-nodes.ensures.called) (looked_lines c.args.sources.now c.args.outcomes.now same c.in_ok-nodes.ensures.learned))
+    (checks_then _ _ (stable_put_together _) (steady_merge _) (checks_both _ _ _ (Ok c.in_ok-input.ensures.merged.0) c.in_ok-input.ensures.merged.1 (called_no ok_no_error ok_no_error c.in_ok-input.ensures.called) c.in_ok-input.ensures.learned)
+    (let failed = c.in_err-check_input.ensures c.in_ok-input.ensures.merged.0 c.in_ok-input.ensures.merged.2 in
+    checks_exit _ _ _ _ c.from_residual-in_err-check_input.ensures.1 failed.checked failed.called failed.learned))))))
 
 pub returns-in_err-made : goal.returns-in_err-made
 returns-in_err-made g c =
-    let same : c.deref.result.now ≡ c.args.step.now.lines = search rules in
+    let same : c.deref.result.now ≡ c.args.step.now.lines = c.deref.ensures.value ∙ ap (λ (z : StepValue). z.lines) c.step.view_is in
     let origins = resolves_at (g.S.BlobSource.tells c.resolve.new.source).blobs c.args.sources.now c.args.outcomes.now _ _ _ _ same (sym c.deref-2.ensures.value) c.in_ok-nodes.ensures.told in
     checks_then _ _ stable_message steady_without (checks_both _ _ _ _ c.in_ok-action.ensures.checked c.in_ok-action.ensures.called c.in_ok-action.ensures.learned)
     (checks_then _ _ stable_without steady_without (checks_none _ _ _ c.in_ok-action.ensures.learned.known c.in_ok-check_cached.ensures.checked ok_no_error)
     (checks_then _ _ stable_message steady_without (checks_both _ _ _ _ (told_at c.command_digest.ensures.value c.in_ok-command.ensures.checked) c.in_ok-command.ensures.called (looked_blob c.command_digest.ensures.value c.in_ok-command.ensures.learned))
     (checks_then _ _ stable_without steady_without (checks_none _ _ _ c.in_ok-command.ensures.learned.known c.in_ok-check_frame.ensures.checked ok_no_error)
     (checks_then _ _ (stable_resolved _ _ _) (steady_lines _ _ _) (checks_both _ _ _ _ origins (called_no ok_no_error ok_no_error c.in_ok-nodes.ensures.called) (looked_lines c.args.sources.now c.args.outcomes.now same c.in_ok-nodes.ensures.learned))
-    (checks_then _ _ (stable_grafted c.in_ok-action.action (lines_of c.deref-2.result.now)) (steady_input c.in_ok-action.action (lines_of c.deref-2.result.now)) (checks_both _ _ _ _ c.in_ok-check_input.ensures.checked c.in_ok-check_input.ensures.called c.in_ok-check_input.ensures.learned)
-    (checks_exit _ _ _ _ c.from_residual-in_err-made.ensures.1 c.in_err-made.ensures.checked c.in_err-made.ensures.called c.in_err-made.ensures.learned))))))
+    (checks_then _ _ (stable_put_together _) (steady_merge _) (checks_both _ _ _ (Ok c.in_ok-input.ensures.merged.0) c.in_ok-input.ensures.merged.1 (called_no ok_no_error ok_no_error c.in_ok-input.ensures.called) c.in_ok-input.ensures.learned)
+    (checks_then _ _ (stable_grafted c.in_ok-action.action c.in_ok-input.ensures.merged.0) (steady_input c.in_ok-action.action c.in_ok-input.ensures.merged.0) (c.in_ok-check_input.ensures c.in_ok-input.ensures.merged.0 c.in_ok-input.ensures.merged.2)
+    (checks_exit _ _ _ _ c.from_residual-in_err-made.ensures.1 c.in_err-made.ensures.checked c.in_err-made.ensures.called c.in_err-made.ensures.learned)))))))
 
 pub returns-in_err-check_exit_code : goal.returns-in_err-check_exit_code
 returns-in_err-check_exit_code g c =
-    let same : c.deref.result.now ≡ c.args.step.now.lines = search rules in
+    let same : c.deref.result.now ≡ c.args.step.now.lines = c.deref.ensures.value ∙ ap (λ (z : StepValue). z.lines) c.step.view_is in
     let origins = resolves_at (g.S.BlobSource.tells c.resolve.new.source).blobs c.args.sources.now c.args.outcomes.now _ _ _ _ same (sym c.deref-2.ensures.value) c.in_ok-nodes.ensures.told in
     checks_then _ _ stable_message steady_without (checks_both _ _ _ _ c.in_ok-action.ensures.checked c.in_ok-action.ensures.called c.in_ok-action.ensures.learned)
     (checks_then _ _ stable_without steady_without (checks_none _ _ _ c.in_ok-action.ensures.learned.known c.in_ok-check_cached.ensures.checked ok_no_error)
     (checks_then _ _ stable_message steady_without (checks_both _ _ _ _ (told_at c.command_digest.ensures.value c.in_ok-command.ensures.checked) c.in_ok-command.ensures.called (looked_blob c.command_digest.ensures.value c.in_ok-command.ensures.learned))
     (checks_then _ _ stable_without steady_without (checks_none _ _ _ c.in_ok-command.ensures.learned.known c.in_ok-check_frame.ensures.checked ok_no_error)
     (checks_then _ _ (stable_resolved _ _ _) (steady_lines _ _ _) (checks_both _ _ _ _ origins (called_no ok_no_error ok_no_error c.in_ok-nodes.ensures.called) (looked_lines c.args.sources.now c.args.outcomes.now same c.in_ok-nodes.ensures.learned))
-    (checks_then _ _ (stable_grafted c.in_ok-action.action (lines_of c.deref-2.result.now)) (steady_input c.in_ok-action.action (lines_of c.deref-2.result.now)) (checks_both _ _ _ _ c.in_ok-check_input.ensures.checked c.in_ok-check_input.ensures.called c.in_ok-check_input.ensures.learned)
+    (checks_then _ _ (stable_put_together _) (steady_merge _) (checks_both _ _ _ (Ok c.in_ok-input.ensures.merged.0) c.in_ok-input.ensures.merged.1 (called_no ok_no_error ok_no_error c.in_ok-input.ensures.called) c.in_ok-input.ensures.learned)
+    (checks_then _ _ (stable_grafted c.in_ok-action.action c.in_ok-input.ensures.merged.0) (steady_input c.in_ok-action.action c.in_ok-input.ensures.merged.0) (c.in_ok-check_input.ensures c.in_ok-input.ensures.merged.0 c.in_ok-input.ensures.merged.2)
     (checks_then _ _ stable_held steady_without (checks_both _ _ _ _ c.in_ok-made.ensures.checked c.in_ok-made.ensures.called c.in_ok-made.ensures.learned)
-    (checks_exit _ _ _ _ c.from_residual-in_err-check_exit_code.ensures.1 c.in_err-check_exit_code.ensures.checked (called_none c.in_err-check_exit_code.ensures.fetch) (learns_none {refused = Unit {0}} c.in_ok-made.ensures.learned.known))))))))
+    (checks_exit _ _ _ _ c.from_residual-in_err-check_exit_code.ensures.1 c.in_err-check_exit_code.ensures.checked (called_none c.in_err-check_exit_code.ensures.fetch) (learns_none {refused = Unit {0}} c.in_ok-made.ensures.learned.known)))))))))
 
 pub returns : goal.returns
 returns g c =
-    let same : c.deref.result.now ≡ c.args.step.now.lines = search rules in
+    let same : c.deref.result.now ≡ c.args.step.now.lines = c.deref.ensures.value ∙ ap (λ (z : StepValue). z.lines) c.step.view_is in
     let origins = resolves_at (g.S.BlobSource.tells c.resolve.new.source).blobs c.args.sources.now c.args.outcomes.now _ _ _ _ same (sym c.deref-2.ensures.value) c.in_ok-nodes.ensures.told in
     checks_then _ _ stable_message steady_without (checks_both _ _ _ _ c.in_ok-action.ensures.checked c.in_ok-action.ensures.called c.in_ok-action.ensures.learned)
     (checks_then _ _ stable_without steady_without (checks_none _ _ _ c.in_ok-action.ensures.learned.known c.in_ok-check_cached.ensures.checked ok_no_error)
     (checks_then _ _ stable_message steady_without (checks_both _ _ _ _ (told_at c.command_digest.ensures.value c.in_ok-command.ensures.checked) c.in_ok-command.ensures.called (looked_blob c.command_digest.ensures.value c.in_ok-command.ensures.learned))
     (checks_then _ _ stable_without steady_without (checks_none _ _ _ c.in_ok-command.ensures.learned.known c.in_ok-check_frame.ensures.checked ok_no_error)
     (checks_then _ _ (stable_resolved _ _ _) (steady_lines _ _ _) (checks_both _ _ _ _ origins (called_no ok_no_error ok_no_error c.in_ok-nodes.ensures.called) (looked_lines c.args.sources.now c.args.outcomes.now same c.in_ok-nodes.ensures.learned))
-    (checks_then _ _ (stable_grafted c.in_ok-action.action (lines_of c.deref-2.result.now)) (steady_input c.in_ok-action.action (lines_of c.deref-2.result.now)) (checks_both _ _ _ _ c.in_ok-check_input.ensures.checked c.in_ok-check_input.ensures.called c.in_ok-check_input.ensures.learned)
+    (checks_then _ _ (stable_put_together _) (steady_merge _) (checks_both _ _ _ (Ok c.in_ok-input.ensures.merged.0) c.in_ok-input.ensures.merged.1 (called_no ok_no_error ok_no_error c.in_ok-input.ensures.called) c.in_ok-input.ensures.learned)
+    (checks_then _ _ (stable_grafted c.in_ok-action.action c.in_ok-input.ensures.merged.0) (steady_input c.in_ok-action.action c.in_ok-input.ensures.merged.0) (c.in_ok-check_input.ensures c.in_ok-input.ensures.merged.0 c.in_ok-input.ensures.merged.2)
     (checks_then _ _ stable_held steady_without (checks_both _ _ _ _ c.in_ok-made.ensures.checked c.in_ok-made.ensures.called c.in_ok-made.ensures.learned)
     (checks_then _ _ stable_without steady_without (checks_none _ _ _ c.in_ok-made.ensures.learned.known c.in_ok-check_exit_code.ensures.checked ok_no_error)
-    (checks_both _ _ _ _ c.read_outcome.ensures.checked c.read_outcome.ensures.called c.read_outcome.ensures.learned))))))))
+    (checks_both _ _ _ _ c.read_outcome.ensures.checked c.read_outcome.ensures.called c.read_outcome.ensures.learned)))))))))
 
-pub check_input-requires-clause-apart : goal.check_input-requires-clause-apart
-check_input-requires-clause-apart g c =
-    let same : c.deref.result.now ≡ c.args.step.now.lines = search rules in
-    let origins = resolves_at (g.S.BlobSource.tells c.resolve.new.source).blobs c.args.sources.now c.args.outcomes.now c.deref.result.now c.args.step.now.lines c.in_ok-nodes.nodes.items c.deref-2.result.now same (sym c.deref-2.ensures.value) c.in_ok-nodes.ensures.told in
-    apart_nodes _ c.args.sources.now c.args.outcomes.now c.args.step.now.lines (lines_of c.deref-2.result.now) origins c.requires.apart
+pub merge_nodes-requires-clause-held : goal.merge_nodes-requires-clause-held
+merge_nodes-requires-clause-held g c = subst (λ ns. AreHeld (merge_lines ns)) (sym c.deref-2.ensures.value) c.in_ok-nodes.ensures.held
 
 pub told-requires-2 : goal.told-requires-2
 told-requires-2 g c = c.in_ok-action.ensures.learned.known
@@ -106,11 +120,17 @@ told-requires-2 g c = c.in_ok-action.ensures.learned.known
 pub resolve-requires-clause-known : goal.resolve-requires-clause-known
 resolve-requires-clause-known g c = c.in_ok-command.ensures.learned.known
 
+pub merge_nodes-requires-clause-known : goal.merge_nodes-requires-clause-known
+merge_nodes-requires-clause-known g c = c.in_ok-nodes.ensures.learned.known
+
+pub check_input-requires-clause-lawful : goal.check_input-requires-clause-lawful
+check_input-requires-clause-lawful g c = c.in_ok-input.ensures.lawful
+
 pub check_input-requires-clause-known : goal.check_input-requires-clause-known
-check_input-requires-clause-known g c = c.in_ok-nodes.ensures.learned.known
+check_input-requires-clause-known g c = c.in_ok-input.ensures.learned.known
 
 pub held_result-requires : goal.held_result-requires
-held_result-requires g c = c.in_ok-check_input.ensures.learned.known
+held_result-requires g c = (c.in_ok-check_input.ensures c.in_ok-input.ensures.merged.0 c.in_ok-input.ensures.merged.2).learned.known
 
 pub read_outcome-requires : goal.read_outcome-requires
 read_outcome-requires g c = c.in_ok-made.ensures.learned.known

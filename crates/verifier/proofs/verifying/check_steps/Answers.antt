@@ -14,7 +14,6 @@ use Rattle.tree.proofs.Learning.{learns_none, learns_then, learns_refused}
 use Rattle.verifier.specs.LooksAt.{StepLooksAt}
 use Rattle.verifier.proofs.ChecksThen.{steady_steps, stopped_exit}
 use Rattle.verifier.proofs.CheckingSteps.{StepsGoOn, steps_first, steps_next, steps_fail, steps_end, steps_look_here, numbered_lines}
-use Rattle.verifier.proofs.Targets.{plan_targets}
 use Rattle.verifier.proofs.verifying.check_steps.Goals as goal
 
 pub check_step-requires-clause-lines : goal.check_step-requires-clause-lines
@@ -22,11 +21,6 @@ check_step-requires-clause-lines g c =
     let lines = numbered_lines c.args.steps.now c.loop-index.index c.index-steps-index.result c.loop-index-test.true c.index-steps-index.is c.requires.lawful in
     let count : c.loop-index.index ≡ length c.deref.result.now = sym c.loop-index.invariant.count ∙ ap length (sym c.deref.ensures.value) in
     subst (λ n. AllByRecursion (IsLine n) c.index-steps-index.result.lines) count lines.each
-
-pub check_step-requires-clause-apart : goal.check_step-requires-clause-apart
-check_step-requires-clause-apart g c =
-    let lines = numbered_lines c.args.steps.now c.loop-index.index c.index-steps-index.result c.loop-index-test.true c.index-steps-index.is c.requires.lawful in
-    plan_targets c.loop-index.index c.index-steps-index.result.lines lines.each lines.apart
 
 pub returns-in-Err-clause-checked : goal.returns-in-Err-clause-checked
 returns-in-Err-clause-checked g c =

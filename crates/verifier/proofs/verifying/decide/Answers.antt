@@ -4,7 +4,6 @@ use Rattle.std.specs.List.{AllByRecursion}
 use Rattle.std.specs.Prelude.{Ok, Err, IsErrOf}
 use Rattle.verifier.specs.declared.verdict.Place.TheVariants.{Step}
 use Rattle.plan.specs.Values.{IsLine}
-use Rattle.plan.specs.Plan as plans
 use Rattle.blob_source.proofs.Asking.{ok_no_error}
 use Rattle.blob_source.proofs.Calling.{err_injective, called_as, called_no, called_ok, called_exit}
 use Rattle.verifier.specs.declared.error.VerifyError.TheVariants as errors
@@ -16,7 +15,6 @@ use Rattle.tree.proofs.Learning.{learns_then, learns_refused}
 use Rattle.verifier.specs.Stage.{Explains}
 use Rattle.verifier.specs.Verdict.{root_check, steps_check}
 use Rattle.verifier.proofs.CheckingSteps.{passes_count, steps_decide, root_decides, all_pass_decides, plan_look_steps, plan_look_still, plan_look_root}
-use Rattle.verifier.proofs.Targets.{plan_targets}
 use Rattle.verifier.proofs.verifying.decide.Goals as goal
 
 pub returns-in-First-clause-verdict : goal.returns-in-First-clause-verdict
@@ -36,11 +34,6 @@ check_root-requires-clause-lawful g c =
     let items = ap length c.deref.ensures.value in
     omega (arith, all, steps, items)) in
     subst (λ lines. AllByRecursion (IsLine (length c.deref.result.now)) lines) (sym c.root.ensures.value) (subst (λ n. AllByRecursion (IsLine n) c.args.plan.now.root_lines) count c.root.ensures.lawful.root_lines.each)
-
-pub check_root-requires-clause-apart : goal.check_root-requires-clause-apart
-check_root-requires-clause-apart g c =
-    let lines = c.root.ensures.lawful.root_lines in
-    plan_targets (length c.args.plan.now.steps) c.root.result.now (subst (AllByRecursion (IsLine (length c.args.plan.now.steps))) (sym c.root.ensures.value) lines.each) (subst plans.HaveApartTargets (sym c.root.ensures.value) lines.apart)
 
 pub returns-in-Err-clause-verdict : goal.returns-in-Err-clause-verdict
 returns-in-Err-clause-verdict g c =

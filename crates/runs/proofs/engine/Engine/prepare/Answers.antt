@@ -4,29 +4,15 @@ use Rattle.std.proofs.lemmas.Result.{err_from_is_err_and}
 use Rattle.blob_digest.specs.Digest.{digest_of}
 use Rattle.action_messages.specs.Action.{ActionValue}
 use Rattle.plan.specs.Values.{StepValue}
-use Rattle.tree.specs.Folded.{IsFoldOf}
-use Rattle.tree.specs.Graft.{graft, HaveApartTargets}
-use Rattle.tree.specs.Lines.{lines_of}
-use Rattle.verifier.proofs.CheckingSteps.{numbered_lines}
 use Rattle.blob_source.proofs.Asking.{ok_no_error}
 use Rattle.blob_source.proofs.Calling.{called_no}
 use Rattle.runs.specs.Engine.{EngineValue}
 use Rattle.runs.proofs.Fetching.{fetching_memory}
-use Rattle.runs.specs.Looking.{Resolves}
+use Rattle.runs.specs.Looking.{IsFoldTogether}
 use Rattle.runs.proofs.Places.{element_at}
-use Rattle.runs.proofs.Ended.{lines_apart}
 use Rattle.tree.proofs.Learning.{learns_refused, refused_exit}
 use Rattle.runs.proofs.Needs.{step_needed}
 use Rattle.runs.proofs.engine.Engine.prepare.Goals as goal
-
-pub graft-requires : goal.graft-requires
-graft-requires g c =
-    let tells = g.S.BlobSource.tells c.resolve.new.source in
-    let lt = subst (λ (e : EngineValue). c.args.step < length e.plan.steps) (sym c.self.view_is) c.requires.within in
-    let is : c.index-steps-step.result ≡ get_or c.self.inside.plan.steps c.args.step c.index-steps-step.result = c.index-steps-step.is ∙ ap (λ ss. get_or ss c.args.step c.index-steps-step.result) c.steps-steps.ensures.value in
-    let told = subst (λ ls. Resolves tells.blobs c.args.self.now ls (lines_of c.in_ok-nodes.nodes.items)) (c.deref.ensures.value ∙ ap (λ (s : StepValue). s.lines) c.planned.view_is) c.in_ok-nodes.ensures.told in
-    let lines = numbered_lines c.self.inside.plan.steps c.args.step c.index-steps-step.result lt is c.steps-steps.ensures.lawful.steps in
-    subst (λ ns. HaveApartTargets (lines_of ns)) (sym c.deref-2.ensures.value) (lines_apart tells.blobs c.args.self.now c.args.step c.index-steps-step.result.lines (lines_of c.in_ok-nodes.nodes.items) told lines)
 
 pub returns-in_err-encode-clause-faulty : goal.returns-in_err-encode-clause-faulty
 returns-in_err-encode-clause-faulty g c = λ s at.
@@ -52,74 +38,67 @@ returns-in_err-command-clause-faulty g c = λ s at.
 
 pub returns-clause-prepared : goal.returns-clause-prepared
 returns-clause-prepared g c =
-    let tells = g.S.BlobSource.tells c.resolve.new.source in
+    let tells = g.S.BlobSource.tells c.put_together.new.source in
     let lt = subst (λ (e : EngineValue). c.args.step < length e.plan.steps) (sym c.self.view_is) c.requires.within in
     let stand = c.self.invariant.stand in
-    let fold = subst (λ ns. IsFoldOf (graft (lines_of ns)) c.in_ok-input.input) c.deref-2.ensures.value c.in_ok-input.ensures.fold in
+    let told = subst (λ ls. IsFoldTogether tells.blobs c.args.self.now ls c.in_ok-input.input) (c.deref.ensures.value ∙ ap (λ (s : StepValue). s.lines) c.planned.view_is) c.in_ok-input.ensures.told in
     let f = element_at c.self.inside.frames.items c.args.step c.index-frames-step.result (subst (λ n. c.args.step < n) (sym stand.frames_count) lt) (c.index-frames-step.is ∙ ap (λ fs. get_or fs c.args.step c.index-frames-step.result) c.as_slice-frames.ensures.value) in
     let d = element_at c.self.inside.commands.items c.args.step c.index-commands-step.result (subst (λ n. c.args.step < n) (sym stand.commands_count) lt) (c.index-commands-step.is ∙ ap (λ fs. get_or fs c.args.step c.index-commands-step.result) c.as_slice-commands.ensures.value) in
     let is : c.index-steps-step.result ≡ get_or c.self.inside.plan.steps c.args.step c.index-steps-step.result = c.index-steps-step.is ∙ ap (λ ss. get_or ss c.args.step c.index-steps-step.result) c.steps-steps.ensures.value in
     record {
       planned = c.index-steps-step.result;
       at = ap (λ (e : EngineValue). slice_get e.plan.steps c.args.step) (sym c.self.view_is) ∙ element_at c.self.inside.plan.steps c.args.step c.index-steps-step.result lt is;
-      nodes = lines_of c.in_ok-nodes.nodes.items;
-      resolved = subst (λ ls. Resolves tells.blobs c.args.self.now ls (lines_of c.in_ok-nodes.nodes.items)) (c.deref.ensures.value ∙ ap (λ (s : StepValue). s.lines) c.planned.view_is) c.in_ok-nodes.ensures.told;
+      tree = told.0;
+      together = told.1;
       number = refl;
       of_step = refl;
       frame = ap (λ (e : EngineValue). slice_get e.frames c.args.step) (sym c.self.view_is) ∙ f ∙ ap Some (sym c.in_ok-frame.ensures ∙ sym c.with_input-action.ensures.frame);
-      input = ap (λ (a : ActionValue). a.input) c.with_input-action.ensures.value ∙ fold.root;
+      input = ap (λ (a : ActionValue). a.input) c.with_input-action.ensures.value ∙ told.2.root;
       command = ap (λ (e : EngineValue). slice_get e.commands c.args.step) (sym c.self.view_is) ∙ d ∙ ap Some (sym c.in_ok-command.ensures);
-      digest = c.of-digest.ensures ∙ ap digest_of (c.deref-3.ensures.value ∙ c.in_ok-encode.ensures.bytes);
-      folded = fold;
+      digest = c.of-digest.ensures ∙ ap digest_of (c.deref-2.ensures.value ∙ c.in_ok-encode.ensures.bytes);
+      folded = told.2;
     }
 
 pub returns-in_err-encode-clause-called : goal.returns-in_err-encode-clause-called
-returns-in_err-encode-clause-called g c = fetching_memory c.from_residual-in_err-encode.ensures.1 ok_no_error c.in_ok-nodes.ensures.called
+returns-in_err-encode-clause-called g c = fetching_memory c.from_residual-in_err-encode.ensures.1 ok_no_error c.in_ok-input.ensures.called
 
 pub returns-in_err-command-clause-called : goal.returns-in_err-command-clause-called
-returns-in_err-command-clause-called g c = fetching_memory c.from_residual-in_err-command.ensures.1 ok_no_error c.in_ok-nodes.ensures.called
+returns-in_err-command-clause-called g c = fetching_memory c.from_residual-in_err-command.ensures.1 ok_no_error c.in_ok-input.ensures.called
 
 pub returns-clause-called : goal.returns-clause-called
-returns-clause-called g c = called_no ok_no_error ok_no_error c.in_ok-nodes.ensures.called
-
-pub returns-in_err-nodes-clause-learned : goal.returns-in_err-nodes-clause-learned
-returns-in_err-nodes-clause-learned g c s at =
-    let lt = subst (λ (e : EngineValue). c.args.step < length e.plan.steps) (sym c.self.view_is) c.requires.within in
-    let is : c.index-steps-step.result ≡ get_or c.self.inside.plan.steps c.args.step c.index-steps-step.result = c.index-steps-step.is ∙ ap (λ ss. get_or ss c.args.step c.index-steps-step.result) c.steps-steps.ensures.value in
-    let there = ap (λ (e : EngineValue). slice_get e.plan.steps c.args.step) (sym c.self.view_is) ∙ element_at c.self.inside.plan.steps c.args.step c.index-steps-step.result lt is in
-    learns_refused (λ a h. h) (refused_exit _ _ c.from_residual.ensures.1) (step_needed c.args.self.now c.args.step c.index-steps-step.result s there at (c.deref.ensures.value ∙ ap (λ (s : StepValue). s.lines) c.planned.view_is) c.resolve.ensures.learned)
+returns-clause-called g c = called_no ok_no_error ok_no_error c.in_ok-input.ensures.called
 
 pub returns-in_err-input-clause-learned : goal.returns-in_err-input-clause-learned
 returns-in_err-input-clause-learned g c s at =
     let lt = subst (λ (e : EngineValue). c.args.step < length e.plan.steps) (sym c.self.view_is) c.requires.within in
     let is : c.index-steps-step.result ≡ get_or c.self.inside.plan.steps c.args.step c.index-steps-step.result = c.index-steps-step.is ∙ ap (λ ss. get_or ss c.args.step c.index-steps-step.result) c.steps-steps.ensures.value in
     let there = ap (λ (e : EngineValue). slice_get e.plan.steps c.args.step) (sym c.self.view_is) ∙ element_at c.self.inside.plan.steps c.args.step c.index-steps-step.result lt is in
-    learns_refused (λ a h. h) (refused_exit _ _ c.from_residual-in_err-input.ensures.1) (step_needed c.args.self.now c.args.step c.index-steps-step.result s there at (c.deref.ensures.value ∙ ap (λ (s : StepValue). s.lines) c.planned.view_is) c.resolve.ensures.learned)
+    learns_refused (λ a h. h) (refused_exit _ _ c.from_residual.ensures.1) (step_needed c.args.self.now c.args.step c.index-steps-step.result s there at (c.deref.ensures.value ∙ ap (λ (s : StepValue). s.lines) c.planned.view_is) c.put_together.ensures.learned)
 
 pub returns-in_err-frame-clause-learned : goal.returns-in_err-frame-clause-learned
 returns-in_err-frame-clause-learned g c s at =
     let lt = subst (λ (e : EngineValue). c.args.step < length e.plan.steps) (sym c.self.view_is) c.requires.within in
     let is : c.index-steps-step.result ≡ get_or c.self.inside.plan.steps c.args.step c.index-steps-step.result = c.index-steps-step.is ∙ ap (λ ss. get_or ss c.args.step c.index-steps-step.result) c.steps-steps.ensures.value in
     let there = ap (λ (e : EngineValue). slice_get e.plan.steps c.args.step) (sym c.self.view_is) ∙ element_at c.self.inside.plan.steps c.args.step c.index-steps-step.result lt is in
-    learns_refused (λ a h. h) (refused_exit _ _ c.from_residual-in_err-frame.ensures.1) (step_needed c.args.self.now c.args.step c.index-steps-step.result s there at (c.deref.ensures.value ∙ ap (λ (s : StepValue). s.lines) c.planned.view_is) c.resolve.ensures.learned)
+    learns_refused (λ a h. h) (refused_exit _ _ c.from_residual-in_err-frame.ensures.1) (step_needed c.args.self.now c.args.step c.index-steps-step.result s there at (c.deref.ensures.value ∙ ap (λ (s : StepValue). s.lines) c.planned.view_is) c.put_together.ensures.learned)
 
 pub returns-in_err-encode-clause-learned : goal.returns-in_err-encode-clause-learned
 returns-in_err-encode-clause-learned g c s at =
     let lt = subst (λ (e : EngineValue). c.args.step < length e.plan.steps) (sym c.self.view_is) c.requires.within in
     let is : c.index-steps-step.result ≡ get_or c.self.inside.plan.steps c.args.step c.index-steps-step.result = c.index-steps-step.is ∙ ap (λ ss. get_or ss c.args.step c.index-steps-step.result) c.steps-steps.ensures.value in
     let there = ap (λ (e : EngineValue). slice_get e.plan.steps c.args.step) (sym c.self.view_is) ∙ element_at c.self.inside.plan.steps c.args.step c.index-steps-step.result lt is in
-    learns_refused (λ a h. h) (refused_exit _ _ c.from_residual-in_err-encode.ensures.1) (step_needed c.args.self.now c.args.step c.index-steps-step.result s there at (c.deref.ensures.value ∙ ap (λ (s : StepValue). s.lines) c.planned.view_is) c.resolve.ensures.learned)
+    learns_refused (λ a h. h) (refused_exit _ _ c.from_residual-in_err-encode.ensures.1) (step_needed c.args.self.now c.args.step c.index-steps-step.result s there at (c.deref.ensures.value ∙ ap (λ (s : StepValue). s.lines) c.planned.view_is) c.put_together.ensures.learned)
 
 pub returns-in_err-command-clause-learned : goal.returns-in_err-command-clause-learned
 returns-in_err-command-clause-learned g c s at =
     let lt = subst (λ (e : EngineValue). c.args.step < length e.plan.steps) (sym c.self.view_is) c.requires.within in
     let is : c.index-steps-step.result ≡ get_or c.self.inside.plan.steps c.args.step c.index-steps-step.result = c.index-steps-step.is ∙ ap (λ ss. get_or ss c.args.step c.index-steps-step.result) c.steps-steps.ensures.value in
     let there = ap (λ (e : EngineValue). slice_get e.plan.steps c.args.step) (sym c.self.view_is) ∙ element_at c.self.inside.plan.steps c.args.step c.index-steps-step.result lt is in
-    learns_refused (λ a h. h) (refused_exit _ _ c.from_residual-in_err-command.ensures.1) (step_needed c.args.self.now c.args.step c.index-steps-step.result s there at (c.deref.ensures.value ∙ ap (λ (s : StepValue). s.lines) c.planned.view_is) c.resolve.ensures.learned)
+    learns_refused (λ a h. h) (refused_exit _ _ c.from_residual-in_err-command.ensures.1) (step_needed c.args.self.now c.args.step c.index-steps-step.result s there at (c.deref.ensures.value ∙ ap (λ (s : StepValue). s.lines) c.planned.view_is) c.put_together.ensures.learned)
 
 pub returns-clause-learned : goal.returns-clause-learned
 returns-clause-learned g c s at =
     let lt = subst (λ (e : EngineValue). c.args.step < length e.plan.steps) (sym c.self.view_is) c.requires.within in
     let is : c.index-steps-step.result ≡ get_or c.self.inside.plan.steps c.args.step c.index-steps-step.result = c.index-steps-step.is ∙ ap (λ ss. get_or ss c.args.step c.index-steps-step.result) c.steps-steps.ensures.value in
     let there = ap (λ (e : EngineValue). slice_get e.plan.steps c.args.step) (sym c.self.view_is) ∙ element_at c.self.inside.plan.steps c.args.step c.index-steps-step.result lt is in
-    (step_needed c.args.self.now c.args.step c.index-steps-step.result s there at (c.deref.ensures.value ∙ ap (λ (s : StepValue). s.lines) c.planned.view_is) c.in_ok-nodes.ensures.learned)
+    (step_needed c.args.self.now c.args.step c.index-steps-step.result s there at (c.deref.ensures.value ∙ ap (λ (s : StepValue). s.lines) c.planned.view_is) c.in_ok-input.ensures.learned)

@@ -1,5 +1,5 @@
 use Rattle.std.proofs.Common.{drop}
-use Rattle.tree.specs.Lines.{lines_of}
+use Rattle.tree.specs.Merging.{AreHeld, merge_lines}
 use Rattle.blob_source.specs.Called.{Called}
 use Rattle.tree.specs.Memo.{Learns, known_by}
 use Rattle.runs.specs.LooksAt.{LinesNeed}
@@ -12,7 +12,8 @@ invariant-loop-line g l =
     let tells = g.S.BlobSource.tells in
     record {
       called : Called (tells l.fn.source) (tells l.source) ⊥;
-      goes : LinesGoOn g.row.A.Denot (tells l.source).blobs l.self l.lines (lines_of l.nodes.items) (drop l.line-index l.lines);
+      goes : LinesGoOn g.row.A.Denot (tells l.source).blobs l.self l.lines (merge_lines l.nodes.items) (drop l.line-index l.lines);
+      held : AreHeld (merge_lines l.nodes.items);
       need : LinesNeedOn (tells l.source).blobs l.self l.lines (drop l.line-index l.lines);
       learned : Learns (LinesNeed (tells l.source).blobs l.self l.lines) ⊥ (known_by l.fn.memo) (known_by l.memo) (tells l.fn.source) (tells l.source);
     }

@@ -1,11 +1,13 @@
-use Rattle.std.proofs.Common.{◌≡◌, ◌∙◌, ◌<◌, true, false, sym, subst, length, arith}
+use Rattle.std.proofs.Common.{[], ◌≡◌, ◌∙◌, ◌<◌, true, false, sym, subst, length, arith}
 use Rattle.std.proofs.lemmas.Result.{err_from_is_err_and}
 use Rattle.runs.specs.Engine.{EngineValue, IsEngine}
 use Rattle.runs.specs.Calls.{IsLeastIn, IsLeastFree, IsReady, HasRoomForJob, IsPrepared, IsStarted}
 use Rattle.runs.specs.Ties.{IsStart}
 use Rattle.blob_source.proofs.Asking.{ok_no_error}
 use Rattle.runs.proofs.Fetching.{fetching_memory}
-use Rattle.runs.proofs.Missing.{start_fault, tells_missing}
+use Rattle.plan.specs.Plan.{IsPlan}
+use Rattle.verifier.proofs.Targets.{step_paths}
+use Rattle.runs.proofs.Missing.{start_fault, tells_missing, tells_conflict}
 use Rattle.runs.proofs.Standing.{stands_in}
 use Rattle.runs.proofs.Places.{has_one}
 use Rattle.runs.proofs.Starts.{started_engine, started_event, started_as, least_is_within}
@@ -47,6 +49,19 @@ returns-in_err-job-clause-missing g c = λ s at.
     let engine : IsEngine c.args.self.now = subst IsEngine c.self.view_is c.self.invariant in
     rw (p.1, p.2) (tells_missing g.row.A.Denot tells.blobs c.args.self.now engine s.lines c.in_err-job.field-0.0 (c.in_err-job.ensures.faulty s at))
 
+pub returns-in_err-job-clause-conflict : goal.returns-in_err-job-clause-conflict
+returns-in_err-job-clause-conflict g c = λ s at.
+    let p = err_from_is_err_and c.from_residual.result c.from_residual.ensures.1 in
+    let tells = g.S.BlobSource.tells c.prepare.new.source in
+    let engine : IsEngine c.args.self.now = subst IsEngine c.self.view_is c.self.invariant in
+    let plan : IsPlan c.args.self.now.plan = subst (λ (e : EngineValue). IsPlan e.plan) c.self.view_is c.steps.ensures.lawful in
+    rw (p.1, p.2) (tells_conflict g.row.A.Denot tells.blobs c.args.self.now engine s.lines (step_paths [] c.args.self.now.plan.steps plan.steps c.args.step s at) c.in_err-job.field-0.0 (c.in_err-job.ensures.faulty s at))
+
+pub returns-in_err-place-clause-conflict : goal.returns-in_err-place-clause-conflict
+returns-in_err-place-clause-conflict g c = λ s at.
+    let p = err_from_is_err_and c.from_residual-in_err-place.result c.from_residual-in_err-place.ensures.1 in
+    rw (p.1, p.2) tt
+
 pub returns-in_err-place-clause-refused : goal.returns-in_err-place-clause-refused
 returns-in_err-place-clause-refused g c =
     let p = err_from_is_err_and c.from_residual-in_err-place.result c.from_residual-in_err-place.ensures.1 in
@@ -83,7 +98,7 @@ pub returns-clause-event : goal.returns-clause-event
 returns-clause-event g c =
     let tells = g.S.BlobSource.tells c.prepare.new.source in
     let started = subst (λ e. IsStarted tells.blobs c.args.step e (record { plan = c.self.inside.plan; sources = c.self.inside.sources; frames = c.self.inside.frames.items; commands = c.self.inside.commands.items; finished = c.self.inside.finished.items; jobs = c.place.new.jobs.items }) c.in_ok-job.job) (sym c.self.view_is) (returns-clause-started g c) in
-    subst (λ e. IsStart tells.blobs e c.args.step c.in_ok-job.job.id c.in_ok-job.job.digest (record { plan = c.self.inside.plan; sources = c.self.inside.sources; frames = c.self.inside.frames.items; commands = c.self.inside.commands.items; finished = c.self.inside.finished.items; jobs = c.place.new.jobs.items })) c.self.view_is (started_event tells.blobs c.args.step (record { plan = c.self.inside.plan; sources = c.self.inside.sources; frames = c.self.inside.frames.items; commands = c.self.inside.commands.items; finished = c.self.inside.finished.items; jobs = c.self.inside.jobs.items }) (record { plan = c.self.inside.plan; sources = c.self.inside.sources; frames = c.self.inside.frames.items; commands = c.self.inside.commands.items; finished = c.self.inside.finished.items; jobs = c.place.new.jobs.items }) c.in_ok-job.job c.self.invariant started)
+    subst (λ e. IsStart tells.blobs e c.args.step c.in_ok-job.job.id c.in_ok-job.job.digest (record { plan = c.self.inside.plan; sources = c.self.inside.sources; frames = c.self.inside.frames.items; commands = c.self.inside.commands.items; finished = c.self.inside.finished.items; jobs = c.place.new.jobs.items })) c.self.view_is (started_event tells.blobs c.args.step (record { plan = c.self.inside.plan; sources = c.self.inside.sources; frames = c.self.inside.frames.items; commands = c.self.inside.commands.items; finished = c.self.inside.finished.items; jobs = c.self.inside.jobs.items }) (record { plan = c.self.inside.plan; sources = c.self.inside.sources; frames = c.self.inside.frames.items; commands = c.self.inside.commands.items; finished = c.self.inside.finished.items; jobs = c.place.new.jobs.items }) c.in_ok-job.job c.steps.ensures.lawful c.self.invariant started)
 
 pub returns-in_err-job-clause-stands : goal.returns-in_err-job-clause-stands
 returns-in_err-job-clause-stands g c =

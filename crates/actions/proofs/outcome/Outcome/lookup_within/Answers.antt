@@ -1,0 +1,52 @@
+use Rattle.std.proofs.Common.{◌≡◌, ◌-◌, take, drop, get_or, length, ap, subst, ◌∙◌, arith}
+use Rattle.tree.proofs.VisitSteps.{rest_of}
+use Rattle.tree.specs.Form.{node_value}
+use Rattle.tree.specs.Lookup.{nothing, found, looked}
+use Rattle.tree.specs.Merging.{within_value}
+use Rattle.actions.specs.Outcome.{output_value}
+use Rattle.actions.specs.OutcomeLookup.{LooksBelow}
+use Rattle.actions.proofs.OutcomeLookups.{ascending, lawful, within, none_over, looks_over, lies_over}
+use Rattle.actions.proofs.outcome.Outcome.lookup_within.Goals as goal
+
+pub find_over-requires-clause-ascend : goal.find_over-requires-clause-ascend
+find_over-requires-clause-ascend g c = ascending c.args.self.now c.outputs-outputs.result.now c.outputs-outputs.ensures.value c.outputs-outputs.ensures.lawful
+
+pub find_over-requires-clause-lawful : goal.find_over-requires-clause-lawful
+find_over-requires-clause-lawful g c = lawful c.args.self.now c.outputs-outputs.result.now c.outputs-outputs.ensures.value c.outputs-outputs.ensures.lawful
+
+pub offset_bounds-outputs-over : goal.offset_bounds-outputs-over
+offset_bounds-outputs-over g c = omega (arith, within c.outputs-outputs.result.now c.in-Some.over.place c.in-Some.ensures.0 c.in-Some.ensures.1)
+
+pub bounds-outputs-over : goal.bounds-outputs-over
+bounds-outputs-over g c = within c.outputs-outputs.result.now c.in-Some.over.place c.in-Some.ensures.0 c.in-Some.ensures.1
+
+pub returns-in_default-clause-looked : goal.returns-in_default-clause-looked
+returns-in_default-clause-looked g c = none_over c.args.self.now c.args.path.now c.outputs-outputs.result.now c.outputs-outputs.ensures.value c.in_default.ensures
+
+pub returns-in-Some-2-clause-looked : goal.returns-in-Some-2-clause-looked
+returns-in-Some-2-clause-looked g c =
+    let over = c.in-Some.ensures in
+    let names : c.deref.result.now ≡ c.args.path.now = c.deref.ensures.value ∙ (c.in_ok-names.ensures {u = tt}).value in
+    let rest = take (length c.deref.result.now - c.in-Some.over.names) (drop c.in-Some.over.names c.deref.result.now) in
+    let item = get_or c.outputs-outputs.result.now c.in-Some.over.place c.index-outputs-over.result in
+    looks_over c.args.self.now c.args.path.now rest c.outputs-outputs.result.now c.in-Some.over.place c.in-Some.over.names item over.0 c.outputs-outputs.ensures.value over.1 (ap (get_or c.outputs-outputs.result.now c.in-Some.over.place) c.index-outputs-over.is) over.2
+    (rest_of c.in-Some.over.names c.deref.result.now ∙ ap (drop c.in-Some.over.names) names) (found (node_value c.in-Some-2.node))
+    (subst (λ x. LooksBelow (output_value item.1) rest (looked x)) c.in-Some-2.is (c.in_ok-node.ensures {u = tt}).looked)
+
+pub returns-in-Some-2-clause-within : goal.returns-in-Some-2-clause-within
+returns-in-Some-2-clause-within g c =
+    let over = c.in-Some.ensures in
+    let names : c.deref.result.now ≡ c.args.path.now = c.deref.ensures.value ∙ (c.in_ok-names.ensures {u = tt}).value in
+    let rest = take (length c.deref.result.now - c.in-Some.over.names) (drop c.in-Some.over.names c.deref.result.now) in
+    let item = get_or c.outputs-outputs.result.now c.in-Some.over.place c.index-outputs-over.result in
+    lies_over c.args.self.now c.args.path.now rest c.outputs-outputs.result.now c.in-Some.over.place c.in-Some.over.names item over.0 c.outputs-outputs.ensures.value over.1 (ap (get_or c.outputs-outputs.result.now c.in-Some.over.place) c.index-outputs-over.is) over.2
+    (rest_of c.in-Some.over.names c.deref.result.now ∙ ap (drop c.in-Some.over.names) names) (within_value c.within.result) c.within.ensures
+
+pub returns-clause-looked : goal.returns-clause-looked
+returns-clause-looked g c =
+    let over = c.in-Some.ensures in
+    let names : c.deref.result.now ≡ c.args.path.now = c.deref.ensures.value ∙ (c.in_ok-names.ensures {u = tt}).value in
+    let rest = take (length c.deref.result.now - c.in-Some.over.names) (drop c.in-Some.over.names c.deref.result.now) in
+    let item = get_or c.outputs-outputs.result.now c.in-Some.over.place c.index-outputs-over.result in
+    looks_over c.args.self.now c.args.path.now rest c.outputs-outputs.result.now c.in-Some.over.place c.in-Some.over.names item over.0 c.outputs-outputs.ensures.value over.1 (ap (get_or c.outputs-outputs.result.now c.in-Some.over.place) c.index-outputs-over.is) over.2
+    (rest_of c.in-Some.over.names c.deref.result.now ∙ ap (drop c.in-Some.over.names) names) nothing (subst (λ x. LooksBelow (output_value item.1) rest (looked x)) c.in-None.is (c.in_ok-node.ensures {u = tt}).looked)

@@ -1,5 +1,0 @@
-use Rattle.std.proofs.Common.{length}
-use Rattle.message_rows.proofs.grafts.+are_apart.Given as goal
-
-abbrev pub decreases-are_apart : goal.decreases-are_apart
-decreases-are_apart g l = length l.lines.now

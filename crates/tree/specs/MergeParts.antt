@@ -1,0 +1,51 @@
+-- What the private functions that merge lines speak of: lines as they are kept.
+use Rattle.std.specs.Prelude.{ℕ, List, [], map, Option, Some, None, slice_get}
+use Rattle.std.specs.List.{AllByRecursion}
+use Rattle.std.specs.declared.vec.Vec.{Vec}
+use Rattle.messages.specs.declared.node.Node.{Node}
+use Rattle.tree.specs.declared.merging.Part.{Part}
+use Rattle.tree.specs.declared.merging.Within.{Within}
+use Rattle.tree.specs.declared.visiting.Visited.{Visited}
+use Rattle.tree.specs.Tree.{Name, Tree}
+use Rattle.tree.specs.Form.{NodeValue, node_value}
+use Rattle.tree.specs.Lines.{IsGraftLine}
+use Rattle.tree.specs.Stage.{Stage}
+use Rattle.tree.specs.Merging.{WithinValue, in_source, NodeWithin, MergeLines, MergeFault}
+use Rattle.tree.specs.Merging.{within_value}
+use Rattle.tree.specs.Visiting.{IsVisitOf}
+
+-- where what is below the node of a line is read, by the line's number
+abbrev pub within_in : {A : Type 0} → Option (List Name × Node A × Within A) → WithinValue
+within_in None = in_source
+within_in (Some l) = within_value l.2
+
+abbrev pub within_of : {A : Type 0} → List (List Name × Node A × Within A) → ℕ → WithinValue
+within_of lines i = within_in (slice_get lines i)
+
+-- a line, seen from a path
+abbrev pub part_value : {A : Type 0} → (ℕ → WithinValue) → Part A → List Name × NodeWithin
+part_value W p = (p.names.items, record { node = node_value p.node; within = W p.line })
+
+abbrev pub part_values : {A : Type 0} → (ℕ → WithinValue) → List (Part A) → MergeLines
+part_values W parts = map (part_value W) parts
+
+-- those of one name, if there are some
+abbrev pub found_parts : {A : Type 0} → (ℕ → WithinValue) → Option (Vec (Part A) A) → MergeLines
+found_parts W None = []
+found_parts W (Some v) = part_values W v.items
+
+-- the lines of each name
+abbrev pub group_values : {A : Type 0} → (ℕ → WithinValue) → List (Name × Vec (Part A) A)
+    → List (Name × MergeLines)
+group_values W groups = map (λ g. (g.0, part_values W g.1.items)) groups
+
+-- the Directories of the tree that lines come to
+abbrev pub IsVisitOfMerged : {A : Type 0} → Stage MergeFault (Tree NodeValue) → Visited A → Type 0
+IsVisitOfMerged check v = (t : Tree NodeValue) × check.passes t × IsVisitOf t v
+
+-- a line whose names and node keep their rules
+abbrev pub IsLawfulLine : List Name × NodeWithin → Type 0
+IsLawfulLine l = IsGraftLine (l.0, l.1.node)
+
+abbrev pub AreLawfulLines : MergeLines → Type 0
+AreLawfulLines ls = AllByRecursion IsLawfulLine ls
