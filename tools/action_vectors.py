@@ -13,9 +13,12 @@ itself reads and writes again, without the fields that are skipped and with each
 """
 
 import hashlib
-import sys
 
-from action_messages_pb2 import (
+from harness import words_of
+
+KINDS = words_of(__doc__, 1)
+
+from action_messages_pb2 import (  # noqa: E402
     Action,
     ActionResult,
     Command,
@@ -366,12 +369,11 @@ def row(kind, message, refusal):
     return f"{kind} | {spelled(data)} | {answer}"
 
 
-kinds = sys.argv[1:]
-subject = "Results" if kinds == ["Result"] else "Messages of steps"
+subject = "Results" if KINDS == ["Result"] else "Messages of steps"
 print(f"# {subject} as protobuf encodes them, and whether they are written again with the same")
 print("# bytes; else with which, or why they are refused. tools/action_vectors.py prints this file.")
-rows = {kind: [row(*found) for found in ROWS if found[0] == kind] for kind in kinds}
-text = "\n\n".join("\n".join(rows[kind]) for kind in kinds)
+rows = {kind: [row(*found) for found in ROWS if found[0] == kind] for kind in KINDS}
+text = "\n\n".join("\n".join(rows[kind]) for kind in KINDS)
 for value, name in HASHES.items():
     if f"{{{name}}}" in text:
         print(f"{{{name}}} := {value}")

@@ -4,6 +4,7 @@
 # behind nginx with deploy/nginx.conf. With the variable BUILDCACHE it runs that program instead of ./buildcache; BAZEL is
 # how Bazel is called. It uses the ports 8080 and 8081.
 set -euo pipefail
+case ${1:-} in -h | --help) sed -n '2,/^[^#]/s/^# //p' "$0"; exit ;; esac
 top=$(cd "$(dirname "${BASH_SOURCE[0]}")/.." && pwd)
 program=${BUILDCACHE:-$top/buildcache}
 work=$(mktemp -d)

@@ -4,6 +4,7 @@
 # its tests, and a generated workspace of 1,100 steps. With the variable BUILDCACHE it asks that program instead of
 # ./buildcache; BAZEL is how Bazel is called.
 set -euo pipefail
+case ${1:-} in -h | --help) sed -n '2,/^[^#]/s/^# //p' "$0"; exit ;; esac
 top=$(cd "$(dirname "${BASH_SOURCE[0]}")/.." && pwd)
 program=${BUILDCACHE:-$top/buildcache}
 work=$(mktemp -d)

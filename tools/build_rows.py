@@ -2,172 +2,272 @@
 """Tries `build` with real processes, over the program's own server: build_rows.py PROGRAM
 
 Steps that make a file, end with a code, name their program badly, make what is no output, read an input, are ended by
-a signal, and wait for each other; the second build of a plan, which runs nothing; the `verify` of what was built; and
-folders that can't be those of the jobs.
-It prints a line for each row, and ends with status 1 where one failed. Nothing outside this machine is asked.
+a signal, and wait for each other; lines whose directories merge, and that don't; the second build of a plan, which runs
+nothing; the `verify` of each record; folders that can't be those of the jobs; and builds over a server that cuts each
+reply in turn, or changes a byte of it. It prints a line for each row, and ends with status 1 where one failed. Nothing
+outside this machine is asked.
 """
 
-import hashlib
 import os
-import subprocess
 import sys
 import tempfile
 
-EMPTY = f"{hashlib.sha256(b'').hexdigest()}/0"
+import harness
+import stores
+from harness import Between, Server
+from messages import EMPTY, Digest, File, action_message, command_message, directory_message
 
-
-def field(number, payload):
-    """A field of bytes, as protobuf encodes it."""
-    size, length = len(payload), b""
-    while size > 127:
-        length += bytes([size % 128 + 128])
-        size //= 128
-    return bytes([8 * number + 2]) + length + bytes([size]) + payload
-
-
-def varint(number):
-    out = b""
-    while number > 127:
-        out += bytes([number % 128 + 128])
-        number //= 128
-    return out + bytes([number])
-
-
-def digest_of(blob):
-    """A Digest message."""
-    size = b"\x10" + varint(len(blob)) if blob else b""
-    return field(1, hashlib.sha256(blob).hexdigest().encode()) + size
-
-
-def text_of(blob):
-    return f"{hashlib.sha256(blob).hexdigest()}/{len(blob)}"
-
-
-def command(words, outputs):
-    return b"".join(field(1, it.encode()) for it in words) + b"".join(field(7, it.encode()) for it in outputs)
+NINE = b"123456789"
+SHELL = ["/bin/sh", "-c"]
 
 
 def directory(name, blob):
     """The Directory of one file."""
-    return field(1, field(1, name.encode()) + field(2, digest_of(blob)))
+    return directory_message({name: File(Digest.of(blob), is_executable=False)})
 
 
-class Rows:
-    """A server, the folder in which it is tried, and how much of it failed."""
+MADE = Digest.of(directory("a", NINE)).text()
 
-    def __init__(self, program, work):
-        self.program, self.work, self.failed, self.builds = program, work, 0, 0
-        limits = ["--limit", "1000000", "--result-limit", "100000"]
-        self.server = subprocess.Popen(
-            [program, "serve", "--listen", "127.0.0.1:0", "--connections", "1000", *limits],
-            stdout=subprocess.PIPE, stderr=subprocess.DEVNULL, text=True)
-        self.address = self.server.stdout.readline().split()[1]
+
+class Builds:
+    """A server, and the folder in which it is tried."""
+
+    def __init__(self, program, work, rows):
+        self.program, self.work, self.rows, self.count = program, work, rows, 0
+        self.renew()
+
+    def renew(self):
+        """Another server, which holds nothing."""
+        if self.count:
+            self.server.end()
+        self.server = Server(self.program, None, 1000000, 100000)
+        self.address = self.server.address
 
     def run(self, *words):
-        return subprocess.run([self.program, *words], capture_output=True, text=True, timeout=60)
+        return harness.run(self.program, *words)
 
     def put(self, blob):
-        with open(f"{self.work}/blob", "wb") as it:
-            it.write(blob)
+        stores.write_file(f"{self.work}/blob", blob)
         done = self.run("put", "--server", self.address, f"{self.work}/blob")
-        assert done.stdout == f"{text_of(blob)}\n", done
+        assert done.stdout == f"{Digest.of(blob).text()}\n".encode(), done
 
-    def plan(self, steps, lines):
+    def plan(self, steps, lines, version=1):
         """The text of a plan: a step has a name, its words, its outputs and its lines."""
-        text = "buildplan 1\n"
+        text = f"buildplan {version}\n"
         for name, words, outputs, reads in steps:
-            meant = command(words, outputs)
-            frame = field(1, digest_of(meant))
+            meant = command_message(words, outputs)
+            frame = action_message(Digest.of(meant))
             self.put(meant)
             self.put(frame)
-            text += f"step {name} {text_of(frame)}\n" + "".join(f"in {it}\n" for it in reads)
+            text += f"step {name} {Digest.of(frame).text()}\n" + "".join(f"in {it}\n" for it in reads)
         return text + "root\n" + "".join(f"in {it}\n" for it in lines)
 
-    def build(self, plan, sources=EMPTY, jobs=1, spoil=lambda work: None):
+    def one_step(self, words, reads=()):
+        return self.plan([("mk", words, ["out"], reads)], ["a out mk out"])
+
+    def build(self, plan, sources=EMPTY.text(), jobs=1, spoil=lambda work: None, address=None):
         """Builds a plan; the run, and the folder of its plan and its record. The folder of the jobs is spoilt first."""
-        self.builds += 1
-        place = f"{self.work}/{self.builds}"
+        self.count += 1
+        place = f"{self.work}/{self.count}"
         os.makedirs(f"{place}/work")
         spoil(f"{place}/work")
-        with open(f"{place}/plan", "w", encoding="utf-8") as it:
-            it.write(plan)
-        done = self.run("build", "--server", self.address, "--sources", sources, "--plan", f"{place}/plan", "--record",
-                        f"{place}/record", "--work", f"{place}/work", "--jobs", str(jobs))
+        stores.write_file(f"{place}/plan", plan.encode())
+        done = self.run("build", "--server", address or self.address, "--sources", sources, "--plan", f"{place}/plan",
+                        "--record", f"{place}/record", "--work", f"{place}/work", "--jobs", str(jobs))
         return done, place
 
-    def tell(self, name, right, seen=""):
-        self.failed += not right
-        print(f"{'ok    ' if right else 'FAILED'} {name}{'' if right else f': {seen}'}")
-
     def expect(self, name, done, place, out, status):
-        right = done.stdout == out and done.returncode == status
+        right = done.stdout == out.encode() and done.returncode == status
         right = right and os.path.exists(f"{place}/record") == (status == 0)
-        right = right and done.stderr.count("\n") == (status > 1) and done.stderr.startswith("error: ") == (status > 1)
-        self.tell(name, right, (done.returncode, done.stdout, done.stderr))
+        right = right and (harness.is_error(done.stderr) if status > 1 else done.stderr == b"")
+        self.rows.tell(name, right, done)
+
+    def expect_built(self, name, done, place, root, steps=1, sources=EMPTY.text()):
+        """That a plan was built, and that `verify` says yes to its record."""
+        self.expect(name, done, place, f"built {root} steps {steps}\n", 0)
+        self.expect_verdict(f"{name}: verified", place, root, f"yes {root} steps {steps}\n", 0, sources)
+
+    def expect_verdict(self, name, place, root, out, status, sources=EMPTY.text()):
+        """That `verify` says so of the plan and the record of a build."""
+        asked = ["--plan", f"{place}/plan", "--record", f"{place}/record", "--claim", root, "--sources", sources]
+        told = self.run("verify", "--server", self.address, *asked)
+        self.rows.tell(name, (told.stdout, told.returncode) == (out.encode(), status), told)
+
+    def ran_nothing(self, place):
+        """Tells that no job had a folder."""
+        jobs = os.listdir(f"{place}/work")
+        self.rows.tell("and no process was run", jobs == [], jobs)
 
 
-def one_step(rows, words, reads=()):
-    return rows.plan([("mk", words, ["out"], reads)], ["a out mk out"])
+def record_of(place):
+    with open(f"{place}/record", "rb") as it:
+        return it.read()
 
 
-def rows_of_one_step(rows):
-    nine = b"123456789"
-    made = text_of(directory("a", nine))
-    shell = ["/bin/sh", "-c"]
+def rows_of_one_step(builds):
+    printed = [*SHELL, "printf %s 123456789 > out"]
+    done, first = builds.build(builds.one_step(printed))
+    builds.expect_built("a file is made", done, first, MADE)
+    builds.rows.tell("and one process was run", os.listdir(f"{first}/work") == ["0"], os.listdir(f"{first}/work"))
     for name, words, out, status in [
-        ("a file is made", [*shell, "printf %s 123456789 > out"], f"built {made} steps 1\n", 0),
-        ("an exit code", [*shell, "exit 3"], "failed step mk 103\n", 1),
+        ("an exit code", [*SHELL, "exit 3"], "failed step mk 103\n", 1),
         ("a program by its name alone", ["sh", "-c", "exit 0"], "failed step mk 112\n", 1),
-        ("a fifo", [*shell, "mkfifo out"], "failed step mk 114\n", 1),
-        ("nothing at the output path", [*shell, "exit 0"], "failed root 106\n", 1),
-        ("a signal", [*shell, "kill -9 $$"], "", 3),
+        ("a fifo", [*SHELL, "mkfifo out"], "failed step mk 114\n", 1),
+        ("nothing at the output path", [*SHELL, "exit 0"], "failed root 106\n", 1),
+        ("a signal", [*SHELL, "kill -9 $$"], "", 3),
     ]:
-        done, place = rows.build(one_step(rows, words))
-        rows.expect(name, done, place, out, status)
-    done, place = rows.build(one_step(rows, [*shell, "printf %s 123456789 > out"]))
-    rows.expect("again: the result is the store's", done, place, f"built {made} steps 1\n", 0)
-    rows.tell("and no process was run", os.listdir(f"{place}/work") == [], os.listdir(f"{place}/work"))
-    asked = ["--plan", f"{place}/plan", "--record", f"{place}/record", "--claim", made, "--sources", EMPTY]
-    done = rows.run("verify", "--server", rows.address, *asked)
-    rows.tell("what was built is verified", done.stdout == f"yes {made} steps 1\n", done)
-    rows.put(nine)
-    sources = directory("a", nine)
-    rows.put(sources)
-    read = one_step(rows, [*shell, 'read -r l < d/x; printf %s "$l" > out'], ["d/x src a"])
-    done, place = rows.build(read, text_of(sources))
-    rows.expect("an input is read", done, place, f"built {made} steps 1\n", 0)
+        done, place = builds.build(builds.one_step(words))
+        builds.expect(name, done, place, out, status)
+    done, place = builds.build(builds.one_step(printed))
+    builds.expect_built("again: the result is the store's", done, place, MADE)
+    builds.ran_nothing(place)
+    builds.rows.tell("and the record is the same", record_of(place) == record_of(first), record_of(place))
+    builds.put(NINE)
+    sources = directory("a", NINE)
+    builds.put(sources)
+    read = builds.one_step([*SHELL, 'read -r l < d/x; printf %s "$l" > out'], ["d/x src a"])
+    done, place = builds.build(read, Digest.of(sources).text())
+    builds.expect_built("an input is read", done, place, MADE, 1, Digest.of(sources).text())
 
 
-def rows_of_two_steps(rows):
+def rows_of_two_steps(builds):
     waits = 'n=0; : > "$1"; while [ ! -e "$2" ]; do n=$((n+1)); [ $n -le 3000000 ] || exit 1; done'
-    for jobs, out, status in [(2, f"built {EMPTY} steps 2\n", 0), (1, "failed step one 103\n", 1)]:
-        marks = [f"{rows.work}/mark-{jobs}-{it}" for it in "ab"]
-        steps = [("one", ["/bin/sh", "-c", waits, "sh", *marks], [], ()),
-                 ("two", ["/bin/sh", "-c", waits, "sh", *reversed(marks)], [], ())]
-        done, place = rows.build(rows.plan(steps, []), jobs=jobs)
-        rows.expect(f"two steps that wait for each other, {jobs} at once", done, place, out, status)
+    for jobs in (2, 1):
+        marks = [f"{builds.work}/mark-{jobs}-{it}" for it in "ab"]
+        steps = [("one", [*SHELL, waits, "sh", *marks], [], ()), ("two", [*SHELL, waits, "sh", *reversed(marks)], [], ())]
+        done, place = builds.build(builds.plan(steps, []), jobs=jobs)
+        name = f"two steps that wait for each other, {jobs} at once"
+        if jobs == 2:
+            builds.expect_built(name, done, place, EMPTY.text(), 2)
+        else:
+            builds.expect(name, done, place, "failed step one 103\n", 1)
 
 
-def rows_of_the_folder(rows):
-    plan = one_step(rows, ["/bin/sh", "-c", "exit 0"])
+def rows_of_merges(builds):
+    """Version 2: a step that reads its sources and what an earlier one made in one folder, and a root of two steps' folders."""
+
+    def makes(files):
+        return [*SHELL, "mkdir out" + "".join(f"; printf %s {content} > out/{name}" for name, content in files.items())]
+
+    def roots(first, second):
+        """A plan of two steps that make a folder each, and a root that merges these."""
+        steps = [("one", makes(first), ["out"], ()), ("two", makes(second), ["out"], ())]
+        return builds.plan(steps, ["r out one out", "r out two out"], 2)
+
+    def of(content):
+        return File(Digest.of(content), is_executable=False)
+
+    builds.put(NINE)
+    sources = directory("a", NINE)
+    builds.put(sources)
+    given = Digest.of(sources).text()
+    use = ("use", [*SHELL, "mkdir out; cat d/a d/b > out/c"], ["out"], ["d src .", "d out gen out"])
+    plan = builds.plan([("gen", makes({"b": "made"}), ["out"], ()), use], ["r out gen out", "r out use out"], 2)
+    root = Digest.of(directory_message({"r": {"b": of(b"made"), "c": of(NINE + b"made")}})).text()
+    done, place = builds.build(plan, given)
+    builds.expect_built("sources and a step's folder in one, and the folders of two steps", done, place, root, 2, given)
+    done, place = builds.build(plan.replace("buildplan 2", "buildplan 1"), given)
+    builds.expect("a plan of version 1 with lines that meet", done, place, "", 2)
+    done, place = builds.build(builds.plan([("gen", makes({"a": "made"}), ["out"], ()), use], [], 2), given)
+    builds.expect("a file of the sources and another that a step made at its path", done, place, "failed step use 110\n", 1)
+    done, place = builds.build(roots({"b": "made"}, {"b": "other"}))
+    builds.expect("two steps that made different files at one path", done, place, "failed root 110\n", 1)
+    done, place = builds.build(roots({"b": "made"}, {"b": "made", "c": "more"}))
+    root = Digest.of(directory_message({"r": {"b": of(b"made"), "c": of(b"more")}})).text()
+    builds.expect_built("two steps that made the same file at one path", done, place, root, 2)
+    meeting = plan_of(place).replace("in r out two out", "in r/b out two out")
+    stores.write_file(f"{place}/plan", meeting.encode())
+    builds.expect_verdict("a folder at the path of a file: no", place, root, "no root cause input-conflict r/b\n", 1)
+
+
+def plan_of(place):
+    with open(f"{place}/plan", encoding="ascii") as it:
+        return it.read()
+
+
+def rows_of_the_folder(builds):
+    plan = builds.one_step([*SHELL, "exit 0"])
     for name, spoil, status in [("no folder for the jobs", os.rmdir, 3),
                                 ("a folder that isn't empty", lambda work: os.mkdir(f"{work}/0"), 2)]:
-        done, place = rows.build(plan, spoil=spoil)
-        rows.expect(name, done, place, "", status)
-        rows.tell("and it is named", f'"{place}/work"' in done.stderr, done.stderr)
+        done, place = builds.build(plan, spoil=spoil)
+        builds.expect(name, done, place, "", status)
+        builds.rows.tell("and it is named", f'"{place}/work"'.encode() in done.stderr, done.stderr)
+    gone = f"{builds.work}/{builds.count + 1}/work"
+    steps = [("one", [*SHELL, 'rm -rf "$1"', "sh", gone], [], ()), ("two", [*SHELL, "exit 0"], [], ())]
+    done, place = builds.build(builds.plan(steps, []))
+    builds.expect("a folder that is gone once the first job has ended", done, place, "", 3)
 
 
-def main(program):
+def rows_of_replies(builds):
+    """Two steps, one of the other's output, over a server that holds nothing of them: each reply is cut in turn, and a byte
+    of each body changed. No build comes to another root, and none that didn't come to its root has a record."""
+    steps = [("one", [*SHELL, "printf %s 123456789 > out"], ["out"], ()), ("two", [*SHELL, "cat d/x > out"], ["out"], ["d/x out one out"])]
+    lines = ["a out two out"]
+
+    def through(change):
+        builds.renew()
+        plan = builds.plan(steps, lines)
+        with Between(builds.server, change) as it:
+            return *builds.build(plan, address=it.address), it.address
+
+    bodies = []
+    done, place, _ = through(lambda _number, _method, path, head, body: bodies.append((path, body)) or head + body)
+    builds.expect("two steps through another server", done, place, f"built {MADE} steps 2\n", 0)
+    rows_of_its_verify(builds, place)
+    for number, (path, body) in enumerate(bodies):
+        done, place, address = through(lambda it, _method, _path, head, body: (head + body)[: -1 if it == number else None])
+        builds.expect(f"reply {number + 1} is cut by a byte", done, place, "", 3)
+        builds.rows.tell("and the server is named", address.encode() in done.stderr, done.stderr)
+        if body:
+            done, place, _ = through(lambda it, _method, _path, head, body: head + (spoilt(body) if it == number else body))
+            right = (done.returncode == 0) == os.path.exists(f"{place}/record") and done.returncode in (0, 1)
+            right = right and (done.stdout.startswith(b"failed ") if done.returncode else done.stdout == f"built {MADE} steps 2\n".encode())
+            right = right and (done.returncode == 1 or not path.startswith("/cas/"))
+            builds.rows.tell(f"a byte of reply {number + 1} is changed: no other root", right, done)
+
+
+def rows_of_its_verify(builds, place):
+    """The `verify` of that build, whose replies are changed in turn: a blob that is wrong is named, and no result is believed."""
+    words = ["--sources", EMPTY.text(), "--plan", f"{place}/plan", "--record", f"{place}/record", "--claim", MADE]
+
+    def through(change):
+        with Between(builds.server, change) as it:
+            return builds.run("verify", "--server", it.address, *words)
+
+    bodies = []
+    told = through(lambda _number, _method, path, head, body: bodies.append((path, body)) or head + body)
+    builds.rows.tell("its verify through another server", told.stdout == f"yes {MADE} steps 2\n".encode(), told)
+    for number, (path, body) in enumerate(bodies):
+        told = through(lambda it, _method, _path, head, body: head + (spoilt(body) if it == number else body))
+        part, name = path.split("/")[1:]
+        end = f" cause blob-wrong {name}/{len(body)}\n" if part == "cas" else "\n"
+        right = told.returncode == 1 and told.stdout.startswith(b"no ") and told.stdout.endswith(end.encode())
+        builds.rows.tell(f"a byte of its reply {number + 1} is changed: no", right, told)
+
+
+def spoilt(body):
+    return body[:-1] + bytes([body[-1] ^ 1]) if body else body
+
+
+def try_all(rows, program):
     with tempfile.TemporaryDirectory() as work:
-        rows = Rows(os.path.realpath(program), work)
+        builds = Builds(os.path.realpath(program), work, rows)
         try:
-            rows_of_one_step(rows)
-            rows_of_two_steps(rows)
-            rows_of_the_folder(rows)
+            rows_of_one_step(builds)
+            rows_of_two_steps(builds)
+            rows_of_merges(builds)
+            rows_of_the_folder(builds)
+            rows_of_replies(builds)
         finally:
-            rows.server.kill()
-    return 1 if rows.failed else 0
+            builds.server.end()
+
+
+def main():
+    (program,) = harness.words_of(__doc__, 1, 1)
+    rows = harness.Rows()
+    try_all(rows, program)
+    return rows.end()
 
 
 if __name__ == "__main__":
-    sys.exit(main(sys.argv[1]))
+    sys.exit(main())

@@ -1,13 +1,14 @@
 #!/usr/bin/env python3
 """Runs the gate (.ci/run) and tells what it took, as the table of docs/GATE.md: gate_minutes.py [--anew] [LOG].
 
-For each crate: the processor minutes of its proof, of its tests' proof and of its must-fail edits, and the most memory
-that one of these processes held. It looks at the gate's processes of the toolchain twice a second, so what lives shorter
+For each crate: the processor minutes of its proof, of its tests' proof and of its mistakes, and the most memory that one
+of these processes held. It looks at the gate's processes of the toolchain twice a second, so what lives shorter
 isn't seen. The gate's own output goes to LOG (gate.log), each line after the minutes since the start. With --anew the gate
 takes nothing from earlier runs on this machine; a kit whose `rt help` doesn't know that word never does.
 """
 import collections
 import os
+import re
 import shutil
 import subprocess
 import sys
@@ -15,7 +16,10 @@ import tempfile
 import threading
 import time
 
+from harness import words_of
+
 TICKS = os.sysconf("SC_CLK_TCK")
+KINDS = ("proof", "tests", "mistakes")
 
 
 def is_below(pid, top):
@@ -47,7 +51,7 @@ def processes():
 def watch(seen, stopped):
     while not stopped.wait(0.5):
         for key, words, folder, seconds, peak in processes():
-            kind = "edits" if "/rt-edit-" in folder else "tests" if "--test" in words else "proof"
+            kind = "mistakes" if re.search("/(rt-edit|buildcache-check)-", folder) else "tests" if "--test" in words else "proof"
             seen[key] = words[words.index("--crate-name") + 1], kind, seconds, peak
 
 
@@ -86,13 +90,13 @@ def timed(file, environment):
     for crate, kind, seconds, peak in seen.values():
         minutes[crate, kind] += seconds / 60
         peaks[crate] = max(peaks[crate], peak)
-    print("| Crate | Proof | Tests | Edits | Peak memory |\n|---|---|---|---|---|")
-    for crate in sorted(peaks, key=lambda it: -sum(minutes[it, kind] for kind in ("proof", "tests", "edits"))):
-        row = [f"{minutes[crate, kind]:.1f}" for kind in ("proof", "tests", "edits")]
+    print("| Crate | Proof | Tests | Mistakes | Peak memory |\n|---|---|---|---|---|")
+    for crate in sorted(peaks, key=lambda it: -sum(minutes[it, kind] for kind in KINDS)):
+        row = [f"{minutes[crate, kind]:.1f}" for kind in KINDS]
         print(f"| `{crate}` | {' | '.join(row)} | {peaks[crate] / 1e6:.1f} GB |")
     print(f"\n{(time.time() - began) / 60:.1f} minutes; {sum(minutes.values()):.0f} processor minutes; {last}")
     return status
 
 
 if __name__ == "__main__":
-    sys.exit(main(sys.argv[1:]))
+    sys.exit(main(words_of(__doc__, 0, 2)))

@@ -8,23 +8,24 @@ times as long as xargs the build took at the least.
 
 import os
 import subprocess
-import sys
 import tempfile
 import time
 
-from build_rows import Rows, command, digest_of, field, text_of
+import harness
+import stores
+from build_rows import Builds
+from messages import Digest, action_message, command_message
 
 
 def plan_of(count, blobs):
     """The text of a plan of so many steps; their frames and commands are written to the folder."""
     text = "buildplan 1\n"
     for number in range(count):
-        meant = command(["/bin/true", str(number)], [])
-        frame = field(1, digest_of(meant))
+        meant = command_message(["/bin/true", str(number)], [])
+        frame = action_message(Digest.of(meant))
         for name, blob in (("command", meant), ("frame", frame)):
-            with open(f"{blobs}/{name}-{number}", "wb") as it:
-                it.write(blob)
-        text += f"step s{number} {text_of(frame)}\n"
+            stores.write_file(f"{blobs}/{name}-{number}", blob)
+        text += f"step s{number} {Digest.of(frame).text()}\n"
     return text + "root\n"
 
 
@@ -34,8 +35,8 @@ def seconds_of(call):
     return time.time() - began
 
 
-def build(rows, plan):
-    done, _place = rows.build(plan, jobs=4)
+def build(builds, plan):
+    done, _place = builds.build(plan, jobs=4)
     assert done.returncode == 0, done
 
 
@@ -43,15 +44,15 @@ def turn(program, count):
     """The seconds of a build, of the same again, and of xargs."""
     with tempfile.TemporaryDirectory() as work:
         os.mkdir(f"{work}/blobs")
-        rows = Rows(program, work)
+        builds = Builds(program, work, harness.Rows())
         try:
             plan = plan_of(count, f"{work}/blobs")
-            rows.run("put", "--server", rows.address, f"{work}/blobs")
-            builds = [seconds_of(lambda: build(rows, plan)) for _ in range(2)]
+            builds.run("put", "--server", builds.address, f"{work}/blobs")
+            seconds = [seconds_of(lambda: build(builds, plan)) for _ in range(2)]
         finally:
-            rows.server.kill()
+            builds.server.end()
     words = f"seq {count} | xargs -P4 -n1 /bin/true"
-    return [*builds, seconds_of(lambda: subprocess.run(words, shell=True, check=True))]
+    return [*seconds, seconds_of(lambda: subprocess.run(words, shell=True, check=True))]
 
 
 def main(program, count="1000", turns="5"):
@@ -66,4 +67,4 @@ def main(program, count="1000", turns="5"):
 
 
 if __name__ == "__main__":
-    main(*sys.argv[1:])
+    main(*harness.words_of(__doc__, 1, 3))

@@ -4,56 +4,28 @@
     ./measure_verify.py ../crates/buildcache/out/buildcache steps 1024 2048 4096
     ./measure_verify.py ../crates/buildcache/out/buildcache outputs 16384 32768 65536
     ./measure_verify.py ../crates/buildcache/out/buildcache sources 1024 2048 4096
+    ./measure_verify.py ../crates/buildcache/out/buildcache meeting 16384 32768 65536
 
 `steps`: so many steps, each of which has 16 files of the step before it and makes a directory of 16 files.
 `outputs`: one step that makes a directory of so many files, and a root of as many lines, one for each.
 `sources`: a source directory of so many files, and a root of as many lines, one for each.
+`meeting`: a root of so many lines, of which half put a directory somewhere, and each other one a file into one of these;
+`apart`: as many lines, whose files stand beside the directories, in a plan of version 1.
 
 Each build is written to a folder of its own, which is gone afterwards. It is run three times, and the least time
 counts; beside each run `sha256sum` reads and hashes the files of the store, and its least time is told too. The
 messages are encoded here as protobuf does, and by nothing of this repository.
 """
 
-import hashlib
 import os
 import subprocess
 import sys
 import tempfile
 import time
 
-
-def varint(number):
-    groups = bytearray()
-    while number >= 0x80:
-        groups.append(number & 0x7F | 0x80)
-        number >>= 7
-    groups.append(number)
-    return bytes(groups)
-
-
-def field(number, payload):
-    return varint(number << 3 | 2) + varint(len(payload)) + payload
-
-
-def digest(blob):
-    return hashlib.sha256(blob).hexdigest(), len(blob)
-
-
-def digest_message(named):
-    name, size = named
-    return field(1, name.encode()) + (b"\x10" + varint(size) if size else b"")
-
-
-def text(named):
-    return f"{named[0]}/{named[1]}"
-
-
-def file_node(name, named):
-    return field(1, field(1, name.encode()) + field(2, digest_message(named)))
-
-
-def directory_node(name, named):
-    return field(2, field(1, name.encode()) + field(2, digest_message(named)))
+import harness
+import stores
+from messages import EMPTY, Digest, File, action_message, command_message, directory_message, result_message, tree_message
 
 
 class Build:
@@ -61,39 +33,35 @@ class Build:
 
     def __init__(self, folder):
         self.folder = folder
+        self.store = stores.FolderStore(os.path.join(folder, "store"))
         self.plan = ["buildplan 1"]
         self.record = ["buildrecord 1"]
         self.hashed = 0
-        for part in ("cas", "ac"):
-            os.makedirs(os.path.join(folder, "store", part))
 
     def keep(self, blob):
-        named = digest(blob)
+        named = Digest.of(blob)
         self.hashed += len(blob)
-        with open(os.path.join(self.folder, "store", "cas", named[0]), "wb") as out:
-            out.write(blob)
+        self.store.put("cas", named.hash, blob)
         return named
 
     def step(self, name, lines, input_root, files):
         """A step that makes a directory `out` with these files."""
-        command = self.keep(field(1, b"/bin/true") + field(1, name.encode()) + field(7, b"out"))
-        frame = field(1, digest_message(command))
-        action = self.keep(frame + field(2, digest_message(input_root)))
-        tree = self.keep(field(1, b"".join(file_node(name, named) for name, named in files)))
-        result = field(3, field(1, b"out") + field(3, digest_message(tree)))
+        command = self.keep(command_message(["/bin/true", name], ["out"]))
+        frame = action_message(command)
+        action = self.keep(action_message(command, input_root))
+        result = result_message({"out": self.keep(tree_message(files))})
         self.hashed += len(result) + len(frame)
-        with open(os.path.join(self.folder, "store", "ac", action[0]), "wb") as out:
-            out.write(result)
-        self.plan += [f"step {name} {text(digest(frame))}", *lines]
-        self.record.append(f"step {name} {text(action)}")
+        self.store.put("ac", action.hash, result)
+        self.plan += [f"step {name} {Digest.of(frame).text()}", *lines]
+        self.record.append(f"step {name} {action.text()}")
 
     def run(self, program, sources, claim):
         """The least seconds of three runs, the greatest memory in KiB, and the least seconds of sha256sum beside."""
         for name in ("plan", "record"):
             with open(os.path.join(self.folder, name), "w") as out:
                 out.write("\n".join(getattr(self, name)) + "\n")
-        words = [program, "verify", "--store", "store", "--sources", text(sources), "--plan", "plan"]
-        words += ["--record", "record", "--claim", text(claim)]
+        words = [program, "verify", "--store", "store", "--sources", sources.text(), "--plan", "plan"]
+        words += ["--record", "record", "--claim", claim.text()]
         least, memory, beside = None, 0, None
         for _ in range(3):
             hashed = self.sha256sum()
@@ -121,47 +89,70 @@ class Build:
 
 
 def contents(count, salt):
-    """So many names in order, each with the digest of a content of its own."""
-    return [(f"f{index:05}", digest(f"{salt} {index}".encode())) for index in range(count)]
-
-
-def flat(files):
-    return b"".join(file_node(name, named) for name, named in files)
+    """So many names in order, each with a content of its own."""
+    return {f"f{index:05}": File(Digest.of(f"{salt} {index}".encode()), is_executable=False) for index in range(count)}
 
 
 def steps(build, count):
-    before = []
+    before = {}
     for index in range(count):
         name = f"s{index:04}"
-        lines = [f"in data/{file} out s{index - 1:04} out/{file}" for file, _ in before]
-        root = directory_node("data", digest(flat(before))) if before else b""
+        lines = [f"in data/{file} out s{index - 1:04} out/{file}" for file in before]
+        root = directory_message({"data": before} if before else {})
         before = contents(16, name)
-        build.step(name, lines, digest(root), before)
+        build.step(name, lines, Digest.of(root), before)
     build.plan += ["root", f"in out out {name} out"]
-    return digest(b""), digest(directory_node("out", digest(flat(before))))
+    return EMPTY, Digest.of(directory_message({"out": before}))
 
 
 def outputs(build, count):
     files = contents(count, "made")
-    build.step("make", [], digest(b""), files)
-    build.plan += ["root"] + [f"in {name} out make out/{name}" for name, _ in files]
-    return digest(b""), digest(flat(files))
+    build.step("make", [], EMPTY, files)
+    build.plan += ["root"] + [f"in {name} out make out/{name}" for name in files]
+    return EMPTY, Digest.of(directory_message(files))
 
 
 def sources(build, count):
     files = contents(count, "source")
-    root = build.keep(flat(files))
-    build.plan += ["root"] + [f"in {name} src {name}" for name, _ in files]
+    root = build.keep(directory_message(files))
+    build.plan += ["root"] + [f"in {name} src {name}" for name in files]
     return root, root
 
 
+def lines_beside(build, count, version):
+    """Half of the lines have a directory of one file, and each other one a file: in version 2 within that directory."""
+    files = contents(2, "source")
+    below = {"f00000": files["f00000"]}
+    root = build.keep(directory_message({"d": build.keep(directory_message(below)), **files}))
+    build.plan = [f"buildplan {version}", "root"]
+    made = {}
+    for index in range(count // 2):
+        name, other = f"d{index:05}", f"{'d' if version == 2 else 'e'}{index:05}"
+        build.plan += [f"in {name} src d", f"in {other}/f00001 src f00001"]
+        made.setdefault(name, {}).update(below)
+        made.setdefault(other, {})["f00001"] = files["f00001"]
+    return root, Digest.of(directory_message(made))
+
+
+def meeting(build, count):
+    return lines_beside(build, count, 2)
+
+
+def apart(build, count):
+    return lines_beside(build, count, 1)
+
+
+KINDS = {"steps": steps, "outputs": outputs, "sources": sources, "meeting": meeting, "apart": apart}
+
+
 def main():
-    program, kind, *counts = sys.argv[1:]
-    make = {"steps": steps, "outputs": outputs, "sources": sources}[kind]
+    program, kind, *counts = harness.words_of(__doc__, 3)
+    if kind not in KINDS:
+        sys.exit(f"measure_verify: {kind} is none of {', '.join(KINDS)}")
     for count in map(int, counts):
         with tempfile.TemporaryDirectory() as folder:
             build = Build(folder)
-            named, claim = make(build, count)
+            named, claim = KINDS[kind](build, count)
             seconds, memory, beside = build.run(os.path.abspath(program), named, claim)
             kept = f"{memory // 1024} MB | {build.hashed // 1024:,} KiB"
             print(f"| {count:,} | {seconds:.2f} s | {kept} | {beside:.2f} s |", flush=True)

@@ -9,34 +9,13 @@ built (crates/buildcache/out/buildcache).
 
 import hashlib
 import os
-import shutil
 import socket
-import subprocess
-import sys
-import tempfile
 import time
+
+from harness import Nginx, Server, words_of
 
 SIZES = [1 << 10, 64 << 10, 1 << 20, 16 << 20]
 TURNS = 10
-CONFIG = """
-daemon off;
-worker_processes 1;
-pid {folder}/pid;
-error_log {folder}/error.log;
-events {{}}
-http {{
-    access_log off;
-    client_max_body_size 16m;
-    client_body_buffer_size 16m;
-    client_body_temp_path {folder}/body;
-    keepalive_requests 100000000;
-    server {{
-        listen 127.0.0.1:{port};
-        root {folder}/store;
-        location / {{ dav_methods PUT; create_full_put_path on; }}
-    }}
-}}
-"""
 
 
 class Client:
@@ -101,33 +80,6 @@ def turn(client, make, seconds, statuses):
     return done / spent
 
 
-def start_serve(program):
-    process = subprocess.Popen(
-        [program, "serve", "--listen", "127.0.0.1:0", "--connections", "1", "--limit", str(1 << 30), "--result-limit", "1000000"],
-        stdout=subprocess.PIPE, stderr=subprocess.DEVNULL, text=True,
-    )
-    return process, int(process.stdout.readline().rpartition(":")[2])
-
-
-def start_nginx(folder):
-    with socket.socket() as free:
-        free.bind(("127.0.0.1", 0))
-        port = free.getsockname()[1]
-    os.makedirs(f"{folder}/store")
-    os.chmod(folder, 0o777)
-    os.chmod(f"{folder}/store", 0o777)
-    with open(f"{folder}/conf", "w", encoding="utf-8") as out:
-        out.write(CONFIG.format(folder=folder, port=port))
-    process = subprocess.Popen(["nginx", "-c", f"{folder}/conf", "-e", f"{folder}/error.log"], stderr=subprocess.DEVNULL)
-    for _ in range(100):
-        try:
-            socket.create_connection(("127.0.0.1", port)).close()
-            return process, port
-        except ConnectionRefusedError:
-            time.sleep(0.05)
-    raise SystemExit("serve_speed: nginx doesn't listen")
-
-
 def hashing(size):
     """How many blobs of a size Python's hashlib (OpenSSL) hashes a second, for comparison."""
     blob, begun, done = os.urandom(size), time.perf_counter(), 0
@@ -154,30 +106,15 @@ def measure(clients, seconds, store):
             os.remove(f"{store}/cas/{name}")
 
 
-def main(words):
-    if not words or words[0] in ("-h", "--help"):
-        print(__doc__.strip())
-        return 0 if words else 2
-    folder = tempfile.mkdtemp(dir="/dev/shm")
-    processes = []
-    try:
-        serve, port = start_serve(words[0])
-        processes.append(serve)
-        nginx, other = start_nginx(folder)
-        processes.append(nginx)
-        seconds = float(words[1]) if len(words) > 1 else 2.0
-        clients = {"serve": Client(port), "nginx": Client(other)}
+def main():
+    program, *seconds = words_of(__doc__, 1, 2)
+    with Server(program) as serve, Nginx("/dev/shm") as nginx:
+        clients = {"serve": Client(serve.port), "nginx": Client(nginx.port)}
         print("| Bytes | GET, serve | GET, nginx | PUT, serve | PUT, nginx | SHA-256 (OpenSSL) |\n|---|---|---|---|---|---|")
-        for size, best, hashed in measure(clients, seconds, f"{folder}/store"):
+        for size, best, hashed in measure(clients, float(seconds[0]) if seconds else 2.0, f"{nginx.folder}/store"):
             cells = [best["serve", "GET"], best["nginx", "GET"], best["serve", "PUT"], best["nginx", "PUT"], hashed]
             print(f"| {size:,} |" + "|".join(f" {it:,.0f} " for it in cells) + "|", flush=True)
-    finally:
-        for process in processes:
-            process.terminate()
-            process.wait()
-        shutil.rmtree(folder)
-    return 0
 
 
 if __name__ == "__main__":
-    sys.exit(main(sys.argv[1:]))
+    main()

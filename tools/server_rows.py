@@ -3,20 +3,21 @@
 
 The streams of bytes and their exact answers, whole and byte by byte; the prefix that stands before the paths; `put`,
 `get` and `verify --server` over the program's own server and over nginx (where it is installed) with WebDAV as a store
-that checks nothing; and servers that refuse, cut, fall silent, answer nonsense or lie. It prints a line for each row,
-and ends with status 1 where one failed. Nothing outside this machine is asked.
+that checks nothing; servers that refuse, cut, fall silent, answer nonsense or lie; and the program's own server behind
+one that cuts each reply in turn, or changes a byte of it. It prints a line for each row, and ends with status 1 where
+one failed. Nothing outside this machine is asked.
 """
 
-import hashlib
 import os
 import shutil
 import socket
-import subprocess
 import sys
 import tempfile
-import threading
 
-import serve_speed
+import harness
+import stores
+from harness import Between, Faulty, Nginx, Server, is_error
+from messages import Digest, File, bytes_field, directory_message, result_message
 
 NINE = b"123456789"
 DIGITS = "15e2b0d3c33891ebb0f1ef609ec419420c20e320ce94c65fbc8c3312448eb225"
@@ -27,16 +28,17 @@ KEY = "0" * 64
 
 def directory(name):
     """The Directory of one file of that name, the nine digits."""
-    return b"\x0a\x49\x0a\x01" + name + b"\x12\x44\x0a\x40" + DIGITS.encode() + b"\x10\x09"
+    return directory_message({name: File(Digest(DIGITS, 9), is_executable=False)})
 
 
-TREE = b"\x0a\x4b" + directory(b"a")
+TREE = bytes_field(1, directory("a"))
 TREE_HASH = "b702720dfa91251d7827a7c362e98aec2fbb92800b4cd6d796eb0b8b84a40cb7"
-RESULT = b"\x1a\x4b\x0a\x03out\x1a\x44\x0a\x40" + TREE_HASH.encode() + b"\x10\x4d"
-SOURCES = f"{hashlib.sha256(directory(b'a')).hexdigest()}/75"
-CLAIM = f"{hashlib.sha256(directory(b'b')).hexdigest()}/75"
+RESULT = result_message({"out": Digest(TREE_HASH, 77)})
+SOURCES = Digest.of(directory("a")).text()
+CLAIM = Digest.of(directory("b")).text()
 DONE = b"HTTP/1.1 200 OK\r\nContent-Length: 0\r\n\r\n"
 ABSENT = b"HTTP/1.1 404 Not Found\r\nContent-Length: 0\r\n\r\n"
+BAD = b"HTTP/1.1 400 Bad Request\r\nContent-Length: 0\r\n\r\n"
 
 
 def get(path):
@@ -57,6 +59,10 @@ STREAMS = {
         put(f"/cas/{DIGITS}", NINE) + get(f"/cas/{DIGITS}"),
         DONE + found(NINE),
     ),
+    "a blob under another hash is refused, and isn't there": (
+        put(f"/cas/{FEED}", NINE) + get(f"/cas/{FEED}") + get(f"/cas/{DIGITS}"),
+        BAD + ABSENT + ABSENT,
+    ),
     "a result is answered once its Tree and its file are held": (
         put(f"/ac/{KEY}", RESULT) + get(f"/ac/{KEY}") + put(f"/cas/{TREE_HASH}", TREE) + get(f"/ac/{KEY}")
         + put(f"/cas/{DIGITS}", NINE) + get(f"/ac/{KEY}"),
@@ -65,37 +71,8 @@ STREAMS = {
 }
 
 
-class Rows:
-    """What was tried, and how much of it failed."""
-
-    def __init__(self):
-        self.failed = 0
-
-    def tell(self, name, right, seen=""):
-        self.failed += not right
-        print(f"{'ok    ' if right else 'FAILED'} {name}{'' if right else f': {seen}'}")
-
-
-class Server:
-    """The program's own server on a free port, for so many connections."""
-
-    def __init__(self, program, connections, *more):
-        self.process = subprocess.Popen(
-            [program, "serve", "--listen", "127.0.0.1:0", "--connections", str(connections), "--limit", "1000",
-             "--result-limit", "1000", *more],
-            stdout=subprocess.PIPE, stderr=subprocess.DEVNULL, text=True,
-        )
-        self.port = int(self.process.stdout.readline().rpartition(":")[2])
-
-    def __enter__(self):
-        return self.port
-
-    def __exit__(self, *fault):
-        try:
-            self.process.wait(5)
-        except subprocess.TimeoutExpired:
-            self.process.kill()
-            self.process.wait()
+def server(program, connections, *more):
+    return Server(program, connections, 1000, 1000, more)
 
 
 def talk(port, stream, piece):
@@ -106,29 +83,27 @@ def talk(port, stream, piece):
             it.sendall(stream[at : at + piece])
         it.shutdown(socket.SHUT_WR)
         answers = b""
-        while data := it.recv(65536):
-            answers += data
+        try:
+            while data := it.recv(65536):
+                answers += data
+        except OSError as fault:
+            answers += f" and then: {fault}".encode()
         return answers
 
 
 def try_streams(rows, program):
     for name, (stream, answers) in STREAMS.items():
         for piece in (len(stream), 1):
-            with Server(program, 1) as port:
-                seen = talk(port, stream, piece)
+            with server(program, 1) as it:
+                seen = talk(it.port, stream, piece)
             rows.tell(f"{name}, in pieces of {piece}", seen == answers, seen)
-    with Server(program, 1, "--prefix", "/x") as port:
-        seen = talk(port, get(f"/x/cas/{EMPTY}") + get(f"/cas/{EMPTY}"), 65536)
+    with server(program, 1, "--prefix", "/x") as it:
+        seen = talk(it.port, get(f"/x/cas/{EMPTY}") + get(f"/cas/{EMPTY}"), 65536)
     rows.tell("only what stands under the prefix is served", seen == DONE + ABSENT, seen)
     for prefix in ("/", "/a/", "a"):
         words = ["serve", "--listen", "127.0.0.1:0", "--connections", "1", "--limit", "1", "--result-limit", "1", "--prefix", prefix]
-        told = subprocess.run([program, *words], capture_output=True, timeout=10, check=False)
+        told = harness.run(program, *words)
         rows.tell(f"{prefix} is no prefix", (told.returncode, told.stdout) == (2, b"") and is_error(told.stderr), told)
-
-
-def is_error(told):
-    """Whether it is one line of an error."""
-    return told.startswith(b"error: ") and told.endswith(b"\n") and told.count(b"\n") == 1
 
 
 def commands(folder, address):
@@ -145,53 +120,22 @@ def commands(folder, address):
     ]
 
 
-def try_commands(rows, program, folder, port, name):
-    for words, output, status in commands(folder, f"127.0.0.1:{port}"):
-        told = subprocess.run([program, *words], capture_output=True, timeout=20, check=False)
+def try_commands(rows, program, folder, address, name):
+    for words, output, status in commands(folder, address):
+        told = harness.run(program, *words)
         rows.tell(f"{words[0]} over {name}: status {status}", (told.stdout, told.returncode) == (output, status), told)
 
 
 def try_clients(rows, program, folder):
-    with Server(program, 6) as port:
-        try_commands(rows, program, folder, port, "serve")
+    with server(program, 6) as it:
+        try_commands(rows, program, folder, it.address, "serve")
+        status = it.wait()
+    rows.tell("after its six connections serve ends with status 0", status == 0, status)
     if not shutil.which("nginx"):
         print("       nginx isn't installed: nothing is tried over it")
         return
-    process, port = serve_speed.start_nginx(f"{folder}/nginx")
-    try:
-        try_commands(rows, program, folder, port, "nginx")
-    finally:
-        process.terminate()
-        process.wait()
-
-
-class Faulty:
-    """A server that reads one request and answers these bytes; then it closes, resets, or stays silent."""
-
-    def __init__(self, answer, ending="close"):
-        self.answer, self.ending = answer, ending
-        self.listener = socket.create_server(("127.0.0.1", 0))
-        self.port = self.listener.getsockname()[1]
-        self.over = threading.Event()
-
-    def serve(self):
-        with self.listener.accept()[0] as it:
-            it.recv(65536)
-            it.sendall(self.answer)
-            if self.ending == "silent":
-                self.over.wait(10)
-            if self.ending == "reset":
-                it.setsockopt(socket.SOL_SOCKET, socket.SO_LINGER, b"\1\0\0\0\0\0\0\0")
-
-    def __enter__(self):
-        self.thread = threading.Thread(target=self.serve, daemon=True)
-        self.thread.start()
-        return self.port
-
-    def __exit__(self, *fault):
-        self.over.set()
-        self.thread.join(5)
-        self.listener.close()
+    with Nginx() as it:
+        try_commands(rows, program, folder, it.address, "nginx")
 
 
 FAULTS = {
@@ -207,35 +151,96 @@ FAULTS = {
 
 
 def try_faults(rows, program):
-    def ask(port):
-        words = ["get", "--server", f"127.0.0.1:{port}", "--timeout", "1", f"{DIGITS}/9"]
-        return subprocess.run([program, *words], capture_output=True, timeout=20, check=False)
+    def ask(address):
+        return harness.run(program, "get", "--server", address, "--timeout", "1", f"{DIGITS}/9")
+
+    def is_fault(told, address):
+        return (told.stdout, told.returncode) == (b"", 3) and is_error(told.stderr) and address.encode() in told.stderr
 
     for name, (answer, ending) in FAULTS.items():
-        with Faulty(answer, ending) as port:
-            told = ask(port)
-        right = (told.stdout, told.returncode) == (b"", 3) and is_error(told.stderr) and b"127.0.0.1" in told.stderr
-        rows.tell(f"{name}: status 3, and one line that names the server", right, told)
-    told = ask(1)
-    rows.tell("nobody listens: status 3, and one line that names the server",
-              told.returncode == 3 and is_error(told.stderr) and b"127.0.0.1:1" in told.stderr, told)
+        with Faulty(answer, ending) as it:
+            told = ask(it.address)
+        rows.tell(f"{name}: status 3, and one line that names the server", is_fault(told, it.address), told)
+    told = ask("127.0.0.1:1")
+    rows.tell("nobody listens: status 3, and one line that names the server", is_fault(told, "127.0.0.1:1"), told)
 
 
-def main():
-    program = os.path.abspath(sys.argv[1])
-    rows = Rows()
+def try_replies(rows, program, folder):
+    """Each reply to each command is cut in turn, and each byte of a blob changed."""
+    with Server(program) as beyond:
+        for words, output, status in commands(folder, beyond.address):
+            told = harness.run(program, *words)
+            assert (told.stdout, told.returncode) == (output, status), told
+            for number, path in enumerate(replies_to(program, words, beyond)):
+                try_cut(rows, program, words, beyond, number)
+                if path.startswith("GET /cas/"):
+                    try_lie(rows, program, words, beyond, number, path)
+
+
+def replies_to(program, words, beyond):
+    """The requests that a command makes, as METHOD PATH."""
+    asked = []
+
+    def note(_number, method, path, head, body):
+        asked.append(f"{method} {path}")
+        return head + body
+
+    with Between(beyond, note) as it:
+        harness.run(program, *at(words, it.address))
+    return asked
+
+
+def at(words, address):
+    return [address if before == "--server" else word for before, word in zip(["", *words], words)]
+
+
+def try_cut(rows, program, words, beyond, number):
+    with Between(beyond, lambda it, _method, _path, head, body: (head + body)[: -1 if it == number else None]) as it:
+        told = harness.run(program, *at(words, it.address))
+    right = (told.stdout, told.returncode) == (b"", 3) and is_error(told.stderr) and it.address.encode() in told.stderr
+    rows.tell(f"{words[0]}: reply {number + 1} cut by a byte: status 3, and one line that names the server", right, told)
+
+
+def try_lie(rows, program, words, beyond, number, path):
+    """A byte of a blob changed: `get` tells the fault, and `verify` says no with the blob's digest."""
+    sizes = []
+
+    def lie(it, _method, _path, head, body):
+        if it != number or not body:
+            return head + body
+        sizes.append(len(body))
+        return head + body[:-1] + bytes([body[-1] ^ 1])
+
+    with Between(beyond, lie) as it:
+        told = harness.run(program, *at(words, it.address))
+    if not sizes:
+        return
+    blob = f"{path.rpartition('/')[2]}/{sizes[0]}".encode()
+    if words[0] == "verify":
+        right = told.stdout.startswith(b"no ") and told.stdout.endswith(b" cause blob-wrong " + blob + b"\n") and told.returncode == 1
+    else:
+        right = (told.stdout, told.returncode) == (b"", 3) and is_error(told.stderr)
+    rows.tell(f"{words[0]}: a byte of reply {number + 1} changed: {'no, and the blob is named' if words[0] == 'verify' else 'status 3'}",
+              right, told)
+
+
+def try_all(rows, program):
     with tempfile.TemporaryDirectory() as folder:
         os.chmod(folder, 0o755)
         os.makedirs(f"{folder}/tree")
-        os.makedirs(f"{folder}/nginx")
         for name, text in (("tree/a", NINE), ("plan", b"buildplan 1\nroot\nin b src a\n"), ("record", b"buildrecord 1\n")):
-            with open(f"{folder}/{name}", "wb") as out:
-                out.write(text)
+            stores.write_file(f"{folder}/{name}", text)
         try_streams(rows, program)
         try_clients(rows, program, folder)
         try_faults(rows, program)
-    print(f"{rows.failed} failed")
-    return rows.failed > 0
+        try_replies(rows, program, folder)
+
+
+def main():
+    (program,) = harness.words_of(__doc__, 1, 1)
+    rows = harness.Rows()
+    try_all(rows, os.path.abspath(program))
+    return rows.end()
 
 
 if __name__ == "__main__":

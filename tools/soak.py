@@ -21,9 +21,11 @@ import hashlib
 import random
 import socket
 import struct
-import subprocess
 import sys
 import time
+
+import harness
+from messages import Digest, File, result_message, tree_message
 
 LIMIT = 1 << 20
 RESULT_LIMIT = 4000
@@ -34,48 +36,31 @@ BLOB = 16384
 BLOBS = 1024
 GROUP = 8
 
+# How many connections are opened one after another.
+CONNECTIONS = 10000
+
 
 @functools.lru_cache(maxsize=8192)
 def hash_of(blob):
     return hashlib.sha256(blob).digest()
 
 
-def varint(number):
-    out = b""
-    while number >= 128:
-        out += bytes([number & 127 | 128])
-        number >>= 7
-    return out + bytes([number])
+@functools.lru_cache(maxsize=8192)
+def file_of(blob):
+    return File(Digest.of(blob), is_executable=False)
 
 
-def field(number, body):
-    return varint(number << 3 | 2) + varint(len(body)) + body
-
-
-def digest_message(blob):
-    size = b"\x10" + varint(len(blob)) if blob else b""
-    return field(1, hashlib.sha256(blob).hexdigest().encode()) + size
-
-
-def tree_of(files):
-    """A Tree of one Directory, with these files by name."""
-    nodes = b"".join(field(1, field(1, name) + field(2, digest_message(blob))) for name, blob in files)
-    return field(1, nodes)
-
-
-def result_of(files, trees):
-    """An ActionResult of output files and output directories by path."""
-    out = b"".join(field(2, field(1, path) + field(2, digest_message(blob))) for path, blob in files)
-    return out + b"".join(field(3, field(1, path) + field(3, digest_message(tree))) for path, tree in trees)
+def files_of(named):
+    return {name: file_of(blob) for name, blob in named}
 
 
 class Result:
     """The bytes of a result, and what it refers to: blobs of files, and Trees with the blobs of their files."""
 
     def __init__(self, files, trees):
-        self.body = result_of(files, [(path, tree_of(below)) for path, below in trees])
+        self.body = result_message({**files_of(files), **{path: files_of(below) for path, below in trees}})
         self.files = [blob for _, blob in files]
-        self.trees = [(tree_of(below), [blob for _, blob in below]) for _, below in trees]
+        self.trees = [(tree_message(files_of(below)), [blob for _, blob in below]) for _, below in trees]
 
     def size(self):
         """How many bytes it refers to."""
@@ -221,29 +206,19 @@ class Client:
         return piece
 
 
-class Server:
-    def __init__(self, program, idle=2, limit=LIMIT, result_limit=RESULT_LIMIT):
-        self.process = subprocess.Popen(
-            [program, "serve", "--listen", "127.0.0.1:0", "--connections", "18446744073709551615", "--limit",
-             str(limit), "--result-limit", str(result_limit), "--idle", str(idle)],
-            stdout=subprocess.PIPE, stderr=subprocess.DEVNULL,
-        )
-        self.port = int(self.process.stdout.readline().rsplit(b":", 1)[1])
+def server_of(program, idle=2, limit=LIMIT, result_limit=RESULT_LIMIT):
+    return harness.Server(program, None, limit, result_limit, ("--idle", str(idle)))
 
-    def memory(self):
-        with open(f"/proc/{self.process.pid}/status", encoding="ascii") as status:
-            return next(int(line.split()[1]) for line in status if line.startswith("VmRSS"))
 
-    def end(self):
-        self.process.kill()
-        self.process.wait()
+class Unlike(Exception):
+    """An answer that isn't the model's."""
 
 
 class Checked:
     """A server beside its model: each answer has to be the model's."""
 
     def __init__(self, program, limit, result_limit):
-        self.server = Server(program, 60, limit, result_limit)
+        self.server = server_of(program, 60, limit, result_limit)
         self.client = Client(self.server.port)
         self.model = Model(limit, result_limit)
         self.seen = collections.Counter()
@@ -252,7 +227,7 @@ class Checked:
         got = self.client.ask(method, path, body)
         self.seen[f"{kind} {got[0]}"] += 1
         if got != want:
-            raise SystemExit(f"soak: {method} {path}: {got[0]} {got[1][:40]!r}, not {want[0]} {want[1][:40]!r}")
+            raise Unlike(f"{method} {path}: {got[0]} {got[1][:40]!r}, not {want[0]} {want[1][:40]!r}")
         return got[0]
 
     def get_blob(self, hash):
@@ -291,12 +266,12 @@ class Soak(Checked):
         self.filled = 0
         self.blobs = [self.random.randbytes(self.size()) for _ in range(300)]
         self.keys = [hash_of(bytes([it])) for it in range(40)]
-        names = [b"a", b"b", b"c"]
+        names = ["a", "b", "c"]
         self.made = []
         for _ in range(60):
             files = [(name, self.random.choice(self.blobs)) for name in names[: self.random.randrange(4)]]
             trees = [
-                (b"d" + name, [(it, self.random.choice(self.blobs)) for it in names[: self.random.randrange(4)]])
+                ("d" + name, [(it, self.random.choice(self.blobs)) for it in names[: self.random.randrange(4)]])
                 for name in names[: self.random.randrange(3)]
             ]
             self.made.append(Result(files, trees))
@@ -388,13 +363,13 @@ class Full(Checked):
         return sum(self.put_blob(it) == 200 for it in new)
 
     def pin_group(self, blobs):
-        names = [bytes([97 + it]) for it in range(GROUP)]
+        names = [chr(97 + it) for it in range(GROUP)]
         result = Result(list(zip(names, blobs)), [])
         key = hash_of(result.body)
         self.put_result(key, result)
         return key, self.pin(key, True)
 
-    def run(self):
+    def run(self, rows):
         began = time.monotonic()
         self.more(BLOBS)
         pinned = self.put[: BLOBS // 10 // GROUP * GROUP]
@@ -412,12 +387,7 @@ class Full(Checked):
         print(f"all {BLOBS} blobs pinned: {refused} of 100 more are refused; with {GROUP} unpinned again {self.more(GROUP)} of {GROUP} are taken")
         self.tell()
         print(f"in {time.monotonic() - began:.1f} s; memory of the server {self.server.memory()} kB")
-        return tell("a cache that is full keeps what is pinned, and takes what there is room for", whole and refused == 100)
-
-
-def tell(name, right):
-    print(f"{'ok    ' if right else 'FAILED'} {name}")
-    return 0 if right else 1
+        rows.tell("a cache that is full keeps what is pinned, and takes what there is room for", whole and refused == 100)
 
 
 def is_alive(port):
@@ -428,16 +398,34 @@ def is_alive(port):
         client.close()
 
 
-def misbehave(program):
-    failed = 0
-    server = Server(program)
-    body = bytes(1 << 20)
-    hash = hashlib.sha256(body).hexdigest()
-    put = f"PUT /cas/{hash} HTTP/1.1\r\nHost: x\r\nContent-Length: {len(body)}\r\n\r\n".encode()
+def misbehave(program, rows):
+    with server_of(program) as server:
+        try_clients(server, rows)
+        killed = Client(server.port)
+        killed.connect().sendall(put_text(BODY) + BODY[:1000])
+        server.end()
+        killed.close()
+    with server_of(program) as again:
+        rows.tell("a server killed in a PUT starts again, and holds nothing",
+                  Client(again.port).ask("GET", path_of(BODY), b"")[0] == 404)
 
+
+BODY = bytes(1 << 20)
+
+
+def path_of(blob):
+    return f"/cas/{hash_of(blob).hex()}"
+
+
+def put_text(blob):
+    return f"PUT {path_of(blob)} HTTP/1.1\r\nHost: x\r\nContent-Length: {len(blob)}\r\n\r\n".encode()
+
+
+def try_clients(server, rows):
+    """Clients that misbehave, each with another one behind it."""
     silent = socket.create_connection(("127.0.0.1", server.port))
     began = time.monotonic()
-    failed += tell("a silent client is dropped, and the next one answered", is_alive(server.port))
+    rows.tell("a silent client is dropped, and the next one answered", is_alive(server.port))
     print(f"       after {time.monotonic() - began:.1f} s, with --idle 2")
     silent.close()
 
@@ -447,62 +435,59 @@ def misbehave(program):
         slow.sendall(bytes([byte]))
         time.sleep(1)
     slow.sendall(f"GET /cas/{EMPTY.hex()} HTTP/1.1\r\n"[10:].encode() + b"Host: x\r\n\r\n")
-    failed += tell("a client that sends a byte a second is answered", slow.recv(100).startswith(b"HTTP/1.1 200 "))
+    rows.tell("a client that sends a byte a second is answered", slow.recv(100).startswith(b"HTTP/1.1 200 "))
     slow.close()
 
     full = Client(server.port)
-    failed += tell("a blob of 1 MiB is put", full.ask("PUT", f"/cas/{hash}", body)[0] == 200)
+    rows.tell("a blob of 1 MiB is put", full.ask("PUT", path_of(BODY), BODY)[0] == 200)
     deaf = full.connect()
     try:
         deaf.settimeout(1)
         for _ in range(64):
-            deaf.sendall(f"GET /cas/{hash} HTTP/1.1\r\nHost: x\r\n\r\n".encode())
+            deaf.sendall(f"GET {path_of(BODY)} HTTP/1.1\r\nHost: x\r\n\r\n".encode())
     except OSError:
         pass
     began = time.monotonic()
-    failed += tell("after a client that never reads the next one is answered", is_alive(server.port))
+    rows.tell("after a client that never reads the next one is answered", is_alive(server.port))
     print(f"       after {time.monotonic() - began:.1f} s, with --idle 2")
     full.close()
 
     broken = Client(server.port)
-    broken.connect().sendall(put + body[:1000])
+    broken.connect().sendall(put_text(BODY) + BODY[:1000])
     broken.close(reset=True)
-    failed += tell("after a client that resets in a body the next one is answered", is_alive(server.port))
+    rows.tell("after a client that resets in a body the next one is answered", is_alive(server.port))
 
-    many = 10000
+    many = CONNECTIONS
     began = time.monotonic()
     right = all(is_alive(server.port) for _ in range(many))
-    failed += tell(f"{many} connections one after another", right)
+    rows.tell(f"{many} connections one after another", right)
     print(f"       in {time.monotonic() - began:.1f} s; memory {server.memory()} kB")
 
-    killed = Client(server.port)
-    killed.connect().sendall(put + body[:1000])
-    server.end()
-    killed.close()
-    again = Server(program)
-    failed += tell("a server killed in a PUT starts again, and holds nothing",
-                   Client(again.port).ask("GET", f"/cas/{hash}", b"")[0] == 404)
-    again.end()
-    return failed
+
+def soak(program, rows, seconds, seed=1):
+    """Requests at random for so many seconds, each beside the model."""
+    asked = Soak(program, seed)
+    try:
+        asked.run(seconds)
+        rows.tell(f"{seconds} seconds of requests at random are answered as the model answers", True)
+    except (Unlike, OSError) as fault:
+        rows.tell(f"{seconds} seconds of requests at random are answered as the model answers", False, fault)
+    finally:
+        asked.server.end()
 
 
 def main():
-    if len(sys.argv) not in (2, 3, 4):
-        raise SystemExit(__doc__)
-    program = sys.argv[1]
-    seconds = int(sys.argv[2]) if len(sys.argv) > 2 else 60
-    seed = int(sys.argv[3]) if len(sys.argv) > 3 else 1
-    soak = Soak(program, seed)
-    try:
-        soak.run(seconds)
-    finally:
-        soak.server.end()
+    program, *numbers = harness.words_of(__doc__, 1, 3)
+    seconds, seed = [*map(int, numbers), *(60, 1)[len(numbers):]]
+    rows = harness.Rows()
+    soak(program, rows, seconds, seed)
     full = Full(program, seed)
     try:
-        failed = full.run()
+        full.run(rows)
     finally:
         full.server.end()
-    sys.exit(1 if failed + misbehave(program) else 0)
+    misbehave(program, rows)
+    sys.exit(rows.end())
 
 
 if __name__ == "__main__":

@@ -5,6 +5,10 @@ outputs of up to three rules before it; every tenth one makes two files. Nothing
 import os
 import sys
 
+sys.path.insert(0, os.path.join(os.path.dirname(os.path.realpath(__file__)), ".."))
+
+from harness import words_of  # noqa: E402
+
 PACKAGE = 100
 
 
@@ -40,4 +44,5 @@ def main(folder, count):
 
 
 if __name__ == "__main__":
-    main(sys.argv[1], int(sys.argv[2]) if len(sys.argv) > 2 else 1100)
+    words = words_of(__doc__, 1, 2)
+    main(words[0], int(words[1]) if len(words) > 1 else 1100)

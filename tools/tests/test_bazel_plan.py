@@ -2,13 +2,12 @@
 """Tests of tools/bazel_plan.py: python3 -m unittest discover tools/tests
 
 Each rule and each refusal of docs/VERIFY_BAZEL.md has a small log here. The bytes of messages are those of Python's
-protobuf (3.21.12, over the fields of remote_execution.proto). Where the program `buildcache` is built, or BUILDCACHE
-names it, what is made is also judged by it.
+protobuf (3.21.12, over the fields of remote_execution.proto). What is made is also judged by the program `buildcache`,
+where it is built or BUILDCACHE names it; a test that would have it judged and can't is told as skipped.
 """
 
 import contextlib
 import hashlib
-import http.server
 import io
 import json
 import os
@@ -16,17 +15,19 @@ import shutil
 import subprocess
 import sys
 import tempfile
-import threading
 import unittest
 
 HERE = os.path.dirname(os.path.realpath(__file__))
 TOP = os.path.dirname(os.path.dirname(HERE))
 sys.path.insert(0, os.path.join(TOP, "tools"))
 
+import bazel_log  # noqa: E402
 import bazel_plan  # noqa: E402
+import bazel_steps  # noqa: E402
+import messages  # noqa: E402
+from harness import PROGRAM, Keeper  # noqa: E402
 
 KEPT = os.path.join(TOP, "crates", "command_rows", "data", "counts")
-PROGRAM = os.environ.get("BUILDCACHE", os.path.join(TOP, "crates", "buildcache", "out", "buildcache"))
 
 
 def named(content):
@@ -74,6 +75,11 @@ class Case(unittest.TestCase):
     def setUp(self):
         self.folder = tempfile.mkdtemp()
         self.addCleanup(shutil.rmtree, self.folder)
+        self.is_unjudged = False
+
+    def tearDown(self):
+        if self.is_unjudged:
+            self.skipTest("the program isn't built: all else holds, but what was made isn't judged by it")
 
     def at(self, *names):
         return os.path.join(self.folder, *names)
@@ -108,6 +114,7 @@ class Case(unittest.TestCase):
     def judge(self, line, end=""):
         """What `verify` says begins and ends so."""
         if not os.path.exists(PROGRAM):
+            self.is_unjudged = True
             return
         words = [PROGRAM, "verify", "--store", self.at("asked", "store"), "--sources", self.lines("sources")[0]]
         words += ["--plan", self.at("asked", "plan"), "--record", self.at("asked", "record")]
@@ -173,12 +180,12 @@ class Messages(Case):
     def test_as_protobuf_encodes_them(self):
         plan = self.turn(log(WHOLE))
         record = self.lines("record")
-        frame, action = (bazel_plan.Digest.of(bytes.fromhex(it)).text() for it in (FRAME, ACTION))
+        frame, action = (messages.Digest.of(bytes.fromhex(it)).text() for it in (FRAME, ACTION))
         self.assertEqual(plan[1], f"step make-out-d {frame}")
         self.assertEqual(record, ["buildrecord 1", f"step make-out-d {action}"])
         self.assertEqual(self.stored("ac", action).hex(), RESULT)
         for message in (COMMAND, INPUT, ACTION, TREE):
-            digest = bazel_plan.Digest.of(bytes.fromhex(message))
+            digest = messages.Digest.of(bytes.fromhex(message))
             self.assertEqual(self.stored("cas", digest.hash).hex(), message)
         self.judge("no step make-out-d cause do-not-cache\n")
 
@@ -243,14 +250,14 @@ class Rules(Case):
 
         plan = self.turn(log(*attempt(1), *attempt(2), *attempt(0)), "--drop-timeouts")
         self.assertEqual(sum(it.startswith("step") for it in plan), 2)
-        claim = bazel_plan.directory_message({"logs": {"xml": bazel_plan.File(bazel_plan.Digest.of(b"x0"))}}, bazel_plan.Digest.of)
-        self.assertEqual(self.lines("claim"), [bazel_plan.Digest.of(claim).text()])
+        claim = messages.directory_message({"logs": {"xml": messages.File(messages.Digest.of(b"x0"))}}, messages.Digest.of)
+        self.assertEqual(self.lines("claim"), [messages.Digest.of(claim).text()])
         self.judge("yes ")
 
     def test_a_failed_test_that_ran_again_as_bazel_logs_it(self):
         with open(os.path.join(HERE, "data", "rerun.json"), encoding="utf-8") as it:
             text = it.read()
-        self.assertEqual([it["exitCode"] for _, it in bazel_plan.objects(text)], [1, 0, 0, 0])
+        self.assertEqual([it["exitCode"] for _, it in bazel_log.objects(text)], [1, 0, 0, 0])
         plan = self.turn(text, "--drop-timeouts")
         self.assertEqual(sum(it.startswith("step") for it in plan), 2)
         self.judge("yes ")
@@ -412,7 +419,7 @@ class KeptLog(Case):
 
     def spawns(self):
         with open(os.path.join(HERE, "data", "counts.json"), encoding="utf-8") as it:
-            return [value for _, value in bazel_plan.objects(it.read())]
+            return [value for _, value in bazel_log.objects(it.read())]
 
     def test_each_input_changed_in_turn(self):
         made = {file["path"] for it in self.spawns() for file in it["actualOutputs"]}
@@ -426,7 +433,7 @@ class KeptLog(Case):
                 if path not in made and len(readers_of(spawns, path)) == 1:
                     self.judge("yes ")
                 else:
-                    self.judge("no step ", f" cause input-differs {bazel_plan.escaped(path)}\n")
+                    self.judge("no step ", f" cause input-differs {bazel_steps.escaped(path)}\n")
                 shutil.rmtree(self.at("asked"))
 
     def test_each_output_changed_in_turn(self):
@@ -436,48 +443,20 @@ class KeptLog(Case):
                 spawns[index]["actualOutputs"][place]["digest"] = named("changed")
                 self.turn(log(*spawns), *self.WORDS)
                 if readers_of(spawns, path):
-                    self.judge("no step ", f" cause input-differs {bazel_plan.escaped(path)}\n")
+                    self.judge("no step ", f" cause input-differs {bazel_steps.escaped(path)}\n")
                 else:
                     self.judge("yes ")
                     self.assertEqual(self.lines("claim")[0].startswith("433064"), not path.endswith("/counts.txt"))
                 shutil.rmtree(self.at("asked"))
 
 
-class Cache(http.server.BaseHTTPRequestHandler):
-    """A cache over HTTP that keeps what is put, in its server's dictionary; `refused` are the paths that it refuses."""
-
-    protocol_version = "HTTP/1.1"
-
-    def do_GET(self):
-        content = self.server.held.get(self.path)
-        self.answer(404 if content is None else 200, content or b"")
-
-    def do_PUT(self):
-        content = self.rfile.read(int(self.headers["Content-Length"]))
-        refused = self.path in self.server.refused
-        if not refused:
-            self.server.held[self.path] = content
-        self.answer(507 if refused else 201, b"")
-
-    def answer(self, status, content):
-        self.send_response(status)
-        self.send_header("Content-Length", str(len(content)))
-        self.end_headers()
-        self.wfile.write(content)
-
-    def log_message(self, *words):
-        pass
-
-
 class Servers(Case):
     def setUp(self):
         super().setUp()
-        self.server = http.server.ThreadingHTTPServer(("127.0.0.1", 0), Cache)
-        self.server.held, self.server.refused = {}, set()
-        threading.Thread(target=self.server.serve_forever, daemon=True).start()
-        self.addCleanup(self.server.server_close)
-        self.addCleanup(self.server.shutdown)
-        self.words = ["--server", f"127.0.0.1:{self.server.server_address[1]}"]
+        self.server = Keeper()
+        self.server.__enter__()
+        self.addCleanup(self.server.__exit__)
+        self.words = ["--server", self.server.address]
 
     def fail_to_write(self, reason, *words):
         status, out, err = self.call(log(spawn({}, ["a"])), *words)
@@ -604,13 +583,13 @@ class Refusals(Case):
         self.refuse('"a/b" of the artifact lies under "a", another output', log(spawn({}, ["a"], {"a/x": "1"}), spawn({}, ["a/b"])))
 
     def test_limits(self):
-        steps = log(*(spawn({}, [f"o{it}"]) for it in range(bazel_plan.MOST_STEPS + 1)))
+        steps = log(*(spawn({}, [f"o{it}"]) for it in range(bazel_steps.MOST_STEPS + 1)))
         self.refuse('spawn "Making o4096": 4096 steps stand before it', steps)
-        inputs = {f"i{it}": "" for it in range(bazel_plan.MOST_LINES + 1)}
+        inputs = {f"i{it}": "" for it in range(bazel_steps.MOST_LINES + 1)}
         self.refuse("it has 65537 inputs, and a step has 65536 lines at most", log(spawn(inputs, ["a"])))
-        whole = spawn({}, ["a"], {f"a/{it}": "" for it in range(bazel_plan.MOST_LINES + 1)})
+        whole = spawn({}, ["a"], {f"a/{it}": "" for it in range(bazel_steps.MOST_LINES + 1)})
         self.refuse("put together from 65537 outputs", log(whole), "--outputs", "a/*")
-        self.refuse("bytes, and `verify` reads 16777216 at most", log(spawn({}, ["a"], commandArgs=["x" * bazel_plan.MOST_BYTES])))
+        self.refuse("bytes, and `verify` reads 16777216 at most", log(spawn({}, ["a"], commandArgs=["x" * bazel_steps.MOST_BYTES])))
 
     def test_files_that_cannot_be_read(self):
         for words in (["none", "asked"], [__file__, "asked", "--artifact", "none"]):

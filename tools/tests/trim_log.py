@@ -9,15 +9,16 @@ import sys
 
 sys.path.insert(0, os.path.join(os.path.dirname(os.path.realpath(__file__)), ".."))
 
-import bazel_plan  # noqa: E402
+import bazel_log  # noqa: E402
+from harness import words_of  # noqa: E402
 
 
 def main(log, base):
     with open(log, encoding="utf-8") as it:
         text = it.read().replace(base, "/bazel")
-    for _, value in bazel_plan.objects(text):
-        print(json.dumps({key: it for key, it in value.items() if key in bazel_plan.SPAWN_FIELDS}))
+    for _, value in bazel_log.objects(text):
+        print(json.dumps({key: it for key, it in value.items() if key in bazel_log.SPAWN_FIELDS}))
 
 
 if __name__ == "__main__":
-    main(*sys.argv[1:])
+    main(*words_of(__doc__, 2, 2))

@@ -1,0 +1,221 @@
+"""Bazel's execution log, as `--execution_log_json_file` writes it: the spawns, each as it is read, or why there is no plan
+of it. The rules are those of docs/VERIFY_BAZEL.md."""
+
+import functools
+import json
+import re
+from dataclasses import dataclass
+
+from messages import Digest, File, Link
+
+# The fields of a spawn and of a file that a plan says, those that say nothing of what was run or made, and no others.
+SPAWN_FIELDS = {
+    "commandArgs", "environmentVariables", "platform", "inputs", "listedOutputs", "actualOutputs", "cacheable",
+    "timeoutMillis", "progressMessage", "targetLabel", "mnemonic", "status", "exitCode",
+}
+UNSAID_SPAWN_FIELDS = {
+    "remotable", "remoteCacheable", "runner", "remoteCacheHit", "cacheHit", "walltime", "metrics", "digest",
+}
+FILE_FIELDS = {"path", "digest", "symlinkTargetPath", "isTool"}
+
+
+class Refused(Exception):
+    """Why there is no plan: where, and what is wrong there."""
+
+
+# Paths, as messages have them.
+
+
+def is_text(text):
+    """Whether a text may stand in a message: it has bytes as UTF-8, and no NUL."""
+    try:
+        return b"\0" not in text.encode()
+    except UnicodeEncodeError:
+        return False
+
+
+def is_target(target):
+    return is_text(target) and 0 < len(target.encode()) <= 4096
+
+
+@functools.lru_cache(maxsize=None)
+def is_path(path):
+    names = path.split("/")
+    return (
+        is_text(path)
+        and len(names) <= 64
+        and all(name not in ("", ".", "..") and len(name.encode()) <= 255 for name in names)
+    )
+
+
+def folders_of(path):
+    """The folders above a path, the nearest first."""
+    while "/" in path:
+        path = path.rpartition("/")[0]
+        yield path
+
+
+# The spawns.
+
+
+@dataclass(eq=False)
+class Spawn:
+    """What the log says of one command that was run. Paths are those of the log, below Bazel's execution root."""
+
+    number: int
+    line: int
+    title: str
+    mnemonic: str
+    arguments: list
+    environment: list
+    platform: list
+    inputs: dict
+    listed: list
+    made: dict
+    is_cacheable: bool
+    timeout: int
+    exit_code: int
+    name: str = ""
+    action: Digest = None
+    frame: Digest = None
+
+    def place(self):
+        return f'line {self.line}: spawn "{self.title}"'
+
+    def refuse(self, reason):
+        raise Refused(f"{self.place()}: {reason}")
+
+
+def objects(text):
+    """The JSON objects of a text, each with the line at which it begins."""
+    decoder, position, line = json.JSONDecoder(), 0, 1
+    blank = re.compile(r"\s*")
+    while True:
+        start = blank.match(text, position).end()
+        line += text.count("\n", position, start)
+        if start == len(text):
+            return
+        try:
+            value, position = decoder.raw_decode(text, start)
+        except (ValueError, RecursionError) as fault:
+            raise Refused(f"line {line}: no JSON object begins here that ends ({fault})") from None
+        yield line, value
+        line += text.count("\n", start, position)
+
+
+def read_log(text):
+    spawns = []
+    for line, value in objects(text):
+        if not isinstance(value, dict):
+            raise Refused(f"line {line}: this is no spawn, but another JSON value")
+        title = next((value[key] for key in ("progressMessage", "targetLabel", "mnemonic") if value.get(key)), "no name")
+        title = str(title).encode("unicode_escape").decode()
+        try:
+            spawns.append(read_spawn(len(spawns), line, title, value))
+        except (AttributeError, KeyError, TypeError, ValueError) as fault:
+            what = f"{type(fault).__name__}: {fault}"
+            raise Refused(f'line {line}: spawn "{title}": not as Bazel writes a spawn ({what})') from None
+    return spawns
+
+
+def read_spawn(number, line, title, value):
+    spawn = Spawn(
+        number=number,
+        line=line,
+        title=title,
+        mnemonic=of_type(str, value.get("mnemonic", "")),
+        arguments=of_type(list, value["commandArgs"]),
+        environment=read_pairs(value.get("environmentVariables", [])),
+        platform=read_pairs((value.get("platform") or {}).get("properties", [])),
+        inputs={},
+        listed=sorted(set(of_type(list, value.get("listedOutputs", [])))),
+        made={},
+        is_cacheable=of_type(bool, value.get("cacheable", False)),
+        timeout=whole(value.get("timeoutMillis", 0)),
+        exit_code=whole(value.get("exitCode", 0)),
+    )
+    unknown = sorted(set(value) - SPAWN_FIELDS - UNSAID_SPAWN_FIELDS)
+    if unknown:
+        spawn.refuse(f'it has a field "{unknown[0]}", of which this program knows nothing')
+    check_command(spawn)
+    read_files(spawn, "input", value.get("inputs", []), spawn.inputs)
+    read_files(spawn, "output", value.get("actualOutputs", []), spawn.made)
+    if not -(2**31) <= spawn.exit_code < 2**31:
+        spawn.refuse(f"its exit code {spawn.exit_code} has more than 32 bits")
+    status = of_type(str, value.get("status", ""))
+    if status not in ("", "SUCCESS") and spawn.exit_code == 0:
+        spawn.refuse(f'its status is "{status}", and its exit code 0')
+    return spawn
+
+
+def of_type(kind, value):
+    if not isinstance(value, kind):
+        raise TypeError(f"{value!r} in place of a {kind.__name__}")
+    return value
+
+
+def whole(value):
+    """A whole number, which JSON has as a number or, where it has 64 bits, as a text."""
+    if isinstance(value, str) and re.fullmatch("-?[0-9]{1,19}", value):
+        return int(value)
+    return of_type(int, value)
+
+
+def read_pairs(values):
+    return sorted((it.get("name", ""), it.get("value", "")) for it in values)
+
+
+def check_command(spawn):
+    """Refuses what no Command and no Platform has (40, 34, 35 and 33 of docs/FORMATS.md)."""
+    if not spawn.arguments or not spawn.arguments[0]:
+        spawn.refuse("it has no program to run")
+    for argument in spawn.arguments:
+        if not is_text(argument):
+            spawn.refuse(f"its argument {argument!r} has a NUL, or is no UTF-8")
+    for name, value in spawn.environment:
+        if not name or "=" in name or not is_text(name + value):
+            spawn.refuse(f"its variable {name!r} is without a name, or has a NUL, a = in its name, or no UTF-8")
+    for (name, _), (other, _) in zip(spawn.environment, spawn.environment[1:]):
+        if name == other:
+            spawn.refuse(f'its variable "{name}" is set twice')
+    for pair, other in zip(spawn.platform, spawn.platform[1:]):
+        if pair == other:
+            spawn.refuse(f'its platform has the property "{pair[0]}" twice with the same value')
+    for name, value in spawn.platform:
+        if not is_text(name + value):
+            spawn.refuse(f"its platform's property {name!r} has a NUL, or is no UTF-8")
+    listed = set(spawn.listed)
+    for path in spawn.listed:
+        if not is_path(path):
+            spawn.refuse(f"it lists the output {path!r}, which is no path below the execution root")
+        for folder in folders_of(path):
+            if folder in listed:
+                spawn.refuse(f'it lists the output "{path}", which lies under "{folder}", another one')
+
+
+def read_files(spawn, kind, values, files):
+    for value in values:
+        path = value["path"]
+        if not is_path(path):
+            spawn.refuse(f"it has the {kind} {path!r}, which is no path below the execution root")
+        unknown = sorted(set(value) - FILE_FIELDS)
+        if unknown:
+            spawn.refuse(f'its {kind} "{path}" has a field "{unknown[0]}", of which this program knows nothing')
+        if files.setdefault(path, entry := read_file(spawn, kind, path, value)) != entry:
+            spawn.refuse(f'it has the {kind} "{path}" twice, and not the same')
+
+
+def read_file(spawn, kind, path, value):
+    target = value.get("symlinkTargetPath", "")
+    if target:
+        if not is_target(target):
+            spawn.refuse(f'its {kind} "{path}" is a link whose target has a NUL, no UTF-8, or over 4,096 bytes')
+        return Link(target)
+    digest = value.get("digest") or {}
+    name = digest.get("hashFunctionName", "SHA-256")
+    if name not in ("SHA-256", "SHA256", ""):
+        spawn.refuse(f'its {kind} "{path}" has a digest of {name}, which isn\'t SHA-256')
+    hash_text, size = digest.get("hash", ""), whole(digest.get("sizeBytes", 0))
+    if not re.fullmatch("[0-9a-f]{64}", hash_text) or not 0 <= size < 2**63:
+        spawn.refuse(f'its {kind} "{path}" has no digest')
+    return File(Digest(hash_text, size))

@@ -1,0 +1,241 @@
+"""Mistakes in a crate's code, as crates/NAME/mistakes/*.edit has them, and the functions that each turns.
+
+A mistake begins with a line '# NAME'. Then come lines 'file: PATH', below the crate, and pairs of lines 'old: TEXT' and
+'new: TEXT': the text that goes, which stands once in that file, and the text that comes. A line '# refused in PATH' below the
+name tells in which function the prover refuses it, where that isn't the one whose text is turned.
+"""
+
+import glob
+import os
+import re
+from dataclasses import dataclass, field
+
+TOP = os.path.dirname(os.path.dirname(os.path.realpath(__file__)))
+FOLDERS = ("mistakes", "must-fail")
+
+
+@dataclass(eq=False)
+class Mistake:
+    crate: str
+    name: str
+    pairs: list = field(default_factory=list)
+    refused_in: list = field(default_factory=list)
+    functions: set = field(default_factory=set)
+    is_of_types: bool = False
+
+    def __str__(self):
+        return f"{self.crate}/{self.name}"
+
+
+class CannotApply(Exception):
+    """Why a mistake can't be put into a text."""
+
+
+def mistakes_of(crate, top=TOP, folders=FOLDERS):
+    """The mistakes of a crate, in the order of its files."""
+    found = []
+    for folder in folders:
+        for path in sorted(glob.glob(f"{top}/crates/{crate}/{folder}/*.edit")):
+            with open(path, encoding="utf-8") as it:
+                found += read(crate, os.path.basename(path).removesuffix(".edit"), it.read())
+    return found
+
+
+def read(crate, title, text):
+    """The mistakes of a file; what stands before the first name has the file's title."""
+    found, file, gone = [Mistake(crate, title)], None, None
+    for line in text.split("\n"):
+        if re.fullmatch(r"# \S+", line):
+            found.append(Mistake(crate, line[2:]))
+            file = None
+        elif line.startswith("# refused in "):
+            found[-1].refused_in += line[len("# refused in "):].split()
+        elif line.startswith("file: "):
+            file = line[len("file: "):].strip()
+        elif line.startswith("old: "):
+            gone = line[len("old: "):]
+        elif line.startswith("new:"):
+            found[-1].pairs.append((file, gone, line[len("new:"):].removeprefix(" ")))
+    return [it for it in found if it.pairs]
+
+
+def apply(mistake, texts):
+    """The files' texts with a mistake in them, of those that it turns; `texts` gives a file's text."""
+    turned = {}
+    for file, gone, comes in mistake.pairs:
+        if not file or not gone:
+            raise CannotApply("a line 'new:' stands before any 'file:' or 'old:'")
+        text = turned[file] if file in turned else texts(file)
+        if text.count(gone) != 1:
+            raise CannotApply(f"{gone.strip()!r} stands in {file} {text.count(gone)} times, and not once")
+        turned[file] = text.replace(gone, comes)
+    return turned
+
+
+def functions_turned(turned, texts, homes):
+    """The functions whose text a mistake changes, or else those that it adds; and whether it changes no function, but a type."""
+    changed, added = set(), set()
+    for file, text in turned.items():
+        before, after = functions_of(file, texts(file), homes), functions_of(file, text, homes)
+        changed |= {it for it in after if it in before and before[it] != after[it]}
+        added |= {it for it in after if it not in before}
+    return changed or added, not changed
+
+
+# The functions of a file of code.
+
+WORD = re.compile(
+    r"(?P<blank>//[^\n]*|/\*.*?\*/|\s+)"
+    r"|(?P<text>b?r(?P<marks>#*)\".*?\"(?P=marks)|b?\"(?:\\.|[^\"\\])*\"|b?'(?:\\(?:x..|u\{[^}]*\}|.)|[^\\'])')"
+    r"|(?P<word>'?\w+)|(?P<mark>.)",
+    re.DOTALL,
+)
+
+
+def words_of(text):
+    """The words, marks and literals of a text, each with its place."""
+    return [(it.group(), it.start()) for it in WORD.finditer(text) if it.lastgroup != "blank" and not it.group("blank")]
+
+
+def module_of(file):
+    return [it for it in re.sub(r"^src/|\.rt$", "", file).split("/") if it not in ("lib", "main", "mod")]
+
+
+def homes_of(folder):
+    """The modules of a crate that declare a type of a name."""
+    homes = {}
+    for path in glob.glob(f"{folder}/src/**/*.rt", recursive=True):
+        with open(path, encoding="utf-8") as it:
+            names = re.findall(r"(?m)^\s*(?:pub(?:\([^)]*\))? )?(?:struct|enum) (\w+)", it.read())
+        for name in names:
+            homes.setdefault(name, []).append(module_of(os.path.relpath(path, folder)))
+    return homes
+
+
+def functions_of(file, text, homes):
+    """The texts of the functions of a file of code, by their path below the crate: a type's own are told in the module that
+    declares it, and what a trait's name has between <> is kept."""
+    module, found = module_of(file), {}
+    scan(words_of(text), 0, module, found, text)
+    told = {}
+    for path, texts in found.items():
+        names = path.split("::")
+        places = homes.get(names[-2], []) if len(names) == len(module) + 2 else []
+        told["::".join(names if module in places or len(places) != 1 else [*places[0], *names[-2:]])] = texts
+    return told
+
+
+def spellings(path):
+    """The paths as which a check may print a function: what a trait's name has between <> is told where that parts two impls."""
+    return re.sub(r"[<>]", "", path), re.sub(r"<\w*>", "", path)
+
+
+def scan(words, at, path, found, text):
+    """Reads items up to the brace that ends them; the place after it."""
+    begin = at
+    while at < len(words):
+        word = words[at][0]
+        if word == "}":
+            return at + 1
+        if word in (";", "#") or word == "]":
+            begin = at + 1
+        if word == "fn":
+            at, begin = read_function(words, at, begin, path, found, text)
+        elif word in ("impl", "mod", "trait") and at + 1 < len(words):
+            head, at = [], at + 1
+            while at < len(words) and words[at][0] not in ("{", ";"):
+                head.append(words[at][0])
+                at += 1
+            if at < len(words) and words[at][0] == "{":
+                at = scan(words, at + 1, [*path, name_of(word, head)], found, text)
+            begin = at
+        elif word == "{":
+            at = skip(words, at)
+            begin = at
+        else:
+            at += 1
+    return at
+
+
+def read_function(words, at, begin, path, found, text):
+    """Keeps the text of a function, its contract and its body, or its contract alone; the place after it, twice."""
+    name, start, end = words[at + 1][0], words[begin][1], len(text)
+    at += 2
+    depth = 0
+    while at < len(words):
+        word = words[at][0]
+        depth += (word in "([") - (word in ")]")
+        if word == ";" and not depth:
+            at += 1
+            break
+        if word == "{":
+            is_clause = words[at - 1][0] in CLAUSES or words[at - 1][0] == "*" and words[at - 2][0] in CLAUSES
+            at = skip(words, at)
+            if not is_clause and (at >= len(words) or words[at][0] != "{" and words[at][0] not in CLAUSES):
+                break
+        else:
+            at += 1
+    end = words[at - 1][1] + 1
+    found.setdefault("::".join([*path, name]), []).append(text[start:end])
+    return at, at
+
+
+CLAUSES = ("requires", "ensures", "ghost")
+
+
+def skip(words, at):
+    """The place after the brace that closes the one here."""
+    depth = 0
+    while at < len(words):
+        depth += (words[at][0] == "{") - (words[at][0] == "}")
+        at += 1
+        if not depth:
+            break
+    return at
+
+
+def name_of(kind, head):
+    """The name of a module, a trait or an impl, as a check prints it: of an impl the type's name and then the trait's."""
+    if kind in ("mod", "trait"):
+        return head[0]
+    if head and head[0] == "<":
+        depth, at = 0, 0
+        while at < len(head):
+            depth += (head[at] == "<") - (head[at] == ">" and head[at - 1] != "-")
+            at += 1
+            if not depth:
+                break
+        head = head[at:]
+    if "where" in head:
+        head = head[: head.index("where")]
+    depth, split = 0, None
+    for at, word in enumerate(head):
+        depth += (word == "<") - (word == ">")
+        if word == "for" and not depth:
+            split = at
+    sides = [head[split + 1:], head[:split]] if split is not None else [head]
+    name = "".join(last_name(it) for it in sides)
+    parts = arguments(sides[1]) if len(sides) > 1 else []
+    return f"{name}<{''.join(parts)}>" if parts else name
+
+
+def last_name(words):
+    """The last name of a path, without what stands between <>."""
+    depth, name = 0, ""
+    for word in words:
+        depth += (word == "<") - (word == ">")
+        if not depth and re.fullmatch(r"\w+", word) and word not in ("dyn", "mut", "const"):
+            name = word
+    return name
+
+
+def arguments(words):
+    """The last name of each argument between the outer <> of a path."""
+    depth, parts = 0, [[]]
+    for word in words:
+        depth += (word == "<") - (word == ">")
+        if word == "," and depth == 1:
+            parts.append([])
+        elif depth > 1 or depth == 1 and word != "<":
+            parts[-1].append(word)
+    return [it for it in map(last_name, parts) if it]

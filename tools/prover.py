@@ -1,0 +1,227 @@
+"""Checks a crate with other texts in it, over the libraries that `rt ci` or `rt lib` left, and reads what the prover says."""
+
+import collections
+import glob
+import os
+import re
+import shutil
+import signal
+import subprocess
+import tempfile
+import time
+
+TOP = os.path.dirname(os.path.dirname(os.path.realpath(__file__)))
+PARTS = ("src", "specs", "proofs")
+# The seconds that a check may take.
+LONGEST = 3600
+
+# What the prover says of a name that a proof file has, and that isn't there.
+GONE = re.compile(r"has no field|is not in scope|has no `")
+# And of what rests on a declaration that it refused.
+RESTS = re.compile(r"depends? on `(?P<lemma>[^`]+)`, which was (?:rejected|not admitted), (?:was|were) not checked: (?P<goals>.*)")
+# What it says of a text that it can't read, beside a text that belongs to no declaration.
+UNREAD = re.compile(r"is not in scope|has no field|is no name|operand is missing|expected the end|cannot continue")
+PLACED = re.compile(r"(?:\./)?(?P<file>(?:src|specs|proofs)/\S+?):(?P<line>\d+):\d+: error: (?:`(?P<goal>[^`]*)`: )?(?P<said>.*)")
+OPEN = re.compile(r"note: \S+:\d+:\d+: it is not proved that .*")
+STATUS = re.compile(r"fn (?P<path>\S+): (?P<said>.*)")
+UNTRIED = re.compile(r"note: `search` has not tried the goals of `(?P<path>[^`]+)`")
+
+
+def kit():
+    """The folder of the kit whose `rt` is called."""
+    found = shutil.which("rt")
+    if not found:
+        raise SystemExit("no rt is installed")
+    return os.path.dirname(os.path.dirname(os.path.realpath(found)))
+
+
+def crates_of(top=TOP):
+    """The repository's crates in the order of crates.txt, each with the libraries that its line names."""
+    with open(f"{top}/crates.txt", encoding="utf-8") as it:
+        lines = [line.partition("#")[0].partition(":") for line in it]
+    return {head.split()[0]: names.split() for head, _, names in lines if head.split()}
+
+
+class Workspace:
+    """The repository's crates, and the libraries that they use."""
+
+    def __init__(self, top=TOP):
+        self.top, self.uses, self.kit = top, crates_of(top), kit()
+
+    def below(self, crate):
+        """The repository's crates below one, each after those that it uses."""
+        found = []
+        for name in self.uses[crate]:
+            if name in self.uses:
+                found += [it for it in [*self.below(name), name] if it not in found]
+        return found
+
+    def rlib(self, crate):
+        return f"{self.top}/crates/{crate}/out/rlib/{crate}.rlib"
+
+    def lacking(self, crate):
+        """The first library below a crate that isn't built."""
+        return next((it for it in self.below(crate) if not os.path.isfile(f"{self.rlib(it)}/format")), None)
+
+    def length(self, crate):
+        """The lines of a crate's code."""
+        files = glob.glob(f"{self.top}/crates/{crate}/src/**/*.rt", recursive=True)
+        return sum(self.read(crate, os.path.relpath(it, f"{self.top}/crates/{crate}")).count("\n") for it in files)
+
+    def bring_up_to_date(self, crates):
+        """Has `rt lib` build what lies below these crates, unless `rt ci` left all of it: its libraries have no stamp."""
+        below = [it for it in self.uses if any(it in self.below(crate) for crate in crates)]
+        built = [os.path.isfile(f"{self.rlib(it)}/format") for it in below]
+        if all(built) and not any(os.path.isfile(f"{self.top}/crates/{it}/out/rlib/stamp") for it in below):
+            return
+        for it in below:
+            subprocess.run(["rt", "lib", "--jobs", "1"], cwd=f"{self.top}/crates/{it}", stdin=subprocess.DEVNULL, check=False)
+
+    def words(self, crate):
+        """The command that checks a crate, as `rt` writes it."""
+        root = "main" if os.path.isfile(f"{self.top}/crates/{crate}/src/main.rt") else "lib"
+        words = [f"{self.kit}/bin/rattle", "check", "--crate-name", crate, f"src/{root}.rt"]
+        for name in ["std", *self.uses[crate]]:
+            place = self.rlib(name) if name in self.uses else f"{self.kit}/rlibs/{name}.rlib"
+            words += ["--extern", f"{name}={place}"]
+        for folder in [f"{self.kit}/rlibs", *(os.path.dirname(self.rlib(it)) for it in self.below(crate))]:
+            words += ["-L", f"dependency={folder}"]
+        words += ["--antt-project", f"{self.kit}/rattle/logic/antt-project.json"]
+        return [*words, "--logic-built", f"{self.kit}/logic_built", "--links", f"{crate}=", "--jobs", "1"]
+
+    def read(self, crate, file):
+        with open(f"{self.top}/crates/{crate}/{file}", encoding="utf-8") as it:
+            return it.read()
+
+    def check(self, crate, texts, only=()):
+        """What a check of the crate says with these texts in place of its own: of all of it, or only of some functions."""
+        with tempfile.TemporaryDirectory(prefix="buildcache-check-") as room:
+            for part in PARTS:
+                if os.path.isdir(f"{self.top}/crates/{crate}/{part}"):
+                    shutil.copytree(f"{self.top}/crates/{crate}/{part}", f"{room}/{part}")
+            for path, text in texts.items():
+                with open(f"{room}/{path}", "w", encoding="utf-8") as it:
+                    it.write(text)
+            words = self.words(crate)
+            for path in only:
+                words += ["--only", path]
+            told = run(words, room)
+            # (killed for memory, most likely: once more)
+            return Said(crate, *(run(words, room) if told[0] == -signal.SIGKILL else told))
+
+
+def run(words, folder):
+    """The status of a command, or None where it takes too long; its lines, its processor seconds and its peak memory in kB."""
+    late = time.monotonic() + LONGEST
+    with tempfile.TemporaryFile("w+", errors="replace") as out:
+        ran = subprocess.Popen(words, cwd=folder, stdin=subprocess.DEVNULL, stdout=out, stderr=subprocess.STDOUT)
+        pid = 0
+        while not pid and time.monotonic() < late:
+            time.sleep(0.2)
+            pid, status, used = os.wait4(ran.pid, os.WNOHANG)
+        if not pid:
+            ran.kill()
+            _, _, used = os.wait4(ran.pid, 0)
+        ran.returncode = os.waitstatus_to_exitcode(status) if pid else -signal.SIGKILL
+        out.seek(0)
+        return ran.returncode if pid else None, out.read().splitlines(), used.ru_utime + used.ru_stime, used.ru_maxrss
+
+
+def place_of(found):
+    """The function in whose folder of proofs an error stands, and whether it is in the function's own proof."""
+    folders = found["file"].split("/")
+    # (a cycle of calls has a folder +NAME, by one of its functions)
+    return "::".join(it.removeprefix("+") for it in folders[1:-1]), folders[-1] in ("Answers.antt", "Invariants.antt", "Proof.antt")
+
+
+def goals_of(found):
+    """The declarations of which an error tells: one, or those that rest on one that was refused."""
+    rests = RESTS.search(found["said"])
+    return [it.split()[0] for it in rests["goals"].split(", ")] if rests else [found["goal"]]
+
+
+def false_in(errors):
+    """Of each declaration that was refused, by its function and its name, whether it is false, and not only names what is gone
+    or rests on what does."""
+    false, in_lemmas = {}, set()
+    for it in errors:
+        if not RESTS.search(it["said"]):
+            path, is_own = place_of(it)
+            false[path, it["goal"]] = false.get((path, it["goal"]), True) and not GONE.search(it["said"])
+            in_lemmas |= set() if is_own else {false[path, it["goal"]]}
+    for it in errors:
+        if rests := RESTS.search(it["said"]):
+            (path, _), lemma = place_of(it), rests["lemma"].rpartition(".")[2]
+            named = {whether for (_, name), whether in false.items() if name == lemma}
+            # (of many that rest on one the line names only some)
+            whether = false.get((path, lemma), any(named) if named else in_lemmas == {True})
+            for goal in goals_of(it):
+                false.setdefault((path, goal), whether)
+    return false
+
+
+class Said:
+    """What a check said: of each function its line, the goals that were refused, and the names that its proof lacks."""
+
+    def __init__(self, crate, status, lines, seconds=0, memory=0):
+        self.crate, self.status, self.lines, self.seconds, self.memory = crate, status, lines, seconds, memory
+        self.functions, self.refused, self.gone, self.untried, self.unread = {}, collections.Counter(), {}, set(), []
+        self.false = false_in([found for found in map(PLACED.match, lines) if found and found["file"].startswith("proofs/")])
+        pending = []
+        for line in lines:
+            if found := PLACED.match(line):
+                self.take_error(found)
+            elif OPEN.match(line):
+                pending.append(line)
+            elif found := UNTRIED.match(line):
+                self.untried.add(self.below_crate(found["path"]))
+            elif found := STATUS.fullmatch(line):
+                self.take_function(self.below_crate(found["path"]), found["said"], pending)
+                pending = []
+
+    def below_crate(self, path):
+        return path.removeprefix(f"{self.crate}::")
+
+    def take_error(self, found):
+        folders = found["file"].split("/")
+        if folders[0] != "proofs":
+            if not found["goal"] or UNREAD.search(re.sub("`[^`]*`", "", found["said"])):
+                self.unread.append((found["file"], int(found["line"]), found["said"]))
+            return
+        path, _ = place_of(found)
+        for goal in goals_of(found):
+            if self.false[path, goal]:
+                self.refused[path] += 1
+            else:
+                self.gone.setdefault(path, []).append((goal, found.group()))
+
+    def take_function(self, path, said, pending):
+        """A function's line, with the notes on its open goals, which stand above it."""
+        self.functions[path] = said
+        gone = self.gone.get(path, [])
+        if any(goal is None for goal, _ in gone):
+            # (a file of its proof isn't read, so each goal that it answers is open)
+            return
+        lost = {goal for goal, _ in gone}
+        told = re.findall(r"`([^`]+)`", said.partition("`search` did not prove ")[2].partition(";")[0])
+        told += [it.rpartition("(`")[2].partition("`)")[0] for it in pending]
+        self.refused[path] += len({it for it in told if it not in lost})
+
+    def gone_in(self, path):
+        """That a function is refused only for that."""
+        return f"{path} is refused only since a proof names what is gone ({self.gone[path][0][1][:200]})"
+
+    def has_ended(self):
+        """Whether the prover came to an end of what it was asked."""
+        last = self.lines[-1] if self.lines else ""
+        return last.startswith(("logic=", "only=", "rattle: no verdict"))
+
+    def places(self):
+        """The lines of code at which it tells an error."""
+        found = [re.match(r"(?:\./)?(src/\S+?):(\d+):\d+: error", it) for it in self.lines]
+        return {(it[1], int(it[2])) for it in found if it}
+
+    def fault(self):
+        """The first line that tells why there is no verdict."""
+        told = [it for it in self.lines if "error" in it or "no verdict" in it]
+        return (told or self.lines or ["it printed nothing"])[0][:240]

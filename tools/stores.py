@@ -1,0 +1,81 @@
+"""Where blobs and results are put, by their hashes: a store folder, or a cache over HTTP."""
+
+import http.client
+import os
+import re
+
+
+class NotAnswered(Exception):
+    """What a server did in place of an answer."""
+
+
+class FolderStore:
+    """A store folder, of files cas/HASH and ac/HASH."""
+
+    def __init__(self, folder):
+        self.folder = folder
+
+    def place(self, part, name):
+        return os.path.join(self.folder, part, name)
+
+    def get(self, part, name):
+        """The bytes under a name, or None."""
+        if not os.path.exists(self.place(part, name)):
+            return None
+        with open(self.place(part, name), "rb") as it:
+            return it.read()
+
+    def put(self, part, name, content):
+        os.makedirs(os.path.join(self.folder, part), exist_ok=True)
+        write_file(self.place(part, name), content)
+
+    def close(self):
+        pass
+
+
+class ServerStore:
+    """A cache over HTTP, of PREFIX/cas/HASH and PREFIX/ac/HASH: one request after another on one connection."""
+
+    def __init__(self, address, prefix):
+        self.address, self.prefix = address, prefix
+        try:
+            self.connection = http.client.HTTPConnection(address, timeout=60)
+        except http.client.InvalidURL as fault:
+            raise ValueError(f"{address!r} is no server's address, HOST:PORT ({fault})") from None
+
+    def place(self, part, name):
+        return f"http://{self.address}{self.prefix}/{part}/{name}"
+
+    def ask(self, method, part, name, content=None):
+        """The status and the body of the answer."""
+        try:
+            self.connection.request(method, f"{self.prefix}/{part}/{name}", content)
+            answer = self.connection.getresponse()
+            return answer.status, answer.read()
+        except (OSError, http.client.HTTPException) as fault:
+            raise NotAnswered(f"{method} {self.place(part, name)}: {fault or type(fault).__name__}") from None
+
+    def get(self, part, name):
+        """The bytes under a name, or None."""
+        status, content = self.ask("GET", part, name)
+        if status not in (200, 404):
+            raise NotAnswered(f"GET {self.place(part, name)}: the server answers {status}")
+        return content if status == 200 else None
+
+    def put(self, part, name, content):
+        status, _ = self.ask("PUT", part, name, content)
+        if status not in (200, 201, 204):
+            raise NotAnswered(f"PUT {self.place(part, name)}: the server answers {status}")
+
+    def close(self):
+        self.connection.close()
+
+
+def is_prefix(text):
+    """Whether a text may stand before /cas and /ac: nothing, or segments of plain characters, 256 bytes at most."""
+    return len(text) <= 256 and re.fullmatch("(/[A-Za-z0-9._~-]+)*", text) is not None
+
+
+def write_file(path, content):
+    with open(path, "wb") as out:
+        out.write(content)

@@ -1,0 +1,221 @@
+#!/usr/bin/env python3
+"""Tests of tools/try_edits.py: python3 -m unittest discover tools/tests
+
+Small crates, and what the prover said of them, in its own words; no prover is run.
+"""
+
+import contextlib
+import io
+import os
+import sys
+import tempfile
+import unittest
+
+HERE = os.path.dirname(os.path.realpath(__file__))
+sys.path.insert(0, os.path.join(os.path.dirname(HERE)))
+
+import mistakes  # noqa: E402
+import prover  # noqa: E402
+import try_edits  # noqa: E402
+
+CODE = """
+/// Two impls of one trait, a type's own functions, and a private one.
+pub struct Size { bytes: u64 }
+
+impl From<AllocError> for Fault {
+    fn from(_e: AllocError) -> Fault { Fault::Memory }
+}
+
+impl<T: Drop> From<AllocFailed<T>> for Fault {
+    fn from(_e: AllocFailed<T>) -> Fault { Fault::Memory }
+}
+
+impl<'a, A: Allocator> Iterator for Fields<'a, A> where A: Clone {
+    fn next(&mut self) -> Option<[u8; 2]>
+        requires { self.old ≡ record { rest = '}' } }
+        ensures moves { "{" }
+    {
+        // a brace }
+        let close = '}'; let text = "{"; count(self)
+    }
+}
+
+impl Size {
+    pub fn twice(&self) -> u64
+        ensures { result ≡ self.now.bytes * 2 }
+    {
+        half(self.bytes) * 4
+    }
+}
+
+const fn half(count: u64) -> u64 { count / 2 }
+"""
+PATHS = {"sizes::FaultFrom<AllocError>::from", "sizes::FaultFrom<AllocFailed>::from", "sizes::FieldsIterator::next",
+         "sizes::Size::twice", "sizes::half"}
+
+# What a check says of functions that are refused, that wait for one, and whose proofs name what is gone.
+SAID = """
+./proofs/sizes/FieldsIterator/next/Answers.antt:4:7: error: `returns-clause-moves`: record `Lts.After` has no field `count-it`
+note: src/sizes.rt:19:5: it is not proved that what the function ensures holds when it returns (`returns-clause-moves`)
+fn small::sizes::FieldsIterator::next: not proved
+note: src/sizes.rt:33:1: it is not proved that what the function ensures holds when it returns (`returns`)
+fn small::sizes::half: no proof: expected answers in ./proofs/sizes/half/Answers.antt; `search` did not prove `returns`
+fn small::sizes::Size::twice: no proof: it calls `small::sizes::half`, which is not proved
+fn small::sizes::FaultFromAllocError::from: proved
+./proofs/sizes/FaultFromAllocFailed/from/Answers.antt:3:9: error: `returns`: the two types differ
+fn small::sizes::FaultFromAllocFailed::from: not proved; it calls `small::sizes::half`, which is not proved
+logic=not-proved
+"""
+
+
+def pairs(*named):
+    return "\n\n".join(f"# {name}\nfile: src/sizes.rt\nold: {old}\nnew: {new}" for name, old, new in named)
+
+
+class Shop(prover.Workspace):
+    """A repository of one crate, and what each check of it says, in turn."""
+
+    def __init__(self, top, *said):
+        self.top, self.uses, self.said, self.asked = top, {"small": []}, list(said), []
+
+    def check(self, crate, texts, only=()):
+        self.asked.append((texts, only))
+        return prover.Said(crate, 1, self.said.pop(0).strip().splitlines())
+
+
+class Case(unittest.TestCase):
+    def setUp(self):
+        room = tempfile.TemporaryDirectory()
+        self.addCleanup(room.cleanup)
+        self.top = room.name
+        self.keep("crates/small/src/sizes.rt", CODE)
+
+    def keep(self, path, text):
+        os.makedirs(os.path.dirname(os.path.join(self.top, path)), exist_ok=True)
+        with open(os.path.join(self.top, path), "w", encoding="utf-8") as it:
+            it.write(text)
+
+    def judge(self, edits, *said):
+        """Why mistakes fail, by their names."""
+        self.keep("crates/small/mistakes/mistakes.edit", edits)
+        self.shop = Shop(self.top, *said)
+        with contextlib.redirect_stdout(io.StringIO()) as self.printed:
+            return try_edits.Judge(self.shop, "small").run().faults
+
+
+NEXT = ("next_skips", "count(self)", "skip(self)")
+HALF = ("half_of_nothing", "count / 2", "0")
+TWICE = ("twice_is_once", "half(self.bytes) * 4", "half(self.bytes) * 2")
+FROM = ("memory_as_bad", "fn from(_e: AllocError) -> Fault { Fault::Memory }", "fn from(_e: AllocError) -> Fault { Fault::Bad }")
+FAILED = ("failed_as_bad", "fn from(_e: AllocFailed<T>) -> Fault { Fault::Memory }", "fn from(_e: AllocFailed<T>) -> Fault { Fault::Bad }")
+
+
+class Functions(Case):
+    def test_paths_below_the_crate(self):
+        self.assertEqual(set(mistakes.functions_of("src/sizes.rt", CODE, {})), PATHS)
+        self.assertIn("deep::below::Size::twice", mistakes.functions_of("src/deep/below.rt", CODE, {}))
+        self.assertIn("half", mistakes.functions_of("src/lib.rt", CODE, {}))
+
+    def test_a_types_functions_are_told_where_it_is_declared(self):
+        self.keep("crates/small/src/text.rt", "impl Size { fn text(&self) {} }\n")
+        homes = mistakes.homes_of(os.path.join(self.top, "crates", "small"))
+        self.assertEqual(list(mistakes.functions_of("src/text.rt", "impl Size { fn text(&self) {} }", homes)), ["sizes::Size::text"])
+
+    def test_a_mistake_turns_the_functions_whose_text_it_changes(self):
+        for pair, path in ((NEXT, "FieldsIterator::next"), (HALF, "half"), (FROM, "FaultFrom<AllocError>::from")):
+            (mistake,) = mistakes.read("small", "mistakes", pairs(pair))
+            turned = mistakes.apply(mistake, lambda _file: CODE)
+            self.assertEqual(mistakes.functions_turned(turned, lambda _file: CODE, {}), ({f"sizes::{path}"}, False))
+
+    def test_a_mistake_in_a_type_turns_no_function(self):
+        (mistake,) = mistakes.read("small", "mistakes", pairs(("bytes_are_few", "{ bytes: u64 }", "{ bytes: u8 }")))
+        turned = mistakes.apply(mistake, lambda _file: CODE)
+        self.assertEqual(mistakes.functions_turned(turned, lambda _file: CODE, {}), (set(), True))
+
+
+class Judging(Case):
+    def test_one_check_judges_those_that_turn_functions_of_their_own(self):
+        self.assertEqual(self.judge(pairs(HALF, FAILED), SAID), {})
+        self.assertEqual(len(self.shop.asked), 1)
+
+    def test_one_that_is_proved_fails(self):
+        faults = self.judge(pairs(HALF, FROM), SAID)
+        self.assertEqual(faults, {"memory_as_bad": "sizes::FaultFrom<AllocError>::from isn't refused"})
+
+    def test_one_that_is_refused_only_for_a_name_that_is_gone_fails(self):
+        faults = self.judge(pairs(HALF, NEXT), SAID)
+        self.assertIn("sizes::FieldsIterator::next is refused only since a proof names what is gone", faults["next_skips"])
+
+    def test_one_is_refused_where_a_lemma_is(self):
+        lemma = "./proofs/Halves.antt:3:1: error: `quarters`: {}"
+        rest = """./proofs/Halves.antt:9:1: error: 3 declarations that depend on `quarters`, which was rejected, were not checked: thirds, halves (via thirds) and 1 more
+./proofs/sizes/half/Answers.antt:5:5: error: 1 declaration that depends on `halves`, which was not admitted, was not checked: returns
+note: src/sizes.rt:33:1: it is not proved that what the function ensures holds when it returns (`returns`)
+fn small::sizes::half: not proved
+logic=not-proved"""
+        self.assertEqual(self.judge(pairs(HALF), lemma.format("the two types differ\n") + rest), {})
+        faults = self.judge(pairs(HALF), lemma.format("`count` is not in scope\n") + rest)
+        self.assertIn("sizes::half is refused only since a proof names what is gone", faults["half_of_nothing"])
+
+    def test_one_that_waits_for_another_is_checked_without_it(self):
+        alone = "fn small::sizes::half: proved\nfn small::sizes::Size::twice: {}\nonly=1 proved=0"
+        self.assertEqual(self.judge(pairs(HALF, TWICE), SAID, alone.format("no proof; `search` did not prove `returns`")), {})
+        self.assertEqual(self.shop.asked[1][1], ["sizes::Size::twice"])
+        faults = self.judge(pairs(HALF, TWICE), SAID, alone.format("proved"))
+        self.assertEqual(faults, {"twice_is_once": "sizes::Size::twice isn't refused"})
+
+    def test_two_in_one_function_have_a_check_each(self):
+        other = ("half_is_a_third", "count / 2", "count / 3")
+        self.assertEqual(self.judge(pairs(HALF, other), SAID, SAID), {})
+        self.assertEqual(len(self.shop.asked), 2)
+
+    def test_one_in_a_type_is_checked_alone(self):
+        types = ("bytes_are_few", "{ bytes: u64 }", "{ bytes: u8 }")
+        self.assertEqual(self.judge(pairs(HALF, types), SAID, SAID), {})
+        self.assertIn("'# refused in sizes::half'", self.printed.getvalue())
+        self.assertEqual(self.judge(pairs(HALF, types), SAID, "fn small::sizes::half: proved\nlogic=proved"),
+                         {"bytes_are_few": "no function is refused with it"})
+        named = pairs(types) + "\n# refused in sizes::Size::twice\n"
+        self.assertEqual(self.judge(named, "fn small::sizes::Size::twice: proved\nonly=1 proved=1"),
+                         {"bytes_are_few": "sizes::Size::twice isn't refused"})
+
+    def test_one_that_can_not_be_read_fails_and_the_others_are_judged(self):
+        unread = ("no_such_name", "half(self.bytes) * 4", "halve(self.bytes)")
+        line = CODE.partition("half(self.bytes)")[0].count("\n") + 1
+        error = f"src/sizes.rt:{line}:9: error[unknown-name]: cannot find value `halve` in this scope"
+        faults = self.judge(pairs(HALF, unread), error, error, SAID)
+        self.assertEqual(list(faults), ["no_such_name"])
+        self.assertIn("cannot find value `halve`", faults["no_such_name"])
+        self.assertEqual([only for _, only in self.shop.asked], [(), ("",), ["sizes::half"]])
+
+    def test_ones_that_are_read_alone_and_not_together_are_parted(self):
+        error, alone = "src/sizes.rt:1:1: error[twice]: it is declared twice", "only=0 proved=0"
+        self.assertEqual(self.judge(pairs(HALF, FAILED), error, alone, alone, SAID, SAID), {})
+        self.assertEqual([only for _, only in self.shop.asked[3:]], [["sizes::half"], ["sizes::FaultFrom::from"]])
+
+    def test_ones_that_can_not_be_put_in_fail(self):
+        faults = self.judge(pairs(("twice_there", "Fault::Memory", "Fault::Bad"), ("not_there", "nothing", "something")))
+        self.assertIn("'Fault::Memory' stands in src/sizes.rt 2 times, and not once", faults["twice_there"])
+        self.assertIn("0 times", faults["not_there"])
+
+    def test_lines_are_those_of_the_function_and_of_its_closures(self):
+        lines = ["a::Fault::of", "a::fn::Fault::of::all+FnOnce::call_once", "a::fn::Fault::offer::all+FnOnce::call_once", "a::b::of",
+                 "b::FaultFrom::from", "c::NoneFromOne::from", "c::NoneFromTwo::from"]
+        said = prover.Said("small", 1, [f"fn small::{it}: proved" for it in lines])
+        for path, found in (("a::Fault::of", lines[:2]), ("a::of", []), ("a::FaultFrom<One>::from", lines[4:5]),
+                            ("c::NoneFrom<Two>::from", lines[6:]), ("c::NoneFrom<Six>::from", [])):
+            self.assertEqual(list(try_edits.lines_of(said, path)), found)
+
+    def test_a_function_of_which_nothing_is_told_fails(self):
+        self.assertEqual(self.judge(pairs(HALF), "logic=not-proved"), {"half_of_nothing": "no line of the check tells of sizes::half"})
+
+    def test_no_crate_is_begun_once_the_time_is_up(self):
+        self.keep("crates/small/mistakes/mistakes.edit", pairs(HALF))
+        judge = try_edits.Judge(Shop(self.top, SAID), "small")
+        with contextlib.redirect_stdout(io.StringIO()):
+            self.assertEqual(try_edits.judge_all([judge], 0), [])
+            self.assertEqual(try_edits.judge_all([judge], 2**40), [(judge, 1)])
+
+
+if __name__ == "__main__":
+    unittest.main()
