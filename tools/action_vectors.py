@@ -1,11 +1,11 @@
 #!/usr/bin/python3
-"""Prints files of rows of crates/message_rows/data: messages of these kinds as Python's protobuf encodes them.
+"""Prints files of rows of crates/test_messages/data: messages of these kinds as Python's protobuf encodes them.
 
 By hand, with Debian's protobuf-compiler and python3-protobuf (tried with 3.21.12):
 
     protoc --python_out=/tmp action_messages.proto
-    PYTHONPATH=/tmp ./action_vectors.py Platform Command Frame Action > ../crates/message_rows/data/action_messages
-    PYTHONPATH=/tmp ./action_vectors.py Result > ../crates/message_rows/data/action_results
+    PYTHONPATH=/tmp ./action_vectors.py Platform Command Frame Action > ../crates/test_messages/data/action_messages
+    PYTHONPATH=/tmp ./action_vectors.py Result > ../crates/test_messages/data/action_results
 
 The bytes are protobuf's. Which of them are refused, and how, is read from docs/FORMATS.md. A row
 that is accepted comes to the same bytes; one of a result, which is read tolerantly, to what protobuf

@@ -17,6 +17,7 @@ finish() {
 }
 trap finish EXIT
 cp -r "$top/examples/bazel" "$work/ws"
+rm -f "$work/ws"/bazel-* # (the links of a Bazel that ran there)
 bazel() { (cd "$work/ws" && command ${BAZEL:-bazel} --output_user_root="$work/bazel" "$@"); }
 
 # Builds from clean output, and prints Bazel's line on what its processes were.
@@ -36,7 +37,10 @@ expect_hits() {
 "$program" serve --listen 127.0.0.1:8080 --connections 9223372036854775807 --limit 1073741824 --result-limit 67108864 \
   >"$work/listening" 2>"$work/log" &
 server=$!
-until [ -s "$work/listening" ]; do sleep 0.2; done
+until [ -s "$work/listening" ]; do
+  kill -0 "$server" 2>/dev/null || { cat "$work/log" >&2; exit 3; }
+  sleep 0.2
+done
 
 echo "== over one connection"
 straight=(--remote_cache=http://127.0.0.1:8080 --remote_max_connections=1)

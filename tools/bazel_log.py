@@ -4,9 +4,11 @@ of it. The rules are those of docs/VERIFY_BAZEL.md."""
 import functools
 import json
 import re
+import sys
 from dataclasses import dataclass
 
-from messages import Digest, File, Link
+from messages import Digest, File, Link, action_message, command_message
+from plans import Refused, folders_of, is_path, is_target, is_text
 
 # The fields of a spawn and of a file that a plan says, those that say nothing of what was run or made, and no others.
 SPAWN_FIELDS = {
@@ -17,42 +19,6 @@ UNSAID_SPAWN_FIELDS = {
     "remotable", "remoteCacheable", "runner", "remoteCacheHit", "cacheHit", "walltime", "metrics", "digest",
 }
 FILE_FIELDS = {"path", "digest", "symlinkTargetPath", "isTool"}
-
-
-class Refused(Exception):
-    """Why there is no plan: where, and what is wrong there."""
-
-
-# Paths, as messages have them.
-
-
-def is_text(text):
-    """Whether a text may stand in a message: it has bytes as UTF-8, and no NUL."""
-    try:
-        return b"\0" not in text.encode()
-    except UnicodeEncodeError:
-        return False
-
-
-def is_target(target):
-    return is_text(target) and 0 < len(target.encode()) <= 4096
-
-
-@functools.lru_cache(maxsize=None)
-def is_path(path):
-    names = path.split("/")
-    return (
-        is_text(path)
-        and len(names) <= 64
-        and all(name not in ("", ".", "..") and len(name.encode()) <= 255 for name in names)
-    )
-
-
-def folders_of(path):
-    """The folders above a path, the nearest first."""
-    while "/" in path:
-        path = path.rpartition("/")[0]
-        yield path
 
 
 # The spawns.
@@ -75,35 +41,55 @@ class Spawn:
     is_cacheable: bool
     timeout: int
     exit_code: int
+    outputs: dict = None
     name: str = ""
+    input: Digest = None
     action: Digest = None
     frame: Digest = None
 
     def place(self):
         return f'line {self.line}: spawn "{self.title}"'
 
+    def command_message(self):
+        return command_message(self.arguments, self.listed, self.environment)
+
+    def action_message(self, input_root):
+        """Its Action; without an input root its frame."""
+        return action_message(Digest.of(self.command_message()), input_root, self.is_cacheable, self.platform)
+
     def refuse(self, reason):
         raise Refused(f"{self.place()}: {reason}")
 
 
+AT_ONCE = 1 << 20
+
+
 def objects(text):
-    """The JSON objects of a text, each with the line at which it begins."""
-    decoder, position, line = json.JSONDecoder(), 0, 1
-    blank = re.compile(r"\s*")
+    """The JSON objects of a text, which is read as it is needed, each with the line at which it begins."""
+    decoder, blank = json.JSONDecoder(), re.compile(r"\s*")
+    held, position, line, is_whole = "", 0, 1, False
     while True:
-        start = blank.match(text, position).end()
-        line += text.count("\n", position, start)
-        if start == len(text):
-            return
+        start = blank.match(held, position).end()
+        line += held.count("\n", position, start)
+        position = start
         try:
-            value, position = decoder.raw_decode(text, start)
+            value, end = decoder.raw_decode(held, start)
+            yield line, value
+            line += held.count("\n", start, end)
+            position = end
+            continue
         except (ValueError, RecursionError) as fault:
-            raise Refused(f"line {line}: no JSON object begins here that ends ({fault})") from None
-        yield line, value
-        line += text.count("\n", start, position)
+            if is_whole and start < len(held):
+                raise Refused(f"line {line}: no JSON object begins here that ends ({fault})") from None
+        if is_whole:
+            return
+        # (what is held grows at least by half, so an object is tried a few times at most)
+        more = text.read(max(AT_ONCE, (len(held) - start) // 2))
+        held, position, is_whole = held[start:] + more, 0, not more
 
 
 def read_log(text):
+    """The spawns of a log, which is read as it comes."""
     spawns = []
     for line, value in objects(text):
         if not isinstance(value, dict):
@@ -196,6 +182,8 @@ def check_command(spawn):
 def read_files(spawn, kind, values, files):
     for value in values:
         path = value["path"]
+        if isinstance(path, str):
+            path = sys.intern(path)
         if not is_path(path):
             spawn.refuse(f"it has the {kind} {path!r}, which is no path below the execution root")
         unknown = sorted(set(value) - FILE_FIELDS)
@@ -218,4 +206,10 @@ def read_file(spawn, kind, path, value):
     hash_text, size = digest.get("hash", ""), whole(digest.get("sizeBytes", 0))
     if not re.fullmatch("[0-9a-f]{64}", hash_text) or not 0 <= size < 2**63:
         spawn.refuse(f'its {kind} "{path}" has no digest')
+    return file_of(hash_text, size)
+
+
+@functools.lru_cache(maxsize=None)
+def file_of(hash_text, size):
+    """A file. Many spawns read one, so it stands once."""
     return File(Digest(hash_text, size))

@@ -14,62 +14,55 @@ that Bazel ran). FOLDER gets these files:
     store/            cas/HASH and ac/HASH: commands, actions, directories, trees and results, not the contents of files;
                       with --store in another folder, with --server in a cache over HTTP
 
+With --stages, or where one plan doesn't hold all steps, each stage has a folder 1, 2, .. in FOLDER with a plan, a record,
+sources and a claim of its own, and the file `stages` names these folders; tools/verify_stages.py verifies them.
+
 The rules are those of docs/VERIFY_BAZEL.md. What a plan can't say is refused with status 2 and one line, which names
 the file, the line of the log at which the spawn begins, and the spawn; then none of the files is written.
 """
 
 import argparse
 import contextlib
+import io
 import os
 import sys
+from dataclasses import dataclass
 
-from bazel_log import Refused, is_path
-from bazel_steps import MOST_BYTES, read_artifact, turn
-from stores import FolderStore, NotAnswered, ServerStore, is_prefix, write_file
+import stores
+from bazel_stages import builds_of, length
+from bazel_steps import Steps, read_artifact, steps_of
+from messages import Digest
+from plans import MOST_STEPS, Refused, check_sizes, is_path
+
+# The first bytes of zstd's frames (RFC 8878, section 3.1.1), which Bazel's compact log is written in.
+COMPACT = b"\x28\xb5\x2f\xfd"
 
 
-def check_store(build, store):
+def check_store(steps, store):
     """Refuses a store that has another result of an action: the same action came to two outcomes."""
-    for spawn in build.spawns:
+    for spawn in steps.spawns:
         held = store.get("ac", spawn.action.hash)
-        if held is not None and held != build.store.results[spawn.action]:
+        if held is not None and held != steps.store.results[spawn.action]:
             spawn.refuse(f'the store has another result of its action, "{store.place("ac", spawn.action.hash)}"')
 
 
-def write(build, folder, store):
+def write(made, folder, store):
     """Writes all: the blobs before the results that refer to them, and the files of FOLDER last."""
-    for digest, blob in build.store.blobs.items():
-        store.put("cas", digest.hash, blob)
-    for action, result in build.store.results.items():
-        store.put("ac", action.hash, result)
-    texts = {"plan": build.plan, "record": build.record, "taken": build.taken}
-    texts.update(sources=[build.sources.text()], claim=[build.claim.text()])
-    os.makedirs(folder, exist_ok=True)
-    for name, lines in texts.items():
-        write_file(os.path.join(folder, name), "".join(f"{line}\n" for line in lines).encode())
-
-
-def store_of(options):
-    if options.server is None:
-        if options.prefix:
-            raise Refused("--prefix is for --server")
-        return FolderStore(options.store or os.path.join(options.folder, "store"))
-    if not is_prefix(options.prefix):
-        raise Refused(f"{options.prefix!r} is no prefix, as /cache/main")
-    try:
-        return ServerStore(options.server, options.prefix)
-    except ValueError as fault:
-        raise Refused(str(fault)) from None
-
-
-def check_sizes(build):
-    """Refuses what `verify` reads no more of (the store's files, the plan and the record)."""
-    blobs = {f"the blob {digest.text()}": len(blob) for digest, blob in build.store.blobs.items()}
-    blobs.update((f"the result of {action.text()}", len(blob)) for action, blob in build.store.results.items())
-    blobs.update((name, sum(len(it) + 1 for it in lines)) for name, lines in (("plan", build.plan), ("record", build.record)))
-    for name, size in blobs.items():
-        if size > MOST_BYTES:
-            raise Refused(f"{name} has {size} bytes, and `verify` reads {MOST_BYTES} at most")
+    made.steps.store.put_into(store)
+    whole = {"taken": made.steps.taken, "sources": [made.sources.text()], "claim": [made.claim.text()]}
+    if made.are_stages:
+        names = [str(number) for number in range(1, len(made.builds) + 1)]
+        for name, build in zip(names, made.builds):
+            texts = {"sources": [build.sources.text()], "claim": [build.claim.text()]}
+            stores.write_texts(os.path.join(folder, name), {"plan": build.plan, "record": build.record, **texts})
+        whole["stages"] = names
+    else:
+        whole.update(plan=made.builds[0].plan, record=made.builds[0].record)
+    # (what a run before wrote in the other way goes)
+    for name in {"plan", "record", "stages"} - whole.keys():
+        with contextlib.suppress(FileNotFoundError):
+            os.remove(os.path.join(folder, name))
+    stores.write_texts(folder, whole)
 
 
 def parse(words):
@@ -83,14 +76,7 @@ def parse(words):
     parser.add_argument(
         "folder", metavar="FOLDER", help="where the files are written; it is made if it isn't there"
     )
-    stores = parser.add_mutually_exclusive_group()
-    stores.add_argument(
-        "--store", metavar="STORE", help="the store folder, in place of FOLDER/store; it may hold other builds"
-    )
-    stores.add_argument(
-        "--server", metavar="HOST:PORT", help="a cache over HTTP in place of a folder; PUT and GET of /cas/HASH and /ac/HASH"
-    )
-    parser.add_argument("--prefix", metavar="PREFIX", default="", help="what stands before these paths on the server")
+    stores.add_options(parser)
     parser.add_argument(
         "--outputs", metavar="PATTERN", nargs="+", default=[],
         help="what the artifact has: each output whose path has a PATTERN, in which * (also for /), ? and [..] are as in a "
@@ -107,41 +93,81 @@ def parse(words):
         "--drop-timeouts", action="store_true",
         help="take spawns with a timeout, as tests have, as steps without one; they are refused else",
     )
+    parser.add_argument(
+        "--all", action="store_true",
+        help="keep the spawns of which nothing of the artifact that --outputs or --artifact says is made",
+    )
+    parser.add_argument(
+        "--stages", metavar="STEPS", nargs="?", type=steps_a_stage, const=MOST_STEPS,
+        help="one plan a stage, each of so many steps at most (by default, and at most, as many as a plan holds); a build that "
+        "one plan doesn't hold is written so without being asked",
+    )
     return parser.parse_args(words)
 
 
+def steps_a_stage(text):
+    if not text.isdecimal() or not 1 <= int(text) <= MOST_STEPS:
+        raise argparse.ArgumentTypeError(f"{text!r} is no number from 1 to {MOST_STEPS}")
+    return int(text)
+
+
+@dataclass
+class Made:
+    """What is written: the steps, and one plan of them, or one a stage."""
+
+    steps: Steps
+    builds: list
+    are_stages: bool
+    sources: Digest
+    claim: Digest
+
+
+def read_steps(options, below, artifact):
+    """The steps of the log."""
+    with open(options.log, "rb") as it:
+        if it.peek(len(COMPACT)).startswith(COMPACT):
+            raise Refused("this is a compact log: give the file of --execution_log_json_file")
+        try:
+            log = io.TextIOWrapper(it, encoding="utf-8")
+            return steps_of(log, options.outputs, below, artifact, options.drop_timeouts, options.all)
+        except UnicodeDecodeError:
+            raise Refused("this is no text: give the file of --execution_log_json_file, not of a binary log") from None
+
+
 def make(options, store):
-    """Makes the build of the log and writes it, where nothing of it is refused."""
+    """Makes the plans of the log and writes them, where nothing of it is refused."""
     below = options.below.rstrip("/")
     if below and not is_path(below):
         raise Refused(f"{below!r} is no path below the execution root")
     artifact = read_artifact(options.artifact) if options.artifact else None
-    with open(options.log, encoding="utf-8") as it:
-        text = it.read()
     try:
-        build = turn(text, options.outputs, below, artifact, options.drop_timeouts)
-        check_sizes(build)
-        check_store(build, store)
+        steps = read_steps(options, below, artifact)
+        builds, are_stages = builds_of(steps, options.stages)
+        check_sizes(steps.store, {"plan": max((it.plan for it in builds), key=length)})
+        check_store(steps, store)
     except Refused as fault:
         raise Refused(f'"{options.log}": {fault}') from None
-    write(build, options.folder, store)
-    return build
+    made = Made(steps, builds, are_stages, builds[0].sources, builds[-1].claim)
+    write(made, options.folder, store)
+    return made
 
 
 def main(words):
     options = parse(words)
     try:
-        with contextlib.closing(store_of(options)) as store:
-            build = make(options, store)
+        with contextlib.closing(stores.store_of(options)) as store:
+            made = make(options, store)
     except Refused as fault:
         print("error:", str(fault).replace("\n", "\\n"), file=sys.stderr)
         return 2
-    except (NotAnswered, OSError, UnicodeDecodeError) as fault:
+    except (stores.NotAnswered, OSError, UnicodeDecodeError) as fault:
         print(f"error: {fault}", file=sys.stderr)
         return 3
-    print(f"sources {build.sources.text()}")
-    print(f"claim {build.claim.text()}")
-    print(f"steps {len(build.spawns)} taken {len(build.taken)}")
+    print(f"sources {made.sources.text()}")
+    print(f"claim {made.claim.text()}")
+    stages = f" stages {len(made.builds)}" if made.are_stages else ""
+    left_out = f" left-out {made.steps.left_out}" if made.steps.left_out else ""
+    print(f"steps {len(made.steps.spawns)} taken {len(made.steps.taken)}{stages}{left_out}")
     return 0
 
 

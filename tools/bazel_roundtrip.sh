@@ -17,6 +17,7 @@ finish() {
 trap finish EXIT
 mkdir "$work/many"
 cp -r "$top/examples/bazel" "$work/ws"
+rm -f "$work/ws"/bazel-* # (the links of a Bazel that ran there)
 
 built() { bazel "$1" "$2" --jobs=1 --execution_log_json_file="$work/log.json" "${@:3}" >"$work/out" 2>&1 || { cat "$work/out"; exit 1; }; }
 turn() { rm -rf "$work/asked" && "$top/tools/bazel_plan.py" "$work/log.json" "$work/asked" "$@"; }

@@ -1,62 +1,52 @@
-"""The plan of a log: its spawns as steps in order, where each of their inputs comes from, what the artifact is put together
-from, and what the store has to be told. The rules are those of docs/VERIFY_BAZEL.md."""
+"""The steps of a log: its spawns in order, where each of their inputs comes from, what the artifact has, and what the store
+has to be told. The rules are those of docs/VERIFY_BAZEL.md."""
 
 import fnmatch
-import functools
 import hashlib
 import heapq
 import os
 import re
 import stat
+from array import array
 from dataclasses import dataclass
 
-from bazel_log import Refused, folders_of, is_path, is_target, read_log
-from messages import Digest, File, Link, action_message, command_message, directory_message, result_message
+from bazel_log import read_log
+from messages import Digest, File, Link, directory_message, result_message
+from plans import LONGEST_STEP, MOST_LINES, Refused, Store, escaped, folders_of, is_path, is_target, put, stands_at
 
-MOST_STEPS = 4096
-MOST_LINES = 65536
-MOST_BYTES = 16777216
-LONGEST_STEP = 64
-
-# Paths, and trees as dictionaries.
-
-SAFE = frozenset(b"ABCDEFGHIJKLMNOPQRSTUVWXYZabcdefghijklmnopqrstuvwxyz0123456789-._~/")
-
-
-@functools.lru_cache(maxsize=None)
-def escaped(path):
-    """The one text that a path has in a plan."""
-    return "".join(chr(byte) if byte in SAFE else f"%{byte:02X}" for byte in path.encode())
-
-
-def put(entries, path, entry):
-    """Puts an entry at a path of a dictionary, and answers whether there was room for it, or it stood there."""
-    *folders, name = path.split("/")
-    for folder in folders:
-        entries = entries.setdefault(folder, {})
-        if not isinstance(entries, dict):
-            return False
-    return entries.setdefault(name, entry) == entry
-
+HINT = "Bazel logs what it ran, so `bazel clean` comes before the build"
 
 # What becomes of the spawns.
 
 
-class Store:
-    """The blobs by digest, and the results by their action's hash, that `verify` is to be told."""
+class Directories:
+    """Directories by what stands in them: one that many spawns read is encoded once."""
 
     def __init__(self):
-        self.blobs = {}
-        self.results = {}
+        self.known, self.digests, self.blobs, self.below = {}, {}, {}, {}
 
-    def keep(self, blob):
-        digest = Digest.of(blob)
-        self.blobs[digest] = blob
-        return digest
+    def digest_of(self, entries):
+        """The digest of a dictionary. Equal files in it have to be one object, as `read_log` has them."""
+        nodes = {name: self.digest_of(it) if isinstance(it, dict) else it for name, it in sorted(entries.items())}
+        key = "/".join(nodes), array("Q", map(id, nodes.values())).tobytes()
+        if key not in self.known:
+            blob = directory_message(nodes)
+            digest = Digest.of(blob)
+            self.known[key] = self.digests.setdefault(digest, digest)
+            self.blobs[digest] = blob
+            self.below[digest] = [it for it in nodes.values() if isinstance(it, Digest)]
+        return self.known[key]
+
+    def put_into(self, blobs, digest):
+        """Puts a Directory and all below it to the blobs."""
+        if digest not in blobs:
+            blobs[digest] = self.blobs[digest]
+            for it in self.below[digest]:
+                self.put_into(blobs, it)
 
 
-def frame_spawns(spawns, store, drop_timeouts):
-    """Each spawn's action and frame."""
+def frame_spawns(spawns, directories, drop_timeouts):
+    """Each spawn's command, input root, action and frame."""
     for spawn in spawns:
         if spawn.timeout and not drop_timeouts:
             spawn.refuse(f"it has a timeout of {spawn.timeout} ms, which a plan can't say (see --drop-timeouts)")
@@ -64,11 +54,8 @@ def frame_spawns(spawns, store, drop_timeouts):
         for path, entry in spawn.inputs.items():
             if not put(root, path, entry):
                 spawn.refuse(f'its input "{path}" lies under another one, or above it')
-        command = store.keep(command_message(spawn.arguments, spawn.listed, spawn.environment))
-        input_root = store.keep(directory_message(root, store.keep))
-        rest = spawn.is_cacheable, spawn.platform
-        spawn.action = store.keep(action_message(command, input_root, *rest))
-        spawn.frame = Digest.of(action_message(command, None, *rest))
+        spawn.input = directories.digest_of(root)
+        spawn.action, spawn.frame = (Digest.of(spawn.action_message(it)) for it in (spawn.input, None))
 
 
 def settle_repeats(spawns):
@@ -153,7 +140,7 @@ def name_steps(spawns):
     """Names the steps: the mnemonic and the end of the first output's path, with a number where that comes again."""
     taken = set()
     for spawn in spawns:
-        output = min(outputs_of(spawn), default=min(spawn.listed, default=""))
+        output = min(spawn.outputs, default=min(spawn.listed, default=""))
         words = re.sub(r"^bazel-out/[^/]*/(bin|genfiles|testlogs)/", "", output)
         kind, rest = (re.sub("[^a-z0-9_]+", "-", it.lower()).strip("-") for it in (spawn.mnemonic, words))
         kind = kind[:24] or "spawn"
@@ -178,83 +165,99 @@ def outputs_of(spawn):
     return outputs
 
 
-@dataclass
-class Build:
-    """What is written: the texts of the plan's and the record's lines, the digests, and what the store is told."""
-
-    store: Store
-    spawns: list
-    plan: list
-    record: list
-    sources: Digest
-    claim: Digest
-    taken: list
-
-
-def turn(text, wanted, below, artifact, drop_timeouts):
-    """The build of a log: `wanted` are patterns of outputs, `artifact` is a tree of files that is claimed, or None."""
-    store = Store()
-    spawns = read_log(text)
-    frame_spawns(spawns, store, drop_timeouts)
-    spawns = settle_repeats(spawns)
-    if len(spawns) > MOST_STEPS:
-        spawns[MOST_STEPS].refuse(f"{MOST_STEPS} steps stand before it, and a plan has no more")
-    origins = Origins(spawns)
-    spawns = in_order(spawns, origins)
-    name_steps(spawns)
-    plan, sources, taken = ["buildplan 1"], {}, set()
-    for spawn in spawns:
-        plan.append(f"step {spawn.name} {spawn.frame.text()}")
-        plan += input_lines(spawn, origins, sources, taken)
-    root_lines, root = artifact_lines(choose(keep_results(spawns, store), wanted, below, artifact))
-    return Build(
-        store=store,
-        spawns=spawns,
-        plan=[*plan, "root", *root_lines],
-        record=["buildrecord 1", *(f"step {it.name} {it.action.text()}" for it in spawns)],
-        sources=store.keep(directory_message(sources, store.keep)),
-        claim=Digest.of(directory_message(root if artifact is None else artifact, Digest.of)),
-        taken=sorted(taken),
-    )
-
-
-def input_lines(spawn, origins, sources, taken):
-    """The lines of a step. What no spawn made is put into the source tree, where the first that reads it counts."""
-    if len(spawn.inputs) > MOST_LINES:
-        spawn.refuse(f"it has {len(spawn.inputs)} inputs, and a step has {MOST_LINES} lines at most")
-    for path, entry in sorted(spawn.inputs.items()):
-        text, maker = escaped(path), origins.of(path, spawn)
-        if maker:
-            yield f"in {text} out {maker.name} {text}"
-            continue
-        there = stands_at(sources, path)
-        if isinstance(there, dict) or there is None and not put(sources, path, entry):
-            spawn.refuse(f'its input "{path}" lies under or above one that an earlier spawn reads')
-        if path.startswith("bazel-out/"):
-            taken.add(text)
-        yield f"in {text} src {text}"
-
-
-def keep_results(spawns, store):
-    """Keeps each step's result, and answers what was made: by the output's path its spawn and its entry."""
+def outputs_by_path(spawns):
+    """What was made: by the output's path its spawn and its entry."""
     outputs = {}
     for spawn in spawns:
-        made = outputs_of(spawn)
-        store.results[spawn.action] = result_message(made, spawn.exit_code, store.keep)
-        for path, entry in made.items():
+        for path, entry in spawn.outputs.items():
             if path in outputs:
                 spawn.refuse(f'it made files in the output "{path}", and so did {outputs[path][0].place()}')
             outputs[path] = spawn, entry
     return outputs
 
 
-def stands_at(entries, path):
-    """What stands at a path of a dictionary, or nothing."""
-    for name in path.split("/"):
-        if not isinstance(entries, dict) or name not in entries:
-            return None
-        entries = entries[name]
-    return entries
+def that_are_read(spawns, origins, chosen):
+    """The spawns that made something of the artifact, and those that made what these read, directly or not."""
+    needed = {it.number: it for _, it, _ in chosen.values()}
+    waiting = list(needed.values())
+    while waiting:
+        reader = waiting.pop()
+        for path in reader.inputs:
+            maker = origins.of(path, reader)
+            if maker and maker.number not in needed:
+                needed[maker.number] = maker
+                waiting.append(maker)
+    return [it for it in spawns if it.number in needed]
+
+
+@dataclass
+class Steps:
+    """The steps in order, where what they read comes from, what the artifact has, and what the store is told of them."""
+
+    store: Store
+    spawns: list
+    origins: Origins
+    chosen: dict
+    artifact: dict
+    sources: dict
+    taken: list
+    left_out: int
+
+    def keep(self, entries):
+        """The digest of a dictionary, of which the store is told."""
+        return self.store.keep(directory_message(entries, self.store.keep))
+
+    def claim(self):
+        """The digest of the artifact."""
+        root = self.artifact
+        if root is None:
+            root = {}
+            for target, (_, _, entry) in self.chosen.items():
+                put(root, target, entry)
+        return Digest.of(directory_message(root))
+
+
+def steps_of(log, wanted, below, artifact, drop_timeouts, keep_all):
+    """The steps of a log: `wanted` are patterns of outputs, `artifact` is a tree of files that is claimed, or None. Where
+    one of them says what the artifact has, what nothing of it reads is left out, unless `keep_all` says otherwise."""
+    spawns = read_log(log)
+    directories = Directories()
+    frame_spawns(spawns, directories, drop_timeouts)
+    spawns = settle_repeats(spawns)
+    origins = Origins(spawns)
+    for spawn in spawns:
+        spawn.outputs = outputs_of(spawn)
+    chosen = choose(outputs_by_path(spawns), wanted, below, artifact)
+    count = len(spawns)
+    if (wanted or artifact is not None) and not keep_all:
+        spawns = that_are_read(spawns, origins, chosen)
+    spawns = in_order(spawns, origins)
+    name_steps(spawns)
+    store = Store()
+    for spawn in spawns:
+        for blob in (spawn.command_message(), spawn.action_message(spawn.input)):
+            store.keep(blob)
+        directories.put_into(store.blobs, spawn.input)
+        store.results[spawn.action] = result_message(spawn.outputs, spawn.exit_code, store.keep)
+    sources, taken = sources_of(spawns, origins)
+    return Steps(store, spawns, origins, chosen, artifact, sources, taken, count - len(spawns))
+
+
+def sources_of(spawns, origins):
+    """The source tree, which has what no spawn made as the first that reads it has it, and what of it is below bazel-out."""
+    sources, taken = {}, set()
+    for spawn in spawns:
+        if len(spawn.inputs) > MOST_LINES:
+            spawn.refuse(f"it has {len(spawn.inputs)} inputs, and a step has {MOST_LINES} lines at most")
+        for path, entry in sorted(spawn.inputs.items()):
+            if origins.of(path, spawn):
+                continue
+            there = stands_at(sources, path)
+            if isinstance(there, dict) or there is None and not put(sources, path, entry):
+                spawn.refuse(f'its input "{path}" lies under or above one that an earlier spawn reads')
+            if path.startswith("bazel-out/"):
+                taken.add(escaped(path))
+    return sources, sorted(taken)
 
 
 # The artifact.
@@ -272,29 +275,28 @@ def choose(outputs, wanted, below, artifact):
         paths = [f"{below}/{path}" if below else path for path, _ in files_in(artifact)]
         missing = next((path for path in paths if path not in everything), None)
         if missing:
-            raise Refused(f'the artifact has a file that is "{missing}" in the build, and no spawn of the log made it')
+            raise Refused(f'the artifact has a file that is "{missing}" in the build, and no spawn of the log made it; {HINT}')
     else:
         paths = [path for path in outputs if not below or path.startswith(f"{below}/")]
     if not paths:
-        raise Refused("no output of the log is in the artifact")
+        raise Refused(f"no output of the log is in the artifact; {why_none(outputs, below)}")
     outside = next((path for path in paths if below and not path.startswith(f"{below}/")), None)
     if outside:
         raise Refused(f'the output "{outside}" doesn\'t lie below "{below}"')
-    return {path[len(below) + 1 if below else 0:]: (path, *everything[path]) for path in paths}
-
-
-def artifact_lines(chosen):
-    """The lines of the root, and its tree as a dictionary."""
-    if len(chosen) > MOST_LINES:
-        raise Refused(f"the artifact is put together from {len(chosen)} outputs, of which a plan has {MOST_LINES} at most")
-    lines, root = [], {}
-    for target, (path, spawn, entry) in sorted(chosen.items()):
+    chosen = {path[len(below) + 1 if below else 0:]: (path, *everything[path]) for path in paths}
+    for target in sorted(chosen):
         above = next((it for it in folders_of(target) if it in chosen), None)
         if above:
             raise Refused(f'"{target}" of the artifact lies under "{above}", another output')
-        lines.append(f"in {escaped(target)} out {spawn.name} {escaped(path)}")
-        put(root, target, entry)
-    return lines, root
+    return chosen
+
+
+def why_none(outputs, below):
+    """What to look at where nothing is in the artifact."""
+    if not outputs:
+        return HINT
+    folders = sorted({path.rpartition("/")[0] for path in outputs})
+    return f'below "{below}" it has none, but below "{folders[0]}"' + f" and {len(folders) - 1} others" * (len(folders) > 1)
 
 
 def chosen_by_patterns(outputs, everything, wanted):

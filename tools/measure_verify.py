@@ -10,7 +10,9 @@
 `outputs`: one step that makes a directory of so many files, and a root of as many lines, one for each.
 `sources`: a source directory of so many files, and a root of as many lines, one for each.
 `meeting`: a root of so many lines, of which half put a directory somewhere, and each other one a file into one of these;
-`apart`: as many lines, whose files stand beside the directories, in a plan of version 1.
+`apart`: as many lines, whose files stand beside the directories, in a plan of version 1;
+`repeated`: as many lines, of which half put a file into one directory, and then each other one puts that directory there;
+`layers`: as many lines, each of which puts another directory of one file at one path.
 
 Each build is written to a folder of its own, which is gone afterwards. It is run three times, and the least time
 counts; beside each run `sha256sum` reads and hashes the files of the store, and its least time is told too. The
@@ -142,7 +144,33 @@ def apart(build, count):
     return lines_beside(build, count, 1)
 
 
-KINDS = {"steps": steps, "outputs": outputs, "sources": sources, "meeting": meeting, "apart": apart}
+def repeated(build, count):
+    files = contents(2, "source")
+    below = {"f00000": files["f00000"]}
+    root = build.keep(directory_message({"d": build.keep(directory_message(below)), "f00001": files["f00001"]}))
+    names = [f"g{index:05}" for index in range(count // 2)]
+    build.plan = ["buildplan 2", "root", *(f"in d/{name} src f00001" for name in names), *["in d src d"] * len(names)]
+    made = directory_message({**below, **dict.fromkeys(names, files["f00001"])})
+    return root, Digest.of(directory_message({"d": Digest.of(made)}))
+
+
+def layers(build, count):
+    files = contents(count, "source")
+    layer = {name: build.keep(directory_message({name: file})) for name, file in files.items()}
+    root = build.keep(directory_message(layer))
+    build.plan = ["buildplan 2", "root", *(f"in d src {name}" for name in layer)]
+    return root, Digest.of(directory_message({"d": Digest.of(directory_message(files))}))
+
+
+KINDS = {
+    "steps": steps,
+    "outputs": outputs,
+    "sources": sources,
+    "meeting": meeting,
+    "apart": apart,
+    "repeated": repeated,
+    "layers": layers,
+}
 
 
 def main():

@@ -6,7 +6,12 @@ import hashlib
 from dataclasses import dataclass
 
 
+SHORT = [bytes([it]) for it in range(0x80)]
+
+
 def varint(number):
+    if number < 0x80:
+        return SHORT[number]
     groups = bytearray()
     while number >= 0x80:
         groups.append(number & 0x7F | 0x80)
@@ -56,6 +61,7 @@ class File:
     digest: Digest
     is_executable: bool = True
 
+    @functools.lru_cache(maxsize=65536)
     def fields_behind_name(self):
         """The rest of a FileNode, and of an OutputFile."""
         return bytes_field(2, self.digest.message()) + number_field(4, int(self.is_executable))

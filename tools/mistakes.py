@@ -125,8 +125,29 @@ def functions_of(file, text, homes):
     return told
 
 
+def assumable(folder, homes):
+    """The functions of a crate that a check can take by their contracts, each with the file of code that it stands in: those
+    with a body, but for the methods of a trait and those that call themselves."""
+    found = {}
+    for path in glob.glob(f"{folder}/src/**/*.rt", recursive=True):
+        file = os.path.relpath(path, folder)
+        with open(path, encoding="utf-8") as it:
+            text = it.read()
+        traits = set(re.findall(r"\btrait (\w+)", text))
+        for function, texts in functions_of(file, text, homes).items():
+            *above, name = function.split("::")
+            is_method = bool(above) and above[-1][0].isupper()
+            own = rf"(?:Self::|self\.|\b{above[-1]}(?:::<[^(]*>)?::)" if is_method else r"(?<![\w.:])(?:self::)?"
+            calls_itself = re.search(rf"{own}{name}(?:::<[^(]*>)?\(", texts[0].partition(f"fn {name}")[2])
+            cycle = os.path.join(folder, "proofs", *above, f"+{name}")
+            if (len(texts) == 1 and texts[0].endswith("}") and name != "main" and not calls_itself
+                    and not traits.intersection(above) and not os.path.isdir(cycle)):
+                found[function] = file
+    return found
+
+
 def spellings(path):
-    """The paths as which a check may print a function: what a trait's name has between <> is told where that parts two impls."""
+    """The paths as which a check may print a function: a trait's arguments are told, unless they aren't needed to part impls."""
     return re.sub(r"[<>]", "", path), re.sub(r"<\w*>", "", path)
 
 
@@ -195,13 +216,17 @@ def skip(words, at):
 
 
 def name_of(kind, head):
-    """The name of a module, a trait or an impl, as a check prints it: of an impl the type's name and then the trait's."""
+    """The name of a module, a trait or an impl, as a check prints it: of an impl the type's name and then the trait's, with its
+    arguments but for the impl's own parameters."""
     if kind in ("mod", "trait"):
         return head[0]
+    parameters = set()
     if head and head[0] == "<":
         depth, at = 0, 0
         while at < len(head):
             depth += (head[at] == "<") - (head[at] == ">" and head[at - 1] != "-")
+            if depth == 1 and head[at] in ("<", ","):
+                parameters.add(head[at + 1])
             at += 1
             if not depth:
                 break
@@ -215,7 +240,7 @@ def name_of(kind, head):
             split = at
     sides = [head[split + 1:], head[:split]] if split is not None else [head]
     name = "".join(last_name(it) for it in sides)
-    parts = arguments(sides[1]) if len(sides) > 1 else []
+    parts = [it for it in arguments(sides[1]) if it not in parameters] if len(sides) > 1 else []
     return f"{name}<{''.join(parts)}>" if parts else name
 
 

@@ -93,8 +93,9 @@ class Workspace:
         with open(f"{self.top}/crates/{crate}/{file}", encoding="utf-8") as it:
             return it.read()
 
-    def check(self, crate, texts, only=()):
-        """What a check of the crate says with these texts in place of its own: of all of it, or only of some functions."""
+    def check(self, crate, texts, only=(), assumed=()):
+        """What a check of the crate says with these texts in place of its own: of all of it, or only of some functions. It takes
+        those that are assumed by their contracts: their proofs have a hole."""
         with tempfile.TemporaryDirectory(prefix="buildcache-check-") as room:
             for part in PARTS:
                 if os.path.isdir(f"{self.top}/crates/{crate}/{part}"):
@@ -102,12 +103,24 @@ class Workspace:
             for path, text in texts.items():
                 with open(f"{room}/{path}", "w", encoding="utf-8") as it:
                     it.write(text)
-            words = self.words(crate)
+            for path in assumed:
+                assume(crate, path, room)
+            words = self.words(crate) + ["--allow-holes"] * bool(assumed)
             for path in only:
                 words += ["--only", path]
             told = run(words, room)
             # (killed for memory, most likely: once more)
             return Said(crate, *(run(words, room) if told[0] == -signal.SIGKILL else told))
+
+
+def assume(crate, path, room):
+    """Puts a hole in place of a function's proof."""
+    folder, name = os.path.join(room, "proofs", *path.split("::")), path.split("::")[-1]
+    shutil.rmtree(folder, ignore_errors=True)
+    os.makedirs(folder)
+    with open(f"{folder}/Proof.antt", "w", encoding="utf-8") as it:
+        it.write(f"use Rattle.{crate}.proofs.{path.replace('::', '.')}.Statement as stated\n\n"
+                 f"pub {name}_spec : {{M : Type 1}} → stated.statement M\n{name}_spec = ?\n")
 
 
 def run(words, folder):

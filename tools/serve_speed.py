@@ -1,21 +1,30 @@
 #!/usr/bin/env python3
-"""Measures `buildcache serve` beside nginx: serve_speed.py PROGRAM [SECONDS]
+"""Measures `buildcache serve` beside nginx: serve_speed.py PROGRAM [SECONDS [CONNECTIONS]]
 
 GET and PUT of blobs of four sizes over one keep-alive connection each, in turns of a tenth of SECONDS (2) for each
 size and kind, so that both meet the same machine. nginx serves WebDAV from memory (/dev/shm). Each PUT is of a blob
-that the server doesn't hold yet. It prints requests a second, the best turn of each. It needs nginx, and the program
-built (crates/buildcache/out/buildcache).
+that the server doesn't hold yet. It prints requests a second, the best turn of each.
+
+With CONNECTIONS it measures GETs over so many connections at once by `wrk`, of blobs of three sizes, in three turns of SECONDS:
+`serve --at-once`, nginx, and over one connection also `serve` as it is. It needs nginx, wrk for the latter, and the program built
+(crates/buildcache/out/buildcache).
 """
 
 import hashlib
 import os
+import re
 import socket
+import subprocess
 import time
 
-from harness import Nginx, Server, words_of
+from harness import LOCAL, Nginx, Server, words_of
 
 SIZES = [1 << 10, 64 << 10, 1 << 20, 16 << 20]
 TURNS = 10
+
+# Over many connections.
+WRK_SIZES = SIZES[:3]
+WRK_TURNS = 3
 
 
 class Client:
@@ -106,8 +115,43 @@ def measure(clients, seconds, store):
             os.remove(f"{store}/cas/{name}")
 
 
+def wrk(port, blob, seconds, connections):
+    """Requests a second of GETs of a blob, each answered with 200."""
+    threads = min(2, connections)
+    words = ["wrk", f"-t{threads}", f"-c{connections}", f"-d{max(1, round(seconds))}s", "--timeout", "10s", f"http://{LOCAL}:{port}{path(blob)}"]
+    told = subprocess.run(words, capture_output=True, text=True, timeout=seconds + 60, check=True).stdout
+    if "Non-2xx" in told or "Socket errors" in told:
+        raise SystemExit(f"serve_speed: {told}")
+    return float(re.search(r"Requests/sec: +([0-9.]+)", told)[1])
+
+
+def measure_many(ports, seconds, connections):
+    for size in WRK_SIZES:
+        blob, best = os.urandom(size), {}
+        for port in ports.values():
+            client = Client(port)
+            client.ask(put_text(blob), (200, 201, 204))
+            client.socket.close()
+        for _ in range(WRK_TURNS):
+            for name, port in ports.items():
+                best[name] = max(wrk(port, blob, seconds, connections), best.get(name, 0))
+        yield size, best
+
+
+def main_many(program, seconds, connections):
+    with Server(program, more=("--at-once", str(connections + 8))) as many, Server(program) as one, Nginx("/dev/shm") as nginx:
+        ports = {"serve --at-once": many.port, "nginx": nginx.port, **({"serve": one.port} if connections == 1 else {})}
+        print(f"| Bytes, {connections} connections |" + "|".join(f" GET, {it} " for it in ports) + "|\n|" + "---|" * (len(ports) + 1))
+        for size, best in measure_many(ports, seconds, connections):
+            print(f"| {size:,} |" + "|".join(f" {best[it]:,.0f} " for it in ports) + "|", flush=True)
+        print(f"memory of serve --at-once: {many.memory():,} kB")
+
+
 def main():
-    program, *seconds = words_of(__doc__, 1, 2)
+    program, *seconds = words_of(__doc__, 1, 3)
+    if len(seconds) > 1:
+        main_many(program, float(seconds[0]), int(seconds[1]))
+        return
     with Server(program) as serve, Nginx("/dev/shm") as nginx:
         clients = {"serve": Client(serve.port), "nginx": Client(nginx.port)}
         print("| Bytes | GET, serve | GET, nginx | PUT, serve | PUT, nginx | SHA-256 (OpenSSL) |\n|---|---|---|---|---|---|")

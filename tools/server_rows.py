@@ -1,7 +1,8 @@
 #!/usr/bin/env python3
 """Tries the program as a server and as a client, over sockets: server_rows.py PROGRAM
 
-The streams of bytes and their exact answers, whole and byte by byte; the prefix that stands before the paths; `put`,
+The streams of bytes and their exact answers, whole and byte by byte; the prefix that stands before the paths; many
+connections at once, of clients that are slow, deaf, silent or gone beside one that works; `put`,
 `get` and `verify --server` over the program's own server and over nginx (where it is installed) with WebDAV as a store
 that checks nothing; servers that refuse, cut, fall silent, answer nonsense or lie; and the program's own server behind
 one that cuts each reply in turn, or changes a byte of it. It prints a line for each row, and ends with status 1 where
@@ -11,8 +12,11 @@ one failed. Nothing outside this machine is asked.
 import os
 import shutil
 import socket
+import struct
 import sys
 import tempfile
+import threading
+import time
 
 import harness
 import stores
@@ -94,9 +98,10 @@ def talk(port, stream, piece):
 def try_streams(rows, program):
     for name, (stream, answers) in STREAMS.items():
         for piece in (len(stream), 1):
-            with server(program, 1) as it:
-                seen = talk(it.port, stream, piece)
-            rows.tell(f"{name}, in pieces of {piece}", seen == answers, seen)
+            for more in ((), ("--at-once", "4")):
+                with server(program, 1, *more) as it:
+                    seen = talk(it.port, stream, piece)
+                rows.tell(" ".join([f"{name}, in pieces of {piece}", *more]), seen == answers, seen)
     with server(program, 1, "--prefix", "/x") as it:
         seen = talk(it.port, get(f"/x/cas/{EMPTY}") + get(f"/cas/{EMPTY}"), 65536)
     rows.tell("only what stands under the prefix is served", seen == DONE + ABSENT, seen)
@@ -104,6 +109,182 @@ def try_streams(rows, program):
         words = ["serve", "--listen", "127.0.0.1:0", "--connections", "1", "--limit", "1", "--result-limit", "1", "--prefix", prefix]
         told = harness.run(program, *words)
         rows.tell(f"{prefix} is no prefix", (told.returncode, told.stdout) == (2, b"") and is_error(told.stderr), told)
+
+
+# How long a client that works may wait for an answer beside others, in seconds.
+SOON = 1.0
+
+# A blob that no socket's buffers hold four times.
+LARGE = bytes(8 << 20)
+LARGE_PATH = f"/cas/{Digest.of(LARGE).hash}"
+
+
+def connect(port):
+    it = socket.create_connection(("127.0.0.1", port), timeout=20)
+    it.setsockopt(socket.IPPROTO_TCP, socket.TCP_NODELAY, 1)
+    return it
+
+
+def receive(stream, count):
+    """So many bytes of a stream, or as many as come before its end, or for so long."""
+    came = bytearray()
+    try:
+        while len(came) < count and (piece := stream.recv(min(count - len(came), 1 << 20))):
+            came += piece
+    except OSError as fault:
+        return bytes(came) + f" and then: {fault}".encode()
+    return bytes(came)
+
+
+def ask(stream, request, answer):
+    """Whether the request gets this answer."""
+    stream.sendall(request)
+    return receive(stream, len(answer)) == answer
+
+
+def slowest(port, seconds):
+    """The longest that a client waits for one of its answers, in seconds; it asks for so long. One wrong answer is for ever."""
+    longest, end = 0.0, time.monotonic() + seconds
+    with connect(port) as it:
+        while time.monotonic() < end:
+            for request, answer in ((put(f"/cas/{DIGITS}", NINE), DONE), (get(f"/cas/{DIGITS}"), found(NINE))):
+                begun = time.monotonic()
+                if not ask(it, request, answer):
+                    return float("inf")
+                longest = max(longest, time.monotonic() - begun)
+    return longest
+
+
+def reset(stream):
+    stream.setsockopt(socket.SOL_SOCKET, socket.SO_LINGER, struct.pack("ii", 1, 0))
+    stream.close()
+
+
+def many(program, *more, connections=None, limit=1 << 26):
+    return Server(program, connections, limit, 1000, ("--at-once", "32", *more))
+
+
+def try_mixed(rows, program):
+    """Eight connections whose pipelined requests come half by half, in turn."""
+    with many(program, connections=8) as it:
+        streams = [connect(it.port) for _ in range(8)]
+        blobs = [bytes([number]) * 1000 for number in range(8)]
+        texts = [put(path, blob) + get(path) + get(f"/cas/{FEED}") + get(path)
+                 for path, blob in ((f"/cas/{Digest.of(blob).hash}", blob) for blob in blobs)]
+        for half in (slice(None, 600), slice(600, None)):
+            for stream, text in zip(streams, texts):
+                stream.sendall(text[half])
+        wanted = [DONE + found(blob) + ABSENT + found(blob) for blob in blobs]
+        seen = [receive(stream, len(want)) for stream, want in zip(streams, wanted)]
+        rows.tell("eight connections at once: each gets its own answers, in order", seen == wanted, seen)
+        for stream in streams:
+            stream.close()
+        rows.tell("after these eight serve ends with status 0", it.wait() == 0, it.process.returncode)
+
+
+def try_neighbours(rows, program):
+    """Clients of every kind, each beside one that works."""
+    with many(program) as it:
+        silent = [connect(it.port) for _ in range(20)]
+        longest = slowest(it.port, 0.5)
+        rows.tell("a client that works doesn't wait for 20 that say nothing", longest < SOON, longest)
+        answers = []
+        slow = connect(it.port)
+
+        def send_slowly():
+            for byte in get(f"/cas/{DIGITS}")[:3]:
+                slow.sendall(bytes([byte]))
+                time.sleep(1)
+            slow.sendall(get(f"/cas/{DIGITS}")[3:])
+            answers.append(receive(slow, len(found(NINE))))
+
+        sender = threading.Thread(target=send_slowly, daemon=True)
+        sender.start()
+        longest = slowest(it.port, 2)
+        rows.tell("nor for one that sends a byte a second", longest < SOON, longest)
+        sender.join(20)
+        rows.tell("which is answered too", answers == [found(NINE)], answers)
+        for stream in [slow, *silent]:
+            stream.close()
+        try_deaf(rows, it.port)
+        try_gone(rows, it.port)
+
+
+def try_deaf(rows, port):
+    with connect(port) as deaf:
+        rows.tell("a blob of 8 MiB is put", ask(deaf, put(LARGE_PATH, LARGE), DONE))
+        deaf.sendall(4 * get(LARGE_PATH))
+        time.sleep(0.2)
+        longest = slowest(port, 0.5)
+        rows.tell("nor for one that asks for 32 MiB and takes nothing", longest < SOON, longest)
+        want = found(LARGE)
+        right = all([receive(deaf, len(want)) == want for _ in range(4)])
+        rows.tell("which gets its four answers whole once it reads", right)
+
+
+def try_gone(rows, port):
+    broken = connect(port)
+    broken.sendall(put(f"/cas/{FEED}", b"\n")[:-1])
+    time.sleep(0.2)
+    reset(broken)
+    longest = slowest(port, 0.5)
+    rows.tell("nor for one that resets in the middle of a body", longest < SOON, longest)
+    with connect(port) as it:
+        rows.tell("whose blob isn't there", ask(it, get(f"/cas/{FEED}"), ABSENT))
+    with connect(port) as refused, connect(port) as other:
+        refused.sendall(b"PUT /cas/x HTTP/1.1\r\nHost: x\r\nTransfer-Encoding: chunked\r\n\r\n" + put(f"/cas/{FEED}", b"\n"))
+        head, _, more = receive(refused, 1 << 16).partition(b"\r\n\r\n")
+        right = head.startswith(b"HTTP/1.1 501 ") and b"Connection: close" in head and more == b""
+        rows.tell("after a request that closes its connection nothing more is answered there", right, (head, more))
+        rows.tell("nor done", ask(other, get(f"/cas/{FEED}"), ABSENT))
+
+
+def try_places(rows, program):
+    """The third of two at once waits until one has ended."""
+    with server(program, 3, "--at-once", "2") as it:
+        streams = [connect(it.port) for _ in range(3)]
+        request, answer = get(f"/cas/{EMPTY}"), found(b"")
+        rows.tell("two at once are answered", all(ask(stream, request, answer) for stream in streams[:2]))
+        streams[2].sendall(request)
+        streams[2].settimeout(0.5)
+        early = receive(streams[2], len(answer))
+        rows.tell("the third isn't, while both are open", early == b" and then: timed out", early)
+        streams[0].close()
+        streams[2].settimeout(20)
+        late = receive(streams[2], len(answer))
+        rows.tell("but once one of them has ended", late == answer, late)
+        streams[1].close()
+        streams[2].close()
+        rows.tell("then serve ends with status 0", it.wait() == 0, it.process.returncode)
+
+
+def try_silence(rows, program):
+    """--idle is for each connection."""
+    with many(program, "--idle", "1") as it, connect(it.port) as silent:
+        silent.settimeout(10)
+        begun = time.monotonic()
+        ends = []
+        waiter = threading.Thread(target=lambda: ends.append((receive(silent, 1), time.monotonic() - begun)), daemon=True)
+        waiter.start()
+        longest = slowest(it.port, 3)
+        waiter.join(20)
+        right = bool(ends) and ends[0][0] == b"" and 0.5 < ends[0][1] < 3 and longest < SOON
+        rows.tell("one that is silent for --idle 1 is let go, and one that works isn't", right, (ends, longest))
+
+
+def try_counts(rows, program):
+    words = ["serve", "--listen", "127.0.0.1:0", "--connections", "0", "--limit", "1", "--result-limit", "1", "--at-once"]
+    for count in ("0", "1025", "2000", "x", "-1", ""):
+        told = harness.run(program, *words, count)
+        rows.tell(f"--at-once {count!r} is refused with status 2", (told.returncode, told.stdout) == (2, b"") and is_error(told.stderr), told)
+    for count in ("1", "2", "1024"):
+        told = harness.run(program, *words, count)
+        rows.tell(f"--at-once {count}: no connection is served, and status 0", told.returncode == 0 and told.stderr == b"", told)
+
+
+def try_many(rows, program):
+    for part in (try_mixed, try_neighbours, try_places, try_silence, try_counts):
+        part(rows, program)
 
 
 def commands(folder, address):
@@ -231,6 +412,7 @@ def try_all(rows, program):
         for name, text in (("tree/a", NINE), ("plan", b"buildplan 1\nroot\nin b src a\n"), ("record", b"buildrecord 1\n")):
             stores.write_file(f"{folder}/{name}", text)
         try_streams(rows, program)
+        try_many(rows, program)
         try_clients(rows, program, folder)
         try_faults(rows, program)
         try_replies(rows, program, folder)

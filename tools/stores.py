@@ -4,6 +4,8 @@ import http.client
 import os
 import re
 
+from plans import Refused
+
 
 class NotAnswered(Exception):
     """What a server did in place of an answer."""
@@ -76,6 +78,39 @@ def is_prefix(text):
     return len(text) <= 256 and re.fullmatch("(/[A-Za-z0-9._~-]+)*", text) is not None
 
 
+def add_options(parser):
+    """The options that name a store: a folder, by default FOLDER/store, or a server."""
+    places = parser.add_mutually_exclusive_group()
+    places.add_argument(
+        "--store", metavar="STORE", help="the store folder, in place of FOLDER/store; it may hold other builds"
+    )
+    places.add_argument(
+        "--server", metavar="HOST:PORT", help="a cache over HTTP in place of a folder; PUT and GET of /cas/HASH and /ac/HASH"
+    )
+    parser.add_argument("--prefix", metavar="PREFIX", default="", help="what stands before these paths on the server")
+
+
+def store_of(options):
+    """The store that the options name."""
+    if options.server is None:
+        if options.prefix:
+            raise Refused("--prefix is for --server")
+        return FolderStore(options.store or os.path.join(options.folder, "store"))
+    if not is_prefix(options.prefix):
+        raise Refused(f"{options.prefix!r} is no prefix, as /cache/main")
+    try:
+        return ServerStore(options.server, options.prefix)
+    except ValueError as fault:
+        raise Refused(str(fault)) from None
+
+
 def write_file(path, content):
     with open(path, "wb") as out:
         out.write(content)
+
+
+def write_texts(folder, texts):
+    """Writes files of a folder, which is made if it isn't there: by each name its lines."""
+    os.makedirs(folder, exist_ok=True)
+    for name, lines in texts.items():
+        write_file(os.path.join(folder, name), "".join(f"{line}\n" for line in lines).encode())

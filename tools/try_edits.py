@@ -3,7 +3,7 @@
 
 A mistake turns what some functions of a crate mean (crates/NAME/mistakes/*.edit; docs/CONTRIBUTING.md has the format). Each
 crate is checked once with all its mistakes in it, and each function that one turns has to be refused for a goal of its own.
-A mistake fails that is proved, that makes the text unreadable, or that is refused only since a proof names what is gone.
+The functions that none turns aren't proved again: they are taken by their contracts. A mistake fails that is proved, that makes the text unreadable, or that is refused only since a proof names what is gone.
 What can't stand in one check beside the others (it turns the same function, or no function but a type or a constant) gets a
 check of its own; so does a mistake whose function is left unproved only since it calls another that is turned.
 
@@ -34,10 +34,11 @@ class Judge:
     """The mistakes of one crate, and what is known of each."""
 
     def __init__(self, workspace, crate, names=(), folders=mistakes.FOLDERS):
-        self.workspace, self.crate, self.is_whole = workspace, crate, not names
+        self.workspace, self.crate = workspace, crate
         self.mistakes = [it for it in mistakes.mistakes_of(crate, workspace.top, folders)
                          if not names or it.name in names]
         self.faults, self.texts, self.checks, self.seconds, self.memory = {}, {}, 0, 0, 0
+        self.assumable = ()
 
     def text(self, file):
         if file not in self.texts:
@@ -71,7 +72,9 @@ class Judge:
 
     def find_functions(self):
         """Finds the functions that each mistake turns, alone in the crate."""
-        homes = mistakes.homes_of(f"{self.workspace.top}/crates/{self.crate}")
+        folder = f"{self.workspace.top}/crates/{self.crate}"
+        homes = mistakes.homes_of(folder)
+        self.assumable = mistakes.assumable(folder, homes)
         for it in self.mistakes:
             try:
                 turned = mistakes.apply(it, self.text)
@@ -109,15 +112,18 @@ class Judge:
         return texts
 
     def check(self, together, only=()):
-        said = self.workspace.check(self.crate, self.put_in(together), only)
+        """Checks the crate with these mistakes in it; where only some functions are asked for, by the contracts of the others."""
+        turned = {mistakes.spellings(path)[0] for it in together for path in (*it.functions, *wanted(it))}
+        assumed = [path for path in self.assumable if only and not turned.intersection(mistakes.spellings(path))]
+        assumed = [mistakes.spellings(path)[0] for path in assumed]
+        said = self.workspace.check(self.crate, self.put_in(together), only, assumed)
         self.checks, self.seconds = self.checks + 1, self.seconds + said.seconds
         self.memory = max(self.memory, said.memory)
         return said
 
     def judge(self, together):
         """Judges mistakes by one check; those of which it says nothing, each with a function that another mistake turns."""
-        is_whole = self.is_whole and not self.checks and len(together) > 1
-        only = () if is_whole else sorted({mistakes.spellings(path)[1] for it in together for path in wanted(it)})
+        only = sorted({mistakes.spellings(path)[0] for it in together for path in wanted(it)})
         said = self.check(together, only)
         if only and said.status == 2:
             # (the check prints a function otherwise than it is looked for)

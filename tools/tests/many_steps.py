@@ -1,7 +1,12 @@
 #!/usr/bin/env python3
 """Writes a Bazel workspace of so many genrules: many_steps.py FOLDER [COUNT]. Each rule reads a source file and the
-outputs of up to three rules before it; every tenth one makes two files. Nothing is fetched."""
+outputs of up to three rules before it; every tenth one makes two files. Nothing is fetched.
 
+many_steps.py --log FILE [COUNT] writes a log as Bazel would of a build of so many spawns, each of which reads 30 files: tools
+that all spawns share, sources of its package, and outputs of spawns before it."""
+
+import hashlib
+import json
 import os
 import sys
 
@@ -30,6 +35,30 @@ def rule(index):
 """
 
 
+def file(path):
+    return {"path": path, "digest": {"hash": hashlib.sha256(path.encode()).hexdigest(), "sizeBytes": str(len(path)),
+                                     "hashFunctionName": "SHA-256"}}
+
+
+def spawn(index):
+    package = index // PACKAGE
+    reads = [f"external/tools/lib/t{it}" for it in range(10)]
+    reads += [f"p{package}/src/h{it}" for it in range(15)] + [f"p{package}/src/r{index}.c"]
+    reads += [f"bazel-out/k8-fastbuild/bin/p{it // PACKAGE}/r{it}.o" for it in sorted({index - 1, index - 2, index // 2, index // 3})
+              if 0 <= it < index]
+    output = f"bazel-out/k8-fastbuild/bin/p{package}/r{index}.o"
+    return {"commandArgs": ["/bin/make", output], "environmentVariables": [{"name": "PATH", "value": "/bin"}],
+            "platform": {"properties": []}, "inputs": [file(it) for it in sorted(reads)], "listedOutputs": [output],
+            "remotable": True, "cacheable": True, "timeoutMillis": "0", "progressMessage": f"Making {output}", "mnemonic": "Make",
+            "actualOutputs": [file(output)], "runner": "linux-sandbox", "remoteCacheHit": False, "status": "", "exitCode": 0}
+
+
+def write_log(path, count):
+    with open(path, "w", encoding="utf-8") as out:
+        for index in range(count):
+            json.dump(spawn(index), out, indent=2)
+
+
 def main(folder, count):
     os.makedirs(folder, exist_ok=True)
     with open(os.path.join(folder, "WORKSPACE"), "w") as out:
@@ -44,5 +73,6 @@ def main(folder, count):
 
 
 if __name__ == "__main__":
-    words = words_of(__doc__, 1, 2)
-    main(words[0], int(words[1]) if len(words) > 1 else 1100)
+    words = words_of(__doc__, 1, 3)
+    make, words = (write_log, words[1:]) if words[0] == "--log" else (main, words)
+    make(words[0], int(words[1]) if len(words) > 1 else 1100)

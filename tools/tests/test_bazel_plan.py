@@ -23,11 +23,11 @@ sys.path.insert(0, os.path.join(TOP, "tools"))
 
 import bazel_log  # noqa: E402
 import bazel_plan  # noqa: E402
-import bazel_steps  # noqa: E402
 import messages  # noqa: E402
+import plans  # noqa: E402
 from harness import PROGRAM, Keeper  # noqa: E402
 
-KEPT = os.path.join(TOP, "crates", "command_rows", "data", "counts")
+KEPT = os.path.join(TOP, "crates", "test_program", "data", "counts")
 
 
 def named(content):
@@ -257,7 +257,7 @@ class Rules(Case):
     def test_a_failed_test_that_ran_again_as_bazel_logs_it(self):
         with open(os.path.join(HERE, "data", "rerun.json"), encoding="utf-8") as it:
             text = it.read()
-        self.assertEqual([it["exitCode"] for _, it in bazel_log.objects(text)], [1, 0, 0, 0])
+        self.assertEqual([it["exitCode"] for _, it in bazel_log.objects(io.StringIO(text))], [1, 0, 0, 0])
         plan = self.turn(text, "--drop-timeouts")
         self.assertEqual(sum(it.startswith("step") for it in plan), 2)
         self.judge("yes ")
@@ -379,7 +379,7 @@ class Artifacts(Case):
 
     def test_patterns_without_outputs_are_refused(self):
         self.refuse('no output of the log has the pattern "x*"', self.BUILD, "--outputs", "x*", "bin/*")
-        self.refuse("no output of the log is in the artifact", self.BUILD, "--below", "none")
+        self.refuse('is in the artifact; below "none" it has none, but below "bin" and 1 others', self.BUILD, "--below", "none")
         self.refuse('the output "lib/b" doesn\'t lie below "bin"', self.BUILD, "--outputs", "*/b", "--below", "bin")
         self.refuse("'../x' is no path below", self.BUILD, "--below", "../x")
 
@@ -400,7 +400,7 @@ def contents(folder):
 
 class KeptLog(Case):
     """A log of Bazel 4.2.3 for //pages:counts of examples/bazel, and what was made of it, which the gate has judged
-    in `command_rows` (see docs/VERIFY_BAZEL.md)."""
+    in `test_program` (see docs/VERIFY_BAZEL.md)."""
 
     WORDS = ["--outputs", "*/counts.txt", "*/site", "--below", "bazel-out/k8-fastbuild/bin/pages"]
 
@@ -419,7 +419,7 @@ class KeptLog(Case):
 
     def spawns(self):
         with open(os.path.join(HERE, "data", "counts.json"), encoding="utf-8") as it:
-            return [value for _, value in bazel_log.objects(it.read())]
+            return [value for _, value in bazel_log.objects(it)]
 
     def test_each_input_changed_in_turn(self):
         made = {file["path"] for it in self.spawns() for file in it["actualOutputs"]}
@@ -433,7 +433,7 @@ class KeptLog(Case):
                 if path not in made and len(readers_of(spawns, path)) == 1:
                     self.judge("yes ")
                 else:
-                    self.judge("no step ", f" cause input-differs {bazel_steps.escaped(path)}\n")
+                    self.judge("no step ", f" cause input-differs {plans.escaped(path)}\n")
                 shutil.rmtree(self.at("asked"))
 
     def test_each_output_changed_in_turn(self):
@@ -443,11 +443,138 @@ class KeptLog(Case):
                 spawns[index]["actualOutputs"][place]["digest"] = named("changed")
                 self.turn(log(*spawns), *self.WORDS)
                 if readers_of(spawns, path):
-                    self.judge("no step ", f" cause input-differs {bazel_steps.escaped(path)}\n")
+                    self.judge("no step ", f" cause input-differs {plans.escaped(path)}\n")
                 else:
                     self.judge("yes ")
                     self.assertEqual(self.lines("claim")[0].startswith("433064"), not path.endswith("/counts.txt"))
                 shutil.rmtree(self.at("asked"))
+
+
+# Three steps one after another, and a fourth that reads what the first made.
+CHAIN = (
+    spawn({"s": "s"}, ["o/a"]),
+    spawn({"o/a": "o/a", "t/x": "x"}, ["o/t"], {"o/t/b": "b", "o/t/c": "c"}),
+    spawn({"o/t/b": "b"}, ["o/d"]),
+    spawn({"o/a": "o/a", "o/d": "o/d"}, ["o/e"]),
+)
+
+
+class LeftOut(Case):
+    def steps(self, *words):
+        plan = self.turn(log(*CHAIN), *words)
+        return [it.split()[1] for it in plan if it.startswith("step")]
+
+    def test_what_nothing_of_the_artifact_reads_is_left_out(self):
+        self.assertEqual(self.steps("--outputs", "o/d"), ["make-o-a", "make-o-t", "make-o-d"])
+        self.judge("yes ")
+        self.assertEqual(self.call(log(*CHAIN), "--outputs", "o/a")[1].splitlines()[-1], "steps 1 taken 0 left-out 3")
+        self.judge("yes ")
+
+    def test_all_are_kept_where_that_is_asked_or_all_is_the_artifact(self):
+        self.assertEqual(len(self.steps("--outputs", "o/d", "--all")), 4)
+        self.assertEqual(len(self.steps()), 4)
+
+    def test_no_blob_is_kept_of_what_is_left_out(self):
+        self.turn(log(*CHAIN), "--outputs", "o/a")
+        alone = contents(self.at("asked"))
+        shutil.rmtree(self.at("asked"))
+        self.turn(log(CHAIN[0]))
+        self.assertEqual(contents(self.at("asked")), alone)
+
+
+class InStages(Case):
+    def stages(self, *words, spawns=CHAIN):
+        """The lines of each stage's plan."""
+        status, out, err = self.call(log(*spawns), "--stages", *words)
+        self.assertEqual((status, err), (0, ""))
+        names = self.lines("stages")
+        self.assertTrue(out.splitlines()[-1].endswith(f" stages {len(names)}"), out)
+        plans_of = []
+        for name in names:
+            with open(self.at("asked", name, "plan"), encoding="utf-8") as it:
+                plans_of.append([line for line in it.read().splitlines() if not line.startswith("step")])
+        return plans_of
+
+    def verify(self, *words):
+        """What verify_stages.py prints, and its status; nothing where the program isn't built."""
+        if not os.path.exists(PROGRAM):
+            self.is_unjudged = True
+            return None
+        tool = os.path.join(TOP, "tools", "verify_stages.py")
+        env = {**os.environ, "BUILDCACHE": PROGRAM}
+        done = subprocess.run([sys.executable, tool, self.at("asked"), *words], capture_output=True, text=True, env=env)
+        return done.stdout + done.stderr, done.returncode
+
+    def judge_stages(self, line, status, *words):
+        verdict = self.verify(*words)
+        if verdict:
+            self.assertRegex(verdict[0], line)
+            self.assertEqual(verdict[1], status)
+
+    def test_lines(self):
+        self.assertEqual(self.stages("2"), [
+            ["buildplan 1", "in s src sources/s", "in o/a out make-o-a o/a", "in t/x src sources/t/x", "root",
+             "in stage1/o/a out make-o-a o/a", "in stage1/o/t out make-o-t o/t"],
+            ["buildplan 1", "in o/t/b src stage1/o/t/b", "in o/a src stage1/o/a", "in o/d out make-o-d o/d", "root",
+             "in o/a src stage1/o/a", "in o/d out make-o-d o/d", "in o/e out make-o-e o/e", "in o/t src stage1/o/t"],
+        ])
+        self.judge_stages("^yes [0-9a-f]{64}/[0-9]+ stages 2 steps 4\n$", 0)
+
+    def test_what_no_later_stage_reads_is_not_handed_on(self):
+        # (of stage 1 the third reads nothing, and no stage after the first reads a source)
+        chain = [spawn({"s": "s"}, ["a"]), spawn({"a": "a"}, ["b"]), spawn({"b": "b"}, ["c"])]
+        self.assertEqual([it[it.index("root"):] for it in self.stages("1", "--outputs", "c", spawns=chain)], [
+            ["root", "in stage1/a out make-a a"], ["root", "in stage2/b out make-b b"], ["root", "in c out make-c c"],
+        ])
+        self.judge_stages("^yes .* stages 3 steps 3\n$", 0, "--jobs", "3")
+
+    def test_the_claim_is_that_of_one_plan(self):
+        self.stages("1")
+        claim, taken = self.lines("claim"), self.lines("taken")
+        shutil.rmtree(self.at("asked"))
+        self.turn(log(*CHAIN))
+        self.assertEqual((self.lines("claim"), self.lines("taken")), (claim, taken))
+
+    def test_a_build_that_one_plan_holds_has_no_stages(self):
+        self.stages("1")
+        self.turn(log(*CHAIN))
+        self.assertFalse(os.path.exists(self.at("asked", "stages")))
+
+    def test_another_output_in_the_store_is_a_no_that_names_stage_and_step(self):
+        self.stages("1")
+        with open(self.at("asked", "2", "record"), encoding="utf-8") as it:
+            action = it.read().split()[-1].partition("/")[0]
+        with open(self.at("asked", "store", "ac", action), "r+b") as it:
+            result = it.read()
+            other = result.replace(b"o/t", b"o/u")
+            it.seek(0)
+            it.write(other)
+        self.judge_stages("^no stage 2 step make-o-t cause output-unlisted o/u\n$", 1, "--jobs", "4")
+
+    def test_another_claim_between_stages_is_refused(self):
+        self.stages("1")
+        with open(self.at("asked", "2", "claim"), "w", encoding="utf-8") as out:
+            out.write(f"{'0' * 64}/1\n")
+        self.judge_stages("^error: stage 3: its sources .* aren't the claim of stage 2\n$", 2)
+        with open(self.at("asked", "3", "sources"), "w", encoding="utf-8") as out:
+            out.write(f"{'0' * 64}/1\n")
+        self.judge_stages("^no stage 2 root cause root-differs ", 1)
+
+    def test_a_file_that_is_not_there(self):
+        self.stages("2")
+        os.remove(self.at("asked", "2", "record"))
+        self.judge_stages("^error: stage 2: .*record.*\n$", 3)
+        shutil.rmtree(self.at("asked"))
+        self.judge_stages("^error: .*stages.*\n$", 3)
+
+    def test_a_path_of_64_names_is_not_handed_on(self):
+        deep = "/".join("n" * 64)
+        self.refuse("has 64 names, and a stage hands on no more than 63", log(spawn({deep: "1"}, ["a"])), "--stages")
+
+    def test_words(self):
+        for words in ("0", "4097", "x"):
+            with self.assertRaises(SystemExit), contextlib.redirect_stderr(io.StringIO()):
+                self.call(log(*CHAIN), "--stages", words)
 
 
 class Servers(Case):
@@ -543,7 +670,16 @@ class Refusals(Case):
     def test_texts_that_are_no_log(self):
         self.refuse("line 2: no JSON object begins here that ends", "\n{")
         self.refuse("line 1: this is no spawn, but another JSON value", "[]")
-        self.refuse("no output of the log is in the artifact", "")
+        self.refuse("no output of the log is in the artifact; Bazel logs what it ran, so `bazel clean` comes before", "")
+
+    def test_logs_of_other_kinds(self):
+        for content, reason in ((b"\x28\xb5\x2f\xfd\x04", "this is a compact log: give"), (b"\x0a\xff", "this is no text: give")):
+            with open(self.at("log"), "wb") as out:
+                out.write(content)
+            err = io.StringIO()
+            with contextlib.redirect_stderr(err):
+                self.assertEqual(bazel_plan.main([self.at("log"), self.at("asked")]), 2)
+            self.assertIn(reason, err.getvalue())
 
     def test_an_output_that_two_spawns_made(self):
         self.refuse('it made the output "a", and so did line 1: spawn "Making a"', log(spawn({}, ["a"]), spawn({"x": ""}, ["a"])))
@@ -583,13 +719,14 @@ class Refusals(Case):
         self.refuse('"a/b" of the artifact lies under "a", another output', log(spawn({}, ["a"], {"a/x": "1"}), spawn({}, ["a/b"])))
 
     def test_limits(self):
-        steps = log(*(spawn({}, [f"o{it}"]) for it in range(bazel_steps.MOST_STEPS + 1)))
-        self.refuse('spawn "Making o4096": 4096 steps stand before it', steps)
-        inputs = {f"i{it}": "" for it in range(bazel_steps.MOST_LINES + 1)}
+        steps = log(*(spawn({}, [f"o{it}"]) for it in range(plans.MOST_STEPS + 1)))
+        self.assertEqual(self.call(steps)[1].splitlines()[-1], "steps 4097 taken 0 stages 2")
+        shutil.rmtree(self.at("asked"))
+        inputs = {f"i{it}": "" for it in range(plans.MOST_LINES + 1)}
         self.refuse("it has 65537 inputs, and a step has 65536 lines at most", log(spawn(inputs, ["a"])))
-        whole = spawn({}, ["a"], {f"a/{it}": "" for it in range(bazel_steps.MOST_LINES + 1)})
+        whole = spawn({}, ["a"], {f"a/{it}": "" for it in range(plans.MOST_LINES + 1)})
         self.refuse("put together from 65537 outputs", log(whole), "--outputs", "a/*")
-        self.refuse("bytes, and `verify` reads 16777216 at most", log(spawn({}, ["a"], commandArgs=["x" * bazel_steps.MOST_BYTES])))
+        self.refuse("bytes, and buildcache reads 16777216 at most", log(spawn({}, ["a"], commandArgs=["x" * plans.MOST_BYTES])))
 
     def test_files_that_cannot_be_read(self):
         for words in (["none", "asked"], [__file__, "asked", "--artifact", "none"]):

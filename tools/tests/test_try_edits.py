@@ -78,8 +78,9 @@ class Shop(prover.Workspace):
     def __init__(self, top, *said):
         self.top, self.uses, self.said, self.asked = top, {"small": []}, list(said), []
 
-    def check(self, crate, texts, only=()):
+    def check(self, crate, texts, only=(), assumed=()):
         self.asked.append((texts, only))
+        self.assumed = assumed
         return prover.Said(crate, 1, self.said.pop(0).strip().splitlines())
 
 
@@ -127,6 +128,20 @@ class Functions(Case):
             turned = mistakes.apply(mistake, lambda _file: CODE)
             self.assertEqual(mistakes.functions_turned(turned, lambda _file: CODE, {}), ({f"sizes::{path}"}, False))
 
+    def test_what_a_check_can_take_by_its_contract(self):
+        self.keep("crates/small/src/deep.rt", """
+pub trait Shown { fn show(&self) -> u64 ensures { result ≡ 0 }; fn twice(&self) -> u64 { 2 } }
+fn down(count: u64) -> u64 { if count == 0 { 0 } else { down(count - 1) } }
+impl Deep { fn below(&self) -> u64 { self.below() } fn down(&self) -> u64 { down(self.count) } }
+impl<'a, A: Allocator> Source<A> for Deep<'a, A> { fn new() -> u64 { Vec::new() } }
+impl Source<Global> for Shallow { fn new() -> u64 { 0 } }
+""")
+        self.keep("crates/small/proofs/sizes/+half/Answers.antt", "")
+        folder = os.path.join(self.top, "crates", "small")
+        found = {mistakes.spellings(it)[0] for it in mistakes.assumable(folder, {})}
+        self.assertEqual(found, {"deep::Deep::down", "deep::DeepSource::new", "deep::ShallowSourceGlobal::new", "sizes::Size::twice",
+                                 "sizes::FaultFromAllocError::from", "sizes::FaultFromAllocFailed::from", "sizes::FieldsIterator::next"})
+
     def test_a_mistake_in_a_type_turns_no_function(self):
         (mistake,) = mistakes.read("small", "mistakes", pairs(("bytes_are_few", "{ bytes: u64 }", "{ bytes: u8 }")))
         turned = mistakes.apply(mistake, lambda _file: CODE)
@@ -136,7 +151,27 @@ class Functions(Case):
 class Judging(Case):
     def test_one_check_judges_those_that_turn_functions_of_their_own(self):
         self.assertEqual(self.judge(pairs(HALF, FAILED), SAID), {})
-        self.assertEqual(len(self.shop.asked), 1)
+        self.assertEqual([only for _, only in self.shop.asked], [["sizes::FaultFromAllocFailed::from", "sizes::half"]])
+
+    def test_functions_that_none_turns_are_taken_by_their_contracts(self):
+        self.judge(pairs(HALF, FAILED), SAID)
+        self.assertEqual(self.shop.assumed, ["sizes::FaultFromAllocError::from", "sizes::FieldsIterator::next", "sizes::Size::twice"])
+        types = ("bytes_are_few", "{ bytes: u64 }", "{ bytes: u8 }")
+        self.judge(pairs(types), SAID)
+        self.assertEqual((self.shop.asked[0][1], self.shop.assumed), ([], []))
+        self.judge(pairs(types) + "\n# refused in sizes::Size::twice\n", SAID)
+        self.assertNotIn("sizes::Size::twice", self.shop.assumed)
+        self.assertIn("sizes::half", self.shop.assumed)
+
+    def test_a_proof_with_a_hole_stands_where_a_check_reads_it(self):
+        self.keep("proofs/sizes/Size/twice/Answers.antt", "returns = refl")
+        prover.assume("small", "sizes::Size::twice", self.top)
+        folder = os.path.join(self.top, "proofs", "sizes", "Size", "twice")
+        self.assertEqual(os.listdir(folder), ["Proof.antt"])
+        with open(os.path.join(folder, "Proof.antt"), encoding="utf-8") as it:
+            text = it.read()
+        self.assertIn("use Rattle.small.proofs.sizes.Size.twice.Statement as stated\n", text)
+        self.assertTrue(text.endswith("twice_spec = ?\n"))
 
     def test_one_that_is_proved_fails(self):
         faults = self.judge(pairs(HALF, FROM), SAID)
@@ -186,12 +221,12 @@ logic=not-proved"""
         faults = self.judge(pairs(HALF, unread), error, error, SAID)
         self.assertEqual(list(faults), ["no_such_name"])
         self.assertIn("cannot find value `halve`", faults["no_such_name"])
-        self.assertEqual([only for _, only in self.shop.asked], [(), ("",), ["sizes::half"]])
+        self.assertEqual([only for _, only in self.shop.asked], [["sizes::Size::twice", "sizes::half"], ("",), ["sizes::half"]])
 
     def test_ones_that_are_read_alone_and_not_together_are_parted(self):
         error, alone = "src/sizes.rt:1:1: error[twice]: it is declared twice", "only=0 proved=0"
         self.assertEqual(self.judge(pairs(HALF, FAILED), error, alone, alone, SAID, SAID), {})
-        self.assertEqual([only for _, only in self.shop.asked[3:]], [["sizes::half"], ["sizes::FaultFrom::from"]])
+        self.assertEqual([only for _, only in self.shop.asked[3:]], [["sizes::half"], ["sizes::FaultFromAllocFailed::from"]])
 
     def test_ones_that_can_not_be_put_in_fail(self):
         faults = self.judge(pairs(("twice_there", "Fault::Memory", "Fault::Bad"), ("not_there", "nothing", "something")))

@@ -3,6 +3,7 @@
 
 OUTPUT_BASE is what `bazel info output_base` says; /bazel is written in its place."""
 
+import io
 import json
 import os
 import sys
@@ -16,7 +17,7 @@ from harness import words_of  # noqa: E402
 def main(log, base):
     with open(log, encoding="utf-8") as it:
         text = it.read().replace(base, "/bazel")
-    for _, value in bazel_log.objects(text):
+    for _, value in bazel_log.objects(io.StringIO(text)):
         print(json.dumps({key: it for key, it in value.items() if key in bazel_log.SPAWN_FIELDS}))
 
 

@@ -1,5 +1,5 @@
 -- To get a blob, in the store and in the machine.
-use Rattle.std.proofs.Common.{◌≡◌, ℕ, true, false, cond, not, List, [], ◌∷◌, ◌++◌, bytes_eq, Option, Some, None, refl, ap, sym}
+use Rattle.std.proofs.Common.{◌≡◌, ℕ, true, false, cond, not, List, [], ◌∷◌, ◌++◌, bytes_eq, Option, Some, None, refl, ap, sym, ◌∙◌}
 use Rattle.std.specs.List.{filter}
 use Rattle.sha2.specs.Sha256.{sha256}
 use Rattle.eviction.specs.Kept.{Held, Kept, touched, moved_to_front, others}
@@ -8,7 +8,7 @@ use Rattle.blob_store.specs.Storing.{used}
 use Rattle.action_cache.specs.References.{Reader}
 use Rattle.action_cache.specs.Machine.{CacheState, given, under, with_blobs, get_blob, got_blob}
 use Rattle.action_cache.specs.Tied.{IsTied}
-use Rattle.action_cache.specs.State.{state_of, bytes_given}
+use Rattle.action_cache.specs.State.{answer_of, state_of, bytes_given}
 use Rattle.action_cache.proofs.Changes.{moved_keeps}
 use Rattle.action_cache.proofs.Mirrors.{fronted-plain}
 use Rattle.action_cache.proofs.Pins.{kept_tied}
@@ -56,3 +56,17 @@ module _ (reader : Reader) (s : Kept (List ℕ)) (rl : ℕ) (results : List (Lis
       by : (o : Option (List ℕ)) → o ≡ bytes_given (got_blob reader st h o).0
       by None = refl
       by (Some b) = refl
+
+  -- what is held under the hash is what the machine answers, and the use is its step
+  pub got_is : (found : Option (List ℕ)) → found ≡ held_under (found_in s.entries) h → get_blob reader st h ≡ (answer_of found, state_of (used s h).limit rl (used s h).entries results)
+  got_is found e = (λ i. (answered i, (get_blob reader st h).1)) ∙ ap (λ o. (answer_of o, (get_blob reader st h).1)) (sym e) ∙ ap (λ z. (answer_of found, z)) (sym used_got)
+    where
+      by : (o : Option (List ℕ)) → (got_blob reader st h o).0 ≡ answer_of o
+      by None = refl
+      by (Some b) = refl
+
+      answered : (get_blob reader st h).0 ≡ answer_of (held_under (found_in s.entries) h)
+      answered = elim (bytes_eq (sha256 []) h) as (λ b. (cond b (given [], st) (got_blob reader st h (under h (plain s.entries)))).0 ≡ answer_of (cond b (Some []) (under h (plain s.entries)))) [
+        | true ↦ refl
+        | false ↦ by (under h (plain s.entries))
+      ]

@@ -161,15 +161,16 @@ impl<A: Allocator + Copy> ActionCache<A> {
     }
 
     /// The blob under the hash, if it is held, for one holder more: it stays in memory where the
-    /// cache gives it up. Nothing is copied, and nothing moves.
-    pub fn share_blob(&self, alloc: A, hash: &[u8; 32]) -> Result<Option<Shared<A>>, AllocError>
-        ensures value { IfOk result
-            (λ found. found ≡ bytes_given (blob_got by_messages self.now hash.now).0) }
+    /// cache gives it up. It moves to the front, unless it has no bytes. Nothing is copied.
+    pub fn get_shared(&mut self, alloc: A, hash: &[u8; 32]) -> Result<Option<Shared<A>>, AllocError>
+        ensures ok { IfOk result (λ found. blob_got by_messages self.old hash.now
+            ≡ (answer_of found, self.new)) }
         ensures hash { IfOk result (λ found. HasHash found hash.now) }
         ensures memory { OnErr result
-            (IsSome (bytes_given (blob_got by_messages self.now hash.now).0)) }
+            (IsSome (bytes_given (blob_got by_messages self.old hash.now).0)) }
+        ensures err { OnErr result (self.new ≡ self.old) }
     {
-        let found = self.blobs.share(alloc, hash)?;
+        let found = self.blobs.get_shared(alloc, hash)?;
         Ok(found)
     }
 

@@ -185,17 +185,20 @@ impl<A: Allocator + Copy> BlobStore<A> {
     }
 
     /// The blob under the hash, if it is held, for one holder more: it stays in memory where the
-    /// store gives it up. Nothing is copied, and nothing moves.
-    pub fn share(&self, alloc: A, hash: &[u8; 32]) -> Result<Option<Shared<A>>, AllocError>
+    /// store gives it up. It moves to the front, unless it has no bytes. Nothing is copied.
+    pub fn get_shared(&mut self, alloc: A, hash: &[u8; 32]) -> Result<Option<Shared<A>>, AllocError>
         ensures value { IfOk result
-            (λ found. found ≡ held_under (found_in self.now.entries) hash.now) }
+            (λ found. found ≡ held_under (found_in self.old.entries) hash.now) }
         ensures hash { IfOk result (λ found. HasHash found hash.now) }
-        ensures err { OnErr result (IsSome (held_under (found_in self.now.entries) hash.now)) }
+        ensures moves { OnOk result (self.new ≡ used self.old hash.now) }
+        ensures err { OnErr result (self.new ≡ self.old) }
+        ensures memory { OnErr result (IsSome (held_under (found_in self.old.entries) hash.now)) }
     {
         if self.no_bytes == *hash {
             return Ok(Some(Shared::new(alloc, Vec::new(alloc))?));
         }
         let found = self.blobs.share(hash)?;
+        let _held = self.blobs.touch(hash);
         Ok(found)
     }
 

@@ -1,5 +1,5 @@
 -- A run over one connection.
-use Rattle.std.proofs.Common.{◌≡◌, ℕ, inl, inr, Option, Some, None, List, [], ◌++◌, ◌≤◌, length, take, arith, refl, sym, ◌∙◌, ap, subst, append_assoc}
+use Rattle.std.proofs.Common.{◌≡◌, ℕ, inl, inr, Option, Some, None, List, [], ◌∷◌, ◌++◌, ◌≤◌, length, take, arith, refl, sym, ◌∙◌, ap, subst, append_assoc}
 use Rattle.std.proofs.lemmas.List.{append-nil}
 use Rattle.std.specs.Io.KnownBytes.{Appends, Consumes, Keeps, IsAtEnd}
 use Rattle.std.proofs.KnownBytes.{Appends-nil, Appends-trans, Consumes-nil, Consumes-trans, Consumes-kept}
@@ -8,11 +8,11 @@ use Rattle.http_core.specs.Stream.{Cuts}
 use Rattle.http_core.specs.Session.{SessionState, Closed, SessionValue, Stands, Feeds, Leaves, Holds}
 use Rattle.http_core.proofs.Cutting.{cut_within, HasMore, empty_partial}
 use Rattle.cache_server.specs.Cache.{CacheValue}
-use Rattle.cache_server.specs.Serving.{ServesAll}
-use Rattle.cache_server.specs.Writing.{TellsAll, TellsSome}
-use Rattle.cache_server.specs.Connection.{Runs, RunsSome, ReadsNoFurther, Exchanges, ExchangesSome}
-use Rattle.cache_server.proofs.Serving.{serves_none, serves_join}
-use Rattle.cache_server.proofs.Telling.{appends_kept}
+use Rattle.cache_server.specs.Writing.{TellsBut, StopsTelling}
+use Rattle.cache_server.specs.Connection.{Runs, RunsBut, BreaksOff, ReadsNoFurther}
+use Rattle.cache_server.specs.declared.error.ConnError.{ConnError}
+use Rattle.cache_server.specs.declared.error.ConnError.TheVariants.{ReadFault, WriteFault, Memory}
+use Rattle.cache_server.proofs.Serving.{ServesAll, serves_none, serves_join}
 
 pub stands_cut : (session : SessionValue) (stream : List ℕ) (events : List EventValue) → Stands session stream events → (left : Option (List ℕ)) × Cuts session.prefix stream events left
 unfolding Stands
@@ -25,78 +25,6 @@ closed_left prefix state stream events (Some rest) e c l = absurd (let k : Holds
 pub stands_shut : (session : SessionValue) (stream : List ℕ) (events : List EventValue) → session.state ≡ Closed → Stands session stream events → Cuts session.prefix stream events None
 unfolding Stands
 stands_shut session stream events e (left, cut, leaves) = closed_left session.prefix session.state stream events left e cut leaves
-
--- a piece in which memory ran out before it was cut
-unfoldable pub unfed : (session : SessionValue) (stream : List ℕ) (before : List EventValue) (cache : CacheValue) (written : Option (List ℕ)) (piece : List ℕ)
-    → Stands session stream before → ExchangesSome session.prefix stream before cache written piece cache written
-unfed session stream before cache written piece s =
-    let c : (left : Option (List ℕ)) × Cuts session.prefix stream before left = stands_cut session stream before s in
-    record {
-      front = [];
-      rest = piece;
-      done = [];
-      told = [];
-      lost = [];
-      left = c.0;
-      whole = refl;
-      cut = subst (λ z. Cuts session.prefix z (before ++ []) c.0) (sym (append-nil stream)) (subst (λ z. Cuts session.prefix stream z c.0) (sym (append-nil before)) c.1);
-      served = serves_none cache;
-      appends = Appends-nil written;
-    }
-
--- a piece in whose answers memory ran out, or that can't be answered
-unfoldable pub unanswered : (old new : SessionValue) (stream : List ℕ) (before events : List EventValue) (cache after : CacheValue) (written more : Option (List ℕ)) (piece : List ℕ)
-    → new.prefix ≡ old.prefix → Stands old stream before → Stands new (stream ++ piece) (before ++ events) → TellsSome cache events written more after
-    → ExchangesSome old.prefix stream before cache written piece after more
-unanswered old new stream before events cache after written more piece same s t some =
-    let c : (left : Option (List ℕ)) × Cuts old.prefix stream before left = stands_cut old stream before s in
-    let d : (left : Option (List ℕ)) × Cuts new.prefix (stream ++ piece) (before ++ events) left = stands_cut new (stream ++ piece) (before ++ events) t in
-    let e : Cuts old.prefix (stream ++ piece) (before ++ (some.done ++ some.others)) d.0 = subst (λ z. Cuts old.prefix (stream ++ piece) (before ++ z) d.0) some.whole (subst (λ z. Cuts z (stream ++ piece) (before ++ events) d.0) same d.1) in
-    let h : HasMore old.prefix stream piece (before ++ some.done) = cut_within old.prefix stream piece before some.done some.others c.0 d.0 c.1 e in
-    record {
-      front = h.front;
-      rest = h.rest;
-      done = some.done;
-      told = some.told;
-      lost = some.lost;
-      left = h.left;
-      whole = h.whole;
-      cut = h.cut;
-      served = some.served;
-      appends = some.appends;
-    }
-
--- a piece whose answers can't be flushed
-unfoldable pub unflushed : (old new : SessionValue) (stream : List ℕ) (before events : List EventValue) (cache after : CacheValue) (written mid more : Option (List ℕ)) (piece : List ℕ)
-    → new.prefix ≡ old.prefix → Stands new (stream ++ piece) (before ++ events) → TellsAll cache events written mid after → Keeps mid more
-    → ExchangesSome old.prefix stream before cache written piece after more
-unflushed old new stream before events cache after written mid more piece same t all k =
-    let d : (left : Option (List ℕ)) × Cuts new.prefix (stream ++ piece) (before ++ events) left = stands_cut new (stream ++ piece) (before ++ events) t in
-    record {
-      front = piece;
-      rest = [];
-      done = events;
-      told = all.text;
-      lost = [];
-      left = d.0;
-      whole = sym (append-nil piece);
-      cut = subst (λ z. Cuts z (stream ++ piece) (before ++ events) d.0) same d.1;
-      served = subst (λ z. ServesAll cache events z after) (sym (append-nil all.text)) all.served;
-      appends = appends_kept written mid more all.text all.appends k;
-    }
-
--- a piece that is answered
-unfoldable pub exchanged : (old new : SessionValue) (events : List EventValue) (cache after : CacheValue) (written mid more : Option (List ℕ)) (piece : List ℕ)
-    → Feeds old piece events new → TellsAll cache events written mid after → Keeps mid more
-    → Exchanges old cache written piece new after more
-exchanged old new events cache after written mid more piece feeds all k = record {
-  events = events;
-  text = all.text;
-  kept = feeds.prefix;
-  stands = feeds.stands;
-  served = all.served;
-  appends = appends_kept written mid more all.text all.appends k;
-}
 
 -- what was read leaves a beginning of a request
 pub record IsOpenAfter (prefix read : List ℕ) (events : List EventValue) : Type 0 where
@@ -118,6 +46,10 @@ nothing_further prefix read events o = record { earlier = read; piece = []; whol
 pub piece_further : (prefix read piece more : List ℕ) (events : List EventValue) → IsOpenAfter prefix read events → length piece ≤ 65536 → more ≡ read ++ piece → ReadsNoFurther prefix more
 piece_further prefix read piece more events o few e = record { earlier = read; piece = piece; whole = e; few = few; events = events; rest = o.rest; open_before = o.cut }
 
+pub nothing_cut : (prefix : List ℕ) → Cuts prefix [] [] (Some [])
+unfolding Cuts
+nothing_cut prefix = (empty_partial prefix, refl)
+
 -- so far
 pub record RunsOn (prefix : List ℕ) (old : CacheValue) (input input_left written_before written : Option (List ℕ)) (session : SessionValue) (now : CacheValue) : Type 0 where
   pub read : List ℕ
@@ -127,110 +59,148 @@ pub record RunsOn (prefix : List ℕ) (old : CacheValue) (input input_left writt
   pub consumes : Consumes input input_left read
   pub appends : Appends written_before written text
   pub stands : Stands session read before
-  pub served : ServesAll old before text now
+  pub answers : ServesAll old before text now
+  pub goes_on : IsOpenAfter prefix read before
 
 unfoldable pub runs_first : (prefix : List ℕ) (old : CacheValue) (input written : Option (List ℕ)) (session : SessionValue) → session.prefix ≡ prefix → Stands session [] [] → RunsOn prefix old input input written written session old
-runs_first prefix old input written session same s = record { read = []; text = []; before = []; same = same; consumes = Consumes-nil input; appends = Appends-nil written; stands = s; served = serves_none old }
+runs_first prefix old input written session same s = record { read = []; text = []; before = []; same = same; consumes = Consumes-nil input; appends = Appends-nil written; stands = s; answers = serves_none old; goes_on = record { rest = []; cut = nothing_cut prefix } }
 
-unfoldable pub runs_more : (prefix : List ℕ) (old : CacheValue) (input left more written_before written written_more : Option (List ℕ)) (session new : SessionValue) (now after : CacheValue) (piece : List ℕ)
-    → RunsOn prefix old input left written_before written session now → Consumes left more piece → Exchanges session now written piece new after written_more
-    → RunsOn prefix old input more written_before written_more new after
-runs_more prefix old input left more written_before written written_more session new now after piece r c x = record {
-  read = r.read ++ piece;
-  text = r.text ++ x.text;
-  before = r.before ++ x.events;
-  same = x.kept ∙ r.same;
-  consumes = Consumes-trans input left more r.read piece r.consumes c;
-  appends = Appends-trans written_before written written_more r.text x.text r.appends x.appends;
-  stands = x.stands r.read r.before r.stands;
-  served = serves_join old now after r.before x.events r.text x.text r.served x.served;
-}
+-- all of the events are told
+pub all_answered : (old new : CacheValue) (events : List EventValue) (before after : Option (List ℕ)) (t : TellsBut old events before after new [] []) → ServesAll old events t.told new
+all_answered old new events before after t =
+    subst (λ z. ServesAll old z t.told new) (sym (t.whole ∙ append-nil t.done)) (subst (λ z. ServesAll old t.done z new) (append-nil t.told) t.answers)
 
-unfoldable pub runs_ended : (prefix : List ℕ) (old : CacheValue) (input left more written_before written : Option (List ℕ)) (session : SessionValue) (now : CacheValue) (count : ℕ) (buffer : List ℕ)
-    → (r : RunsOn prefix old input left written_before written session now) → IsOpenAfter prefix r.read r.before → count ≡ 0 → Consumes left more (take count buffer) → IsAtEnd more → Runs prefix old input more written_before written now
-runs_ended prefix old input left more written_before written session now count buffer r o zero_is c end =
-    let d : (rest : Option (List ℕ)) × Cuts session.prefix r.read r.before rest = stands_cut session r.read r.before r.stands in
-    let e : Consumes left more [] = subst (λ n. Consumes left more (take n buffer)) zero_is c in
-    record {
-      read = r.read;
-      text = r.text;
-      left = d.0;
-      consumes = subst (Consumes input more) (append-nil r.read) (Consumes-trans input left more r.read [] r.consumes e);
-      appends = r.appends;
-      answered = record { events = r.before; cut = subst (λ z. Cuts z r.read r.before d.0) r.same d.1; served = r.served };
-      stops = inl end;
-      no_further = subst (ReadsNoFurther prefix) (append-nil r.read) (nothing_further prefix r.read r.before o);
-    }
+module _ (prefix : List ℕ) (old : CacheValue) (input left more written_before written : Option (List ℕ)) (session : SessionValue) (now : CacheValue) (r : RunsOn prefix old input left written_before written session now) where
+  -- at the end of the input
+  pub runs_ended : (count : ℕ) (buffer : List ℕ) → count ≡ 0 → Consumes left more (take count buffer) → IsAtEnd more → Runs prefix old input more written_before written now
+  runs_ended count buffer zero_is c end =
+      let d : (rest : Option (List ℕ)) × Cuts session.prefix r.read r.before rest = stands_cut session r.read r.before r.stands in
+      let e : Consumes left more [] = subst (λ n. Consumes left more (take n buffer)) zero_is c in (
+        d.0,
+        record {
+          front = r.read;
+          told = r.text;
+          consumes = Consumes-trans input left more r.read [] r.consumes e;
+          appends = r.appends;
+          answered = record { events = r.before; cut = subst (λ z. Cuts z r.read r.before d.0) r.same d.1; answers = subst (λ z. ServesAll old r.before z now) (sym (append-nil r.text)) r.answers };
+          no_further = nothing_further prefix r.read r.before r.goes_on;
+        },
+        inl end,
+      )
 
-unfoldable pub runs_closed : (prefix : List ℕ) (old : CacheValue) (input left more written_before written written_more : Option (List ℕ)) (session new : SessionValue) (now after : CacheValue) (piece : List ℕ)
-    → (r : RunsOn prefix old input left written_before written session now) → IsOpenAfter prefix r.read r.before → length piece ≤ 65536 → Consumes left more piece → Exchanges session now written piece new after written_more
-    → new.state ≡ Closed → Runs prefix old input more written_before written_more after
-unfolding runs_more
-runs_closed prefix old input left more written_before written written_more session new now after piece r o few k x shut =
-    let m : RunsOn prefix old input more written_before written_more new after = runs_more prefix old input left more written_before written written_more session new now after piece r k x in
-    let c : Cuts new.prefix (r.read ++ piece) (r.before ++ x.events) None = stands_shut new (r.read ++ piece) (r.before ++ x.events) shut (x.stands r.read r.before r.stands) in
-    record {
-      read = r.read ++ piece;
-      text = r.text ++ x.text;
-      left = None;
-      consumes = m.consumes;
-      appends = m.appends;
-      answered = record { events = r.before ++ x.events; cut = subst (λ z. Cuts z (r.read ++ piece) (r.before ++ x.events) None) (x.kept ∙ r.same) c; served = m.served };
-      stops = inr refl;
-      no_further = piece_further prefix r.read piece (r.read ++ piece) r.before o few refl;
-    }
+  -- given up between two pieces
+  pub runs_stopped : Keeps left more → (rest : Option (List ℕ)) × RunsBut prefix old input more written_before written now [] [] rest
+  runs_stopped kept =
+      let c : (rest : Option (List ℕ)) × Cuts session.prefix r.read r.before rest = stands_cut session r.read r.before r.stands in (
+        c.0,
+        record {
+          front = r.read;
+          told = r.text;
+          consumes = subst (Consumes input more) (sym (append-nil r.read)) (Consumes-kept input left more r.read r.consumes kept);
+          appends = r.appends;
+          answered = record { events = r.before; cut = subst (λ z. Cuts z r.read r.before c.0) r.same c.1; answers = subst (λ z. ServesAll old r.before z now) (sym (append-nil r.text)) r.answers };
+          no_further = nothing_further prefix r.read r.before r.goes_on;
+        },
+      )
 
--- given up between two pieces
-unfoldable pub runs_stopped : (prefix : List ℕ) (old : CacheValue) (input left more written_before written : Option (List ℕ)) (session : SessionValue) (now : CacheValue)
-    → (r : RunsOn prefix old input left written_before written session now) → IsOpenAfter prefix r.read r.before → Keeps left more → RunsSome prefix old input more written_before written now
-runs_stopped prefix old input left more written_before written session now r o kept =
-    let c : (rest : Option (List ℕ)) × Cuts session.prefix r.read r.before rest = stands_cut session r.read r.before r.stands in
-    record {
-      front = r.read;
-      rest = [];
-      told = r.text;
-      lost = [];
-      left = c.0;
-      consumes = subst (Consumes input more) (sym (append-nil r.read)) (Consumes-kept input left more r.read r.consumes kept);
-      appends = r.appends;
-      answered = record { events = r.before; cut = subst (λ z. Cuts z r.read r.before c.0) r.same c.1; served = subst (λ z. ServesAll old r.before z now) (sym (append-nil r.text)) r.served };
-      no_further = nothing_further prefix r.read r.before o;
-    }
+  module _ (piece : List ℕ) (few : length piece ≤ 65536) (read : Consumes left more piece) where
+    -- given up before the piece was cut
+    pub runs_unfed : (rest : Option (List ℕ)) × RunsBut prefix old input more written_before written now piece [] rest
+    runs_unfed =
+        let c : (rest : Option (List ℕ)) × Cuts session.prefix r.read r.before rest = stands_cut session r.read r.before r.stands in (
+          c.0,
+          record {
+            front = r.read;
+            told = r.text;
+            consumes = Consumes-trans input left more r.read piece r.consumes read;
+            appends = r.appends;
+            answered = record { events = r.before; cut = subst (λ z. Cuts z r.read r.before c.0) r.same c.1; answers = subst (λ z. ServesAll old r.before z now) (sym (append-nil r.text)) r.answers };
+            no_further = piece_further prefix r.read piece (r.read ++ piece) r.before r.goes_on few refl;
+          },
+        )
 
--- given up within a piece
-unfoldable pub runs_broken : (prefix : List ℕ) (old : CacheValue) (input left more written_before written written_more : Option (List ℕ)) (session : SessionValue) (now after : CacheValue) (piece : List ℕ)
-    → (r : RunsOn prefix old input left written_before written session now) → IsOpenAfter prefix r.read r.before → length piece ≤ 65536 → Consumes left more piece → ExchangesSome session.prefix r.read r.before now written piece after written_more
-    → RunsSome prefix old input more written_before written_more after
-runs_broken prefix old input left more written_before written written_more session now after piece r o few c x = record {
-  front = r.read ++ x.front;
-  rest = x.rest;
-  told = r.text ++ x.told;
-  lost = x.lost;
-  left = x.left;
-  consumes = subst (Consumes input more) (ap (λ z. r.read ++ z) x.whole ∙ sym (append_assoc r.read x.front x.rest)) (Consumes-trans input left more r.read piece r.consumes c);
-  appends = Appends-trans written_before written written_more r.text x.told r.appends x.appends;
-  answered = record {
-    events = r.before ++ x.done;
-    cut = subst (λ z. Cuts z (r.read ++ x.front) (r.before ++ x.done) x.left) r.same x.cut;
-    served = subst (λ z. ServesAll old (r.before ++ x.done) z after) (sym (append_assoc r.text x.told x.lost)) (serves_join old now after r.before x.done r.text (x.told ++ x.lost) r.served x.served);
-  };
-  no_further = piece_further prefix r.read piece ((r.read ++ x.front) ++ x.rest) r.before o few (append_assoc r.read x.front x.rest ∙ ap (λ z. r.read ++ z) (sym x.whole));
-}
+    module _ (new : SessionValue) (after : CacheValue) (written_more : Option (List ℕ)) (events : List EventValue) (feeds : Feeds session piece events new) where
+      -- a piece whose events are all answered
+      module _ (t : TellsBut now events written written_more after [] []) where
+        pub runs_more : (new.state ≡ Closed → ⊥) → RunsOn prefix old input more written_before written_more new after
+        runs_more o = record {
+          read = r.read ++ piece;
+          text = r.text ++ t.told;
+          before = r.before ++ events;
+          same = feeds.prefix ∙ r.same;
+          consumes = Consumes-trans input left more r.read piece r.consumes read;
+          appends = Appends-trans written_before written written_more r.text t.told r.appends t.appends;
+          stands = feeds.stands r.read r.before r.stands;
+          answers = serves_join old now after r.before events r.text t.told r.answers (all_answered now after events written written_more t);
+          goes_on = subst (λ p. IsOpenAfter p (r.read ++ piece) (r.before ++ events)) (feeds.prefix ∙ r.same) (stands_open new (r.read ++ piece) (r.before ++ events) o (feeds.stands r.read r.before r.stands));
+        }
+
+        pub runs_closed : new.state ≡ Closed → Runs prefix old input more written_before written_more after
+        runs_closed shut =
+            let c : Cuts new.prefix (r.read ++ piece) (r.before ++ events) None = stands_shut new (r.read ++ piece) (r.before ++ events) shut (feeds.stands r.read r.before r.stands) in
+            let s : ServesAll old (r.before ++ events) (r.text ++ t.told) after = serves_join old now after r.before events r.text t.told r.answers (all_answered now after events written written_more t) in (
+              None,
+              record {
+                front = r.read ++ piece;
+                told = r.text ++ t.told;
+                consumes = subst (Consumes input more) (sym (append-nil (r.read ++ piece))) (Consumes-trans input left more r.read piece r.consumes read);
+                appends = Appends-trans written_before written written_more r.text t.told r.appends t.appends;
+                answered = record {
+                  events = r.before ++ events;
+                  cut = subst (λ z. Cuts z (r.read ++ piece) (r.before ++ events) None) (feeds.prefix ∙ r.same) c;
+                  answers = subst (λ z. ServesAll old (r.before ++ events) z after) (sym (append-nil (r.text ++ t.told))) s;
+                };
+                no_further = piece_further prefix r.read piece ((r.read ++ piece) ++ []) r.before r.goes_on few (append-nil (r.read ++ piece));
+              },
+              inr refl,
+            )
+
+      -- given up in its answers
+      pub runs_broken : (others : List EventValue) (lost : List ℕ) → TellsBut now events written written_more after others lost
+          → (rest : List ℕ) × (cut : Option (List ℕ)) × RunsBut prefix old input more written_before written_more after rest lost cut
+      runs_broken others lost t =
+          let c : (rest : Option (List ℕ)) × Cuts session.prefix r.read r.before rest = stands_cut session r.read r.before r.stands in
+          let d : (rest : Option (List ℕ)) × Cuts new.prefix (r.read ++ piece) (r.before ++ events) rest = stands_cut new (r.read ++ piece) (r.before ++ events) (feeds.stands r.read r.before r.stands) in
+          let e : Cuts session.prefix (r.read ++ piece) (r.before ++ (t.done ++ others)) d.0 = subst (λ z. Cuts session.prefix (r.read ++ piece) (r.before ++ z) d.0) t.whole (subst (λ z. Cuts z (r.read ++ piece) (r.before ++ events) d.0) feeds.prefix d.1) in
+          let h : HasMore session.prefix r.read piece (r.before ++ t.done) = cut_within session.prefix r.read piece r.before t.done others c.0 d.0 c.1 e in
+          let s : ServesAll old (r.before ++ t.done) (r.text ++ (t.told ++ lost)) after = serves_join old now after r.before t.done r.text (t.told ++ lost) r.answers t.answers in
+          let whole : r.read ++ piece ≡ (r.read ++ h.front) ++ h.rest = ap (λ z. r.read ++ z) h.whole ∙ sym (append_assoc r.read h.front h.rest) in (
+            h.rest,
+            h.left,
+            record {
+              front = r.read ++ h.front;
+              told = r.text ++ t.told;
+              consumes = subst (Consumes input more) whole (Consumes-trans input left more r.read piece r.consumes read);
+              appends = Appends-trans written_before written written_more r.text t.told r.appends t.appends;
+              answered = record {
+                events = r.before ++ t.done;
+                cut = subst (λ z. Cuts z (r.read ++ h.front) (r.before ++ t.done) h.left) r.same h.cut;
+                answers = subst (λ z. ServesAll old (r.before ++ t.done) z after) (sym (append_assoc r.text t.told lost)) s;
+              };
+              no_further = piece_further prefix r.read piece ((r.read ++ h.front) ++ h.rest) r.before r.goes_on few (sym whole);
+            },
+          )
+
+      pub runs_broken_by : (e : ConnError) → StopsTelling now events written written_more after e → BreaksOff prefix old input more written_before written_more after e
+      runs_broken_by ReadFault t = absurd t
+      runs_broken_by Memory (others, t) = runs_broken others [] t
+      runs_broken_by WriteFault (others, lost, t) =
+          let x : (rest : List ℕ) × (cut : Option (List ℕ)) × RunsBut prefix old input more written_before written_more after rest lost cut = runs_broken others lost t in (x.0, lost, x.1, x.2)
 
 -- given up before the first piece
-unfoldable pub runs_none : (prefix : List ℕ) (old : CacheValue) (input written : Option (List ℕ)) → Cuts prefix [] [] (Some []) → RunsSome prefix old input input written written old
-runs_none prefix old input written c = record {
+pub runs_none : (prefix : List ℕ) (old : CacheValue) (input written : Option (List ℕ)) → RunsBut prefix old input input written written old [] [] (Some [])
+runs_none prefix old input written = record {
   front = [];
-  rest = [];
   told = [];
-  lost = [];
-  left = Some [];
   consumes = Consumes-nil input;
   appends = Appends-nil written;
-  answered = record { events = []; cut = c; served = serves_none old };
-  no_further = nothing_further prefix [] [] (record { rest = []; cut = c });
+  answered = record { events = []; cut = nothing_cut prefix; answers = serves_none old };
+  no_further = nothing_further prefix [] [] (record { rest = []; cut = nothing_cut prefix });
 }
 
-pub nothing_cut : (prefix : List ℕ) → Cuts prefix [] [] (Some [])
-unfolding Cuts
-nothing_cut prefix = (empty_partial prefix, refl)
+-- whatever ended a run, some of what was read is answered
+pub some_answered : (prefix : List ℕ) (old : CacheValue) (input left before after : Option (List ℕ)) (new : CacheValue) (e : ConnError) → BreaksOff prefix old input left before after new e
+    → (rest : List ℕ) × (lost : List ℕ) × (cut : Option (List ℕ)) × RunsBut prefix old input left before after new rest lost cut
+some_answered prefix old input left before after new ReadFault (cut, r) = ([], [], cut, r)
+some_answered prefix old input left before after new Memory (rest, cut, r) = (rest, [], cut, r)
+some_answered prefix old input left before after new WriteFault (rest, lost, cut, r) = (rest, lost, cut, r)

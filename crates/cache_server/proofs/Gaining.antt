@@ -1,14 +1,12 @@
 -- What an entry adds to a history.
 use Rattle.std.proofs.Common.{◌≡◌, ℕ, ◌==◌, Bool, true, false, Option, List, [], ◌∷◌, ◌++◌, if◌then◌else◌, refl, sym, ◌∙◌, ap, subst, append_assoc, arith}
-use Rattle.std.proofs.lemmas.List.{append-nil, append_cancel_left}
+use Rattle.std.proofs.lemmas.List.{append-nil}
 use Rattle.http_core.specs.Event.{EventValue}
 use Rattle.http_core.specs.Stream.{Cuts}
-use Rattle.http_core.proofs.Cutting.{cut_once, cut_within, HasMore}
 use Rattle.cache_server.specs.Cache.{CacheValue}
-use Rattle.cache_server.specs.Serving.{ServesAll}
 use Rattle.cache_server.specs.History.{HistoryEntry, Piece, Fail, End, is_end, is_fail, bytes_over, stream_of, has_failed, Gains, Brings, BringsAll, CacheAfter, AnswersTo}
 use Rattle.cache_server.proofs.Histories.{stream_more}
-use Rattle.cache_server.proofs.Serving.{serves_join}
+use Rattle.cache_server.proofs.Serving.{ServesAll, serves_join}
 
 pub completes_more : (prefix : List ℕ) (before history : List HistoryEntry) (entry : HistoryEntry) (events first : List EventValue)
     → BringsAll prefix before history events → Brings prefix (before ++ history) entry first → BringsAll prefix before (history ++ entry ∷ []) (events ++ first)
@@ -71,39 +69,3 @@ pub gains_none : (prefix : List ℕ) (k : ℕ) (history : List HistoryEntry) (by
     → stream_of k (history ++ Piece k bytes ∷ []) ≡ stream_of k history → Cuts prefix (stream_of k history) earlier a → Gains prefix k history (Piece k bytes) []
 gains_none prefix k history bytes earlier a same c =
     (earlier, a, a, c, subst (λ z. Cuts prefix z (earlier ++ []) a) (sym same) (subst (λ z. Cuts prefix (stream_of k history) z a) (sym (append-nil earlier)) c))
-
-nothing_more : (x y : List EventValue) → x ≡ x ++ y → y ≡ []
-nothing_more x y e = sym (append_cancel_left x [] y (append-nil x ∙ e))
-
-front_empty : (x y : List EventValue) → x ++ y ≡ [] → x ≡ []
-front_empty [] y e = refl
-front_empty (d ∷ x) y e = let h : d ∷ (x ++ y) ≡ [] = e in cc
-
--- the beginning of a piece that completes the first of its events
-pub record GainsFirst (prefix : List ℕ) (k : ℕ) (history : List HistoryEntry) (piece : List ℕ) (done : List EventValue) : Type 0 where
-  pub front : List ℕ
-  pub rest : List ℕ
-  pub whole : piece ≡ front ++ rest
-  pub gains : Gains prefix k history (Piece k front) done
-
-gains_open_first : (prefix : List ℕ) (k : ℕ) (history : List HistoryEntry) (piece : List ℕ) (done others : List EventValue)
-    → has_failed k history ≡ false → Gains prefix k history (Piece k piece) (done ++ others) → GainsFirst prefix k history piece done
-gains_open_first prefix k history piece done others open_ (earlier, a, b, c, d) =
-    let h : HasMore prefix (stream_of k history) piece (earlier ++ done) = cut_within prefix (stream_of k history) piece earlier done others a b c (subst (λ z. Cuts prefix z (earlier ++ (done ++ others)) b) (stream_open k history piece open_) d) in
-    record { front = h.front; rest = h.rest; whole = h.whole; gains = gains_open prefix k history h.front earlier done a h.left open_ c h.cut }
-
-gains_shut_first : (prefix : List ℕ) (k : ℕ) (history : List HistoryEntry) (piece : List ℕ) (done others : List EventValue)
-    → has_failed k history ≡ true → Gains prefix k history (Piece k piece) (done ++ others) → GainsFirst prefix k history piece done
-gains_shut_first prefix k history piece done others shut (earlier, a, b, c, d) =
-    let o : (earlier ≡ earlier ++ (done ++ others)) × (a ≡ b) = cut_once prefix (stream_of k history) earlier (earlier ++ (done ++ others)) a b c (subst (λ z. Cuts prefix z (earlier ++ (done ++ others)) b) (stream_shut k history piece shut) d) in
-    let n : done ≡ [] = front_empty done others (nothing_more earlier (done ++ others) o.0) in
-    record { front = piece; rest = []; whole = sym (append-nil piece); gains = subst (Gains prefix k history (Piece k piece)) (sym n) (gains_none prefix k history piece earlier a (stream_shut k history piece shut) c) }
-
-gains_first_by : (prefix : List ℕ) (k : ℕ) (history : List HistoryEntry) (piece : List ℕ) (done others : List EventValue) (b : Bool)
-    → has_failed k history ≡ b → Gains prefix k history (Piece k piece) (done ++ others) → GainsFirst prefix k history piece done
-gains_first_by prefix k history piece done others true e g = gains_shut_first prefix k history piece done others e g
-gains_first_by prefix k history piece done others false e g = gains_open_first prefix k history piece done others e g
-
-pub gains_first : (prefix : List ℕ) (k : ℕ) (history : List HistoryEntry) (piece : List ℕ) (done others : List EventValue)
-    → Gains prefix k history (Piece k piece) (done ++ others) → GainsFirst prefix k history piece done
-gains_first prefix k history piece done others g = gains_first_by prefix k history piece done others (has_failed k history) refl g

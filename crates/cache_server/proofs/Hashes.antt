@@ -10,10 +10,12 @@ use Rattle.action_cache.specs.Machine.{CacheState, Answer, given, opened, found,
 use Rattle.action_cache.specs.Reading.{by_messages}
 use Rattle.action_cache.proofs.Leading.{IsSound, leads_ask}
 use Rattle.action_cache.proofs.Asked.{sound_opened, hash_answered}
-use Rattle.cache_server.specs.Cache.{CacheValue, step, reply_to}
+use Rattle.cache_server.specs.Cache.{CacheValue, applied, step, reply_to}
 use Rattle.cache_server.specs.History.{HistoryEntry, CacheAfter}
 use Rattle.cache_server.specs.Laws.{AnswersItsHash}
-use Rattle.cache_server.specs.Serving.{ServesOne, ServesAll}
+use Rattle.cache_server.specs.Answering.{answered, answered_all}
+use Rattle.cache_server.specs.Counts.{no_counts}
+use Rattle.cache_server.proofs.Serving.{ServesAll, cache_is}
 
 sound_step : (s : CacheState) → IsSound by_messages s → (ask : AskValue) → IsSound by_messages (step s ask).1
 unfolding step
@@ -28,18 +30,22 @@ sound_step s k (Put Pin h (x ∷ b)) = k
 sound_step s k (Put Unpin h []) = (leads_ask by_messages s k (asking.Unpin h)).sound
 sound_step s k (Put Unpin h (x ∷ b)) = k
 
-sound_served : (old new : CacheValue) (event : EventValue) (text : List ℕ) → IsSound by_messages old → ServesOne old event text new → IsSound by_messages new
-sound_served old new (Asked ask close) text k (reply, shut, (steps, same), e) = subst (IsSound by_messages) (ap (λ (z : ReplyValue × CacheValue). z.1) steps) (sound_step old k ask)
-sound_served old new (Refused status close) text k (reply, shut, (is, same, kept), e) = subst (IsSound by_messages) (sym kept) k
+sound_one : (old : CacheValue) (event : EventValue) → IsSound by_messages old.state → IsSound by_messages (answered old event).1.state
+unfolding answered
+sound_one old (Asked ask close) k = sound_step old.state k ask
+sound_one old (Refused status close) k = k
 
-sound_all : (old new : CacheValue) (events : List EventValue) (text : List ℕ) → IsSound by_messages old → ServesAll old events text new → IsSound by_messages new
-unfolding ServesAll
-sound_all old new [] text k (e, f) = subst (IsSound by_messages) (sym f) k
-sound_all old new (event ∷ events) text k (first, others, between, one, rest, e) = sound_all between new events others (sound_served old between event first k one) rest
+sound_all : (old : CacheValue) (events : List EventValue) → IsSound by_messages old.state → IsSound by_messages (answered_all old events).1.state
+unfolding answered_all
+sound_all old [] k = k
+sound_all old (event ∷ events) k = sound_all (answered old event).1 events (sound_one old event k)
 
-sound_after : (prefix : List ℕ) (limit result_limit : ℕ) (history : List HistoryEntry) (cache : CacheValue) → CacheAfter prefix (opened limit result_limit) history cache → IsSound by_messages cache
+sound_after : (prefix : List ℕ) (limit result_limit : ℕ) (history : List HistoryEntry) (cache : CacheValue)
+    → CacheAfter prefix (record { state = opened limit result_limit; counts = no_counts }) history cache → IsSound by_messages cache.state
 unfolding CacheAfter
-sound_after prefix limit result_limit history cache (events, text, brings, serves) = sound_all (opened limit result_limit) cache events text (sound_opened by_messages limit result_limit) serves
+sound_after prefix limit result_limit history cache (events, text, brings, serves) =
+    let opening : CacheValue = record { state = opened limit result_limit; counts = no_counts } in
+    subst (λ (z : CacheValue). IsSound by_messages z.state) (cache_is (answered_all opening events) (text, cache) serves) (sound_all opening events (sound_opened by_messages limit result_limit))
 
 replied_hash : (s : CacheState) → IsSound by_messages s → (h : List ℕ) (reply : ReplyValue) → reply_to (get_blob by_messages s h).0 ≡ reply → reply.status ≡ 200 → sha256 reply.body ≡ h
 replied_hash s k h reply e ok = (elim (bytes_eq (sha256 []) h) as (λ y. bytes_eq (sha256 []) h ≡ y → reply_to (cond {A = Answer × CacheState} y (given [], s) (got_blob by_messages s h (found by_messages s h))).0 ≡ reply → sha256 reply.body ≡ h) [
@@ -54,4 +60,4 @@ replied_hash s k h reply e ok = (elim (bytes_eq (sha256 []) h) as (λ y. bytes_e
 pub answers_its_hash : AnswersItsHash
 unfolding step
 answers_its_hash prefix limit result_limit history cache new hash reply after steps ok =
-    replied_hash cache (sound_after prefix limit result_limit history cache after) hash reply (ap (λ (z : ReplyValue × CacheValue). z.0) steps) ok
+    replied_hash cache.state (sound_after prefix limit result_limit history cache after) hash reply (ap (λ (z : ReplyValue × CacheValue). z.0) steps) ok

@@ -7,8 +7,6 @@ pub mod Gaining
 pub mod Standing
 pub mod Turning
 pub mod Connections
-pub mod StepOnce
 pub mod Once
 pub mod Total
 pub mod Hashes
-pub mod Counting

@@ -2,7 +2,7 @@
 use Rattle.std.proofs.Common.{◌≡◌, ℕ, ◌==◌, length, arith, ◌⊎◌, inl, inr, Bool, true, false, cond, Option, Some, None, List, [], ◌∷◌, Result, Ok, Err, OnOk, OnErr, IfErr, IfSome, refl, sym, ◌∙◌, ap, subst}
 use Rattle.std.specs.Prelude.{option_map, bytes_eq, IsErrAnd}
 use Rattle.sha2.specs.Sha256.{sha256}
-use Rattle.http_core.specs.Reply.{ReplyValue, reply_text}
+use Rattle.http_core.specs.Reply.{ReplyValue, bare}
 use Rattle.action_cache.specs.declared.error.CacheError.{CacheError}
 use Rattle.action_cache.specs.CacheError.{refusal_of, IsRefused}
 use Rattle.action_cache.specs.Machine.{CacheState, Answer, done, given, nothing, refused, Refusal, under, got_blob, get_blob}
@@ -13,14 +13,9 @@ use Rattle.http_core.specs.declared.event.Area.TheVariants.{Ac, Cas, Pin, Unpin}
 use Rattle.http_core.specs.Event.{AskValue, Get, Put}
 use Rattle.action_cache.specs.References.{Reader}
 use Rattle.action_cache.specs.State.{answer_of, bytes_given}
-use Rattle.cache_server.specs.Cache.{MayWantToWrite, Step, step, bare, found_reply, reply_to, replied, without_body}
+use Rattle.cache_server.specs.Cache.{step, found_reply, reply_to, replied, without_body}
 use Rattle.action_cache.specs.declared.error.CacheError.TheVariants as cache
 use Rattle.cache_server.specs.Status.{status_of, IsToldBy, WantsMemory}
-use Rattle.cache_server.specs.Writing.{WritesSome, AnswersAsk, FailsAsk}
-use Rattle.cache_server.specs.declared.error.ConnError.{ConnError}
-use Rattle.cache_server.specs.declared.error.ConnError.TheVariants.{WriteFault, Memory}
-use Rattle.std.specs.Io.KnownBytes.{Appends, Keeps}
-use Rattle.std.proofs.lemmas.Result.{on_ok_weaker}
 
 -- a change that was made or refused
 pub changed : {T : Type 0} (r : Result T CacheError) (old new : CacheState) (out : Answer × CacheState) (status : ℕ)
@@ -39,40 +34,29 @@ pub found_result : (found : Option (List ℕ)) → reply_to (answer_of found) �
 found_result None = refl
 found_result (Some b) = refl
 
--- a look-up of a blob
-pub found_blob : (reader : Reader) (s : CacheState) (h : List ℕ) → reply_to (get_blob reader s h).0 ≡ found_reply (bytes_given (get_blob reader s h).0)
-found_blob reader s h = elim (bytes_eq (sha256 []) h) as (λ b. reply_to (cond b (given [], s) (got_blob reader s h (under h s.blobs))).0 ≡ found_reply (bytes_given (cond b (given [], s) (got_blob reader s h (under h s.blobs))).0)) [
-  | true ↦ refl
-  | false ↦ by (under h s.blobs)
-]
-  where
-    by : (o : Option (List ℕ)) → reply_to (got_blob reader s h o).0 ≡ found_reply (bytes_given (got_blob reader s h o).0)
-    by None = refl
-    by (Some b) = refl
-
 -- steps of the cache, by what its calls promise
 module _ (old new : CacheState) (h b : List ℕ) where
   pub put_blob_steps : {T : Type 0} (r : Result T CacheError) (area : Area) (status : ℕ) → area ≡ Cas
       → OnOk r (machine.put_blob by_messages old h b ≡ (done, new)) → IfErr r (IsRefused old (machine.put_blob by_messages old h b)) → OnErr r (new ≡ old) → IsToldBy r status
-      → Step old (Put area h b) (bare status) new
+      → step old (Put area h b) ≡ (bare status, new)
   unfolding step
   put_blob_steps r area status is made why kept told = ap (λ a. step old (Put a h b)) is ∙ changed r old new (machine.put_blob by_messages old h b) status made why kept told
 
   pub put_result_steps : {T : Type 0} (r : Result T CacheError) (area : Area) (status : ℕ) → area ≡ Ac
       → OnOk r (machine.put_result by_messages old h b ≡ (done, new)) → IfErr r (IsRefused old (machine.put_result by_messages old h b)) → OnErr r (new ≡ old) → IsToldBy r status
-      → Step old (Put area h b) (bare status) new
+      → step old (Put area h b) ≡ (bare status, new)
   unfolding step
   put_result_steps r area status is made why kept told = ap (λ a. step old (Put a h b)) is ∙ changed r old new (machine.put_result by_messages old h b) status made why kept told
 
   pub pin_steps : {T : Type 0} (r : Result T CacheError) (area : Area) (status : ℕ) → area ≡ Pin → b ≡ []
       → OnOk r (machine.pin by_messages old h ≡ (done, new)) → IfErr r (IsRefused old (machine.pin by_messages old h)) → OnErr r (new ≡ old) → IsToldBy r status
-      → Step old (Put area h b) (bare status) new
+      → step old (Put area h b) ≡ (bare status, new)
   unfolding step
   pin_steps r area status is none made why kept told = ap (λ a. step old (Put a h b)) is ∙ ap (λ z. step old (Put Pin h z)) none ∙ changed r old new (machine.pin by_messages old h) status made why kept told
 
   pub unpin_steps : {T : Type 0} (r : Result T CacheError) (area : Area) (status : ℕ) → area ≡ Unpin → b ≡ []
       → OnOk r (machine.unpin by_messages old h ≡ (done, new)) → IfErr r (IsRefused old (machine.unpin by_messages old h)) → OnErr r (new ≡ old) → IsToldBy r status
-      → Step old (Put area h b) (bare status) new
+      → step old (Put area h b) ≡ (bare status, new)
   unfolding step
   unpin_steps r area status is none made why kept told = ap (λ a. step old (Put a h b)) is ∙ ap (λ z. step old (Put Unpin h z)) none ∙ changed r old new (machine.unpin by_messages old h) status made why kept told
 
@@ -81,11 +65,11 @@ bodied : (s : CacheState) (b : List ℕ) (out : Answer × CacheState) → (lengt
 bodied s [] out e = cc
 bodied s (x ∷ b) out e = refl
 
-pub pin_bodied : (s : CacheState) (area : Area) (h b : List ℕ) → area ≡ Pin → (length b == 0) ≡ false → Step s (Put area h b) (bare 400) s
+pub pin_bodied : (s : CacheState) (area : Area) (h b : List ℕ) → area ≡ Pin → (length b == 0) ≡ false → step s (Put area h b) ≡ (bare 400, s)
 unfolding step
 pin_bodied s area h b is e = ap (λ a. step s (Put a h b)) is ∙ bodied s b (machine.pin by_messages s h) e
 
-pub unpin_bodied : (s : CacheState) (area : Area) (h b : List ℕ) → area ≡ Unpin → (length b == 0) ≡ false → Step s (Put area h b) (bare 400) s
+pub unpin_bodied : (s : CacheState) (area : Area) (h b : List ℕ) → area ≡ Unpin → (length b == 0) ≡ false → step s (Put area h b) ≡ (bare 400, s)
 unfolding step
 unpin_bodied s area h b is e = ap (λ a. step s (Put a h b)) is ∙ bodied s b (machine.unpin by_messages s h) e
 
@@ -94,42 +78,23 @@ no_body [] e = refl
 no_body (x ∷ b) e = absurd (grind (arith, e))
 
 -- look-ups
-pub get_blob_steps : (s new : CacheState) (h : List ℕ) (found : Option (List ℕ)) → found ≡ bytes_given (machine.get_blob by_messages s h).0 → new ≡ (machine.get_blob by_messages s h).1
-    → Step s (Get Cas h) (found_reply found) new
+pub get_blob_steps : (s new : CacheState) (h : List ℕ) (found : Option (List ℕ)) → machine.get_blob by_messages s h ≡ (answer_of found, new)
+    → step s (Get Cas h) ≡ (found_reply found, new)
 unfolding step
-get_blob_steps s new h found e f =
-    ap (λ z. (z, (machine.get_blob by_messages s h).1)) (found_blob by_messages s h ∙ ap found_reply (sym e)) ∙ ap (λ z. (found_reply found, z)) (sym f)
+get_blob_steps s new h found e = ap replied e ∙ ap (λ z. (z, new)) (found_result found)
 
-pub get_result_steps : (s new : CacheState) (area : Area) (h : List ℕ) (found : Option (List ℕ)) → area ≡ Ac → machine.get_result by_messages s h ≡ (answer_of found, new)
-    → Step s (Get area h) (found_reply found) new
+pub get_result_steps : (s new : CacheState) (h : List ℕ) (found : Option (List ℕ)) → machine.get_result by_messages s h ≡ (answer_of found, new)
+    → step s (Get Ac h) ≡ (found_reply found, new)
 unfolding step
-get_result_steps s new area h found is e =
-    ap (λ a. step s (Get a h)) is ∙ ap replied e ∙ ap (λ z. (z, new)) (found_result found)
+get_result_steps s new h found e = ap replied e ∙ ap (λ z. (z, new)) (found_result found)
 
-pub get_nothing : (s : CacheState) (area : Area) (h : List ℕ) → (area ≡ Pin) ⊎ (area ≡ Unpin) → Step s (Get area h) (bare 404) s
+pub get_nothing : (s : CacheState) (area : Area) (h : List ℕ) → (area ≡ Pin) ⊎ (area ≡ Unpin) → step s (Get area h) ≡ (bare 404, s)
 unfolding step
 get_nothing s area h (inl e) = ap (λ a. step s (Get a h)) e
 get_nothing s area h (inr e) = ap (λ a. step s (Get a h)) e
 
--- a reply that is written, or not
-module _ {T : Type 0} (r : Result T ConnError) (old new : CacheState) (ask : AskValue) (close : Bool) (before after : Option (List ℕ)) (reply : ReplyValue) (steps : Step old ask reply new) where
-  pub answers_by : OnOk r (Appends before after (reply_text reply close)) → OnOk r (AnswersAsk old ask close before after new)
-  answers_by p = on_ok_weaker r (λ a. record { reply = reply; steps = steps; appends = a }) p
-
-  pub fails_by : OnErr r (WritesSome before after (reply_text reply close)) → IfErr r (λ e. e ≡ WriteFault) → IfErr r (λ e. FailsAsk e old ask close before after new)
-  fails_by p q = by r p q
-    where
-      by : (r : Result T ConnError) → OnErr r (WritesSome before after (reply_text reply close)) → IfErr r (λ e. e ≡ WriteFault) → IfErr r (λ e. FailsAsk e old ask close before after new)
-      by (Ok x) p q = tt
-      by (Err e) p q = subst (λ z. FailsAsk z old ask close before after new) (sym q) (record { reply = reply; steps = steps; writes = p })
-
--- memory was wanting for a change, and for a look-up
+-- memory was wanting for a change
 pub wanting : {T N E : Type 0} (r : Result T CacheError) (o : Result N E) (P : Type 0) → OnErr o (WantsMemory r) → (r ≡ Err cache.Memory → P) → OnErr o P
 wanting r (Ok n) P w f = tt
 wanting (Ok x) (Err e) P w f = absurd w
 wanting (Err d) (Err e) P w f = f (ap Err w)
-
-pub fails_wanting : {T : Type 0} (r : Result T ConnError) (old new : CacheState) (ask : AskValue) (close : Bool) (before after : Option (List ℕ))
-    → IsErrAnd r (λ e. e ≡ Memory) → new ≡ old → Keeps before after → MayWantToWrite old ask → IfErr r (λ e. FailsAsk e old ask close before after new)
-fails_wanting (Ok x) old new ask close before after a same kept may = absurd a
-fails_wanting (Err e) old new ask close before after a same kept may = subst (λ z. FailsAsk z old ask close before after new) (sym a) (same, kept, may)

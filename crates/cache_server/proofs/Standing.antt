@@ -7,13 +7,12 @@ use Rattle.http_core.specs.Stream.{Cuts}
 use Rattle.http_core.specs.Session.{SessionValue, IsClosed, Leaves}
 use Rattle.http_core.specs.Session as sessions
 use Rattle.cache_server.specs.Cache.{CacheValue}
-use Rattle.cache_server.specs.Serving.{ServesAll}
 use Rattle.cache_server.specs.History.{HistoryEntry, Piece, Fail, End, is_end, is_fail, bytes_over, since_end, until_fail, stream_of, has_failed, Gains, BringsAll, CacheAfter, AnswersTo}
 use Rattle.cache_server.specs.Server.{ServerValue, session_at, StandsSo, KeepsSession, ServerStands, StandsOrFails}
-use Rattle.cache_server.specs.Sessions.{KeepsOthers, IsSessionFor, FeedsAt, IsClosedAt, ClosesAt}
+use Rattle.cache_server.specs.Sessions.{KeepsOthers, IsSessionFor, IsClosedAt, ClosesAt}
 use Rattle.cache_server.proofs.Histories.{stream_aside, failed_more, failed_now, stream_ended, failed_ended}
-use Rattle.cache_server.proofs.Serving.{ServesFront, serves_none}
-use Rattle.cache_server.proofs.Gaining.{cache_more, answers_are, own_bytes, other_bytes, own_fail, other_fail, own_end, other_end, stream_open, stream_shut, gains_open, gains_none, GainsFirst, gains_first}
+use Rattle.cache_server.proofs.Serving.{ServesAll, serves_none}
+use Rattle.cache_server.proofs.Gaining.{cache_more, answers_are, own_bytes, other_bytes, own_fail, other_fail, own_end, other_end, stream_open, stream_shut, gains_open, gains_none}
 
 -- an entry of another connection
 pub keeps_aside : (prefix : List ℕ) (held : Option SessionValue) (k : ℕ) (history : List HistoryEntry) (entry : HistoryEntry)
@@ -85,6 +84,25 @@ fed prefix None k history piece events before after (stream, open_) fresh takes 
 fed prefix (Some session) k history piece events before after (same, stands) is takes =
     fed_by prefix k history piece events before after (has_failed k history) refl (ap (λ (z : SessionValue). z.prefix) is ∙ same) (subst (λ z. StandsSo (has_failed k history) z (stream_of k history)) (sym is) stands) takes
 
+-- the session of the connection took the bytes, and their events are answered
+pub record HasFed (old : ServerValue) (k : ℕ) (bytes text : List ℕ) (new : ServerValue) : Type 0 where
+  pub before : SessionValue
+  pub after : SessionValue
+  pub events : List EventValue
+  pub held : session_at old k ≡ Some before
+  pub feeds : sessions.Feeds before bytes events after
+  pub at : session_at new k ≡ Some after
+  pub answers : ServesAll old.cache events text new.cache
+  pub prefix : new.prefix ≡ old.prefix
+  pub others : (j : ℕ) → (j ≡ k → ⊥) → session_at new j ≡ session_at old j
+
+held_session : (prefix : List ℕ) (o : Option SessionValue) (session : SessionValue) → o ≡ Some session → IsSessionFor prefix o session
+held_session prefix o session e = subst (λ z. IsSessionFor prefix z session) (sym e) refl
+
+is_fed : (opening : CacheValue) (old new : ServerValue) (k : ℕ) (history : List HistoryEntry) (bytes text : List ℕ) → (f : HasFed old k bytes text new) → ServerStands opening old history → IsFed old.prefix k history bytes f.events f.after
+is_fed opening old new k history bytes text f stands =
+    fed old.prefix (session_at old k) k history bytes f.events f.before f.after (stands.sessions k) (held_session old.prefix (session_at old k) f.before f.held) f.feeds
+
 -- all sessions, where that of one connection is told
 sessions_with : (prefix : List ℕ) (old new : ServerValue) (k : ℕ) (after : SessionValue) (history : List HistoryEntry) (entry : HistoryEntry)
     → ((j : ℕ) → (j ≡ k → ⊥) → session_at new j ≡ session_at old j)
@@ -97,28 +115,22 @@ sessions_with prefix old new k after history entry others aside kept own j = by_
     by_test (inl (t, e)) = subst (λ i. KeepsSession prefix (session_at new i) i (history ++ entry ∷ [])) (sym e) own
     by_test (inr (f, n)) = subst (λ z. KeepsSession prefix z j (history ++ entry ∷ [])) (sym (others j n)) (keeps_aside prefix (session_at old j) j history entry (aside j n).0 (aside j n).1 (aside j n).2 (kept j))
 
-pub stands_fed : (opening : CacheValue) (old mid new : ServerValue) (k : ℕ) (history : List HistoryEntry) (piece : List ℕ) (events : List EventValue) (text : List ℕ)
-    → FeedsAt old k piece events mid → ServesAll mid.cache events text new.cache → new.prefix ≡ mid.prefix → new.sessions ≡ mid.sessions
-    → ServerStands opening old history → ServerStands opening new (history ++ Piece k piece ∷ [])
-stands_fed opening old mid new k history piece events text feeds serves p m stands =
-    let x : IsFed old.prefix k history piece events feeds.after = fed old.prefix (session_at old k) k history piece events feeds.before feeds.after (stands.sessions k) feeds.held feeds.feeds in
-    let q : new.prefix ≡ old.prefix = p ∙ feeds.kept.prefix in
-    let c : CacheAfter old.prefix opening (history ++ Piece k piece ∷ []) new.cache = cache_more old.prefix opening old.cache new.cache history (Piece k piece) events text stands.cache x.gains (subst (λ z. ServesAll z events text new.cache) feeds.kept.cache serves) in
-    let a : session_at new k ≡ Some feeds.after = ap (λ z. session_at (record { cache = new.cache; prefix = new.prefix; sessions = z }) k) m ∙ feeds.at in
-    let own : KeepsSession old.prefix (session_at new k) k (history ++ Piece k piece ∷ []) = subst (λ z. KeepsSession old.prefix z k (history ++ Piece k piece ∷ [])) (sym a) x.keeps in
+pub stands_fed : (opening : CacheValue) (old new : ServerValue) (k : ℕ) (history : List HistoryEntry) (bytes text : List ℕ)
+    → HasFed old k bytes text new → ServerStands opening old history → ServerStands opening new (history ++ Piece k bytes ∷ [])
+stands_fed opening old new k history bytes text f stands =
+    let x : IsFed old.prefix k history bytes f.events f.after = is_fed opening old new k history bytes text f stands in
+    let c : CacheAfter old.prefix opening (history ++ Piece k bytes ∷ []) new.cache = cache_more old.prefix opening old.cache new.cache history (Piece k bytes) f.events text stands.cache x.gains f.answers in
+    let own : KeepsSession old.prefix (session_at new k) k (history ++ Piece k bytes ∷ []) = subst (λ z. KeepsSession old.prefix z k (history ++ Piece k bytes ∷ [])) (sym f.at) x.keeps in
     record {
-      cache = subst (λ z. CacheAfter z opening (history ++ Piece k piece ∷ []) new.cache) (sym q) c;
-      sessions = λ j. subst (λ z. KeepsSession z (session_at new j) j (history ++ Piece k piece ∷ [])) (sym q)
-          (sessions_with old.prefix old new k feeds.after history (Piece k piece) (λ i n. ap (λ z. session_at (record { cache = new.cache; prefix = new.prefix; sessions = z }) i) m ∙ feeds.kept.others i n)
-          (λ i n. (refl, other_bytes i k piece n, refl)) stands.sessions own j);
+      cache = subst (λ z. CacheAfter z opening (history ++ Piece k bytes ∷ []) new.cache) (sym f.prefix) c;
+      sessions = λ j. subst (λ z. KeepsSession z (session_at new j) j (history ++ Piece k bytes ∷ [])) (sym f.prefix)
+          (sessions_with old.prefix old new k f.after history (Piece k bytes) f.others (λ i n. (refl, other_bytes i k bytes n, refl)) stands.sessions own j);
     }
 
-pub answers_fed : (opening : CacheValue) (old mid : ServerValue) (after : CacheValue) (k : ℕ) (history : List HistoryEntry) (piece : List ℕ) (events : List EventValue) (text : List ℕ)
-    → FeedsAt old k piece events mid → ServesAll mid.cache events text after
-    → ServerStands opening old history → AnswersTo old.prefix opening history (Piece k piece) text
-answers_fed opening old mid after k history piece events text feeds serves stands =
-    let x : IsFed old.prefix k history piece events feeds.after = fed old.prefix (session_at old k) k history piece events feeds.before feeds.after (stands.sessions k) feeds.held feeds.feeds in
-    answers_are old.prefix opening old.cache after history (Piece k piece) events text stands.cache x.gains (subst (λ z. ServesAll z events text after) feeds.kept.cache serves)
+pub answers_fed : (opening : CacheValue) (old new : ServerValue) (k : ℕ) (history : List HistoryEntry) (bytes text : List ℕ)
+    → HasFed old k bytes text new → ServerStands opening old history → AnswersTo old.prefix opening history (Piece k bytes) text
+answers_fed opening old new k history bytes text f stands =
+    answers_are old.prefix opening old.cache new.cache history (Piece k bytes) f.events text stands.cache (is_fed opening old new k history bytes text f stands).gains f.answers
 
 pub stands_ended : (opening : CacheValue) (old new : ServerValue) (k : ℕ) (history : List HistoryEntry)
     → session_at new k ≡ None → KeepsOthers old k new → ServerStands opening old history → ServerStands opening new (history ++ End k ∷ [])
@@ -199,18 +211,19 @@ closed_after : (held : Option SessionValue) (session : SessionValue) (now : Opti
     → (after : SessionValue) × (now ≡ Some after) × (after.prefix ≡ session.prefix) × IsClosed after
 closed_after held session now e c = subst (λ z. IsClosedAt z now) e c
 
-pub stands_answering : (opening : CacheValue) (old mid served new : ServerValue) (k : ℕ) (piece : List ℕ) (history : List HistoryEntry) (events : List EventValue)
-    → FeedsAt old k piece events mid → ServesFront mid.cache events served.cache → served.prefix ≡ mid.prefix → served.sessions ≡ mid.sessions → ClosesAt served k new
-    → ServerStands opening old history → StandsOrFails opening old k piece new history
-stands_answering opening old mid served new k piece history events feeds some p m closes stands =
-    let x : IsFed old.prefix k history piece events feeds.after = fed old.prefix (session_at old k) k history piece events feeds.before feeds.after (stands.sessions k) feeds.held feeds.feeds in
-    let f : GainsFirst old.prefix k history piece some.done = gains_first old.prefix k history piece some.done some.others (subst (Gains old.prefix k history (Piece k piece)) some.whole x.gains) in
-    let at : session_at served k ≡ Some feeds.after = ap (λ z. session_at (record { cache = served.cache; prefix = served.prefix; sessions = z }) k) m ∙ feeds.at in
-    let c : (after : SessionValue) × (session_at new k ≡ Some after) × (after.prefix ≡ feeds.after.prefix) × IsClosed after = closed_after (session_at served k) feeds.after (session_at new k) at closes.at in
-    let q : new.prefix ≡ old.prefix = closes.kept.prefix ∙ p ∙ feeds.kept.prefix in
-    let s : ServesAll old.cache some.done some.text new.cache = subst (ServesAll old.cache some.done some.text) (sym closes.kept.cache) (subst (λ z. ServesAll z some.done some.text served.cache) feeds.kept.cache some.served) in
-    let others : (j : ℕ) → (j ≡ k → ⊥) → session_at new j ≡ session_at old j = λ j n. closes.kept.others j n ∙ ap (λ z. session_at (record { cache = served.cache; prefix = served.prefix; sessions = z }) j) m ∙ feeds.kept.others j n in
-    inr (f.front, f.rest, f.whole, stands_failed opening old new k history f.front some.done some.text c.0 f.gains s q others c.1 (c.2 ∙ x.keeps.0) c.3 stands)
+-- so it was within a piece
+pub stands_broken : (opening : CacheValue) (old mid new : ServerValue) (k : ℕ) (history : List HistoryEntry) (piece bytes rest text : List ℕ)
+    → piece ≡ bytes ++ rest → HasFed old k bytes text mid → ClosesAt mid k new → ServerStands opening old history → StandsOrFails opening old k piece new history
+stands_broken opening old mid new k history piece bytes rest text whole f closes stands =
+    let x : IsFed old.prefix k history bytes f.events f.after = is_fed opening old mid k history bytes text f stands in
+    let c : (after : SessionValue) × (session_at new k ≡ Some after) × (after.prefix ≡ f.after.prefix) × IsClosed after = closed_after (session_at mid k) f.after (session_at new k) f.at closes.at in
+    inr (
+      bytes,
+      rest,
+      whole,
+      stands_failed opening old new k history bytes f.events text c.0 x.gains (subst (ServesAll old.cache f.events text) (sym closes.kept.cache) f.answers) (closes.kept.prefix ∙ f.prefix)
+          (λ j n. closes.kept.others j n ∙ f.others j n) c.1 (c.2 ∙ x.keeps.0) c.3 stands,
+    )
 
 pub stands_first : (opening : CacheValue) (new : ServerValue) → new.cache ≡ opening → new.sessions ≡ [] → ServerStands opening new []
 unfolding CacheAfter BringsAll stream_of has_failed until_fail since_end

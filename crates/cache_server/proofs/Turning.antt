@@ -1,19 +1,21 @@
 -- One request at a time.
-use Rattle.std.proofs.Common.{◌≡◌, ℕ, ◌<◌, ◌≤◌, ◌⊎◌, inl, inr, Bool, true, false, Option, Some, None, List, [], ◌∷◌, ◌++◌, take, drop, length, refl, sym, ◌∙◌, ap, subst}
-use Rattle.std.specs.Option.{is_some}
+use Rattle.std.proofs.Common.{◌≡◌, ℕ, ◌<◌, ◌≤◌, ◌+◌, ◌⊎◌, inl, inr, Bool, true, false, Option, Some, None, List, [], ◌∷◌, ◌++◌, take, drop, length, refl, sym, ◌∙◌, ap, subst, append_assoc, IsSome, Result, Ok, Err, OnErr, IfOk}
+use Rattle.std.specs.Prelude.{unwrap_or}
+use Rattle.std.specs.List.{AllByRecursion}
 use Rattle.std.proofs.lemmas.List.{append-nil, take-append-drop}
 use Rattle.std.proofs.Math.Dec.{eqb}
+use Rattle.std.proofs.Math.Seq.{take-add}
 use Rattle.std.proofs.lemmas.Bool.Decides.{eqb_tells}
-use Rattle.http_core.specs.Event.{EventValue}
+use Rattle.http_core.specs.Event.{EventValue, IsLawful}
 use Rattle.http_core.specs.Session.{SessionValue, IsClosed, if_any}
 use Rattle.http_core.specs.Session as sessions
 use Rattle.cache_server.specs.Cache.{CacheValue}
-use Rattle.cache_server.specs.Serving.{ServesAll}
 use Rattle.cache_server.specs.History.{HistoryEntry, Piece, Fail, stream_of, has_failed, CacheAfter, AnswersTo}
-use Rattle.cache_server.specs.Server.{ServerValue, session_at, StandsSo, KeepsSession, ServerStands, StandsOrFails, GoesOn}
-use Rattle.cache_server.specs.Sessions.{KeepsOthers, IsSessionFor, FeedsAt, IsClosedAt, ClosesAt, OpensAt, FeedsFirstAt}
-use Rattle.cache_server.proofs.Serving.{ServesFront, serves_none}
-use Rattle.cache_server.proofs.Standing.{stands_fed, answers_fed, stands_closed, stands_answering}
+use Rattle.cache_server.specs.Server.{ServerValue, session_at, StandsSo, KeepsSession, ServerStands, StandsOrFails, Continues}
+use Rattle.cache_server.specs.Sessions.{KeepsOthers, IsSessionFor, IsClosedAt, ClosesAt, OpensAt, FeedsFirstAt}
+use Rattle.cache_server.specs.Turn.{AnswersIfAny, AnswersOne, Turns}
+use Rattle.cache_server.proofs.Serving.{ServesAll, serves_none, serves_one, serves_join}
+use Rattle.cache_server.proofs.Standing.{HasFed, stands_fed, answers_fed, stands_closed, stands_broken}
 
 -- a connection with a fresh session stands as one without
 keeps_fresh : (prefix : List ℕ) (held : Option SessionValue) (session : SessionValue) (k : ℕ) (history : List HistoryEntry)
@@ -32,50 +34,144 @@ stands_opened opening old new k history opens stands = record {
     by_test j (inl (t, e)) = subst (λ i. KeepsSession old.prefix (session_at new i) i history) (sym e) (subst (λ z. KeepsSession old.prefix z k history) (sym opens.at) (keeps_fresh old.prefix (session_at old k) opens.session k history opens.held (stands.sessions k)))
     by_test j (inr (f, n)) = subst (λ z. KeepsSession old.prefix z j history) (sym (opens.kept.others j n)) (stands.sessions j)
 
-held_session : (prefix : List ℕ) (o : Option SessionValue) (session : SessionValue) → o ≡ Some session → IsSessionFor prefix o session
-held_session prefix o session e = subst (λ z. IsSessionFor prefix z session) (sym e) refl
+-- ---- what a session was fed
 
--- as far as the first event
-pub feeds_front : (old : ServerValue) (k : ℕ) (piece : List ℕ) (taken : ℕ) (event : Option EventValue) (new : ServerValue)
-    → FeedsFirstAt old k piece taken event new → FeedsAt old k (take taken piece) (if_any event) new
-feeds_front old k piece taken event new f = record {
-  before = f.before;
-  after = f.after;
-  held = held_session old.prefix (session_at old k) f.before f.held;
-  feeds = f.feeds.feeds;
-  at = f.at;
-  kept = f.kept;
+all_join : {X : Type 0} (P : X → Type 0) (xs ys : List X) → AllByRecursion P xs → AllByRecursion P ys → AllByRecursion P (xs ++ ys)
+all_join P [] ys p q = q
+all_join P (x ∷ xs) ys p q = (p.0, all_join P xs ys p.1 q)
+
+feeds_none : (s : SessionValue) → sessions.Feeds s [] [] s
+feeds_none s = record {
+  stands = λ stream before t. subst (λ z. sessions.Stands s z (before ++ [])) (sym (append-nil stream)) (subst (sessions.Stands s stream) (sym (append-nil before)) t);
+  closed = λ c. (c, refl);
+  lawful = tt;
+  prefix = refl;
 }
 
--- the piece that failed is longer, and the connection had no session before
+feeds_join : (a b c : SessionValue) (x y : List ℕ) (d e : List EventValue) → sessions.Feeds a x d b → sessions.Feeds b y e c → sessions.Feeds a (x ++ y) (d ++ e) c
+feeds_join a b c x y d e f g = record {
+  stands = λ stream before t. subst (λ z. sessions.Stands c z (before ++ (d ++ e))) (append_assoc stream x y)
+      (subst (sessions.Stands c ((stream ++ x) ++ y)) (append_assoc before d e) (g.stands (stream ++ x) (before ++ d) (f.stands stream before t)));
+  closed = λ shut. (let p : IsClosed b × (d ≡ []) = f.closed shut in let q : IsClosed c × (e ≡ []) = g.closed p.0 in (q.0, ap (λ z. z ++ e) p.1 ∙ q.1));
+  lawful = all_join IsLawful d e f.lawful g.lawful;
+  prefix = g.prefix ∙ f.prefix;
+}
+
+pub fed_none : (s : ServerValue) (k : ℕ) (session : SessionValue) → session_at s k ≡ Some session → HasFed s k [] [] s
+fed_none s k session e = record { before = session; after = session; events = []; held = e; feeds = feeds_none session; at = e; answers = serves_none s.cache; prefix = refl; others = λ j n. refl }
+
+one_session : (o : Option SessionValue) (a b : SessionValue) → o ≡ Some a → o ≡ Some b → a ≡ b
+one_session o a b e f = let g : Some a ≡ Some b = sym e ∙ f in cc
+
+pub fed_join : (a b c : ServerValue) (k : ℕ) (x y t u : List ℕ) → HasFed a k x t b → HasFed b k y u c → HasFed a k (x ++ y) (t ++ u) c
+fed_join a b c k x y t u f g = record {
+  before = f.before;
+  after = g.after;
+  events = f.events ++ g.events;
+  held = f.held;
+  feeds = feeds_join f.before f.after g.after x y f.events g.events f.feeds (subst (λ z. sessions.Feeds z y g.events g.after) (one_session (session_at b k) g.before f.after g.held f.at) g.feeds);
+  at = g.at;
+  answers = serves_join a.cache b.cache c.cache f.events g.events t u f.answers g.answers;
+  prefix = g.prefix ∙ f.prefix;
+  others = λ j n. g.others j n ∙ f.others j n;
+}
+
+answers_if_any : (old new : CacheValue) (event : Option EventValue) (text : Option (List ℕ)) → AnswersIfAny old event text new → ServesAll old (if_any event) (unwrap_or text []) new
+answers_if_any old new None None e = subst (ServesAll old [] []) (sym e) (serves_none old)
+answers_if_any old new None (Some text) e = absurd e
+answers_if_any old new (Some event) None e = absurd e
+answers_if_any old new (Some event) (Some text) e = serves_one old new event text e
+
+pub fed_turn : (old : ServerValue) (k : ℕ) (piece : List ℕ) (taken : ℕ) (text : Option (List ℕ)) (new : ServerValue) → Turns old k piece taken text new → HasFed old k (take taken piece) (unwrap_or text []) new
+fed_turn old k piece taken text new t =
+    let same : (j : ℕ) → session_at new j ≡ session_at t.mid j = λ j. ap (λ z. session_at (record { cache = new.cache; prefix = new.prefix; sessions = z }) j) t.sessions in
+    record {
+      before = t.feeds.before;
+      after = t.feeds.after;
+      events = if_any t.event;
+      held = t.feeds.held;
+      feeds = t.feeds.feeds.feeds;
+      at = same k ∙ t.feeds.at;
+      answers = subst (λ z. ServesAll z (if_any t.event) (unwrap_or text []) new.cache) t.feeds.kept.cache (answers_if_any t.mid.cache new.cache t.event text t.answered);
+      prefix = t.prefix ∙ t.feeds.kept.prefix;
+      others = λ j n. same j ∙ t.feeds.kept.others j n;
+    }
+
+-- the event wasn't answered
+closed_fed : (was held now : Option SessionValue) (before after : SessionValue) → was ≡ Some before → held ≡ Some after → after.prefix ≡ before.prefix → IsClosedAt held now → IsClosedAt was now
+closed_fed was held now before after e f same c =
+    let x : IsClosedAt (Some after) now = subst (λ z. IsClosedAt z now) f c in
+    subst (λ z. IsClosedAt z now) (sym e) (x.0, x.1, x.2 ∙ same, x.3)
+
+pub closes_fed : (old mid served new : ServerValue) (k : ℕ) (piece : List ℕ) (taken : ℕ) (event : Option EventValue)
+    → FeedsFirstAt old k piece taken event mid → served.cache ≡ mid.cache → served.prefix ≡ mid.prefix → served.sessions ≡ mid.sessions → ClosesAt served k new → ClosesAt old k new
+closes_fed old mid served new k piece taken event f c p m closes =
+    let same : (j : ℕ) → session_at served j ≡ session_at mid j = λ j. ap (λ z. session_at (record { cache = served.cache; prefix = served.prefix; sessions = z }) j) m in
+    record {
+      at = closed_fed (session_at old k) (session_at served k) (session_at new k) f.before f.after f.held (same k ∙ f.at) f.feeds.feeds.prefix closes.at;
+      kept = record {
+        cache = closes.kept.cache ∙ c ∙ f.kept.cache;
+        prefix = closes.kept.prefix ∙ p ∙ f.kept.prefix;
+        others = λ j n. closes.kept.others j n ∙ same j ∙ f.kept.others j n;
+      };
+    }
+
+-- ---- after the connection was opened
+
 some_is : {X : Type 0} (o : Option SessionValue) (session : SessionValue) → o ≡ Some session → o ≡ None → X
 some_is o session e f = let g : Some session ≡ None = sym e ∙ f in cc
 
-pub fails_opened : (opening : CacheValue) (old mid new : ServerValue) (k : ℕ) (piece : List ℕ) (taken : ℕ) (history : List HistoryEntry)
-    → OpensAt old k mid → StandsOrFails opening mid k (take taken piece) new history → StandsOrFails opening old k piece new history
-fails_opened opening old mid new k piece taken history opens (inl (none, still, s)) = some_is (session_at mid k) opens.session opens.at none
-fails_opened opening old mid new k piece taken history opens (inr (front, rest, whole, s)) =
-    inr (front, rest ++ drop taken piece, sym (take-append-drop taken piece) ∙ ap (λ z. z ++ drop taken piece) whole ∙ append_assoc_of front rest (drop taken piece), s)
-  where
-    append_assoc_of : (a b c : List ℕ) → (a ++ b) ++ c ≡ a ++ (b ++ c)
-    append_assoc_of [] b c = refl
-    append_assoc_of (x ∷ a) b c = ap (λ z. x ∷ z) (append_assoc_of a b c)
+pub is_there : (o : Option SessionValue) (session : SessionValue) → o ≡ Some session → IsSome o
+is_there o session e = subst IsSome (sym e) refl
 
-pub fails_whole : (opening : CacheValue) (old mid new : ServerValue) (k : ℕ) (piece : List ℕ) (history : List HistoryEntry)
-    → OpensAt old k mid → StandsOrFails opening mid k piece new history → StandsOrFails opening old k piece new history
-fails_whole opening old mid new k piece history opens (inl (none, still, s)) = some_is (session_at mid k) opens.session opens.at none
-fails_whole opening old mid new k piece history opens (inr f) = inr f
+module _ (opening : CacheValue) (old mid new : ServerValue) (k : ℕ) (history : List HistoryEntry) (opens : OpensAt old k mid) (stands : ServerStands opening old history) where
+  pub opened_stands : (bytes text : List ℕ) → HasFed mid k bytes text new → ServerStands opening new (history ++ Piece k bytes ∷ [])
+  opened_stands bytes text f = stands_fed opening mid new k history bytes text f (stands_opened opening old mid k history opens stands)
 
--- the event wasn't answered
-pub none_of_one : (old new : CacheValue) (event : EventValue) → new ≡ old → ServesFront old (event ∷ []) new
-none_of_one old new event e = record { done = []; others = event ∷ []; text = []; whole = refl; served = subst (ServesAll old [] []) (sym e) (serves_none old) }
+  pub opened_answers : (bytes text : List ℕ) → HasFed mid k bytes text new → AnswersTo old.prefix opening history (Piece k bytes) text
+  opened_answers bytes text f = subst (λ p. AnswersTo p opening history (Piece k bytes) text) opens.kept.prefix (answers_fed opening mid new k history bytes text f (stands_opened opening old mid k history opens stands))
+
+  pub opened_breaks : (served : ServerValue) (piece bytes rest text : List ℕ) → piece ≡ bytes ++ rest → HasFed mid k bytes text served → ClosesAt served k new → StandsOrFails opening old k piece new history
+  opened_breaks served piece bytes rest text whole f closes = by_end (stands_broken opening mid served new k history piece bytes rest text whole f closes (stands_opened opening old mid k history opens stands))
+    where
+      by_end : StandsOrFails opening mid k piece new history → StandsOrFails opening old k piece new history
+      by_end (inl (none, still, s)) = some_is (session_at mid k) opens.session opens.at none
+      by_end (inr f) = inr f
+
+-- what was taken of a piece, and one turn more
+pub taken_more : (piece : List ℕ) (at taken next : ℕ) (rest : List ℕ) → rest ≡ drop at piece → at + taken ≡ next → take at piece ++ take taken rest ≡ take next piece
+taken_more piece at taken next rest e f = ap (λ z. take at piece ++ take taken z) e ∙ sym (take-add at taken piece) ∙ ap (λ n. take n piece) f
+
+-- ---- one answer
+
+no_text : (old new : CacheValue) (event : Option EventValue) (text : Option (List ℕ)) → AnswersIfAny old event text new → text ≡ None → event ≡ None
+no_text old new None text e f = refl
+no_text old new (Some event) None e f = absurd e
+no_text old new (Some event) (Some text) e f = cc
+
+pub one_answer : (old mid new : ServerValue) (k : ℕ) (piece : List ℕ) (taken : ℕ) (text : Option (List ℕ)) → OpensAt old k mid → Turns mid k piece taken text new → AnswersOne old piece taken text new
+one_answer old mid new k piece taken text opens t =
+    let cache : t.mid.cache ≡ old.cache = t.feeds.kept.cache ∙ opens.kept.cache in
+    record {
+      within = t.feeds.feeds.within;
+      some = t.feeds.feeds.some;
+      all = λ none. t.feeds.feeds.all (no_text t.mid.cache new.cache t.event text t.answered none);
+      event = t.event;
+      answered = subst (λ z. AnswersIfAny z t.event text new.cache) cache t.answered;
+      prefix = t.prefix ∙ t.feeds.kept.prefix ∙ opens.kept.prefix;
+    }
+
+-- what follows of a call's value and of its error
+pub of_result : {T E C : Type 0} (P : T → Type 0) (Q : Type 0) (r : Result T E) → IfOk r P → OnErr r Q → ((x : T) → P x → C) → (Q → C) → C
+of_result P Q (Ok x) p q f g = f x p
+of_result P Q (Err e) p q f g = g q
 
 -- ---- runs of such calls
 
-pub goes_nowhere : (s : ServerValue) → GoesOn s s
+pub goes_nowhere : (s : ServerValue) → Continues s s
 goes_nowhere s opening history stands = ([], subst (ServerStands opening s) (sym (append-nil history)) stands)
 
-pub goes_further : (a b c : ServerValue) → GoesOn a b → GoesOn b c → GoesOn a c
+pub goes_further : (a b c : ServerValue) → Continues a b → Continues b c → Continues a c
 goes_further a b c p q opening history stands =
     let x : (more : List HistoryEntry) × ServerStands opening b (history ++ more) = p opening history stands in
     let y : (more : List HistoryEntry) × ServerStands opening c ((history ++ x.0) ++ more) = q opening (history ++ x.0) x.1 in
@@ -85,9 +181,12 @@ goes_further a b c p q opening history stands =
     assoc [] b c = refl
     assoc (x ∷ a) b c = ap (λ z. x ∷ z) (assoc a b c)
 
-pub goes_failing : (old new : ServerValue) (k : ℕ) (piece : List ℕ)
-    → ((opening : CacheValue) (history : List HistoryEntry) → ServerStands opening old history → StandsOrFails opening old k piece new history) → GoesOn old new
-goes_failing old new k piece f opening history stands = by_end (f opening history stands)
+pub continues_with : (old new : ServerValue) (entry : HistoryEntry) → ((opening : CacheValue) (history : List HistoryEntry) → ServerStands opening old history → ServerStands opening new (history ++ entry ∷ [])) → Continues old new
+continues_with old new entry f opening history stands = (entry ∷ [], f opening history stands)
+
+pub continues_failing : (old new : ServerValue) (k : ℕ) (piece : List ℕ)
+    → ((opening : CacheValue) (history : List HistoryEntry) → ServerStands opening old history → StandsOrFails opening old k piece new history) → Continues old new
+continues_failing old new k piece f opening history stands = by_end (f opening history stands)
   where
     by_end : StandsOrFails opening old k piece new history → (more : List HistoryEntry) × ServerStands opening new (history ++ more)
     by_end (inl (none, still, s)) = ([], subst (ServerStands opening new) (sym (append-nil history)) s)

@@ -4,19 +4,24 @@ use Rattle.std.specs.Prelude.{◌≡◌, ℕ, false, List, [], ◌∷◌, Option
 use Rattle.std.specs.Prelude.{⊤}
 use Rattle.http_core.specs.declared.event.Area.TheVariants.{Ac, Cas, Pin, Unpin}
 use Rattle.http_core.specs.Event.{AskValue, Get, Put}
-use Rattle.http_core.specs.Reply.{ReplyValue}
+use Rattle.http_core.specs.Reply.{ReplyValue, bare}
 use Rattle.action_cache.specs.Machine.{CacheState, Answer, done, given, nothing, refused, under}
 use Rattle.action_cache.specs.Machine as machine
 use Rattle.action_cache.specs.Reading.{by_messages}
 use Rattle.action_cache.specs.State.{bytes_given}
+use Rattle.cache_server.specs.Counts.{count_ask, no_counts}
 use Rattle.cache_server.specs.Status.{status_of}
+use Rattle.cache_server.specs.declared.counts.Counts.{Counts}
 
-abbrev pub CacheValue : Type 0
-CacheValue = CacheState
+-- the blobs and results, and the counts of what was answered
+pub record CacheValue : Type 0 where
+  pub state : CacheState
+  pub counts : Counts
 
--- a status without a body
-abbrev pub bare : ℕ → ReplyValue
-bare status = record { status = status; body = [] }
+-- a cache that holds nothing
+abbrev pub empty_cache : ℕ → ℕ → CacheValue
+empty_cache limit result_limit =
+    record { state = machine.opened limit result_limit; counts = no_counts }
 
 -- the reply to a look-up that found these bytes, or none
 abbrev pub found_reply : Option (List ℕ) → ReplyValue
@@ -50,11 +55,13 @@ step s (Put Cas hash body) = replied (machine.put_blob by_messages s hash body)
 step s (Put Pin hash body) = without_body s body (machine.pin by_messages s hash)
 step s (Put Unpin hash body) = without_body s body (machine.unpin by_messages s hash)
 
--- from the one state, the request gets this reply and leads to the other
-abbrev pub Step : CacheState → AskValue → ReplyValue → CacheState → Type 0
-Step old ask reply new = step old ask ≡ (reply, new)
+-- the same with counts
+abbrev pub applied : CacheValue → AskValue → ReplyValue × CacheValue
+applied c ask =
+    let out : ReplyValue × CacheState = step c.state ask in
+    (out.0, record { state = out.1; counts = count_ask ask out.0.status c.counts })
 
--- What memory may be wanting for where the reply is a copy: a look-up that finds something, a result that has to be read, and
+-- What memory may be wanting for: a look-up that finds something, a result that has to be read, and
 -- a change that is made. So a blob for which there is no room is refused, whatever memory there is.
 abbrev pub MayWant : CacheState → AskValue → Type 0
 MayWant s (Get Ac hash) = IsSome (under hash s.results)
@@ -66,11 +73,3 @@ MayWant s (Put Cas hash body) = (machine.put_blob by_messages s hash body).0 ≡
 MayWant s (Put Pin hash body) =
     (body ≡ []) × IsSomeAnd (under hash s.results) (λ r. r.pinned ≡ false)
 MayWant s (Put Unpin hash body) = (body ≡ []) × ((machine.unpin by_messages s hash).0 ≡ done)
-
--- The same where the reply is written: a blob is written as it lies in the store, which wants none.
-abbrev pub MayWantToWrite : CacheState → AskValue → Type 0
-MayWantToWrite s (Get Ac hash) = IsSome (under hash s.results)
-MayWantToWrite s (Get Cas hash) = ⊥
-MayWantToWrite s (Get Pin hash) = ⊥
-MayWantToWrite s (Get Unpin hash) = ⊥
-MayWantToWrite s (Put area hash body) = MayWant s (Put area hash body)

@@ -4,7 +4,7 @@ use Rattle.std.specs.List.{flat_map, list_any}
 use Rattle.http_core.specs.Event.{EventValue}
 use Rattle.http_core.specs.Stream.{Cuts}
 use Rattle.cache_server.specs.Cache.{CacheValue}
-use Rattle.cache_server.specs.Serving.{ServesAll}
+use Rattle.cache_server.specs.Answering.{answered_all}
 
 -- A piece of the stream of a connection, want of memory while a piece of it was at hand, or its
 -- end. In a history the first stands in front.
@@ -75,11 +75,11 @@ BringsAll prefix before (entry ∷ history) events =
 unfoldable pub CacheAfter : List ℕ → CacheValue → List HistoryEntry → CacheValue → Type 0
 CacheAfter prefix opening history cache =
     (events : List EventValue) × (text : List ℕ)
-    × BringsAll prefix [] history events × ServesAll opening events text cache
+    × BringsAll prefix [] history events × (answered_all opening events ≡ (text, cache))
 
 -- the answers to an entry after the history
 unfoldable pub AnswersTo : List ℕ → CacheValue → List HistoryEntry → HistoryEntry → List ℕ → Type 0
 AnswersTo prefix opening history entry text =
     (events : List EventValue) × (before : CacheValue) × (cache : CacheValue)
     × CacheAfter prefix opening history before × Brings prefix history entry events
-    × ServesAll before events text cache
+    × (answered_all before events ≡ (text, cache))

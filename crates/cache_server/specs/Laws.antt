@@ -1,13 +1,11 @@
 -- What holds of every history and every run.
 use Rattle.std.specs.Prelude.{◌≡◌, ℕ, List, ◌++◌, Option}
 use Rattle.sha2.specs.Sha256.{sha256}
-use Rattle.action_cache.specs.Machine.{opened}
 use Rattle.http_core.specs.declared.event.Area.TheVariants.{Cas}
 use Rattle.http_core.specs.Event.{EventValue, Get}
 use Rattle.http_core.specs.Reply.{ReplyValue}
 use Rattle.http_core.specs.Stream.{Cuts}
-use Rattle.cache_server.specs.Cache.{CacheValue, Step}
-use Rattle.cache_server.specs.Serving.{ServesAll}
+use Rattle.cache_server.specs.Cache.{CacheValue, applied, empty_cache}
 use Rattle.cache_server.specs.History.{HistoryEntry, CacheAfter, AnswersTo}
 use Rattle.cache_server.specs.Connection.{IsAnswered}
 
@@ -29,14 +27,8 @@ abbrev pub AnswersItsHash : Type 0
 AnswersItsHash =
     (prefix : List ℕ) (limit result_limit : ℕ) (history : List HistoryEntry)
     (cache new : CacheValue) (hash : List ℕ) (reply : ReplyValue)
-    → CacheAfter prefix (opened limit result_limit) history cache
-    → Step cache (Get Cas hash) reply new → reply.status ≡ 200 → sha256 reply.body ≡ hash
-
--- whatever the cache, any events are answered
-abbrev pub AnswersAny : Type 0
-AnswersAny =
-    (old : CacheValue) (events : List EventValue)
-    → (text : List ℕ) × (new : CacheValue) × ServesAll old events text new
+    → CacheAfter prefix (empty_cache limit result_limit) history cache
+    → applied cache (Get Cas hash) ≡ (reply, new) → reply.status ≡ 200 → sha256 reply.body ≡ hash
 
 -- what a beginning of a stream is answered begins the answers to the whole stream
 abbrev pub BeginsTheAnswers : Type 0

@@ -1,12 +1,12 @@
-pub mod Status
-pub mod Answer
-pub mod Cache
-pub mod Serving
 pub mod Counts
-pub mod Writing
+pub mod Status
+pub mod Cache
+pub mod Answer
+pub mod Answering
 pub mod History
 pub mod Server
 pub mod Sessions
 pub mod Turn
+pub mod Writing
 pub mod Connection
 pub mod Laws

@@ -51,8 +51,8 @@ StandsOrFails opening old k piece new history =
     × ServerStands opening new (history ++ (Piece k front ∷ Fail k ∷ [])))
 
 -- whatever history led to the one server, a longer one leads to the other
-abbrev pub GoesOn : ServerValue → ServerValue → Type 0
-GoesOn old new =
+abbrev pub Continues : ServerValue → ServerValue → Type 0
+Continues old new =
     (opening : CacheValue) (history : List HistoryEntry) → ServerStands opening old history
     → (more : List HistoryEntry) × ServerStands opening new (history ++ more)
 

@@ -20,17 +20,6 @@ abbrev pub IsSessionFor : List ℕ → Option SessionValue → SessionValue → 
 IsSessionFor prefix None session = IsNewSession prefix session
 IsSessionFor prefix (Some held) session = session ≡ held
 
--- the session of the connection, or a fresh one, took the piece
-pub record FeedsAt
-    (old : ServerValue) (k : ℕ) (piece : List ℕ) (events : List EventValue) (new : ServerValue)
-    : Type 0 where
-  pub before : SessionValue
-  pub after : SessionValue
-  pub held : IsSessionFor old.prefix (session_at old k) before
-  pub feeds : sessions.Feeds before piece events after
-  pub at : session_at new k ≡ Some after
-  pub kept : KeepsOthers old k new
-
 abbrev pub IsClosedAt : Option SessionValue → Option SessionValue → Type 0
 IsClosedAt None now = now ≡ None
 IsClosedAt (Some held) now =
@@ -40,12 +29,6 @@ IsClosedAt (Some held) now =
 pub record ClosesAt (old : ServerValue) (k : ℕ) (new : ServerValue) : Type 0 where
   pub at : IsClosedAt (session_at old k) (session_at new k)
   pub kept : KeepsOthers old k new
-
-abbrev pub ForgetsAt : ServerValue → ℕ → ServerValue → Type 0
-ForgetsAt old k new = (session_at new k ≡ None) × KeepsOthers old k new
-
-abbrev pub HoldsAt : ServerValue → ℕ → SessionValue → ServerValue → Type 0
-HoldsAt old k session new = (session_at new k ≡ Some session) × KeepsOthers old k new
 
 -- the connection has the session that it had, or a fresh one
 pub record OpensAt (old : ServerValue) (k : ℕ) (new : ServerValue) : Type 0 where

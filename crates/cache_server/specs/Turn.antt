@@ -1,29 +1,39 @@
 -- One request at a time.
 use Rattle.std.specs.Prelude.{◌≡◌, ℕ, ◌<◌, ◌≤◌, List, length, Option, Some, None}
 use Rattle.http_core.specs.Event.{EventValue}
+use Rattle.cache_server.specs.Answering.{answered}
 use Rattle.cache_server.specs.Cache.{CacheValue}
-use Rattle.cache_server.specs.Counts.{count_event}
 use Rattle.cache_server.specs.Server.{ServerValue}
-use Rattle.cache_server.specs.Serving.{ServesOne}
-use Rattle.cache_server.specs.declared.counts.Counts.{Counts}
+use Rattle.cache_server.specs.Sessions.{FeedsFirstAt}
 
--- the event, if there is one, is answered by the text, and counted
-abbrev pub ServesIfAny :
-    CacheValue → Option EventValue → Option (List ℕ) → CacheValue → Counts → Counts → Type 0
-ServesIfAny old None None new first last = (new ≡ old) × (last ≡ first)
-ServesIfAny old None (Some text) new first last = ⊥
-ServesIfAny old (Some event) None new first last = ⊥
-ServesIfAny old (Some event) (Some text) new first last =
-    ServesOne old event text new × (last ≡ count_event first old event)
+-- the event, if there is one, is answered by the text
+abbrev pub AnswersIfAny : CacheValue → Option EventValue → Option (List ℕ) → CacheValue → Type 0
+AnswersIfAny old None None new = new ≡ old
+AnswersIfAny old None (Some text) new = ⊥
+AnswersIfAny old (Some event) None new = ⊥
+AnswersIfAny old (Some event) (Some text) new = answered old event ≡ (text, new)
 
 -- Of a piece that isn't empty some bytes were taken, and all where there is no answer. An answer is
 -- one reply: a head, and a body at most.
 pub record AnswersOne
     (old : ServerValue) (piece : List ℕ) (taken : ℕ) (text : Option (List ℕ)) (new : ServerValue)
-    (first last : Counts) : Type 0 where
+    : Type 0 where
   pub within : taken ≤ length piece
   pub some : 0 < length piece → 0 < taken
   pub all : text ≡ None → taken ≡ length piece
   pub event : Option EventValue
-  pub served : ServesIfAny old.cache event text new.cache first last
+  pub answered : AnswersIfAny old.cache event text new.cache
   pub prefix : new.prefix ≡ old.prefix
+
+-- the session of the connection took a front of the piece, to the end of its first event, and that
+-- is answered
+pub record Turns
+    (old : ServerValue) (k : ℕ) (piece : List ℕ) (taken : ℕ) (text : Option (List ℕ))
+    (new : ServerValue)
+    : Type 0 where
+  pub event : Option EventValue
+  pub mid : ServerValue
+  pub feeds : FeedsFirstAt old k piece taken event mid
+  pub answered : AnswersIfAny mid.cache event text new.cache
+  pub prefix : new.prefix ≡ mid.prefix
+  pub sessions : new.sessions ≡ mid.sessions

@@ -1,65 +1,38 @@
 ghost use Rattle.std.specs.Prelude.{◌≡◌};
 ghost use Rattle.http_core.specs.Reply.{reply_text};
-ghost use Rattle.cache_server.specs.Answer.{body_of, text_of};
-ghost use Rattle.cache_server.specs.Cache.{bare, found_reply};
+ghost use Rattle.cache_server.specs.Answer.{text_of};
 
-use eviction::Shared;
-use http_core::HeadText;
+use http_core::{Content, HeadText, Reply};
 use std::alloc::Allocator;
 use std::marker::Model;
-
-/// What follows the head of an answer.
-#[derive(Drop)]
-pub(crate) enum Body<A: Allocator> {
-    Empty,
-    Owned(Vec<u8, A>),
-    Shared(Shared<A>),
-}
+use std::rc::Rc;
 
 /// An answer that is still to be sent: its head, and then its body, which the cache may hold too. A
 /// blob isn't copied, and stays in memory where the cache gives it up.
 #[derive(Drop)]
 pub struct Answer<A: Allocator> {
     head: HeadText,
-    body: Body<A>,
+    body: Content<A>,
 }
 
 impl<A: Allocator> Model for Answer<A> {
-    ghost use Rattle.cache_server.specs.Answer.{AnswerValue, body_of};
+    ghost use Rattle.http_core.specs.Reply.{content_bytes};
+    ghost use Rattle.cache_server.specs.Answer.{AnswerValue};
 
     ghost Value = { AnswerValue };
 
-    ghost view = { λ a. record { head = a.head; body = body_of a.body } };
-}
-
-impl<A: Allocator> Body<A> {
-    fn as_slice(&self) -> &[u8]
-        ensures { result.now ≡ body_of self.now }
-    {
-        match self {
-            Body::Empty => &[],
-            Body::Owned(bytes) => bytes.as_slice(),
-            Body::Shared(bytes) => bytes.as_slice(),
-        }
-    }
+    ghost view = { λ a. record { head = a.head; body = content_bytes a.body } };
 }
 
 impl<A: Allocator> Answer<A> {
-    /// The answer with this status and body.
+    /// The answer that has this reply, after which the session closes or stays open.
     #[tactic(auto, unfolding(http_core::specs::Reply::reply_text))]
-    pub(crate) fn new(status: u16, body: Body<A>, close: bool) -> Answer<A>
-        ensures { text_of result
-            ≡ reply_text (record { status = status; body = body_of body }) close }
+    pub(crate) fn new(reply: Reply<A>, close: bool) -> Answer<A>
+        ensures { text_of result ≡ reply_text reply close }
     {
+        let Reply { status, body } = reply;
         let head = HeadText::new(status, body.as_slice().len(), close);
         Answer { head, body }
-    }
-
-    /// The answer with this status, without a body.
-    pub(crate) fn bare(status: u16, close: bool) -> Answer<A>
-        ensures { text_of result ≡ reply_text (bare status) close }
-    {
-        Answer::new(status, Body::Empty, close)
     }
 
     pub fn head(&self) -> &[u8]
@@ -74,11 +47,12 @@ impl<A: Allocator> Answer<A> {
         self.body.as_slice()
     }
 
-    /// Whether the cache doesn't hold the body any more, or never did. Nothing is proved of it.
+    /// Whether the cache doesn't hold the body any more, or never did. Nothing is proved of it: no
+    /// contract can see who else holds shared bytes.
     pub fn is_alone(&self) -> bool {
         match &self.body {
-            Body::Shared(bytes) => bytes.is_last(),
-            _ => true,
+            Content::Own(_) => true,
+            Content::Shared(bytes) => Rc::strong_count(bytes) <= 1,
         }
     }
 }

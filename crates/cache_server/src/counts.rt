@@ -1,5 +1,5 @@
 ghost use Rattle.std.specs.Prelude.{◌≡◌};
-ghost use Rattle.cache_server.specs.Counts.{count_look_up, count_other, no_counts};
+ghost use Rattle.cache_server.specs.Counts.{count_one, no_counts, with_later};
 
 /// How many requests were answered, how many of them were look-ups that found what they asked for,
 /// and how many look-ups didn't.
@@ -22,22 +22,28 @@ impl Counts {
         }
     }
 
-    /// Counts a look-up that was answered with this status.
-    pub(crate) fn add_look_up(&mut self, status: u16)
-        ensures { self.new ≡ count_look_up self.old status }
+    /// Adds what was counted from the earlier of two counts to the later.
+    pub fn add_between(&mut self, earlier: &Counts, later: &Counts)
+        ensures { self.new ≡ with_later self.old earlier.now later.now }
     {
-        self.requests = self.requests.saturating_add(1);
-        if status == 200 {
-            self.hits = self.hits.saturating_add(1);
-        } else {
-            self.misses = self.misses.saturating_add(1);
-        }
+        let requests = later.requests.saturating_sub(earlier.requests);
+        let hits = later.hits.saturating_sub(earlier.hits);
+        let misses = later.misses.saturating_sub(earlier.misses);
+        self.requests = self.requests.saturating_add(requests);
+        self.hits = self.hits.saturating_add(hits);
+        self.misses = self.misses.saturating_add(misses);
     }
 
-    /// Counts another request.
-    pub(crate) fn add_other(&mut self)
-        ensures { self.new ≡ count_other self.old }
+    /// Counts a request, and whether it found what it looked up or didn't.
+    pub(crate) fn add(&mut self, hit: bool, miss: bool)
+        ensures { self.new ≡ count_one hit miss self.old }
     {
         self.requests = self.requests.saturating_add(1);
+        if hit {
+            self.hits = self.hits.saturating_add(1);
+        }
+        if miss {
+            self.misses = self.misses.saturating_add(1);
+        }
     }
 }

@@ -20,5 +20,5 @@ pub use laws::{
     answers_begin_the_answers_to_the_whole, blobs_are_answered_under_their_hashes,
     histories_are_answered_in_one_way,
 };
-pub use running::{run, run_counting};
+pub use running::run;
 pub use server::Server;

@@ -1,17 +1,15 @@
-ghost use Rattle.std.specs.Prelude.{◌≡◌, ◌↔◌, ℕ, List, ◌∷◌, ◌++◌, [], take, IfOk, OnErr, OnOk, None};
-ghost use Rattle.std.specs.Prelude.{IsSome, IsTrue, unwrap_or};
-ghost use Rattle.http_core.specs.Event.{events_of, option_event};
+ghost use Rattle.std.specs.Prelude.{◌≡◌, ◌↔◌, List, ◌∷◌, ◌++◌, [], take, IfOk, OnErr, OnOk, None};
+ghost use Rattle.std.specs.Prelude.{IsSome, IsTrue, Some, option_map, unwrap_or};
+ghost use Rattle.http_core.specs.Event.{option_event};
+ghost use Rattle.cache_server.specs.Answer.{text_of};
 ghost use Rattle.cache_server.specs.Cache.{CacheValue};
 ghost use Rattle.cache_server.specs.History.{HistoryEntry, Piece, End, AnswersTo};
 ghost use Rattle.cache_server.specs.Server.{session_at, ServerStands, StandsOrFails};
-ghost use Rattle.cache_server.specs.Server.{GoesOn, IsOpenAt, held_bytes_at};
-ghost use Rattle.cache_server.specs.Sessions.{FeedsAt, ClosesAt, ForgetsAt, HoldsAt, OpensAt};
-ghost use Rattle.cache_server.specs.Sessions.{FeedsFirstAt};
-ghost use Rattle.cache_server.specs.Answer.{text_if_any};
-ghost use Rattle.cache_server.specs.Turn.{AnswersOne};
+ghost use Rattle.cache_server.specs.Server.{Continues, IsOpenAt, held_bytes_at};
+ghost use Rattle.cache_server.specs.Sessions.{ClosesAt, FeedsFirstAt, KeepsOthers, OpensAt};
+ghost use Rattle.cache_server.specs.Turn.{AnswersOne, Turns};
 
 use crate::answer::Answer;
-use crate::answering::{answer_all, reply_to};
 use crate::cache::Cache;
 use crate::counts::Counts;
 use http_core::{Event, Prefix, Session};
@@ -55,8 +53,8 @@ impl<A: Allocator + Copy> Server<A> {
 
     /// The answers to the next piece on the connection, which is a new one where none has the
     /// number. After an `Err` the connection is closed, or still unknown where there was no memory
-    /// for its session, the answers are lost, and the cache is as some of the requests left it, from
-    /// the first on.
+    /// for its session, the answers are lost, and the cache is as some of the requests left it,
+    /// from the first on.
     pub fn event(
         &mut self,
         alloc: A,
@@ -74,35 +72,38 @@ impl<A: Allocator + Copy> Server<A> {
             → StandsOrFails opening self.old connection piece.now self.new history) }
     {
         self.open(alloc, connection)?;
-        let events = self.feed(alloc, connection, piece)?;
         let mut text = Vec::new(alloc);
-        let mut counts = Counts::none();
-        match answer_all(alloc, &mut self.cache, events, &mut text, &mut counts) {
-            Ok(()) => Ok(text),
-            Err(_) => {
-                self.close(alloc, connection);
-                Err(AllocError)
+        let mut at = 0;
+        while at < piece.len() {
+            let (_, rest) = piece.split_at(at);
+            let (taken, answer) = self.turn(alloc, connection, rest)?;
+            at += taken;
+            if let Some(answer) = answer {
+                if push_text(&mut text, &answer).is_err() {
+                    self.close(alloc, connection);
+                    return Err(AllocError);
+                }
             }
         }
+        Ok(text)
     }
 
     /// The answer to the first request that the piece completes on the connection, which is a new
     /// one where none has the number, and how many bytes of the piece were taken: those to the end
-    /// of that request, or all where it completes none. The request is counted. After an `Err` the
-    /// connection is closed: it answers nothing more.
+    /// of that request, or all where it completes none. After an `Err` the connection is closed: it
+    /// answers nothing more.
     pub fn next(
         &mut self,
         alloc: A,
         connection: u64,
         piece: &[u8],
-        counts: &mut Counts,
     ) -> Result<(usize, Option<Answer<A>>), AllocError>
         ensures one { IfOk result (λ x.
-            AnswersOne self.old piece.now x.0 (text_if_any x.1) self.new counts.old counts.new) }
+            AnswersOne self.old piece.now x.0 (option_map text_of x.1) self.new) }
         ensures answers { IfOk result (λ x. (opening : CacheValue) (history : List HistoryEntry)
             → ServerStands opening self.old history
             → AnswersTo self.old.prefix opening history (Piece connection (take x.0 piece.now))
-            (unwrap_or (text_if_any x.1) [])) }
+            (unwrap_or (option_map text_of x.1) [])) }
         ensures ok { IfOk result (λ x. (opening : CacheValue) (history : List HistoryEntry)
             → ServerStands opening self.old history
             → ServerStands opening self.new
@@ -110,20 +111,18 @@ impl<A: Allocator + Copy> Server<A> {
         ensures err { OnErr result ((opening : CacheValue) (history : List HistoryEntry)
             → ServerStands opening self.old history
             → StandsOrFails opening self.old connection piece.now self.new history) }
-        ensures goes_on { GoesOn self.old self.new }
+        ensures continues { Continues self.old self.new }
+        ensures prefix { self.new.prefix ≡ self.old.prefix }
     {
         self.open(alloc, connection)?;
-        let (taken, event) = self.first(alloc, connection, piece)?;
-        let Some(event) = event else {
-            return Ok((taken, None));
-        };
-        match reply_to(alloc, &mut self.cache, event, counts) {
-            Ok(answer) => Ok((taken, Some(answer))),
-            Err(error) => {
-                self.close(alloc, connection);
-                Err(error)
-            }
-        }
+        self.turn(alloc, connection, piece)
+    }
+
+    /// What was answered since the cache was new.
+    pub fn counts(&self) -> Counts
+        ensures { result ≡ self.now.cache.counts }
+    {
+        self.cache.counts()
     }
 
     /// Whether further bytes on the connection can be answered.
@@ -149,30 +148,39 @@ impl<A: Allocator + Copy> Server<A> {
 
     /// Forgets the connection.
     pub fn end(&mut self, connection: u64)
-        ensures goes_on { GoesOn self.old self.new }
+        ensures continues { Continues self.old self.new }
         ensures stands { (opening : CacheValue) (history : List HistoryEntry)
             → ServerStands opening self.old history
             → ServerStands opening self.new (history ++ End connection ∷ []) }
+        ensures prefix { self.new.prefix ≡ self.old.prefix }
     {
         self.forget(connection);
     }
 
-    /// Hands the piece to the session that the connection has.
-    fn feed(
+    /// The answer to the first request that the piece completes on the connection, which has a
+    /// session, and how many bytes were taken. After an `Err` the session is closed.
+    fn turn(
         &mut self,
         alloc: A,
         connection: u64,
         piece: &[u8],
-    ) -> Result<Vec<Event<A>, A>, AllocError>
+    ) -> Result<(usize, Option<Answer<A>>), AllocError>
         requires { IsSome (session_at self.old connection) }
-        ensures ok { IfOk result (λ events.
-            FeedsAt self.old connection piece.now (events_of events.items) self.new) }
+        ensures ok { IfOk result (λ x.
+            Turns self.old connection piece.now x.0 (option_map text_of x.1) self.new) }
         ensures err { OnErr result (ClosesAt self.old connection self.new) }
     {
-        if let Some(session) = self.sessions.get_mut(&connection) {
-            return session.feed(alloc, piece);
+        let (taken, event) = self.first(alloc, connection, piece)?;
+        let Some(event) = event else {
+            return Ok((taken, None));
+        };
+        match self.cache.answer(alloc, event) {
+            Ok(answer) => Ok((taken, Some(answer))),
+            Err(error) => {
+                self.close(alloc, connection);
+                Err(error)
+            }
         }
-        Ok(Vec::new(alloc))
     }
 
     /// Has the connection a session, which is a new one where it has none.
@@ -208,7 +216,8 @@ impl<A: Allocator + Copy> Server<A> {
     /// Keeps the session of a connection that has none.
     fn keep(&mut self, connection: u64, session: Session<A>) -> Result<(), AllocError>
         requires { session_at self.old connection ≡ None }
-        ensures ok { OnOk result (HoldsAt self.old connection session self.new) }
+        ensures at { OnOk result (session_at self.new connection ≡ Some session) }
+        ensures kept { OnOk result (KeepsOthers self.old connection self.new) }
         ensures err { OnErr result (ClosesAt self.old connection self.new) }
     {
         self.sessions.insert(connection, session)?;
@@ -225,8 +234,17 @@ impl<A: Allocator + Copy> Server<A> {
     }
 
     fn forget(&mut self, connection: u64)
-        ensures { ForgetsAt self.old connection self.new }
+        ensures at { session_at self.new connection ≡ None }
+        ensures kept { KeepsOthers self.old connection self.new }
     {
         self.sessions.remove(&connection);
     }
+}
+
+/// Adds the text of the answer.
+fn push_text<A: Allocator>(text: &mut Vec<u8, A>, answer: &Answer<A>) -> Result<(), AllocError>
+    ensures { OnOk result (text.new.items ≡ text.old.items ++ text_of answer.now) }
+{
+    text.extend_from_slice(answer.head())?;
+    text.extend_from_slice(answer.body())
 }

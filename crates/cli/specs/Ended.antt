@@ -2,7 +2,7 @@
 use Rattle.std.specs.Prelude.{◌⊎◌, ℕ, true, false, List, Option, codes}
 use Rattle.clap.specs.Words.{Row, Text}
 use Rattle.verifier.specs.Verdict.{IsYes}
-use Rattle.commands.specs.Printed.{GetsBlob, PrintsAddress, PrintsDigest, PrintsVerdict}
+use Rattle.commands.specs.Printed.{GetsBlob, PrintsDigest, PrintsVerdict, ServesAsked}
 use Rattle.commands.specs.World.{Sight}
 use Rattle.cli.specs.Built.{PrintsBuild}
 use Rattle.command_lines.specs.CommandLine.{CallsCommand, AsksForHelp, options_of}
@@ -40,9 +40,10 @@ LacksBlob sees =
 abbrev pub PrintsPut : Sight → List Text → Option (List ℕ) → Option (List ℕ) → Type 0
 PrintsPut sees = IsCalledAndDone (codes "put") (PrintsDigest sees)
 
--- the words call `serve`, and the line of an address was printed
-abbrev pub PrintsListening : List Text → Option (List ℕ) → Option (List ℕ) → Type 0
-PrintsListening = IsCalledAndDone (codes "serve") (λ options old new. PrintsAddress old new)
+-- the words call `serve`, the line of the address was printed where a socket listens as they say,
+-- and what they ask for was served there
+abbrev pub ServesCalled : Sight → List Text → Option (List ℕ) → Option (List ℕ) → Type 0
+ServesCalled sees = IsCalledAndDone (codes "serve") (ServesAsked sees)
 
 -- the words call `build`, and the line of its root was printed
 abbrev pub PrintsRoot : Sight → List Text → Option (List ℕ) → Option (List ℕ) → Type 0
@@ -61,7 +62,7 @@ abbrev pub IsDone : Sight → List Text → Option (List ℕ) → Option (List �
 IsDone sees words old new =
     PrintsYes sees words old new
     ⊎ (WritesBlob sees words old new ⊎ (PrintsPut sees words old new
-    ⊎ (PrintsListening words old new ⊎ (AsksForHelp words ⊎ PrintsRoot sees words old new))))
+    ⊎ (ServesCalled sees words old new ⊎ (AsksForHelp words ⊎ PrintsRoot sees words old new))))
 
 -- the line of a no was printed, or a server has no such blob, or a build was refused
 abbrev pub IsNo : Sight → List Text → Option (List ℕ) → Option (List ℕ) → Type 0

@@ -13,10 +13,8 @@ use crate::building::run_build;
 use clap::error::{Error, ErrorKind};
 use command_lines::parse;
 use commands::{CommandError, World, run_get, run_put, run_serve, run_verify, tell};
-use log::Log;
 use std::alloc::{AllocError, Global};
 use std::io::Write;
-use std::net::{Net, TcpListener, TcpStream};
 use std::random::RandomSource;
 use std::rt::{Files, Processes};
 use std::time::Clock;
@@ -40,8 +38,7 @@ pub fn run_words<R, W: World, O: Write, E: Write, T: Write + Drop>(
     terminal: Option<T>,
 ) -> u8
 where
-    R: AllocGlobal + Clock + Files + Log + Processes + RandomSource + Clone + Drop,
-    R: Net<Listener = TcpListener, Stream = TcpStream>,
+    R: AllocGlobal + Clock + Files + Processes + RandomSource + Clone + Drop,
     ensures status { result < 4 }
     // With status 0, the words ask for help, or the line of their yes, the blob that they name, the
     // digest of what they put, the address that was served or the line of a build's root went to
@@ -88,8 +85,7 @@ fn run<R, W: World, O: Write, T: Write + Drop>(
     terminal: Option<T>,
 ) -> Result<Ended, CommandError>
 where
-    R: AllocGlobal + Clock + Files + Log + Processes + RandomSource + Clone + Drop,
-    R: Net<Listener = TcpListener, Stream = TcpStream>,
+    R: AllocGlobal + Clock + Files + Processes + RandomSource + Clone + Drop,
     ensures done { IfOk result
         (λ ended. ended ≡ Ended.Done
         → IsDone W.sees (map string_bytes words.now) (O.contents out.old) (O.contents out.new)) }
@@ -131,7 +127,7 @@ where
             }
         }
         Some(("serve", inner)) => {
-            run_serve(rt, inner, out)?;
+            run_serve(rt, world, inner, out)?;
             Ok(Ended::Done)
         }
         Some(("build", inner)) => {

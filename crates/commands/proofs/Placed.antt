@@ -12,7 +12,6 @@ use Rattle.command_lines.specs.CommandLine.{option_text}
 use Rattle.text_verifier.specs.Texts.{Question}
 use Rattle.text_verifier.specs.declared.answering.Answer.{Answer}
 use Rattle.remote.specs.Line.{ConnectionValue}
-use Rattle.commands.specs.Got.{Writes}
 use Rattle.commands.specs.Places.{FailsInFolder, IsOfFolder, IsOfServer, IsOpened, IsTold, IsToldOver}
 use Rattle.commands.specs.Printed.{IsOfOptions, IsOfPlace, IsPlace, NamesPlace}
 use Rattle.commands.specs.Refusal.{FailsPlace, FailsServer}
@@ -78,8 +77,3 @@ of_options sees options server start address host prefix opened told over = reco
       (subst (λ p. IsOpened sees (string_bytes server.address) server.host p start) prefix opened));
   over = over;
 }
-
-pub writes_by : {P Q : Telling → Type 0} → ((told : Telling) → P told → Q told) → (digest : DigestValue) (old new : Option (List ℕ))
-    → (found : Bool) → Writes P digest old new found → Writes Q digest old new found
-writes_by f digest old new true w = w
-writes_by f digest old new false w = record { told = w.told; source_is = ∥∥₁_map w.source_is (f w.told); missing = w.missing; unprinted = w.unprinted }

@@ -1,8 +1,9 @@
 -- What was written for a blob that was asked of a server.
-use Rattle.std.specs.Prelude.{◌≡◌, ℕ, Bool, true, false, List, Option}
+use Rattle.std.specs.Prelude.{◌≡◌, ℕ, Bool, true, false, List, Option, None}
 use Rattle.std.specs.Io.KnownBytes.{Appends}
 use Rattle.blob_digest.specs.Digest.{DigestValue, digest_of}
-use Rattle.blob_source.specs.Source.{Telling, IsMissing}
+use Rattle.http_core.specs.declared.event.Area.TheVariants.{Cas}
+use Rattle.remote.specs.Line.{ConnectionValue, Gets}
 use Rattle.commands.specs.Told.{AppendsBeginning}
 
 pub record WritesRight (digest : DigestValue) (old new : Option (List ℕ)) : Type 0 where
@@ -10,11 +11,13 @@ pub record WritesRight (digest : DigestValue) (old new : Option (List ℕ)) : Ty
   pub right : digest_of bytes ≡ digest
   pub printed : Appends old new bytes
 
-pub record WritesNothing (source : Telling → Type 0) (digest : DigestValue)
+-- over a connection that was opened so the reply came that there is none, and nothing was written
+pub record WritesNothing (opened : ConnectionValue → Type 0) (digest : DigestValue)
     (old new : Option (List ℕ)) : Type 0 where
-  pub told : Telling
-  pub source_is : ∥ source told ∥₁
-  pub missing : IsMissing told.blobs digest
+  pub start : ConnectionValue
+  pub opened_is : opened start
+  pub now : ConnectionValue
+  pub none : Gets start now Cas digest.hash None
   pub unprinted : new ≡ old
 
 -- a beginning of a blob with the digest
@@ -23,8 +26,8 @@ pub record WritesPart (digest : DigestValue) (old new : Option (List ℕ)) : Typ
   pub right : digest_of bytes ≡ digest
   pub begun : AppendsBeginning old new bytes
 
--- the blob with the digest, or nothing where such a source told none
-abbrev pub Writes : (Telling → Type 0) → DigestValue → Option (List ℕ) → Option (List ℕ) → Bool
-    → Type 0
-Writes source digest old new true = WritesRight digest old new
-Writes source digest old new false = WritesNothing source digest old new
+-- the blob with the digest, or nothing where the reply over such a connection was that there is none
+abbrev pub Writes : (ConnectionValue → Type 0) → DigestValue → Option (List ℕ)
+    → Option (List ℕ) → Bool → Type 0
+Writes opened digest old new true = WritesRight digest old new
+Writes opened digest old new false = WritesNothing opened digest old new

@@ -1,6 +1,7 @@
 -- What the texts of options have to be.
 use Rattle.std.specs.Prelude.{◌≡◌, ℕ, ◌<◌, ◌^◌, true, List, ◌∷◌, ◌++◌, length, Option, None}
 use Rattle.std.specs.Prelude.{IsTrue, Some, codes}
+use Rattle.std.specs.Option.{option_map_or}
 use Rattle.std.specs.Str.Parse.{IsNumeral, digits_value}
 use Rattle.clap.specs.Words.{Row, first_of}
 use Rattle.command_lines.specs.CommandLine.{option_text}
@@ -14,6 +15,10 @@ IsNumber text = IsNumeral 10 text × (digits_value 10 text < 2 ^ 64)
 -- the number that decimal digits spell
 abbrev pub number_of : List ℕ → ℕ
 number_of = digits_value 10
+
+-- the number of an option, or this one where nothing is said of it
+abbrev pub number_or : ℕ → List Row → List ℕ → ℕ
+number_or usual options option = option_map_or number_of (first_of option options) usual
 
 -- HOST:PORT: some bytes, a colon and a number less than 65,536
 pub record IsAddress (text : List ℕ) : Type 0 where

@@ -10,6 +10,7 @@ use Rattle.http_core.specs.declared.event.Area.TheVariants.{Ac, Cas}
 use Rattle.remote.specs.Flow.{unknown}
 use Rattle.remote.specs.Folder.{FailsAt, entry_path}
 use Rattle.remote.specs.Line.{ConnectionValue, Gets, Puts, RefusesRequest, Request}
+use Rattle.remote.specs.declared.fault.Fault.{Fault}
 use Rattle.remote.specs.declared.files.FileError.{FileError}
 use Rattle.text_verifier.specs.Answered.{IsAnswer}
 use Rattle.text_verifier.specs.Texts.{Question}
@@ -103,12 +104,15 @@ pub record IsOver (start now : ConnectionValue) (told : Telling) : Type 0 where
   pub blobs : CameAllOver start Cas told.blobs
   pub results : CameAllOver start Ac told.results
 
--- the error tells of the last fault of the connection, or that memory ran out
+-- the error tells of this fault of a connection, or that memory ran out
+abbrev pub TellsFault : Option Fault → CommandError → Type 0
+TellsFault fault (Server server asked digest told) = fault ≡ Some told
+TellsFault fault Memory = Unit {0}
+TellsFault fault _ = ⊥
+
+-- the error tells of the last fault of the connection
 abbrev pub FailsOver : ConnectionValue → CommandError → Type 0
-FailsOver start (Server server asked digest fault) =
-    (now : ConnectionValue) × Comes start now × (now.fault ≡ Some fault)
-FailsOver start Memory = Unit {0}
-FailsOver start _ = ⊥
+FailsOver start e = (now : ConnectionValue) × Comes start now × TellsFault now.fault e
 
 abbrev pub IsToldOver : ConnectionValue → Telling → Type 0
 IsToldOver start told = (now : ConnectionValue) × IsOver start now told

@@ -10,14 +10,17 @@ use Rattle.blob_digest.specs.Text.{digest_text}
 use Rattle.clap.specs.Words.{Row, first_of}
 use Rattle.report.specs.Line.{report_line}
 use Rattle.blob_source.specs.Sink.{HasRight}
+use Rattle.cache_server.specs.Cache.{empty_cache}
+use Rattle.remote.specs.Line.{ConnectionValue}
 use Rattle.blob_source.specs.Source.{Telling}
 use Rattle.verifier.specs.declared.verdict.Verdict.{Verdict}
 use Rattle.text_verifier.specs.Answered.{IsJudged}
 use Rattle.text_verifier.specs.Texts.{HasTexts, Question, IsDigestText}
 use Rattle.commands.specs.Got.{Writes, WritesPart}
-use Rattle.commands.specs.Options.{IsLawfulServer}
-use Rattle.commands.specs.Places.{IsOfFolder, IsOfServer}
-use Rattle.commands.specs.World.{Sight}
+use Rattle.commands.specs.Options.{IsLawfulServer, number_of, number_or}
+use Rattle.commands.specs.Places.{IsOfFolder, IsOfServer, IsOpened}
+use Rattle.commands.specs.World.{Serving, Sight}
+use Rattle.commands.specs.declared.serving.Asked.{Asked}
 use Rattle.commands.specs.declared.verifying.Build.{Build}
 use Rattle.commands.specs.declared.verifying.Build.TheVariants.{Folder, Server}
 use Rattle.command_lines.specs.CommandLine.{option_text}
@@ -88,12 +91,19 @@ pub record PrintsVerdict (sees : Sight) (options : List Row) (old new : Option (
 
 -- ---- the others
 
--- the blob was written, or a server told that there is none, whose digest the options spell
+-- a connection to the server that the options name was opened, and stood so
+abbrev pub IsOpenedTo : Sight → List Row → ConnectionValue → Type 0
+IsOpenedTo sees options =
+    IsOpened sees (option_text options (codes "server")) (option_text options (codes "server"))
+    (option_text options (codes "prefix"))
+
+-- the blob was written whose digest the options spell, or the server that they name replied that
+-- there is none
 pub record GetsBlob (sees : Sight) (options : List Row) (old new : Option (List ℕ)) (found : Bool)
     : Type 0 where
   pub digest : DigestValue
   pub spelled : IsDigestText (option_text options (codes "digest")) digest
-  pub writes : Writes (IsOfOptions sees options) digest old new found
+  pub writes : Writes (IsOpenedTo sees options) digest old new found
 
 -- nothing was written, or a beginning of a blob whose digest the options spell
 abbrev pub GetsPart : List Row → Option (List ℕ) → Option (List ℕ) → Type 0
@@ -110,7 +120,39 @@ pub record PrintsDigest (sees : Sight) (options : List Row) (old new : Option (L
   pub held : HasRight told.blobs digest
   pub printed : Appends old new (digest_text digest ++ 10 ∷ [])
 
--- the line of an address was printed, to listen on
-pub record PrintsAddress (old new : Option (List ℕ)) : Type 0 where
+-- ---- serve
+
+-- connections at this address, as the options say; without words of that, one at a time, and
+-- silent for 60 seconds
+abbrev pub serving_of : List Row → SocketAddr → Serving
+serving_of options address = record {
+  address = address;
+  cache = empty_cache (number_of (option_text options (codes "limit")))
+      (number_of (option_text options (codes "result-limit")));
+  prefix = option_text options (codes "prefix");
+  connections = number_of (option_text options (codes "connections"));
+  at_once = number_or 1 options (codes "at-once");
+  idle = number_or 60 options (codes "idle");
+}
+
+abbrev pub listening_line : SocketAddr → List ℕ
+listening_line address = codes "listening " ++ socket_text address ++ codes "\n"
+
+-- a socket listens where the options say, the line of its address was printed, and the connections
+-- were served there, as they say
+pub record ServesAsked (sees : Sight) (options : List Row) (old new : Option (List ℕ))
+    : Type 0 where
   pub address : SocketAddr
-  pub printed : Appends old new (codes "listening " ++ socket_text address ++ codes "\n")
+  pub listens : sees.listens (option_text options (codes "listen")) address
+  pub printed : Appends old new (listening_line address)
+  pub served : sees.serves (serving_of options address)
+
+-- what the words of `serve` ask for is as they say
+pub record IsAsked (options : List Row) (asked : Asked) : Type 0 where
+  pub address : asked.address.now ≡ option_text options (codes "listen")
+  pub limit : asked.limit ≡ number_of (option_text options (codes "limit"))
+  pub result_limit : asked.result_limit ≡ number_of (option_text options (codes "result-limit"))
+  pub prefix : asked.prefix ≡ option_text options (codes "prefix")
+  pub connections : asked.connections ≡ number_of (option_text options (codes "connections"))
+  pub at_once : asked.at_once ≡ number_or 1 options (codes "at-once")
+  pub idle : asked.idle ≡ number_or 60 options (codes "idle")

@@ -2,8 +2,22 @@
 use Rattle.std.specs.Prelude.{ℕ, List}
 use Rattle.std.specs.declared.alloc.Global.{Global}
 use Rattle.std.specs.declared.io.Error.{Error}
+use Rattle.std.specs.declared.net.socket_addr.SocketAddr.{SocketAddr}
+use Rattle.cache_server.specs.Cache.{CacheValue}
 use Rattle.remote.specs.Flow.{Flow}
 use Rattle.remote.specs.declared.files.FileError.{FileError}
+use Rattle.commands.specs.declared.world.Listening.{Listening}
+use Rattle.commands.specs.declared.world.Service.{Service}
+
+-- Connections that are to be served: at which address, by which cache, under which prefix, how many,
+-- how many of them at a time, and for how many seconds one may be silent (0: for ever).
+pub record Serving : Type 0 where
+  pub address : SocketAddr
+  pub cache : CacheValue
+  pub prefix : List ℕ
+  pub connections : ℕ
+  pub at_once : ℕ
+  pub idle : ℕ
 
 -- What was told and done. Only the calls that were told it and did it say so.
 pub record Sight : Type 1 where
@@ -17,6 +31,10 @@ pub record Sight : Type 1 where
   pub refuses : List ℕ → Error → Type 0
   -- the bytes were written to the file at the path
   pub wrote : List ℕ → List ℕ → Type 0
+  -- a socket listens at this place, at this address
+  pub listens : List ℕ → SocketAddr → Type 0
+  -- these connections were served
+  pub serves : Serving → Type 0
 
 -- nothing is known of it
 abbrev pub nothing_known : Sight
@@ -26,4 +44,17 @@ nothing_known = record {
   connects = λ _ _. Unit {0};
   refuses = λ _ _. Unit {0};
   wrote = λ _ _. Unit {0};
+  listens = λ _ _. Unit {0};
+  serves = λ _. Unit {0};
+}
+
+-- the connections of this socket, as they are to be served
+abbrev pub serving : Listening → Service → Serving
+serving l s = record {
+  address = l.address;
+  cache = s.cache;
+  prefix = s.prefix;
+  connections = s.connections;
+  at_once = s.at_once;
+  idle = s.idle;
 }

@@ -1,16 +1,18 @@
 ghost use Rattle.std.specs.Prelude.{◌≡◌, IfErr, IfOk, string_bytes};
-ghost use Rattle.blob_digest.specs.Digest.{digest_of};
+ghost use Rattle.blob_digest.specs.Digest.{DigestValue, digest_of};
 ghost use Rattle.blob_source.specs.Sink.{HasRight};
 ghost use Rattle.commands.specs.Places.{FailsOver, FailsToConnect, IsFresh, IsOpened, IsOver};
+ghost use Rattle.commands.specs.Places.{TellsFault};
 ghost use Rattle.commands.specs.Status.{status_of};
-ghost use Rattle.remote.specs.Remote.{connection_of, telling_of};
+ghost use Rattle.remote.specs.Remote.{blobs_of, connection_of, telling_of};
+ghost use Rattle.remote.specs.Table.{HasAnswer};
 
 use crate::connecting::ServerOptions;
 use crate::error::CommandError;
 use crate::world::World;
 use blob_digest::Digest;
 use blob_source::{BlobSink, BlobSource, FetchError};
-use remote::{Remote, Stream};
+use remote::{Fault, Remote, Stream};
 use std::alloc::{AllocError, Global};
 use std::io::ErrorKind;
 use std::marker::{Brand, PhantomData};
@@ -78,15 +80,8 @@ impl<S: Stream + Drop, K: Origin> Client<S, K> {
         ensures over { IfOk result (λ e. ∥ FailsOver K.start e ∥₁) }
         ensures status { IfOk result (λ e. status_of e ≡ 3) }
     {
-        match self.remote.last_fault() {
-            Some(fault) if refusal == FetchError::Failed => Ok(CommandError::Server {
-                server: String::from_str(alloc, server.address.as_str())?,
-                asked: self.asked,
-                digest: self.digest.write_text(alloc)?,
-                fault,
-            }),
-            _ => Ok(CommandError::Memory),
-        }
+        let fault = self.remote.last_fault();
+        server_error(alloc, server, self.asked, &self.digest, fault, refusal)
     }
 }
 
@@ -127,6 +122,29 @@ impl<S: Stream + Drop, K: Origin> BlobSink<Global> for Client<S, K> {
     }
 }
 
+/// The error of a request that was refused, with the last fault of the connection.
+pub(crate) fn server_error(
+    alloc: Global,
+    server: &ServerOptions,
+    asked: &'static str,
+    digest: &Digest,
+    fault: Option<Fault>,
+    refusal: FetchError,
+) -> Result<CommandError, AllocError>
+    ensures tells { IfOk result (TellsFault fault) }
+    ensures status { IfOk result (λ e. status_of e ≡ 3) }
+{
+    match fault {
+        Some(fault) if refusal == FetchError::Failed => Ok(CommandError::Server {
+            server: String::from_str(alloc, server.address.as_str())?,
+            asked,
+            digest: digest.write_text(alloc)?,
+            fault,
+        }),
+        _ => Ok(CommandError::Memory),
+    }
+}
+
 /// A remote over a connection to the server, that was asked nothing.
 pub fn open<W: World>(
     alloc: Global,
@@ -136,6 +154,8 @@ pub fn open<W: World>(
     ensures opened { IfOk result (λ remote. IsOpened W.sees (string_bytes server.now.address)
         server.now.host server.now.prefix (connection_of W.Link.flow remote)) }
     ensures fresh { IfOk result (λ remote. IsFresh (telling_of remote)) }
+    ensures unasked { IfOk result (λ remote.
+        (d : DigestValue) → HasAnswer (blobs_of remote) d → ⊥) }
     ensures fault { IfErr result (FailsToConnect W.sees (string_bytes server.now.address)) }
 {
     match world.connect(alloc, server) {

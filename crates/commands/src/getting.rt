@@ -1,74 +1,61 @@
-ghost use Rattle.std.specs.Prelude.{◌≡◌, ◌⊎◌, IfErr, IfOk, OnErr, Some};
+ghost use Rattle.std.specs.Prelude.{◌≡◌, None, IfErr, IfNone, IfOk, IfSome, OnErr};
+ghost use Rattle.blob_digest.specs.Digest.{DigestValue, digest_of};
 ghost use Rattle.clap.specs.Words.{found_of, rows_of};
-ghost use Rattle.commands.specs.Got.{Writes, WritesPart};
-ghost use Rattle.commands.specs.Places.{IsFresh, IsToldOver};
 ghost use Rattle.commands.specs.Printed.{GetsBlob, GetsPart};
 ghost use Rattle.commands.specs.Status.{status_of};
-ghost use Rattle.remote.specs.Remote.{connection_of, telling_of};
+ghost use Rattle.http_core.specs.declared.event.Area.TheVariants.{Cas};
+ghost use Rattle.remote.specs.Line.{Gets};
+ghost use Rattle.remote.specs.Remote.{blobs_of, connection_of};
+ghost use Rattle.remote.specs.Table.{HasAnswer};
 
-use crate::client::{Client, Origin, open};
+use crate::client::{open, server_error};
 use crate::connecting::{ServerOptions, read_server};
 use crate::error::CommandError;
 use crate::options::read_digest;
 use crate::telling::write_bytes;
 use crate::world::World;
 use blob_digest::Digest;
-use blob_source::{Fetched, fetch_blob};
+use blob_source::BlobSource;
 use clap::ArgMatches;
 use command_lines::text_of;
 use remote::{Remote, Stream};
 use std::alloc::Global;
 use std::io::Write;
-use std::marker::Brand;
 
-/// Writes the blob of the digest, and answers whether the server at the other end of the marked
-/// connection has it.
-fn write_blob<S: Stream + Drop, K: Origin, O: Write>(
+/// The bytes of the blob of the digest, where the server at the other end of the connection has it.
+/// Nothing is asked for the empty one.
+fn get_blob<S: Stream + Drop>(
     alloc: Global,
     server: &ServerOptions,
-    client: &mut Client<S, K>,
+    remote: &mut Remote<S, Global>,
     digest: &Digest,
-    out: &mut O,
-) -> Result<bool, CommandError>
-    ensures answered { IfOk result (Writes (IsToldOver K.start) digest.now
-        (O.contents out.old) (O.contents out.new)) }
-    ensures begun { OnErr result ((O.contents out.new ≡ O.contents out.old)
-        ⊎ WritesPart digest.now (O.contents out.old) (O.contents out.new)) }
+) -> Result<Option<Vec<u8>>, CommandError>
+    requires { (d : DigestValue) → HasAnswer (blobs_of remote.old) d → ⊥ }
+    ensures right { IfOk result (λ found.
+        IfSome found (λ bytes. digest_of bytes.items ≡ digest.now)) }
+    ensures none { IfOk result (λ found. IfNone found (Gets (connection_of S.flow remote.old)
+        (connection_of S.flow remote.new) Cas digest.now.hash None)) }
     ensures fault { IfErr result (λ e. status_of e ≡ 3) }
 {
-    match fetch_blob(alloc, client, digest) {
-        Ok(Fetched::Missing) => Ok(false),
-        Ok(Fetched::Wrong) => Err(CommandError::WrongBytes {
-            server: String::from_str(alloc, server.address.as_str())?,
-            digest: digest.write_text(alloc)?,
-        }),
-        Ok(Fetched::Right(bytes)) => {
-            write_bytes(out, &bytes)?;
-            out.flush().map_err(CommandError::Output)?;
-            Ok(true)
-        }
-        Err(refusal) => Err(client.error(alloc, server, refusal)?),
+    if *digest == Digest::empty() {
+        return Ok(Some(Vec::new(alloc)));
     }
-}
-
-/// Writes the blob of the digest, of a client over the marked connection.
-fn get_over<S: Stream + Drop, K: Origin, O: Write>(
-    alloc: Global,
-    server: &ServerOptions,
-    remote: Remote<S, Global>,
-    digest: &Digest,
-    out: &mut O,
-) -> Result<bool, CommandError>
-    requires start { K.start ≡ connection_of S.flow remote }
-    requires fresh { IsFresh (telling_of remote) }
-    ensures answered { IfOk result (Writes (IsToldOver K.start) digest.now
-        (O.contents out.old) (O.contents out.new)) }
-    ensures begun { OnErr result ((O.contents out.new ≡ O.contents out.old)
-        ⊎ WritesPart digest.now (O.contents out.old) (O.contents out.new)) }
-    ensures fault { IfErr result (λ e. status_of e ≡ 3) }
-{
-    let mut client: Client<S, K> = Client::new(remote);
-    write_blob(alloc, server, &mut client, digest, out)
+    match remote.fetch(alloc, digest) {
+        Ok(None) => Ok(None),
+        Ok(Some(bytes)) => {
+            if Digest::of(&bytes) == *digest {
+                return Ok(Some(bytes));
+            }
+            Err(CommandError::WrongBytes {
+                server: String::from_str(alloc, server.address.as_str())?,
+                digest: digest.write_text(alloc)?,
+            })
+        }
+        Err(refusal) => {
+            let fault = remote.last_fault();
+            Err(server_error(alloc, server, "get of blob", digest, fault, refusal)?)
+        }
+    }
 }
 
 /// Writes the bytes of the blob whose digest the words spell, and answers whether the server has
@@ -89,6 +76,11 @@ pub fn run_get<W: World, O: Write>(
 {
     let server = read_server(alloc, matches, text_of(matches, "server"))?;
     let digest = read_digest(alloc, matches, "digest")?;
-    let remote = open(alloc, world, &server)?;
-    get_over::<W::Link, Brand, O>(alloc, &server, remote, &digest, out)
+    let mut remote = open(alloc, world, &server)?;
+    let Some(bytes) = get_blob(alloc, &server, &mut remote, &digest)? else {
+        return Ok(false);
+    };
+    write_bytes(out, &bytes)?;
+    out.flush().map_err(CommandError::Output)?;
+    Ok(true)
 }

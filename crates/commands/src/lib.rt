@@ -28,4 +28,4 @@ pub use serving::run_serve;
 pub use telling::tell;
 pub use terminal_line::TerminalLine;
 pub use verifying::{plan_in_file, run_verify};
-pub use world::{System, World};
+pub use world::{Listening, Service, System, World};

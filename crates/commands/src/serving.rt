@@ -1,26 +1,25 @@
-ghost use Rattle.std.specs.Prelude.{◌≡◌, ◌≤◌, ◌<◌, ◌^◌, IfErr, IfOk, OnOk};
+ghost use Rattle.std.specs.Prelude.{◌≡◌, ◌≤◌, ◌<◌, ◌^◌, IfErr, IfOk, OnOk, codes};
+ghost use Rattle.std.specs.Io.KnownBytes.{Appends};
 ghost use Rattle.clap.specs.Words.{found_of, rows_of};
 ghost use Rattle.command_lines.specs.CommandLine.{option_text};
-ghost use Rattle.commands.specs.Options.{IsNumber, number_of};
-ghost use Rattle.commands.specs.Printed.{PrintsAddress};
+ghost use Rattle.commands.specs.Options.{IsNumber, number_of, number_or};
+ghost use Rattle.commands.specs.Printed.{IsAsked, ServesAsked, listening_line};
 ghost use Rattle.commands.specs.Refusal.{IsCommandFault};
 ghost use Rattle.commands.specs.Status.{status_of};
 
 use crate::connecting::read_prefix;
 use crate::error::CommandError;
 use crate::options::{is_address, number_in, unlike};
-use cache_server::{Cache, Server};
+use crate::world::{Listening, Service, World};
+use cache_server::Cache;
 use clap::ArgMatches;
-use command_lines::text_of;
+use command_lines::{option_of, text_of};
 use http_core::Prefix;
-use log::Log;
-use service::{serve, serve_together};
 use std::alloc::Global;
 use std::hash::RandomState;
 use std::io::Write;
-use std::net::{Net, TcpListener, TcpStream};
+use std::net::SocketAddr;
 use std::random::RandomSource;
-use std::time::{Clock, Duration};
 
 /// The most bytes to which a store is limited.
 const GREATEST_LIMIT: u64 = 9_223_372_036_854_775_807;
@@ -68,6 +67,8 @@ fn read_number(
 
 /// Where the words say to listen.
 fn read_address<'a>(alloc: Global, matches: &ArgMatches<'a>) -> Result<&'a str, CommandError>
+    ensures address { IfOk result (λ address.
+        address.now ≡ option_text (rows_of (found_of matches.now)) (codes "listen")) }
     ensures fault { IfErr result IsCommandFault }
 {
     let text = text_of(matches, "listen");
@@ -79,26 +80,40 @@ fn read_address<'a>(alloc: Global, matches: &ArgMatches<'a>) -> Result<&'a str, 
 }
 
 /// The number of seconds of `--idle`.
-fn read_idle(alloc: Global, matches: &ArgMatches<'_>) -> Result<u64, CommandError> {
-    match matches.get_str("idle") {
+fn read_idle(alloc: Global, matches: &ArgMatches<'_>) -> Result<u64, CommandError>
+    ensures { IfOk result (λ idle.
+        idle ≡ number_or 60 (rows_of (found_of matches.now)) (codes "idle")) }
+{
+    match option_of(matches, "idle") {
         Some(_) => read_number(alloc, matches, "idle", GREATEST_LIMIT),
         None => Ok(IDLE_SECONDS),
     }
 }
 
 /// The number of `--at-once`, at least 1.
-fn read_at_once(alloc: Global, matches: &ArgMatches<'_>) -> Result<usize, CommandError> {
-    match matches.get_str("at-once") {
-        Some(_) => {
-            let number = read_number(alloc, matches, "at-once", GREATEST_AT_ONCE)?;
-            Ok((number as usize).max(1))
-        }
-        None => Ok(1),
+fn read_at_once(alloc: Global, matches: &ArgMatches<'_>) -> Result<usize, CommandError>
+    ensures { IfOk result (λ at_once.
+        at_once ≡ number_or 1 (rows_of (found_of matches.now)) (codes "at-once")) }
+{
+    if option_of(matches, "at-once").is_none() {
+        return Ok(1);
+    }
+    match read_number(alloc, matches, "at-once", GREATEST_AT_ONCE)? {
+        0 => Err(unlike(
+            alloc,
+            "at-once",
+            "a number from 1 to 1024",
+            text_of(matches, "at-once"),
+        )?),
+        number => Ok(number as usize),
     }
 }
 
+/// What the words ask for.
 fn read_asked<'a>(alloc: Global, matches: &ArgMatches<'a>) -> Result<Asked<'a>, CommandError>
-    ensures { IfOk result (λ asked. (asked.limit < 2 ^ 63) × (asked.result_limit < 2 ^ 63)) }
+    ensures few { IfOk result
+        (λ asked. (asked.limit < 2 ^ 63) × (asked.result_limit < 2 ^ 63)) }
+    ensures asked { IfOk result (IsAsked (rows_of (found_of matches.now))) }
 {
     let address = read_address(alloc, matches)?;
     let connections = read_number(alloc, matches, "connections", u64::MAX)?;
@@ -119,35 +134,29 @@ fn read_asked<'a>(alloc: Global, matches: &ArgMatches<'a>) -> Result<Asked<'a>, 
 }
 
 /// Listens at the address.
-fn listen<R>(rt: &R, address: &str) -> Result<TcpListener, CommandError>
-where
-    R: AllocGlobal + Net<Listener = TcpListener, Stream = TcpStream>,
+fn listen<W: World>(alloc: Global, world: &W, address: &str) -> Result<Listening, CommandError>
+    ensures { IfOk result (λ l. W.sees.listens address.now l.address) }
 {
-    match TcpListener::bind(rt, address) {
-        Ok(listener) => Ok(listener),
+    match world.listen(address) {
+        Ok(listening) => Ok(listening),
         Err(fault) => Err(CommandError::Address {
-            address: String::from_str(rt.alloc(), address)?,
+            address: String::from_str(alloc, address)?,
             fault,
         }),
     }
 }
 
-/// Prints the address of the listener.
+/// Prints the address where it listens.
 fn print_address<O: Write>(
     alloc: Global,
-    listener: &TcpListener,
+    address: &SocketAddr,
     out: &mut O,
 ) -> Result<(), CommandError>
-    ensures printed { OnOk result (PrintsAddress (O.contents out.old) (O.contents out.new)) }
+    ensures printed { OnOk result
+        (Appends (O.contents out.old) (O.contents out.new) (listening_line address.now)) }
     ensures fault { IfErr result (λ e. status_of e ≡ 3) }
 {
-    let address = match listener.local_addr() {
-        Ok(address) => address.to_string(alloc)?,
-        Err(fault) => {
-            let address = String::new(alloc);
-            return Err(CommandError::Address { address, fault });
-        }
-    };
+    let address = address.to_string(alloc)?;
     let mut line = String::from_str(alloc, "listening ")?;
     line.push_str(address.as_str())?;
     line.push_str("\n")?;
@@ -158,46 +167,31 @@ fn print_address<O: Write>(
 }
 
 /// Prints the address where it listens, and serves as many connections as the words say.
-pub fn run_serve<R, O: Write>(
+pub fn run_serve<R: AllocGlobal + RandomSource, W: World, O: Write>(
     rt: &R,
+    world: &W,
     matches: &ArgMatches<'_>,
     out: &mut O,
 ) -> Result<(), CommandError>
-where
-    R: AllocGlobal + Clock + Log + Net<Listener = TcpListener, Stream = TcpStream> + RandomSource,
-    ensures printed { OnOk result (PrintsAddress (O.contents out.old) (O.contents out.new)) }
+    ensures served { OnOk result (ServesAsked W.sees (rows_of (found_of matches.now))
+        (O.contents out.old) (O.contents out.new)) }
     ensures unprinted { IfErr result (λ fault. status_of fault ≡ 2
         → O.contents out.new ≡ O.contents out.old) }
 {
     let alloc = rt.alloc();
     let asked = read_asked(alloc, matches)?;
     let state = RandomState::new(rt).map_err(CommandError::Random)?;
-    let mut cache: Cache<Global> = Cache::new(alloc, state, asked.limit, asked.result_limit)?;
-    let listener = listen(rt, asked.address)?;
-    print_address(alloc, &listener, out)?;
-    let idle = match asked.idle {
-        0 => None,
-        seconds => Some(Duration::from_secs(seconds)),
+    let cache: Cache<Global> = Cache::new(alloc, state, asked.limit, asked.result_limit)?;
+    let listening = listen(alloc, world, asked.address)?;
+    print_address(alloc, &listening.address, out)?;
+    let service = Service {
+        cache,
+        prefix: asked.prefix,
+        connections: asked.connections,
+        at_once: asked.at_once,
+        idle: asked.idle,
     };
-    if asked.at_once > 1 {
-        let mut server = Server::new(alloc, cache, asked.prefix);
-        return serve_together(
-            rt,
-            listener,
-            asked.connections,
-            asked.at_once,
-            idle,
-            &mut server,
-        )
-        .map_err(CommandError::Accept);
-    }
-    serve(
-        rt,
-        &listener,
-        asked.connections,
-        idle,
-        &mut cache,
-        &asked.prefix,
-    )
-    .map_err(CommandError::Accept)
+    world
+        .serve(listening, service)
+        .map_err(CommandError::Accept)
 }

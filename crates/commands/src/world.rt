@@ -2,18 +2,42 @@ ghost use Rattle.std.specs.Prelude.{IfErr, IfOk, OnOk, string_bytes};
 ghost use Rattle.remote.specs.Folder.{IsErrorOf};
 
 use crate::connecting::{Connection, ServerOptions};
+use cache_server::{Cache, Server};
+use http_core::Prefix;
+use log::Log;
 use remote::{FileError, FileReader, Stream, read_file};
+use service::{NotAccepted, serve, serve_together};
 use std::alloc::Global;
-use std::net::{Net, TcpStream};
+use std::net::{Net, SocketAddr, TcpListener, TcpStream};
 use std::rt::Files;
+use std::time::{Clock, Duration};
 use std::{fs, io};
 
-/// What a command reaches outside: files, and servers.
+/// A socket that listens, and its address.
+#[derive(Drop)]
+pub struct Listening {
+    pub listener: TcpListener,
+    pub address: SocketAddr,
+}
+
+/// What is served, and how.
+#[derive(Drop)]
+pub struct Service {
+    pub cache: Cache<Global>,
+    pub prefix: Prefix<Global>,
+    pub connections: u64,
+    /// The most connections that are served at a time.
+    pub at_once: usize,
+    /// For how many seconds one may be silent; 0: for ever.
+    pub idle: u64,
+}
+
+/// What a command reaches outside: files, servers, and its own clients.
 pub trait World {
     /// A connection to a server.
     type Link: Stream + Drop;
 
-    ghost use Rattle.commands.specs.World.{Sight};
+    ghost use Rattle.commands.specs.World.{Sight, serving};
 
     /// What may be said of what it told.
     ghost sees: { Sight };
@@ -33,13 +57,25 @@ pub trait World {
     /// Writes a file: a new one beside it, which then takes its place.
     fn write(&self, alloc: Global, path: &str, bytes: &[u8]) -> io::Result<()>
         ensures { OnOk result (sees.wrote path.now bytes.now) };
+
+    /// Listens at an address.
+    fn listen(&self, address: &str) -> io::Result<Listening>
+        ensures { IfOk result (λ l. sees.listens address.now l.address) };
+
+    /// Serves connections.
+    fn serve(&self, listening: Listening, service: Service) -> Result<(), NotAccepted>
+        ensures { OnOk result (sees.serves (serving listening service)) };
 }
 
 /// The files and sockets of the system, as the program's handle reaches them.
 #[derive(Drop)]
 pub struct System<'r, R>(pub &'r R);
 
-impl<'r, R: AllocGlobal + Files + Net<Stream = TcpStream>> World for System<'r, R> {
+impl<'r, R> World for System<'r, R>
+where
+    R: AllocGlobal + Clock + Files + Log,
+    R: Net<Listener = TcpListener, Stream = TcpStream>,
+{
     type Link = Connection<'r, R>;
 
     ghost use Rattle.commands.specs.World.{nothing_known};
@@ -59,6 +95,45 @@ impl<'r, R: AllocGlobal + Files + Net<Stream = TcpStream>> World for System<'r, 
         let fresh = format!(in alloc; "{path}.new")?;
         fs::write(self.0, fresh.as_str(), bytes)?;
         fs::rename(self.0, fresh.as_str(), path)
+    }
+
+    fn listen(&self, address: &str) -> io::Result<Listening> {
+        let listener = TcpListener::bind(self.0, address)?;
+        let address = listener.local_addr()?;
+        Ok(Listening { listener, address })
+    }
+
+    fn serve(&self, listening: Listening, service: Service) -> Result<(), NotAccepted> {
+        let Service {
+            mut cache,
+            prefix,
+            connections,
+            at_once,
+            idle,
+        } = service;
+        let idle = match idle {
+            0 => None,
+            seconds => Some(Duration::from_secs(seconds)),
+        };
+        if at_once > 1 {
+            let mut server = Server::new(self.0.alloc(), cache, prefix);
+            return serve_together(
+                self.0,
+                listening.listener,
+                connections,
+                at_once,
+                idle,
+                &mut server,
+            );
+        }
+        serve(
+            self.0,
+            &listening.listener,
+            connections,
+            idle,
+            &mut cache,
+            &prefix,
+        )
     }
 }
 

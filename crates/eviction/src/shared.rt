@@ -46,6 +46,13 @@ impl<A: Allocator> Shared<A> {
         self.bytes.len()
     }
 
+    /// The bytes as those who hold them count one another.
+    pub fn into_rc(self) -> Rc<Vec<u8, A>, A>
+        ensures { result.value.items ≡ self }
+    {
+        self.bytes
+    }
+
     /// Whether nobody else holds them. Nothing is proved of it.
     pub fn is_last(&self) -> bool {
         Rc::strong_count(&self.bytes) <= 1

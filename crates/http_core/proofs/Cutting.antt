@@ -132,7 +132,7 @@ empty_parts : (front rest : List ℕ) → [] ≡ front ++ rest → front ≡ []
 empty_parts [] rest e = refl
 empty_parts (b ∷ front) rest e = let h : [] ≡ b ∷ (front ++ rest) = e in cc
 
-no_empty : (prefix : List ℕ) (event : EventValue) → Completes prefix [] event → ⊥
+pub no_empty : (prefix : List ℕ) (event : EventValue) → Completes prefix [] event → ⊥
 no_empty prefix event (inl t) = let h : 0 ≡ 16384 = t.size in omega arith
 no_empty prefix event (inr q) = absurd (ends_empty q.block q.ends.ends (empty_parts q.block q.body q.whole))
   where

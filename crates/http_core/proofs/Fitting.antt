@@ -10,8 +10,8 @@ use Rattle.http_core.specs.Connection.{closes_of}
 use Rattle.http_core.specs.Head.{Parts, head_parts}
 use Rattle.http_core.specs.Judging.{Judges}
 use Rattle.http_core.specs.Rules.{first_status, rules_of, refused_status, is_put, length_of, size_of, asked, Targets, Judged, is_served}
-use Rattle.http_core.specs.Event.{EventValue, Asked, Get, Put, IsServed, IsLawful, IsLawfulIfAny}
-use Rattle.http_core.specs.Session.{IsAllowed, first_event}
+use Rattle.http_core.specs.Event.{EventValue, Asked, Get, Put, IsServed, IsLawful}
+use Rattle.http_core.specs.Session.{IsAllowed}
 
 none_apply : (rules : List (Bool × ℕ)) → first_status rules ≡ None → AllByRecursion (λ r. r.0 ≡ false) rules
 none_apply [] e = tt
@@ -54,19 +54,6 @@ allowed prefix block j (inr (inl x)) = subst IsAllowed (sym x.2) tt
 allowed prefix block j (inr (inr x)) =
     let p : Parts = head_parts x.1 in
     judged_allowed prefix p (refused_status p.minor p.method p.fields) j refl x.3
-
-empty_fits : (size : ℕ) (b : Bool) (area : Area) (hash : List ℕ) (close : Bool) → IsLawfulIfAny (if b then Some (Asked (Put area hash []) close) else None)
-empty_fits size true area hash close = none_fits
-  where
-    none_fits : 0 ≤ greatest_blob
-    none_fits = omega arith
-empty_fits size false area hash close = tt
-
--- the event that a block makes at once is lawful
-pub first_lawful : (j : Judgement) → IsAllowed j → IsLawfulIfAny (first_event j)
-first_lawful (judgements.Refuse status close) h = tt
-first_lawful (judgements.Get area hash close) h = h
-first_lawful (judgements.Put area hash size close) h = empty_fits size (size == 0) area hash close
 
 pub lawful_with : (events : List EventValue) (event : EventValue) → AllByRecursion IsLawful events → IsLawful event → AllByRecursion IsLawful (events ++ event ∷ [])
 lawful_with [] event all h = (h, tt)

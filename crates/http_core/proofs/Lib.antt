@@ -10,3 +10,4 @@ pub mod Steps
 pub mod Pieces
 pub mod Feeding
 pub mod Lengths
+pub mod Pairs

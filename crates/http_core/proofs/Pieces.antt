@@ -4,10 +4,10 @@ use Rattle.std.proofs.Math.Seq.{take-add}
 use Rattle.std.proofs.lemmas.List.{append-nil, map-append, take_all, take-append-drop}
 use Rattle.http_core.specs.declared.event.Event.{Event}
 use Rattle.http_core.specs.Event.{EventValue, closes, event_of, events_of, IsLawful}
-use Rattle.http_core.specs.Session.{SessionState, Reading, Taking, Closed, SessionValue, Stands, Moves, Feeds, ended}
+use Rattle.http_core.specs.Session.{SessionState, Reading, Taking, Closed, SessionValue, Stands, Feeds, ended}
 use Rattle.std.specs.List.{AllByRecursion}
 use Rattle.http_core.proofs.Fitting.{lawful_with}
-use Rattle.http_core.proofs.Standing.{stands_on, stands_event, stands_closed, stands_stop}
+use Rattle.http_core.proofs.Standing.{Moves, stands_on, stands_event, stands_closed, stands_stop}
 
 further : (stream piece rest : List ℕ) (at taken : ℕ) → rest ≡ drop at piece → (stream ++ take at piece) ++ take taken rest ≡ stream ++ take (at + taken) piece
 further stream piece rest at taken e = append_assoc stream (take at piece) (take taken rest) ∙ ap (λ z. stream ++ (take at piece ++ take taken z)) e ∙ ap (λ z. stream ++ z) (sym (take-add at taken piece))

@@ -8,15 +8,19 @@ use Rattle.http_core.specs.Block.{empty_line, HasNoBlock, IsBlock}
 use Rattle.http_core.specs.Event.{EventValue, Asked, Refused, closes, Get, Put}
 use Rattle.http_core.specs.Judging.{Judges}
 use Rattle.http_core.specs.Stream.{body_length, outcome, IsRequest, Completes, IsPartial, Cuts}
-use Rattle.http_core.specs.Session.{SessionState, Reading, Taking, Closed, SessionValue, Holds, Leaves, Stands, Follows, Moves, ended, first_event, first_state}
+use Rattle.http_core.specs.Session.{SessionState, Reading, Taking, Closed, SessionValue, Holds, Leaves, Stands, Follows, ended}
 use Rattle.http_core.proofs.Blocks.{one_block, no_block_within}
 use Rattle.http_core.proofs.Judged.{judges_once}
 use Rattle.http_core.proofs.Cutting.{cuts_join, cuts_closed}
 
+-- from the one state, these bytes lead to the other
+abbrev pub Moves : SessionValue → List ℕ → Option EventValue → SessionValue → Type 0
+Moves old bytes event new = (rest : List ℕ) → Holds old.prefix old.state rest → Follows old.prefix (rest ++ bytes) event new.state
+
 shorter_front : (bytes front rest : List ℕ) → bytes ≡ front ++ rest → length front ≤ length bytes
 shorter_front bytes front rest e = let h : length bytes ≡ length (front ++ rest) = ap length e in let k : length (front ++ rest) ≡ length front + length rest = length-append front rest in omega arith
 
-partial_reading : (prefix bytes : List ℕ) → HasNoBlock bytes → length bytes < 16384 → IsPartial prefix bytes
+pub partial_reading : (prefix bytes : List ℕ) → HasNoBlock bytes → length bytes < 16384 → IsPartial prefix bytes
 partial_reading prefix bytes none small front rest event e (inl t) = let h : length front ≤ length bytes = shorter_front bytes front rest e in let k : length front ≡ 16384 = t.size in omega arith
 partial_reading prefix bytes none small front rest event e (inr q) = none q.block (q.body ++ rest) (e ∙ ap (λ z. z ++ rest) q.whole ∙ append_assoc q.block q.body rest) q.ends.ends
 
@@ -32,7 +36,7 @@ taking_request prefix block body rest event area hash size close front ends judg
     let l : length q.body ≤ length body = shorter_front body q.body rest b in
     omega arith
 
-partial_taking : (prefix block body : List ℕ) (area : Area) (hash : List ℕ) (size : ℕ) (close : Bool)
+pub partial_taking : (prefix block body : List ℕ) (area : Area) (hash : List ℕ) (size : ℕ) (close : Bool)
     → IsBlock block → length block ≤ 16384 → Judges prefix block (judgements.Put area hash size close) → length body < size → IsPartial prefix (block ++ body)
 partial_taking prefix block body area hash size close ends fits judged small front rest event h (inl t) =
     no_block_within front rest block body t.none ends (sym h) (subst (λ n. length block ≤ n) (sym t.size) fits)
@@ -129,23 +133,6 @@ unfolding Stands
 stands_closed s stream more before e (left, c, l) = stands_none s stream more before left e c l
 
 -- behind a block
-block_done : (prefix block : List ℕ) (j : Judgement) (event : EventValue) → IsBlock block → length block ≤ 16384 → Judges prefix block j → body_length j ≡ 0 → event ≡ outcome j [] → Completes prefix block event
+pub block_done : (prefix block : List ℕ) (j : Judgement) (event : EventValue) → IsBlock block → length block ≤ 16384 → Judges prefix block j → body_length j ≡ 0 → event ≡ outcome j [] → Completes prefix block event
 block_done prefix block j event ends fits judged size gives =
     inr (record { block = block; body = []; judgement = j; whole = sym (append-nil block); ends = ends; fits = fits; judged = judged; full = sym size; gives = gives })
-
-block_put : (prefix block : List ℕ) (area : Area) (hash : List ℕ) (size : ℕ) (close : Bool) → IsBlock block → length block ≤ 16384 → Judges prefix block (judgements.Put area hash size close)
-    → (b : Bool) → (b ≡ true → size ≡ 0) → (b ≡ false → 0 < size)
-    → Follows prefix block (if b then Some (Asked (Put area hash []) close) else None) (if b then ended close else Taking area hash size close [])
-block_put prefix block area hash size close ends fits judged true none some = (block_done prefix block (judgements.Put area hash size close) (Asked (Put area hash []) close) ends fits judged (none refl) refl, refl)
-block_put prefix block area hash size close ends fits judged false none some = (block, sym (append-nil block), ends, fits, judged, some refl)
-
-is_none : (n : ℕ) → (n == 0) ≡ true → n ≡ 0
-is_none n e = grind arith
-
-is_some : (n : ℕ) → (n == 0) ≡ false → 0 < n
-is_some n e = grind arith
-
-pub block_follows : (prefix block : List ℕ) (j : Judgement) → IsBlock block → length block ≤ 16384 → Judges prefix block j → Follows prefix block (first_event j) (first_state j)
-block_follows prefix block (judgements.Refuse status close) ends fits judged = (block_done prefix block (judgements.Refuse status close) (Refused status close) ends fits judged refl refl, refl)
-block_follows prefix block (judgements.Get area hash close) ends fits judged = (block_done prefix block (judgements.Get area hash close) (Asked (Get area hash) close) ends fits judged refl refl, refl)
-block_follows prefix block (judgements.Put area hash size close) ends fits judged = block_put prefix block area hash size close ends fits judged (size == 0) (is_none size) (is_some size)

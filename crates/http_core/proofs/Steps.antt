@@ -9,23 +9,22 @@ use Rattle.http_core.specs.Block.{EndsBlock, HasNoBlock, IsBlock, IsHeadLine}
 use Rattle.http_core.specs.Event.{EventValue, Asked, Refused, Put}
 use Rattle.http_core.specs.Judging.{Judges}
 use Rattle.http_core.specs.Stream.{Completes}
-use Rattle.http_core.specs.Session.{SessionState, Reading, Taking, Closed, Holds, Follows, first_event, first_state, state_of, IsReading}
+use Rattle.http_core.specs.Session.{SessionState, Reading, Taking, Closed, Holds, Follows, state_of}
 use Rattle.http_core.proofs.Blocks.{block_with, no_block_with, no_block_through}
-use Rattle.http_core.proofs.Standing.{block_follows}
 
 -- a byte more
 one_longer : (bytes : List ℕ) (byte : ℕ) → length (bytes ++ byte ∷ []) ≡ length bytes + 1
 one_longer bytes byte = length-append bytes (byte ∷ [])
 
 reads_on : (prefix : List ℕ) (old new : SessionState) (stage : Stage) (bytes body line : List ℕ) (event : Option EventValue)
-    → state_of stage bytes body ≡ old → IsReading old
+    → state_of stage bytes body ≡ old → ((held : List ℕ) × (old ≡ Reading held))
     → (HasNoBlock bytes → length bytes < 16384 → Follows prefix (bytes ++ line) event new)
     → (rest : List ℕ) → Holds prefix old rest → Follows prefix (rest ++ line) event new
 reads_on prefix old new stages.Block bytes body line event is reading goes rest h =
     let k : Holds prefix (Reading bytes) rest = subst (λ z. Holds prefix z rest) (sym is) h in
     subst (λ z. Follows prefix (z ++ line) event new) (sym k.0) (goes k.1 k.2)
-reads_on prefix old new (stages.Body area hash size close) bytes body line event is reading goes rest h = absurd (subst IsReading (sym is) reading)
-reads_on prefix old new stages.Closed bytes body line event is reading goes rest h = absurd (subst IsReading (sym is) reading)
+reads_on prefix old new (stages.Body area hash size close) bytes body line event is reading goes rest h = let no : Taking area hash size close body ≡ Reading reading.0 = is ∙ reading.1 in absurd cc
+reads_on prefix old new stages.Closed bytes body line event is reading goes rest h = let no : Closed ≡ Reading reading.0 = is ∙ reading.1 in absurd cc
 
 pub line_some : (line : List ℕ) → IsHeadLine line → 0 < length line
 line_some line (front, last, whole, plain) = let n : length line ≡ length front + 1 = ap length whole ∙ one_longer front last in omega arith
@@ -43,7 +42,7 @@ line_follows prefix bytes line more room event new (front, last, whole, plain) e
     subst (λ z. Follows prefix z event new) (sym k ∙ e) (goes (bytes ++ front) last k (no_block_through bytes front none plain) small)
 
 pub reads_line : (prefix : List ℕ) (old new : SessionState) (stage : Stage) (bytes body line more piece : List ℕ) (room : ℕ) (event : Option EventValue)
-    → state_of stage bytes body ≡ old → IsReading old
+    → state_of stage bytes body ≡ old → ((held : List ℕ) × (old ≡ Reading held))
     → IsHeadLine line → more ≡ bytes ++ line → (length line ≤ room) ⊎ (length line ≡ 1) → room ≤ 16384 - length bytes → line ≡ take (length line) piece
     → ((front : List ℕ) (last : ℕ) → more ≡ front ++ last ∷ [] → HasNoBlock front → length front < 16384 → Follows prefix (front ++ last ∷ []) event new)
     → (rest : List ℕ) → Holds prefix old rest → Follows prefix (rest ++ take (length line) piece) event new
@@ -51,19 +50,18 @@ reads_line prefix old new stage bytes body line more piece room event is reading
     subst (λ z. Follows prefix (rest ++ z) event new) front
     (reads_on prefix old new stage bytes body line event is reading (line_follows prefix bytes line more room event new line_is e most fits goes) rest h)
 
-pub still_reading : (stage : Stage) (bytes more body : List ℕ) (old : SessionState) → state_of stage bytes body ≡ old → IsReading old → state_of stage more body ≡ Reading more
+pub still_reading : (stage : Stage) (bytes more body : List ℕ) (old : SessionState) → state_of stage bytes body ≡ old → ((held : List ℕ) × (old ≡ Reading held)) → state_of stage more body ≡ Reading more
 still_reading stages.Block bytes more body old is reading = refl
-still_reading (stages.Body area hash size close) bytes more body old is reading = absurd (subst IsReading (sym is) reading)
-still_reading stages.Closed bytes more body old is reading = absurd (subst IsReading (sym is) reading)
+still_reading (stages.Body area hash size close) bytes more body old is reading = let no : Taking area hash size close body ≡ Reading reading.0 = is ∙ reading.1 in absurd cc
+still_reading stages.Closed bytes more body old is reading = let no : Closed ≡ Reading reading.0 = is ∙ reading.1 in absurd cc
 
 pub at_block : (prefix bytes more : List ℕ) (byte : ℕ) (j : Judgement) (event : Option EventValue) (new : SessionState)
-    → more ≡ bytes ++ byte ∷ [] → EndsBlock more → Judges prefix more j → event ≡ first_event j → new ≡ first_state j
+    → more ≡ bytes ++ byte ∷ [] → EndsBlock more → Judges prefix more j
+    → ((prefix block : List ℕ) → IsBlock block → length block ≤ 16384 → Judges prefix block j → Follows prefix block event new)
     → HasNoBlock bytes → length bytes < 16384 → Follows prefix (bytes ++ byte ∷ []) event new
-at_block prefix bytes more byte j event new e ends judged gives leads none small =
-    let b : IsBlock (bytes ++ byte ∷ []) = block_with bytes byte none (subst EndsBlock e ends) in
+at_block prefix bytes more byte j event new e ends judged follows none small =
     let n : length (bytes ++ byte ∷ []) ≡ length bytes + 1 = one_longer bytes byte in
-    let f : Follows prefix (bytes ++ byte ∷ []) (first_event j) (first_state j) = block_follows prefix (bytes ++ byte ∷ []) j b (omega arith) (subst (λ z. Judges prefix z j) e judged) in
-    subst (λ z. Follows prefix (bytes ++ byte ∷ []) z new) (sym gives) (subst (λ z. Follows prefix (bytes ++ byte ∷ []) (first_event j) z) (sym leads) f)
+    follows prefix (bytes ++ byte ∷ []) (block_with bytes byte none (subst EndsBlock e ends)) (omega arith) (subst (λ z. Judges prefix z j) e judged)
 
 pub within_block : (prefix bytes more : List ℕ) (byte : ℕ) (new : SessionState)
     → more ≡ bytes ++ byte ∷ [] → (EndsBlock more → ⊥) → new ≡ Reading more → length more < 16384

@@ -29,10 +29,6 @@ abbrev pub IsLawful : EventValue → Type 0
 IsLawful (Asked ask close) = IsServed ask
 IsLawful (Refused status close) = ⊤
 
-abbrev pub IsLawfulIfAny : Option EventValue → Type 0
-IsLawfulIfAny None = ⊤
-IsLawfulIfAny (Some event) = IsLawful event
-
 abbrev pub closes : EventValue → Bool
 closes (Asked ask close) = close
 closes (Refused status close) = close

@@ -1,5 +1,4 @@
--- What stands before each target: segments of a path, each after a slash (RFC 3986, sections 2.3
--- and 3.3).
+-- What stands before each target: segments, each after a slash (RFC 3986, sections 2.3 and 3.3).
 use Rattle.std.specs.Prelude.{ℕ, ◌==◌, ◌&&◌, ◌||◌, nat_lt, nat_le, Bool, true, List, [], ◌∷◌}
 use Rattle.std.specs.Prelude.{length}
 use Rattle.std.specs.Char.{is_ascii_alphanumeric}

@@ -1,10 +1,20 @@
 -- The text of an answer (RFC 9112, sections 4 and 6.2; RFC 9110, section 15).
 use Rattle.std.specs.Prelude.{ℕ, ◌==◌, Bool, List, [], ◌++◌, length, codes, if◌then◌else◌}
 use Rattle.std.specs.Fmt.{decimal}
+use Rattle.http_core.specs.declared.reply.Content.{Content}
+use Rattle.http_core.specs.declared.reply.Content.TheVariants.{Own, Shared}
 
 pub record ReplyValue : Type 0 where
   pub status : ℕ
   pub body : List ℕ
+
+-- a status without a body
+abbrev pub bare : ℕ → ReplyValue
+bare status = record { status = status; body = [] }
+
+abbrev pub content_bytes : {A : Type 0} → Content A → List ℕ
+content_bytes (Own bytes) = bytes.items
+content_bytes (Shared bytes) = bytes.value.items
 
 -- the reason phrase of each status that the server answers; any other has none
 unfoldable pub reason : ℕ → List ℕ

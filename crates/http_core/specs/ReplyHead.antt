@@ -1,5 +1,4 @@
--- The head of a reply, as a client reads it (RFC 9112, sections 4, 6.3 and 9; RFC 9110, section
--- 8.6).
+-- The head of a reply, as a client reads it (RFC 9112, sections 4, 6.3, 9; RFC 9110, section 8.6).
 use Rattle.std.specs.Prelude.{◌≡◌, ℕ, ◌==◌, ◌≤◌, nat_lt, List, [], length, map, take, codes, Option}
 use Rattle.std.specs.Prelude.{Some, None, if◌then◌else◌}
 use Rattle.httparse.specs.Grammar.{ResponseHead, ReadsResponse, status_code}
@@ -18,15 +17,12 @@ use Rattle.http_core.specs.Rules.{count_of, length_of}
 abbrev pub IsResponseOf : List ℕ → ResponseHead → Type 0
 IsResponseOf block h = ReadsResponse block h [] × (length h.fields ≤ 64)
 
--- the most bytes that the body of a reply with the status has: 204 has none
-abbrev pub most_body : ℕ → ℕ
-most_body status = if status == 204 then 0 else greatest_blob
-
--- the length of the body of a reply with the status, if it is lawful: only 204 may leave it out
+-- the length of a reply's body, if it is lawful: 204 has none, and alone may leave it out
 abbrev pub reply_length : ℕ → Length → Option ℕ
 reply_length status Absent = if status == 204 then Some 0 else None
 reply_length status Bad = None
-reply_length status (Is size) = if nat_lt (most_body status) size then None else Some size
+reply_length status (Is size) =
+    if nat_lt (if status == 204 then 0 else greatest_blob) size then None else Some size
 
 -- the head, where the length is lawful
 abbrev pub with_length : ℕ → List (List ℕ × List ℕ) → Option ℕ → Option ReplyHead

@@ -1,5 +1,4 @@
--- The text of a request, as a client sends it (RFC 9112, sections 3 and 6.2; RFC 9110, section
--- 7.2).
+-- The text of a client's request (RFC 9112, sections 3 and 6.2; RFC 9110, section 7.2).
 use Rattle.std.specs.Prelude.{ℕ, List, ◌++◌, length, codes, Option, Some, None}
 use Rattle.std.specs.Fmt.{decimal}
 use Rattle.http_core.specs.declared.event.Area.{Area}

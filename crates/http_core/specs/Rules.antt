@@ -115,8 +115,7 @@ abbrev pub asked : Bool → ℕ → Bool → Area → List ℕ → Judgement
 asked true size close area hash = judgements.Put area hash size close
 asked false size close area hash = judgements.Get area hash close
 
--- The judgement of the target: what it asks for, or 404. After a PUT whose body isn't read the
--- session closes in any case.
+-- What the target asks for, or 404, which closes the session after a PUT: its body isn't read.
 abbrev pub Targets : List ℕ → Bool → Bool → List ℕ → ℕ → Judgement → Type 0
 Targets prefix put close target size j =
     ((area : Area) × (hash : List ℕ) × Names prefix put target area hash

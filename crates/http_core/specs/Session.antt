@@ -1,6 +1,6 @@
 -- What a session keeps of a stream.
-use Rattle.std.specs.Prelude.{◌≡◌, ◌≢◌, ℕ, ◌<◌, ◌≤◌, ◌==◌, Bool, true, false, List, [], ◌∷◌, ◌++◌}
-use Rattle.std.specs.Prelude.{length, take, Option, Some, None, ⊤, if◌then◌else◌}
+use Rattle.std.specs.Prelude.{◌≡◌, ◌≢◌, ℕ, ◌<◌, ◌≤◌, Bool, true, false, List, [], ◌∷◌, ◌++◌}
+use Rattle.std.specs.Prelude.{length, take, Option, Some, None, ⊤}
 use Rattle.http_core.specs.declared.event.Area.{Area}
 use Rattle.http_core.specs.declared.judging.Judgement.{Judgement}
 use Rattle.http_core.specs.declared.judging.Judgement.TheVariants as judgements
@@ -9,8 +9,7 @@ use Rattle.http_core.specs.declared.session.Stage.TheVariants as stages
 use Rattle.std.specs.List.{AllByRecursion}
 use Rattle.blob_digest.specs.Body.{greatest_blob}
 use Rattle.http_core.specs.Block.{HasNoBlock, IsBlock}
-use Rattle.http_core.specs.Event.{Get, Put, EventValue, Asked, Refused, closes, IsServed, IsLawful}
-use Rattle.http_core.specs.Event.{IsLawfulIfAny}
+use Rattle.http_core.specs.Event.{Get, EventValue, closes, IsServed, IsLawful}
 use Rattle.http_core.specs.Judging.{Judges}
 use Rattle.http_core.specs.Stream.{Completes, Cuts}
 
@@ -77,11 +76,10 @@ Follows prefix bytes None state = Holds prefix state bytes
 Follows prefix bytes (Some event) state =
     Completes prefix bytes event × (state ≡ ended (closes event))
 
--- from the one state, these bytes lead to the other
-abbrev pub Moves : SessionValue → List ℕ → Option EventValue → SessionValue → Type 0
-Moves old bytes event new =
-    (rest : List ℕ) → Holds old.prefix old.state rest
-    → Follows old.prefix (rest ++ bytes) event new.state
+-- the one event, if there is one
+abbrev pub if_any : Option EventValue → List EventValue
+if_any None = []
+if_any (Some event) = event ∷ []
 
 -- a session takes a front of the piece, at most to the end of a request
 pub record Takes
@@ -89,37 +87,15 @@ pub record Takes
     (event : Option EventValue) (new : SessionValue) : Type 0 where
   pub some : 0 < taken
   pub within : taken ≤ length piece
-  pub moves : Moves old (take taken piece) event new
-  pub lawful : IsLawfulIfAny event
+  pub moves : (rest : List ℕ) → Holds old.prefix old.state rest
+      → Follows old.prefix (rest ++ take taken piece) event new.state
+  pub lawful : AllByRecursion IsLawful (if_any event)
 
 -- what a judgement lets a request ask
 abbrev pub IsAllowed : Judgement → Type 0
 IsAllowed (judgements.Refuse status close) = ⊤
 IsAllowed (judgements.Get area hash close) = IsServed (Get area hash)
 IsAllowed (judgements.Put area hash size close) = size ≤ greatest_blob
-
--- the event that a block with this judgement makes at once, and the state after it
-abbrev pub first_event : Judgement → Option EventValue
-first_event (judgements.Refuse status close) = Some (Refused status close)
-first_event (judgements.Get area hash close) = Some (Asked (Get area hash) close)
-first_event (judgements.Put area hash size close) =
-    if size == 0 then Some (Asked (Put area hash []) close) else None
-
-abbrev pub first_state : Judgement → SessionState
-first_state (judgements.Refuse status close) = ended close
-first_state (judgements.Get area hash close) = ended close
-first_state (judgements.Put area hash size close) =
-    if size == 0 then ended close else Taking area hash size close []
-
-abbrev pub IsReading : SessionState → Type 0
-IsReading (Reading bytes) = Unit {0}
-IsReading (Taking area hash size close body) = ⊥
-IsReading Closed = ⊥
-
-abbrev pub IsTaking : SessionState → Type 0
-IsTaking (Reading bytes) = ⊥
-IsTaking (Taking area hash size close body) = Unit {0}
-IsTaking Closed = ⊥
 
 -- The session took the piece, and answered the events which the cut of its stream has with it and
 -- didn't have before. A closed one answers nothing and stays closed.
@@ -131,11 +107,6 @@ pub record Feeds
   pub closed : IsClosed old → IsClosed new × (events ≡ [])
   pub lawful : AllByRecursion IsLawful events
   pub prefix : new.prefix ≡ old.prefix
-
--- the one event, if there is one
-abbrev pub if_any : Option EventValue → List EventValue
-if_any None = []
-if_any (Some event) = event ∷ []
 
 -- a session is where a request ends, if there is an event
 abbrev pub IsEndedBy : Option EventValue → SessionState → Type 0

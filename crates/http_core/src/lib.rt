@@ -21,7 +21,7 @@ pub use head_text::HeadText;
 pub use host::Host;
 pub use laws::{a_stream_is_cut_in_one_way, cuts_go_on, pieces_make_no_difference};
 pub use prefix::Prefix;
-pub use reply::{Reply, append_head, write_reply};
+pub use reply::{Content, Reply, write_reply};
 pub use reply_head::{ReplyHead, read_reply_head};
 pub use request::write_request;
 pub use session::Session;

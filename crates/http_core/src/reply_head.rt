@@ -1,7 +1,7 @@
 ghost use Rattle.std.specs.Prelude.{◌≡◌, ℕ, IfSome, IfNone, map, take};
 ghost use Rattle.httparse.specs.Grammar.{ResponseHead};
 ghost use Rattle.httparse.specs.Spans.{IsResponseWithin, header_bytes};
-ghost use Rattle.http_core.specs.ReplyHead.{IsReplyHead, IsResponseOf, ShowsResponse, most_body};
+ghost use Rattle.http_core.specs.ReplyHead.{IsReplyHead, IsResponseOf, ShowsResponse};
 ghost use Rattle.http_core.specs.ReplyHead.{reply_length, reply_of};
 
 use crate::block::{MAX_BLOCK, is_block};
@@ -28,10 +28,9 @@ pub(crate) struct Response {
     pub headers: [HeaderSpan; 64],
 }
 
-/// Reads the head of a reply from its block, if it is lawful: of at most 16,384 bytes up to its first
-/// empty line, of version 1.1, without
-/// `Transfer-Encoding`, with one `Content-Length` of at most 16,777,216; with status 204 it may be
-/// absent and is else 0.
+/// Reads the head of a reply from its block, if it is lawful: of at most 16,384 bytes up to its
+/// first empty line, of version 1.1, without `Transfer-Encoding`, with one `Content-Length` of at
+/// most 16,777,216; with status 204 it may be absent and is else 0.
 pub fn read_reply_head(block: &[u8]) -> Option<ReplyHead>
     ensures some { IfSome result (λ head. IsReplyHead block.now head) }
     ensures none { IfNone result ((head : ReplyHead) → IsReplyHead block.now head → ⊥) }
@@ -87,28 +86,18 @@ fn head_in(block: &[u8], spans: &ResponseSpans, headers: &[HeaderSpan]) -> Optio
     })
 }
 
-/// The most bytes that the body of a reply with this status has.
-fn most_body(status: u16) -> u64
-    ensures { result ≡ most_body status }
-{
-    if status == 204 {
-        0
-    } else {
-        GREATEST_BLOB as u64
-    }
-}
-
 /// The length of the body of a reply with this status, if it is lawful.
 fn reply_length(status: u16, length: Length) -> Option<u64>
     ensures { result ≡ reply_length status length }
 {
+    let most = if status == 204 {
+        0
+    } else {
+        GREATEST_BLOB as u64
+    };
     match length {
         Length::Absent => if status == 204 { Some(0) } else { None },
         Length::Bad => None,
-        Length::Is(length) => if length > most_body(status) {
-            None
-        } else {
-            Some(length)
-        },
+        Length::Is(length) => if length > most { None } else { Some(length) },
     }
 }

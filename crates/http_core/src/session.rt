@@ -1,9 +1,13 @@
-ghost use Rattle.std.specs.Prelude.{◌≡◌, ◌↔◌, ℕ, ◌<◌, ◌≤◌, ◌++◌, ◌∷◌, List, [], length, take};
+ghost use Rattle.std.specs.Prelude.{◌≡◌, ◌↔◌, ℕ, Bool, ◌<◌, ◌≤◌, ◌++◌, ◌∷◌, List, [], length, take};
 ghost use Rattle.std.specs.Prelude.{IsTrue, IfOk, OnErr, OnOk, Option};
-ghost use Rattle.http_core.specs.Event.{EventValue, events_of, option_event};
-ghost use Rattle.http_core.specs.Session.{SessionValue, Stands, Feeds, IsOpen, IsClosed, Holds};
-ghost use Rattle.http_core.specs.Session.{Takes, IsAllowed, IsReading, IsTaking, first_event};
-ghost use Rattle.http_core.specs.Session.{first_state, ended, held_bytes, FeedsFirst};
+ghost use Rattle.std.specs.List.{AllByRecursion};
+ghost use Rattle.http_core.specs.declared.event.Area.{Area};
+ghost use Rattle.http_core.specs.Block.{IsBlock};
+ghost use Rattle.http_core.specs.Event.{IsLawful, events_of, option_event};
+ghost use Rattle.http_core.specs.Judging.{Judges};
+ghost use Rattle.http_core.specs.Session.{SessionValue, Reading, Taking, Stands, Feeds, FeedsFirst};
+ghost use Rattle.http_core.specs.Session.{IsOpen, IsClosed, Takes, Follows, IsAllowed, ended, if_any};
+ghost use Rattle.http_core.specs.Session.{held_bytes};
 
 use crate::block::{MAX_BLOCK, ends_block, first_line};
 use crate::event::{Area, Ask, Event};
@@ -185,7 +189,7 @@ impl<A: Allocator + Copy> Session<A> {
     /// Takes bytes of a block, at most to the end of a line.
     fn read_line(&mut self, alloc: A, piece: &[u8]) -> Result<(usize, Option<Event<A>>), AllocError>
         requires some { 0 < length piece.now }
-        requires reading { IsReading self.old.state }
+        requires reading { (bytes : List ℕ) × (self.old.state ≡ Reading bytes) }
         ensures takes { IfOk result
             (λ x. Takes self.old piece.now x.0 (option_event x.1) self.new) }
         ensures prefix { self.new.prefix ≡ self.old.prefix }
@@ -206,8 +210,10 @@ impl<A: Allocator + Copy> Session<A> {
     /// Goes on after a block.
     fn follow(&mut self, alloc: A, judgement: Judgement) -> Option<Event<A>>
         requires { IsAllowed judgement }
-        ensures event { option_event result ≡ first_event judgement }
-        ensures state { self.new.state ≡ first_state judgement }
+        ensures follows { (prefix block : List ℕ) → IsBlock block → length block ≤ 16384
+            → Judges prefix block judgement
+            → Follows prefix block (option_event result) self.new.state }
+        ensures lawful { AllByRecursion IsLawful (if_any (option_event result)) }
         ensures prefix { self.new.prefix ≡ self.old.prefix }
     {
         match judgement {
@@ -236,7 +242,8 @@ impl<A: Allocator + Copy> Session<A> {
     /// Takes bytes of a body.
     fn take_body(&mut self, alloc: A, piece: &[u8]) -> Result<(usize, Option<Event<A>>), AllocError>
         requires some { 0 < length piece.now }
-        requires taking { IsTaking self.old.state }
+        requires taking { (area : Area) × (hash : List ℕ) × (size : ℕ) × (close : Bool) × (body : List ℕ)
+            × (self.old.state ≡ Taking area hash size close body) }
         ensures takes { IfOk result
             (λ x. Takes self.old piece.now x.0 (option_event x.1) self.new) }
         ensures prefix { self.new.prefix ≡ self.old.prefix }

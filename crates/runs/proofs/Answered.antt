@@ -53,7 +53,8 @@ use Rattle.runs.proofs.Places.{has_one, taken_within}
 use Rattle.runs.proofs.Steady.{Steady, made_of}
 use Rattle.runs.proofs.Lost.{steady_of}
 use Rattle.runs.proofs.Noted.{outcome_there, kept_count, kept_each}
-use Rattle.runs.proofs.Resolved.{lawful_tree, tree_blobs, holds_output, grafted}
+use Rattle.runs.proofs.Resolved.{holds_output, grafted}
+use Rattle.verifier.proofs.LinesTold.{lawful_tree, tree_blobs}
 use Rattle.runs.proofs.Found.{way_found, outputs_found}
 
 -- ---- lists

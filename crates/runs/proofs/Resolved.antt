@@ -17,13 +17,14 @@ use Rattle.tree.specs.Merging.{NodeWithin, MergeLines, conflict, IsHeldIn, AreHe
 use Rattle.blob_digest.specs.Digest.{NoClash}
 use Rattle.blob_source.specs.Source.{Blobs}
 use Rattle.blob_source.specs.Told.{TellsDirectory, FailsDirectory}
-use Rattle.tree.specs.Lookup.{Looked, found, LooksFrom, AgreesWith}
+use Rattle.tree.specs.Lookup.{Looked, found, LooksFrom, AgreesWith, IsValue}
 use Rattle.tree.proofs.MergeTold.{merges_tell}
 use Rattle.tree.proofs.MergeTotal.{tells_merge}
 use Rattle.tree.proofs.LookupLemmas.{looks_from, told_reads}
 use Rattle.tree.proofs.OrderLemmas.{IsOrderedAt, ordered_at}
 use Rattle.verifier.specs.Build.{Meaning, ActionMeaning, Outcome, output_at, Event, State, outcome_of, origin_at, origins, graft_of}
 use Rattle.verifier.proofs.HeldOrigins.{IsLawfulTree, source_held, outcome_held}
+use Rattle.verifier.proofs.LinesTold.{lawful_tree, tree_blobs, IsRead, LinesTell, no_lines, one_more, told_graft, no_graft_told}
 use Rattle.verifier.proofs.OutputLookups.{HoldsOutput, mapped_from, output_found}
 use Rattle.verifier.proofs.Targets.{ArePaths, some_names, output_ordered}
 use Rattle.runs.specs.Engine.{FinishedValue, EngineValue, IsLawfulOutput, IsEngine, finished_in}
@@ -35,16 +36,6 @@ use Rattle.runs.proofs.Lost.{steady_of}
 use Rattle.runs.proofs.Noted.{outcome_there}
 use Rattle.verifier.proofs.FreshRuns.{one_answer, blobs_below, blob_of_entry}
 use Rattle.runs.proofs.Agreeing.{outputs_agree}
-
-pub lawful_tree : {S : List ℕ → Type 0} (apart : NoClash S) (v : OutputValue) → HoldsOutput S apart v → IsLawfulTree v
-lawful_tree apart (outputs.File d executable) k = tt
-lawful_tree apart (outputs.Link target) k = tt
-lawful_tree apart (outputs.Tree u) k = k.lawful
-
-pub tree_blobs : {S : List ℕ → Type 0} (apart : NoClash S) (v : OutputValue) → HoldsOutput S apart v → (b : List ℕ) → IsBlobIn (within_output v) b → S b
-tree_blobs apart (outputs.File d executable) k b q = absurd q
-tree_blobs apart (outputs.Link target) k b q = absurd q
-tree_blobs {S} apart (outputs.Tree u) k b q = let m = mapped_from directory_bytes (u.root ∷ u.children) b q in subst S m.2 (k.held m.0 m.1)
 
 module _ (B : Blobs) (e : EngineValue) (t : Tree Leaf) (meaning : Meaning) (X : List (ActionMeaning × Outcome)) (es : List Event) (s : State) (engine : IsEngine e) (k : IsMirrored B e t meaning X es s) where
   abbrev S : List ℕ → Type 0
@@ -101,11 +92,7 @@ module _ (B : Blobs) (e : EngineValue) (t : Tree Leaf) (meaning : Meaning) (X : 
           (steady.done j o at).own b (there.0, there.1, blob_of_entry there.0.1 b (blobs_below there.2 (Some there.0.1) y b there.4 q))
 
   -- where what is below an origin is read
-  record IsRead (x : NodeWithin) : Type 0 where
-    held : IsHeldIn x.within x.node
-    blobs : (b : List ℕ) → IsBlobIn x.within b → S b
-
-  origin_read : (o : OriginValue) (x : NodeWithin) → StandsAtOrigin B e o x → IsRead x
+  origin_read : (o : OriginValue) (x : NodeWithin) → StandsAtOrigin B e o x → IsRead S x
   origin_read (source p) x h = record {
     held = subst (λ w. IsHeldIn w x.node) (sym h.within) (source_held x.node);
     blobs = λ b q. absurd (subst (λ w. IsBlobIn w b) h.within q);
@@ -122,59 +109,19 @@ module _ (B : Blobs) (e : EngineValue) (t : Tree Leaf) (meaning : Meaning) (X : 
       }
 
   -- what stands at the origins of lines is what was looked up there
-  pub record LinesTell (ls : List LineValue) (xs : MergeLines) : Type 0 where
-    pub entries : TreeLines
-    pub are : origins t s ls ≡ Some entries
-    pub stand : StandFor xs entries
-    pub held : AreHeld xs
-    pub trees : (b : List ℕ) → IsBlobOfTrees xs b → S b
-    pub blobs : (b : List ℕ) → IsBlobOfEntries entries b → S b
-    pub mergeable : AreMergeable entries
-
-  pub lines_tell : (ls : List LineValue) → ArePaths ls → (xs : MergeLines) → Resolves B e ls xs → LinesTell ls xs
-  lines_tell [] paths xs r = subst (LinesTell []) (sym r) (record { entries = []; are = refl; stand = tt; held = tt; trees = λ b q. absurd q; blobs = λ b q. absurd q; mergeable = tt })
+  lines_tell : (ls : List LineValue) → ArePaths ls → (xs : MergeLines) → Resolves B e ls xs → LinesTell S t s ls xs
+  lines_tell [] paths xs r = subst (LinesTell S t s []) (sym r) (no_lines S t s)
   lines_tell (l ∷ ls) paths xs r =
-      subst (LinesTell (l ∷ ls)) (sym r.4) (one (origin_at t s l.origin) refl (origin_agrees l.origin (found r.0.node) r.1.node) (origin_ordered l.origin) (origin_read l.origin r.0 r.1) (lines_tell ls paths.1 r.2 r.3))
-    where
-      one : (o : Option (Entry Leaf)) → origin_at t s l.origin ≡ o → option_map entry_node (origin_at t s l.origin) ≡ Some r.0.node → IsOrderedAt (origin_at t s l.origin) → IsRead r.0 → LinesTell ls r.2 → LinesTell (l ∷ ls) ((l.target, r.0) ∷ r.2)
-      one None is told in_order read rest = absurd (let none : ◌≡◌ {A = Option NodeValue} None (Some r.0.node) = sym (ap (option_map entry_node) is) ∙ told in cc)
-      one (Some x) is told in_order read rest =
-          let both : ◌≡◌ {A = Option NodeValue} (Some (entry_node x)) (Some r.0.node) = sym (ap (option_map entry_node) is) ∙ told in
-          let node : entry_node x ≡ r.0.node = cc in
-          let ordered : IsOrderedEntry x = subst IsOrderedAt is in_order in
-          let some : l.target ≢ [] = some_names l.target paths.0.some in
-          record {
-            entries = (l.target, x) ∷ rest.entries;
-            are = ap (λ o. option_and_then (λ e. option_map (λ es. (l.target, e) ∷ es) (origins t s ls)) o) is ∙ ap (option_map (λ es. (l.target, x) ∷ es)) rest.are;
-            stand = (record { target = refl; node = sym node; ordered = ordered; some = some; few = paths.0.few }, rest.stand);
-            held = (read.held, rest.held);
-            trees = λ b q. elim q [ inl h ↦ read.blobs b h | inr h ↦ rest.trees b h ];
-            blobs = λ b q. elim q [ inl h ↦ origin_blobs l.origin x is b h | inr h ↦ rest.blobs b h ];
-            mergeable = ((some, ordered), rest.mergeable);
-          }
+      subst (LinesTell S t s (l ∷ ls)) (sym r.4)
+      (one_more S t s l r.0 ls r.2 paths.0 (origin_agrees l.origin (found r.0.node) r.1.node) (origin_ordered l.origin) (origin_read l.origin r.0 r.1) (origin_blobs l.origin) (lines_tell ls paths.1 r.2 r.3))
 
-  pub of_lines : (ls : List LineValue) (xs : MergeLines) (r : LinesTell ls xs) → NoClash (IsOfMerge B xs r.entries)
-  of_lines ls xs r = λ a b p q is. k.apart a b (inside a p) (inside b q) is
-    where
-      inside : (b : List ℕ) → IsOfMerge B xs r.entries b → S b
-      inside b (inl v) = inl (inl (inl v))
-      inside b (inr (inl u)) = r.trees b u
-      inside b (inr (inr y)) = r.blobs b y
+  values : (b : List ℕ) → IsValue B b → S b
+  values b v = inl (inl (inl v))
 
   -- the tree that they put together is there, with the digest of that by digests
   pub grafted : (ls : List LineValue) → ArePaths ls → (made : Tree NodeValue) → PutTogether B e ls made → (g : Tree Leaf) × (graft_of t s ls ≡ Some g) × (root (form g) ≡ root made)
-  grafted ls paths made h =
-      let x = lines_tell ls paths h.nodes h.resolved in
-      let g = (merges_tell B h.nodes).trees x.entries x.held x.stand (of_lines ls h.nodes x) made h.passes in
-      (g.0, ap (option_and_then merge) x.are ∙ (tells_merge x.entries).complete x.mergeable g.0 g.1, g.2)
+  grafted ls paths made h = let g = told_graft S t s k.apart B values (lines_tell ls paths h.nodes h.resolved) made h.passes in (g.0, g.1, g.2)
 
   -- and where they conflict there is none
   pub no_graft : (ls : List LineValue) → ArePaths ls → (xs : MergeLines) → Resolves B e ls xs → (p : List Name) → (merged B xs).fails (conflict p) → graft_of t s ls ≡ None
-  no_graft ls paths xs r p fails = ap (option_and_then merge) x.are ∙ by (merge x.entries) refl
-    where
-      x : LinesTell ls xs
-      x = lines_tell ls paths xs r
-
-      by : (q : Option (Tree Leaf)) → merge x.entries ≡ q → q ≡ None
-      by None is = refl
-      by (Some g) is = absurd ((merges_tell B xs).conflicts x.entries x.held x.stand (of_lines ls xs x) p fails g ((tells_merge x.entries).sound x.mergeable g is))
+  no_graft ls paths xs r p fails = no_graft_told S t s k.apart B values (lines_tell ls paths xs r) p fails

@@ -3,14 +3,22 @@
 #![tactic(auto)]
 
 mod closing;
+mod desk;
+mod epoll;
 mod error;
+mod listening;
 mod load;
 mod member;
 mod metered;
 mod part;
 mod serving;
+mod sockets;
+mod telling;
 mod together;
+mod turn;
 
 pub use error::NotAccepted;
-pub use serving::serve;
-pub use together::serve_together;
+pub use listening::{Accepted, Listener};
+pub use serving::{serve, serve_listener};
+pub use sockets::{Peer, Ready, Sockets};
+pub use together::{serve_sockets, serve_together};

@@ -45,3 +45,39 @@ pub(crate) struct Leave {
     /// So many bytes of a request may be kept before more are read.
     pub(crate) kept: u64,
 }
+
+/// What all connections hold together.
+#[derive(Drop)]
+pub(crate) struct Scales {
+    pub(crate) load: Load,
+    /// The one whose request is read to its end, though all together hold too much.
+    pub(crate) senior: Option<u64>,
+    /// A connection holds less since those that wait were looked at.
+    pub(crate) eased: bool,
+}
+
+impl Scales {
+    pub(crate) fn new() -> Scales {
+        Scales {
+            load: Load::none(),
+            senior: None,
+            eased: false,
+        }
+    }
+
+    /// Notes what the connection with the number holds now, and held before.
+    pub(crate) fn weigh(&mut self, number: u64, before: &Load, after: &Load) {
+        self.load = self.load.without(before).with(after);
+        if after.is_less_than(before) {
+            self.eased = true;
+        }
+        match self.senior {
+            Some(senior) => if senior == number && after.requests == 0 {
+                self.senior = None;
+            },
+            None => if self.load.requests >= GREATEST && after.requests > 0 {
+                self.senior = Some(number);
+            },
+        }
+    }
+}

@@ -1,13 +1,20 @@
-ghost use Rattle.cache_server.specs.Server.{GoesOn};
+ghost use Rattle.std.specs.Prelude.{◌≡◌, [], take, drop, true, IfOk, OnErr};
+ghost use Rattle.service.specs.Member.{MovesOn, Passes, PassesSent, ends_by, new_member};
+ghost use Rattle.service.specs.Member.{unsent_of};
+ghost use Rattle.service.specs.Sockets.{SendsTo, Stays};
 
+use crate::desk::Desk;
 use crate::load::{Leave, Load};
 use crate::part::{gather, next_of};
-use cache_server::{Answer, ConnError, Counts, Server};
-use mio::net::TcpStream;
+use crate::sockets::Peer;
+use crate::telling::Traffic;
+use crate::turn::Turn;
+use cache_server::{Answer, ConnError, Server};
 use std::alloc::Global;
-use std::io::{ErrorKind, Read, Write};
-use std::mem;
-use std::net::{Shutdown, SocketAddr};
+use std::io::ErrorKind;
+use std::marker::Model;
+use std::net::SocketAddr;
+use std::{io, mem};
 
 /// The most steps of a turn, so that one busy client starves nobody.
 const STEPS: u32 = 16;
@@ -26,19 +33,6 @@ const LAST_TIME: u64 = 10_000;
 
 const LAST_WAIT: u64 = 2_000;
 
-/// What a member can do, after a turn.
-#[derive(Clone, Copy)]
-pub(crate) enum Turn {
-    /// It has more to do.
-    Again,
-    /// The system has nothing for it.
-    Waits,
-    /// It may not answer before others have sent their answers.
-    Held,
-    /// It has ended.
-    Ends(Result<(), ConnError>),
-}
-
 /// What is left to do after the last answer.
 #[derive(Clone, Copy)]
 struct Lingering {
@@ -46,15 +40,13 @@ struct Lingering {
     reads: u32,
 }
 
-/// An open connection, one of many.
+/// An open connection, one of many. Clauses see its stream, what was read and hasn't come to the
+/// server, and what of the answers isn't sent.
 #[derive(Drop)]
-pub(crate) struct Member {
-    stream: TcpStream,
-    pub(crate) number: u64,
-    pub(crate) peer: SocketAddr,
-    pub(crate) counts: Counts,
-    pub(crate) read: u64,
-    pub(crate) written: u64,
+pub(crate) struct Member<S> {
+    stream: S,
+    peer: SocketAddr,
+    traffic: Traffic,
     // What was read and isn't taken, from `at` on.
     input: Vec<u8, Global>,
     at: usize,
@@ -69,25 +61,31 @@ pub(crate) struct Member {
     lingering: Option<Lingering>,
     // When a byte was moved last.
     moved: u64,
-    pub(crate) is_queued: bool,
-    pub(crate) is_held: bool,
+    is_queued: bool,
+    is_held: bool,
 }
 
-impl Member {
-    pub(crate) fn new(
-        alloc: Global,
-        stream: TcpStream,
-        number: u64,
-        peer: SocketAddr,
-        now: u64,
-    ) -> Member {
+impl<S> Model for Member<S> {
+    ghost use Rattle.service.specs.Member.{MemberValue, unsent_of};
+    ghost use Rattle.std.specs.Prelude.{drop};
+
+    ghost Value = { MemberValue S };
+
+    ghost view = { λ m. record {
+      stream = m.stream;
+      left = drop m.at m.input.items;
+      unsent = unsent_of m.answer m.sent;
+    } };
+}
+
+impl<S: Peer + Drop> Member<S> {
+    pub(crate) fn new(alloc: Global, stream: S, peer: SocketAddr, now: u64) -> Member<S>
+        ensures { result ≡ new_member stream }
+    {
         Member {
             stream,
-            number,
             peer,
-            counts: Counts::none(),
-            read: 0,
-            written: 0,
+            traffic: Traffic::none(),
             input: Vec::new(alloc),
             at: 0,
             answer: None,
@@ -100,6 +98,13 @@ impl Member {
             is_queued: false,
             is_held: false,
         }
+    }
+
+    /// Its stream, its address, and what came and went.
+    pub(crate) fn into_parts(self) -> (S, SocketAddr, Traffic)
+        ensures { result.0 ≡ self.stream }
+    {
+        (self.stream, self.peer, self.traffic)
     }
 
     /// What it holds.
@@ -122,8 +127,30 @@ impl Member {
         }
     }
 
+    pub(crate) fn is_held(&self) -> bool {
+        self.is_held
+    }
+
+    /// Notes whether it is among those with something to do, and tells whether it was.
+    pub(crate) fn queue(&mut self, is_queued: bool) -> bool
+        ensures { self.new ≡ self.old }
+    {
+        let was_queued = self.is_queued;
+        self.is_queued = is_queued;
+        was_queued
+    }
+
+    /// It needn't wait for others any more.
+    pub(crate) fn release(&mut self)
+        ensures { self.new ≡ self.old }
+    {
+        self.is_held = false;
+    }
+
     /// The system has something to read, or nothing more.
-    pub(crate) fn wake(&mut self, read_closed: bool) {
+    pub(crate) fn wake(&mut self, read_closed: bool)
+        ensures { self.new ≡ self.old }
+    {
         self.readable = true;
         if read_closed {
             self.read_closed = true;
@@ -160,58 +187,61 @@ impl Member {
     }
 
     /// Does what can be done without waiting and with this leave, up to so many steps.
-    #[tactic(auto, using(cache_server::proofs::Turning::goes_nowhere, cache_server::proofs::Turning::goes_further))]
+    #[tactic(auto, using(crate::proofs::Talking::moves_nowhere, crate::proofs::Talking::moves_further))]
     pub(crate) fn turn(
         &mut self,
-        alloc: Global,
+        number: u64,
         server: &mut Server<Global>,
-        buffer: &mut [u8],
-        gathered: &mut Vec<u8, Global>,
+        desk: &mut Desk,
         leave: Leave,
         now: u64,
     ) -> Turn
-        ensures { GoesOn server.old server.new }
+        ensures { MovesOn (ends_by result) S.spoke number server.old self.old server.new self.new }
     {
         for _ in 0..STEPS {
-            match self.step(alloc, server, buffer, gathered, leave, now) {
+            match self.step(number, server, desk, leave, now) {
                 Turn::Again => self.is_held = false,
                 Turn::Held => {
                     self.is_held = true;
                     self.moved = now;
                     return Turn::Held;
                 }
-                other => {
+                Turn::Waits => {
                     self.is_held = false;
-                    return other;
+                    return Turn::Waits;
+                }
+                Turn::Ends(end) => {
+                    self.is_held = false;
+                    return Turn::Ends(end);
                 }
             }
         }
         Turn::Again
     }
 
-    #[tactic(auto, using(cache_server::proofs::Turning::goes_nowhere, cache_server::proofs::Turning::goes_further))]
+    #[tactic(auto, using(crate::proofs::Talking::moves_nowhere, crate::proofs::Talking::passes_moves, crate::proofs::Talking::stays_moves))]
     fn step(
         &mut self,
-        alloc: Global,
+        number: u64,
         server: &mut Server<Global>,
-        buffer: &mut [u8],
-        gathered: &mut Vec<u8, Global>,
+        desk: &mut Desk,
         leave: Leave,
         now: u64,
     ) -> Turn
-        ensures { GoesOn server.old server.new }
+        ensures { MovesOn (ends_by result) S.spoke number server.old self.old server.new self.new }
     {
         if self.answer.is_some() {
-            return self.send(server, gathered, now);
+            let is_last = !server.is_open(number);
+            return self.send(is_last, desk, now);
         }
         if self.lingering.is_some() {
-            return self.linger(buffer, now);
+            return self.linger(desk, now);
         }
         if !leave.answers {
             return Turn::Held;
         }
         if self.at < self.input.len() {
-            return self.go_on(alloc, server);
+            return self.go_on(number, server, desk);
         }
         if !self.readable {
             return Turn::Waits;
@@ -219,73 +249,106 @@ impl Member {
         if self.kept > leave.kept {
             return Turn::Held;
         }
-        self.receive(alloc, server, buffer, now)
+        self.receive(number, server, desk, now)
     }
 
     /// Sends some of the answer.
-    fn send(&mut self, server: &Server<Global>, gathered: &mut Vec<u8, Global>, now: u64) -> Turn {
-        let Some(answer) = &self.answer else {
-            return Turn::Again;
-        };
-        let mut stream = &self.stream;
-        let head = answer.head().len();
-        let written = if self.sent >= head {
-            stream.write(next_of(answer.body(), self.sent - head))
-        } else if gather(answer, self.sent, gathered).is_ok() {
-            stream.write(gathered.as_slice())
-        } else {
-            return Turn::Ends(Err(ConnError::Memory));
-        };
-        let whole = head.saturating_add(answer.body().len());
-        match written {
-            Ok(0) => Turn::Ends(Err(ConnError::WriteFault)),
-            Ok(count) => {
-                self.written = self.written.saturating_add(count as u64);
-                self.moved = now;
-                self.sent = self.sent.saturating_add(count);
-                if self.sent >= whole {
-                    self.finish(server, now);
-                }
-                Turn::Again
-            }
-            Err(fault) => match fault.kind() {
-                ErrorKind::WouldBlock => Turn::Waits,
-                ErrorKind::Interrupted => Turn::Again,
-                _ => Turn::Ends(Err(ConnError::WriteFault)),
-            },
+    #[tactic(auto, using(crate::proofs::Talking::stays_passes))]
+    fn send(&mut self, is_last: bool, desk: &mut Desk, now: u64) -> Turn
+        ensures { Passes (ends_by result) S.spoke self.old self.new }
+    {
+        match self.write_some(desk) {
+            Ok(count) => self.pass(count, is_last, now),
+            Err(fault) => after_fault(&fault, ConnError::WriteFault),
         }
     }
 
-    /// The answer is sent.
-    fn finish(&mut self, server: &Server<Global>, now: u64) {
+    /// Writes some of what isn't sent.
+    fn write_some(&mut self, desk: &mut Desk) -> io::Result<usize>
+        ensures left { self.new.left ≡ self.old.left }
+        ensures unsent { self.new.unsent ≡ self.old.unsent }
+        ensures sent { IfOk result (λ count.
+            SendsTo S.spoke self.old.stream (take count self.old.unsent) self.new.stream) }
+        ensures fault { OnErr result (Stays S.spoke self.old.stream self.new.stream) }
+    {
+        let Some(answer) = &self.answer else {
+            return Err(io::Error::from(ErrorKind::Other));
+        };
+        let head = answer.head().len();
+        if self.sent >= head {
+            return self.stream.write(next_of(answer.body(), self.sent - head));
+        }
+        gather(answer, self.sent, &mut desk.gathered)?;
+        self.stream.write(desk.gathered.as_slice())
+    }
+
+    /// So much more of the answer is sent.
+    #[tactic(auto, using(crate::proofs::Talking::sends_end, crate::proofs::Talking::sends_more))]
+    fn pass(&mut self, count: usize, is_last: bool, now: u64) -> Turn
+        ensures { PassesSent (ends_by result) S.spoke count self.old self.new }
+    {
+        let Some(sent) = self.sent.checked_add(count) else {
+            return Turn::Ends(Err(ConnError::WriteFault));
+        };
+        if count == 0 {
+            return Turn::Ends(Err(ConnError::WriteFault));
+        }
+        self.traffic.written = self.traffic.written.saturating_add(count as u64);
+        self.moved = now;
+        self.sent = sent;
+        if self.is_sent() {
+            self.finish(is_last, now);
+        }
+        Turn::Again
+    }
+
+    /// Whether nothing is left to be sent.
+    fn is_sent(&self) -> bool
+        ensures { result ≡ true → self.now.unsent ≡ [] }
+    {
+        match &self.answer {
+            Some(answer) => {
+                let head = answer.head().len();
+                self.sent >= head && self.sent - head >= answer.body().len()
+            }
+            None => true,
+        }
+    }
+
+    /// The answer is sent. After the last one the writing side is ended, and what still comes is
+    /// dropped for a while: a client that is still sending would lose that answer to a reset if the
+    /// stream were closed at once.
+    fn finish(&mut self, is_last: bool, now: u64)
+        requires { self.old.unsent ≡ [] }
+        ensures left { self.new.left ≡ self.old.left }
+        ensures unsent { self.new.unsent ≡ [] }
+        ensures stays { Stays S.spoke self.old.stream self.new.stream }
+    {
         self.answer = None;
         self.sent = 0;
-        if !server.is_open(self.number) {
-            self.close(now);
+        if is_last {
+            self.stream.shut();
+            self.lingering = Some(Lingering {
+                begun: now,
+                reads: 0,
+            });
+            self.readable = true;
         }
-    }
-
-    /// Ends the writing side. What still comes is dropped for a while: a client that is still
-    /// sending would lose the last answer to a reset if the stream were closed at once.
-    fn close(&mut self, now: u64) {
-        let _ended = self.stream.shutdown(Shutdown::Write);
-        self.lingering = Some(Lingering {
-            begun: now,
-            reads: 0,
-        });
-        self.readable = true;
     }
 
     /// Drops some of what still comes.
-    fn linger(&mut self, buffer: &mut [u8], now: u64) -> Turn {
+    fn linger(&mut self, desk: &mut Desk, now: u64) -> Turn
+        ensures left { self.new.left ≡ self.old.left }
+        ensures unsent { self.new.unsent ≡ self.old.unsent }
+        ensures stays { Stays S.spoke self.old.stream self.new.stream }
+    {
         let Some(lingering) = self.lingering else {
             return Turn::Ends(Ok(()));
         };
         if !self.readable {
             return Turn::Waits;
         }
-        let mut stream = &self.stream;
-        match stream.read(buffer) {
+        match self.stream.discard(desk.buffer.as_mut_slice()) {
             Ok(0) => Turn::Ends(Ok(())),
             Ok(_) => {
                 if lingering.reads >= LAST_READS {
@@ -310,22 +373,19 @@ impl Member {
     }
 
     /// Answers the next request of what was read before.
-    #[tactic(auto, using(cache_server::proofs::Turning::goes_nowhere, cache_server::proofs::Turning::goes_further))]
-    fn go_on(&mut self, alloc: Global, server: &mut Server<Global>) -> Turn
-        ensures { GoesOn server.old server.new }
+    fn go_on(&mut self, number: u64, server: &mut Server<Global>, desk: &Desk) -> Turn
+        requires { self.old.unsent ≡ [] }
+        ensures { MovesOn (ends_by result) S.spoke number server.old self.old server.new self.new }
     {
-        let input = mem::replace(&mut self.input, Vec::new(alloc));
-        let (_, rest) = input.as_slice().split_at(self.at.min(input.len()));
-        match server.next(alloc, self.number, rest, &mut self.counts) {
+        let input = mem::replace(&mut self.input, Vec::new(desk.alloc));
+        let at = self.at.min(input.len());
+        let (_, rest) = input.as_slice().split_at(at);
+        let before = server.counts();
+        match server.next(desk.alloc, number, rest) {
             Ok((taken, answer)) => {
-                self.kept = server.held_bytes(self.number) as u64;
-                self.at = self.at.saturating_add(taken);
-                if self.at < input.len() {
-                    self.input = input;
-                } else {
-                    self.at = 0;
-                }
-                self.keep(answer);
+                self.traffic.counts.add_between(&before, &server.counts());
+                let kept = server.held_bytes(number) as u64;
+                self.keep(desk.alloc, answer, input, at + taken, kept);
                 Turn::Again
             }
             Err(_) => Turn::Ends(Err(ConnError::Memory)),
@@ -333,56 +393,82 @@ impl Member {
     }
 
     /// Reads, and answers the first request that is whole. What comes after it is kept.
-    #[tactic(auto, using(cache_server::proofs::Turning::goes_nowhere, cache_server::proofs::Turning::goes_further))]
     fn receive(
         &mut self,
-        alloc: Global,
+        number: u64,
         server: &mut Server<Global>,
-        buffer: &mut [u8],
+        desk: &mut Desk,
         now: u64,
     ) -> Turn
-        ensures { GoesOn server.old server.new }
+        requires left { self.old.left ≡ [] }
+        requires unsent { self.old.unsent ≡ [] }
+        ensures { MovesOn (ends_by result) S.spoke number server.old self.old server.new self.new }
     {
-        let mut stream = &self.stream;
-        let count = match stream.read(buffer) {
-            Ok(0) => return Turn::Ends(Ok(())),
+        let buffer = desk.buffer.as_mut_slice();
+        let count = match self.stream.read(buffer) {
             Ok(count) => count,
-            Err(fault) => return match fault.kind() {
-                ErrorKind::WouldBlock => {
-                    self.readable = false;
-                    Turn::Waits
-                }
-                ErrorKind::Interrupted => Turn::Again,
-                _ => Turn::Ends(Err(ConnError::ReadFault)),
-            },
+            Err(fault) => {
+                self.readable = fault.kind() == ErrorKind::Interrupted;
+                return after_fault(&fault, ConnError::ReadFault);
+            }
         };
-        self.read = self.read.saturating_add(count as u64);
-        self.moved = now;
-        if count < buffer.len() && !self.read_closed {
-            self.readable = false;
+        if count == 0 {
+            return Turn::Ends(Ok(()));
         }
+        self.traffic.read = self.traffic.read.saturating_add(count as u64);
+        self.moved = now;
+        self.readable = count >= buffer.len() || self.read_closed;
         let (piece, _) = buffer.split_at(count);
-        match server.next(alloc, self.number, piece, &mut self.counts) {
+        let before = server.counts();
+        match server.next(desk.alloc, number, piece) {
             Ok((taken, answer)) => {
-                self.kept = server.held_bytes(self.number) as u64;
-                self.keep(answer);
+                self.traffic.counts.add_between(&before, &server.counts());
                 let (_, rest) = piece.split_at(taken);
-                self.at = 0;
-                self.input.clear();
-                match self.input.extend_from_slice(rest) {
-                    Ok(()) => Turn::Again,
-                    Err(_) => Turn::Ends(Err(ConnError::Memory)),
+                let mut input = Vec::new(desk.alloc);
+                if input.extend_from_slice(rest).is_err() {
+                    return Turn::Ends(Err(ConnError::Memory));
                 }
+                let kept = server.held_bytes(number) as u64;
+                self.keep(desk.alloc, answer, input, 0, kept);
+                Turn::Again
             }
             Err(_) => Turn::Ends(Err(ConnError::Memory)),
         }
     }
 
-    /// Keeps an answer to be sent.
-    fn keep(&mut self, answer: Option<Answer<Global>>) {
-        if answer.is_some() {
-            self.answer = answer;
-            self.sent = 0;
+    /// Keeps an answer to be sent, and what comes after its request.
+    fn keep(
+        &mut self,
+        alloc: Global,
+        answer: Option<Answer<Global>>,
+        input: Vec<u8, Global>,
+        at: usize,
+        kept: u64,
+    )
+        ensures stream { self.new.stream ≡ self.old.stream }
+        ensures left { self.new.left ≡ drop at input.items }
+        ensures unsent { self.new.unsent ≡ unsent_of answer 0 }
+    {
+        self.answer = answer;
+        self.sent = 0;
+        self.kept = kept;
+        if at < input.len() {
+            self.input = input;
+            self.at = at;
+        } else {
+            self.input = Vec::new(alloc);
+            self.at = 0;
         }
+    }
+}
+
+/// What comes of a call that failed: without memory, where the system has nothing for it, where it
+/// was interrupted, and otherwise.
+fn after_fault(fault: &io::Error, other: ConnError) -> Turn {
+    match fault.kind() {
+        ErrorKind::OutOfMemory => Turn::Ends(Err(ConnError::Memory)),
+        ErrorKind::WouldBlock => Turn::Waits,
+        ErrorKind::Interrupted => Turn::Again,
+        _ => Turn::Ends(Err(other)),
     }
 }

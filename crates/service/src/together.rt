@@ -1,64 +1,59 @@
-ghost use Rattle.cache_server.specs.Server.{GoesOn};
+ghost use Rattle.std.specs.Prelude.{◌≡◌, ◌<◌, ◌≤◌, ℕ, List, [], None, IfErr, IfOk, IfSome};
+ghost use Rattle.std.specs.Prelude.{OnErr, OnOk};
+ghost use Rattle.cache_server.specs.Cache.{CacheValue};
+ghost use Rattle.cache_server.specs.History.{HistoryEntry};
+ghost use Rattle.cache_server.specs.Server.{ServerStands, ServerValue};
+ghost use Rattle.service.specs.Member.{ends_by};
+ghost use Rattle.service.specs.Talks.{ServesEach};
+ghost use Rattle.service.specs.Together.{AreSame, EndsIfAny, EntersAt, GoesOnTogether, MovesOnAt};
+ghost use Rattle.service.specs.Together.{OthersAreSame, member_at};
 
+use crate::desk::Desk;
+use crate::epoll::Epoll;
 use crate::error::NotAccepted;
-use crate::load::{GREATEST, Leave, Load};
-use crate::member::{Member, Turn};
-use crate::serving::{Ended, tell};
+use crate::load::{GREATEST, Leave, Load, Scales};
+use crate::member::Member;
+use crate::sockets::{Peer, Ready, Sockets};
+use crate::telling::tell;
+use crate::turn::Turn;
 use cache_server::{ConnError, Server};
 use log::{Log, warn};
-use mio::net::{TcpListener, TcpStream};
-use mio::{Events, Interest, Poll, Token};
-use std::alloc::Global;
+use std::alloc::{AllocError, Global};
+use std::collections::BTreeMap;
 use std::io::ErrorKind;
 use std::net::{Net, SocketAddr};
 use std::time::{Clock, Duration, Instant};
 use std::{io, mem, net};
 
-/// The token of the listener. A connection has its place as its token.
-const LISTENER: Token = Token(usize::MAX);
+/// How often in a row it is tried to accept a connection while none is open.
+const TRIES: u32 = 100;
 
 /// How many events are taken from the system at once.
 const EVENTS: usize = 256;
 
-/// How many bytes are read at once.
-const PIECE: usize = 65536;
-
-/// How often in a row it is tried to accept a connection while none is open.
-const TRIES: u32 = 100;
-
 /// Connections that are served at once.
 #[derive(Drop)]
-struct Together {
-    poll: Poll,
-    listener: TcpListener,
-    members: Vec<Option<Member>, Global>,
-    // The places without a member.
-    free: Vec<usize, Global>,
-    // The places with something to do, each once.
-    ready: Vec<usize, Global>,
-    // The places that wait until others hold less.
-    held: Vec<usize, Global>,
-    load: Load,
-    // The place whose request is read to its end, though all together hold too much.
-    senior: Option<usize>,
-    // A connection holds less since those that wait were looked at.
-    eased: bool,
-    // A connection may wait at the listener.
-    waits: bool,
-    connections: u64,
-    accepted: u64,
-    faults: u32,
+struct Together<S> {
+    // The open ones, each under its number.
+    members: BTreeMap<u64, Member<S>, Global>,
+    // How many may be open.
+    at_once: usize,
+    // Those with something to do, each once.
+    ready: Vec<u64, Global>,
+    // Those that wait until others hold less.
+    held: Vec<u64, Global>,
+    scales: Scales,
+    door: Door,
     idle: Option<u64>,
     begun: Instant,
     // When a member may have been silent for too long.
     wake: u64,
-    buffer: Vec<u8, Global>,
-    gathered: Vec<u8, Global>,
+    desk: Desk,
 }
 
 /// Serves so many connections of the listener, up to `at_once` of them at a time, none of which
-/// waits for another.
-#[tactic(auto, using(cache_server::proofs::Turning::goes_nowhere, cache_server::proofs::Turning::goes_further))]
+/// waits for another: `serve_sockets` over epoll.
+#[tactic(auto, using(crate::proofs::Whole::serves_none))]
 pub fn serve_together<R: AllocGlobal + Clock + Log + Net>(
     rt: &R,
     listener: net::TcpListener,
@@ -67,37 +62,89 @@ pub fn serve_together<R: AllocGlobal + Clock + Log + Net>(
     idle: Option<Duration>,
     server: &mut Server<Global>,
 ) -> Result<(), NotAccepted>
-    // Whatever history had led to the server, a longer one leads to it now.
-    ensures { GoesOn server.old server.new }
+    // What came over these connections led to the server, in the order of its calls.
+    ensures ok { OnOk result ((opening : CacheValue) (history : List HistoryEntry)
+        → ServerStands opening server.old history
+        → ServesEach (λ _ _ _. Unit {0}) server.old.prefix opening history connections server.new) }
+    ensures err { IfErr result (λ fault. (opening : CacheValue) (history : List HistoryEntry)
+        → ServerStands opening server.old history
+        → ServesEach (λ _ _ _. Unit {0}) server.old.prefix opening history fault.accepted server.new) }
+    ensures few { IfErr result (λ fault. fault.accepted ≤ connections) }
 {
-    let mut events = match Events::with_capacity(rt.alloc(), EVENTS) {
-        Ok(events) => events,
-        Err(_) => return Err(not_accepted(0, io::Error::from(ErrorKind::OutOfMemory))),
+    let mut sockets = match Epoll::new(rt, listener) {
+        Ok(sockets) => sockets,
+        Err(fault) => return Err(NotAccepted { accepted: 0, fault }),
     };
-    let mut together = match Together::new(rt, listener, connections, at_once, idle) {
-        Ok(together) => together,
-        Err(fault) => return Err(not_accepted(0, fault)),
-    };
-    for _ in 0..u64::MAX {
-        if let Err(fault) = together.accept_some(rt) {
-            return Err(not_accepted(together.accepted, fault));
-        }
-        if together.is_done() {
-            return Ok(());
-        }
-        let timeout = together.timeout(rt);
-        if let Err(fault) = together.poll.poll(&mut events, timeout) {
-            return Err(not_accepted(together.accepted, fault));
-        }
-        together.mark(&events);
-        together.run(rt, server);
-        together.sweep(rt, server);
-    }
-    Ok(())
+    serve_sockets(rt, &mut sockets, connections, at_once, idle, server)
 }
 
-fn not_accepted(accepted: u64, fault: io::Error) -> NotAccepted {
-    NotAccepted { accepted, fault }
+/// Serves so many connections of the sockets, up to `at_once` of them at a time, none of which waits
+/// for another. Each is read only while it has no answer that isn't sent.
+#[tactic(auto, using(crate::proofs::Whole::serves_all, crate::proofs::Whole::serves_none))]
+pub fn serve_sockets<R: AllocGlobal + Clock + Log, N: Sockets>(
+    rt: &R,
+    sockets: &mut N,
+    connections: u64,
+    at_once: usize,
+    idle: Option<Duration>,
+    server: &mut Server<Global>,
+) -> Result<(), NotAccepted>
+    // Of each connection a beginning of what was read came to the server, and a beginning of the
+    // answers to that was sent. What came led to the server, in the order of its calls.
+    ensures ok { OnOk result ((opening : CacheValue) (history : List HistoryEntry)
+        → ServerStands opening server.old history
+        → ServesEach N.ended server.old.prefix opening history connections server.new) }
+    ensures err { IfErr result (λ fault. (opening : CacheValue) (history : List HistoryEntry)
+        → ServerStands opening server.old history
+        → ServesEach N.ended server.old.prefix opening history fault.accepted server.new) }
+    ensures few { IfErr result (λ fault. fault.accepted ≤ connections) }
+{
+    let mut accepted: u64 = 0;
+    let mut together = match Together::new(rt, at_once, idle) {
+        Ok(together) => together,
+        Err(fault) => return Err(NotAccepted { accepted, fault }),
+    };
+    let end = together.serve(rt, sockets, &mut accepted, connections, server);
+    together.end_all(rt, sockets, server, accepted);
+    match end {
+        Ok(()) => Ok(()),
+        Err(fault) => Err(NotAccepted { accepted, fault }),
+    }
+}
+
+/// The way to a listener.
+#[derive(Drop)]
+struct Door {
+    // A connection may wait there.
+    waits: bool,
+    // So many in a row weren't accepted while none was open.
+    faults: u32,
+}
+
+impl Door {
+    /// No connection was accepted. While one is open, it is tried again when one has ended.
+    fn refuse<R: Log>(
+        &mut self,
+        rt: &R,
+        number: u64,
+        fault: io::Error,
+        is_empty: bool,
+    ) -> io::Result<()> {
+        if fault.kind() == ErrorKind::WouldBlock {
+            self.waits = false;
+            return Ok(());
+        }
+        warn!(rt; "{number}: not accepted: {fault}");
+        if !is_empty {
+            self.waits = false;
+            return Ok(());
+        }
+        self.faults = self.faults.saturating_add(1);
+        if self.faults >= TRIES {
+            return Err(fault);
+        }
+        Ok(())
+    }
 }
 
 /// So many milliseconds.
@@ -107,58 +154,33 @@ fn millis(time: &Duration) -> u64 {
         .saturating_add((time.subsec_nanos() / 1_000_000) as u64)
 }
 
-impl Together {
-    fn new<R: AllocGlobal + Clock + Net>(
+impl<S: Peer + Drop> Together<S> {
+    fn new<R: AllocGlobal + Clock>(
         rt: &R,
-        listener: net::TcpListener,
-        connections: u64,
         at_once: usize,
         idle: Option<Duration>,
-    ) -> io::Result<Together> {
+    ) -> io::Result<Together<S>>
+        ensures { IfOk result (λ together. together.members.entries ≡ []) }
+    {
         let alloc = rt.alloc();
-        listener.set_nonblocking(true)?;
-        let mut listener = TcpListener::from_std(listener);
-        let poll = Poll::new(rt)?;
-        poll.registry()
-            .register(&mut listener, LISTENER, Interest::READABLE)?;
-        let mut members = Vec::with_capacity(alloc, at_once)?;
-        let mut free = Vec::with_capacity(alloc, at_once)?;
-        for place in 0..at_once {
-            members.push(None)?;
-            free.push(place)?;
-        }
         Ok(Together {
-            poll,
-            listener,
-            members,
-            free,
+            members: BTreeMap::new(alloc),
+            at_once,
             ready: Vec::with_capacity(alloc, at_once)?,
             held: Vec::new(alloc),
-            load: Load::none(),
-            senior: None,
-            eased: false,
-            waits: true,
-            connections,
-            accepted: 0,
-            faults: 0,
+            scales: Scales::new(),
+            door: Door {
+                waits: true,
+                faults: 0,
+            },
             idle: match &idle {
                 Some(time) => Some(millis(time)),
                 None => None,
             },
             begun: Instant::now(rt)?,
             wake: u64::MAX,
-            buffer: Vec::from_elem(alloc, 0, PIECE)?,
-            gathered: Vec::with_capacity(alloc, PIECE)?,
+            desk: Desk::new(alloc)?,
         })
-    }
-
-    fn is_done(&self) -> bool {
-        self.accepted >= self.connections && self.is_empty()
-    }
-
-    /// Whether no connection is open.
-    fn is_empty(&self) -> bool {
-        self.free.len() >= self.members.len()
     }
 
     /// The milliseconds since the beginning.
@@ -181,134 +203,172 @@ impl Together {
         Some(Duration::from_millis(left))
     }
 
-    /// Accepts the connections that wait, as long as there is a place for them.
-    fn accept_some<R: AllocGlobal + Clock + Log>(&mut self, rt: &R) -> io::Result<()> {
+    /// Serves so many connections, to the end of each, or as many as can be accepted.
+    #[tactic(auto, using(crate::proofs::Keeping::keeps_nowhere, crate::proofs::Keeping::keeps_further, crate::proofs::Keeping::keeps_same))]
+    fn serve<R: AllocGlobal + Clock + Log, N: Sockets<Stream = S>>(
+        &mut self,
+        rt: &R,
+        sockets: &mut N,
+        accepted: &mut u64,
+        connections: u64,
+        server: &mut Server<Global>,
+    ) -> io::Result<()>
+        requires { accepted.old ≤ connections }
+        ensures keeps { GoesOnTogether S.spoke N.ended self.old.members.entries accepted.old server.old
+            self.new.members.entries accepted.new server.new }
+        ensures within { accepted.new ≤ connections }
+        ensures all { OnOk result (accepted.new ≡ connections) }
+    {
+        let mut events = Vec::with_capacity(rt.alloc(), EVENTS)?;
         for _ in 0..u64::MAX {
-            if !self.waits || self.accepted >= self.connections {
+            self.accept_some(rt, sockets, accepted, connections)?;
+            if *accepted >= connections && self.members.is_empty() {
                 return Ok(());
             }
-            let Some(place) = self.free.pop() else {
+            events.clear();
+            sockets.wait(self.timeout(rt), &mut events)?;
+            self.mark(events.as_slice());
+            self.run(rt, sockets, server);
+            self.sweep(rt, sockets, server);
+        }
+        Err(io::Error::from(ErrorKind::Other))
+    }
+
+    /// Accepts the connections that wait, as long as there is a place for them.
+    #[tactic(auto, using(crate::proofs::Keeping::keeps_nowhere, crate::proofs::Keeping::keeps_further, crate::proofs::Keeping::keeps_same, crate::proofs::Keeping::keeps_entered))]
+    fn accept_some<R: AllocGlobal + Clock + Log, N: Sockets<Stream = S>>(
+        &mut self,
+        rt: &R,
+        sockets: &mut N,
+        accepted: &mut u64,
+        connections: u64,
+    ) -> io::Result<()>
+        requires { accepted.old ≤ connections }
+        ensures keeps { (server : ServerValue) → GoesOnTogether S.spoke N.ended
+            self.old.members.entries accepted.old server
+            self.new.members.entries accepted.new server }
+        ensures within { accepted.new ≤ connections }
+    {
+        for _ in 0..u64::MAX {
+            if !self.door.waits || *accepted >= connections || self.members.len() >= self.at_once {
                 return Ok(());
-            };
-            match self.listener.accept() {
-                Ok((stream, peer)) => {
-                    self.faults = 0;
-                    self.enter(rt, place, stream, peer);
-                }
-                Err(fault) => {
-                    self.leave_free(place);
-                    self.refuse(rt, fault)?;
-                }
             }
+            self.accept_one(rt, sockets, accepted, connections)?;
         }
         Ok(())
     }
 
-    /// No connection was accepted. While one is open, it is tried again when one has ended.
-    fn refuse<R: Log>(&mut self, rt: &R, fault: io::Error) -> io::Result<()> {
-        match fault.kind() {
-            ErrorKind::WouldBlock => {
-                self.waits = false;
-                Ok(())
-            }
-            _ => {
-                let number = self.accepted;
-                warn!(rt; "{number}: not accepted: {fault}");
-                if !self.is_empty() {
-                    self.waits = false;
+    /// Accepts a connection, if one waits.
+    fn accept_one<R: AllocGlobal + Clock + Log, N: Sockets<Stream = S>>(
+        &mut self,
+        rt: &R,
+        sockets: &mut N,
+        accepted: &mut u64,
+        connections: u64,
+    ) -> io::Result<()>
+        requires { accepted.old < connections }
+        ensures keeps { (server : ServerValue) → GoesOnTogether S.spoke N.ended
+            self.old.members.entries accepted.old server
+            self.new.members.entries accepted.new server }
+        ensures within { accepted.new ≤ connections }
+    {
+        let number = *accepted;
+        let is_empty = self.members.is_empty();
+        let fault = match sockets.accept(number) {
+            Ok((stream, peer)) => match self.enter(rt, number, stream, peer) {
+                Ok(()) => {
+                    *accepted = number + 1;
+                    self.door.faults = 0;
                     return Ok(());
                 }
-                self.faults = self.faults.saturating_add(1);
-                if self.faults >= TRIES {
-                    return Err(fault);
-                }
-                Ok(())
-            }
-        }
-    }
-
-    fn leave_free(&mut self, place: usize) {
-        let _room = self.free.push(place);
+                Err(_) => io::Error::from(ErrorKind::OutOfMemory),
+            },
+            Err(fault) => fault,
+        };
+        self.door.refuse(rt, number, fault, is_empty)
     }
 
     /// A connection takes a place.
-    fn enter<R: AllocGlobal + Clock + Log>(
+    fn enter<R: AllocGlobal + Clock>(
         &mut self,
         rt: &R,
-        place: usize,
-        stream: TcpStream,
+        number: u64,
+        stream: S,
         peer: SocketAddr,
-    ) {
-        let mut stream = stream;
-        let number = self.accepted;
-        self.accepted = self.accepted.saturating_add(1);
-        let _set = stream.set_nodelay(true);
-        let now = self.now(rt);
-        let interests = Interest::READABLE | Interest::WRITABLE;
-        match self
-            .poll
-            .registry()
-            .register(&mut stream, Token(place), interests)
-        {
-            Ok(()) => {
-                let member = Member::new(rt.alloc(), stream, number, peer, now);
-                if let Some(deadline) = member.deadline(self.idle, false) {
-                    self.wake = self.wake.min(deadline);
-                }
-                if let Some(slot) = self.members.get_mut(place) {
-                    *slot = Some(member);
-                }
-                self.queue(place);
-            }
-            Err(fault) => {
-                warn!(rt; "{number}: not served: {fault}");
-                self.leave_free(place);
+    ) -> Result<(), AllocError>
+        ensures ok { OnOk result (EntersAt number stream
+            self.old.members.entries self.new.members.entries) }
+        ensures err { OnErr result (AreSame self.old.members.entries self.new.members.entries) }
+    {
+        let member = Member::new(rt.alloc(), stream, peer, self.now(rt));
+        let deadline = member.deadline(self.idle, false);
+        self.members.insert(number, member)?;
+        if let Some(deadline) = deadline {
+            self.wake = self.wake.min(deadline);
+        }
+        self.queue(number);
+        Ok(())
+    }
+
+    /// The member with the number has something to do.
+    fn queue(&mut self, number: u64)
+        ensures { AreSame self.old.members.entries self.new.members.entries }
+    {
+        if let Some(member) = self.members.get_mut(&number) {
+            if !member.queue(true) && self.ready.push(number).is_err() {
+                member.queue(false);
             }
         }
     }
 
-    /// The member at the place has something to do.
-    fn queue(&mut self, place: usize) {
-        if let Some(Some(member)) = self.members.get_mut(place) {
-            if !member.is_queued {
-                member.is_queued = self.ready.push(place).is_ok();
-            }
+    /// The system has something for the member with the number.
+    fn rouse(&mut self, number: u64, read_closed: bool)
+        ensures { AreSame self.old.members.entries self.new.members.entries }
+    {
+        if let Some(member) = self.members.get_mut(&number) {
+            member.wake(read_closed);
         }
     }
 
     /// Notes what the system tells.
-    fn mark(&mut self, events: &Events) {
+    fn mark(&mut self, events: &[Ready])
+        ensures { AreSame self.old.members.entries self.new.members.entries }
+    {
         for event in events {
-            if event.token() == LISTENER {
-                self.waits = true;
+            let Some(number) = event.number else {
+                self.door.waits = true;
                 continue;
+            };
+            if event.readable {
+                self.rouse(number, event.read_closed);
             }
-            let Token(place) = event.token();
-            if let Some(Some(member)) = self.members.get_mut(place) {
-                if event.is_readable() || event.is_error() || event.is_read_closed() {
-                    member.wake(event.is_read_closed() || event.is_error());
-                }
-            }
-            self.queue(place);
+            self.queue(number);
         }
     }
 
     /// A turn of each member that has something to do.
-    #[tactic(auto, using(cache_server::proofs::Turning::goes_nowhere, cache_server::proofs::Turning::goes_further))]
-    fn run<R: AllocGlobal + Clock + Log>(&mut self, rt: &R, server: &mut Server<Global>)
-        ensures { GoesOn server.old server.new }
+    #[tactic(auto, using(crate::proofs::Keeping::keeps_nowhere, crate::proofs::Keeping::keeps_further, crate::proofs::Keeping::keeps_same))]
+    fn run<R: AllocGlobal + Clock + Log, N: Sockets<Stream = S>>(
+        &mut self,
+        rt: &R,
+        sockets: &mut N,
+        server: &mut Server<Global>,
+    )
+        ensures { (accepted : ℕ) → GoesOnTogether S.spoke N.ended
+            self.old.members.entries accepted server.old
+            self.new.members.entries accepted server.new }
     {
         let now = self.now(rt);
         let mut ready = mem::replace(&mut self.ready, Vec::new(rt.alloc()));
-        for place in ready.iter() {
-            self.turn(rt, server, *place, now);
+        for number in ready.iter() {
+            self.turn(rt, sockets, server, *number, now);
         }
         ready.clear();
         if self.ready.is_empty() {
             self.ready = ready;
         }
-        if self.eased {
-            self.eased = false;
+        if self.scales.eased {
+            self.scales.eased = false;
             self.release(rt.alloc());
         }
     }
@@ -316,10 +376,8 @@ impl Together {
     /// How many bytes of answers nobody else holds.
     fn held_alone(&self) -> u64 {
         let mut sum: u64 = 0;
-        for slot in self.members.iter() {
-            if let Some(member) = slot {
-                sum = sum.saturating_add(member.held_alone());
-            }
+        for (_, member) in self.members.iter() {
+            sum = sum.saturating_add(member.held_alone());
         }
         sum
     }
@@ -327,20 +385,20 @@ impl Together {
     /// Whether answers hold too much. An answer that the cache holds too costs nothing, so they are
     /// looked at one by one only where all of them together would be too much.
     fn is_full(&self) -> bool {
-        self.load.answers >= GREATEST && self.held_alone() >= GREATEST
+        self.scales.load.answers >= GREATEST && self.held_alone() >= GREATEST
     }
 
-    /// What the connection at the place may do. Where requests that aren't whole hold too much, each
-    /// may keep its share, and one of them is read to its end.
-    fn leave(&self, place: usize) -> Leave {
-        let is_senior = match self.senior {
-            Some(senior) => senior == place,
+    /// What the connection with the number may do. Where requests that aren't whole hold too much,
+    /// each may keep its share, and one of them is read to its end.
+    fn leave(&self, number: u64) -> Leave {
+        let is_senior = match self.scales.senior {
+            Some(senior) => senior == number,
             None => true,
         };
-        let kept = if self.load.requests < GREATEST || is_senior {
+        let kept = if self.scales.load.requests < GREATEST || is_senior {
             u64::MAX
         } else {
-            GREATEST / (self.members.len() as u64).max(1)
+            GREATEST / (self.at_once as u64).max(1)
         };
         Leave {
             answers: !self.is_full(),
@@ -348,132 +406,183 @@ impl Together {
         }
     }
 
-    /// Notes what a connection holds after its turn, and held before it.
-    fn weigh(&mut self, place: usize, before: &Load, after: &Load) {
-        self.load = self.load.without(before).with(after);
-        if after.is_less_than(before) {
-            self.eased = true;
-        }
-        match self.senior {
-            Some(senior) => if senior == place && after.requests == 0 {
-                self.senior = None;
-            },
-            None => if self.load.requests >= GREATEST && after.requests > 0 {
-                self.senior = Some(place);
-            },
-        }
-    }
-
     /// Those that were held have something to do.
-    fn release(&mut self, alloc: Global) {
-        if self.held.is_empty() {
-            return;
-        }
+    fn release(&mut self, alloc: Global)
+        ensures { AreSame self.old.members.entries self.new.members.entries }
+    {
         let held = mem::replace(&mut self.held, Vec::new(alloc));
-        for place in held.iter() {
-            if let Some(Some(member)) = self.members.get_mut(*place) {
-                member.is_held = false;
-            }
-            self.queue(*place);
+        for number in held.iter() {
+            self.let_go_on(*number);
+            self.queue(*number);
         }
     }
 
-    /// A turn of the member at the place.
-    #[tactic(auto, using(cache_server::proofs::Turning::goes_nowhere, cache_server::proofs::Turning::goes_further))]
-    fn turn<R: AllocGlobal + Log>(
+    /// The member with the number needn't wait for others any more.
+    fn let_go_on(&mut self, number: u64)
+        ensures { AreSame self.old.members.entries self.new.members.entries }
+    {
+        if let Some(member) = self.members.get_mut(&number) {
+            member.release();
+        }
+    }
+
+    /// A turn of the member with the number.
+    #[tactic(auto, using(crate::proofs::Keeping::keeps_same, crate::proofs::Keeping::keeps_further, crate::proofs::Keeping::keeps_moved, crate::proofs::Keeping::keeps_left))]
+    fn turn<R: AllocGlobal + Log, N: Sockets<Stream = S>>(
         &mut self,
         rt: &R,
+        sockets: &mut N,
         server: &mut Server<Global>,
-        place: usize,
+        number: u64,
         now: u64,
     )
-        ensures { GoesOn server.old server.new }
+        ensures { (accepted : ℕ) → GoesOnTogether S.spoke N.ended
+            self.old.members.entries accepted server.old
+            self.new.members.entries accepted server.new }
     {
-        let leave = self.leave(place);
-        let Some(Some(member)) = self.members.get_mut(place) else {
+        let Some((turn, was_held)) = self.advance(server, number, now) else {
             return;
         };
-        member.is_queued = false;
-        let was_held = member.is_held;
-        let before = member.load();
-        let turn = member.turn(
-            rt.alloc(),
-            server,
-            self.buffer.as_mut_slice(),
-            &mut self.gathered,
-            leave,
-            now,
-        );
-        let after = member.load();
-        if let Some(deadline) = member.deadline(self.idle, false) {
-            self.wake = self.wake.min(deadline);
-        }
-        self.weigh(place, &before, &after);
         match turn {
-            Turn::Again => self.queue(place),
+            Turn::Again => self.queue(number),
             Turn::Waits => (),
             Turn::Held => {
-                if !was_held && self.held.push(place).is_err() {
-                    self.end(rt, server, place, Err(ConnError::Memory));
+                if !was_held && self.held.push(number).is_err() {
+                    self.end(rt, sockets, server, number, Err(ConnError::Memory));
                 }
             }
-            Turn::Ends(end) => self.end(rt, server, place, end),
+            Turn::Ends(end) => self.end(rt, sockets, server, number, end),
         }
     }
 
-    /// Ends the connection at the place.
-    #[tactic(auto, using(cache_server::proofs::Turning::goes_nowhere, cache_server::proofs::Turning::goes_further))]
-    fn end<R: Log>(
+    /// What the member with the number can do after its turn, and whether it was held before.
+    fn advance(
+        &mut self,
+        server: &mut Server<Global>,
+        number: u64,
+        now: u64,
+    ) -> Option<(Turn, bool)>
+        ensures some { IfSome result (λ out. MovesOnAt (ends_by out.0) S.spoke number
+            server.old self.old.members.entries server.new self.new.members.entries) }
+        ensures server { result ≡ None → server.new ≡ server.old }
+        ensures members { result ≡ None
+            → AreSame self.old.members.entries self.new.members.entries }
+    {
+        let leave = self.leave(number);
+        let (turn, was_held, before, after, deadline) = {
+            let Some(member) = self.members.get_mut(&number) else {
+                return None;
+            };
+            member.queue(false);
+            let was_held = member.is_held();
+            let before = member.load();
+            let turn = member.turn(number, server, &mut self.desk, leave, now);
+            let deadline = member.deadline(self.idle, false);
+            (turn, was_held, before, member.load(), deadline)
+        };
+        self.wake = self.wake.min(deadline.unwrap_or(u64::MAX));
+        self.scales.weigh(number, &before, &after);
+        Some((turn, was_held))
+    }
+
+    /// Ends the connection with the number, if it is open.
+    fn end<R: Log, N: Sockets<Stream = S>>(
         &mut self,
         rt: &R,
+        sockets: &mut N,
         server: &mut Server<Global>,
-        place: usize,
+        number: u64,
         end: Result<(), ConnError>,
     )
-        ensures { GoesOn server.old server.new }
+        ensures { EndsIfAny S.spoke N.ended number
+            server.old self.old.members.entries server.new self.new.members.entries }
     {
-        let member = match self.members.get_mut(place) {
-            Some(slot) => slot.take(),
-            None => None,
-        };
-        let Some(member) = member else {
+        let Some(member) = self.take(number) else {
             return;
         };
-        self.weigh(place, &member.load(), &Load::none());
-        server.end(member.number);
-        let ended = Ended {
-            end,
-            counts: member.counts,
-            read: member.read,
-            written: member.written,
-        };
-        tell(rt, member.number, &member.peer, &ended);
-        self.leave_free(place);
-        self.waits = true;
+        self.scales.weigh(number, &member.load(), &Load::none());
+        self.door.waits = true;
+        let (stream, peer, traffic) = member.into_parts();
+        sockets.end(stream);
+        server.end(number);
+        tell(rt, number, &peer, &traffic, &end);
     }
 
-    /// Ends the connections that were silent for too long.
-    #[tactic(auto, using(cache_server::proofs::Turning::goes_nowhere, cache_server::proofs::Turning::goes_further))]
-    fn sweep<R: Clock + Log>(&mut self, rt: &R, server: &mut Server<Global>)
-        ensures { GoesOn server.old server.new }
+    /// Takes the member with the number out.
+    fn take(&mut self, number: u64) -> Option<Member<S>>
+        ensures held { member_at self.old.members.entries number ≡ result }
+        ensures gone { member_at self.new.members.entries number ≡ None }
+        ensures others { OthersAreSame number
+            self.old.members.entries self.new.members.entries }
+        ensures same { result ≡ None
+            → AreSame self.old.members.entries self.new.members.entries }
     {
-        let now = self.now(rt);
-        let pressed = self.load.requests >= GREATEST || self.is_full();
-        if now < self.wake && !pressed {
-            return;
+        self.members.remove(&number)
+    }
+
+    /// Ends the connections that are still open.
+    #[tactic(auto, using(crate::proofs::Keeping::keeps_nowhere, crate::proofs::Keeping::keeps_further, crate::proofs::Keeping::keeps_ended))]
+    fn end_all<R: Log, N: Sockets<Stream = S>>(
+        &mut self,
+        rt: &R,
+        sockets: &mut N,
+        server: &mut Server<Global>,
+        accepted: u64,
+    )
+        ensures keeps { GoesOnTogether S.spoke N.ended self.old.members.entries accepted server.old
+            self.new.members.entries accepted server.new }
+        ensures all { (k : ℕ) → k < accepted → member_at self.new.members.entries k ≡ None }
+    {
+        for number in 0..accepted {
+            self.end(rt, sockets, server, number, Err(ConnError::ReadFault));
         }
+    }
+
+    /// The connections that were silent for too long, and when the next one will have been.
+    fn overdue(&self, now: u64, pressed: bool, due: &mut Vec<u64, Global>) -> u64 {
         let mut wake = u64::MAX;
-        for place in 0..self.members.len() {
-            let (deadline, silence) = match self.members.get(place) {
-                Some(Some(member)) => (member.deadline(self.idle, pressed), member.silence()),
-                _ => (None, Ok(())),
-            };
-            match deadline {
-                Some(deadline) if deadline <= now => self.end(rt, server, place, silence),
+        for (number, member) in self.members.iter() {
+            match member.deadline(self.idle, pressed) {
+                Some(deadline) if deadline <= now => if due.push(*number).is_err() {
+                    wake = now;
+                },
                 Some(deadline) => wake = wake.min(deadline),
                 None => (),
             }
         }
-        self.wake = wake;
+        wake
+    }
+
+    /// What came of the connection with the number where it was silent for too long.
+    fn silence(&self, number: u64) -> Result<(), ConnError> {
+        match self.members.get(&number) {
+            Some(member) => member.silence(),
+            None => Ok(()),
+        }
+    }
+
+    /// Ends the connections that were silent for too long.
+    #[tactic(auto, using(crate::proofs::Keeping::keeps_nowhere, crate::proofs::Keeping::keeps_further, crate::proofs::Keeping::keeps_ended))]
+    fn sweep<R: AllocGlobal + Clock + Log, N: Sockets<Stream = S>>(
+        &mut self,
+        rt: &R,
+        sockets: &mut N,
+        server: &mut Server<Global>,
+    )
+        ensures { (accepted : ℕ) → GoesOnTogether S.spoke N.ended
+            self.old.members.entries accepted server.old
+            self.new.members.entries accepted server.new }
+    {
+        let now = self.now(rt);
+        let pressed = self.scales.load.requests >= GREATEST || self.is_full();
+        if now < self.wake && !pressed {
+            return;
+        }
+        let mut due = Vec::new(rt.alloc());
+        self.wake = self.overdue(now, pressed, &mut due);
+        for number in due.iter() {
+            let silence = self.silence(*number);
+            self.end(rt, sockets, server, *number, silence);
+        }
     }
 }

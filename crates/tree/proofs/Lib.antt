@@ -61,3 +61,5 @@ pub mod MergeJoins
 pub mod MergeTotal
 pub mod MergeFaults
 pub mod MergeAlike
+pub mod GivenKeys
+pub mod GivenLines

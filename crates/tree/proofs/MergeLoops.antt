@@ -1,19 +1,19 @@
 -- Lines at a path, one after another.
-use Rattle.std.proofs.Common.{◌≡◌, ◌≢◌, ℕ, zero, suc, ◌+◌, ◌<◌, ◌≤◌, List, [], ◌∷◌, ◌++◌, length, map, take, get_or, refl, ap, sym, ◌∙◌, subst, arith, Bool, true, false, cond, ◌||◌, append_assoc}
+use Rattle.std.proofs.Common.{◌≡◌, ◌≢◌, ℕ, zero, suc, ◌+◌, ◌<◌, ◌≤◌, List, [], ◌∷◌, ◌++◌, length, map, take, get_or, refl, ap, sym, ◌∙◌, subst, arith, true, false, cond, append_assoc}
 use Rattle.std.specs.Prelude.{Some, ◌==◌, slice_get}
-use Rattle.std.specs.List.{AllByRecursion, list_any, slice_index_or, remove}
+use Rattle.std.specs.List.{AllByRecursion, slice_index_or, remove}
 use Rattle.std.proofs.lemmas.List.{take_all}
 use Rattle.messages.specs.declared.node.Node.TheVariants.{File, Link, Dir}
 use Rattle.messages.specs.FileNode.{FileNodeValue}
 use Rattle.messages.specs.DirectoryNode.{DirectoryNodeValue}
 use Rattle.messages.specs.SymlinkNode.{SymlinkNodeValue}
 use Rattle.tree.specs.Tree.{Name}
-use Rattle.tree.specs.Form.{NodeValue, node_value}
+use Rattle.tree.specs.Form.{node_value}
 use Rattle.tree.specs.declared.merging.Part.{Part}
 use Rattle.messages.specs.declared.node.Node.{Node}
 use Rattle.messages.specs.DirectoryRules.{directory_with}
 use Rattle.tree.specs.declared.merging.Within.{Within}
-use Rattle.tree.specs.Merging.{within_value, node_within, merge_lines, WithinValue, NodeWithin, MergeLines, gives_node, is_repeated, counted, CanMeetAt, CanMeet, child_lines}
+use Rattle.tree.specs.Merging.{within_value, node_within, merge_lines, WithinValue, NodeWithin, MergeLines, is_repeated, counted, CanMeetAt, CanMeet, child_lines}
 use Rattle.tree.specs.MergeParts.{part_value, part_values, within_in, within_of}
 use Rattle.tree.proofs.VisitSteps.{none_after}
 
@@ -63,48 +63,6 @@ module _ {A : Type 0} (W : ℕ → WithinValue) where
       → CanMeet deeper (part_values W parts) → ⊥
   meets_not zero parts i part lt is fails h = h
   meets_not (suc deeper) parts i part lt is fails h = fails (one_at Meets parts i part lt is (mapped (part_value W) (λ q. CanMeetAt q.0 q.1) parts h))
-
-  -- ---- whether one is repeated
-
-  any_more : (test : List Name × NodeWithin → Bool) (parts : List (Part A)) (i : ℕ) (part : Part A) → i < length parts → part ≡ get_or parts i part → list_any test (part_values W (take i parts)) ≡ false → test (part_value W part) ≡ false
-      → list_any test (part_values W (take (i + 1) parts)) ≡ false
-  any_more test [] i part lt is h none = absurd (omega (arith, lt))
-  any_more test (y ∷ parts) zero part lt is h none = ap (λ p. test (part_value W p) || false) (sym is) ∙ ap (λ b. b || false) none
-  any_more test (y ∷ parts) (suc i) part lt is h none = by (test (part_value W y)) refl (λ rest. any_more test parts i part (omega (arith, lt)) is rest none)
-    where
-      more : suc (i + 1) ≡ suc i + 1
-      more = omega arith
-
-      by : (b : Bool) → test (part_value W y) ≡ b → (list_any test (part_values W (take i parts)) ≡ false → list_any test (part_values W (take (i + 1) parts)) ≡ false) → list_any test (part_values W (take (suc i + 1) (y ∷ parts))) ≡ false
-      by true e ih = absurd (let was : true ≡ false = sym (ap (λ b. b || list_any test (part_values W (take i parts))) e) ∙ h in cc)
-      by false e ih =
-          let rest : list_any test (part_values W (take i parts)) ≡ false = sym (ap (λ b. b || list_any test (part_values W (take i parts))) e) ∙ h in
-          ap (λ k. list_any test (part_values W (take k (y ∷ parts)))) (sym more)
-          ∙ ap (λ b. b || list_any test (part_values W (take (i + 1) parts))) e
-          ∙ ih rest
-
-  any_there : (test : List Name × NodeWithin → Bool) (parts : List (Part A)) (i : ℕ) (part : Part A) → i < length parts → part ≡ get_or parts i part → test (part_value W part) ≡ true → list_any test (part_values W parts) ≡ true
-  any_there test [] i part lt is h = absurd (omega (arith, lt))
-  any_there test (y ∷ parts) zero part lt is h = ap (λ p. test (part_value W p) || list_any test (part_values W parts)) (sym is) ∙ ap (λ b. b || list_any test (part_values W parts)) h
-  any_there test (y ∷ parts) (suc i) part lt is h = by (test (part_value W y)) (any_there test parts i part (omega (arith, lt)) is h)
-    where
-      by : (b : Bool) → list_any test (part_values W parts) ≡ true → b || list_any test (part_values W parts) ≡ true
-      by true e = refl
-      by false e = e
-
-  pub repeated_at : (parts : List (Part A)) (names : List Name) (g : NodeWithin) (i : ℕ) (part : Part A) → length names ≡ 0 → i < length parts → part ≡ get_or parts i part → gives_node g.node part.names.items (record { node = node_value part.node; within = W part.line }) ≡ true
-      → is_repeated (part_values W parts) names g ≡ true
-  repeated_at parts [] g i part none lt is h = any_there (λ k. gives_node g.node k.0 k.1) parts i part lt is h
-  repeated_at parts (n ∷ p) g i part none lt is h = absurd (omega (arith, none))
-
-  pub repeated_more : (parts : List (Part A)) (x : NodeValue) (i : ℕ) (part : Part A) → i < length parts → part ≡ get_or parts i part → list_any (λ k. gives_node x k.0 k.1) (part_values W (take i parts)) ≡ false
-      → gives_node x part.names.items (record { node = node_value part.node; within = W part.line }) ≡ false → list_any (λ k. gives_node x k.0 k.1) (part_values W (take (i + 1) parts)) ≡ false
-  repeated_more parts x i part lt is h none = any_more (λ k. gives_node x k.0 k.1) parts i part lt is h none
-
-  pub repeated_none : (parts : List (Part A)) (names : List Name) (g : NodeWithin) (i : ℕ) → length names ≡ 0 → length parts ≤ i → list_any (λ k. gives_node g.node k.0 k.1) (part_values W (take i parts)) ≡ false
-      → is_repeated (part_values W parts) names g ≡ false
-  repeated_none parts [] g i none le h = ap (λ ps. list_any (λ k. gives_node g.node k.0 k.1) (part_values W ps)) (sym (take_all i parts le)) ∙ h
-  repeated_none parts (n ∷ p) g i none le h = absurd (omega (arith, none))
 
 -- ---- what counts once
 

@@ -18,5 +18,6 @@ pub mod Merge
 pub mod Stage
 pub mod Merging
 pub mod MergeLooks
+pub mod Given
 pub mod MergeParts
 pub mod MergeAgrees

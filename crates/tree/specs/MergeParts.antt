@@ -1,6 +1,7 @@
 -- What the private functions that merge lines speak of: lines as they are kept.
-use Rattle.std.specs.Prelude.{ℕ, List, [], map, Option, Some, None, slice_get}
-use Rattle.std.specs.List.{AllByRecursion}
+use Rattle.std.specs.Prelude.{◌≡◌, ℕ, Bool, not, List, [], ◌∷◌, ◌++◌, map, Option, Some, None}
+use Rattle.std.specs.Prelude.{slice_get, if◌then◌else◌}
+use Rattle.std.specs.List.{AllByRecursion, list_any}
 use Rattle.std.specs.declared.vec.Vec.{Vec}
 use Rattle.messages.specs.declared.node.Node.{Node}
 use Rattle.tree.specs.declared.merging.Part.{Part}
@@ -11,7 +12,7 @@ use Rattle.tree.specs.Form.{NodeValue, node_value}
 use Rattle.tree.specs.Lines.{IsGraftLine}
 use Rattle.tree.specs.Stage.{Stage}
 use Rattle.tree.specs.Merging.{WithinValue, in_source, NodeWithin, MergeLines, MergeFault}
-use Rattle.tree.specs.Merging.{within_value}
+use Rattle.tree.specs.Merging.{within_value, same_node, gives_node, is_repeated}
 use Rattle.tree.specs.Visiting.{IsVisitOf}
 
 -- where what is below the node of a line is read, by the line's number
@@ -49,3 +50,16 @@ IsLawfulLine l = IsGraftLine (l.0, l.1.node)
 
 abbrev pub AreLawfulLines : MergeLines → Type 0
 AreLawfulLines ls = AllByRecursion IsLawfulLine ls
+
+-- the nodes that lines give at the path itself
+abbrev pub AreGivenBy : MergeLines → List NodeValue → Type 0
+AreGivenBy ls nodes =
+    (x : NodeValue) → list_any (same_node x) nodes ≡ list_any (λ l. gives_node x l.0 l.1) ls
+
+-- A line behind these counts unless it is repeated, and then its node is given too.
+abbrev pub CountsAfter : MergeLines → List Name × NodeWithin → List NodeValue → List NodeValue
+    → Bool → Type 0
+CountsAfter earlier l old new counts =
+    AreGivenBy earlier old
+    → (counts ≡ not (is_repeated earlier l.0 l.1))
+    × AreGivenBy (if counts then earlier ++ l ∷ [] else earlier) new

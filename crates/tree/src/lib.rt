@@ -8,6 +8,7 @@ mod error;
 mod fetching;
 mod flat_tree;
 mod folding;
+mod given;
 mod laws;
 mod looking_up;
 mod memo;

@@ -12,16 +12,17 @@ ghost use Rattle.tree.specs.Form.{node_value};
 ghost use Rattle.tree.specs.Lookup.{names_in};
 ghost use Rattle.tree.specs.Memo.{IsKnownOf, WasRefused, Learns, known_by};
 ghost use Rattle.tree.specs.Merging.{AreHeld, CanMeet, ExplainsMerge, IsFirstIn, IsHeldIn};
-ghost use Rattle.tree.specs.Merging.{counted, grouped, is_repeated, lone, merge_lines, merged};
-ghost use Rattle.tree.specs.Merging.{merged_in, node_opened, opened, same_node};
-ghost use Rattle.tree.specs.Merging.{IsFoldOfMerged, MergeLines, CanMeetAt, child_lines, gives_node};
+ghost use Rattle.tree.specs.Merging.{counted, grouped, lone, merge_lines, merged, merged_in};
+ghost use Rattle.tree.specs.Merging.{node_opened, opened, IsFoldOfMerged, MergeLines, CanMeetAt};
+ghost use Rattle.tree.specs.Merging.{child_lines};
 ghost use Rattle.tree.specs.Merging.{WithinValue, in_source, in_tree};
 ghost use Rattle.tree.specs.MergeLooks.{MergeLooksAt, MergeLooksIn, NodeLooksAt, OpenedLooksAt};
 ghost use Rattle.tree.specs.MergeParts.{IsVisitOfMerged, found_parts, group_values, part_value, within_of};
-ghost use Rattle.tree.specs.MergeParts.{AreLawfulLines, part_values};
+ghost use Rattle.tree.specs.MergeParts.{AreLawfulLines, CountsAfter, part_values};
 
 use crate::error::TreeError;
 use crate::folding::{Folded, each_once};
+use crate::given::Given;
 use crate::memo::Memo;
 use crate::unfolding::child_path;
 use crate::visiting::{Children, Visited};
@@ -86,50 +87,20 @@ fn group<A: Allocator + Copy>(alloc: A, parts: Vec<Part<A>, A>) -> Result<Groups
     Ok(groups)
 }
 
-fn is_same_node<A: Allocator>(node: &Node<A>, other: &Node<A>) -> bool
-    ensures { result ≡ same_node (node_value node.now) (node_value other.now) }
+/// Whether a line counts at a path: it goes on below, or its node isn't among those given before.
+fn counts<A: Allocator + Copy>(
+    alloc: A,
+    part: &Part<A>,
+    given: &mut Given<A>,
+) -> Result<bool, AllocError>
+    ensures { (W : ℕ → WithinValue) (earlier : MergeLines) → IfOk result
+        (CountsAfter earlier (part_value W part.now) given.old given.new) }
 {
-    match node {
-        Node::File { digest, executable } => match other {
-            Node::File {
-                digest: other,
-                executable: bit,
-            } => digest == other && executable == bit,
-            Node::Link { .. } | Node::Dir(_) => false,
-        },
-        Node::Link { target } => match other {
-            Node::Link { target: other } => target == other,
-            Node::File { .. } | Node::Dir(_) => false,
-        },
-        Node::Dir(digest) => match other {
-            Node::Dir(other) => digest == other,
-            Node::File { .. } | Node::Link { .. } => false,
-        },
+    if part.names.is_empty() {
+        given.insert(alloc, &part.node)
+    } else {
+        Ok(true)
     }
-}
-
-/// The other line gives the node at the path itself.
-fn gives_node<A: Allocator>(node: &Node<A>, other: &Part<A>) -> bool
-    ensures { (W : ℕ → WithinValue) → result ≡ gives_node (node_value node.now)
-        (part_value W other.now).0 (part_value W other.now).1 }
-{
-    other.names.is_empty() && is_same_node(node, &other.node)
-}
-
-/// An earlier line gives the same node at the path itself.
-fn is_repeated<A: Allocator>(earlier: &[Part<A>], part: &Part<A>) -> bool
-    ensures { (W : ℕ → WithinValue) → result ≡ is_repeated (part_values W earlier.now)
-        (part_value W part.now).0 (part_value W part.now).1 }
-{
-    if !part.names.is_empty() {
-        return false;
-    }
-    for other in earlier {
-        if gives_node(&part.node, other) {
-            return true;
-        }
-    }
-    false
 }
 
 /// The lines at a path, without those whose node an earlier one gives there.
@@ -140,9 +111,14 @@ fn count_once<A: Allocator + Copy>(
     ensures { (W : ℕ → WithinValue) → IfOk result
         (λ v. part_values W v.items ≡ counted [] (part_values W parts.items)) }
 {
+    if parts.len() < 2 {
+        return Ok(parts);
+    }
+    let mut given = Given::new(alloc);
     let mut kept = Vec::new(alloc);
     for part in parts {
-        if !is_repeated(&kept, &part) {
+        let is_new = counts(alloc, &part, &mut given)?;
+        if is_new {
             kept.push(part)?;
         }
     }

@@ -46,6 +46,7 @@ use Rattle.verifier.specs.Build.{Meaning, ActionMeaning, action_digest, Outcome,
 use Rattle.verifier.specs.Headline.{IsDirectoryInTree, IsBlobOfEntry, IsBlobOfAction, IsBlobOfOutcome, IsBlobOfEvent, IsBlobOfEvents, IsBlobOfChosen, HasFinished, IsNotStuck, IsAsChosen}
 use Rattle.verifier.specs.Recorded.{Agrees, IsRecordedAs, RecordsAt}
 use Rattle.verifier.proofs.HeldOrigins.{IsLawfulTree, source_held, outcome_held}
+use Rattle.verifier.proofs.LinesTold.{lawful_tree, tree_blobs, IsRead, LinesTell, no_lines, one_more, told_graft}
 use Rattle.verifier.proofs.OutputLookups.{HoldsTree, HoldsOutput, mapped_from, output_found, outputs_tell}
 use Rattle.verifier.proofs.RecordedSteps.{get_other, as_many, IsRecordedStep, step_at}
 use Rattle.verifier.proofs.Targets.{ArePaths, paths_of, step_paths, some_names, output_ordered}
@@ -233,21 +234,7 @@ module _ (S : List ℕ → Type 0) (apart : NoClash S) where
               within.picked b (done.0, holds_at chosen j done.0 done.1, inr (subst (λ (z : Outcome). IsBlobOfOutcome z b) done.2 (there.0, there.1, own)))
 
       -- where what is below an origin is read
-      record IsRead (x : NodeWithin) : Type 0 where
-        held : IsHeldIn x.within x.node
-        blobs : (b : List ℕ) → IsBlobIn x.within b → S b
-
-      lawful_tree : (v : OutputValue) → HoldsOutput S apart v → IsLawfulTree v
-      lawful_tree (outputs.File d executable) k = tt
-      lawful_tree (outputs.Link target) k = tt
-      lawful_tree (outputs.Tree u) k = k.lawful
-
-      tree_blobs : (v : OutputValue) → HoldsOutput S apart v → (b : List ℕ) → IsBlobIn (within_output v) b → S b
-      tree_blobs (outputs.File d executable) k b q = absurd q
-      tree_blobs (outputs.Link target) k b q = absurd q
-      tree_blobs (outputs.Tree u) k b q = let m = mapped_from directory_bytes (u.root ∷ u.children) b q in subst S m.2 (k.held m.0 m.1)
-
-      origin_read : (o : OriginValue) (x : NodeWithin) → StandsAtOrigin B src h.outcomes o x → IsRead x
+      origin_read : (o : OriginValue) (x : NodeWithin) → StandsAtOrigin B src h.outcomes o x → IsRead S x
       origin_read (source p) x k = record {
         held = subst (λ w. IsHeldIn w x.node) (sym k.within) (source_held x.node);
         blobs = λ b q. absurd (subst (λ w. IsBlobIn w b) k.within q);
@@ -263,52 +250,22 @@ module _ (S : List ℕ → Type 0) (apart : NoClash S) where
           let holds : (e : List Name × OutputValue) → Contains v.outputs e → HoldsOutput S apart e.1 =
           subst (λ (o : OutcomeValue). (e : List Name × OutputValue) → Contains o.outputs e → HoldsOutput S apart e.1) same (holds_outputs told.recorded c.kept.outcome.outputs told.outputs) in
           record {
-            held = outcome_held v (subst IsOutcome same told.lawful) (λ e here. lawful_tree e.1 (holds e here)) p x k.node.2 lies;
-            blobs = λ b q. tree_blobs lies.0.1 (holds lies.0 lies.1) b (subst (λ w. IsBlobIn w b) lies.3 q);
+            held = outcome_held v (subst IsOutcome same told.lawful) (λ e here. lawful_tree apart e.1 (holds e here)) p x k.node.2 lies;
+            blobs = λ b q. tree_blobs apart lies.0.1 (holds lies.0 lies.1) b (subst (λ w. IsBlobIn w b) lies.3 q);
           }
 
       -- what stands at the origins of lines is what was looked up there
-      record LinesTell (s : State) (ls : List LineValue) (xs : MergeLines) : Type 0 where
-        entries : TreeLines
-        are : origins t s ls ≡ Some entries
-        stand : StandFor xs entries
-        held : AreHeld xs
-        trees : (b : List ℕ) → IsBlobOfTrees xs b → S b
-        blobs : (b : List ℕ) → IsBlobOfEntries entries b → S b
-        mergeable : AreMergeable entries
-
-      lines_tell : (s : State) → Keeps s → (ls : List LineValue) → ArePaths ls → (xs : MergeLines) → Resolves B src h.outcomes ls xs → HaveFinished s ls → LinesTell s ls xs
-      lines_tell s keeps [] paths xs r done = subst (LinesTell s []) (sym r) (record { entries = []; are = refl; stand = tt; held = tt; trees = λ b q. absurd q; blobs = λ b q. absurd q; mergeable = tt })
+      lines_tell : (s : State) → Keeps s → (ls : List LineValue) → ArePaths ls → (xs : MergeLines) → Resolves B src h.outcomes ls xs → HaveFinished s ls → LinesTell S t s ls xs
+      lines_tell s keeps [] paths xs r done = subst (LinesTell S t s []) (sym r) (no_lines S t s)
       lines_tell s keeps (l ∷ ls) paths xs r done =
-          subst (LinesTell s (l ∷ ls)) (sym r.4)
-          (one (origin_at t s l.origin) refl (origin_tells s keeps l.origin r.0.node r.1.node done.0) (origin_ordered s keeps l.origin) (origin_read l.origin r.0 r.1) (lines_tell s keeps ls paths.1 r.2 r.3 done.1))
-        where
-          one : (o : Option (Entry Leaf)) → origin_at t s l.origin ≡ o → option_map entry_node (origin_at t s l.origin) ≡ Some r.0.node → IsOrderedAt (origin_at t s l.origin) → IsRead r.0 → LinesTell s ls r.2
-              → LinesTell s (l ∷ ls) ((l.target, r.0) ∷ r.2)
-          one None is told in_order read rest = absurd (let none : ◌≡◌ {A = Option NodeValue} None (Some r.0.node) = sym (ap (option_map entry_node) is) ∙ told in cc)
-          one (Some e) is told in_order read rest =
-              let both : ◌≡◌ {A = Option NodeValue} (Some (entry_node e)) (Some r.0.node) = sym (ap (option_map entry_node) is) ∙ told in
-              let node : entry_node e ≡ r.0.node = cc in
-              let ordered : IsOrderedEntry e = subst IsOrderedAt is in_order in
-              let some : l.target ≢ [] = some_names l.target paths.0.some in
-              record {
-                entries = (l.target, e) ∷ rest.entries;
-                are = ap (λ o. option_and_then (λ e. option_map (λ es. (l.target, e) ∷ es) (origins t s ls)) o) is ∙ ap (option_map (λ es. (l.target, e) ∷ es)) rest.are;
-                stand = (record { target = refl; node = sym node; ordered = ordered; some = some; few = paths.0.few }, rest.stand);
-                held = (read.held, rest.held);
-                trees = λ b q. elim q [ inl k ↦ read.blobs b k | inr k ↦ rest.trees b k ];
-                blobs = λ b q. elim q [ inl k ↦ origin_blobs s keeps l.origin e is b k | inr k ↦ rest.blobs b k ];
-                mergeable = ((some, ordered), rest.mergeable);
-              }
+          subst (LinesTell S t s (l ∷ ls)) (sym r.4)
+          (one_more S t s l r.0 ls r.2 paths.0 (origin_tells s keeps l.origin r.0.node r.1.node done.0) (origin_ordered s keeps l.origin) (origin_read l.origin r.0 r.1) (origin_blobs s keeps l.origin)
+          (lines_tell s keeps ls paths.1 r.2 r.3 done.1))
 
       -- what lines whose steps have finished put together is there, with the digest that was found
       grafts : (s : State) → Keeps s → (ls : List LineValue) → ArePaths ls → (xs : MergeLines) → Resolves B src h.outcomes ls xs → (made : Tree NodeValue) → (merged B xs).passes made → HaveFinished s ls
           → (g : Tree Leaf) × (graft_of t s ls ≡ Some g) × (root (form g) ≡ root made) × IsOrdered g
-      grafts s keeps ls paths xs r made merges done =
-          let k = lines_tell s keeps ls paths xs r done in
-          let inside : (b : List ℕ) → IsOfMerge B xs k.entries b → S b = λ b q. elim q [ inl v ↦ within.values b v | inr (inl u) ↦ k.trees b u | inr (inr e) ↦ k.blobs b e ] in
-          let g = (merges_tell B xs).trees k.entries k.held k.stand (λ a b p q is. apart a b (inside a p) (inside b q) is) made merges in
-          (g.0, ap (option_and_then merge) k.are ∙ (tells_merge k.entries).complete k.mergeable g.0 g.1, g.2, g.1.ordered)
+      grafts s keeps ls paths xs r made merges done = told_graft S t s apart B within.values (lines_tell s keeps ls paths xs r done) made merges
 
       -- where a graft is there, the steps that its lines read have finished
       origin_finished : (s : State) (o : OriginValue) (e : Entry Leaf) → origin_at t s o ≡ Some e → HasFinished s o
@@ -449,12 +406,17 @@ module _ (S : List ℕ → Type 0) (apart : NoClash S) where
           one (output j p) look = let step = origin_step j look.0 look.1 in all j step.0 step.1
 
       -- A complete run ends in a tree with the claim as its digest.
-      pub ends_in_claim : (end : State) → Keeps end → HasFinishedAll plan end → IsSomeAnd (graft_of t end plan.root_lines) (λ g. root (form g) ≡ claim)
-      ends_in_claim end keeps all =
+      pub end_tree : (end : State) → Keeps end → HasFinishedAll plan end
+          → (g : Tree Leaf) × (graft_of t end plan.root_lines ≡ Some g) × (root (form g) ≡ claim) × IsOrdered g
+      end_tree end keeps all =
           let paths = paths_of (length plan.steps) plan.root_lines rules.root_lines.each in
           let g = grafts end keeps plan.root_lines paths h.root.nodes h.root.resolved h.root.tree h.root.put_together (finished_all end all plan.root_lines h.root.nodes h.root.resolved) in
-          let roots : root (form g.0) ≡ claim = g.2 ∙ h.root.same in
-          subst (λ o. IsSomeAnd o (λ g. root (form g) ≡ claim)) (sym g.1) roots
+          (g.0, g.1, g.2 ∙ h.root.same, g.3)
+
+      pub ends_in_claim : (end : State) → Keeps end → HasFinishedAll plan end → IsSomeAnd (graft_of t end plan.root_lines) (λ g. root (form g) ≡ claim)
+      ends_in_claim end keeps all =
+          let g = end_tree end keeps all in
+          subst (λ o. IsSomeAnd o (λ g. root (form g) ≡ claim)) (sym g.1) g.2
 
       -- Nothing is stuck.
       pub nothing_is_stuck : (now : State) → Keeps now → IsNotStuck X plan meaning t now

@@ -1,4 +1,5 @@
 pub mod Holds
+pub mod InStages
 pub mod TwoSteps
 pub mod TwoStepsRecorded
 pub mod TwoStepsRun
@@ -13,6 +14,7 @@ pub mod Passing
 pub mod OutputLookups
 pub mod RecordedSteps
 pub mod HeldOrigins
+pub mod LinesTold
 pub mod FreshRuns
 pub mod Explained
 pub mod Checking

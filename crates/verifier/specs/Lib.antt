@@ -9,6 +9,7 @@ pub mod LooksAt
 pub mod StepChecks
 pub mod Checks
 pub mod Verdict
+pub mod BuildStages
 pub mod AsRecorded
 pub mod TwoSteps
 pub mod Answers

@@ -1,4 +1,4 @@
-ghost use Rattle.std.specs.Prelude.{◌≡◌, ◌↔◌, ℕ, List, [], length, ◌++◌, Some, Contains, option_map};
+ghost use Rattle.std.specs.Prelude.{◌≡◌, ◌↔◌, ℕ, List, [], length, ◌++◌, ◌∷◌, Some, Contains, option_map};
 ghost use Rattle.blob_digest.specs.Digest.{DigestValue, NoClash};
 ghost use Rattle.blob_digest.specs.DigestValue.{IsDigest};
 ghost use Rattle.plan.specs.Plan.{IsPlan};
@@ -28,7 +28,9 @@ ghost use Rattle.verifier.specs.Build.{Outcome, IsTreeOutcome, output_at, openin
 ghost use Rattle.verifier.specs.Build.{State, IsTable, IsRun, HasFinishedAll, AreLinesOf, graft_of};
 ghost use Rattle.verifier.specs.Build.{origins};
 ghost use Rattle.verifier.specs.Headline.{IsConcerned, EveryRunEndsIn, EveryRunIsAsChosen};
-ghost use Rattle.verifier.specs.Headline.{NoRunIsStuck};
+ghost use Rattle.verifier.specs.Headline.{NoRunIsStuck, IsNotStuck};
+ghost use Rattle.verifier.specs.BuildStages.{BuildStage, AreYes, last_claim, StageRun, RunsFrom};
+ghost use Rattle.verifier.specs.BuildStages.{EndsIn, RunInTurn};
 ghost use Rattle.verifier.specs.Recorded.{RecordsAt, Agrees};
 ghost use Rattle.verifier.specs.TwoSteps as two;
 ghost use Rattle.verifier.specs.Verdict.{IsVerdict, IsYes};
@@ -51,6 +53,28 @@ pub fn recorded_plans_end_in_the_claim()
         (recorded : List DigestValue) (claim : DigestValue) → IsPlan plan
         → IsPlanAsRecorded blobs results sources plan recorded claim
         → EveryRunIsAsChosen blobs results sources plan recorded }
+{}
+
+/// Where each of some stages has a yes, from the claim of the stage before it, complete runs of all
+/// of them, one after another, end in a tree with the last claim. No run of a stage is ever stuck,
+/// and what a complete one made is there, for the next to begin from. A law: it does nothing.
+pub fn stages_end_in_the_last_claim<A: Allocator>()
+    ensures ends { (sources : DigestValue) (stages : List BuildStage) (runs : List StageRun)
+        (t end : Tree Leaf) → AreYes A sources stages
+        → IsOrdered t → root (form t) ≡ sources → RunInTurn t stages runs end
+        → root (form end) ≡ last_claim sources stages }
+    ensures unstuck { (sources : DigestValue) (stages : List BuildStage) (runs : List StageRun)
+        (t between : Tree Leaf) (stage : BuildStage) (run : StageRun)
+        → AreYes A sources (stages ++ stage ∷ [])
+        → IsOrdered t → root (form t) ≡ sources → RunInTurn t stages runs between
+        → RunsFrom between stage run
+        → IsNotStuck run.table stage.plan run.meaning between run.now }
+    ensures made { (sources : DigestValue) (stages : List BuildStage) (runs : List StageRun)
+        (t between : Tree Leaf) (stage : BuildStage) (run : StageRun)
+        → AreYes A sources (stages ++ stage ∷ [])
+        → IsOrdered t → root (form t) ≡ sources → RunInTurn t stages runs between
+        → RunsFrom between stage run → HasFinishedAll stage.plan run.now
+        → (end : Tree Leaf) × EndsIn between stage run end }
 {}
 
 /// What lines of a plan of version 1 put together is their graft. A law: it does nothing.

@@ -1,31 +1,55 @@
-use Rattle.std.proofs.Common.{◌≡◌, ◌∷◌, Err, rules, ap, sym, subst}
+use Rattle.std.proofs.Common.{◌≡◌, List, [], ◌∷◌, length, refl, rules, ap, sym, subst, arith}
 use Rattle.http_core.specs.Event.{event_of, events_of}
-use Rattle.cache_server.proofs.Serving.{on_err, passed}
-use Rattle.cache_server.proofs.Counting.{TellsOnCounting, counted_first, counted_more, counted_some, counted_front}
+use Rattle.cache_server.specs.Answer.{text_of}
+use Rattle.cache_server.specs.Writing.{StopsTelling}
 use Rattle.cache_server.specs.declared.error.ConnError.TheVariants.{Memory}
+use Rattle.cache_server.proofs.Serving.{err_and}
+use Rattle.cache_server.proofs.Telling.{TellsOn, told_first, told_more, told_part, told_so_far}
 use Rattle.cache_server.proofs.answering.answer_all.Goals as goal
 
 pub loop-event-init : goal.loop-event-init
-loop-event-init g c = (tt, tt, counted_first c.args.cache.now (events_of c.args.events.items) (events_of c.into_iter-event-iterator.result.rest.items) (g.W.Write.contents c.args.writer.now) c.args.counts.now (ap events_of (sym c.into_iter-event-iterator.ensures.into_iter_gives.0)))
+loop-event-init g c = (tt, tt, told_first c.args.cache.now (events_of c.args.events.items) (events_of c.into_iter-event-iterator.result.rest.items) (g.W.Write.contents c.args.writer.now) (ap events_of (sym c.into_iter-event-iterator.ensures.into_iter_gives.0)))
 
 pub loop-event-preserved : goal.loop-event-preserved
 loop-event-preserved g c =
     let left = c.next.new.self.rest.items in
     let steps : c.loop-event.event-iterator.rest.items ≡ c.in-Some.event ∷ left = search rules in
-    let on = subst (λ z. TellsOnCounting c.args.cache.now (events_of c.args.events.items) (events_of z) (g.W.Write.contents c.args.writer.now) (g.W.Write.contents c.loop-event.writer) c.loop-event.cache c.args.counts.now c.loop-event.counts) steps c.loop-event.invariant.2 in
-    (tt, tt, counted_more c.args.cache.now c.loop-event.cache c.answer.new.cache (events_of c.args.events.items) (events_of left) (event_of c.in-Some.event) (g.W.Write.contents c.args.writer.now) (g.W.Write.contents c.loop-event.writer) (g.W.Write.contents c.answer.new.writer) c.args.counts.now c.loop-event.counts c.answer.new.counts on c.in_ok-answer.ensures.ok c.in_ok-answer.ensures.counted)
+    let on = subst (λ z. TellsOn c.args.cache.now (events_of c.args.events.items) (events_of z) (g.W.Write.contents c.args.writer.now) (g.W.Write.contents c.loop-event.writer) c.loop-event.cache) steps c.loop-event.invariant.2 in
+    (tt, tt, told_more c.args.cache.now c.loop-event.cache c.answer.new.self (events_of c.args.events.items) (events_of left) (event_of c.in-Some.event) (text_of c.in_ok-answer.answer) (g.W.Write.contents c.args.writer.now) (g.W.Write.contents c.loop-event.writer) (g.W.Write.contents c.write_answer.new.writer) on c.in_ok-answer.ensures.ok c.in_ok-write_answer.ensures.ok)
+
+pub loop-event-preserved-in_ok-write_answer : goal.loop-event-preserved-in_ok-write_answer
+loop-event-preserved-in_ok-write_answer g c =
+    let left = c.next.new.self.rest.items in
+    let steps : c.loop-event.event-iterator.rest.items ≡ c.in-Some.event ∷ left = search rules in
+    let on = subst (λ z. TellsOn c.args.cache.now (events_of c.args.events.items) (events_of z) (g.W.Write.contents c.args.writer.now) (g.W.Write.contents c.loop-event.writer) c.loop-event.cache) steps c.loop-event.invariant.2 in
+    (tt, tt, told_more c.args.cache.now c.loop-event.cache c.answer.new.self (events_of c.args.events.items) (events_of left) (event_of c.in-Some.event) (text_of c.in_ok-answer.answer) (g.W.Write.contents c.args.writer.now) (g.W.Write.contents c.loop-event.writer) (g.W.Write.contents c.write_answer.new.writer) on c.in_ok-answer.ensures.ok c.in_ok-write_answer.ensures.ok)
 
 pub returns-in_err-answer-clause-err : goal.returns-in_err-answer-clause-err
 returns-in_err-answer-clause-err g c =
     let left = c.next.new.self.rest.items in
     let steps : c.loop-event.event-iterator.rest.items ≡ c.in-Some.event ∷ left = search rules in
-    let on = subst (λ z. TellsOnCounting c.args.cache.now (events_of c.args.events.items) (events_of z) (g.W.Write.contents c.args.writer.now) (g.W.Write.contents c.loop-event.writer) c.loop-event.cache c.args.counts.now c.loop-event.counts) steps c.loop-event.invariant.2 in
-    on_err c.from_residual.result (counted_some c.args.cache.now c.loop-event.cache c.answer.new.cache (events_of c.args.events.items) (events_of left) (event_of c.in-Some.event) (g.W.Write.contents c.args.writer.now) (g.W.Write.contents c.loop-event.writer) (g.W.Write.contents c.answer.new.writer) c.args.counts.now c.loop-event.counts c.answer.new.counts on c.in_err-answer.ensures.err c.in_err-answer.ensures.uncounted)
+    let on = subst (λ z. TellsOn c.args.cache.now (events_of c.args.events.items) (events_of z) (g.W.Write.contents c.args.writer.now) (g.W.Write.contents c.loop-event.writer) c.loop-event.cache) steps c.loop-event.invariant.2 in
+    err_and (StopsTelling c.args.cache.now (events_of c.args.events.items) (g.W.Write.contents c.args.writer.now) (g.W.Write.contents c.loop-event.writer) c.answer.new.self) c.from_residual.result Memory c.from_residual.ensures.1
+    (events_of (c.in-Some.event ∷ left), told_so_far c.args.cache.now c.loop-event.cache c.answer.new.self (events_of c.args.events.items) (events_of (c.in-Some.event ∷ left)) (g.W.Write.contents c.args.writer.now) (g.W.Write.contents c.loop-event.writer) on c.in_err-answer.ensures.err)
 
-pub returns-in_err-answer-clause-memory : goal.returns-in_err-answer-clause-memory
-returns-in_err-answer-clause-memory g c is =
+pub returns-in_err-write_answer-clause-err : goal.returns-in_err-write_answer-clause-err
+returns-in_err-write_answer-clause-err g c =
     let left = c.next.new.self.rest.items in
     let steps : c.loop-event.event-iterator.rest.items ≡ c.in-Some.event ∷ left = search rules in
-    let on = subst (λ z. TellsOnCounting c.args.cache.now (events_of c.args.events.items) (events_of z) (g.W.Write.contents c.args.writer.now) (g.W.Write.contents c.loop-event.writer) c.loop-event.cache c.args.counts.now c.loop-event.counts) steps c.loop-event.invariant.2 in
-    let kept = c.in_err-answer.ensures.memory (ap Err (passed c.from_residual.result c.in_err-answer.field-0.0 Memory c.from_residual.ensures.1 is)) in
-    counted_front c.args.cache.now c.loop-event.cache c.answer.new.cache (events_of c.args.events.items) (events_of left) (event_of c.in-Some.event) (g.W.Write.contents c.args.writer.now) (g.W.Write.contents c.loop-event.writer) (g.W.Write.contents c.answer.new.writer) c.args.counts.now c.loop-event.counts c.answer.new.counts on kept c.in_err-answer.ensures.uncounted
+    let on = subst (λ z. TellsOn c.args.cache.now (events_of c.args.events.items) (events_of z) (g.W.Write.contents c.args.writer.now) (g.W.Write.contents c.loop-event.writer) c.loop-event.cache) steps c.loop-event.invariant.2 in
+    let some = c.in_err-write_answer.ensures.err in
+    let now = g.W.Write.contents c.loop-event.writer in
+    let after = g.W.Write.contents c.write_answer.new.writer in
+    let told = told_part c.args.cache.now c.loop-event.cache c.answer.new.self (events_of c.args.events.items) (events_of left) (event_of c.in-Some.event) (text_of c.in_ok-answer.answer) (g.W.Write.contents c.args.writer.now) now after on c.in_ok-answer.ensures.ok some in
+    err_and (StopsTelling c.args.cache.now (events_of c.args.events.items) (g.W.Write.contents c.args.writer.now) after c.answer.new.self) c.from_residual-in_err-write_answer.result c.in_err-write_answer.field-0.0 c.from_residual-in_err-write_answer.ensures.1
+    (subst (StopsTelling c.args.cache.now (events_of c.args.events.items) (g.W.Write.contents c.args.writer.now) after c.answer.new.self) (sym c.in_err-write_answer.ensures.fault) (events_of left, some.lost, told))
+
+nothing_left : {X : Type 0} (xs : List X) → length xs ≡ 0 → xs ≡ []
+nothing_left [] e = refl
+nothing_left (x ∷ xs) e = absurd (omega (arith, e))
+
+pub returns-clause-ok : goal.returns-clause-ok
+returns-clause-ok g c =
+    let none = nothing_left c.loop-event.event-iterator.rest.items (omega (arith, c.in-None.ensures.steps.0, c.loop-event.event-iterator.rest.ok.0)) in
+    let on = subst (λ z. TellsOn c.args.cache.now (events_of c.args.events.items) (events_of z) (g.W.Write.contents c.args.writer.now) (g.W.Write.contents c.loop-event.writer) c.loop-event.cache) none c.loop-event.invariant.2 in
+    told_so_far c.args.cache.now c.loop-event.cache c.loop-event.cache (events_of c.args.events.items) [] (g.W.Write.contents c.args.writer.now) (g.W.Write.contents c.loop-event.writer) on refl

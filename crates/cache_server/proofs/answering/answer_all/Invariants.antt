@@ -1,9 +1,9 @@
 use Rattle.http_core.specs.Event.{events_of}
-use Rattle.cache_server.proofs.Counting.{TellsOnCounting}
+use Rattle.cache_server.proofs.Telling.{TellsOn}
 use Rattle.cache_server.proofs.answering.answer_all.Given as goal
 
 abbrev pub invariant-loop-event : goal.invariant-loop-event
 invariant-loop-event g l =
     (goal.iterator-loop-event g).can_next l.event-iterator
     × (goal.iterator-loop-event g).is_finite l.event-iterator
-    × TellsOnCounting l.fn.cache (events_of l.fn.events.items) (events_of l.event-iterator.rest.items) (g.W.Write.contents l.fn.writer) (g.W.Write.contents l.writer) l.cache l.fn.counts l.counts
+    × TellsOn l.fn.cache (events_of l.fn.events.items) (events_of l.event-iterator.rest.items) (g.W.Write.contents l.fn.writer) (g.W.Write.contents l.writer) l.cache

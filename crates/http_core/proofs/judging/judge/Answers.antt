@@ -17,7 +17,7 @@ returns-in-Some c =
     let x = c.in-Some.ensures.some in
     inr (inr (
       subst (λ n. n ≤ 66) c.count_pairs.ensures c.if-count_pairs-gt-MAX_PAIRS.false,
-      x.0,
-      x.1,
-      subst (λ p. JudgesParts c.args.prefix.now p c.judge_head.result) x.2.parts c.judge_head.ensures,
+      x.head,
+      x.is,
+      subst (λ p. JudgesParts c.args.prefix.now p c.judge_head.result) x.parts c.judge_head.ensures,
     ))

@@ -1,44 +1,97 @@
-use Rattle.std.proofs.Common.{Some, sym, subst, refl}
-use Rattle.http_core.specs.Event.{events_of}
-use Rattle.cache_server.specs.History.{AnswersTo, Piece}
-use Rattle.cache_server.specs.Server.{ServerValue}
-use Rattle.cache_server.specs.Sessions.{FeedsAt}
+use Rattle.std.proofs.Common.{◌≡◌, ◌+◌, Bool, true, false, Some, [], ◌++◌, take, drop, length, refl, sym, ap, ◌∙◌, subst, arith, Result, Ok, Err, OnOk}
+use Rattle.std.specs.Prelude.{option_map, unwrap_or, is_err}
+use Rattle.std.proofs.lemmas.List.{append-nil, take-append-drop, take_all}
+use Rattle.cache_server.specs.Answer.{text_of}
 use Rattle.cache_server.proofs.Serving.{on_err}
-use Rattle.cache_server.proofs.Telling.{all_served, some_served}
-use Rattle.cache_server.proofs.Standing.{stands_fed, answers_fed, stands_closed, stands_answering}
-use Rattle.cache_server.proofs.Turning.{stands_opened, fails_whole}
+use Rattle.cache_server.proofs.Standing.{HasFed, stands_closed}
+use Rattle.cache_server.proofs.Turning.{is_there, fed_none, fed_join, fed_turn, taken_more, opened_stands, opened_answers, opened_breaks}
 use Rattle.cache_server.proofs.server.Server.event.Goals as goal
 
 pub returns-in_err-open-clause-err : goal.returns-in_err-open-clause-err
 returns-in_err-open-clause-err g c =
     on_err c.from_residual.result (λ opening history stands. stands_closed opening c.args.self.now c.open.new.self c.args.connection c.args.piece.now history c.in_err-open.ensures.err stands)
 
-pub returns-in_err-events-clause-err : goal.returns-in_err-events-clause-err
-returns-in_err-events-clause-err g c =
-    on_err c.from_residual-in_err-events.result (λ opening history stands. fails_whole opening c.args.self.now c.open.new.self c.feed.new.self c.args.connection c.args.piece.now history c.in_ok-open.ensures.ok
-    (stands_closed opening c.open.new.self c.feed.new.self c.args.connection c.args.piece.now history c.in_err-events.ensures.err (stands_opened opening c.args.self.now c.open.new.self c.args.connection history c.in_ok-open.ensures.ok stands)))
+pub loop-at-init : goal.loop-at-init
+loop-at-init g c = record {
+  within = omega arith;
+  fed = subst (λ t. HasFed c.open.new.self c.args.connection [] t c.open.new.self) (sym c.new-text.ensures.items) (fed_none c.open.new.self c.args.connection c.in_ok-open.ensures.ok.session c.in_ok-open.ensures.ok.at);
+}
 
-pub returns-in-Ok-clause-answers : goal.returns-in-Ok-clause-answers
-returns-in-Ok-clause-answers g c opening history stands =
-    let mid : ServerValue = record { cache = c.self.inside.cache; prefix = c.self.inside.prefix; sessions = c.self.inside.sessions.entries } in
-    let feeds : FeedsAt c.open.new.self c.args.connection c.args.piece.now (events_of c.in_ok-events.events.items) mid = subst (FeedsAt c.open.new.self c.args.connection c.args.piece.now (events_of c.in_ok-events.events.items)) (sym c.self.view_is) c.in_ok-events.ensures.ok in
-    subst (λ p. AnswersTo p opening history (Piece c.args.connection c.args.piece.now) c.answer_all.new.writer.items) c.in_ok-open.ensures.ok.kept.prefix
-    (answers_fed opening c.open.new.self mid c.answer_all.new.cache c.args.connection history c.args.piece.now (events_of c.in_ok-events.events.items) c.answer_all.new.writer.items feeds (all_served c.self.inside.cache c.answer_all.new.cache (events_of c.in_ok-events.events.items) c.new-text.result.items c.answer_all.new.writer.items c.new-text.ensures.items c.in-Ok.ensures.ok)
-    (stands_opened opening c.args.self.now c.open.new.self c.args.connection history c.in_ok-open.ensures.ok stands))
+pub turn-requires : goal.turn-requires
+turn-requires g c = is_there _ c.loop-at.invariant.fed.after c.loop-at.invariant.fed.at
 
-pub returns-in-Ok-clause-ok : goal.returns-in-Ok-clause-ok
-returns-in-Ok-clause-ok g c opening history stands =
-    let mid : ServerValue = record { cache = c.self.inside.cache; prefix = c.self.inside.prefix; sessions = c.self.inside.sessions.entries } in
-    let new : ServerValue = record { cache = c.answer_all.new.cache; prefix = c.self.inside.prefix; sessions = c.self.inside.sessions.entries } in
-    let feeds : FeedsAt c.open.new.self c.args.connection c.args.piece.now (events_of c.in_ok-events.events.items) mid = subst (FeedsAt c.open.new.self c.args.connection c.args.piece.now (events_of c.in_ok-events.events.items)) (sym c.self.view_is) c.in_ok-events.ensures.ok in
-    stands_fed opening c.open.new.self mid new c.args.connection history c.args.piece.now (events_of c.in_ok-events.events.items) c.answer_all.new.writer.items feeds (all_served c.self.inside.cache c.answer_all.new.cache (events_of c.in_ok-events.events.items) c.new-text.result.items c.answer_all.new.writer.items c.new-text.ensures.items c.in-Ok.ensures.ok) refl refl
-    (stands_opened opening c.args.self.now c.open.new.self c.args.connection history c.in_ok-open.ensures.ok stands)
+was_pushed : {T E : Type 0} (r : Result T E) (b : Bool) (P : Type 0) → OnOk r P → b ≡ is_err r → b ≡ false → P
+was_pushed (Ok x) b P p e f = p
+was_pushed (Err d) b P p e f = let no : true ≡ false = sym e ∙ f in absurd cc
 
-pub returns-in-Err-clause-err : goal.returns-in-Err-clause-err
-returns-in-Err-clause-err g c opening history stands =
-    let mid : ServerValue = record { cache = c.self.inside.cache; prefix = c.self.inside.prefix; sessions = c.self.inside.sessions.entries } in
-    let served : ServerValue = record { cache = c.answer_all.new.cache; prefix = c.self.inside.prefix; sessions = c.self.inside.sessions.entries } in
-    let feeds : FeedsAt c.open.new.self c.args.connection c.args.piece.now (events_of c.in_ok-events.events.items) mid = subst (FeedsAt c.open.new.self c.args.connection c.args.piece.now (events_of c.in_ok-events.events.items)) (sym c.self.view_is) c.in_ok-events.ensures.ok in
-    fails_whole opening c.args.self.now c.open.new.self c.close.new.self c.args.connection c.args.piece.now history c.in_ok-open.ensures.ok
-    (stands_answering opening c.open.new.self mid served c.close.new.self c.args.connection c.args.piece.now history (events_of c.in_ok-events.events.items) feeds (some_served c.self.inside.cache c.answer_all.new.cache (events_of c.in_ok-events.events.items) (Some c.new-text.result.items) (Some c.answer_all.new.writer.items) c.in-Err.ensures.err.tells) refl refl c.close.ensures
-    (stands_opened opening c.args.self.now c.open.new.self c.args.connection history c.in_ok-open.ensures.ok stands))
+pub loop-at-preserved : goal.loop-at-preserved
+loop-at-preserved g c =
+    let turn = c.in_ok-taken.ensures.ok in
+    let at = c.loop-at.at in
+    let rest = c.split_at.result.1.now in
+    let taken = c.in_ok-taken.taken in
+    let fed = fed_join c.open.new.self c.loop-at.self c.turn.new.self c.args.connection (take at c.args.piece.now) (take taken rest) c.loop-at.text.items (unwrap_or (option_map text_of c.in_ok-taken.answer) []) c.loop-at.invariant.fed
+    (fed_turn c.loop-at.self c.args.connection rest taken (option_map text_of c.in_ok-taken.answer) c.turn.new.self turn) in
+    let bytes = taken_more c.args.piece.now at taken (at + taken) rest c.split_at.ensures.back refl in
+    record {
+      within = omega (arith, turn.feeds.feeds.within, c.split_at.ensures.back_len);
+      fed = subst (λ z. HasFed c.open.new.self c.args.connection z c.loop-at.text.items c.turn.new.self) bytes (subst (λ z. HasFed c.open.new.self c.args.connection (take at c.args.piece.now ++ take taken rest) z c.turn.new.self) (ap (λ o. c.loop-at.text.items ++ unwrap_or (option_map text_of o) []) c.in_default.is ∙ append-nil c.loop-at.text.items) fed);
+    }
+
+pub loop-at-preserved-else-is_err : goal.loop-at-preserved-else-is_err
+loop-at-preserved-else-is_err g c =
+    let turn = c.in_ok-taken.ensures.ok in
+    let at = c.loop-at.at in
+    let rest = c.split_at.result.1.now in
+    let taken = c.in_ok-taken.taken in
+    let fed = fed_join c.open.new.self c.loop-at.self c.turn.new.self c.args.connection (take at c.args.piece.now) (take taken rest) c.loop-at.text.items (unwrap_or (option_map text_of c.in_ok-taken.answer) []) c.loop-at.invariant.fed
+    (fed_turn c.loop-at.self c.args.connection rest taken (option_map text_of c.in_ok-taken.answer) c.turn.new.self turn) in
+    let bytes = taken_more c.args.piece.now at taken (at + taken) rest c.split_at.ensures.back refl in
+    record {
+      within = omega (arith, turn.feeds.feeds.within, c.split_at.ensures.back_len);
+      fed = subst (λ z. HasFed c.open.new.self c.args.connection z c.push_text.new.text.items c.turn.new.self) bytes (subst (λ z. HasFed c.open.new.self c.args.connection (take at c.args.piece.now ++ take taken rest) z c.turn.new.self) (ap (λ o. c.loop-at.text.items ++ unwrap_or (option_map text_of o) []) c.in-Some.is ∙ sym (was_pushed c.push_text.result c.is_err.result _ c.push_text.ensures c.is_err.ensures.value c.if-is_err.false)) fed);
+    }
+
+pub loop-at-preserved-else-is_err-2 : goal.loop-at-preserved-else-is_err-2
+loop-at-preserved-else-is_err-2 g c =
+    let turn = c.in_ok-taken.ensures.ok in
+    let at = c.loop-at.at in
+    let rest = c.split_at.result.1.now in
+    let taken = c.in_ok-taken.taken in
+    let fed = fed_join c.open.new.self c.loop-at.self c.turn.new.self c.args.connection (take at c.args.piece.now) (take taken rest) c.loop-at.text.items (unwrap_or (option_map text_of c.in_ok-taken.answer) []) c.loop-at.invariant.fed
+    (fed_turn c.loop-at.self c.args.connection rest taken (option_map text_of c.in_ok-taken.answer) c.turn.new.self turn) in
+    let bytes = taken_more c.args.piece.now at taken (at + taken) rest c.split_at.ensures.back refl in
+    record {
+      within = omega (arith, turn.feeds.feeds.within, c.split_at.ensures.back_len);
+      fed = subst (λ z. HasFed c.open.new.self c.args.connection z c.push_text.new.text.items c.turn.new.self) bytes (subst (λ z. HasFed c.open.new.self c.args.connection (take at c.args.piece.now ++ take taken rest) z c.turn.new.self) (ap (λ o. c.loop-at.text.items ++ unwrap_or (option_map text_of o) []) c.in-Some.is ∙ sym (was_pushed c.push_text.result c.is_err.result _ c.push_text.ensures c.is_err.ensures.value c.if-is_err.false)) fed);
+    }
+
+pub returns-in_err-taken-clause-err : goal.returns-in_err-taken-clause-err
+returns-in_err-taken-clause-err g c =
+    on_err c.from_residual-in_err-taken.result (λ opening history stands. opened_breaks opening c.args.self.now c.open.new.self c.turn.new.self c.args.connection history c.in_ok-open.ensures.ok stands c.loop-at.self c.args.piece.now (take c.loop-at.at c.args.piece.now) (drop c.loop-at.at c.args.piece.now) c.loop-at.text.items
+    (sym (take-append-drop c.loop-at.at c.args.piece.now)) c.loop-at.invariant.fed c.in_err-taken.ensures.err)
+
+pub returns-then-is_err-clause-err : goal.returns-then-is_err-clause-err
+returns-then-is_err-clause-err g c opening history stands =
+    let turn = c.in_ok-taken.ensures.ok in
+    let at = c.loop-at.at in
+    let rest = c.split_at.result.1.now in
+    let taken = c.in_ok-taken.taken in
+    let fed = fed_join c.open.new.self c.loop-at.self c.turn.new.self c.args.connection (take at c.args.piece.now) (take taken rest) c.loop-at.text.items (unwrap_or (option_map text_of c.in_ok-taken.answer) []) c.loop-at.invariant.fed
+    (fed_turn c.loop-at.self c.args.connection rest taken (option_map text_of c.in_ok-taken.answer) c.turn.new.self turn) in
+    let bytes = taken_more c.args.piece.now at taken (at + taken) rest c.split_at.ensures.back refl in
+    opened_breaks opening c.args.self.now c.open.new.self c.close.new.self c.args.connection history c.in_ok-open.ensures.ok stands c.turn.new.self c.args.piece.now (take (at + taken) c.args.piece.now) (drop (at + taken) c.args.piece.now)
+    (c.loop-at.text.items ++ unwrap_or (option_map text_of c.in_ok-taken.answer) []) (sym (take-append-drop (at + taken) c.args.piece.now))
+    (subst (λ z. HasFed c.open.new.self c.args.connection z (c.loop-at.text.items ++ unwrap_or (option_map text_of c.in_ok-taken.answer) []) c.turn.new.self) bytes fed) c.close.ensures
+
+pub returns-clause-ok : goal.returns-clause-ok
+returns-clause-ok g c opening history stands =
+    let whole : take c.loop-at.at c.args.piece.now ≡ c.args.piece.now = take_all c.loop-at.at c.args.piece.now (omega (arith, c.loop-at-test.false)) in
+    opened_stands opening c.args.self.now c.open.new.self c.loop-at.self c.args.connection history c.in_ok-open.ensures.ok stands c.args.piece.now c.loop-at.text.items
+    (subst (λ z. HasFed c.open.new.self c.args.connection z c.loop-at.text.items c.loop-at.self) whole c.loop-at.invariant.fed)
+
+pub returns-clause-answers : goal.returns-clause-answers
+returns-clause-answers g c opening history stands =
+    let whole : take c.loop-at.at c.args.piece.now ≡ c.args.piece.now = take_all c.loop-at.at c.args.piece.now (omega (arith, c.loop-at-test.false)) in
+    opened_answers opening c.args.self.now c.open.new.self c.loop-at.self c.args.connection history c.in_ok-open.ensures.ok stands c.args.piece.now c.loop-at.text.items
+    (subst (λ z. HasFed c.open.new.self c.args.connection z c.loop-at.text.items c.loop-at.self) whole c.loop-at.invariant.fed)

@@ -1,9 +1,9 @@
 use Rattle.std.proofs.Common.{◌≡◌, ◌<◌, ◌≤◌, ◌-◌, ap, sym, ◌∙◌, subst, true, Some, None, rules, arith, length}
 use Rattle.http_core.specs.Block.{EndsBlock}
-use Rattle.http_core.specs.Event.{option_event, Refused, IsLawfulIfAny}
+use Rattle.http_core.specs.Event.{option_event, Refused}
 use Rattle.http_core.specs.Judging.{Judges}
 use Rattle.http_core.specs.Session.{Reading, SessionValue, state_of}
-use Rattle.http_core.proofs.Fitting.{allowed, first_lawful}
+use Rattle.http_core.proofs.Fitting.{allowed}
 use Rattle.http_core.proofs.Steps.{line_some, reads_line, still_reading, at_block, within_block, past_block}
 use Rattle.http_core.proofs.session.Session.read_line.Goals as goal
 
@@ -21,9 +21,9 @@ returns-then-ends_block-clause-takes g c =
     record {
       some = line_some c.first_line-line.result.now line.line;
       within = line.within;
-      lawful = subst IsLawfulIfAny (sym c.follow.ensures.event) (first_lawful c.judge-judgement.result (allowed c.as_bytes.result.now c.as_slice-then-ends_block.result.now c.judge-judgement.result c.judge-judgement.ensures));
+      lawful = c.follow.ensures.lawful;
       moves = reads_line old.prefix old.state c.follow.new.self.state inside.stage inside.block.items inside.body c.first_line-line.result.now read c.args.piece.now c.saturating_sub.result (option_event c.follow.result) is c.requires.reading line.line c.in_ok-extend_from_slice.ensures.items line.most room line.front
-          (λ front last e none few. at_block old.prefix front read last c.judge-judgement.result (option_event c.follow.result) c.follow.new.self.state e ends judged c.follow.ensures.event c.follow.ensures.state none few);
+          (λ front last e none few. at_block old.prefix front read last c.judge-judgement.result (option_event c.follow.result) c.follow.new.self.state e ends judged c.follow.ensures.follows none few);
     }
 
 pub returns-then-len-lt-MAX_BLOCK-clause-takes : goal.returns-then-len-lt-MAX_BLOCK-clause-takes
@@ -58,7 +58,7 @@ returns-clause-takes g c =
     record {
       some = line_some c.first_line-line.result.now line.line;
       within = line.within;
-      lawful = tt;
+      lawful = (tt, tt);
       moves = reads_line old.prefix old.state c.end.new.self.state inside.stage inside.block.items inside.body c.first_line-line.result.now read c.args.piece.now c.saturating_sub.result (Some (Refused 431 true)) is c.requires.reading line.line c.in_ok-extend_from_slice.ensures.items line.most room line.front
           (λ front last e none few. past_block old.prefix front read last c.end.new.self.state e not_ends c.end.ensures.state many none few);
     }

@@ -21,4 +21,4 @@ returns-clause-takes g c =
     let most : c.in-Body.length ≤ greatest_blob = search rules in
     let short : length inside.body < c.in-Body.length = search rules in
     let many : length c.seal-body.result ≡ length inside.body + length taken = ap length more ∙ length-append inside.body taken in
-    record { lawful = omega arith; some = omega (arith, c.len.ensures); within = omega (arith, c.if-piece-missing.false); moves = λ rest h. (takes_all c.args.self.now.prefix c.args.self.now.state inside.stage inside.block.items inside.body taken c.seal-body.result c.in-Body.area c.in-Body.hash c.in-Body.length c.in-Body.close is c.in-Body.is few more rest h, c.end.ensures.state) }
+    record { lawful = (omega arith, tt); some = omega (arith, c.len.ensures); within = omega (arith, c.if-piece-missing.false); moves = λ rest h. (takes_all c.args.self.now.prefix c.args.self.now.state inside.stage inside.block.items inside.body taken c.seal-body.result c.in-Body.area c.in-Body.hash c.in-Body.length c.in-Body.close is c.in-Body.is few more rest h, c.end.ensures.state) }

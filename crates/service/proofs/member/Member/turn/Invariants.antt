@@ -1,5 +1,6 @@
-use Rattle.cache_server.specs.Server.{GoesOn}
+use Rattle.std.proofs.Common.{false}
+use Rattle.service.specs.Member.{MovesOn}
 use Rattle.service.proofs.member.Member.turn.Given as goal
 
 abbrev pub invariant-loop : goal.invariant-loop
-invariant-loop l = GoesOn l.fn.server l.server
+invariant-loop g l = MovesOn false g.S.Peer.spoke l.fn.number l.fn.server l.fn.self l.server l.self

@@ -1,5 +1,6 @@
-use Rattle.cache_server.specs.Server.{GoesOn}
+use Rattle.std.proofs.Common.{ℕ}
+use Rattle.service.specs.Together.{GoesOnTogether}
 use Rattle.service.proofs.together.Together.sweep.Given as goal
 
-abbrev pub invariant-loop-place : goal.invariant-loop-place
-invariant-loop-place g l = GoesOn l.fn.server l.server
+abbrev pub invariant-loop-number : goal.invariant-loop-number
+invariant-loop-number g l = (accepted : ℕ) → GoesOnTogether g.S.Peer.spoke g.N.Sockets.ended l.fn.self.members.entries accepted l.fn.server l.self.members.entries accepted l.server

@@ -1,2 +1,0 @@
-mod builds;
-mod counting;

@@ -1,5 +1,0 @@
-use Rattle.blob_store.proofs.OneDigest.{one_hash}
-use Rattle.message_rows.proofs.blobs.unpin.Goals as goal
-
-pub unpin-requires : goal.unpin-requires
-unpin-requires g c = one_hash c.args.digest

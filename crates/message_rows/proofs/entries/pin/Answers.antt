@@ -1,6 +1,0 @@
-use Rattle.std.proofs.Common.{nat_eq}
-use Rattle.eviction.proofs.Single.{one_distinct}
-use Rattle.message_rows.proofs.entries.pin.Goals as goal
-
-pub pin_all-requires-clause-distinct : goal.pin_all-requires-clause-distinct
-pin_all-requires-clause-distinct g c = one_distinct nat_eq c.args.key

@@ -1,0 +1,248 @@
+-- Open connections, each under its number, as the server goes on.
+use Rattle.std.proofs.Common.{◌≡◌, ℕ, ◌+◌, ◌<◌, ◌≤◌, ◌⊎◌, inl, inr, Bool, true, false, Option, Some, None, List, [], ◌∷◌, ◌++◌, refl, sym, ◌∙◌, ap, subst, append_assoc, arith}
+use Rattle.std.proofs.Math.Dec.{eqb}
+use Rattle.std.proofs.lemmas.Bool.{cases_lt}
+use Rattle.std.proofs.lemmas.Bool.Decides.{eqb_tells}
+use Rattle.std.proofs.lemmas.List.{append-nil}
+use Rattle.cache_server.specs.Cache.{CacheValue}
+use Rattle.cache_server.specs.History.{HistoryEntry, End}
+use Rattle.cache_server.specs.Server.{ServerValue, ServerStands}
+use Rattle.service.specs.Sockets.{EndsAs}
+use Rattle.service.specs.Talks.{entry_number, Answered, Talks, HasEnded, AreBelow, ServesEach}
+use Rattle.service.specs.Talks as talks
+use Rattle.service.specs.Member.{MemberValue, TalksOn, MayEnd, TalksOnUnless, AreOf, HasMovedOn, MovesOn, new_member}
+use Rattle.service.specs.Together.{member_at, TalksOrEnded, KeepsTogether, GoesOnTogether, AreSame, OthersAreSame, MovesOnAt, EntersAt, EndsAt, EndsIfAny}
+use Rattle.service.proofs.Talking.{AreApart, apart_from_own, holds_apart, ended_apart, answered_apart, may_leave, leaves}
+
+-- ---- numbers below a count
+
+apart_from_below : (k : ℕ) (entries : List HistoryEntry) → AreBelow k entries → AreApart k entries
+apart_from_below k [] t = tt
+apart_from_below k (e ∷ es) (b, bs) = (λ (x : entry_number e ≡ k). let c : k < k = subst (λ (z : ℕ). z < k) x b in absurd (omega arith), apart_from_below k es bs)
+
+below_own : (k n : ℕ) (entries : List HistoryEntry) → k < n → AreOf k entries → AreBelow n entries
+below_own k n [] h t = tt
+below_own k n (e ∷ es) h (o, os) = (subst (λ (z : ℕ). z < n) (sym o) h, below_own k n es h os)
+
+both_below : (n : ℕ) (some more : List HistoryEntry) → AreBelow n some → AreBelow n more → AreBelow n (some ++ more)
+both_below n [] more t bs = bs
+both_below n (e ∷ some) more (b, ts) bs = (b, both_below n some more ts bs)
+
+below_more : (n : ℕ) (entries : List HistoryEntry) → AreBelow n entries → AreBelow (n + 1) entries
+below_more n [] t = tt
+below_more n (e ∷ es) (b, bs) = (omega arith, below_more n es bs)
+
+none_is_some : {A X : Type 0} (o : Option A) (x : A) → o ≡ Some x → o ≡ None → X
+none_is_some o x e f = let g : Some x ≡ None = sym e ∙ f in cc
+
+module _ {S : Type 0} (spoke : ℕ → S → List ℕ → List ℕ → Type 0) (ended : ℕ → List ℕ → List ℕ → Type 0) where
+  abbrev KeepsSo : List (ℕ × MemberValue S) → ℕ → ServerValue → List (ℕ × MemberValue S) → ℕ → ServerValue → Type 0
+  KeepsSo members accepted server members' accepted' server' =
+      (prefix : List ℕ) (opening : CacheValue) (history : List HistoryEntry)
+      → KeepsTogether spoke ended prefix opening history members accepted server → KeepsTogether spoke ended prefix opening history members' accepted' server'
+
+  pub keeps_nowhere : (members : List (ℕ × MemberValue S)) (accepted : ℕ) (server : ServerValue) → GoesOnTogether spoke ended members accepted server members accepted server
+  keeps_nowhere members accepted server = record { on = λ prefix opening history keeps. keeps }
+
+  pub keeps_further : (l m n : List (ℕ × MemberValue S)) (a b c : ℕ) (s t u : ServerValue) → GoesOnTogether spoke ended l a s m b t → GoesOnTogether spoke ended m b t n c u → GoesOnTogether spoke ended l a s n c u
+  keeps_further l m n a b c s t u p q = record { on = λ prefix opening history keeps. q.on prefix opening history (p.on prefix opening history keeps) }
+
+  keeps_same_so : (members members' : List (ℕ × MemberValue S)) (accepted : ℕ) (server : ServerValue) → AreSame members members' → KeepsSo members accepted server members' accepted server
+  keeps_same_so members members' accepted server same prefix opening history keeps = record {
+    entries = keeps.entries;
+    stands = keeps.stands;
+    same = keeps.same;
+    theirs = keeps.theirs;
+    each = λ k h. subst (TalksOrEnded spoke ended prefix opening history keeps.entries k) (sym (same k)) (keeps.each k h);
+    fresh = λ k h. same k ∙ keeps.fresh k h;
+  }
+
+  pub keeps_same : (members members' : List (ℕ × MemberValue S)) (accepted : ℕ) (server : ServerValue) → AreSame members members' → GoesOnTogether spoke ended members accepted server members' accepted server
+  keeps_same members members' accepted server same = record { on = keeps_same_so members members' accepted server same }
+
+  module _ (prefix : List ℕ) (opening : CacheValue) (history : List HistoryEntry) where
+    is_open : (members : List (ℕ × MemberValue S)) (accepted : ℕ) (server : ServerValue) (k : ℕ) (m : MemberValue S)
+        → KeepsTogether spoke ended prefix opening history members accepted server → member_at members k ≡ Some m → k < accepted
+    is_open members accepted server k m keeps e = by_order (cases_lt k accepted)
+      where
+        by_order : (k < accepted) ⊎ (accepted ≤ k) → k < accepted
+        by_order (inl h) = h
+        by_order (inr h) = none_is_some (member_at members k) m e (keeps.fresh k h)
+
+    holds_at : (members : List (ℕ × MemberValue S)) (accepted : ℕ) (server : ServerValue) (k : ℕ) (m : MemberValue S)
+        → (keeps : KeepsTogether spoke ended prefix opening history members accepted server) → member_at members k ≡ Some m → TalksOn spoke prefix opening history keeps.entries k m
+    holds_at members accepted server k m keeps e =
+        subst (TalksOrEnded spoke ended prefix opening history keeps.entries k) e (keeps.each k (is_open members accepted server k m keeps e))
+
+    either_apart : (j : ℕ) (o : Option (MemberValue S)) (more entries : List HistoryEntry) → AreApart j more
+        → TalksOrEnded spoke ended prefix opening history entries j o → TalksOrEnded spoke ended prefix opening history (entries ++ more) j o
+    either_apart j None more entries ns h = ended_apart prefix opening history ended j more entries ns h
+    either_apart j (Some m) more entries ns h = holds_apart prefix opening history spoke j more entries m ns h
+
+    -- entries of an open connection alone, after which it stands so
+    keeps_with : (members members' : List (ℕ × MemberValue S)) (accepted : ℕ) (old new : ServerValue) (k : ℕ) (more : List HistoryEntry)
+        → (keeps : KeepsTogether spoke ended prefix opening history members accepted old)
+        → k < accepted → AreOf k more → OthersAreSame k members members'
+        → ServerStands opening new (history ++ (keeps.entries ++ more)) → new.prefix ≡ prefix
+        → TalksOrEnded spoke ended prefix opening history (keeps.entries ++ more) k (member_at members' k)
+        → KeepsTogether spoke ended prefix opening history members' accepted new
+    keeps_with members members' accepted old new k more keeps h own others stands same now = record {
+      entries = keeps.entries ++ more;
+      stands = stands;
+      same = same;
+      theirs = both_below accepted keeps.entries more keeps.theirs (below_own k accepted more h own);
+      each = λ j below. by_test j below (eqb_tells j k);
+      fresh = λ j above. others j (λ (e : j ≡ k). let c : k < j = omega arith in absurd (omega arith)) ∙ keeps.fresh j above;
+    }
+      where
+        by_test : (j : ℕ) → j < accepted → ((eqb j k ≡ true) × (j ≡ k)) ⊎ ((eqb j k ≡ false) × (j ≡ k → ⊥))
+            → TalksOrEnded spoke ended prefix opening history (keeps.entries ++ more) j (member_at members' j)
+        by_test j below (inl (t, e)) = subst (λ (i : ℕ). TalksOrEnded spoke ended prefix opening history (keeps.entries ++ more) i (member_at members' i)) (sym e) now
+        by_test j below (inr (f, n)) =
+            subst (TalksOrEnded spoke ended prefix opening history (keeps.entries ++ more) j) (sym (others j n))
+            (either_apart j (member_at members j) more keeps.entries (apart_from_own k j more n own) (keeps.each j below))
+
+    moved_at : (b : Bool) (members members' : List (ℕ × MemberValue S)) (accepted : ℕ) (old new : ServerValue) (k : ℕ)
+        → (moves : MovesOnAt b spoke k old members new members') → (keeps : KeepsTogether spoke ended prefix opening history members accepted old)
+        → HasMovedOn b spoke prefix opening history keeps.entries k moves.after new
+    moved_at b members members' accepted old new k moves keeps =
+        subst (λ (z : List ℕ). HasMovedOn b spoke z opening history keeps.entries k moves.after new) keeps.same
+        (moves.moves.on opening history keeps.entries keeps.stands
+        (subst (λ (z : List ℕ). TalksOn spoke z opening history keeps.entries k moves.before) (sym keeps.same) (holds_at members accepted old k moves.before keeps moves.held)))
+
+    has_ended : (entries : List HistoryEntry) (k : ℕ) (stream : S) → EndsAs spoke stream ended → MayEnd spoke prefix opening history entries k stream
+        → HasEnded ended prefix opening history (entries ++ End k ∷ []) k
+    has_ended entries k stream ends l = record {
+      read = l.read;
+      sent = l.sent;
+      left = l.left;
+      unsent = l.unsent;
+      is = ends k l.read l.sent l.said;
+      talks = record {
+        came = l.talks.came;
+        text = l.talks.text;
+        reading = l.talks.reading;
+        sending = l.talks.sending;
+        answered = talks.ended entries l.talks.came l.talks.text l.talks.answered;
+      };
+    }
+
+  keeps_moved_so : (members members' : List (ℕ × MemberValue S)) (accepted : ℕ) (old new : ServerValue) (k : ℕ)
+      → MovesOnAt false spoke k old members new members' → KeepsSo members accepted old members' accepted new
+  keeps_moved_so members members' accepted old new k moves prefix opening history keeps =
+      let x : HasMovedOn false spoke prefix opening history keeps.entries k moves.after new = moved_at prefix opening history false members members' accepted old new k moves keeps in
+      keeps_with prefix opening history members members' accepted old new k x.more keeps
+      (is_open prefix opening history members accepted old k moves.before keeps moves.held) x.theirs moves.others x.stands x.same
+      (subst (TalksOrEnded spoke ended prefix opening history (keeps.entries ++ x.more) k) (sym moves.at) x.holds)
+
+  pub keeps_moved : (members members' : List (ℕ × MemberValue S)) (accepted : ℕ) (old new : ServerValue) (k : ℕ)
+      → MovesOnAt false spoke k old members new members' → GoesOnTogether spoke ended members accepted old members' accepted new
+  keeps_moved members members' accepted old new k moves = record { on = keeps_moved_so members members' accepted old new k moves }
+
+  -- it moved on, and was ended then
+  left_so : (b : Bool) (members mid members' : List (ℕ × MemberValue S)) (accepted : ℕ) (old between new : ServerValue) (k : ℕ)
+      → MovesOnAt b spoke k old members between mid → EndsIfAny spoke ended k between mid new members' → KeepsSo members accepted old members' accepted new
+  left_so b members mid members' accepted old between new k moves (inr (none, same, all)) prefix opening history keeps = none_is_some (member_at mid k) moves.after moves.at none
+  left_so b members mid members' accepted old between new k moves (inl ends) prefix opening history keeps =
+      let x : HasMovedOn b spoke prefix opening history keeps.entries k moves.after between = moved_at prefix opening history b members mid accepted old between k moves keeps in
+      keeps_with prefix opening history members members' accepted old new k (x.more ++ End k ∷ []) keeps
+      (is_open prefix opening history members accepted old k moves.before keeps moves.held) (own_end x.more x.theirs)
+      (λ j n. ends.others j n ∙ moves.others j n)
+      (subst (λ (z : List HistoryEntry). ServerStands opening new z) (append_assoc history (keeps.entries ++ x.more) (End k ∷ []) ∙ ap (λ (z : List HistoryEntry). history ++ z) (append_assoc keeps.entries x.more (End k ∷ []))) (ends.stands opening (history ++ (keeps.entries ++ x.more)) x.stands))
+      (ends.same ∙ x.same)
+      (subst (TalksOrEnded spoke ended prefix opening history (keeps.entries ++ (x.more ++ End k ∷ [])) k) (sym ends.gone)
+      (subst (λ (z : List HistoryEntry). HasEnded ended prefix opening history z k) (append_assoc keeps.entries x.more (End k ∷ []))
+      (has_ended prefix opening history (keeps.entries ++ x.more) k ends.m.stream ends.ends
+      (subst (λ (z : MemberValue S). MayEnd spoke prefix opening history (keeps.entries ++ x.more) k z.stream) (same_member (member_at mid k) moves.at ends.held)
+      (may_leave prefix opening history b spoke (keeps.entries ++ x.more) k moves.after x.holds)))))
+    where
+      own_end : (more : List HistoryEntry) → AreOf k more → AreOf k (more ++ End k ∷ [])
+      own_end [] t = (refl, tt)
+      own_end (e ∷ es) (o, os) = (o, own_end es os)
+
+      same_member : (o : Option (MemberValue S)) → o ≡ Some moves.after → o ≡ Some ends.m → moves.after ≡ ends.m
+      same_member o p q = cc
+
+  pub keeps_left : (b : Bool) (members mid members' : List (ℕ × MemberValue S)) (accepted : ℕ) (old between new : ServerValue) (k : ℕ)
+      → MovesOnAt b spoke k old members between mid → EndsIfAny spoke ended k between mid new members' → GoesOnTogether spoke ended members accepted old members' accepted new
+  keeps_left b members mid members' accepted old between new k moves ends = record { on = left_so b members mid members' accepted old between new k moves ends }
+
+  ended_so : (members members' : List (ℕ × MemberValue S)) (accepted : ℕ) (old new : ServerValue) (k : ℕ)
+      → EndsAt spoke ended k old members new members' → KeepsSo members accepted old members' accepted new
+  ended_so members members' accepted old new k ends prefix opening history keeps =
+      keeps_with prefix opening history members members' accepted old new k (End k ∷ []) keeps
+      (is_open prefix opening history members accepted old k ends.m keeps ends.held) (refl, tt) ends.others
+      (subst (λ (z : List HistoryEntry). ServerStands opening new z) (append_assoc history keeps.entries (End k ∷ [])) (ends.stands opening (history ++ keeps.entries) keeps.stands))
+      (ends.same ∙ keeps.same)
+      (subst (TalksOrEnded spoke ended prefix opening history (keeps.entries ++ End k ∷ []) k) (sym ends.gone)
+      (has_ended prefix opening history keeps.entries k ends.m.stream ends.ends
+      (leaves prefix opening history spoke keeps.entries k ends.m (holds_at prefix opening history members accepted old k ends.m keeps ends.held))))
+
+  pub keeps_ended : (members members' : List (ℕ × MemberValue S)) (accepted : ℕ) (old new : ServerValue) (k : ℕ)
+      → EndsIfAny spoke ended k old members new members' → GoesOnTogether spoke ended members accepted old members' accepted new
+  keeps_ended members members' accepted old new k (inr (none, same, all)) =
+      subst (λ (z : ServerValue). GoesOnTogether spoke ended members accepted old members' accepted z) (sym same) (keeps_same members members' accepted old all)
+  keeps_ended members members' accepted old new k (inl ends) = record { on = ended_so members members' accepted old new k ends }
+
+  keeps_entered_so : (members members' : List (ℕ × MemberValue S)) (accepted : ℕ) (server : ServerValue) (stream : S)
+      → spoke accepted stream [] [] → EntersAt accepted stream members members' → KeepsSo members accepted server members' (accepted + 1) server
+  keeps_entered_so members members' accepted server stream said enters prefix opening history keeps = record {
+    entries = keeps.entries;
+    stands = keeps.stands;
+    same = keeps.same;
+    theirs = below_more accepted keeps.entries keeps.theirs;
+    each = λ j below. by_test j below (eqb_tells j accepted);
+    fresh = λ j above. enters.others j (λ (e : j ≡ accepted). absurd (omega arith)) ∙ keeps.fresh j (omega arith);
+  }
+    where
+      now : TalksOn spoke prefix opening history keeps.entries accepted (new_member stream)
+      now = record {
+        read = [];
+        sent = [];
+        said = said;
+        talks = record {
+          came = [];
+          text = [];
+          reading = refl;
+          sending = refl;
+          answered = answered_apart prefix opening history accepted keeps.entries [] [] [] (apart_from_below accepted keeps.entries keeps.theirs) talks.none;
+        };
+      }
+
+      by_test : (j : ℕ) → j < accepted + 1 → ((eqb j accepted ≡ true) × (j ≡ accepted)) ⊎ ((eqb j accepted ≡ false) × (j ≡ accepted → ⊥))
+          → TalksOrEnded spoke ended prefix opening history keeps.entries j (member_at members' j)
+      by_test j below (inl (t, e)) =
+          subst (λ (i : ℕ). TalksOrEnded spoke ended prefix opening history keeps.entries i (member_at members' i)) (sym e)
+          (subst (TalksOrEnded spoke ended prefix opening history keeps.entries accepted) (sym enters.at) now)
+      by_test j below (inr (f, n)) =
+          subst (TalksOrEnded spoke ended prefix opening history keeps.entries j) (sym (enters.others j n)) (keeps.each j (less (cases_lt j accepted)))
+        where
+          less : (j < accepted) ⊎ (accepted ≤ j) → j < accepted
+          less (inl h) = h
+          less (inr h) = absurd (n (omega arith))
+
+  pub keeps_entered : (members members' : List (ℕ × MemberValue S)) (accepted : ℕ) (server : ServerValue) (stream : S)
+      → spoke accepted stream [] [] → EntersAt accepted stream members members' → GoesOnTogether spoke ended members accepted server members' (accepted + 1) server
+  keeps_entered members members' accepted server stream said enters = record { on = keeps_entered_so members members' accepted server stream said enters }
+
+  -- ---- the whole run
+
+  pub keeps_first : (opening : CacheValue) (history : List HistoryEntry) (members : List (ℕ × MemberValue S)) (server : ServerValue)
+      → members ≡ [] → ServerStands opening server history → KeepsTogether spoke ended server.prefix opening history members 0 server
+  keeps_first opening history members server e stands = record {
+    entries = [];
+    stands = subst (ServerStands opening server) (sym (append-nil history)) stands;
+    same = refl;
+    theirs = tt;
+    each = λ k h. absurd (omega arith);
+    fresh = λ k h. ap (λ (z : List (ℕ × MemberValue S)). member_at z k) e;
+  }
+
+  pub keeps_all : (prefix : List ℕ) (opening : CacheValue) (history : List HistoryEntry) (members : List (ℕ × MemberValue S)) (accepted : ℕ) (server : ServerValue)
+      → ((k : ℕ) → k < accepted → member_at members k ≡ None) → KeepsTogether spoke ended prefix opening history members accepted server → ServesEach ended prefix opening history accepted server
+  keeps_all prefix opening history members accepted server gone keeps = record {
+    entries = keeps.entries;
+    stands = keeps.stands;
+    theirs = keeps.theirs;
+    each = λ k h. subst (TalksOrEnded spoke ended prefix opening history keeps.entries k) (gone k h) (keeps.each k h);
+  }

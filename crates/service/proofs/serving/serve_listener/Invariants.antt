@@ -1,0 +1,5 @@
+use Rattle.service.specs.Turns.{ServesInTurn}
+use Rattle.service.proofs.serving.serve_listener.Given as goal
+
+abbrev pub invariant-loop-number : goal.invariant-loop-number
+invariant-loop-number g l = ServesInTurn g.L.Listener.opened g.L.Listener.ended l.fn.prefix l.fn.cache l.number l.cache

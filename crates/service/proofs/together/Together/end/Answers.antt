@@ -1,0 +1,14 @@
+use Rattle.std.proofs.Common.{inl, ap, subst}
+use Rattle.service.specs.Sockets.{EndsAs}
+use Rattle.service.proofs.together.Together.end.Goals as goal
+
+pub returns : goal.returns
+returns g c = inl (record {
+  m = c.in-Some.member;
+  held = c.in-Some.ensures.held;
+  gone = c.take.ensures.gone;
+  others = c.take.ensures.others;
+  ends = subst (λ (z : g.row.S.Denot). EndsAs g.S.Peer.spoke z g.N.Sockets.ended) c.into_parts-stream.ensures c.end.ensures;
+  same = c.end-2.ensures.prefix;
+  stands = c.end-2.ensures.stands;
+})

@@ -1,0 +1,95 @@
+-- Open connections, each under its number, and a server.
+use Rattle.std.specs.Prelude.{◌≡◌, ℕ, ◌<◌, ◌≤◌, ◌⊎◌, Bool, List, [], ◌∷◌, ◌++◌, Option, Some, None}
+use Rattle.std.specs.Ordering.{nat_cmp}
+use Rattle.std.specs.BTreeMap.{is_at}
+use Rattle.std.specs.Map.{lookup}
+use Rattle.cache_server.specs.Cache.{CacheValue}
+use Rattle.cache_server.specs.History.{HistoryEntry, End}
+use Rattle.cache_server.specs.Server.{ServerValue, ServerStands}
+use Rattle.service.specs.Talks.{HasEnded, AreBelow}
+use Rattle.service.specs.Sockets.{EndsAs}
+use Rattle.service.specs.Member.{MemberValue, TalksOn, MovesOn, new_member}
+
+abbrev pub member_at : {S : Type 0} → List (ℕ × MemberValue S) → ℕ → Option (MemberValue S)
+member_at members k = lookup (is_at (nat_cmp k)) members
+
+-- a connection is open and goes on, or has ended
+abbrev pub TalksOrEnded :
+    {S : Type 0} → (ℕ → S → List ℕ → List ℕ → Type 0) → (ℕ → List ℕ → List ℕ → Type 0) → List ℕ
+    → CacheValue → List HistoryEntry → List HistoryEntry → ℕ → Option (MemberValue S) → Type 0
+TalksOrEnded spoke ended prefix opening history entries k None =
+    HasEnded ended prefix opening history entries k
+TalksOrEnded spoke ended prefix opening history entries k (Some m) =
+    TalksOn spoke prefix opening history entries k m
+
+-- so many connections were accepted, and the entries are of these alone
+pub record KeepsTogether
+    {S : Type 0} (spoke : ℕ → S → List ℕ → List ℕ → Type 0) (ended : ℕ → List ℕ → List ℕ → Type 0)
+    (prefix : List ℕ) (opening : CacheValue) (history : List HistoryEntry)
+    (members : List (ℕ × MemberValue S)) (accepted : ℕ) (server : ServerValue) : Type 0 where
+  pub entries : List HistoryEntry
+  pub stands : ServerStands opening server (history ++ entries)
+  pub same : server.prefix ≡ prefix
+  pub theirs : AreBelow accepted entries
+  pub each : (k : ℕ) → k < accepted
+      → TalksOrEnded spoke ended prefix opening history entries k (member_at members k)
+  pub fresh : (k : ℕ) → accepted ≤ k → member_at members k ≡ None
+
+-- so it is afterwards, where it was so before
+pub record GoesOnTogether
+    {S : Type 0} (spoke : ℕ → S → List ℕ → List ℕ → Type 0) (ended : ℕ → List ℕ → List ℕ → Type 0)
+    (members : List (ℕ × MemberValue S)) (accepted : ℕ) (server : ServerValue)
+    (members' : List (ℕ × MemberValue S)) (accepted' : ℕ) (server' : ServerValue) : Type 0 where
+  pub on : (prefix : List ℕ) (opening : CacheValue) (history : List HistoryEntry)
+      → KeepsTogether spoke ended prefix opening history members accepted server
+      → KeepsTogether spoke ended prefix opening history members' accepted' server'
+
+-- the same connections
+abbrev pub AreSame : {S : Type 0} → List (ℕ × MemberValue S) → List (ℕ × MemberValue S) → Type 0
+AreSame old new = (j : ℕ) → member_at new j ≡ member_at old j
+
+abbrev pub OthersAreSame :
+    {S : Type 0} → ℕ → List (ℕ × MemberValue S) → List (ℕ × MemberValue S) → Type 0
+OthersAreSame k old new = (j : ℕ) → (j ≡ k → ⊥) → member_at new j ≡ member_at old j
+
+-- the connection with the number has moved on
+pub record MovesOnAt
+    {S : Type 0} (ends : Bool) (spoke : ℕ → S → List ℕ → List ℕ → Type 0) (k : ℕ)
+    (old : ServerValue) (members : List (ℕ × MemberValue S))
+    (new : ServerValue) (members' : List (ℕ × MemberValue S)) : Type 0 where
+  pub before : MemberValue S
+  pub after : MemberValue S
+  pub held : member_at members k ≡ Some before
+  pub at : member_at members' k ≡ Some after
+  pub others : OthersAreSame k members members'
+  pub moves : MovesOn ends spoke k old before new after
+
+-- a new connection
+pub record EntersAt
+    {S : Type 0} (k : ℕ) (stream : S)
+    (old new : List (ℕ × MemberValue S)) : Type 0 where
+  pub at : member_at new k ≡ Some (new_member stream)
+  pub others : OthersAreSame k old new
+
+-- the connection with the number was ended, and the server was told
+pub record EndsAt
+    {S : Type 0} (spoke : ℕ → S → List ℕ → List ℕ → Type 0) (ended : ℕ → List ℕ → List ℕ → Type 0)
+    (k : ℕ) (old : ServerValue) (members : List (ℕ × MemberValue S))
+    (new : ServerValue) (members' : List (ℕ × MemberValue S)) : Type 0 where
+  pub m : MemberValue S
+  pub held : member_at members k ≡ Some m
+  pub gone : member_at members' k ≡ None
+  pub others : OthersAreSame k members members'
+  pub ends : EndsAs spoke m.stream ended
+  pub same : new.prefix ≡ old.prefix
+  pub stands : (opening : CacheValue) (history : List HistoryEntry)
+      → ServerStands opening old history
+      → ServerStands opening new (history ++ End k ∷ [])
+
+-- it was ended, or there was none
+abbrev pub EndsIfAny :
+    {S : Type 0} → (ℕ → S → List ℕ → List ℕ → Type 0) → (ℕ → List ℕ → List ℕ → Type 0)
+    → ℕ → ServerValue → List (ℕ × MemberValue S) → ServerValue → List (ℕ × MemberValue S) → Type 0
+EndsIfAny spoke ended k old members new members' =
+    EndsAt spoke ended k old members new members'
+    ⊎ ((member_at members k ≡ None) × (new ≡ old) × AreSame members members')

@@ -1,0 +1,109 @@
+use crate::sockets::{Peer, Ready, Sockets};
+use mio::net::{TcpListener, TcpStream};
+use mio::{Events, Interest, Poll, Token};
+use std::alloc::Global;
+use std::io::{Read, Write};
+use std::net::{Net, Shutdown, SocketAddr};
+use std::time::Duration;
+use std::{io, net};
+
+/// The token of the listener. A connection has its number as its token.
+const LISTENER: Token = Token(usize::MAX);
+
+/// How many events are taken from the system at once.
+const EVENTS: usize = 256;
+
+/// A listener of the system, and epoll.
+#[derive(Drop)]
+pub(crate) struct Epoll {
+    poll: Poll,
+    events: Events<Global>,
+    listener: TcpListener,
+}
+
+impl Epoll {
+    pub(crate) fn new<R: AllocGlobal + Net>(
+        rt: &R,
+        listener: net::TcpListener,
+    ) -> io::Result<Epoll> {
+        listener.set_nonblocking(true)?;
+        let mut listener = TcpListener::from_std(listener);
+        let poll = Poll::new(rt)?;
+        poll.registry()
+            .register(&mut listener, LISTENER, Interest::READABLE)?;
+        let events = Events::with_capacity(rt.alloc(), EVENTS)?;
+        Ok(Epoll {
+            poll,
+            events,
+            listener,
+        })
+    }
+}
+
+/// A socket, of whose bytes nothing is known.
+impl Peer for TcpStream {
+    ghost spoke = { λ _ _ _ _. Unit {0} };
+
+    fn read(&mut self, buffer: &mut [u8]) -> io::Result<usize> {
+        let mut stream = &*self;
+        Read::read(&mut stream, buffer)
+    }
+
+    fn write(&mut self, bytes: &[u8]) -> io::Result<usize> {
+        let mut stream = &*self;
+        Write::write(&mut stream, bytes)
+    }
+
+    fn shut(&mut self) {
+        let _ended = self.shutdown(Shutdown::Write);
+    }
+
+    fn discard(&mut self, buffer: &mut [u8]) -> io::Result<usize> {
+        let mut stream = &*self;
+        Read::read(&mut stream, buffer)
+    }
+}
+
+impl Sockets for Epoll {
+    type Stream = TcpStream;
+
+    ghost ended = { λ _ _ _. Unit {0} };
+
+    fn accept(&mut self, number: u64) -> io::Result<(TcpStream, SocketAddr)> {
+        let (stream, peer) = self.listener.accept()?;
+        let mut stream = stream;
+        let _set = stream.set_nodelay(true);
+        let interests = Interest::READABLE | Interest::WRITABLE;
+        self.poll
+            .registry()
+            .register(&mut stream, Token(number as usize), interests)?;
+        Ok((stream, peer))
+    }
+
+    fn end(&mut self, stream: TcpStream) {
+        let _closed = stream;
+    }
+
+    fn wait(
+        &mut self,
+        timeout: Option<Duration>,
+        ready: &mut Vec<Ready, Global>,
+    ) -> io::Result<()> {
+        self.poll.poll(&mut self.events, timeout)?;
+        for event in &self.events {
+            let Token(token) = event.token();
+            let number = if event.token() == LISTENER {
+                None
+            } else {
+                Some(token as u64)
+            };
+            let ends = event.is_read_closed() || event.is_error();
+            ready.push(Ready {
+                number,
+                readable: event.is_readable() || ends,
+                read_closed: ends,
+            })?;
+        }
+        Ok(())
+    }
+}

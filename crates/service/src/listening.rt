@@ -1,0 +1,98 @@
+ghost use Rattle.std.specs.Prelude.{ℕ, List, Option, IfOk};
+
+use crate::closing::close;
+use crate::metered::Metered;
+use std::alloc::Global;
+use std::io;
+use std::io::{BufWriter, Read, Write};
+use std::net::{SocketAddr, TcpListener};
+use std::time::{Clock, Duration};
+
+/// How many bytes of answers are gathered before they are written: heads go out with what is short.
+const GATHERED: usize = 16384;
+
+/// A connection: what is read of it, what is written to it, and its peer.
+#[derive(Drop)]
+pub struct Accepted<I, O> {
+    pub reader: I,
+    pub writer: O,
+    pub peer: SocketAddr,
+}
+
+/// Where connections come from that are served one after another.
+pub trait Listener {
+    type Reader: Read + Drop;
+
+    type Writer: Write + Drop;
+
+    /// That the connection with this number was opened, with this to be read and written there.
+    ghost opened: { ℕ → Option (List ℕ) → Option (List ℕ) → Type 0 };
+
+    /// That it has ended, with this left to be read and written there. Only the calls that opened it
+    /// and ended it say so.
+    ghost ended: { ℕ → Option (List ℕ) → Option (List ℕ) → Type 0 };
+
+    /// Waits for the next connection, under this number.
+    fn accept(&mut self, number: u64) -> io::Result<Accepted<Self::Reader, Self::Writer>>
+        ensures { IfOk result (λ it. opened number
+            (Self.Reader.remaining it.reader) (Self.Writer.contents it.writer)) };
+
+    /// Ends a connection, and tells how many bytes were read and written. One that `lingers` may
+    /// still be sending.
+    fn end(
+        &mut self,
+        number: u64,
+        reader: Self::Reader,
+        writer: Self::Writer,
+        lingers: bool,
+    ) -> (u64, u64)
+        ensures { ended number (Self.Reader.remaining reader) (Self.Writer.contents writer) };
+}
+
+/// A listener of the system. A connection that is silent for `idle`, or takes no answer for so long,
+/// fails.
+#[derive(Drop)]
+pub(crate) struct System<'r, R> {
+    pub(crate) rt: &'r R,
+    pub(crate) listener: &'r TcpListener,
+    pub(crate) idle: Option<Duration>,
+}
+
+impl<'r, R: AllocGlobal + Clock> Listener for System<'r, R> {
+    type Reader = Metered;
+
+    type Writer = BufWriter<Metered, Global>;
+
+    ghost opened = { λ _ _ _. Unit {0} };
+
+    ghost ended = { λ _ _ _. Unit {0} };
+
+    fn accept(&mut self, number: u64) -> io::Result<Accepted<Metered, BufWriter<Metered, Global>>> {
+        let _number = number;
+        let (stream, peer) = self.listener.accept()?;
+        let _set = stream.set_nodelay(true);
+        let _set = stream.set_read_timeout(self.idle);
+        let _set = stream.set_write_timeout(self.idle);
+        let sender = Metered::new(stream.try_clone()?);
+        Ok(Accepted {
+            reader: Metered::new(stream),
+            writer: BufWriter::with_capacity(self.rt.alloc(), GATHERED, sender)?,
+            peer,
+        })
+    }
+
+    fn end(
+        &mut self,
+        number: u64,
+        reader: Metered,
+        writer: BufWriter<Metered, Global>,
+        lingers: bool,
+    ) -> (u64, u64) {
+        let _number = number;
+        let (sender, _unsent) = writer.into_parts();
+        if lingers {
+            close(self.rt, &reader.stream);
+        }
+        (reader.bytes, sender.bytes)
+    }
+}

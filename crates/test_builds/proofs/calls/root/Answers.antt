@@ -1,0 +1,6 @@
+-- A new memo knows nothing.
+use Rattle.tree.proofs.Learning.{known_nothing}
+use Rattle.test_builds.proofs.calls.root.Goals as goal
+
+pub root-requires : goal.root-requires
+root-requires g c = known_nothing c.new-memo.ensures

@@ -1,0 +1,119 @@
+//! Rows of builds of plans, over a store with the stock and a runner that counts its children. Each
+//! is built twice over one store.
+ghost use Rattle.std.specs.Prelude.{◌<◌};
+
+use crate::answers::{Answer, Broken, count_in, is, said};
+use crate::counting::{Came, Counting, Noting};
+use crate::stock::source_of;
+use blob_digest::Digest;
+use builder::{Fault, Told, tell_build};
+use plan::Plan;
+use std::alloc::{AllocError, Allocator, Global};
+use test_support::Row;
+use tree::MemorySource;
+
+/// What came of a build.
+#[derive(Drop)]
+struct Tried {
+    /// Its line, and the text of the record after it; nothing for want of memory.
+    told: Option<String>,
+    children: Counting,
+    steps: Noting,
+}
+
+/// What the two builds of a row come to, where the second tells the same; and where the first tells
+/// of want of memory, the second what the row says.
+pub fn answer<A: Allocator + Copy>(
+    global: Global,
+    alloc: A,
+    stock: &[Row],
+    fields: &[Vec<u8>],
+) -> Answer {
+    let [plan, came, jobs, expected] = fields else {
+        return Err(Broken::NoRow);
+    };
+    let (came, jobs) = (came_of(came), count_in(jobs)?.max(1));
+    let mut store = source_of(alloc, stock, &[])?;
+    let plan = Plan::read(alloc, plan)?;
+    let first = build_once(global, alloc, &plan, &mut store, came, jobs)?;
+    let second = build_once(global, alloc, &plan, &mut store, came, jobs)?;
+    both_told(global, &first, &second, expected)
+}
+
+/// What a row's text says of each child.
+fn came_of(text: &[u8]) -> Came {
+    if is(text, "out") {
+        Came::File("out", "123456789")
+    } else {
+        Came::Code(if is(text, "0") { 0 } else { 3 })
+    }
+}
+
+/// Builds the plan.
+fn build_once<A: Allocator + Copy>(
+    global: Global,
+    alloc: A,
+    plan: &Plan<A>,
+    store: &mut MemorySource<A>,
+    came: Came,
+    jobs: usize,
+) -> Result<Tried, AllocError>
+    requires { 0 < jobs }
+{
+    let mut children = Counting::new(came);
+    let mut steps = Noting::new();
+    let sources = Digest::empty();
+    let told = match tell_build(
+        alloc,
+        &sources,
+        plan,
+        store,
+        &mut children,
+        &mut steps,
+        jobs,
+    ) {
+        Ok(Told::Built { line, noted }) => Some(with_record(global, line.as_str(), &noted)?),
+        Ok(Told::Failed { line }) => Some(String::from_str(global, line.as_str())?),
+        Err(Fault::Memory) => None,
+        Err(fault) => Some(format!(in global; "{fault}")?),
+    };
+    Ok(Tried {
+        told,
+        children,
+        steps,
+    })
+}
+
+fn with_record(global: Global, line: &str, noted: &[u8]) -> Result<String, AllocError> {
+    let noted = String::from_utf8_lossy(global, noted)?;
+    format!(in global; "{line}{noted}")
+}
+
+fn both_told(global: Global, first: &Tried, second: &Tried, expected: &[u8]) -> Answer {
+    if first.children.alive() > 0 || second.children.alive() > 0 {
+        return said(global, "a child is alive");
+    }
+    match (&first.told, &second.told) {
+        (Some(told), Some(again)) if told.as_str() == again.as_str() => {
+            counted(global, told.as_str(), first, second)
+        }
+        (None, Some(again)) if expected.starts_with(again.as_bytes()) => Err(Broken::Memory),
+        (Some(_), None) => Err(Broken::Memory),
+        _ => said(global, "told otherwise"),
+    }
+}
+
+/// What was told, and what was counted of the children and the steps.
+fn counted(global: Global, told: &str, first: &Tried, second: &Tried) -> Answer {
+    let (at_first, alive, started) = first.children.counts();
+    let (finished, taken, most) = first.steps.counts();
+    let (_, _, again) = second.children.counts();
+    let (all, stored, _) = second.steps.counts();
+    let mut text = String::from_str(global, told)?;
+    write!(text, "children {at_first} {alive} {started}, ")?;
+    write!(
+        text,
+        "steps {finished} {taken} {most}, again {again} {all} {stored}"
+    )?;
+    Ok(text)
+}

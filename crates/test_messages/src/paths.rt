@@ -1,0 +1,135 @@
+//! Rows of names, targets and paths, of their order and of their spelling in a plan.
+use crate::answers::{Answer, Broken, number_in, said, word};
+use messages::*;
+use plan::{StepName, is_step_name, read_path, write_path};
+use std::alloc::{Allocator, Global};
+use std::cmp::Ordering;
+use test_support::Refusing;
+
+pub fn answer<A: Allocator + Copy>(global: Global, alloc: A, fields: &[Vec<u8>]) -> Answer {
+    match fields {
+        [kind, given, _] => of_one(global, alloc, word(kind), given),
+        [_, first, second, _] => pair(global, first, second),
+        _ => Err(Broken::NoRow),
+    }
+}
+
+fn of_one<A: Allocator + Copy>(global: Global, alloc: A, kind: &str, given: &[u8]) -> Answer {
+    match kind {
+        "text" => text(global, alloc, given),
+        "deep" => deep(global, alloc, number_in(given)?),
+        "spell" => spelled(global, alloc, given),
+        "step" => step(global, alloc, given),
+        _ => Err(Broken::NoRow),
+    }
+}
+
+/// Whether a name, a target and a path can be made, or why not.
+fn made_of<A: Allocator + Copy>(alloc: A, text: &[u8]) -> Result<[bool; 3], MessageError> {
+    let name = match Name::new(alloc, text) {
+        Err(MessageError::Memory) => return Err(MessageError::Memory),
+        name => name.is_ok(),
+    };
+    let target = match Target::new(alloc, text) {
+        Err(MessageError::Memory) => return Err(MessageError::Memory),
+        target => target.is_ok(),
+    };
+    let path = match Path::new(alloc, text) {
+        Err(MessageError::Memory) => return Err(MessageError::Memory),
+        path => path.is_ok(),
+    };
+    Ok([name, target, path])
+}
+
+/// Whether the text is a name, a target and a path.
+fn text<A: Allocator + Copy>(global: Global, alloc: A, bytes: &[u8]) -> Answer {
+    let made = made_of(alloc, bytes)?;
+    let is = match str::from_utf8(bytes) {
+        Ok(text) => [is_name(text), is_target(text), is_path(text)],
+        Err(_) => [false, false, false],
+    };
+    if is != made {
+        return said(global, "made otherwise");
+    }
+    said(
+        global,
+        match is {
+            [true, true, true] => "name target path",
+            [false, true, true] => "target path",
+            [false, true, false] => "target",
+            [false, false, false] => "none",
+            _ => "a strange text",
+        },
+    )
+}
+
+/// How the first path lies to the second, which takes no memory.
+fn pair(global: Global, first: &[u8], second: &[u8]) -> Answer {
+    let heap = Refusing::new(global, 0);
+    let path = Path::new(&heap, first)?;
+    let other = Path::new(&heap, second)?;
+    heap.refuse(1);
+    let names_are_names = path.names().all(|name| is_name(name));
+    if path.as_bytes() != first || path.is_same(&other) != (first == second) || !names_are_names {
+        return said(global, "other names");
+    }
+    let order = match path.compare_text(&other) {
+        Ordering::Less => "before",
+        Ordering::Equal => "same",
+        Ordering::Greater => "after",
+    };
+    let place = match (path.lies_under(&other), path.overlaps(&other)) {
+        (true, true) => "under",
+        (false, true) => "overlaps",
+        (false, false) => "apart",
+        (true, false) => "strange",
+    };
+    if heap.has_refused() {
+        return said(global, "compared with memory");
+    }
+    Ok(format!(in global; "{place} {order}")?.into_bytes())
+}
+
+/// The path of this many names `a`.
+fn path_of<A: Allocator + Copy>(alloc: A, names: u64) -> Result<Path<A>, MessageError> {
+    let name = Name::new(alloc, b"a")?;
+    let mut path = Path::of_name(alloc, &name)?;
+    for _ in 1..names {
+        path = Path::below(alloc, &path, &name)?;
+    }
+    Path::copy_of(alloc, &path).map_err(MessageError::from)
+}
+
+/// How many bytes and names the path of this many names has.
+fn deep<A: Allocator + Copy>(global: Global, alloc: A, names: u64) -> Answer {
+    let path = path_of(alloc, names)?;
+    let bytes = path.as_bytes().len();
+    let count = path.names().count();
+    Ok(format!(in global; "{bytes} bytes {count} names")?.into_bytes())
+}
+
+/// The path that the text spells, if it spells one and is written so.
+fn spelled<A: Allocator + Copy>(global: Global, alloc: A, text: &[u8]) -> Answer {
+    match read_path(alloc, text)? {
+        Some(path) => {
+            if write_path(alloc, &path)?.as_bytes() == text {
+                said(global, path.as_str())
+            } else {
+                said(global, "written otherwise")
+            }
+        }
+        None => said(global, "none"),
+    }
+}
+
+/// Whether the text is a step's name.
+fn step<A: Allocator + Copy>(global: Global, alloc: A, text: &[u8]) -> Answer {
+    let is_made = match StepName::new(alloc, text)? {
+        Some(name) => StepName::copy_of(alloc, &name)?.as_bytes() == text,
+        None => false,
+    };
+    if is_made != is_step_name(text) {
+        return said(global, "made otherwise");
+    }
+    said(global, if is_made { "yes" } else { "no" })
+}

@@ -1,0 +1,110 @@
+"""What a plan may say: its texts and paths, trees as dictionaries, its limits, and the blobs that a store is told with it."""
+
+import functools
+
+from messages import Digest
+
+MOST_STEPS = 4096
+MOST_LINES = 65536
+MOST_BYTES = 16777216
+LONGEST_STEP = 64
+
+
+class Refused(Exception):
+    """Why there is no plan: where, and what is wrong there."""
+
+
+# Paths, as messages have them.
+
+
+def is_text(text):
+    """Whether a text may stand in a message: it has bytes as UTF-8, and no NUL."""
+    try:
+        return b"\0" not in text.encode()
+    except UnicodeEncodeError:
+        return False
+
+
+def is_target(target):
+    return is_text(target) and 0 < len(target.encode()) <= 4096
+
+
+@functools.lru_cache(maxsize=None)
+def is_path(path):
+    names = path.split("/")
+    return (
+        is_text(path)
+        and len(names) <= 64
+        and all(name not in ("", ".", "..") and len(name.encode()) <= 255 for name in names)
+    )
+
+
+def folders_of(path):
+    """The folders above a path, the nearest first."""
+    while "/" in path:
+        path = path.rpartition("/")[0]
+        yield path
+
+
+SAFE = frozenset(b"ABCDEFGHIJKLMNOPQRSTUVWXYZabcdefghijklmnopqrstuvwxyz0123456789-._~/")
+
+
+@functools.lru_cache(maxsize=None)
+def escaped(path):
+    """The one text that a path has in a plan."""
+    return "".join(chr(byte) if byte in SAFE else f"%{byte:02X}" for byte in path.encode())
+
+
+# Trees as dictionaries: a file, a link or such a dictionary by each name.
+
+
+def put(entries, path, entry):
+    """Puts an entry at a path of a dictionary, and answers whether there was room for it, or it stood there."""
+    *folders, name = path.split("/")
+    for folder in folders:
+        entries = entries.setdefault(folder, {})
+        if not isinstance(entries, dict):
+            return False
+    return entries.setdefault(name, entry) == entry
+
+
+def stands_at(entries, path):
+    """What stands at a path of a dictionary, or nothing."""
+    for name in path.split("/"):
+        if not isinstance(entries, dict) or name not in entries:
+            return None
+        entries = entries[name]
+    return entries
+
+
+# What is written.
+
+
+class Store:
+    """The blobs by digest, and the results by their action's hash, that a store is to be told."""
+
+    def __init__(self):
+        self.blobs = {}
+        self.results = {}
+
+    def keep(self, blob):
+        digest = Digest.of(blob)
+        self.blobs[digest] = blob
+        return digest
+
+    def put_into(self, store):
+        """Tells a store all: the blobs before the results that refer to them."""
+        for digest, blob in self.blobs.items():
+            store.put("cas", digest.hash, blob)
+        for action, result in self.results.items():
+            store.put("ac", action.hash, result)
+
+
+def check_sizes(store, texts):
+    """Refuses what the program reads no more of: blobs, results, and texts by their names, each a list of lines."""
+    sizes = {f"the blob {digest.text()}": len(blob) for digest, blob in store.blobs.items()}
+    sizes.update((f"the result of {action.text()}", len(blob)) for action, blob in store.results.items())
+    sizes.update((f"the {name}", sum(len(it) + 1 for it in lines)) for name, lines in texts.items())
+    for name, size in sizes.items():
+        if size > MOST_BYTES:
+            raise Refused(f"{name} has {size} bytes, and buildcache reads {MOST_BYTES} at most")

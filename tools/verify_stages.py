@@ -1,0 +1,135 @@
+#!/usr/bin/env python3
+"""Verifies a build in stages, as bazel_plan.py --stages writes it: each stage by `buildcache verify`.
+
+    verify_stages.py asked --jobs 4
+
+FOLDER has the file `stages` with the name of a folder a line, each with a plan, a record, sources and a claim. The sources of
+each stage have to be the claim of the one before. Then the verdicts compose: where each is yes, whoever builds the stages one
+after another from the first one's sources, each from what came of the one before, ends in exactly the last claim.
+
+The last line is `yes CLAIM stages N steps M`, or the no of the first stage that has one, as `no stage K step NAME cause ..`.
+The status is that of `verify`: 0 yes, 1 no, 2 a file is at fault, 3 no verdict.
+"""
+
+import argparse
+import concurrent.futures
+import os
+import re
+import subprocess
+import sys
+from dataclasses import dataclass
+
+import harness
+
+ASKED = ("sources", "claim")
+
+
+class Fault(Exception):
+    """What is at fault, and the status that tells it."""
+
+    def __init__(self, status, why):
+        super().__init__(why)
+        self.status = status
+
+
+@dataclass
+class Stage:
+    name: str
+    folder: str
+    sources: str
+    claim: str
+
+
+def read_lines(path):
+    try:
+        with open(path, encoding="utf-8") as it:
+            return it.read().splitlines()
+    except (OSError, UnicodeDecodeError) as fault:
+        raise Fault(3, f'"{path}": {fault}') from None
+
+
+def read_stages(folder):
+    """The stages, of which each goes on from what the one before ends in."""
+    names = read_lines(os.path.join(folder, "stages"))
+    if not names:
+        raise Fault(2, f'"{folder}": there are no stages')
+    stages = []
+    for name in names:
+        place = os.path.join(folder, name)
+        digests = [read_lines(os.path.join(place, it)) for it in ASKED]
+        if any(len(it) != 1 for it in digests):
+            raise Fault(2, f'"{place}": the files sources and claim have a digest each')
+        stages.append(Stage(name, place, digests[0][0], digests[1][0]))
+    for before, stage in zip(stages, stages[1:]):
+        if stage.sources != before.claim:
+            raise Fault(2, f"stage {stage.name}: its sources {stage.sources} aren't the claim of stage {before.name}")
+    return stages
+
+
+def verify(stage, program, place):
+    """What `verify` prints on a stage, what it prints as an error, and its status."""
+    words = [program, "verify", *place, "--sources", stage.sources, "--claim", stage.claim]
+    words += ["--plan", os.path.join(stage.folder, "plan"), "--record", os.path.join(stage.folder, "record")]
+    ran = subprocess.run(words, stdin=subprocess.DEVNULL, capture_output=True, text=True, check=False)
+    return ran.stdout.rstrip("\n"), ran.stderr.rstrip("\n"), ran.returncode
+
+
+def judge(stages, program, place, jobs):
+    """The number of steps of all stages, or the first stage's fault."""
+    steps, is_shown = 0, sys.stderr.isatty()
+    with concurrent.futures.ThreadPoolExecutor(jobs) as pool:
+        verdicts = [pool.submit(verify, it, program, place) for it in stages]
+        try:
+            for count, (stage, verdict) in enumerate(zip(stages, verdicts), 1):
+                line, told, status = verdict.result()
+                if status == 1:
+                    raise Fault(1, f"no stage {stage.name} {line.removeprefix('no ')}")
+                found = re.fullmatch(f"yes {stage.claim} steps ([0-9]+)", line)
+                if status != 0 or not found:
+                    raise Fault(status or 3, f"stage {stage.name}: {told.removeprefix('error: ') or line}")
+                steps += int(found[1])
+                if is_shown:
+                    print(f"\r{count} of {len(stages)} stages, {steps} steps", end="", file=sys.stderr, flush=True)
+        finally:
+            for it in verdicts:
+                it.cancel()
+            if is_shown:
+                print(file=sys.stderr)
+    return steps
+
+
+def parse(words):
+    lines = __doc__.split("\n\n", 1)
+    parser = argparse.ArgumentParser(
+        prog="verify_stages.py", description=lines[0], epilog=lines[1], formatter_class=argparse.RawDescriptionHelpFormatter
+    )
+    parser.add_argument("folder", metavar="FOLDER", help="the folder with the stages")
+    parser.add_argument("--jobs", metavar="J", type=int, default=1, choices=range(1, 65), help="so many at once, 1 to 64")
+    places = parser.add_mutually_exclusive_group()
+    places.add_argument("--store", metavar="STORE", help="the store folder, in place of FOLDER/store")
+    places.add_argument("--server", metavar="HOST:PORT", help="a cache over HTTP in place of a folder")
+    parser.add_argument("--prefix", metavar="PREFIX", help="what stands before /cas and /ac on the server")
+    return parser.parse_args(words)
+
+
+def main(words):
+    options = parse(words)
+    if options.server:
+        place = ["--server", options.server, *(["--prefix", options.prefix] if options.prefix else [])]
+    else:
+        place = ["--store", options.store or os.path.join(options.folder, "store")]
+    program = harness.PROGRAM if os.path.exists(harness.PROGRAM) else os.path.join(harness.TOP, "buildcache")
+    try:
+        if options.prefix and not options.server:
+            raise Fault(2, "--prefix is for --server")
+        stages = read_stages(options.folder)
+        steps = judge(stages, program, place, options.jobs)
+    except Fault as fault:
+        print(fault if fault.status == 1 else f"error: {fault}", file=sys.stdout if fault.status == 1 else sys.stderr)
+        return fault.status
+    print(f"yes {stages[-1].claim} stages {len(stages)} steps {steps}")
+    return 0
+
+
+if __name__ == "__main__":
+    sys.exit(main(sys.argv[1:]))
