@@ -24,6 +24,8 @@ UNREAD = re.compile(r"is not in scope|has no field|is no name|operand is missing
 PLACED = re.compile(r"(?:\./)?(?P<file>(?:src|specs|proofs)/\S+?):(?P<line>\d+):\d+: error: (?:`(?P<goal>[^`]*)`: )?(?P<said>.*)")
 OPEN = re.compile(r"note: \S+:\d+:\d+: it is not proved that .*")
 STATUS = re.compile(r"fn (?P<path>\S+): (?P<said>.*)")
+# And of a function whose proof it takes for none, since a lemma below it was refused.
+STANDS = re.compile(r"it stands on `(?P<lemma>[^`]+)`, which antt refuses")
 UNTRIED = re.compile(r"note: `search` has not tried the goals of `(?P<path>[^`]+)`")
 
 
@@ -219,6 +221,15 @@ class Said:
         told = re.findall(r"`([^`]+)`", said.partition("`search` did not prove ")[2].partition(";")[0])
         told += [it.rpartition("(`")[2].partition("`)")[0] for it in pending]
         self.refused[path] += len({it for it in told if it not in lost})
+        self.take_lemmas(path, said)
+
+    def take_lemmas(self, path, said):
+        """The lemmas for which a function's line says that it is refused: false, or only of names that are gone."""
+        for lemma in STANDS.findall(said):
+            named = {whether for (_, name), whether in self.false.items() if name == lemma.rpartition(".")[2]}
+            self.refused[path] += any(named)
+            if named == {False}:
+                self.gone.setdefault(path, []).append((lemma, said))
 
     def gone_in(self, path):
         """That a function is refused only for that."""

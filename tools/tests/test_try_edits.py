@@ -192,6 +192,17 @@ logic=not-proved"""
         faults = self.judge(pairs(HALF), lemma.format("`count` is not in scope\n") + rest)
         self.assertIn("sizes::half is refused only since a proof names what is gone", faults["half_of_nothing"])
 
+    def test_one_in_a_constant_is_refused_where_the_function_stands_on_a_lemma_of_it(self):
+        edits = pairs(("ten_bytes", "pub struct Size", "const TEN: u64 = 10; pub struct Size")) + "\n# refused in sizes::half\n"
+        said = """./proofs/Halves.antt:3:1: error: `ten_is_even`: {}
+fn small::sizes::half: not proved; it stands on `Rattle.small.proofs.Halves.ten_is_even`, which antt refuses
+only=1 holes=0"""
+        self.assertEqual(self.judge(edits, said.format("the two types differ")), {})
+        faults = self.judge(edits, said.format("`count` is not in scope"))
+        self.assertIn("sizes::half is refused only since a proof names what is gone", faults["ten_bytes"])
+        faults = self.judge(edits, said.format("the two types differ").replace("Halves.ten_is_even", "Halves.another"))
+        self.assertEqual(faults, {"ten_bytes": "sizes::half isn't refused"})
+
     def test_one_that_waits_for_another_is_checked_without_it(self):
         alone = "fn small::sizes::half: proved\nfn small::sizes::Size::twice: {}\nonly=1 proved=0"
         self.assertEqual(self.judge(pairs(HALF, TWICE), SAID, alone.format("no proof; `search` did not prove `returns`")), {})
