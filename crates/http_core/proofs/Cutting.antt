@@ -1,5 +1,5 @@
 -- A stream is cut in one way, and cuts go on.
-use Rattle.std.proofs.Common.{◌≡◌, ℕ, ◌≤◌, ◌+◌, ◌⊎◌, inl, inr, Bool, true, false, Option, Some, None, List, [], ◌∷◌, ◌++◌, length, refl, sym, ◌∙◌, ap, subst, append_assoc, length-append, arith}
+use Rattle.std.proofs.Common.{◌≡◌, ℕ, ◌≤◌, ◌+◌, ◌⊎◌, inl, inr, Bool, true, false, Option, Some, None, List, [], ◌∷◌, ◌++◌, length, refl, sym, ◌∙◌, ap, subst, append_assoc, length-append, arith, zero, suc}
 use Rattle.std.proofs.lemmas.List.{append-nil, append_cancel_left}
 use Rattle.http_core.specs.declared.judging.Judgement.{Judgement}
 use Rattle.http_core.specs.Block.{empty_line, EndsBlock, IsBlock}
@@ -183,3 +183,36 @@ cut_within prefix stream piece x (event ∷ y) z a b c d =
       | inl s ↦ record { front = s.between; rest = h.rest; left = h.left; whole = s.rest; cut = subst (λ w. Cuts prefix w (x ++ event ∷ y) h.left) s.front h.cut }
       | inr s ↦ absurd (let k : (others : List EventValue) × (x ≡ (x ++ event ∷ y) ++ others) = cut_further prefix h.front s.between (x ++ event ∷ y) x h.left a h.cut (subst (λ w. Cuts prefix w x a) s.front c) in longer x y k.0 event k.1)
     ]
+
+-- ---- no stream is without a cut
+
+fewer : (front rest : List ℕ) (n : ℕ) → (front ≡ [] → ⊥) → length (front ++ rest) ≤ suc n → length rest ≤ n
+fewer [] rest n some few = absurd (some refl)
+fewer (b ∷ front) rest n some few = let h : length (front ++ rest) ≡ length front + length rest = length-append front rest in let k : length (b ∷ (front ++ rest)) ≡ suc (length (front ++ rest)) = refl in omega arith
+
+-- a stream is partial where no event at its front could be followed by a cut of the rest
+none_first : (prefix stream : List ℕ)
+    → ((rest : List ℕ) (front : List ℕ) (event : EventValue) → stream ≡ front ++ rest → Completes prefix front event → ((x : List EventValue) (a : Option (List ℕ)) → Cuts prefix rest x a → ⊥) → ⊥)
+    → ((x : List EventValue) (a : Option (List ℕ)) → Cuts prefix stream x a → ⊥) → ⊥
+unfolding Cuts
+none_first prefix stream behind none = none [] (Some stream) (partial, refl)
+  where
+    by : (front rest : List ℕ) (event : EventValue) → stream ≡ front ++ rest → Completes prefix front event → (b : Bool) → closes event ≡ b → ⊥
+    by front rest event e done true shut = none (event ∷ []) None (front, rest, e, done, inl (shut, refl, refl))
+    by front rest event e done false open_ = behind rest front event e done (λ x a c. none (event ∷ x) a (front, rest, e, done, inr (open_, c)))
+
+    partial : IsPartial prefix stream
+    partial front rest event e done = by front rest event e done (closes event) refl
+
+cut_within_length : (n : ℕ) (prefix stream : List ℕ) → length stream ≤ n → ((x : List EventValue) (a : Option (List ℕ)) → Cuts prefix stream x a → ⊥) → ⊥
+cut_within_length zero prefix stream few none = none_first prefix stream (λ rest front event e done no. no_empty prefix event (subst (λ z. Completes prefix z event) (nothing stream front rest few e) done)) none
+  where
+    nothing : (stream front rest : List ℕ) → length stream ≤ 0 → stream ≡ front ++ rest → front ≡ []
+    nothing [] front rest few e = empty_parts front rest e
+    nothing (b ∷ stream) front rest few e = let h : length (b ∷ stream) ≤ 0 = few in absurd (omega arith)
+cut_within_length (suc n) prefix stream few none =
+    none_first prefix stream (λ rest front event e done no. cut_within_length n prefix rest
+    (fewer front rest n (λ z. no_empty prefix event (subst (λ w. Completes prefix w event) z done)) (subst (λ z. length z ≤ suc n) e few)) no) none
+
+pub cut_somehow : (prefix stream : List ℕ) → ((x : List EventValue) (a : Option (List ℕ)) → Cuts prefix stream x a → ⊥) → ⊥
+cut_somehow prefix stream none = cut_within_length (length stream) prefix stream (omega arith) none
