@@ -1,12 +1,17 @@
 -- What `decode` reads is the result that the bytes say.
-use Rattle.std.proofs.Common.{◌≡◌, ◌≢◌, ℕ, Bool, true, false, cond, List, [], ◌∷◌, map, Some, None, Result, Ok, Err, refl, sym, ap, subst, ◌∙◌, Less, Equal, Greater, inl, inr, ◌⊎◌}
-use Rattle.std.specs.Prelude.{IsPermutation, IfErr}
+use Rattle.std.proofs.Common.{◌≡◌, ◌≢◌, ◌+◌, ℕ, Option, None, Bool, true, false, cond, List, [], ◌∷◌, map, Some, None, Result, Ok, Err, refl, sym, ap, subst, ◌∙◌, Less, Equal, Greater, inl, inr, ◌⊎◌}
+use Rattle.std.specs.Prelude.{IsPermutation, IfErr, IfSome, FitsSigned}
+use Rattle.std.specs.Int.{w32}
 use Rattle.std.specs.declared.cmp.Ordering.{Ordering}
 use Rattle.std.specs.Ordering.{is_lt}
 use Rattle.std.specs.List.{AllByRecursion}
 use Rattle.std.proofs.lemmas.List.Sorted.{IsPermutation-refl, IsPermutation-cons, IsPermutation-middle, IsPermutation-sym, IsPermutation-trans}
 use Rattle.std.proofs.lemmas.Map.Lookups.{exact_bytes}
 use Rattle.wire.specs.Bytes.{IsBytes}
+use Rattle.wire.specs.Record.{Record}
+use Rattle.canonical.specs.Fields.{elements_at}
+use Rattle.canonical.proofs.FieldKinds.{int32_at-fits}
+use Rattle.blob_digest.specs.DigestValue.{DigestValue, IsDigest}
 use Rattle.wire.specs.Steps.{◌>>=◌}
 use Rattle.wire.proofs.Steps.{bind_ok, ok_is}
 use Rattle.messages.specs.declared.error.MessageError.{MessageError}
@@ -14,13 +19,15 @@ use Rattle.messages.specs.declared.error.MessageError.TheVariants as message
 use Rattle.messages.specs.Order.{bytes_cmp}
 use Rattle.messages.specs.Path.{path_text}
 use Rattle.messages.proofs.Orders.{flipped, itself}
-use Rattle.action_messages.specs.ActionResult.{ActionResultValue, file_paths, directory_paths, symlink_paths, action_result_of}
+use Rattle.action_messages.specs.Stream.{StreamValue, IsStream}
+use Rattle.action_messages.specs.Nested.{SaysOne}
+use Rattle.action_messages.specs.ActionResult.{ActionResultValue, IsActionResult, file_paths, directory_paths, symlink_paths, action_result_of}
 use Rattle.action_messages.specs.Overlaps.{ArePathsApart, texts_of}
-use Rattle.action_messages.specs.Reads.{Reads}
+use Rattle.action_messages.specs.Reads.{Reads, SaysDigest, SaysStream}
 use Rattle.action_messages.specs.Refused.{IsRefusedResult}
 use Rattle.action_messages.specs.Unordered.{unordered, IsOrderingOf, output_paths}
 use Rattle.action_messages.proofs.Agreeing.{SaysUnordered, unordered_found, unordered_only}
-use Rattle.action_messages.proofs.Decoding.{apart_permuted, paths_permuted, lawful_permuted, lawful_said, not_unread}
+use Rattle.action_messages.proofs.Decoding.{found_is, apart_permuted, paths_permuted, lawful_permuted, lawful_said, not_unread}
 use Rattle.action_messages.proofs.Pairs.{ByPairs, pairs_permuted, all_permuted}
 use Rattle.action_messages.proofs.Results.{file_paths_lawful, directory_paths_lawful, symlink_paths_lawful, paths_found, result_found, result_given}
 use Rattle.action_messages.proofs.SameOrder.{AscendBy, same_order}
@@ -28,6 +35,7 @@ use Rattle.action_messages.proofs.Searches.{bytes_trans}
 use Rattle.action_cache.specs.declared.error.CacheError.{CacheError}
 use Rattle.action_cache.specs.declared.error.CacheError.TheVariants.{BadResult, Memory as NoMemory}
 use Rattle.action_cache.specs.CacheError.{of_message, IsNoResult}
+use Rattle.action_cache.specs.References.{Reference}
 use Rattle.action_cache.specs.Reading.{placed, by_path, in_order, said_result, referred_to, referred_in, references_in}
 
 -- ---- in the order of the paths
@@ -134,6 +142,41 @@ not_said : (bytes : List ℕ) (u m : ActionResultValue) (e : MessageError) → I
 not_said bytes u m e fits read made (inl unread) = not_unread bytes u e read unread
 not_said bytes u m e fits read made (inr (v, also, overlap, is)) =
     overlap (subst (λ (x : ActionResultValue). ArePathsApart (output_paths x)) (ok_is {E = MessageError} u v (sym read ∙ also)) (said_apart bytes u m fits read made))
+
+-- a stream that is said is one
+stream_lawful : (number : ℕ) (s : StreamValue) (rs : List Record) → SaysStream number s rs → IsStream s
+stream_lawful number s rs said = record { digest = by s.digest said.digest }
+  where
+    by : (d : Option DigestValue) → SaysOne SaysDigest d (elements_at (number + 1) rs) → IfSome d IsDigest
+    by None h = tt
+    by (Some d) h = h.1.2.lawful
+
+-- the result that is made of what is said in the bytes is read from them
+made_reads : (bytes : List ℕ) (u m : ActionResultValue) → IsBytes bytes → unordered bytes ≡ Ok u → action_result_of (in_order u) ≡ Ok m → Reads m bytes
+made_reads bytes u m fits read e =
+    let r = in_order u in
+    let o = ordered_in u in
+    let said = unordered_found bytes u fits read in
+    let lawful = lawful_permuted u r o (lawful_said u said.0 said.2) in
+    let is = result_found r m e in
+    let made : IsActionResult r = record {
+      files = lawful.files;
+      directories = lawful.directories;
+      symlinks = lawful.symlinks;
+      exit_code = subst (FitsSigned w32) said.2.exit_code (int32_at-fits 4 said.0);
+      stdout = stream_lawful 5 u.stdout said.0 said.2.stdout;
+      stderr = stream_lawful 7 u.stderr said.0 said.2.stderr;
+      paths = paths_found (file_paths r.files) (directory_paths r.directories) (symlink_paths r.symlinks) (file_paths_lawful r.files lawful.files) (directory_paths_lawful r.directories lawful.directories) (symlink_paths_lawful r.symlinks lawful.symlinks) is.0;
+    } in
+    found_is bytes u (Ok m) fits read (subst IsActionResult is.1 made, subst (IsOrderingOf u) is.1 o)
+
+pub outputs_only : (bytes : List ℕ) (rs : List Reference) → IsBytes bytes → references_in bytes ≡ Some rs → (m : ActionResultValue) × Reads m bytes × (rs ≡ referred_to m)
+unfolding said_result
+outputs_only bytes rs fits told = by (said_result bytes) refl told
+  where
+    by : (r : Result ActionResultValue MessageError) → said_result bytes ≡ r → referred_in r ≡ Some rs → (m : ActionResultValue) × Reads m bytes × (rs ≡ referred_to m)
+    by (Err d) h e = absurd cc
+    by (Ok m) h e = let b = bind_ok (unordered bytes) (λ u. action_result_of (in_order u)) m h in let same : referred_to m ≡ rs = cc in (m, made_reads bytes b.0 m fits b.1 b.2, sym same)
 
 pub outputs_refused : (bytes : List ℕ) (e : MessageError) → IsBytes bytes → IsRefusedResult e bytes → references_in bytes ≡ None
 unfolding said_result

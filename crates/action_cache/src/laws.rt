@@ -8,7 +8,7 @@ ghost use Rattle.messages.specs.declared.error.MessageError.{MessageError};
 ghost use Rattle.action_messages.specs.ActionResult.{ActionResultValue};
 ghost use Rattle.action_messages.specs.Reads.{Reads};
 ghost use Rattle.action_messages.specs.Refused.{IsRefusedResult};
-ghost use Rattle.action_cache.specs.References.{Reader};
+ghost use Rattle.action_cache.specs.References.{Reader, Reference};
 ghost use Rattle.action_cache.specs.Reading.{referred_to, references_in, files_in, files_in_tree};
 ghost use Rattle.action_cache.specs.Machine.{Marked, given, opened, under, get_blob};
 ghost use Rattle.action_cache.specs.Machine.{get_result};
@@ -20,6 +20,10 @@ pub fn results_refer_to_what_is_read()
     // Bytes that are read as a result refer to what it refers to.
     ensures read { (r : ActionResultValue) (bytes : List ℕ)
         → IsBytes bytes → Reads r bytes → references_in bytes ≡ Some (referred_to r) }
+    // No other bytes refer to anything.
+    ensures only { (bytes : List ℕ) (references : List Reference)
+        → IsBytes bytes → references_in bytes ≡ Some references
+        → (r : ActionResultValue) × Reads r bytes × (references ≡ referred_to r) }
     // Bytes that are refused refer to nothing.
     ensures refused { (e : MessageError) (bytes : List ℕ)
         → IsBytes bytes → IsRefusedResult e bytes → references_in bytes ≡ None }
