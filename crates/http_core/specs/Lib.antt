@@ -13,3 +13,4 @@ pub mod ReplyHead
 pub mod Session
 pub mod Laws
 pub mod Stream
+pub mod FailStream

@@ -5,6 +5,7 @@
 mod block;
 mod connection;
 mod event;
+mod fail_stream;
 mod head_text;
 mod host;
 mod judging;
@@ -17,6 +18,7 @@ mod rules;
 mod session;
 
 pub use event::{Area, Ask, Event};
+pub use fail_stream::FailStream;
 pub use head_text::HeadText;
 pub use host::Host;
 pub use laws::{a_stream_is_cut_in_one_way, cuts_go_on, pieces_make_no_difference};
