@@ -63,3 +63,4 @@ pub mod MergeFaults
 pub mod MergeAlike
 pub mod GivenKeys
 pub mod GivenLines
+pub mod FailSinks

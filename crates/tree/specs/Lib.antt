@@ -21,3 +21,4 @@ pub mod MergeLooks
 pub mod Given
 pub mod MergeParts
 pub mod MergeAgrees
+pub mod FailSink

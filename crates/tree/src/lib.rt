@@ -5,6 +5,7 @@
 mod comparing;
 mod difference;
 mod error;
+mod fail_sink;
 mod fetching;
 mod flat_tree;
 mod folding;
@@ -23,6 +24,7 @@ pub use blob_source::{
 pub use comparing::{first_difference, first_difference_with};
 pub use difference::Difference;
 pub use error::{AddError, TreeError};
+pub use fail_sink::FailSink;
 pub use fetching::fetch_message;
 pub use flat_tree::{FlatEntry, FlatTree};
 pub use folding::{Folded, fold};
