@@ -239,9 +239,24 @@ def name_of(kind, head):
         if word == "for" and not depth:
             split = at
     sides = [head[split + 1:], head[:split]] if split is not None else [head]
-    name = "".join(last_name(it) for it in sides)
+    name = "".join(tuple_name(it, parameters) or last_name(it) for it in sides)
     parts = [it for it in arguments(sides[1]) if it not in parameters] if len(sides) > 1 else []
     return f"{name}<{''.join(parts)}>" if parts else name
+
+
+def tuple_name(words, parameters):
+    """The name of a tuple's impl: TupleN and the last name of each type in it, but for the impl's own parameters; or nothing."""
+    if words[:1] != ["("]:
+        return ""
+    depth, parts = 0, [[]]
+    for word in words[1:-1]:
+        depth += (word in "<([") - (word in ">)]")
+        if word == "," and not depth:
+            parts.append([])
+        else:
+            parts[-1].append(word)
+    names = [last_name(it) for it in parts if it]
+    return f"Tuple{len(names)}{''.join(it for it in names if it not in parameters)}"
 
 
 def last_name(words):

@@ -116,6 +116,8 @@ class Functions(Case):
         self.assertEqual(set(mistakes.functions_of("src/sizes.rt", CODE, {})), PATHS)
         self.assertIn("deep::below::Size::twice", mistakes.functions_of("src/deep/below.rt", CODE, {}))
         self.assertIn("half", mistakes.functions_of("src/lib.rt", CODE, {}))
+        pair = "impl<A: Allocator, V> Listed for (Path<A>, V) { fn text(&self) {} }"
+        self.assertEqual(list(mistakes.functions_of("src/listed.rt", pair, {})), ["listed::Tuple2PathListed::text"])
 
     def test_a_types_functions_are_told_where_it_is_declared(self):
         self.keep("crates/small/src/text.rt", "impl Size { fn text(&self) {} }\n")
