@@ -138,7 +138,10 @@ def receive(stream, count):
 
 def ask(stream, request, answer):
     """Whether the request gets this answer."""
-    stream.sendall(request)
+    try:
+        stream.sendall(request)
+    except OSError:
+        return False
     return receive(stream, len(answer)) == answer
 
 
