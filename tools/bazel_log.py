@@ -53,9 +53,9 @@ class Spawn:
     def command_message(self):
         return command_message(self.arguments, self.listed, self.environment)
 
-    def action_message(self, input_root):
-        """Its Action; without an input root its frame."""
-        return action_message(Digest.of(self.command_message()), input_root, self.is_cacheable, self.platform)
+    def action_message(self, command, input_root=None):
+        """Its Action by the digests of its Command and its input; without an input root its frame."""
+        return action_message(command, input_root, self.is_cacheable, self.platform)
 
     def refuse(self, reason):
         raise Refused(f"{self.place()}: {reason}")
@@ -90,27 +90,27 @@ def objects(text):
 
 def read_log(text):
     """The spawns of a log, which is read as it comes."""
-    spawns = []
+    spawns, files = [], Files()
     for line, value in objects(text):
         if not isinstance(value, dict):
             raise Refused(f"line {line}: this is no spawn, but another JSON value")
         title = next((value[key] for key in ("progressMessage", "targetLabel", "mnemonic") if value.get(key)), "no name")
         title = str(title).encode("unicode_escape").decode()
         try:
-            spawns.append(read_spawn(len(spawns), line, title, value))
+            spawns.append(read_spawn(len(spawns), line, title, value, files))
         except (AttributeError, KeyError, TypeError, ValueError) as fault:
             what = f"{type(fault).__name__}: {fault}"
             raise Refused(f'line {line}: spawn "{title}": not as Bazel writes a spawn ({what})') from None
     return spawns
 
 
-def read_spawn(number, line, title, value):
+def read_spawn(number, line, title, value, files):
     spawn = Spawn(
         number=number,
         line=line,
         title=title,
-        mnemonic=of_type(str, value.get("mnemonic", "")),
-        arguments=of_type(list, value["commandArgs"]),
+        mnemonic=sys.intern(value.get("mnemonic", "")),
+        arguments=[sys.intern(it) for it in of_type(list, value["commandArgs"])],
         environment=read_pairs(value.get("environmentVariables", [])),
         platform=read_pairs((value.get("platform") or {}).get("properties", [])),
         inputs={},
@@ -124,8 +124,8 @@ def read_spawn(number, line, title, value):
     if unknown:
         spawn.refuse(f'it has a field "{unknown[0]}", of which this program knows nothing')
     check_command(spawn)
-    read_files(spawn, "input", value.get("inputs", []), spawn.inputs)
-    read_files(spawn, "output", value.get("actualOutputs", []), spawn.made)
+    files.read(spawn, "input", value.get("inputs", []), spawn.inputs)
+    files.read(spawn, "output", value.get("actualOutputs", []), spawn.made)
     if not -(2**31) <= spawn.exit_code < 2**31:
         spawn.refuse(f"its exit code {spawn.exit_code} has more than 32 bits")
     status = of_type(str, value.get("status", ""))
@@ -140,6 +140,7 @@ def of_type(kind, value):
     return value
 
 
+@functools.lru_cache(maxsize=65536, typed=True)
 def whole(value):
     """A whole number, which JSON has as a number or, where it has 64 bits, as a text."""
     if isinstance(value, str) and re.fullmatch("-?[0-9]{1,19}", value):
@@ -148,7 +149,7 @@ def whole(value):
 
 
 def read_pairs(values):
-    return sorted((it.get("name", ""), it.get("value", "")) for it in values)
+    return sorted((sys.intern(it.get("name", "")), sys.intern(it.get("value", ""))) for it in values)
 
 
 def check_command(spawn):
@@ -179,37 +180,40 @@ def check_command(spawn):
                 spawn.refuse(f'it lists the output "{path}", which lies under "{folder}", another one')
 
 
-def read_files(spawn, kind, values, files):
-    for value in values:
-        path = value["path"]
-        if isinstance(path, str):
-            path = sys.intern(path)
-        if not is_path(path):
-            spawn.refuse(f"it has the {kind} {path!r}, which is no path below the execution root")
-        unknown = sorted(set(value) - FILE_FIELDS)
-        if unknown:
-            spawn.refuse(f'its {kind} "{path}" has a field "{unknown[0]}", of which this program knows nothing')
-        if files.setdefault(path, entry := read_file(spawn, kind, path, value)) != entry:
-            spawn.refuse(f'it has the {kind} "{path}" twice, and not the same')
+class Files:
+    """The files and links of a log. Many spawns read one, so each is checked once and stands once."""
+
+    def __init__(self):
+        self.seen, self.files = {}, {}
+
+    def read(self, spawn, kind, values, into):
+        """Puts the inputs or the outputs of a spawn into a dictionary, by their paths."""
+        for value in values:
+            if not value.keys() <= FILE_FIELDS:
+                unknown = min(value.keys() - FILE_FIELDS)
+                spawn.refuse(f'its {kind} "{value["path"]}" has a field "{unknown}", of which this program knows nothing')
+            digest = value.get("digest") or {}
+            where = value["path"], value.get("symlinkTargetPath", "")
+            key = *where, digest.get("hash", ""), whole(digest.get("sizeBytes", 0)), digest.get("hashFunctionName", "")
+            if key not in self.seen:
+                self.add(key, read_file(spawn, kind, *key))
+            path, entry = self.seen[key]
+            if into.setdefault(path, entry) != entry:
+                spawn.refuse(f'it has the {kind} "{path}" twice, and not the same')
+
+    def add(self, key, entry):
+        self.seen[key] = sys.intern(key[0]), self.files.setdefault(entry, entry)
 
 
-def read_file(spawn, kind, path, value):
-    target = value.get("symlinkTargetPath", "")
+def read_file(spawn, kind, path, target, hash_text, size, function):
+    if not is_path(path):
+        spawn.refuse(f"it has the {kind} {path!r}, which is no path below the execution root")
     if target:
         if not is_target(target):
             spawn.refuse(f'its {kind} "{path}" is a link whose target has a NUL, no UTF-8, or over 4,096 bytes')
         return Link(target)
-    digest = value.get("digest") or {}
-    name = digest.get("hashFunctionName", "SHA-256")
-    if name not in ("SHA-256", "SHA256", ""):
-        spawn.refuse(f'its {kind} "{path}" has a digest of {name}, which isn\'t SHA-256')
-    hash_text, size = digest.get("hash", ""), whole(digest.get("sizeBytes", 0))
+    if function not in ("SHA-256", "SHA256", ""):
+        spawn.refuse(f'its {kind} "{path}" has a digest of {function}, which isn\'t SHA-256')
     if not re.fullmatch("[0-9a-f]{64}", hash_text) or not 0 <= size < 2**63:
         spawn.refuse(f'its {kind} "{path}" has no digest')
-    return file_of(hash_text, size)
-
-
-@functools.lru_cache(maxsize=None)
-def file_of(hash_text, size):
-    """A file. Many spawns read one, so it stands once."""
     return File(Digest(hash_text, size))

@@ -8,7 +8,7 @@ A stage is a plan whose sources are the claim of the stage before. The source tr
 from dataclasses import dataclass, field
 
 from messages import Digest, directory_message
-from plans import MOST_BYTES, MOST_LINES, MOST_STEPS, Refused, escaped, folders_of, is_path, put
+from plans import MOST_BYTES, MOST_LINES, MOST_NAMES, MOST_STEPS, Refused, escaped, files_at, folders_of, put, targets_meet
 
 SOURCES = "sources"
 # What the lines of a plan are beside its steps, and those that hand on what stages before have made.
@@ -17,7 +17,7 @@ ROOM = 65536
 
 @dataclass
 class Build:
-    """One plan: the texts of its lines and of the record's, and the digests of its sources and of what it ends in."""
+    """One plan: its text and that of the record, each in pieces, and the digests of its sources and of what it ends in."""
 
     plan: list
     record: list
@@ -39,15 +39,26 @@ def length(lines):
     return sum(len(it) + 1 for it in lines)
 
 
+def plan_of(steps, root):
+    """The text of a plan of these steps and lines of the root. It has version 2 where lines of a directory meet."""
+    meet = any(it.lines_meet for it in steps) or targets_meet(it.split(" ")[1] for it in root)
+    return [f"buildplan {2 if meet else 1}", *(it.text for it in steps), "root", *root]
+
+
 def record_of(spawns):
     return ["buildrecord 1", *(f"step {it.name} {it.action.text()}" for it in spawns)]
 
 
-def step_lines(spawn, origins, place):
-    """The lines of a step. `place` says of a path and the spawn that made it, or none, where it comes from."""
-    yield f"step {spawn.name} {spawn.frame.text()}"
-    for path in sorted(spawn.inputs):
-        yield f"in {escaped(path)} {place(path, origins.of(path, spawn))}"
+class Step:
+    """The text of a step, and whether lines of it meet."""
+
+    def __init__(self, spawn, given, place):
+        """`place` says of a path and the spawn that made it, or none, where it comes from."""
+        lines = given.lines_of(spawn)
+        texts = (f"in {escaped(path)} {place(path, maker)}" for path, maker in lines)
+        self.text = "\n".join([f"step {spawn.name} {spawn.frame.text()}", *texts])
+        # (the inputs don't meet, so without a whole directory no lines do)
+        self.lines_meet = len(lines) < len(spawn.inputs) and targets_meet(path for path, _ in lines)
 
 
 def root_lines(chosen, place):
@@ -62,20 +73,24 @@ def whole_build(steps):
     def place(path, maker):
         return f"out {maker.name} {escaped(path)}" if maker else f"src {escaped(path)}"
 
-    plan = ["buildplan 1"]
-    for spawn in steps.spawns:
-        plan += step_lines(spawn, steps.origins, place)
-    plan += ["root", *root_lines(steps.chosen, place)]
+    plan = plan_of([Step(it, steps.given, place) for it in steps.spawns], root_lines(steps.chosen, place))
     return Build(plan, record_of(steps.spawns), steps.keep(steps.sources), steps.claim())
+
+
+def check_depth(paths, where):
+    """Refuses paths below which nothing can be put a name deeper, as a stage does that hands them on."""
+    deepest = next((it for it in paths if it.count("/") == MOST_NAMES - 1), None)
+    if deepest:
+        raise Refused(f'{where}"{deepest}" has {MOST_NAMES} names, and a stage hands on no more than {MOST_NAMES - 1}')
 
 
 @dataclass
 class Stage:
-    """The spawns of a stage, their lines, and what of their outputs later stages read, by path."""
+    """The spawns of a stage, their steps, and what of their outputs later stages read, by path."""
 
     number: int
     spawns: list = field(default_factory=list)
-    lines: list = field(default_factory=list)
+    steps: list = field(default_factory=list)
     size: int = ROOM
     outputs: int = 0
     read_later: dict = field(default_factory=dict)
@@ -94,6 +109,7 @@ class Stages:
         self.steps, self.most = steps, most
         self.stage_of, self.stages = {}, [Stage(1)]
         self.last_of_sources = 0
+        check_depth(steps.given.sources, "")
         for spawn in steps.spawns:
             self.add(spawn)
 
@@ -102,30 +118,24 @@ class Stages:
         here = self.stages[-1]
         if maker is None:
             self.last_of_sources = here.number
-            return self.handed_on(SOURCES, path, maker)
+            return f"src {escaped(f'{SOURCES}/{path}')}"
         made_in = self.stage_of[maker.number]
         if made_in is here:
             return f"out {maker.name} {escaped(path)}"
         output = next(it for it in (path, *folders_of(path)) if it in maker.outputs)
+        if output not in made_in.read_later:
+            check_depth((it for it, _ in files_at(output, maker.outputs[output])), f"{maker.place()}: ")
         made_in.read_later[output], made_in.last = maker, here.number
-        return self.handed_on(made_in.name(), path, maker)
-
-    def handed_on(self, name, path, maker):
-        if not is_path(f"{name}/{path}"):
-            where = f"{maker.place()}: " if maker else ""
-            raise Refused(f'{where}"{path}" has 64 names, and a stage hands on no more than 63')
-        return f"src {escaped(f'{name}/{path}')}"
+        return f"src {escaped(f'{made_in.name()}/{path}')}"
 
     def add(self, spawn):
         """Puts a step into the last stage, or into a new one where that is full."""
-        here = self.stages[-1]
-        size = 0
         for is_again in (False, True):
             here = self.stages[-1]
             self.stage_of[spawn.number] = here
-            lines = list(step_lines(spawn, self.steps.origins, self.place))
+            step = Step(spawn, self.steps.given, self.place)
             # (each output may be a line of the root)
-            size = length(lines) + sum(2 * len(escaped(it)) + 128 for it in spawn.outputs)
+            size = len(step.text) + sum(2 * len(escaped(it)) + 128 for it in spawn.outputs)
             fits = (
                 len(here.spawns) < self.most
                 and here.size + size <= MOST_BYTES
@@ -135,7 +145,7 @@ class Stages:
                 break
             self.stages.append(Stage(here.number + 1))
         here.spawns.append(spawn)
-        here.lines += lines
+        here.steps.append(step)
         here.size += size
         here.outputs += len(spawn.outputs)
 
@@ -153,8 +163,7 @@ class Stages:
                 lines, claim = artifact, self.steps.claim()
             else:
                 lines, claim = self.hand_on(stage, whole)
-            plan = ["buildplan 1", *stage.lines, "root", *lines]
-            builds.append(Build(plan, record_of(stage.spawns), sources, claim))
+            builds.append(Build(plan_of(stage.steps, lines), record_of(stage.spawns), sources, claim))
         return builds
 
     def hand_on(self, stage, whole):
@@ -167,7 +176,8 @@ class Stages:
         lines = [f"in {name} src {name}" for name in entries]
         made = {}
         for path, maker in sorted(stage.read_later.items()):
-            put(made, path, maker.outputs[path])
+            for it, entry in files_at(path, maker.outputs[path]):
+                put(made, it, entry)
             lines.append(f"in {escaped(f'{stage.name()}/{path}')} out {maker.name} {escaped(path)}")
         if made:
             entries[stage.name()] = stage.digest = self.steps.keep(made)

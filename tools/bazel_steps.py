@@ -10,9 +10,10 @@ import stat
 from array import array
 from dataclasses import dataclass
 
+from bazel_lines import Given
 from bazel_log import read_log
 from messages import Digest, File, Link, directory_message, result_message
-from plans import LONGEST_STEP, MOST_LINES, Refused, Store, escaped, folders_of, is_path, is_target, put, stands_at
+from plans import LONGEST_STEP, Refused, Store, escaped, files_at, folders_of, is_path, is_target, put
 
 HINT = "Bazel logs what it ran, so `bazel clean` comes before the build"
 
@@ -23,25 +24,23 @@ class Directories:
     """Directories by what stands in them: one that many spawns read is encoded once."""
 
     def __init__(self):
-        self.known, self.digests, self.blobs, self.below = {}, {}, {}, {}
+        self.known, self.made = {}, {}
 
     def digest_of(self, entries):
         """The digest of a dictionary. Equal files in it have to be one object, as `read_log` has them."""
-        nodes = {name: self.digest_of(it) if isinstance(it, dict) else it for name, it in sorted(entries.items())}
+        nodes = {name: self.digest_of(it) if isinstance(it, dict) else it for name, it in entries.items()}
         key = "/".join(nodes), array("Q", map(id, nodes.values())).tobytes()
         if key not in self.known:
             blob = directory_message(nodes)
-            digest = Digest.of(blob)
-            self.known[key] = self.digests.setdefault(digest, digest)
-            self.blobs[digest] = blob
-            self.below[digest] = [it for it in nodes.values() if isinstance(it, Digest)]
+            below = [it for it in nodes.values() if isinstance(it, Digest)]
+            self.known[key] = self.made.setdefault(digest := Digest.of(blob), (digest, blob, below))[0]
         return self.known[key]
 
     def put_into(self, blobs, digest):
         """Puts a Directory and all below it to the blobs."""
         if digest not in blobs:
-            blobs[digest] = self.blobs[digest]
-            for it in self.below[digest]:
+            digest, blobs[digest], below = self.made[digest]
+            for it in below:
                 self.put_into(blobs, it)
 
 
@@ -51,11 +50,13 @@ def frame_spawns(spawns, directories, drop_timeouts):
         if spawn.timeout and not drop_timeouts:
             spawn.refuse(f"it has a timeout of {spawn.timeout} ms, which a plan can't say (see --drop-timeouts)")
         root = {}
-        for path, entry in spawn.inputs.items():
+        for path, entry in sorted(spawn.inputs.items()):
             if not put(root, path, entry):
                 spawn.refuse(f'its input "{path}" lies under another one, or above it')
         spawn.input = directories.digest_of(root)
-        spawn.action, spawn.frame = (Digest.of(spawn.action_message(it)) for it in (spawn.input, None))
+        command = Digest.of(spawn.command_message())
+        spawn.action, spawn.frame = (Digest.of(spawn.action_message(command, it)) for it in (spawn.input, None))
+    directories.known.clear()
 
 
 def settle_repeats(spawns):
@@ -138,16 +139,17 @@ def in_order(spawns, origins):
 
 def name_steps(spawns):
     """Names the steps: the mnemonic and the end of the first output's path, with a number where that comes again."""
-    taken = set()
+    taken, numbers = set(), {}
     for spawn in spawns:
         output = min(spawn.outputs, default=min(spawn.listed, default=""))
         words = re.sub(r"^bazel-out/[^/]*/(bin|genfiles|testlogs)/", "", output)
         kind, rest = (re.sub("[^a-z0-9_]+", "-", it.lower()).strip("-") for it in (spawn.mnemonic, words))
         kind = kind[:24] or "spawn"
-        full = f"{kind}-{rest[-(LONGEST_STEP - len(kind) - 6):].strip('-')}" if rest else kind
-        number = 1
+        full = f"{kind}-{rest[-(LONGEST_STEP - len(kind) - 8):].strip('-')}" if rest else kind
+        number = numbers.get(full, 1)
         while (name := full if number == 1 else f"{full}-{number}") in taken:
             number += 1
+        numbers[full] = number
         taken.add(name)
         spawn.name = name
 
@@ -192,11 +194,11 @@ def that_are_read(spawns, origins, chosen):
 
 @dataclass
 class Steps:
-    """The steps in order, where what they read comes from, what the artifact has, and what the store is told of them."""
+    """The steps in order, what they are given, what the artifact has, and what the store is told of them."""
 
     store: Store
     spawns: list
-    origins: Origins
+    given: Given
     chosen: dict
     artifact: dict
     sources: dict
@@ -235,29 +237,25 @@ def steps_of(log, wanted, below, artifact, drop_timeouts, keep_all):
     name_steps(spawns)
     store = Store()
     for spawn in spawns:
-        for blob in (spawn.command_message(), spawn.action_message(spawn.input)):
-            store.keep(blob)
+        store.keep(spawn.action_message(store.keep(spawn.command_message()), spawn.input))
         directories.put_into(store.blobs, spawn.input)
         store.results[spawn.action] = result_message(spawn.outputs, spawn.exit_code, store.keep)
-    sources, taken = sources_of(spawns, origins)
-    return Steps(store, spawns, origins, chosen, artifact, sources, taken, count - len(spawns))
+    sources, tree, taken = sources_of(spawns, origins)
+    return Steps(store, spawns, Given(spawns, origins, sources), chosen, artifact, tree, taken, count - len(spawns))
 
 
 def sources_of(spawns, origins):
-    """The source tree, which has what no spawn made as the first that reads it has it, and what of it is below bazel-out."""
-    sources, taken = {}, set()
+    """The files and links of the source tree by path, which has what no spawn made as the first that reads it has it; the tree
+    as a dictionary, and what of it is below bazel-out."""
+    files, tree = {}, {}
     for spawn in spawns:
-        if len(spawn.inputs) > MOST_LINES:
-            spawn.refuse(f"it has {len(spawn.inputs)} inputs, and a step has {MOST_LINES} lines at most")
         for path, entry in sorted(spawn.inputs.items()):
-            if origins.of(path, spawn):
+            if path in files or origins.of(path, spawn):
                 continue
-            there = stands_at(sources, path)
-            if isinstance(there, dict) or there is None and not put(sources, path, entry):
+            if not put(tree, path, entry):
                 spawn.refuse(f'its input "{path}" lies under or above one that an earlier spawn reads')
-            if path.startswith("bazel-out/"):
-                taken.add(escaped(path))
-    return sources, sorted(taken)
+            files[path] = entry
+    return files, tree, sorted(escaped(it) for it in files if it.startswith("bazel-out/"))
 
 
 # The artifact.
@@ -268,11 +266,11 @@ def choose(outputs, wanted, below, artifact):
     everything = dict(outputs)
     for path, (spawn, entry) in outputs.items():
         if isinstance(entry, dict):
-            everything.update((f"{path}/{name}", (spawn, it)) for name, it in files_in(entry))
+            everything.update((it, (spawn, file)) for it, file in files_at(path, entry))
     if wanted:
         paths = chosen_by_patterns(outputs, everything, wanted)
     elif artifact is not None:
-        paths = [f"{below}/{path}" if below else path for path, _ in files_in(artifact)]
+        paths = [path for name in artifact for path, _ in files_at(f"{below}/{name}" if below else name, artifact[name])]
         missing = next((path for path in paths if path not in everything), None)
         if missing:
             raise Refused(f'the artifact has a file that is "{missing}" in the build, and no spawn of the log made it; {HINT}')
@@ -312,15 +310,6 @@ def chosen_by_patterns(outputs, everything, wanted):
     if unused:
         raise Refused(f'no output of the log has the pattern "{unused}"')
     return paths
-
-
-def files_in(entries, folder=""):
-    """The paths of the files and links in a dictionary, with what stands there."""
-    for name, entry in sorted(entries.items()):
-        if isinstance(entry, dict):
-            yield from files_in(entry, f"{folder}{name}/")
-        else:
-            yield folder + name, entry
 
 
 def read_artifact(folder, shown=""):

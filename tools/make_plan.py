@@ -36,7 +36,7 @@ from dataclasses import dataclass
 import stores
 from messages import EMPTY, Digest, File, Link, action_message, command_message, directory_message
 from plans import LONGEST_STEP, MOST_BYTES, MOST_LINES, MOST_STEPS, Refused, Store
-from plans import check_sizes, escaped, folders_of, is_path, is_target, is_text, stands_at
+from plans import check_sizes, escaped, folders_of, is_path, is_target, is_text, stands_at, targets_meet
 
 KINDS = {str: "a text", list: "a list", dict: "an object"}
 
@@ -252,17 +252,6 @@ class Maker:
         if not any(it in step.outputs for it in (path, *folders_of(path))):
             place.refuse(f'the step "{name}" has no output "{path}", and none above it')
         return step
-
-
-def targets_meet(targets):
-    """Whether one of these is another, or lies under it."""
-    seen = set()
-    targets = list(targets)
-    for target in targets:
-        if target in seen:
-            return True
-        seen.add(target)
-    return any(folder in seen for target in targets for folder in folders_of(target))
 
 
 # What is written.

@@ -3,7 +3,7 @@ left out. It is protobuf's, written by hand and by nothing of the crates."""
 
 import functools
 import hashlib
-from dataclasses import dataclass
+from typing import NamedTuple
 
 
 SHORT = [bytes([it]) for it in range(0x80)]
@@ -34,8 +34,7 @@ def number_field(number, value):
     return varint(number << 3) + varint(value & 0xFFFFFFFFFFFFFFFF) if value else b""
 
 
-@dataclass(frozen=True)
-class Digest:
+class Digest(NamedTuple):
     hash: str
     size: int
 
@@ -54,21 +53,18 @@ class Digest:
 EMPTY = Digest.of(b"")
 
 
-@dataclass(frozen=True)
-class File:
+class File(NamedTuple):
     """A file's contents, by their digest, and whether it may be run."""
 
     digest: Digest
     is_executable: bool = True
 
-    @functools.lru_cache(maxsize=65536)
     def fields_behind_name(self):
         """The rest of a FileNode, and of an OutputFile."""
         return bytes_field(2, self.digest.message()) + number_field(4, int(self.is_executable))
 
 
-@dataclass(frozen=True)
-class Link:
+class Link(NamedTuple):
     """A symbolic link, by its target."""
 
     target: str
@@ -95,18 +91,25 @@ def action_message(command, input_root=None, is_cacheable=True, platform=()):
     return bytes_field(1, command.message()) + root + number_field(7, int(not is_cacheable)) + rest
 
 
+@functools.lru_cache(maxsize=65536)
+def node_field(name, entry):
+    """The field of a Directory that has a file or a link. Many Directories have one, so it is kept."""
+    return bytes_field(1 if isinstance(entry, File) else 3, text_field(1, name) + entry.fields_behind_name())
+
+
 def directory_message(entries, keep=Digest.of):
     """The Directory of a dictionary from names to files, links and such dictionaries; each Directory below is kept. What
     stands for a dictionary may be its Directory's digest."""
-    fields = {1: [], 2: [], 3: []}
+    files, directories, links = [], [], []
     for name, entry in sorted(entries.items()):
-        if isinstance(entry, (dict, Digest)):
-            below = entry if isinstance(entry, Digest) else keep(directory_message(entry, keep))
-            fields[2].append(text_field(1, name) + bytes_field(2, below.message()))
+        if isinstance(entry, File):
+            files.append(node_field(name, entry))
+        elif isinstance(entry, Link):
+            links.append(node_field(name, entry))
         else:
-            number = 1 if isinstance(entry, File) else 3
-            fields[number].append(text_field(1, name) + entry.fields_behind_name())
-    return b"".join(bytes_field(number, node) for number, nodes in fields.items() for node in nodes)
+            below = entry if isinstance(entry, Digest) else keep(directory_message(entry, keep))
+            directories.append(bytes_field(2, text_field(1, name) + bytes_field(2, below.message())))
+    return b"".join([*files, *directories, *links])
 
 
 def tree_message(entries):

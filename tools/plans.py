@@ -1,12 +1,14 @@
 """What a plan may say: its texts and paths, trees as dictionaries, its limits, and the blobs that a store is told with it."""
 
 import functools
+import re
 
 from messages import Digest
 
 MOST_STEPS = 4096
 MOST_LINES = 65536
 MOST_BYTES = 16777216
+MOST_NAMES = 64
 LONGEST_STEP = 64
 
 
@@ -34,7 +36,7 @@ def is_path(path):
     names = path.split("/")
     return (
         is_text(path)
-        and len(names) <= 64
+        and len(names) <= MOST_NAMES
         and all(name not in ("", ".", "..") and len(name.encode()) <= 255 for name in names)
     )
 
@@ -46,13 +48,22 @@ def folders_of(path):
         yield path
 
 
-SAFE = frozenset(b"ABCDEFGHIJKLMNOPQRSTUVWXYZabcdefghijklmnopqrstuvwxyz0123456789-._~/")
+UNSAFE = re.compile("[^A-Za-z0-9._~/-]")
 
 
-@functools.lru_cache(maxsize=None)
 def escaped(path):
     """The one text that a path has in a plan."""
-    return "".join(chr(byte) if byte in SAFE else f"%{byte:02X}" for byte in path.encode())
+    return UNSAFE.sub(lambda it: "".join(f"%{byte:02X}" for byte in it[0].encode()), path)
+
+
+def targets_meet(targets):
+    """Whether one of these paths is another, or lies under it."""
+    seen = set()
+    for target in targets:
+        if target in seen:
+            return True
+        seen.add(target)
+    return any(folder in seen for target in seen for folder in folders_of(target))
 
 
 # Trees as dictionaries: a file, a link or such a dictionary by each name.
@@ -66,6 +77,15 @@ def put(entries, path, entry):
         if not isinstance(entries, dict):
             return False
     return entries.setdefault(name, entry) == entry
+
+
+def files_at(path, entry):
+    """The files and links at a path and below it, by their paths, where this stands there."""
+    if isinstance(entry, dict):
+        for name, below in sorted(entry.items()):
+            yield from files_at(f"{path}/{name}", below)
+    else:
+        yield path, entry
 
 
 def stands_at(entries, path):

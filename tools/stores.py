@@ -15,10 +15,10 @@ class FolderStore:
     """A store folder, of files cas/HASH and ac/HASH."""
 
     def __init__(self, folder):
-        self.folder = folder
+        self.folder, self.parts_made = folder, set()
 
     def place(self, part, name):
-        return os.path.join(self.folder, part, name)
+        return f"{self.folder}/{part}/{name}"
 
     def get(self, part, name):
         """The bytes under a name, or None."""
@@ -28,7 +28,9 @@ class FolderStore:
             return it.read()
 
     def put(self, part, name, content):
-        os.makedirs(os.path.join(self.folder, part), exist_ok=True)
+        if part not in self.parts_made:
+            os.makedirs(os.path.join(self.folder, part), exist_ok=True)
+            self.parts_made.add(part)
         write_file(self.place(part, name), content)
 
     def close(self):
@@ -105,8 +107,9 @@ def store_of(options):
 
 
 def write_file(path, content):
-    with open(path, "wb") as out:
-        out.write(content)
+    with open(path, "wb", buffering=0) as out:
+        while content:
+            content = content[out.write(content):]
 
 
 def write_texts(folder, texts):
