@@ -14,22 +14,25 @@ itself reads and writes again, without the fields that are skipped and with each
 
 import hashlib
 
-from harness import words_of
+from harness import fail, words_of
 
 KINDS = words_of(__doc__, 1)
 
-from action_messages_pb2 import (  # noqa: E402
-    Action,
-    ActionResult,
-    Command,
-    Digest,
-    ExecutedActionMetadata,
-    OutputDirectory,
-    OutputFile,
-    OutputSymlink,
-    Platform,
-    Timestamp,
-)
+try:
+    from action_messages_pb2 import (
+        Action,
+        ActionResult,
+        Command,
+        Digest,
+        ExecutedActionMetadata,
+        OutputDirectory,
+        OutputFile,
+        OutputSymlink,
+        Platform,
+        Timestamp,
+    )
+except ImportError as fault:
+    fail(3, f"{fault}; --help tells how protoc makes it")
 
 NINE = "15e2b0d3c33891ebb0f1ef609ec419420c20e320ce94c65fbc8c3312448eb225"
 LINE = "01ba4719c80b6fe911b091a7c05124b64eeece964e09c058ef8f9805daca546b"

@@ -4,13 +4,23 @@
 # behind nginx with deploy/nginx.conf. With the variable BUILDCACHE it runs that program instead of ./buildcache; BAZEL is
 # how Bazel is called. It uses the ports 8080 and 8081.
 set -euo pipefail
-case ${1:-} in -h | --help) sed -n '2,/^[^#]/s/^# //p' "$0"; exit ;; esac
+case ${1:-} in
+-h | --help) sed -n '2,/^[^#]/s/^# //p' "$0"; exit ;;
+?*) echo "error: ${0##*/} takes no words but --help" >&2; exit 2 ;;
+esac
 top=$(cd "$(dirname "${BASH_SOURCE[0]}")/.." && pwd)
 program=${BUILDCACHE:-$top/buildcache}
+bazel_words=(${BAZEL:-bazel})
+for it in "$program" nginx "${bazel_words[0]}"; do
+  command -v "$it" >/dev/null || { echo "error: $it isn't there" >&2; exit 3; }
+done
+for port in 8080 8081; do
+  ! (: <>"/dev/tcp/127.0.0.1/$port") 2>/dev/null || { echo "error: port $port is taken" >&2; exit 3; }
+done
 work=$(mktemp -d)
 server='' front=''
 finish() {
-  (cd "$work/ws" && command ${BAZEL:-bazel} --output_user_root="$work/bazel" shutdown) || true
+  (cd "$work/ws" && command "${bazel_words[@]}" --output_user_root="$work/bazel" shutdown) || true
   [ -z "$front" ] || nginx -c "$top/deploy/nginx.conf" -s stop || true
   [ -z "$server" ] || kill "$server" || true
   chmod -R u+w "$work" && rm -rf "$work"
@@ -18,7 +28,7 @@ finish() {
 trap finish EXIT
 cp -r "$top/examples/bazel" "$work/ws"
 rm -f "$work/ws"/bazel-* # (the links of a Bazel that ran there)
-bazel() { (cd "$work/ws" && command ${BAZEL:-bazel} --output_user_root="$work/bazel" "$@"); }
+bazel() { (cd "$work/ws" && command "${bazel_words[@]}" --output_user_root="$work/bazel" "$@"); }
 
 # Builds from clean output, and prints Bazel's line on what its processes were.
 build() {

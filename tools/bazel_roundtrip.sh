@@ -4,11 +4,18 @@
 # its tests, and a generated workspace of 1,100 steps. With the variable BUILDCACHE it asks that program instead of
 # ./buildcache; BAZEL is how Bazel is called.
 set -euo pipefail
-case ${1:-} in -h | --help) sed -n '2,/^[^#]/s/^# //p' "$0"; exit ;; esac
+case ${1:-} in
+-h | --help) sed -n '2,/^[^#]/s/^# //p' "$0"; exit ;;
+?*) echo "error: ${0##*/} takes no words but --help" >&2; exit 2 ;;
+esac
 top=$(cd "$(dirname "${BASH_SOURCE[0]}")/.." && pwd)
 program=${BUILDCACHE:-$top/buildcache}
+bazel_words=(${BAZEL:-bazel})
+for it in "$program" "${bazel_words[0]}"; do
+  command -v "$it" >/dev/null || { echo "error: $it isn't there" >&2; exit 3; }
+done
 work=$(mktemp -d)
-bazel() { (cd "$work/$1" && command ${BAZEL:-bazel} --output_user_root="$work/bazel" "${@:2}"); }
+bazel() { (cd "$work/$1" && command "${bazel_words[@]}" --output_user_root="$work/bazel" "${@:2}"); }
 finish() {
   bazel ws shutdown || true
   bazel many shutdown || true

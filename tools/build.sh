@@ -3,7 +3,10 @@
 # built, and then the program. Crates that don't stand on each other are built side by side. What was built before is
 # kept, so a run that was broken off goes on where it was. It tells on standard error which crate it is at.
 set -euo pipefail
-case ${1:-} in -h | --help) sed -n '2,/^[^#]/s/^# //p' "$0"; exit ;; esac
+case ${1:-} in
+-h | --help) sed -n '2,/^[^#]/s/^# //p' "$0"; exit ;;
+?*) echo "error: ${0##*/} takes no words but --help" >&2; exit 2 ;;
+esac
 top=$(cd "$(dirname "${BASH_SOURCE[0]}")/.." && pwd)
 rooms=$top/.git/build-rooms
 log=$(mktemp -d)

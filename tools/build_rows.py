@@ -265,7 +265,7 @@ def try_all(rows, program):
 def main():
     (program,) = harness.words_of(__doc__, 1, 1)
     rows = harness.Rows()
-    try_all(rows, program)
+    try_all(rows, harness.program_at(program))
     return rows.end()
 
 

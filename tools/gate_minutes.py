@@ -16,7 +16,7 @@ import tempfile
 import threading
 import time
 
-from harness import words_of
+from harness import fail, words_of
 
 TICKS = os.sysconf("SC_CLK_TCK")
 KINDS = ("proof", "tests", "mistakes")
@@ -74,12 +74,16 @@ def main(words):
 
 def timed(file, environment):
     top = os.path.dirname(os.path.dirname(os.path.realpath(__file__)))
+    try:
+        log = open(file, "w", encoding="utf-8")
+    except OSError as fault:
+        fail(3, fault)
     seen, stopped, began = {}, threading.Event(), time.time()
     watcher = threading.Thread(target=watch, args=(seen, stopped))
     watcher.start()
     how = {"stdout": subprocess.PIPE, "stderr": subprocess.STDOUT, "text": True, "errors": "replace", "env": environment}
-    gate = subprocess.Popen([f"{top}/.ci/run"], cwd=top, **how)
-    with open(file, "w", encoding="utf-8") as log:
+    with log:
+        gate = subprocess.Popen([f"{top}/.ci/run"], cwd=top, **how)
         for line in gate.stdout:
             print(f"{(time.time() - began) / 60:6.1f} {line}", end="", file=log, flush=True)
             last = line.strip()
@@ -99,4 +103,4 @@ def timed(file, environment):
 
 
 if __name__ == "__main__":
-    sys.exit(main(words_of(__doc__, 0, 2)))
+    sys.exit(main(words_of(__doc__, 0, 2, ["--anew"])))

@@ -19,9 +19,9 @@ LOCAL = "127.0.0.1"
 MANY = 2**63 - 1
 
 
-def words_of(help_text, least=0, most=None):
-    """The words of a tool's command line. It ends here, with the help, where that is asked for or the words are too few or
-    too many."""
+def words_of(help_text, least=0, most=None, options=()):
+    """The words of a tool's command line, among them these options. It ends here, with the help, where that is asked for or
+    the words are too few or too many, and with a line where another option is among them."""
     words = sys.argv[1:]
     if any(it in ("-h", "--help") for it in words):
         # (who reads only the head of it ends this quietly)
@@ -31,7 +31,38 @@ def words_of(help_text, least=0, most=None):
     if len(words) < least or most is not None and len(words) > most:
         print(help_text.strip(), file=sys.stderr)
         sys.exit(2)
+    unknown = next((it for it in words if it.startswith("-") and it not in options), None)
+    if unknown:
+        fail(2, f"there is no option {unknown}; --help tells which there are")
     return words
+
+
+def fail(status, why):
+    """Ends the tool with one line of an error."""
+    print(f"error: {why}", file=sys.stderr)
+    sys.exit(status)
+
+
+def program_at(path):
+    """The place of the program, where it is one."""
+    if not os.path.isfile(path) or not os.access(path, os.X_OK):
+        fail(3, f'"{path}" is no program')
+    return os.path.realpath(path)
+
+
+def need(*programs):
+    """Ends the tool where one of these isn't installed."""
+    missing = next((it for it in programs if not shutil.which(it)), None)
+    if missing:
+        fail(3, f"{missing} isn't installed")
+
+
+def numbers_of(words, least=1):
+    """These words as whole numbers."""
+    wrong = next((it for it in words if not it.isdecimal() or int(it) < least), None)
+    if wrong is not None:
+        fail(2, f"{wrong!r} is no whole number from {least} on")
+    return [int(it) for it in words]
 
 
 class Rows:

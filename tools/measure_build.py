@@ -57,9 +57,10 @@ def turn(program, count):
 
 def main(program, count="1000", turns="5"):
     names = ["build", "build again", "xargs -P4"]
-    all_turns = []
-    for _ in range(int(turns)):
-        all_turns.append(turn(os.path.realpath(program), int(count)))
+    all_turns, program = [], harness.program_at(program)
+    count, turns = harness.numbers_of([count, turns])
+    for _ in range(turns):
+        all_turns.append(turn(program, count))
         print(", ".join(f"{name}: {it:.2f} s" for name, it in zip(names, all_turns[-1])), flush=True)
     least = [min(its) for its in zip(*all_turns)]
     print("least: " + ", ".join(f"{name}: {it:.2f} s" for name, it in zip(names, least)))

@@ -176,12 +176,13 @@ KINDS = {
 def main():
     program, kind, *counts = harness.words_of(__doc__, 3)
     if kind not in KINDS:
-        sys.exit(f"measure_verify: {kind} is none of {', '.join(KINDS)}")
-    for count in map(int, counts):
+        harness.fail(2, f"{kind!r} is none of {', '.join(KINDS)}")
+    program = harness.program_at(program)
+    for count in harness.numbers_of(counts):
         with tempfile.TemporaryDirectory() as folder:
             build = Build(folder)
             named, claim = KINDS[kind](build, count)
-            seconds, memory, beside = build.run(os.path.abspath(program), named, claim)
+            seconds, memory, beside = build.run(program, named, claim)
             kept = f"{memory // 1024} MB | {build.hashed // 1024:,} KiB"
             print(f"| {count:,} | {seconds:.2f} s | {kept} | {beside:.2f} s |", flush=True)
 

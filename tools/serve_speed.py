@@ -17,7 +17,7 @@ import socket
 import subprocess
 import time
 
-from harness import LOCAL, Nginx, Server, words_of
+from harness import LOCAL, Nginx, Server, need, numbers_of, program_at, words_of
 
 SIZES = [1 << 10, 64 << 10, 1 << 20, 16 << 20]
 TURNS = 10
@@ -149,13 +149,15 @@ def main_many(program, seconds, connections):
 
 def main():
     program, *seconds = words_of(__doc__, 1, 3)
+    program, seconds = program_at(program), numbers_of(seconds)
+    need("nginx", *["wrk"] * (len(seconds) > 1))
     if len(seconds) > 1:
-        main_many(program, float(seconds[0]), int(seconds[1]))
+        main_many(program, *seconds)
         return
     with Server(program) as serve, Nginx("/dev/shm") as nginx:
         clients = {"serve": Client(serve.port), "nginx": Client(nginx.port)}
         print("| Bytes | GET, serve | GET, nginx | PUT, serve | PUT, nginx | SHA-256 (OpenSSL) |\n|---|---|---|---|---|---|")
-        for size, best, hashed in measure(clients, float(seconds[0]) if seconds else 2.0, f"{nginx.folder}/store"):
+        for size, best, hashed in measure(clients, seconds[0] if seconds else 2, f"{nginx.folder}/store"):
             cells = [best["serve", "GET"], best["nginx", "GET"], best["serve", "PUT"], best["nginx", "PUT"], hashed]
             print(f"| {size:,} |" + "|".join(f" {it:,.0f} " for it in cells) + "|", flush=True)
 

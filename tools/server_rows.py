@@ -424,7 +424,7 @@ def try_all(rows, program):
 def main():
     (program,) = harness.words_of(__doc__, 1, 1)
     rows = harness.Rows()
-    try_all(rows, os.path.abspath(program))
+    try_all(rows, harness.program_at(program))
     return rows.end()
 
 

@@ -700,7 +700,8 @@ def soak(program, rows, seconds, seed=1):
 
 def main():
     program, *numbers = harness.words_of(__doc__, 1, 3)
-    seconds, seed = [*map(int, numbers), *(60, 1)[len(numbers):]]
+    program = harness.program_at(program)
+    seconds, seed = [*harness.numbers_of(numbers), *(60, 1)[len(numbers):]]
     rows = harness.Rows()
     soak(program, rows, seconds, seed)
     full = Full(program, seed)

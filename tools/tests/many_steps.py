@@ -12,7 +12,7 @@ import sys
 
 sys.path.insert(0, os.path.join(os.path.dirname(os.path.realpath(__file__)), ".."))
 
-from harness import words_of  # noqa: E402
+from harness import fail, numbers_of, words_of  # noqa: E402
 
 PACKAGE = 100
 
@@ -73,6 +73,10 @@ def main(folder, count):
 
 
 if __name__ == "__main__":
-    words = words_of(__doc__, 1, 3)
-    make, words = (write_log, words[1:]) if words[0] == "--log" else (main, words)
-    make(words[0], int(words[1]) if len(words) > 1 else 1100)
+    words = words_of(__doc__, 1, 3, ["--log"])
+    make = write_log if words[0] == "--log" else main
+    place, *count = [it for it in words if it != "--log"] or fail(2, "--log has a file after it")
+    try:
+        make(place, *(numbers_of(count) or [1100]))
+    except OSError as fault:
+        fail(3, fault)

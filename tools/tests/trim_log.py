@@ -11,14 +11,18 @@ import sys
 sys.path.insert(0, os.path.join(os.path.dirname(os.path.realpath(__file__)), ".."))
 
 import bazel_log  # noqa: E402
-from harness import words_of  # noqa: E402
+import plans  # noqa: E402
+from harness import fail, words_of  # noqa: E402
 
 
 def main(log, base):
-    with open(log, encoding="utf-8") as it:
-        text = it.read().replace(base, "/bazel")
-    for _, value in bazel_log.objects(io.StringIO(text)):
-        print(json.dumps({key: it for key, it in value.items() if key in bazel_log.SPAWN_FIELDS}))
+    try:
+        with open(log, encoding="utf-8") as it:
+            text = it.read().replace(base, "/bazel")
+        for _, value in bazel_log.objects(io.StringIO(text)):
+            print(json.dumps({key: it for key, it in value.items() if key in bazel_log.SPAWN_FIELDS}))
+    except (OSError, UnicodeDecodeError, plans.Refused) as fault:
+        fail(2 if isinstance(fault, plans.Refused) else 3, f'"{log}": {fault}')
 
 
 if __name__ == "__main__":
