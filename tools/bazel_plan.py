@@ -23,6 +23,7 @@ the file, the line of the log at which the spawn begins, and the spawn; then non
 
 import argparse
 import contextlib
+import gc
 import io
 import os
 import sys
@@ -154,6 +155,8 @@ def make(options, store):
 
 def main(words):
     options = parse(words)
+    # (a log makes millions of objects that last to the end, and none of them is in a circle)
+    gc.disable()
     try:
         with contextlib.closing(stores.store_of(options)) as store:
             made = make(options, store)

@@ -32,11 +32,19 @@ judge() {
   "$program" verify --store "$work/asked/store" --sources "$(cat "$work/asked/sources")" --plan "$work/asked/plan" \
     --record "$work/asked/record" --claim "$(cat "$work/asked/claim")" || true
 }
+judge_stages() { BUILDCACHE=$program "$top/tools/verify_stages.py" "$work/asked" --jobs 4 || true; }
 expect() {
   local line
-  line=$(judge)
+  line=$("${2:-judge}")
   echo "$line"
   [[ $line == $1 ]] || { echo "bazel_roundtrip: expected $1" >&2; exit 1; }
+}
+expect_stages() { expect "$1" judge_stages; }
+# Lets the store have another output of the step that makes card.txt.
+change_card() {
+  local card
+  card=$work/asked/store/ac/$(find "$work/asked" -name record -exec sed -n 's|^step genrule-pages-card-txt \(.*\)/.*|\1|p' {} +)
+  sed -i "s/[0-9a-f]\{64\}/$(printf 'Hello, Mallory!' | sha256sum | cut -c1-64)/" "$card"
 }
 
 echo "== what was built"
@@ -46,9 +54,19 @@ shipped=(--below bazel-out/k8-fastbuild/bin/pages/release --artifact "$work/ship
 turn "${shipped[@]}"
 expect "yes * steps 11"
 
+echo "== in stages of three steps"
+turn "${shipped[@]}" --stages 3
+expect_stages "yes * stages 4 steps 11"
+change_card
+expect_stages "no stage * step pages-pages-site cause input-differs *card.txt"
+turn "${shipped[@]}" --stages 3
+cp "$work/asked/1/claim" "$work/asked/2/claim"
+cp "$work/asked/1/claim" "$work/asked/3/sources"
+expect_stages "no stage 2 root cause root-differs *"
+
 echo "== another output in the store"
-card=$work/asked/store/ac/$(sed -n 's|^step genrule-pages-card-txt \(.*\)/.*|\1|p' "$work/asked/record")
-sed -i "s/[0-9a-f]\{64\}/$(printf 'Hello, Mallory!' | sha256sum | cut -c1-64)/" "$card"
+turn "${shipped[@]}"
+change_card
 expect "no step pages-pages-site cause input-differs *card.txt"
 
 echo "== another file in the artifact"

@@ -576,6 +576,36 @@ def contents(folder):
     return found
 
 
+class StagesCase(Case):
+    def stages(self, *words, text):
+        """The lines of each stage's plan, but those that begin a step."""
+        status, out, err = self.call(text, "--stages", *words)
+        self.assertEqual((status, err), (0, ""))
+        names = self.lines("stages")
+        self.assertTrue(out.splitlines()[-1].endswith(f" stages {len(names)}"), out)
+        plans_of = []
+        for name in names:
+            with open(self.at("asked", name, "plan"), encoding="utf-8") as it:
+                plans_of.append([line for line in it.read().splitlines() if not line.startswith("step")])
+        return plans_of
+
+    def verify(self, *words):
+        """What verify_stages.py prints, and its status; nothing where the program isn't built."""
+        if not os.path.exists(PROGRAM):
+            self.is_unjudged = True
+            return None
+        tool = os.path.join(TOP, "tools", "verify_stages.py")
+        env = {**os.environ, "BUILDCACHE": PROGRAM}
+        done = subprocess.run([sys.executable, tool, self.at("asked"), *words], capture_output=True, text=True, env=env)
+        return done.stdout + done.stderr, done.returncode
+
+    def judge_stages(self, line, status, *words):
+        verdict = self.verify(*words)
+        if verdict:
+            self.assertRegex(verdict[0], line)
+            self.assertEqual(verdict[1], status)
+
+
 class KeptLog(Case):
     """A log of Bazel 4.2.3 for //pages:counts of examples/bazel, and what was made of it, which the gate has judged
     in `test_program` (see docs/VERIFY_BAZEL.md)."""
@@ -628,6 +658,38 @@ class KeptLog(Case):
                 shutil.rmtree(self.at("asked"))
 
 
+class KeptLogInStages(StagesCase):
+    """The same in stages of three steps."""
+
+    def setUp(self):
+        super().setUp()
+        with open(os.path.join(HERE, "data", "counts.json"), encoding="utf-8") as it:
+            self.stages("3", *KeptLog.WORDS, text=it.read())
+
+    def change_result(self, name, other):
+        """Changes the first digest of the result of a step of stage 2."""
+        action = next(it.split()[2] for it in self.lines("2/record") if it.startswith(f"step {name} ")).partition("/")[0]
+        with open(self.at("asked", "store", "ac", action), "rb") as it:
+            result = it.read()
+        with open(self.at("asked", "store", "ac", action), "wb") as out:
+            out.write(re.sub(rb"[0-9a-f]{64}", other.encode(), result, count=1))
+
+    def test_a_yes(self):
+        self.assertEqual(self.lines("stages"), ["1", "2", "3"])
+        self.judge_stages(f"^yes {self.lines('claim')[0]} stages 3 steps 7\n$", 0, "--jobs", "4")
+        self.assertEqual(self.lines("claim"), ["433064578c7792a6a4efc4b6f20749fb2d32ec50b442ef364fadd095453fd7df/165"])
+
+    def test_another_output_of_a_step_of_stage_2(self):
+        self.change_result("genrule-pages-card-txt", named("Hello, Mallory!")["hash"])
+        self.judge_stages("^no stage 2 step pages-pages-site cause input-differs bazel-out/k8-fastbuild/bin/pages/card.txt\n$", 1)
+
+    def test_the_claim_of_stage_2_exchanged(self):
+        for name in ("2/claim", "3/sources"):
+            with open(self.at("asked", name), "w", encoding="utf-8") as out:
+                out.write(self.lines("1/claim")[0] + "\n")
+        self.judge_stages("^no stage 2 root cause root-differs [0-9a-f]{64}/[0-9]+\n$", 1)
+
+
 # Three steps one after another, and a fourth that reads what the first made.
 CHAIN = (
     spawn({"s": "s"}, ["o/a"]),
@@ -660,34 +722,9 @@ class LeftOut(Case):
         self.assertEqual(contents(self.at("asked")), alone)
 
 
-class InStages(Case):
+class InStages(StagesCase):
     def stages(self, *words, spawns=CHAIN):
-        """The lines of each stage's plan."""
-        status, out, err = self.call(log(*spawns), "--stages", *words)
-        self.assertEqual((status, err), (0, ""))
-        names = self.lines("stages")
-        self.assertTrue(out.splitlines()[-1].endswith(f" stages {len(names)}"), out)
-        plans_of = []
-        for name in names:
-            with open(self.at("asked", name, "plan"), encoding="utf-8") as it:
-                plans_of.append([line for line in it.read().splitlines() if not line.startswith("step")])
-        return plans_of
-
-    def verify(self, *words):
-        """What verify_stages.py prints, and its status; nothing where the program isn't built."""
-        if not os.path.exists(PROGRAM):
-            self.is_unjudged = True
-            return None
-        tool = os.path.join(TOP, "tools", "verify_stages.py")
-        env = {**os.environ, "BUILDCACHE": PROGRAM}
-        done = subprocess.run([sys.executable, tool, self.at("asked"), *words], capture_output=True, text=True, env=env)
-        return done.stdout + done.stderr, done.returncode
-
-    def judge_stages(self, line, status, *words):
-        verdict = self.verify(*words)
-        if verdict:
-            self.assertRegex(verdict[0], line)
-            self.assertEqual(verdict[1], status)
+        return super().stages(*words, text=log(*spawns))
 
     def test_lines(self):
         self.assertEqual(self.stages("2"), [
