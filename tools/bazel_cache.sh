@@ -23,7 +23,7 @@ chmod 755 "$work" # (nginx's workers have another user)
 servers=() front=''
 finish() {
   (cd "$work/ws" && command "${bazel_words[@]}" --output_user_root="$work/bazel" shutdown) || true
-  [ -z "$front" ] || nginx -c "$front" -s stop || true
+  [ -z "$front" ] || nginx -c "$front" -s stop 2>"$work/out" || true
   [ "${#servers[@]}" -eq 0 ] || kill "${servers[@]}" || true
   chmod -R u+w "$work" && rm -rf "$work"
 }
@@ -63,7 +63,7 @@ stop_servers() {
   servers=()
 }
 stand_before() {
-  [ -z "$front" ] || { nginx -c "$front" -s stop; while (: <>/dev/tcp/127.0.0.1/8081) 2>/dev/null; do sleep 0.2; done; }
+  [ -z "$front" ] || { nginx -c "$front" -s stop 2>"$work/out"; while (: <>/dev/tcp/127.0.0.1/8081) 2>/dev/null; do sleep 0.2; done; }
   nginx -c "$1"
   front=$1
 }

@@ -122,9 +122,13 @@ class Store:
 
 def check_sizes(store, texts):
     """Refuses what the program reads no more of: blobs, results, and texts by their names, each a list of lines."""
-    sizes = {f"the blob {digest.text()}": len(blob) for digest, blob in store.blobs.items()}
-    sizes.update((f"the result of {action.text()}", len(blob)) for action, blob in store.results.items())
-    sizes.update((f"the {name}", sum(len(it) + 1 for it in lines)) for name, lines in texts.items())
-    for name, size in sizes.items():
+    def check(size, name, what=""):
         if size > MOST_BYTES:
-            raise Refused(f"{name} has {size} bytes, and buildcache reads {MOST_BYTES} at most")
+            raise Refused(f"the {name}{what and what.text()} has {size} bytes, and buildcache reads {MOST_BYTES} at most")
+
+    for digest, blob in store.blobs.items():
+        check(len(blob), "blob ", digest)
+    for action, blob in store.results.items():
+        check(len(blob), "result of ", action)
+    for name, lines in texts.items():
+        check(sum(len(it) + 1 for it in lines), name)
