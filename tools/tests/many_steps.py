@@ -2,8 +2,9 @@
 """Writes a Bazel workspace of so many genrules: many_steps.py FOLDER [COUNT]. Each rule reads a source file and the
 outputs of up to three rules before it; every tenth one makes two files. Nothing is fetched.
 
-many_steps.py --log FILE [COUNT] writes a log as Bazel would of a build of so many spawns, each of which reads 30 files: tools
-that all spawns share, sources of its package, and outputs of spawns before it."""
+many_steps.py --log FILE [COUNT [CHANGED]] writes a log as Bazel would of a build of so many spawns, each of which reads 30
+files: tools that all spawns share, sources of its package, and outputs of spawns before it. The spawn of number CHANGED, from
+1 on, has read something else than the spawn before it made."""
 
 import hashlib
 import json
@@ -53,10 +54,14 @@ def spawn(index):
             "actualOutputs": [file(output)], "runner": "linux-sandbox", "remoteCacheHit": False, "status": "", "exitCode": 0}
 
 
-def write_log(path, count):
+def write_log(path, count, changed=None):
     with open(path, "w", encoding="utf-8") as out:
         for index in range(count):
-            json.dump(spawn(index), out, indent=2)
+            value = spawn(index)
+            if index == changed:
+                read = next(it for it in value["inputs"] if it["path"].endswith(f"/r{index - 1}.o"))
+                read["digest"] = file("another")["digest"]
+            json.dump(value, out, indent=2)
 
 
 def main(folder, count):
@@ -73,7 +78,7 @@ def main(folder, count):
 
 
 if __name__ == "__main__":
-    words = words_of(__doc__, 1, 3, ["--log"])
+    words = words_of(__doc__, 1, 4 if "--log" in sys.argv else 2, ["--log"])
     make = write_log if words[0] == "--log" else main
     place, *count = [it for it in words if it != "--log"] or fail(2, "--log has a file after it")
     try:

@@ -23,8 +23,11 @@ HERE = os.path.dirname(os.path.realpath(__file__))
 TOP = os.path.dirname(os.path.dirname(HERE))
 sys.path.insert(0, os.path.join(TOP, "tools"))
 
+sys.path.insert(0, HERE)
+
 import bazel_log  # noqa: E402
 import bazel_plan  # noqa: E402
+import many_steps  # noqa: E402
 import messages  # noqa: E402
 import plans  # noqa: E402
 from harness import PROGRAM, Keeper  # noqa: E402
@@ -774,6 +777,14 @@ class InStages(StagesCase):
         with open(self.at("asked", "3", "sources"), "w", encoding="utf-8") as out:
             out.write(f"{'0' * 64}/1\n")
         self.judge_stages("^no stage 2 root cause root-differs ", 1)
+
+    def test_a_log_of_many_spawns(self):
+        for changed, line in (None, "^yes .* stages 3 steps 60\n$"), (30, "^no stage 2 step make-p0-r30-o cause input-differs .*/r29.o\n$"):
+            many_steps.write_log(self.at("many"), 60, changed)
+            with open(self.at("many"), encoding="utf-8") as it:
+                StagesCase.stages(self, "25", "--outputs", "*/r59.o", text=it.read())
+            self.judge_stages(line, 1 if changed else 0, "--jobs", "3")
+            shutil.rmtree(self.at("asked"))
 
     def test_a_file_that_is_not_there(self):
         self.stages("2")
