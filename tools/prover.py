@@ -4,6 +4,7 @@ import collections
 import glob
 import os
 import re
+import resource
 import shutil
 import signal
 import subprocess
@@ -12,8 +13,9 @@ import time
 
 TOP = os.path.dirname(os.path.dirname(os.path.realpath(__file__)))
 PARTS = ("src", "specs", "proofs")
-# The seconds that a check may take.
+# The processor seconds that a check may take, and the seconds by the clock, which pass faster beside other work.
 LONGEST = 3600
+LATEST = 10800
 
 # What the prover says of a name that a proof file has, and that isn't there.
 GONE = re.compile(r"has no field|is not in scope|has no `")
@@ -127,9 +129,10 @@ def assume(crate, path, room):
 
 def run(words, folder):
     """The status of a command, or None where it takes too long; its lines, its processor seconds and its peak memory in kB."""
-    late = time.monotonic() + LONGEST
+    late = time.monotonic() + LATEST
     with tempfile.TemporaryFile("w+", errors="replace") as out:
         ran = subprocess.Popen(words, cwd=folder, stdin=subprocess.DEVNULL, stdout=out, stderr=subprocess.STDOUT)
+        resource.prlimit(ran.pid, resource.RLIMIT_CPU, (LONGEST, LONGEST + 60))
         pid = 0
         while not pid and time.monotonic() < late:
             time.sleep(0.2)

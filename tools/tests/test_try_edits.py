@@ -7,9 +7,11 @@ Small crates, and what the prover said of them, in its own words; no prover is r
 import contextlib
 import io
 import os
+import signal
 import sys
 import tempfile
 import unittest
+import unittest.mock
 
 HERE = os.path.dirname(os.path.realpath(__file__))
 sys.path.insert(0, os.path.join(os.path.dirname(HERE)))
@@ -174,6 +176,11 @@ class Judging(Case):
             text = it.read()
         self.assertIn("use Rattle.small.proofs.sizes.Size.twice.Statement as stated\n", text)
         self.assertTrue(text.endswith("twice_spec = ?\n"))
+
+    def test_a_check_ends_after_its_processor_seconds(self):
+        with unittest.mock.patch.object(prover, "LONGEST", 1):
+            status, *_ = prover.run([sys.executable, "-c", "while True: pass"], self.top)
+        self.assertEqual(status, -signal.SIGXCPU)
 
     def test_one_that_is_proved_fails(self):
         faults = self.judge(pairs(HALF, FROM), SAID)
