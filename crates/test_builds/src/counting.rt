@@ -89,6 +89,8 @@ impl<A: Allocator + Copy> Runner<A> for Counting {
 
     ghost may_give = { λ _ _. Unit {0} };
 
+    ghost starts = { λ _ _. Unit {0} };
+
     ghost alive = { λ r. r.alive };
 
     ghost failures = { λ _. 0 };

@@ -1,5 +1,5 @@
 -- What is laid out for a child, and what a child comes to.
-use Rattle.std.specs.Prelude.{◌≡◌, ℕ, List, ◌∷◌, map}
+use Rattle.std.specs.Prelude.{◌≡◌, ℕ, List, [], ◌∷◌, ◌++◌, map}
 use Rattle.std.specs.declared.vec.Vec.{Vec}
 use Rattle.action_messages.specs.Command.{CommandValue}
 use Rattle.actions.specs.Outcome.{OutcomeValue}
@@ -13,6 +13,23 @@ pub record LayoutValue : Type 0 where
 pub record ProducedValue : Type 0 where
   pub outcome : OutcomeValue
   pub blobs : List (List ℕ)
+
+-- a child that is started: what is laid out for it, and its command
+pub record StartValue : Type 0 where
+  pub layout : LayoutValue
+  pub command : CommandValue
+
+-- what a runner may have started, one child after another
+abbrev pub Starts : Type 1
+Starts = List StartValue → Type 0
+
+-- one child more was started
+abbrev pub StartsOne : Starts → Starts → StartValue → Type 0
+StartsOne old new s = (before : List StartValue) → old before → new (before ++ s ∷ [])
+
+-- none was
+abbrev pub StartsNone : Starts → Starts → Type 0
+StartsNone old new = (before : List StartValue) → old before → new before
 
 abbrev pub contents_of : {A : Type 0} → List (List (List ℕ) × Vec ℕ A)
     → List (List (List ℕ) × List ℕ)

@@ -1,7 +1,7 @@
 ghost use Rattle.std.specs.Prelude.{◌≡◌, ◌+◌, ◌-◌, ◌<◌, ℕ, IfOk, IsErrOf, OnOk, OnErr};
 ghost use Rattle.worker.specs.declared.runner.RunError.TheVariants as errors;
 ghost use Rattle.worker.specs.Outcomes.{YieldsNoMore};
-ghost use Rattle.worker.specs.Values.{IsAbsolute};
+ghost use Rattle.worker.specs.Values.{IsAbsolute, StartsOne, StartsNone};
 
 use crate::laid::Layout;
 use actions::{Command, Outcome};
@@ -65,13 +65,17 @@ pub trait Runner<A: Allocator> {
     type Job: Drop;
 
     ghost use Rattle.action_messages.specs.Command.{CommandValue};
-    ghost use Rattle.worker.specs.Values.{LayoutValue, ProducedValue};
+    ghost use Rattle.std.specs.Prelude.{List};
+    ghost use Rattle.worker.specs.Values.{LayoutValue, ProducedValue, StartValue};
 
     /// What may come of a layout and a command.
     ghost yields: { Self → LayoutValue → CommandValue → ProducedValue → Type 0 };
 
     /// What may come of a child. It is the child's own: no later call changes it.
     ghost may_give: { Self.Job → ProducedValue → Type 0 };
+
+    /// The children that it may have started, the latest last.
+    ghost starts: { Self → List StartValue → Type 0 };
 
     /// How many children were started and not yet waited for.
     ghost alive: { Self → ℕ };
@@ -89,6 +93,9 @@ pub trait Runner<A: Allocator> {
         ensures gives { IfOk result (λ job. (p : ProducedValue)
             → may_give job p → yields self.new layout.now command.now p) }
         ensures same { YieldsNoMore (yields self.new) (yields self.old) }
+        ensures listed { OnOk result (StartsOne (starts self.old) (starts self.new)
+            (record { layout = layout.now; command = command.now })) }
+        ensures unlisted { OnErr result (StartsNone (starts self.old) (starts self.new)) }
         ensures opened { OnOk result (alive self.new ≡ alive self.old + 1) }
         ensures unopened { OnErr result (alive self.new ≡ alive self.old) }
         ensures refused { IsErrOf result RunError.NotAbsolute → IsAbsolute command.now → ⊥ }
@@ -100,6 +107,7 @@ pub trait Runner<A: Allocator> {
     fn finish(&mut self, alloc: A, job: Self::Job) -> Result<Produced<A>, RunError<A>>
         ensures gave { IfOk result (may_give job) }
         ensures same { YieldsNoMore (yields self.new) (yields self.old) }
+        ensures unlisted { StartsNone (starts self.old) (starts self.new) }
         ensures closed { alive self.new ≡ alive self.old - 1 }
         ensures absolute { IsErrOf result RunError.NotAbsolute → ⊥ }
         ensures failed { IsErrOf result RunError.Device → failures self.old < failures self.new }
