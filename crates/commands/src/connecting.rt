@@ -236,6 +236,10 @@ impl<R: Net<Stream = TcpStream>> Stream for Connection<'_, R> {
         is_quiet(&self.reader)
     }
 
+    fn is_renewable(&self) -> bool {
+        true
+    }
+
     fn renew(&mut self) -> io::Result<()> {
         let stream = connect(self.rt, self.address.as_str(), self.timeout)?;
         replace(&mut self.reader, stream);

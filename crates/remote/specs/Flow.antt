@@ -1,9 +1,8 @@
 -- What a stream of both directions gives and takes.
-use Rattle.std.specs.Prelude.{◌≡◌, ◌≢◌, ℕ, ◌+◌, ◌<◌, Bool, true, List, [], ◌∷◌, ◌++◌, length}
+use Rattle.std.specs.Prelude.{◌≡◌, ◌≢◌, ℕ, ◌+◌, ◌<◌, Bool, true, false, List, [], ◌∷◌, ◌++◌, length}
 use Rattle.std.specs.Prelude.{Option, Some, None}
-use Rattle.std.specs.Io.Cursor.{cursor_remaining}
 use Rattle.std.specs.Io.KnownBytes.{Appends, Consumes}
-use Rattle.remote.specs.declared.stream.MemoryStream.{MemoryStream}
+use Rattle.http_core.specs.FailStream.{FailStreamValue}
 
 -- Where a stream stands, so far as that is known.
 pub record Flow : Type 0 where
@@ -15,6 +14,8 @@ pub record Flow : Type 0 where
   pub sent : Option (List ℕ)
   -- whether the other side hasn't closed it
   pub is_open : Option Bool
+  -- whether it can be opened anew at all
+  pub is_renewable : Option Bool
   -- how often it was opened anew
   pub openings : Option ℕ
   -- how often it couldn't be opened anew
@@ -35,6 +36,7 @@ pub record IsOpenedAnew (old new : Flow) : Type 0 where
   pub once : IsOneMore old.openings new.openings
   pub next : IsFirstLater old.later new
   pub refusals : new.refusals ≡ old.refusals
+  pub is_renewable : new.is_renewable ≡ old.is_renewable
 
 -- it couldn't be opened anew, and all else is as it was
 pub record StaysClosed (old new : Flow) : Type 0 where
@@ -46,6 +48,7 @@ pub record IsSameStream (old new : Flow) : Type 0 where
   pub openings : new.openings ≡ old.openings
   pub refusals : new.refusals ≡ old.refusals
   pub later : new.later ≡ old.later
+  pub is_renewable : new.is_renewable ≡ old.is_renewable
 
 -- these bytes were sent over the stream, and nothing was read
 pub record Sends (old new : Flow) (bytes : List ℕ) : Type 0 where
@@ -87,28 +90,19 @@ unknown = record {
   later = None;
   sent = None;
   is_open = None;
+  is_renewable = None;
   openings = None;
   refusals = None;
 }
 
--- these bytes are to come over an open stream, none later, and nothing was sent
-abbrev pub gives : List ℕ → Flow
-gives bytes = record {
-  coming = Some bytes;
-  later = Some [];
-  sent = Some [];
-  is_open = Some true;
-  openings = Some 0;
-  refusals = None;
-}
-
--- where a stream in memory stands
-abbrev pub flow_of : {A : Type 0} → MemoryStream A → Flow
+-- where a stream in memory stands, which isn't opened anew
+abbrev pub flow_of : FailStreamValue → Flow
 flow_of s = record {
-  coming = cursor_remaining (λ bytes. Some bytes.items) s.input;
+  coming = Some s.coming;
   later = Some [];
-  sent = Some s.output.items;
+  sent = Some s.sent;
   is_open = Some true;
+  is_renewable = Some false;
   openings = Some 0;
   refusals = None;
 }

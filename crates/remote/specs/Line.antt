@@ -71,6 +71,20 @@ MayBeClosed line = (line.shut ≡ true) ⊎ (line.flow.is_open ≢ Some true)
 abbrev pub MayBeOpen : ConnectionValue → Type 0
 MayBeOpen line = (line.shut ≡ false) × (line.flow.is_open ≢ Some false)
 
+-- a reply closed the stream, and it isn't known that it can be opened anew
+abbrev pub MayStayShut : ConnectionValue → Type 0
+MayStayShut line = (line.shut ≡ true) × (line.flow.is_renewable ≢ Some true)
+
+-- no reply closed it, or it isn't known that it can't be opened anew
+abbrev pub MayBeRenewed : ConnectionValue → Type 0
+MayBeRenewed line = (line.shut ≡ false) ⊎ (line.flow.is_renewable ≢ Some false)
+
+-- it couldn't be opened anew where the server may have closed it
+pub record IsUnopened (line : ConnectionValue) (stream : Flow) : Type 0 where
+  pub closed : MayBeClosed line
+  pub tried : MayBeRenewed line
+  pub stays : StaysClosed line.flow stream
+
 -- The stream for the next request: the one that there is, where that may be open, or one that was
 -- opened anew, where the server may have closed that. Nothing more was sent than before.
 pub record IsNextStream (line : ConnectionValue) (stream : Flow) : Type 0 where
@@ -128,14 +142,18 @@ pub record ComesInPart (old new : ConnectionValue) (request : Request) : Type 0 
 -- the stream failed: it couldn't be opened anew, or ended within the request or the reply
 abbrev pub IsStreamFault : ConnectionValue → ConnectionValue → Request → Type 0
 IsStreamFault old new request =
-    (MayBeClosed old × StaysClosed old.flow new.flow) ⊎ ComesInPart old new request
+    IsUnopened old new.flow ⊎ ComesInPart old new request
 
--- The fault is Broken just where the connection was broken before the request.
+-- no request goes out any more: one was refused, or a reply closed a stream that isn't opened anew
+abbrev pub IsOver : ConnectionValue → Type 0
+IsOver line = (line.broken ≡ true) ⊎ MayStayShut line
+
+-- The fault is Broken where no request goes out any more, and nothing was sent or read then.
 abbrev pub IsConnectionFault : ConnectionValue → ConnectionValue → Request → Fault → Type 0
 IsConnectionFault old new request Io = (old.broken ≡ false) × IsStreamFault old new request
 IsConnectionFault old new request BadReply = ComesBadly old new request
 IsConnectionFault old new request (Status status) = ComesStatus old new request status
-IsConnectionFault old new request Broken = old.broken ≡ true
+IsConnectionFault old new request Broken = IsOver old × (new.flow ≡ old.flow)
 
 -- a failure was counted, and its fault is kept
 pub record IsCounted (old new : ConnectionValue) (request : Request) : Type 0 where

@@ -7,11 +7,13 @@ use Rattle.blob_source.specs.Source.{greatest_count}
 use Rattle.blob_source.specs.declared.source.FetchError.{FetchError}
 use Rattle.blob_source.specs.declared.source.FetchError.TheVariants.{Failed, Memory}
 use Rattle.remote.specs.declared.fault.Fault.{Fault}
+use Rattle.remote.specs.declared.fault.Fault.TheVariants.{Io, BadReply, Status, Broken}
 use Rattle.remote.specs.declared.fault.Refusal.{Refusal}
 use Rattle.remote.specs.declared.fault.Refusal.TheVariants as refusals
 use Rattle.remote.specs.declared.table.Table.{Table}
 use Rattle.remote.specs.Flow.{Flow, SendsFront, SendsPart, Receives, ReceivesSome}
-use Rattle.remote.specs.Line.{ConnectionValue, IsNextStream, IsSameServer, IsUncounted}
+use Rattle.remote.specs.Line.{ConnectionValue, IsNextStream, IsSameServer, IsUncounted, IsUnopened}
+use Rattle.remote.specs.Line.{MayStayShut}
 use Rattle.remote.specs.Reply.{RoundTripForNone, RoundTripForSome, RoundTripInPart, NextIsNoReply}
 use Rattle.remote.specs.Reply.{NextInPart}
 use Rattle.remote.specs.Table.{HasAnswer, IsSameBut, KeepsAnswers, told_by}
@@ -79,6 +81,14 @@ pub record SendsNoMore (old new : Flow) (bytes : List ℕ) (e : Refusal) : Type 
 pub record Opens (old new : ConnectionValue) : Type 0 where
   pub next : IsNextStream old new.flow
   pub others : new ≡ record old { flow = new.flow; shut = false }
+
+-- Why the stream isn't open for the next request: a reply closed it and it can't be opened anew, or
+-- that failed.
+abbrev pub CantOpen : ConnectionValue → ConnectionValue → Fault → Type 0
+CantOpen old new Broken = MayStayShut old × (new ≡ old)
+CantOpen old new Io = IsUnopened old new.flow × (new ≡ record old { flow = new.flow })
+CantOpen old new BadReply = ⊥
+CantOpen old new (Status status) = ⊥
 
 -- the fault is counted and told, unless the count is full
 pub record Fails (old new : ConnectionValue) (fault : Fault) (e : FetchError) : Type 0 where

@@ -13,7 +13,7 @@ pub enum Fault {
     /// The reply has another status than those that answer.
     #[error("the server answered with status {0}")]
     Status(u16),
-    /// An earlier call was refused.
+    /// An earlier call was refused, or a reply closed a stream that isn't opened anew.
     #[error("the connection is closed")]
     Broken,
 }

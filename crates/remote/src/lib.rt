@@ -5,6 +5,7 @@
 
 mod asking;
 mod block;
+mod fail_stream;
 mod fault;
 mod files;
 mod folder;
@@ -20,4 +21,4 @@ pub use files::{FileError, FileReader, SystemFiles, read_file};
 pub use folder::FolderSource;
 pub use laws::the_next_reply_is_one;
 pub use remote::Remote;
-pub use stream::{MemoryStream, Stream};
+pub use stream::Stream;

@@ -1,10 +1,9 @@
-ghost use Rattle.std.specs.Prelude.{◌≡◌, true, false, IfOk, IfErr, OnOk, option_map};
+ghost use Rattle.std.specs.Prelude.{◌≡◌, IfOk, IfErr, OnOk, option_map};
 ghost use Rattle.blob_source.specs.Source.{bytes_of};
 ghost use Rattle.remote.specs.Line.{ExplainsMemory, IsReplied, Gets, Puts, RefusesRequest, get};
-ghost use Rattle.remote.specs.Line.{MayBeClosed, is_taken, line_of, put, request};
-ghost use Rattle.remote.specs.Flow.{StaysClosed};
+ghost use Rattle.remote.specs.Line.{is_taken, line_of, put, request};
 ghost use Rattle.remote.specs.Reply.{reply_value};
-ghost use Rattle.remote.specs.Steps.{Fails, Opens, Starves};
+ghost use Rattle.remote.specs.Steps.{CantOpen, Fails, Opens, Starves};
 
 use crate::fault::{Fault, Refusal};
 use crate::reply::{Reply, exchange};
@@ -51,23 +50,24 @@ impl<S: Stream + Drop, A: Allocator + Copy> Line<S, A> {
         FetchError::Memory
     }
 
-    /// Opens the stream anew where the server has closed it. The answer tells whether it is open.
-    fn open(&mut self) -> bool
-        ensures opened { result ≡ true → Opens (line_of S.flow self.old) (line_of S.flow self.new) }
-        ensures shut { result ≡ false → line_of S.flow self.new
-            ≡ record (line_of S.flow self.old) { flow = S.flow self.new.stream } }
-        ensures closed { result ≡ false → MayBeClosed (line_of S.flow self.old) }
-        ensures stays { result ≡ false
-            → StaysClosed (S.flow self.old.stream) (S.flow self.new.stream) }
+    /// Opens the stream anew where the server has closed it. `Broken` where a reply has and it can't
+    /// be opened anew, and `Io` where that failed.
+    fn open(&mut self) -> Result<(), Fault>
+        ensures opened { OnOk result (Opens (line_of S.flow self.old) (line_of S.flow self.new)) }
+        ensures unopened { IfErr result
+            (CantOpen (line_of S.flow self.old) (line_of S.flow self.new)) }
     {
         if !self.shut && self.stream.is_open() {
-            return true;
+            return Ok(());
+        }
+        if self.shut && !self.stream.is_renewable() {
+            return Err(Fault::Broken);
         }
         if self.stream.renew().is_err() {
-            return false;
+            return Err(Fault::Io);
         }
         self.shut = false;
-        true
+        Ok(())
     }
 
     /// Sends a request, and reads its reply.
@@ -91,8 +91,8 @@ impl<S: Stream + Drop, A: Allocator + Copy> Line<S, A> {
         if self.broken {
             return Err(self.fail(Fault::Broken));
         }
-        if !self.open() {
-            return Err(self.fail(Fault::Io));
+        if let Err(fault) = self.open() {
+            return Err(self.fail(fault));
         }
         let hash = digest.hash();
         let request = write_request(alloc, area, &hash, body, self.host.as_str(), &self.prefix);
