@@ -1,6 +1,6 @@
 //! A client over a stream in memory.
 use crate::rows::Row;
-use crate::stream::Failing;
+use crate::streams::{Next, Streams};
 use crate::text::show;
 use blob_digest::Digest;
 use blob_source::{BlobSink, BlobSource, FetchError};
@@ -9,7 +9,8 @@ use remote::*;
 use std::alloc::{AllocError, Allocator, Global};
 
 /// `ask CALL, CALL ..`: what each call comes to over the stream, and over the next where that is
-/// opened anew. `ask closed: ..`: where the first isn't open.
+/// opened anew. `ask closed: ..`: where the first isn't open. `ask refused: ..`: where opening it
+/// anew fails.
 pub fn ask<A: Allocator + Copy>(
     alloc: A,
     row: &Row<'_>,
@@ -29,87 +30,87 @@ pub fn sent<A: Allocator + Copy>(
     let mut told = String::new(row.heap);
     let end = call_all(alloc, row, &mut remote, &mut told);
     if end.is_ok() || row.next.is_empty() {
-        show(row.heap, remote.stream().inner.sent(), text)?;
+        show(row.heap, remote.stream().sent(), text)?;
     }
     end
 }
 
-/// `fail_each CALL, CALL ..`: tells where the calls don't end with the stream's fault if a call of
-/// the stream fails, each in turn. How many did.
+/// `fail_each CALL, CALL ..`: how many calls of the stream there are where each gives or takes one
+/// byte, of which each fails in turn, and one beyond the last. Tells where the client's calls don't
+/// end with the stream's fault, after which all are refused. How many failed.
 pub fn fail_each(row: &Row<'_>, text: &mut String) -> Result<u64, AllocError> {
     let mut expected = String::new(row.heap);
     ask(row.heap, row, &mut expected)?;
-    for number in 1..1000u64 {
+    let whole = fail_each_call(row, expected.as_str(), text)?;
+    let lengths = [1, 1, 1];
+    let bytes = fail_each_call(&Row { lengths, ..*row }, expected.as_str(), text)?;
+    writeln!(text, "{bytes} calls failed")?;
+    Ok(whole.saturating_add(bytes))
+}
+
+fn fail_each_call(row: &Row<'_>, expected: &str, text: &mut String) -> Result<u64, AllocError> {
+    for number in 1..10_000u64 {
         let mut remote = client(row.heap, row, number)?;
         let mut told = String::new(row.heap);
         let faulty = call_till_fault(row.heap, row, &mut remote, &mut told)?;
-        let reached = remote.stream().left == 0;
-        if !reached && !faulty && told == expected {
+        let reached = remote.stream().until_failure() == 0;
+        if !reached && !faulty && told.as_str() == expected {
             return Ok(number - 1);
         }
         let fault = remote.last_fault();
-        let is_told = faulty && fault == Some(Fault::Io) && is_broken(row.heap, &mut remote);
-        if !(is_told && expected.as_str().starts_with(told.as_str())) {
+        let is_told = reached && faulty && fault == Some(Fault::Io);
+        if !(is_told && expected.starts_with(told.as_str()) && is_over(row.heap, &mut remote)) {
             write!(text, "otherwise where call {number} fails\n{told}")?;
             return Ok(number);
         }
     }
-    Ok(1000)
+    Ok(0)
 }
 
-/// The calls of a row, and whether its first stream is open.
-fn calls_of<'a>(row: &Row<'a>) -> (&'a str, bool) {
-    match row.words.strip_prefix("closed: ") {
-        Some(calls) => (calls, false),
-        None => (row.words, true),
-    }
+/// What a row says of its streams before its calls, and the calls.
+fn calls_of<'a>(row: &Row<'a>) -> (&'a str, &'a str) {
+    row.words.split_once(": ").unwrap_or(("", row.words))
 }
 
 /// A client of `h:80` with the prefix `/p`, of whose stream the call of this number fails.
 fn client<A: Allocator + Copy>(
     alloc: A,
     row: &Row<'_>,
-    left: u64,
-) -> Result<Remote<Failing, A>, AllocError> {
-    let stream = stream_of(row, left)?;
+    number: u64,
+) -> Result<Remote<Streams, A>, AllocError> {
+    let stream = stream_of(row, number)?;
     let host = Host::read(alloc, "h:80")?.ok_or(AllocError)?;
     let prefix = Prefix::read(alloc, b"/p")?.ok_or(AllocError)?;
     Remote::new(alloc, stream, &host, &prefix)
 }
 
-fn stream_of(row: &Row<'_>, left: u64) -> Result<Failing, AllocError> {
-    let next = memory_of(row.heap, row.next)?;
-    Ok(Failing {
-        inner: memory_of(row.heap, row.stream)?,
-        most: row.lengths[0],
-        left,
-        next: if row.next.is_empty() {
-            None
-        } else {
-            Some(next)
-        },
-        open: calls_of(row).1,
-    })
-}
-
-fn memory_of(heap: Global, bytes: &[u8]) -> Result<MemoryStream<Global>, AllocError> {
-    Ok(MemoryStream::new(heap, Vec::from_slice(heap, bytes)?))
+fn stream_of(row: &Row<'_>, number: u64) -> Result<Streams, AllocError> {
+    let (state, _) = calls_of(row);
+    let next = if state == "refused" {
+        Next::Refused
+    } else if row.next.is_empty() {
+        Next::Never
+    } else {
+        Next::Gives(Vec::from_slice(row.heap, row.next)?)
+    };
+    let most = row.lengths[0];
+    Streams::new(row.heap, row.stream, next, most, number, state != "closed")
 }
 
 /// Adds what each call comes to, up to a want of memory, after which nothing may come.
 fn call_all<A: Allocator + Copy>(
     alloc: A,
     row: &Row<'_>,
-    remote: &mut Remote<Failing, A>,
+    remote: &mut Remote<Streams, A>,
     text: &mut String,
 ) -> Result<(), AllocError> {
-    let (calls, _) = calls_of(row);
+    let (_, calls) = calls_of(row);
     for call in calls.split(", ") {
         match answer(alloc, remote, call) {
             Ok(length) => tell_answer(call, length, text)?,
             Err(FetchError::Failed) => tell_fault(call, remote.last_fault(), text)?,
             Err(FetchError::Memory) => {
-                if remote.last_fault().is_some() || !is_broken(alloc, remote) {
+                if remote.last_fault().is_some() || !is_over(alloc, remote) {
                     text.push_str("goes on after a want of memory\n")?;
                 }
                 return Err(AllocError);
@@ -128,10 +129,10 @@ fn tell_fault(call: &str, fault: Option<Fault>, text: &mut String) -> Result<(),
 fn call_till_fault<A: Allocator + Copy>(
     alloc: A,
     row: &Row<'_>,
-    remote: &mut Remote<Failing, A>,
+    remote: &mut Remote<Streams, A>,
     text: &mut String,
 ) -> Result<bool, AllocError> {
-    let (calls, _) = calls_of(row);
+    let (_, calls) = calls_of(row);
     for call in calls.split(", ") {
         match answer(alloc, remote, call) {
             Ok(length) => tell_answer(call, length, text)?,
@@ -154,7 +155,7 @@ fn tell_answer(call: &str, length: Option<usize>, text: &mut String) -> Result<(
 /// `result TEXT` and `put_result TEXT` about the result of the action of its digest.
 fn answer<A: Allocator + Copy>(
     alloc: A,
-    remote: &mut Remote<Failing, A>,
+    remote: &mut Remote<Streams, A>,
     call: &str,
 ) -> Result<Option<usize>, FetchError> {
     let (verb, blob) = call.split_once(' ').unwrap_or((call, ""));
@@ -176,8 +177,18 @@ fn length<A: Allocator>(
     Ok(answer?.map(|bytes| bytes.len()))
 }
 
-/// Whether a further request is refused since an earlier one was.
-fn is_broken<A: Allocator + Copy>(alloc: A, remote: &mut Remote<Failing, A>) -> bool {
-    let refused = remote.fetch(alloc, &Digest::of(b"other"));
-    matches!(refused, Err(FetchError::Failed)) && remote.last_fault() == Some(Fault::Broken)
+/// Whether every further request is refused since an earlier one was.
+fn is_over<A: Allocator + Copy>(alloc: A, remote: &mut Remote<Streams, A>) -> bool {
+    for call in [
+        "fetch other",
+        "result other",
+        "put other",
+        "put_result other",
+    ] {
+        let refused = matches!(answer(alloc, remote, call), Err(FetchError::Failed));
+        if !refused || remote.last_fault() != Some(Fault::Broken) {
+            return false;
+        }
+    }
+    true
 }

@@ -1,76 +1,133 @@
-//! A server whose reads or writes fail.
-use crate::faulty::{FaultyReader, FaultyWriter};
+//! A server of which a read or a write fails.
 use crate::rows::Row;
-use blob_digest::Digest;
-use cache_server::*;
-use http_core::Prefix;
+use crate::servers::{cache_of, prefix_of};
+use crate::turns::first_length;
+use cache_server::{ConnError, run};
+use http_core::FailStream;
 use std::alloc::{AllocError, Global};
-use std::cell::Cell;
 
-/// `fail_reads_and_writes`: how a run over the stream ends whose read of each number in turn fails,
-/// or whose write does, and what is answered till then.
-pub fn fail_reads_and_writes(row: &Row<'_>, text: &mut String) -> Result<(), AllocError> {
-    let flushed = Cell::new(0);
-    let mut whole = writer_to(row.heap, 0, &flushed);
-    let end = run_faulty(row, 0, &mut whole)?;
-    let digest = Digest::of(&whole.taken).write_text(row.heap)?;
-    let most = whole.longest;
-    writeln!(text, "{end}, {digest} in at most {most} bytes at once")?;
-    fail_reads(row, text)?;
-    fail_writes(row, &whole.taken, text)
+/// What came of a run over a stream: how it ended, its answers, and what the second stream is
+/// answered after it, over the same cache.
+#[derive(Drop)]
+struct Ran {
+    end: Result<(), ConnError>,
+    answers: Vec<u8>,
+    after: Vec<u8>,
 }
 
-fn fail_reads(row: &Row<'_>, text: &mut String) -> Result<(), AllocError> {
-    for number in 1..7u64 {
-        let flushed = Cell::new(0);
-        let mut writer = writer_to(row.heap, 0, &flushed);
-        let end = run_faulty(row, number, &mut writer)?;
-        let length = writer.taken.len();
-        writeln!(text, "read {number}: {end} after {length} bytes")?;
+impl Ran {
+    /// Whether the other came to the same answers and the same cache.
+    fn is_like(&self, other: &Ran) -> bool {
+        self.answers == other.answers && self.after == other.after
     }
-    Ok(())
 }
 
-fn fail_writes(row: &Row<'_>, whole: &[u8], text: &mut String) -> Result<(), AllocError> {
-    for number in 1..8u64 {
-        let flushed = Cell::new(0);
-        let mut writer = writer_to(row.heap, number, &flushed);
-        let end = run_faulty(row, 0, &mut writer)?;
-        let begins = whole.starts_with(&writer.taken);
-        let taken = if begins { "a beginning" } else { "other bytes" };
-        writeln!(text, "write {number}: {end} after {taken}")?;
-    }
-    Ok(())
+/// `fail_bytes ..` and `fail_pieces ..`: how many reads and writes a run over the stream has where
+/// each gives or takes one byte, or 50,000 at most. Each fails in turn, and one beyond the last.
+/// Tells where a run ends otherwise than with that fault, answers more or less than what was read
+/// or a beginning, or leaves the cache otherwise than the requests up to then do. How many failed.
+pub fn fail_each_byte(row: &Row<'_>, text: &mut String) -> Result<u64, AllocError> {
+    fail_each_call(row, 1, text)
 }
 
-/// How a run over the stream ends whose read of this number fails, and whose writes are the
-/// writer's.
-fn run_faulty(
+pub fn fail_each_piece(row: &Row<'_>, text: &mut String) -> Result<u64, AllocError> {
+    fail_each_call(row, 50_000, text)
+}
+
+fn fail_each_call(row: &Row<'_>, most: usize, text: &mut String) -> Result<u64, AllocError> {
+    let whole = run_over(row, row.stream, most, 0, 0)?;
+    let reads = fail_reads(row, most, &whole, text)?;
+    let writes = fail_writes(row, most, &whole, text)?;
+    writeln!(text, "{reads} reads and {writes} writes failed")?;
+    Ok(reads.saturating_add(writes))
+}
+
+/// A run over the beginning of the stream whose read and write of these numbers fail.
+fn run_over(
     row: &Row<'_>,
+    stream: &[u8],
+    most: usize,
     read: u64,
-    writer: &mut FaultyWriter<'_>,
-) -> Result<&'static str, AllocError> {
-    let mut cache: Cache<Global> = Cache::new(row.heap, row.state, 1_000_000, 0)?;
-    let prefix: Prefix<Global> = Prefix::read(row.heap, b"")?.ok_or(AllocError)?;
-    let mut reader = FaultyReader {
-        bytes: row.stream,
-        left: read,
-    };
-    match run(row.heap, &mut reader, writer, &mut cache, &prefix) {
-        Ok(()) => Ok("done"),
-        Err(ConnError::ReadFault) => Ok("read fault"),
-        Err(ConnError::WriteFault) => Ok("write fault"),
-        Err(ConnError::Memory) => Ok("want of memory"),
+    write: u64,
+) -> Result<Ran, AllocError> {
+    let heap = row.heap;
+    let mut cache = cache_of(heap, row)?;
+    let prefix = prefix_of(heap, row)?;
+    let most = most.max(1);
+    let mut reader = FailStream::new(heap, Vec::from_slice(heap, stream)?, most, read);
+    let mut writer = FailStream::new(heap, Vec::new(heap), most, write);
+    let end = run(heap, &mut reader, &mut writer, &mut cache, &prefix);
+    let mut later = row.next;
+    let mut after = Vec::new(heap);
+    if run(heap, &mut later, &mut after, &mut cache, &prefix).is_err() {
+        return Err(AllocError);
     }
+    let answers = Vec::from_slice(heap, writer.sent())?;
+    Ok(Ran {
+        end,
+        answers,
+        after,
+    })
 }
 
-/// A writer whose write of this number fails, and that tells what was flushed.
-pub fn writer_to<'a>(heap: Global, left: u64, flushed: &'a Cell<usize>) -> FaultyWriter<'a> {
-    FaultyWriter {
-        taken: Vec::new(heap),
-        most: 50_000,
-        left,
-        longest: 0,
-        flushed,
+/// After a read that fails, all is as a run over what was read before leaves it.
+fn fail_reads(
+    row: &Row<'_>,
+    most: usize,
+    whole: &Ran,
+    text: &mut String,
+) -> Result<u64, AllocError> {
+    let mut came = 0usize;
+    for number in 1..10_000u64 {
+        let ran = run_over(row, row.stream, most, number, 0)?;
+        if ran.end == Ok(()) && ran.is_like(whole) {
+            return Ok(number - 1);
+        }
+        let (front, _) = row.stream.split_at(came.min(row.stream.len()));
+        let expected = run_over(row, front, most, 0, 0)?;
+        if !(ran.end == Err(ConnError::ReadFault) && ran.is_like(&expected)) {
+            writeln!(text, "otherwise where read {number} fails")?;
+            return Ok(number);
+        }
+        came = came.saturating_add(most);
     }
+    Ok(0)
+}
+
+/// After a write that fails, a beginning was answered, and the cache is as the requests up to the
+/// first whose answer isn't written whole leave it.
+fn fail_writes(
+    row: &Row<'_>,
+    most: usize,
+    whole: &Ran,
+    text: &mut String,
+) -> Result<u64, AllocError> {
+    for number in 1..10_000u64 {
+        let ran = run_over(row, row.stream, most, 0, number)?;
+        if ran.end == Ok(()) && ran.is_like(whole) {
+            return Ok(number - 1);
+        }
+        let expected = run_past(row, most, ran.answers.len())?;
+        let begins = whole.answers.starts_with(&ran.answers) && ran.after == expected.after;
+        if !(ran.end == Err(ConnError::WriteFault) && begins) {
+            writeln!(text, "otherwise where write {number} fails")?;
+            return Ok(number);
+        }
+    }
+    Ok(0)
+}
+
+/// A run over the first requests, up to the one with whose answer there are more bytes than these.
+fn run_past(row: &Row<'_>, most: usize, written: usize) -> Result<Ran, AllocError> {
+    let mut length = 0usize;
+    for _ in 0..row.stream.len() {
+        let (_, rest) = row.stream.split_at(length.min(row.stream.len()));
+        length = length.saturating_add(first_length(rest));
+        let (front, _) = row.stream.split_at(length.min(row.stream.len()));
+        let ran = run_over(row, front, most, 0, 0)?;
+        if ran.answers.len() > written {
+            return Ok(ran);
+        }
+    }
+    run_over(row, row.stream, most, 0, 0)
 }

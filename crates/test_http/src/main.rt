@@ -4,12 +4,12 @@
 
 mod clients;
 mod faults;
-mod faulty;
 mod folders;
+mod noting;
 mod rows;
 mod servers;
 mod sessions;
-mod stream;
+mod streams;
 mod text;
 mod texts;
 mod turns;

@@ -1,24 +1,6 @@
 use std::cell::Cell;
 use std::io;
-use std::io::{ErrorKind, Read, Write};
-
-/// Gives bytes, and fails at the read of this number alone, the first being 1.
-#[derive(Drop)]
-pub struct FaultyReader<'a> {
-    pub bytes: &'a [u8],
-    pub left: u64,
-}
-
-impl Read for FaultyReader<'_> {
-    fn read(&mut self, buf: &mut [u8]) -> io::Result<usize> {
-        if self.left == 1 {
-            self.left = 0;
-            return Err(ErrorKind::ConnectionReset.into());
-        }
-        self.left = self.left.saturating_sub(1);
-        self.bytes.read(buf)
-    }
-}
+use std::io::{Read, Write};
 
 /// Gives one piece at each read, and notes how many bytes of answers were flushed before it.
 #[derive(Drop)]
@@ -42,28 +24,30 @@ impl Read for TurnReader<'_> {
     }
 }
 
-/// Takes at most so many bytes at once, keeps them, and fails at the write of this number alone. It
-/// knows the most bytes that it was offered at once, and tells how many it had when it was last
-/// flushed.
+/// Takes all that it is offered, and keeps it. It notes the most bytes that it was offered at once,
+/// and how many it had when it was last flushed.
 #[derive(Drop)]
-pub struct FaultyWriter<'a> {
+pub struct NotingWriter<'a> {
     pub taken: Vec<u8>,
-    pub most: usize,
-    pub left: u64,
     pub longest: usize,
     pub flushed: &'a Cell<usize>,
 }
 
-impl Write for FaultyWriter<'_> {
+impl<'a> NotingWriter<'a> {
+    /// Nothing was written yet.
+    pub fn new(taken: Vec<u8>, flushed: &'a Cell<usize>) -> NotingWriter<'a> {
+        NotingWriter {
+            taken,
+            longest: 0,
+            flushed,
+        }
+    }
+}
+
+impl Write for NotingWriter<'_> {
     fn write(&mut self, buf: &[u8]) -> io::Result<usize> {
         self.longest = self.longest.max(buf.len());
-        if self.left == 1 {
-            self.left = 0;
-            return Err(ErrorKind::ConnectionReset.into());
-        }
-        self.left = self.left.saturating_sub(1);
-        let (front, _) = buf.split_at(buf.len().min(self.most));
-        self.taken.write(front)
+        self.taken.write(buf)
     }
 
     fn flush(&mut self) -> io::Result<()> {

@@ -1,65 +1,92 @@
-//! A stream in memory that may fail.
-use remote::*;
-use std::alloc::Global;
-use std::io;
+//! Streams of a client in memory, of which one may be opened after the other.
+use http_core::FailStream;
+use remote::Stream;
+use std::alloc::{AllocError, Global};
+use std::io::ErrorKind;
+use std::{io, mem};
 
-/// Gives and takes at most this many bytes at once; the call of this number fails, none where it is
-/// 0. What comes once it is opened anew, and whether it is open.
+/// What there is after the first stream.
 #[derive(Drop)]
-pub struct Failing {
-    pub inner: MemoryStream<Global>,
-    pub most: usize,
-    pub left: u64,
-    pub next: Option<MemoryStream<Global>>,
-    pub open: bool,
+pub enum Next {
+    /// It can't be opened anew.
+    Never,
+    /// It can, but that fails.
+    Refused,
+    /// A stream that gives these bytes.
+    Gives(Vec<u8>),
 }
 
-impl Failing {
-    fn fails(&mut self) -> bool {
-        if self.left == 0 {
-            return false;
-        }
-        self.left -= 1;
-        self.left == 0
+/// A stream, and the one that is opened after it, each of which gives and takes at most so many
+/// bytes at once; and whether the first is open. The call that fails is counted over both.
+#[derive(Drop)]
+pub struct Streams {
+    heap: Global,
+    now: FailStream<Global>,
+    next: Next,
+    most: usize,
+    open: bool,
+}
+
+impl Streams {
+    /// A first stream that gives these bytes, and the next.
+    pub fn new(
+        heap: Global,
+        bytes: &[u8],
+        next: Next,
+        most: usize,
+        number: u64,
+        open: bool,
+    ) -> Result<Streams, AllocError> {
+        let most = most.max(1);
+        Ok(Streams {
+            heap,
+            now: FailStream::new(heap, Vec::from_slice(heap, bytes)?, most, number),
+            next,
+            most,
+            open,
+        })
+    }
+
+    /// What was sent over the stream that there is now.
+    pub fn sent(&self) -> &[u8] {
+        self.now.sent()
+    }
+
+    /// Which call from here on fails; 0 where none will.
+    pub fn until_failure(&self) -> u64 {
+        self.now.until_failure()
     }
 }
 
-impl Stream for Failing {
+impl Stream for Streams {
     ghost use Rattle.remote.specs.Flow.{unknown};
 
     ghost flow = { λ _. unknown };
 
     fn receive(&mut self, buf: &mut [u8]) -> io::Result<usize> {
-        if self.fails() {
-            return Err(io::Error::from(io::ErrorKind::ConnectionReset));
-        }
-        let (room, _) = buf.split_at_mut(self.most.min(buf.len()));
-        self.inner.receive(room)
+        self.now.receive(buf)
     }
 
     fn send(&mut self, buf: &[u8]) -> io::Result<usize> {
-        if self.fails() {
-            return Err(io::Error::from(io::ErrorKind::BrokenPipe));
-        }
-        let (some, _) = buf.split_at(self.most.min(buf.len()));
-        self.inner.send(some)
+        self.now.send(buf)
     }
 
     fn is_open(&self) -> bool {
         self.open
     }
 
+    fn is_renewable(&self) -> bool {
+        !matches!(self.next, Next::Never)
+    }
+
     fn renew(&mut self) -> io::Result<()> {
-        if self.fails() {
-            return Err(io::Error::from(io::ErrorKind::ConnectionRefused));
-        }
-        match self.next.take() {
-            None => Err(io::Error::from(io::ErrorKind::ConnectionRefused)),
-            Some(next) => {
-                self.inner = next;
-                self.open = true;
-                Ok(())
-            }
-        }
+        let next = mem::replace(&mut self.next, Next::Refused);
+        let Next::Gives(bytes) = next else {
+            return Err(io::Error::from(ErrorKind::ConnectionRefused));
+        };
+        let most = self.most.max(1);
+        self.now = FailStream::new(self.heap, bytes, most, self.now.until_failure());
+        self.open = true;
+        Ok(())
     }
 }

@@ -1,10 +1,10 @@
 //! What is flushed before each read of a connection.
 ghost use Rattle.std.specs.Prelude.{◌≤◌, length};
 
-use crate::faults::writer_to;
-use crate::faulty::{FaultyWriter, TurnReader};
+use crate::noting::{NotingWriter, TurnReader};
 use crate::rows::Row;
 use crate::servers::{cache_of, prefix_of};
+use blob_digest::Digest;
 use cache_server::{ConnError, run};
 use std::alloc::{AllocError, Allocator};
 use std::cell::Cell;
@@ -24,7 +24,7 @@ pub fn turns<A: Allocator + Copy>(
         flushed: &flushed,
         noted: Vec::new(row.heap),
     };
-    let mut writer = writer_to(row.heap, 0, &flushed);
+    let mut writer = NotingWriter::new(Vec::new(row.heap), &flushed);
     let end = run_turns(alloc, row, &mut reader, &mut writer);
     tell_reads(&reader.noted, text)?;
     if writer.taken.len() != flushed.get() {
@@ -37,11 +37,33 @@ pub fn turns<A: Allocator + Copy>(
     }
 }
 
+/// `digest ..`: the digest of what a run over the stream in its pieces answers, and the most bytes
+/// that are written at once.
+pub fn digest<A: Allocator + Copy>(
+    alloc: A,
+    row: &Row<'_>,
+    text: &mut String,
+) -> Result<(), AllocError> {
+    let pieces = row.pieces()?;
+    let flushed = Cell::new(0);
+    let mut reader = TurnReader {
+        pieces: &pieces,
+        flushed: &flushed,
+        noted: Vec::new(row.heap),
+    };
+    let mut writer = NotingWriter::new(Vec::new(row.heap), &flushed);
+    if run_turns(alloc, row, &mut reader, &mut writer).is_err() {
+        return Err(AllocError);
+    }
+    let digest = Digest::of(&writer.taken).write_text(row.heap)?;
+    writeln!(text, "{digest} in at most {} bytes at once", writer.longest)
+}
+
 fn run_turns<A: Allocator + Copy>(
     alloc: A,
     row: &Row<'_>,
     reader: &mut TurnReader<'_>,
-    writer: &mut FaultyWriter<'_>,
+    writer: &mut NotingWriter<'_>,
 ) -> Result<(), ConnError> {
     let mut cache = cache_of(alloc, row)?;
     let prefix = prefix_of(alloc, row)?;

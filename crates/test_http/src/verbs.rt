@@ -1,12 +1,12 @@
 //! What a row tells by its verb, in whatever pieces its streams come and whatever request for
 //! memory is refused.
 use crate::clients::{ask, fail_each, sent};
-use crate::faults::fail_reads_and_writes;
+use crate::faults::{fail_each_byte, fail_each_piece};
 use crate::rows::Row;
 use crate::servers::{count, look_up, refuse_first, refuse_within, serve, serve_two};
 use crate::sessions::session;
 use crate::texts::{answer, head, host, prefix, request};
-use crate::turns::turns;
+use crate::turns::{digest, turns};
 use std::alloc::{AllocError, Allocator};
 use test_support::Refusing;
 
@@ -15,7 +15,8 @@ use test_support::Refusing;
 pub fn run_row(verb: &str, row: &Row<'_>, text: &mut String) -> Result<u64, AllocError> {
     match verb {
         "beginnings" => tell_beginnings(row, text)?,
-        "fail_reads_and_writes" => fail_reads_and_writes(row, text)?,
+        "fail_bytes" => return fail_each_byte(row, text),
+        "fail_pieces" => return fail_each_piece(row, text),
         "refuse_first" => return refuse_first(row, text),
         "refuse_within" => return refuse_within(row, text),
         "fail_each" => return fail_each(row, text),
@@ -42,6 +43,7 @@ fn tell<A: Allocator + Copy>(
         "serve_two" => serve_two(alloc, row, text),
         "count" => count(alloc, row, text),
         "turns" => turns(alloc, row, text),
+        "digest" => digest(alloc, row, text),
         "look_up" => look_up(alloc, row, text),
         "ask" => ask(alloc, row, text),
         "sent" => sent(alloc, row, text),
@@ -111,7 +113,7 @@ fn refuse_each(
     expected: &str,
     text: &mut String,
 ) -> Result<u64, AllocError> {
-    let serves = matches!(verb, "serve" | "serve_two" | "count" | "turns");
+    let serves = matches!(verb, "serve" | "serve_two" | "count" | "turns" | "digest");
     let mut refused = 0u64;
     for number in 1..100_000u64 {
         let alloc = Refusing::new(row.heap, number);
