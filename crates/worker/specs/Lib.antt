@@ -9,3 +9,4 @@ pub mod Stored
 pub mod Stopped
 pub mod Watching
 pub mod Counted
+pub mod FailRunner

@@ -8,6 +8,7 @@ mod child;
 mod counting;
 mod ending;
 mod error;
+mod fail_runner;
 mod laid;
 mod laying_out;
 mod putting;
@@ -18,6 +19,7 @@ mod watching;
 
 pub use building::build;
 pub use error::{BuildError, Refusal};
+pub use fail_runner::FailRunner;
 pub use laid::{Layout, LayoutError};
 pub use laying_out::layout;
 pub use runner::{Produced, RunError, Runner};
