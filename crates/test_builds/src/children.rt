@@ -41,7 +41,7 @@ pub fn answer<A: Allocator + Copy>(
 }
 
 /// What a row's text says of each child.
-fn came_of(text: &[u8]) -> Came {
+pub fn came_of(text: &[u8]) -> Came {
     if is(text, "out") {
         Came::File("out", "123456789")
     } else {
@@ -72,8 +72,7 @@ fn build_once<A: Allocator + Copy>(
         &mut steps,
         jobs,
     ) {
-        Ok(Told::Built { line, noted }) => Some(with_record(global, line.as_str(), &noted)?),
-        Ok(Told::Failed { line }) => Some(String::from_str(global, line.as_str())?),
+        Ok(told) => Some(told_of(global, &told)?),
         Err(Fault::Memory) => None,
         Err(fault) => Some(format!(in global; "{fault}")?),
     };
@@ -84,9 +83,16 @@ fn build_once<A: Allocator + Copy>(
     })
 }
 
-fn with_record(global: Global, line: &str, noted: &[u8]) -> Result<String, AllocError> {
-    let noted = String::from_utf8_lossy(global, noted)?;
-    format!(in global; "{line}{noted}")
+/// The line of a build, and the text of the record after it.
+pub fn told_of<A: Allocator>(global: Global, told: &Told<A>) -> Result<String, AllocError> {
+    match told {
+        Told::Built { line, noted } => {
+            let line = line.as_str();
+            let noted = String::from_utf8_lossy(global, noted)?;
+            format!(in global; "{line}{noted}")
+        }
+        Told::Failed { line } => String::from_str(global, line.as_str()),
+    }
 }
 
 fn both_told(global: Global, first: &Tried, second: &Tried, expected: &[u8]) -> Answer {

@@ -20,6 +20,7 @@ pub struct Counting {
     alive: u64,
     most: u64,
     started: u64,
+    waited_for: u64,
     has_waited: bool,
     at_first: u64,
 }
@@ -36,9 +37,15 @@ impl Counting {
             alive: 0,
             most: 0,
             started: 0,
+            waited_for: 0,
             has_waited: false,
             at_first: 0,
         }
+    }
+
+    /// Whether each child that was started was waited for, once.
+    pub fn is_idle(&self) -> bool {
+        self.alive == 0 && self.started == self.waited_for
     }
 
     /// How many children weren't waited for yet.
@@ -115,6 +122,7 @@ impl<A: Allocator + Copy> Runner<A> for Counting {
 
     fn finish(&mut self, alloc: A, _job: Counted) -> Result<Produced<A>, RunError<A>> {
         self.has_waited = true;
+        self.waited_for = self.waited_for.saturating_add(1);
         self.alive = self.alive.saturating_sub(1);
         match self.came {
             Came::Code(code) => Ok(Produced {

@@ -9,6 +9,7 @@ mod calls;
 mod children;
 mod counting;
 mod engines;
+mod failing;
 mod jobs;
 mod levels;
 mod reports;
@@ -30,11 +31,13 @@ enum Subject {
     Verdicts,
     Levels,
     Children,
+    FailingSources,
+    FailingBuilds,
 }
 
-/// Each file, how many requests for memory are refused in it at least, and how many apart these
+/// Each file, after the name of another where it has the stock of that, how many requests for memory are refused in it at least, and how many apart these
 /// are; 0 where none is.
-static FILES: [(&str, Subject, u64, u64); 9] = [
+static FILES: [(&str, Subject, u64, u64); 13] = [
     ("reports", Subject::Reports, 100, 1),
     ("openings", Subject::Openings, 40, 1),
     ("engines", Subject::Engines, 300, 1),
@@ -44,6 +47,10 @@ static FILES: [(&str, Subject, u64, u64); 9] = [
     ("levels", Subject::Levels, 100, 13),
     ("many_lines", Subject::Levels, 0, 0),
     ("children", Subject::Children, 800, 1),
+    ("verdicts failing_sources", Subject::FailingSources, 0, 0),
+    ("verdicts changed_blobs", Subject::Verdicts, 50, 1),
+    ("deep_input", Subject::Verdicts, 100, 1),
+    ("children failing_builds", Subject::FailingBuilds, 0, 0),
 ];
 
 /// What a row comes to by itself, over what its file has in stock.
@@ -63,6 +70,11 @@ fn answer<A: Allocator + Copy>(
         },
         Subject::Levels => levels::answer(global, alloc, fields),
         Subject::Children => children::answer(global, alloc, stock, fields),
+        Subject::FailingSources => match fields.split_last() {
+            Some((_, changes)) => failing::verdict(global, stock, changes),
+            None => Err(Broken::NoRow),
+        },
+        Subject::FailingBuilds => failing::build(global, stock, fields),
         Subject::Jobs => jobs::answer(global, stock, fields),
         Subject::Engines => Err(Broken::NoRow),
     }
@@ -151,10 +163,25 @@ fn print_told(rt: &HostRuntime, file: &str, told: Result<u64, Broken>) -> io::Re
 }
 
 fn main(rt: HostRuntime) -> io::Result<()> {
-    for &(file, subject, few, apart) in &FILES {
-        let text = fs::read_to_string(&rt, file)?;
+    for &(files, subject, few, apart) in &FILES {
+        let (stock, file) = files.split_once(' ').unwrap_or(("", files));
+        let mut text = String::new(rt.alloc());
+        if !stock.is_empty() {
+            push_stock(&rt, stock, &mut text)?;
+        }
+        text.push_str(fs::read_to_string(&rt, file)?.as_str())?;
         let told = rows_of(rt.alloc(), text.as_str(), subject, few, apart);
         print_told(&rt, file, told)?;
+    }
+    Ok(())
+}
+
+/// Adds the first paragraph of a file.
+fn push_stock(rt: &HostRuntime, file: &str, text: &mut String) -> io::Result<()> {
+    let other = fs::read_to_string(rt, file)?;
+    if let Some((stock, _)) = other.as_str().split_once("\n\n") {
+        text.push_str(stock)?;
+        text.push_str("\n\n")?;
     }
     Ok(())
 }
