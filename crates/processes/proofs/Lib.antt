@@ -1,3 +1,4 @@
 pub mod Lists
+pub mod Rooms
 pub mod Saying
 pub mod Gathered

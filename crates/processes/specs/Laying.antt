@@ -1,10 +1,10 @@
 -- Where a job's files stand, and what is made before its process starts.
-use Rattle.std.specs.Prelude.{ℕ, List, ◌∷◌, ◌++◌, Option, Some, None, IfSome, decimal}
-use Rattle.std.specs.List.{AllByRecursion}
+use Rattle.std.specs.Prelude.{ℕ, List, [], ◌∷◌, ◌++◌, Option, Some, None, decimal, map}
 use Rattle.std.specs.Path.{path_parent}
 use Rattle.messages.specs.Path.{path_text}
+use Rattle.action_messages.specs.Command.{CommandValue}
 use Rattle.worker.specs.Values.{LayoutValue}
-use Rattle.processes.specs.Workshop.{Works}
+use Rattle.processes.specs.Workshop.{RoomValue}
 
 -- the text of a path below a folder
 abbrev pub place_below : List ℕ → List ℕ → List ℕ
@@ -19,30 +19,41 @@ abbrev pub start_of : List ℕ → Option (List (List ℕ)) → List ℕ
 start_of folder None = folder
 start_of folder (Some path) = place_below folder (path_text path)
 
--- folders were made at the paths below a folder
-abbrev pub AreMade : {C : Type 0} → Works C → List ℕ → List (List (List ℕ)) → Type 0
-AreMade works folder paths =
-    AllByRecursion (λ p. works.made (place_below folder (path_text p))) paths
+-- the folders at paths below a folder, and the files with their contents
+abbrev pub folders_below : List ℕ → List (List (List ℕ)) → List (List ℕ)
+folders_below folder paths = map (λ p. place_below folder (path_text p)) paths
 
--- files were written at the paths below a folder, each with its content
-abbrev pub AreWritten : {C : Type 0} → Works C → List ℕ → List (List (List ℕ) × List ℕ) → Type 0
-AreWritten works folder files =
-    AllByRecursion (λ f. works.wrote (place_below folder (path_text f.0)) f.1) files
+abbrev pub files_below : List ℕ → List (List (List ℕ) × List ℕ) → List (List ℕ × List ℕ)
+files_below folder files = map (λ f. (place_below folder (path_text f.0), f.1)) files
 
--- A folder was made, each folder of a layout below it, and each file written with its content.
-pub record IsLaidOut {C : Type 0} (works : Works C) (folder : List ℕ) (l : LayoutValue)
-    : Type 0 where
-  pub itself : works.made folder
-  pub folders : AreMade works folder l.folders
-  pub files : AreWritten works folder l.files
+-- the working directory below a job's folder, if the command has one
+abbrev pub working_folders : List ℕ → Option (List (List ℕ)) → List (List ℕ)
+working_folders folder None = []
+working_folders folder (Some path) = place_below folder (path_text path) ∷ []
 
--- the folder above a path was made: below the start, or the start itself
-abbrev pub HasParent : {C : Type 0} → Works C → List ℕ → List (List ℕ) → Type 0
-HasParent works start path =
-    IfSome (path_parent (path_text path)) (λ above. works.made (place_below start above))
+-- the folder above a path: below the start, or the start itself
+abbrev pub above_in : List ℕ → Option (List ℕ) → List (List ℕ)
+above_in start None = []
+above_in start (Some above) = place_below start above ∷ []
 
--- The folder that a command starts in was made, and the folders above its output paths.
-pub record IsMadeReady {C : Type 0} (works : Works C) (start : List ℕ)
-    (outputs : List (List (List ℕ))) : Type 0 where
-  pub itself : works.made start
-  pub parents : AllByRecursion (HasParent works start) outputs
+-- the folders above paths
+abbrev pub folders_above : List ℕ → List (List (List ℕ)) → List (List ℕ)
+folders_above start [] = []
+folders_above start (p ∷ ps) =
+    above_in start (path_parent (path_text p)) ++ folders_above start ps
+
+-- a new folder with a layout and nothing else
+abbrev pub room_of_layout : List ℕ → LayoutValue → RoomValue
+room_of_layout folder l = record {
+  folder = folder;
+  folders = folders_below folder l.folders;
+  files = files_below folder l.files;
+}
+
+-- All that a job's folder has when its process is started: the layout, the folder that the command
+-- starts in, and the folders above its output paths.
+abbrev pub room_of_job : List ℕ → LayoutValue → CommandValue → RoomValue
+room_of_job folder l c = record (room_of_layout folder l) {
+  folders = (folders_below folder l.folders ++ working_folders folder c.working_directory)
+      ++ folders_above (start_of folder c.working_directory) c.output_paths;
+}

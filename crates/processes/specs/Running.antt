@@ -1,12 +1,13 @@
 -- Jobs in a workshop, and what may come of them.
 use Rattle.std.specs.Prelude.{◌≡◌, ℕ, List, Some, string_bytes}
+use Rattle.std.specs.List.{AllByRecursion}
 use Rattle.action_messages.specs.Command.{CommandValue}
-use Rattle.worker.specs.Values.{LayoutValue, ProducedValue, IsAbsolute}
+use Rattle.worker.specs.Values.{LayoutValue, ProducedValue, StartValue, IsAbsolute}
 use Rattle.processes.specs.declared.tally.Tally.{Tally}
 use Rattle.processes.specs.declared.running.ProcessRunner.{ProcessRunner}
 use Rattle.processes.specs.declared.running.ProcessJob.{ProcessJob}
 use Rattle.processes.specs.Workshop.{Works}
-use Rattle.processes.specs.Laying.{start_of, IsLaidOut, IsMadeReady}
+use Rattle.processes.specs.Laying.{start_of, room_of_job}
 use Rattle.processes.specs.Collected.{AreCollected}
 
 -- how many children haven't been waited for yet
@@ -31,31 +32,35 @@ abbrev pub next_of : {W A : Type 0} → ProcessRunner W A → ℕ
 next_of r = r.next
 
 -- A child came to this: it was waited for and ended with the exit code, and the outputs are what
--- stood at the paths below the folder that it started in.
-pub record CameTo {C : Type 0} (works : Works C) (child : C) (start : List ℕ)
+-- stood after that at the paths below the folder that it started in.
+pub record CameTo {R C E : Type 0} (works : Works R C E) (child : C) (start : List ℕ)
     (paths : List (List (List ℕ))) (p : ProducedValue) : Type 0 where
-  pub ended : works.ended child (Some p.outcome.exit_code)
-  pub outputs : AreCollected works start paths p.outcome p.blobs
+  pub end : E
+  pub ended : works.ended child end (Some p.outcome.exit_code)
+  pub outputs : AreCollected works end start paths p.outcome p.blobs
 
--- A child was started for a command below a job's folder, where the layout was made, in the folder
--- that the command names, which was made too, as were the folders above the output paths.
-pub record IsJobLaunched {C : Type 0} (works : Works C) (l : LayoutValue) (c : CommandValue)
-    (child : C) (start : List ℕ) : Type 0 where
-  pub folder : List ℕ
-  pub laid : IsLaidOut works folder l
+-- A child was started for a command in a folder that was made new, with the layout and what the
+-- command wants beside it, and nothing else.
+pub record IsJobLaunched {R C E : Type 0} (works : Works R C E) (folder : List ℕ)
+    (l : LayoutValue) (c : CommandValue) (child : C) (start : List ℕ) : Type 0 where
   pub is_start : start ≡ start_of folder c.working_directory
-  pub prepared : IsMadeReady works start c.output_paths
-  pub started : works.runs child c start
+  pub started : works.runs child (room_of_job folder l c) c start
+
+-- children were started, one for each of these
+abbrev pub HaveStarted : {R C E : Type 0} → Works R C E → List StartValue → Type 0
+HaveStarted {R} {C} works = AllByRecursion (λ s. (folder : List ℕ) × (child : C) × (start : List ℕ)
+    × IsJobLaunched works folder s.layout s.command child start)
 
 -- The command names its program from the root. A child was started so, and came to this.
-pub record IsJobRun {C : Type 0} (works : Works C) (l : LayoutValue) (c : CommandValue)
+pub record IsJobRun {R C E : Type 0} (works : Works R C E) (l : LayoutValue) (c : CommandValue)
     (p : ProducedValue) : Type 0 where
   pub absolute : IsAbsolute c
+  pub folder : List ℕ
   pub child : C
   pub start : List ℕ
-  pub launched : IsJobLaunched works l c child start
+  pub launched : IsJobLaunched works folder l c child start
   pub came : CameTo works child start c.output_paths p
 
 -- what may come of a job
-abbrev pub may_come : {C A : Type 0} → Works C → ProcessJob C A → ProducedValue → Type 0
+abbrev pub may_come : {R C E A : Type 0} → Works R C E → ProcessJob C A → ProducedValue → Type 0
 may_come works job = CameTo works job.child (string_bytes job.start) job.outputs.items

@@ -15,21 +15,23 @@ use worker::{Produced, RunError};
 fn take_output<A: Allocator + Copy, W: Workshop>(
     alloc: A,
     workshop: &W,
+    ended: &W::Ended,
     place: &str,
     path: &Path<A>,
     outcome: &mut Outcome<A>,
     blobs: &mut Vec<Vec<u8, A>, A>,
 ) -> Result<(), Trouble>
-    ensures { OnOk result (IsMore W.works place.now path.now outcome.old
+    ensures { OnOk result (IsMore W.works ended.now place.now path.now outcome.old
         (blobs_of blobs.old.items) outcome.new (blobs_of blobs.new.items)) }
 {
-    let output = match workshop.look(place)? {
+    let output = match workshop.look(ended, place)? {
         Standing::Nothing => return Ok(()),
-        Standing::File { executable } => {
-            let digest = keep_file(alloc, workshop, place, blobs)?;
+        Standing::File => {
+            let digest = keep_file(alloc, workshop, ended, place, blobs)?;
+            let executable = false;
             Output::File { digest, executable }
         }
-        Standing::Folder => Output::Tree(keep_folder(alloc, workshop, place, blobs)?),
+        Standing::Folder => Output::Tree(keep_folder(alloc, workshop, ended, place, blobs)?),
         Standing::Other => return Err(Trouble::NoOutput),
     };
     outcome.add(alloc, Path::copy_of(alloc, path)?, output)?;
@@ -40,13 +42,14 @@ fn take_output<A: Allocator + Copy, W: Workshop>(
 pub(crate) fn collect<A: Allocator + Copy, W: Workshop>(
     alloc: A,
     workshop: &W,
+    ended: &W::Ended,
     folder: &str,
     paths: &[Path<A>],
     exit_code: i32,
 ) -> Result<Produced<A>, RunError<A>>
     ensures code { IfOk result (λ p. p.outcome.exit_code ≡ exit_code) }
     ensures outputs { IfOk result
-        (λ p. AreCollected W.works folder.now paths.now p.outcome p.blobs) }
+        (λ p. AreCollected W.works ended.now folder.now paths.now p.outcome p.blobs) }
     ensures error { result ≡ Err RunError.NotAbsolute → ⊥ }
 {
     let mut outcome = Outcome::new(alloc, exit_code);
@@ -58,6 +61,7 @@ pub(crate) fn collect<A: Allocator + Copy, W: Workshop>(
         match take_output(
             alloc,
             workshop,
+            ended,
             place.as_str(),
             path,
             &mut outcome,

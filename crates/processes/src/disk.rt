@@ -5,52 +5,108 @@ use blob_digest::GREATEST_BLOB;
 use std::alloc::Allocator;
 use std::fs::File;
 use std::io::{ErrorKind, Read, Write};
-use std::os::unix::fs::PermissionsExt;
-use std::process::Child;
+use std::process::{Child, Stdio};
 use std::rt::{Files, Processes};
 use std::{fs, io};
 
+/// What becomes of what a process writes to its standard error.
+#[derive(Clone, Copy, Debug, PartialEq, Eq)]
+pub enum ChildErrors {
+    /// It is thrown away.
+    Discarded,
+    /// It goes to this process's standard error.
+    Shown,
+}
+
+impl ChildErrors {
+    /// The standard error of a process.
+    pub(crate) fn stream(self) -> Stdio {
+        match self {
+            ChildErrors::Discarded => Stdio::null(),
+            ChildErrors::Shown => Stdio::inherit(),
+        }
+    }
+}
+
 /// The folders, files and processes of the system, as the program's handle reaches them.
 #[derive(Drop)]
-pub struct Disk<'r, R>(pub &'r R);
+pub struct Disk<'r, R> {
+    rt: &'r R,
+    errors: ChildErrors,
+}
+
+impl<'r, R> Disk<'r, R> {
+    /// The system that a handle reaches, and what becomes of the errors of its processes.
+    pub fn new(rt: &'r R, errors: ChildErrors) -> Disk<'r, R> {
+        Disk { rt, errors }
+    }
+}
+
+/// A folder that was made new.
+#[derive(Drop)]
+pub struct NewFolder;
+
+/// That a process has ended.
+#[derive(Drop)]
+pub struct HasEnded;
 
 /// The standing that metadata tell of.
 fn standing_of(metadata: &fs::Metadata) -> Standing {
     if metadata.is_dir() {
-        return Standing::Folder;
+        Standing::Folder
+    } else if metadata.is_file() {
+        Standing::File
+    } else {
+        Standing::Other
     }
-    if !metadata.is_file() {
-        return Standing::Other;
-    }
-    let executable = metadata.permissions().mode() & 0o100 != 0;
-    Standing::File { executable }
 }
 
 impl<'r, R: Files + Processes + Alloc + Clone + Drop> Workshop for Disk<'r, R> {
+    type Room = NewFolder;
+
     type Child = Child<R::Started>;
+
+    type Ended = HasEnded;
 
     ghost use Rattle.processes.specs.Workshop.{nothing_known};
 
     ghost works = { nothing_known };
 
-    fn make_new(&self, path: &str) -> io::Result<()> {
-        fs::create_dir(self.0, path)
+    fn make_new(&self, path: &str) -> io::Result<NewFolder> {
+        fs::create_dir(self.rt, path)?;
+        Ok(NewFolder)
     }
 
-    fn make_all(&self, path: &str) -> io::Result<()> {
-        fs::create_dir_all(self.0, path)
+    fn make_all(&self, _room: &mut NewFolder, path: &str) -> io::Result<()> {
+        fs::create_dir_all(self.rt, path)
     }
 
-    fn write(&self, path: &str, bytes: &[u8]) -> io::Result<()> {
-        let mut file = File::create(self.0, path)?;
+    fn write(&self, _room: &mut NewFolder, path: &str, bytes: &[u8]) -> io::Result<()> {
+        let mut file = File::create(self.rt, path)?;
         file.write_all(bytes)
     }
 
-    fn look(&self, path: &str) -> io::Result<Standing> {
-        match fs::symlink_metadata(self.0, path) {
+    fn spawn<A: Allocator + Copy>(
+        &self,
+        alloc: A,
+        _room: NewFolder,
+        command: &Command<A>,
+        folder: &str,
+    ) -> io::Result<Child<R::Started>> {
+        process_of(alloc, command, folder, self.errors)?.spawn(self.rt)
+    }
+
+    fn wait(&self, child: Child<R::Started>) -> io::Result<(HasEnded, Option<i32>)> {
+        let mut child = child;
+        Ok((HasEnded, child.wait()?.code()))
+    }
+
+    fn look(&self, _ended: &HasEnded, path: &str) -> io::Result<Standing> {
+        match fs::metadata(self.rt, path) {
             Ok(metadata) => Ok(standing_of(&metadata)),
             Err(e) => match e.kind() {
                 ErrorKind::NotFound | ErrorKind::NotADirectory => Ok(Standing::Nothing),
+                ErrorKind::FilesystemLoop => Ok(Standing::Other),
                 _ => Err(e),
             },
         }
@@ -59,10 +115,11 @@ impl<'r, R: Files + Processes + Alloc + Clone + Drop> Workshop for Disk<'r, R> {
     fn list<A: Allocator + Copy>(
         &self,
         alloc: A,
+        _ended: &HasEnded,
         path: &str,
     ) -> io::Result<Option<Vec<String<A>, A>>> {
         let mut names = Vec::new(alloc);
-        for entry in fs::read_dir(self.0, path)? {
+        for entry in fs::read_dir(self.rt, path)? {
             match entry {
                 Ok(entry) => names.push(String::from_str(alloc, entry.file_name())?)?,
                 Err(e) if e.kind() == ErrorKind::InvalidFilename => return Ok(None),
@@ -72,31 +129,22 @@ impl<'r, R: Files + Processes + Alloc + Clone + Drop> Workshop for Disk<'r, R> {
         Ok(Some(names))
     }
 
-    fn read<A: Allocator>(&self, alloc: A, path: &str) -> io::Result<Option<Vec<u8, A>>> {
-        if fs::symlink_metadata(self.0, path)?.len() > GREATEST_BLOB as u64 {
+    fn read<A: Allocator>(
+        &self,
+        alloc: A,
+        _ended: &HasEnded,
+        path: &str,
+    ) -> io::Result<Option<Vec<u8, A>>> {
+        if fs::metadata(self.rt, path)?.len() > GREATEST_BLOB as u64 {
             return Ok(None);
         }
         let mut bytes = Vec::new(alloc);
-        let mut file = File::open(self.0, path)?;
+        let mut file = File::open(self.rt, path)?;
         file.read_to_end(&mut bytes)?;
         // The file may have grown since.
         if bytes.len() > GREATEST_BLOB {
             return Ok(None);
         }
         Ok(Some(bytes))
-    }
-
-    fn spawn<A: Allocator + Copy>(
-        &self,
-        alloc: A,
-        command: &Command<A>,
-        folder: &str,
-    ) -> io::Result<Child<R::Started>> {
-        process_of(alloc, command, folder)?.spawn(self.0)
-    }
-
-    fn wait(&self, child: Child<R::Started>) -> io::Result<Option<i32>> {
-        let mut child = child;
-        Ok(child.wait()?.code())
     }
 }

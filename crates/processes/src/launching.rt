@@ -5,6 +5,7 @@ ghost use Rattle.std.specs.Process.{clears_env, SameProgramAndArgs, SameEnv};
 ghost use Rattle.std.specs.Process.{SameDir, SameOtherVars};
 ghost use Rattle.processes.specs.Process.{IsProcessOf, said};
 
+use crate::disk::ChildErrors;
 use actions::{Command, EnvironmentVariable};
 use std::alloc::{AllocError, Allocator};
 use std::process;
@@ -76,12 +77,12 @@ fn set_variables<A: Allocator + Copy>(
 }
 
 /// A process of a program without arguments, which inherits no variable, starts in a folder, and
-/// has an empty standard input. It writes errors where this process does, and nothing to its
-/// standard output.
+/// has an empty standard input. What it writes to its standard output is thrown away.
 fn new_process<A: Allocator + Copy>(
     alloc: A,
     program: &str,
     folder: &str,
+    errors: ChildErrors,
 ) -> Result<process::Command<A>, AllocError>
     ensures program { IfOk result (λ p. command_program p ≡ program.now) }
     ensures arguments { IfOk result (λ p. command_args p ≡ []) }
@@ -94,6 +95,7 @@ fn new_process<A: Allocator + Copy>(
     process.current_dir(folder)?;
     process.stdin(Stdio::null());
     process.stdout(Stdio::null());
+    process.stderr(errors.stream());
     Ok(process)
 }
 
@@ -102,13 +104,14 @@ pub(crate) fn process_of<A: Allocator + Copy>(
     alloc: A,
     command: &Command<A>,
     folder: &str,
+    errors: ChildErrors,
 ) -> Result<process::Command<A>, AllocError>
     ensures { IfOk result (IsProcessOf folder.now command.now) }
 {
     let [program, arguments @ ..] = command.arguments() else {
         return Err(AllocError);
     };
-    let mut process = new_process(alloc, program.as_str(), folder)?;
+    let mut process = new_process(alloc, program.as_str(), folder, errors)?;
     add_arguments(&mut process, arguments)?;
     set_variables(&mut process, command.environment())?;
     Ok(process)

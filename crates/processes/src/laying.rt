@@ -1,8 +1,10 @@
 ghost use Rattle.std.specs.Prelude.{◌≡◌, IfOk, OnOk, string_bytes};
-ghost use Rattle.std.specs.List.{AllByRecursion};
 ghost use Rattle.worker.specs.Values.{contents_of};
-ghost use Rattle.processes.specs.Laying.{AreMade, AreWritten, HasParent, IsLaidOut};
-ghost use Rattle.processes.specs.Laying.{place_below, start_of};
+ghost use Rattle.processes.specs.Workshop.{Becomes, with_files, with_folders};
+ghost use Rattle.processes.specs.Laying.{above_in, files_below, folders_above, folders_below};
+ghost use Rattle.processes.specs.Laying.{place_below, room_of_layout, start_of, working_folders};
+ghost use Rattle.std.specs.Path.{path_parent};
+ghost use Rattle.messages.specs.Path.{path_text};
 
 use crate::trouble::Trouble;
 use crate::workshop::Workshop;
@@ -26,14 +28,16 @@ pub(crate) fn place_below<A: Allocator>(
 fn make_folders<A: Allocator + Copy, W: Workshop>(
     alloc: A,
     workshop: &W,
+    room: &mut W::Room,
     folder: &str,
     paths: &[Path<A>],
 ) -> Result<(), Trouble>
-    ensures { OnOk result (AreMade W.works folder.now paths.now) }
+    ensures { OnOk result
+        (Becomes W.works room.old room.new (with_folders (folders_below folder.now paths.now))) }
 {
     for path in paths {
         let place = place_below(alloc, folder, path.as_str())?;
-        workshop.make_all(place.as_str())?;
+        workshop.make_all(room, place.as_str())?;
     }
     Ok(())
 }
@@ -42,14 +46,16 @@ fn make_folders<A: Allocator + Copy, W: Workshop>(
 fn write_files<A: Allocator + Copy, W: Workshop>(
     alloc: A,
     workshop: &W,
+    room: &mut W::Room,
     folder: &str,
     files: &[(Path<A>, Vec<u8, A>)],
 ) -> Result<(), Trouble>
-    ensures { OnOk result (AreWritten W.works folder.now (contents_of files.now)) }
+    ensures { OnOk result (Becomes W.works room.old room.new
+        (with_files (files_below folder.now (contents_of files.now)))) }
 {
     for file in files {
         let place = place_below(alloc, folder, file.0.as_str())?;
-        workshop.write(place.as_str(), &file.1)?;
+        workshop.write(room, place.as_str(), &file.1)?;
     }
     Ok(())
 }
@@ -60,12 +66,13 @@ pub(crate) fn lay_out<A: Allocator + Copy, W: Workshop>(
     workshop: &W,
     folder: &str,
     layout: &Layout<A>,
-) -> Result<(), Trouble>
-    ensures { OnOk result (IsLaidOut W.works folder.now layout.now) }
+) -> Result<W::Room, Trouble>
+    ensures { IfOk result (λ room. W.works.has room (room_of_layout folder.now layout.now)) }
 {
-    workshop.make_new(folder)?;
-    make_folders(alloc, workshop, folder, &layout.folders)?;
-    write_files(alloc, workshop, folder, &layout.files)
+    let mut room = workshop.make_new(folder)?;
+    make_folders(alloc, workshop, &mut room, folder, &layout.folders)?;
+    write_files(alloc, workshop, &mut room, folder, &layout.files)?;
+    Ok(room)
 }
 
 /// Makes the folder that a command starts in: its working directory below the job's folder, or else
@@ -73,18 +80,19 @@ pub(crate) fn lay_out<A: Allocator + Copy, W: Workshop>(
 pub(crate) fn make_start<A: Allocator, W: Workshop>(
     alloc: A,
     workshop: &W,
+    room: &mut W::Room,
     folder: &str,
     command: &Command<A>,
 ) -> Result<String<A>, Trouble>
-    requires { W.works.made folder.now }
     ensures start { IfOk result
         (λ start. string_bytes start ≡ start_of folder.now command.now.working_directory) }
-    ensures made { IfOk result (λ start. W.works.made (string_bytes start)) }
+    ensures made { OnOk result (Becomes W.works room.old room.new
+        (with_folders (working_folders folder.now command.now.working_directory))) }
 {
     match command.working_directory() {
         Some(path) => {
             let start = place_below(alloc, folder, path.as_str())?;
-            workshop.make_all(start.as_str())?;
+            workshop.make_all(room, start.as_str())?;
             Ok(start)
         }
         None => Ok(String::from_str(alloc, folder)?),
@@ -95,15 +103,17 @@ pub(crate) fn make_start<A: Allocator, W: Workshop>(
 fn make_parent<A: Allocator, W: Workshop>(
     alloc: A,
     workshop: &W,
+    room: &mut W::Room,
     start: &str,
     path: &Path<A>,
 ) -> Result<(), Trouble>
-    ensures { OnOk result (HasParent W.works start.now path.now) }
+    ensures { OnOk result (Becomes W.works room.old room.new
+        (with_folders (above_in start.now (path_parent (path_text path.now))))) }
 {
     match std::path::Path::new(path.as_str()).parent() {
         Some(above) => {
             let place = place_below(alloc, start, above.as_str())?;
-            workshop.make_all(place.as_str())?;
+            workshop.make_all(room, place.as_str())?;
             Ok(())
         }
         None => Ok(()),
@@ -114,13 +124,15 @@ fn make_parent<A: Allocator, W: Workshop>(
 pub(crate) fn make_parents<A: Allocator + Copy, W: Workshop>(
     alloc: A,
     workshop: &W,
+    room: &mut W::Room,
     start: &str,
     outputs: &[Path<A>],
 ) -> Result<(), Trouble>
-    ensures { OnOk result (AllByRecursion (HasParent W.works start.now) outputs.now) }
+    ensures { OnOk result
+        (Becomes W.works room.old room.new (with_folders (folders_above start.now outputs.now))) }
 {
     for path in outputs {
-        make_parent(alloc, workshop, start, path)?;
+        make_parent(alloc, workshop, room, start, path)?;
     }
     Ok(())
 }

@@ -12,6 +12,6 @@ mod trouble;
 mod walking;
 mod workshop;
 
-pub use disk::Disk;
+pub use disk::{ChildErrors, Disk};
 pub use running::{ProcessJob, ProcessRunner};
 pub use workshop::{Standing, Workshop};

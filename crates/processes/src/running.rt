@@ -114,25 +114,23 @@ impl<W: Workshop, A: Allocator + Copy> ProcessRunner<W, A> {
         command: &Command<A>,
     ) -> Result<ProcessJob<W::Child, A>, Trouble>
         ensures launched { IfOk result (λ job.
-            IsJobLaunched W.works layout.now command.now job.child (string_bytes job.start)) }
+            IsJobLaunched W.works (folder_of (work_of self.old) (next_of self.old))
+            layout.now command.now job.child (string_bytes job.start)) }
+        ensures used { OnOk result (next_of self.new ≡ next_of self.old + 1) }
         ensures outputs { IfOk result (λ job. job.outputs.items ≡ command.now.output_paths) }
         ensures opened { OnOk result (alive_of self.new ≡ alive_of self.old + 1) }
         ensures unopened { OnErr result (alive_of self.new ≡ alive_of self.old) }
         ensures failures { failures_of self.new ≡ failures_of self.old }
     {
         let folder = self.next_folder(alloc)?;
-        lay_out(alloc, &self.workshop, folder.as_str(), layout)?;
-        let start = make_start(alloc, &self.workshop, folder.as_str(), command)?;
-        make_parents(
-            alloc,
-            &self.workshop,
-            start.as_str(),
-            command.output_paths(),
-        )?;
+        let workshop = &self.workshop;
+        let mut room = lay_out(alloc, workshop, folder.as_str(), layout)?;
+        let start = make_start(alloc, workshop, &mut room, folder.as_str(), command)?;
         let outputs = copy_paths(alloc, command.output_paths())?;
+        make_parents(alloc, workshop, &mut room, start.as_str(), &outputs)?;
         let child = self
             .tally
-            .start(alloc, &self.workshop, command, start.as_str())?;
+            .start(alloc, workshop, room, command, start.as_str())?;
         Ok(ProcessJob {
             child,
             start,
@@ -146,30 +144,35 @@ impl<W: Workshop, A: Allocator + Copy> ProcessRunner<W, A> {
 fn come_to<A: Allocator + Copy, W: Workshop>(
     alloc: A,
     workshop: &W,
-    ended: io::Result<Option<i32>>,
+    ended: io::Result<(W::Ended, Option<i32>)>,
     start: &str,
     outputs: &[Path<A>],
 ) -> Result<Produced<A>, RunError<A>>
-    ensures ended { IfOk result (λ p. ended ≡ Ok (Some p.outcome.exit_code)) }
-    ensures outputs { IfOk result
-        (λ p. AreCollected W.works start.now outputs.now p.outcome p.blobs) }
+    ensures outputs { IfOk result (λ p. (e : W.Ended) × (ended ≡ Ok (e, Some p.outcome.exit_code))
+        × AreCollected W.works e start.now outputs.now p.outcome p.blobs) }
     ensures error { result ≡ Err RunError.NotAbsolute → ⊥ }
 {
-    match ended {
-        Ok(Some(exit_code)) => collect(alloc, workshop, start, outputs, exit_code),
-        Ok(None) => Err(RunError::Device),
-        Err(error) => Err(Trouble::from(error).into_error()),
+    let (end, code) = match ended {
+        Ok(told) => told,
+        Err(error) => return Err(Trouble::from(error).into_error()),
+    };
+    match code {
+        Some(exit_code) => collect(alloc, workshop, &end, start, outputs, exit_code),
+        None => Err(RunError::Device),
     }
 }
 
 impl<W: Workshop + Drop, A: Allocator + Copy> Runner<A> for ProcessRunner<W, A> {
     type Job = ProcessJob<W::Child, A>;
 
-    ghost use Rattle.processes.specs.Running.{IsJobRun, alive_of, failures_of, may_come};
+    ghost use Rattle.processes.specs.Running.{HaveStarted, IsJobRun, alive_of, failures_of};
+    ghost use Rattle.processes.specs.Running.{may_come};
 
     ghost yields = { λ r l c p. IsJobRun W.works l c p };
 
     ghost may_give = { λ job p. may_come W.works job p };
+
+    ghost starts = { λ _ ss. HaveStarted W.works ss };
 
     ghost alive = { alive_of };
 

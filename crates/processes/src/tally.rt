@@ -1,4 +1,5 @@
 ghost use Rattle.std.specs.Prelude.{◌≡◌, ◌+◌, ◌-◌, ◌<◌, IfOk, OnErr, OnOk};
+ghost use Rattle.processes.specs.Workshop.{StartsIn};
 ghost use Rattle.processes.specs.Running.{alive_in, failures_in};
 
 use crate::workshop::Workshop;
@@ -28,15 +29,16 @@ impl Tally {
         }
     }
 
-    /// Starts a child, and counts it.
+    /// Starts a child in a room, and counts it.
     pub(crate) fn start<A: Allocator + Copy, W: Workshop>(
         &mut self,
         alloc: A,
         workshop: &W,
+        room: W::Room,
         command: &Command<A>,
         folder: &str,
     ) -> io::Result<W::Child>
-        ensures runs { IfOk result (λ child. W.works.runs child command.now folder.now) }
+        ensures runs { IfOk result (StartsIn W.works room command.now folder.now) }
         ensures opened { OnOk result (alive_in self.new ≡ alive_in self.old + 1) }
         ensures unopened { OnErr result (alive_in self.new ≡ alive_in self.old) }
         ensures failures { failures_in self.new ≡ failures_in self.old }
@@ -44,7 +46,7 @@ impl Tally {
         let Some(more) = self.alive.checked_add(1) else {
             return Err(io::Error::from(ErrorKind::OutOfMemory));
         };
-        let child = workshop.spawn(alloc, command, folder)?;
+        let child = workshop.spawn(alloc, room, command, folder)?;
         self.alive = more;
         Ok(child)
     }
@@ -54,8 +56,9 @@ impl Tally {
         &mut self,
         workshop: &W,
         child: W::Child,
-    ) -> io::Result<Option<i32>>
-        ensures ended { IfOk result (W.works.ended child) }
+    ) -> io::Result<(W::Ended, Option<i32>)>
+        ensures waited { W.works.waited child }
+        ensures ended { IfOk result (λ e. W.works.ended child e.0 e.1) }
         ensures closed { alive_in self.new ≡ alive_in self.old - 1 }
         ensures failures { failures_in self.new ≡ failures_in self.old }
     {

@@ -19,14 +19,15 @@ const GREATEST_DEPTH: usize = 65;
 pub(crate) fn keep_file<A: Allocator + Copy, W: Workshop>(
     alloc: A,
     workshop: &W,
+    ended: &W::Ended,
     place: &str,
     blobs: &mut Vec<Vec<u8, A>, A>,
 ) -> Result<Digest, Trouble>
-    ensures held { IfOk result (λ d. (b : List ℕ) × W.works.holds place.now (Some b)
+    ensures held { IfOk result (λ d. (b : List ℕ) × W.works.holds ended.now place.now (Some b)
         × (d ≡ digest_of b) × Contains (blobs_of blobs.new.items) b) }
     ensures kept { AreKept (blobs_of blobs.old.items) (blobs_of blobs.new.items) }
 {
-    let Some(bytes) = workshop.read(alloc, place)? else {
+    let Some(bytes) = workshop.read(alloc, ended, place)? else {
         return Err(Trouble::NoOutput);
     };
     let sealed = Sealed::of(bytes);
@@ -54,6 +55,7 @@ fn path_below<A: Allocator + Copy>(
 fn walk<A: Allocator + Copy, W: Workshop>(
     alloc: A,
     workshop: &W,
+    ended: &W::Ended,
     place: &str,
     above: &Option<Path<A>>,
     depth: usize,
@@ -65,16 +67,16 @@ fn walk<A: Allocator + Copy, W: Workshop>(
     if depth == 0 {
         return Err(Trouble::NoOutput);
     }
-    let Some(names) = workshop.list(alloc, place)? else {
+    let Some(names) = workshop.list(alloc, ended, place)? else {
         return Err(Trouble::NoOutput);
     };
     for name in &names {
         let path = path_below(alloc, above, name.as_str())?;
         let place = place_below(alloc, place, name.as_str())?;
-        match workshop.look(place.as_str())? {
-            Standing::Nothing => {}
-            Standing::File { executable } => {
-                let digest = keep_file(alloc, workshop, place.as_str(), blobs)?;
+        match workshop.look(ended, place.as_str())? {
+            Standing::File => {
+                let digest = keep_file(alloc, workshop, ended, place.as_str(), blobs)?;
+                let executable = false;
                 tree.add(alloc, path, FlatEntry::File { digest, executable })?;
             }
             Standing::Folder => {
@@ -83,6 +85,7 @@ fn walk<A: Allocator + Copy, W: Workshop>(
                 walk(
                     alloc,
                     workshop,
+                    ended,
                     place.as_str(),
                     &above,
                     depth - 1,
@@ -90,7 +93,8 @@ fn walk<A: Allocator + Copy, W: Workshop>(
                     blobs,
                 )?;
             }
-            Standing::Other => return Err(Trouble::NoOutput),
+            // A link that leads nowhere stands where nothing does.
+            Standing::Nothing | Standing::Other => return Err(Trouble::NoOutput),
         }
     }
     Ok(())
@@ -141,6 +145,7 @@ fn tree_of<A: Allocator + Copy>(
 pub(crate) fn keep_folder<A: Allocator + Copy, W: Workshop>(
     alloc: A,
     workshop: &W,
+    ended: &W::Ended,
     place: &str,
     blobs: &mut Vec<Vec<u8, A>, A>,
 ) -> Result<Tree<A>, Trouble>
@@ -153,6 +158,7 @@ pub(crate) fn keep_folder<A: Allocator + Copy, W: Workshop>(
     walk(
         alloc,
         workshop,
+        ended,
         place,
         &top,
         GREATEST_DEPTH,

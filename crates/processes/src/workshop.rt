@@ -1,69 +1,88 @@
-ghost use Rattle.std.specs.Prelude.{IfOk, OnOk, map, option_map, string_bytes};
+ghost use Rattle.std.specs.Prelude.{[], ◌∷◌, IfOk, OnOk, map, option_map, string_bytes};
 
 use actions::Command;
 use std::alloc::Allocator;
 use std::io;
 
-/// What stands at a path. Links aren't followed.
+/// What stands at a path. Links are followed.
 #[derive(Clone, Copy, Debug, PartialEq, Eq)]
 pub enum Standing {
+    /// Nothing, or a link that leads nowhere.
     Nothing,
-    File { executable: bool },
+    File,
     Folder,
-    /// A link, a fifo, a socket or a device.
+    /// A fifo, a socket or a device, or a link that leads to itself.
     Other,
 }
 
 /// Where processes are run: its folders and files, and its children.
 pub trait Workshop {
+    /// A folder that was made new. A process is started in it once.
+    type Room: Drop;
+
     /// A process that was started.
     type Child: Drop;
 
-    ghost use Rattle.processes.specs.Workshop.{Works};
+    /// That a process has ended: only with this is looked at what it left.
+    type Ended: Drop;
+
+    ghost use Rattle.processes.specs.Workshop.{Works, Becomes, StartsIn};
+    ghost use Rattle.processes.specs.Workshop.{empty_room, with_folders, with_files};
 
     /// What may be said of what it did and told.
-    ghost works: { Works Self.Child };
+    ghost works: { Works Self.Room Self.Child Self.Ended };
 
     /// Makes a folder where nothing stands.
-    fn make_new(&self, path: &str) -> io::Result<()>
-        ensures { OnOk result (works.made path.now) };
+    fn make_new(&self, path: &str) -> io::Result<Self::Room>
+        ensures { IfOk result (λ room. works.has room (empty_room path.now)) };
 
-    /// Makes a folder, and those above it, so far as they aren't there.
-    fn make_all(&self, path: &str) -> io::Result<()>
-        ensures { OnOk result (works.made path.now) };
+    /// Makes a folder of a room, and those above it, so far as they aren't there.
+    fn make_all(&self, room: &mut Self::Room, path: &str) -> io::Result<()>
+        ensures { OnOk result
+            (Becomes works room.old room.new (with_folders (path.now ∷ []))) };
 
-    /// Writes a file.
-    fn write(&self, path: &str, bytes: &[u8]) -> io::Result<()>
-        ensures { OnOk result (works.wrote path.now bytes.now) };
+    /// Writes a file of a room.
+    fn write(&self, room: &mut Self::Room, path: &str, bytes: &[u8]) -> io::Result<()>
+        ensures { OnOk result
+            (Becomes works room.old room.new (with_files ((path.now, bytes.now) ∷ []))) };
+
+    /// Starts a process in a folder of a room, with exactly the command's arguments and
+    /// environment. It has no input, and what it writes to its standard output is thrown away.
+    fn spawn<A: Allocator + Copy>(
+        &self,
+        alloc: A,
+        room: Self::Room,
+        command: &Command<A>,
+        folder: &str,
+    ) -> io::Result<Self::Child>
+        ensures { IfOk result (StartsIn works room command.now folder.now) };
+
+    /// Waits for a process. It answers its exit code, and `None` where a signal ended it.
+    fn wait(&self, child: Self::Child) -> io::Result<(Self::Ended, Option<i32>)>
+        ensures waited { works.waited child }
+        ensures ended { IfOk result (λ e. works.ended child e.0 e.1) };
 
     /// What stands at a path.
-    fn look(&self, path: &str) -> io::Result<Standing>
-        ensures { IfOk result (works.stands path.now) };
+    fn look(&self, ended: &Self::Ended, path: &str) -> io::Result<Standing>
+        ensures { IfOk result (works.stands ended.now path.now) };
 
     /// The names in a folder. `None` where one is no UTF-8.
     fn list<A: Allocator + Copy>(
         &self,
         alloc: A,
+        ended: &Self::Ended,
         path: &str,
     ) -> io::Result<Option<Vec<String<A>, A>>>
-        ensures { IfOk result (λ names.
-            works.lists path.now (option_map (λ v. map string_bytes v.items) names)) };
+        ensures { IfOk result (λ names. works.lists ended.now path.now
+            (option_map (λ v. map string_bytes v.items) names)) };
 
     /// The bytes of a file. `None` where they are more than a blob has.
-    fn read<A: Allocator>(&self, alloc: A, path: &str) -> io::Result<Option<Vec<u8, A>>>
-        ensures { IfOk result (λ found. works.holds path.now (option_map (λ b. b.items) found)) };
-
-    /// Starts a process in a folder, with exactly the command's arguments and environment. Its
-    /// standard input is empty, and its output isn't captured.
-    fn spawn<A: Allocator + Copy>(
+    fn read<A: Allocator>(
         &self,
         alloc: A,
-        command: &Command<A>,
-        folder: &str,
-    ) -> io::Result<Self::Child>
-        ensures { IfOk result (λ child. works.runs child command.now folder.now) };
-
-    /// Waits for a process. It answers its exit code, and `None` where a signal ended it.
-    fn wait(&self, child: Self::Child) -> io::Result<Option<i32>>
-        ensures { IfOk result (works.ended child) };
+        ended: &Self::Ended,
+        path: &str,
+    ) -> io::Result<Option<Vec<u8, A>>>
+        ensures { IfOk result
+            (λ found. works.holds ended.now path.now (option_map (λ b. b.items) found)) };
 }

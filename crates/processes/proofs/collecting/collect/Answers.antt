@@ -6,7 +6,7 @@ use Rattle.processes.proofs.collecting.collect.Goals as goal
 
 pub loop-path-preserved : goal.loop-path-preserved
 loop-path-preserved g c =
-    so_far_taken g.W.Workshop.works c.args.folder.now c.args.paths.now c.loop-path.path-index _ c.path-item.result
+    so_far_taken g.W.Workshop.works c.args.ended.now c.args.folder.now c.args.paths.now c.loop-path.path-index _ c.path-item.result
     c.loop-path.outcome (blobs_of c.loop-path.blobs.items) c.take_output.new.outcome (blobs_of c.take_output.new.blobs.items) c.as_str-in-loop-path.result.now
     c.loop-path-test.true c.path-item.is c.loop-path.invariant
     (c.as_str-in-loop-path.ensures.value ∙ c.in-Ok.ensures ∙ ap (λ t. place_below c.args.folder.now t) c.as_str.ensures.value)

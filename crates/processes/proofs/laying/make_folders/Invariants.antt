@@ -1,6 +1,7 @@
 use Rattle.std.proofs.Common.{take}
-use Rattle.processes.specs.Laying.{AreMade}
+use Rattle.processes.specs.Workshop.{Becomes, with_folders}
+use Rattle.processes.specs.Laying.{folders_below}
 use Rattle.processes.proofs.laying.make_folders.Given as goal
 
 abbrev pub invariant-loop-path : goal.invariant-loop-path
-invariant-loop-path g l = AreMade g.W.Workshop.works l.folder (take l.path-index l.paths)
+invariant-loop-path g l = Becomes g.W.Workshop.works l.fn.room l.room (with_folders (folders_below l.folder (take l.path-index l.paths)))
