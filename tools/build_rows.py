@@ -2,9 +2,10 @@
 """Tries `build` with real processes, over the program's own server: build_rows.py PROGRAM
 
 Steps that make a file, end with a code, name their program badly, make what is no output, read an input, are ended by
-a signal, and wait for each other; lines whose directories merge, and that don't; the second build of a plan, which runs
-nothing; the `verify` of each record; folders that can't be those of the jobs; and builds over a server that cuts each
-reply in turn, or changes a byte of it. It prints a line for each row, and ends with status 1 where one failed. Nothing
+a signal, and wait for each other; links and folders of folders at an output path, and what a step writes beside its
+files; lines whose directories merge, and that don't; the second build of a plan, which runs nothing; the
+`verify` of each record; folders that can't be those of the jobs; and builds over a server that cuts each reply in turn,
+or changes a byte of it. It prints a line for each row, and ends with status 1 where one failed. Nothing
 outside this machine is asked.
 """
 
@@ -130,6 +131,49 @@ def rows_of_one_step(builds):
     builds.expect_built("an input is read", done, place, MADE, 1, Digest.of(sources).text())
 
 
+def rows_of_outputs(builds):
+    """What stands at an output path, looked at as `cat` and `ls` do: through links, and whatever a file's mode."""
+    made = "printf %s 123456789 >"
+    for name, script in [
+        ("a file with mode 755", f"{made} out; chmod 755 out"),
+        ("a link to a file at the output path", f"{made} real; ln -s real out"),
+        ("a link to a link to a file outside of the step's folder", f'{made} "$0"; ln -s "$0" two; ln -s two out'),
+    ]:
+        done, place = builds.build(builds.one_step([*SHELL, script, f"{builds.work}/outside"]))
+        builds.expect_built(name, done, place, MADE)
+    nine = File(Digest.of(NINE), is_executable=False)
+    folders = {"a": {"d": {"e": {"f": nine, "g": {}}, "h": nine}, "a-b": nine}}
+    root = Digest.of(directory_message(folders)).text()
+    tree = f"{made} a-b; mkdir -p d/e/g; {made} d/e/f; {made} d/h; chmod 755 d/h d/e"
+    for name, script in [
+        ("a folder of folders", f"mkdir out; cd out; {tree}"),
+        ("a link to such a folder at the output path", f"mkdir real; ln -s real out; cd real; {tree}"),
+        ("links in a folder", f"mkdir out real; cd real; {tree}; cd ../out; ln -s ../real/d ../real/a-b ."),
+    ]:
+        done, place = builds.build(builds.one_step([*SHELL, script]))
+        builds.expect_built(name, done, place, root)
+    for name, script, number in [
+        ("a link that leads nowhere at the output path", "ln -s nowhere out", "root 106"),
+        ("a link that leads to itself at the output path", "ln -s out out", "step mk 114"),
+        ("a link that leads nowhere, in a folder", "mkdir out; ln -s nowhere out/a", "step mk 114"),
+        ("a link to the folder that it is in", "mkdir out; ln -s . out/a", "step mk 114"),
+        ("a fifo in a folder of a folder", "mkdir -p out/a; mkfifo out/a/b", "step mk 114"),
+        ("a name that is no UTF-8", "mkdir out; : > out/$(printf '\\377')", "step mk 114"),
+        ("a file of 16,777,217 bytes", "truncate -s 16777217 out", "step mk 114"),
+    ]:
+        done, place = builds.build(builds.one_step([*SHELL, script]))
+        builds.expect(name, done, place, f"failed {number}\n", 1)
+
+
+def rows_of_streams(builds):
+    """What a step writes to its output and its error goes nowhere."""
+    done, place = builds.build(builds.one_step([*SHELL, "printf %s 123456789 > out; echo output; echo error: x >&2"]))
+    builds.expect_built("a step that writes to its output and its error", done, place, MADE)
+    done, place = builds.build(builds.one_step([*SHELL, "echo error: x >&2; kill -9 $$"]))
+    builds.expect("a step that writes an error and is ended by a signal", done, place, "", 3)
+    builds.rows.tell("and no line is the step's", b"error: x\n" not in done.stderr, done.stderr)
+
+
 def rows_of_two_steps(builds):
     waits = 'n=0; : > "$1"; while [ ! -e "$2" ]; do n=$((n+1)); [ $n -le 3000000 ] || exit 1; done'
     for jobs in (2, 1):
@@ -187,11 +231,19 @@ def plan_of(place):
 
 def rows_of_the_folder(builds):
     plan = builds.one_step([*SHELL, "exit 0"])
-    for name, spoil, status in [("no folder for the jobs", os.rmdir, 3),
-                                ("a folder that isn't empty", lambda work: os.mkdir(f"{work}/0"), 2)]:
+    for name, spoil in [
+        ("no folder for the jobs", os.rmdir),
+        ("a folder for the jobs that isn't empty", lambda work: os.mkdir(f"{work}/other")),
+        ("a folder for the jobs with a name that is no UTF-8", lambda work: os.mkdir(os.fsencode(work) + b"/\xff")),
+    ]:
         done, place = builds.build(plan, spoil=spoil)
-        builds.expect(name, done, place, "", status)
+        builds.expect(name, done, place, "", 3)
         builds.rows.tell("and it is named", f'"{place}/work"'.encode() in done.stderr, done.stderr)
+        left = os.path.exists(f"{place}/work/0")
+        builds.rows.tell("and no process was run", not left, left)
+    done, place = builds.build(plan, spoil=lambda work: os.mkdir(f"{work}/0"), address="127.0.0.1:1")
+    builds.expect("a folder that isn't empty, and no server: the server is told", done, place, "", 3)
+    builds.rows.tell("and it is named", b"127.0.0.1:1" in done.stderr, done.stderr)
     gone = f"{builds.work}/{builds.count + 1}/work"
     steps = [("one", [*SHELL, 'rm -rf "$1"', "sh", gone], [], ()), ("two", [*SHELL, "exit 0"], [], ())]
     done, place = builds.build(builds.plan(steps, []))
@@ -254,6 +306,8 @@ def try_all(rows, program):
         builds = Builds(os.path.realpath(program), work, rows)
         try:
             rows_of_one_step(builds)
+            rows_of_outputs(builds)
+            rows_of_streams(builds)
             rows_of_two_steps(builds)
             rows_of_merges(builds)
             rows_of_the_folder(builds)

@@ -3,7 +3,7 @@ ghost use Rattle.std.specs.Prelude.{string_bytes};
 ghost use Rattle.std.specs.Io.KnownBytes.{Appends};
 ghost use Rattle.clap.specs.Words.{found_of, rows_of};
 ghost use Rattle.cli.specs.Built.{IsJobs, IsNoted, IsToldOf, PrintsBuild, is_whole, line_of};
-ghost use Rattle.cli.specs.Faults.{IsFolderFault};
+ghost use Rattle.commands.specs.Faults.{IsFileFault};
 ghost use Rattle.commands.specs.Places.{IsFresh, IsToldOver};
 ghost use Rattle.commands.specs.Refusal.{IsCommandFault};
 ghost use Rattle.commands.specs.Status.{status_of};
@@ -21,13 +21,13 @@ use commands::{
     read_digest, read_server, unlike,
 };
 use plan::Plan;
-use processes::{Disk, ProcessRunner};
+use processes::{ChildErrors, Disk, ProcessRunner};
 use remote::{Remote, Stream};
 use std::alloc::Global;
-use std::fs;
-use std::io::Write;
+use std::io::{ErrorKind, Write};
 use std::marker::Brand;
 use std::rt::{Files, Processes};
+use std::{fs, io};
 use tree::FetchError;
 
 /// How many steps may run at once.
@@ -77,10 +77,19 @@ fn read_asked(alloc: Global, matches: &ArgMatches<'_>) -> Result<Asked, CommandE
     })
 }
 
+/// The errors of a build's processes are shown on a terminal alone.
+fn errors_of<T>(terminal: &Option<T>) -> ChildErrors {
+    match terminal {
+        Some(_) => ChildErrors::Shown,
+        None => ChildErrors::Discarded,
+    }
+}
+
 /// What a build tells over the marked connection, whose processes run in a folder.
 fn build_in_folder<R, S: Stream + Drop, K: Origin, T: Write + Drop>(
     rt: &R,
     work: String,
+    errors: ChildErrors,
     asked: &Asked,
     plan: &Plan<Global>,
     remote: Remote<S, Global>,
@@ -97,7 +106,7 @@ where
 {
     let alloc = rt.alloc();
     let mut client: Client<S, K> = Client::new(remote);
-    let mut runner = ProcessRunner::new(Disk(rt), work);
+    let mut runner = ProcessRunner::new(Disk::new(rt, errors), work);
     let (sources, jobs) = (&asked.sources, asked.jobs);
     match tell_build(
         alloc,
@@ -119,20 +128,17 @@ where
 
 /// The folder of the jobs is there, and nothing is in it.
 fn check_work<R: Files + AllocGlobal>(rt: &R, path: &str) -> Result<(), CommandError>
-    ensures fault { IfErr result (IsFolderFault path.now) }
+    ensures fault { IfErr result (IsFileFault path.now) }
 {
-    let mut entries = match fs::read_dir(&rt, path) {
-        Ok(entries) => entries,
-        Err(fault) => return Err(file_error(rt, path, fault)?),
+    let fault = match fs::read_dir(&rt, path) {
+        Ok(mut entries) => match entries.next() {
+            None => return Ok(()),
+            Some(Ok(_entry)) => io::Error::from(ErrorKind::DirectoryNotEmpty),
+            Some(Err(fault)) => fault,
+        },
+        Err(fault) => fault,
     };
-    if entries.next().is_none() {
-        return Ok(());
-    }
-    Err(CommandError::Unlike {
-        option: "work",
-        wanted: "an empty folder",
-        text: String::from_str(rt.alloc(), path)?,
-    })
+    Err(file_error(rt, path, fault)?)
 }
 
 /// Writes the record of a build that came to its root to the file that the words name.
@@ -197,13 +203,15 @@ where
     let alloc = rt.alloc();
     let asked = read_asked(alloc, matches)?;
     let plan = plan_in_file(alloc, world, matches)?;
-    check_work(rt, text_of(matches, "work"))?;
     let work = String::from_str(alloc, text_of(matches, "work"))?;
     let remote = open(alloc, world, &asked.server)?;
+    check_work(rt, work.as_str())?;
+    let errors = errors_of(&terminal);
     let mut progress = BuildProgress::new(alloc, &plan, terminal);
     let told = build_in_folder::<R, W::Link, Brand, T>(
         rt,
         work,
+        errors,
         &asked,
         &plan,
         remote,
