@@ -99,7 +99,7 @@ pub record HasFed (old : ServerValue) (k : ℕ) (bytes text : List ℕ) (new : S
 held_session : (prefix : List ℕ) (o : Option SessionValue) (session : SessionValue) → o ≡ Some session → IsSessionFor prefix o session
 held_session prefix o session e = subst (λ z. IsSessionFor prefix z session) (sym e) refl
 
-is_fed : (opening : CacheValue) (old new : ServerValue) (k : ℕ) (history : List HistoryEntry) (bytes text : List ℕ) → (f : HasFed old k bytes text new) → ServerStands opening old history → IsFed old.prefix k history bytes f.events f.after
+pub is_fed : (opening : CacheValue) (old new : ServerValue) (k : ℕ) (history : List HistoryEntry) (bytes text : List ℕ) → (f : HasFed old k bytes text new) → ServerStands opening old history → IsFed old.prefix k history bytes f.events f.after
 is_fed opening old new k history bytes text f stands =
     fed old.prefix (session_at old k) k history bytes f.events f.before f.after (stands.sessions k) (held_session old.prefix (session_at old k) f.before f.held) f.feeds
 

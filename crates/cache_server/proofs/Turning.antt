@@ -10,12 +10,12 @@ use Rattle.http_core.specs.Event.{EventValue, IsLawful}
 use Rattle.http_core.specs.Session.{SessionValue, IsClosed, if_any}
 use Rattle.http_core.specs.Session as sessions
 use Rattle.cache_server.specs.Cache.{CacheValue}
-use Rattle.cache_server.specs.History.{HistoryEntry, Piece, Fail, stream_of, has_failed, CacheAfter, AnswersTo}
+use Rattle.cache_server.specs.History.{HistoryEntry, Piece, Fail, stream_of, has_failed, CacheAfter, Brings, AnswersTo}
 use Rattle.cache_server.specs.Server.{ServerValue, session_at, StandsSo, KeepsSession, ServerStands, StandsOrFails, Continues}
 use Rattle.cache_server.specs.Sessions.{KeepsOthers, IsSessionFor, IsClosedAt, ClosesAt, OpensAt, FeedsFirstAt}
-use Rattle.cache_server.specs.Turn.{AnswersIfAny, AnswersOne, Turns}
+use Rattle.cache_server.specs.Turn.{AnswersIfAny, AnswersOne, IsOneAnswerTo, Turns}
 use Rattle.cache_server.proofs.Serving.{ServesAll, serves_none, serves_one, serves_join}
-use Rattle.cache_server.proofs.Standing.{HasFed, stands_fed, answers_fed, stands_closed, stands_broken}
+use Rattle.cache_server.proofs.Standing.{HasFed, is_fed, stands_fed, answers_fed, stands_closed, stands_broken}
 
 -- a connection with a fresh session stands as one without
 keeps_fresh : (prefix : List ℕ) (held : Option SessionValue) (session : SessionValue) (k : ℕ) (history : List HistoryEntry)
@@ -127,6 +127,15 @@ is_there o session e = subst IsSome (sym e) refl
 module _ (opening : CacheValue) (old mid new : ServerValue) (k : ℕ) (history : List HistoryEntry) (opens : OpensAt old k mid) (stands : ServerStands opening old history) where
   pub opened_stands : (bytes text : List ℕ) → HasFed mid k bytes text new → ServerStands opening new (history ++ Piece k bytes ∷ [])
   opened_stands bytes text f = stands_fed opening mid new k history bytes text f (stands_opened opening old mid k history opens stands)
+
+  -- the one answer of a turn
+  pub opened_answer : (piece : List ℕ) (taken : ℕ) (text : Option (List ℕ)) → Turns mid k piece taken text new → IsOneAnswerTo old.prefix opening history (Piece k (take taken piece)) (unwrap_or text [])
+  unfolding fed_turn
+  opened_answer piece taken text t =
+      let f : HasFed mid k (take taken piece) (unwrap_or text []) new = fed_turn mid k piece taken text new t in
+      let s : ServerStands opening mid history = stands_opened opening old mid k history opens stands in
+      let brings : Brings mid.prefix history (Piece k (take taken piece)) (if_any t.event) = (is_fed opening mid new k history (take taken piece) (unwrap_or text []) f s).gains in
+      subst (λ p. IsOneAnswerTo p opening history (Piece k (take taken piece)) (unwrap_or text [])) opens.kept.prefix (t.event, mid.cache, new.cache, s.cache, brings, f.answers)
 
   pub opened_answers : (bytes text : List ℕ) → HasFed mid k bytes text new → AnswersTo old.prefix opening history (Piece k bytes) text
   opened_answers bytes text f = subst (λ p. AnswersTo p opening history (Piece k bytes) text) opens.kept.prefix (answers_fed opening mid new k history bytes text f (stands_opened opening old mid k history opens stands))

@@ -1,8 +1,10 @@
 -- One request at a time.
 use Rattle.std.specs.Prelude.{◌≡◌, ℕ, ◌<◌, ◌≤◌, List, length, Option, Some, None}
 use Rattle.http_core.specs.Event.{EventValue}
-use Rattle.cache_server.specs.Answering.{answered}
+use Rattle.http_core.specs.Session.{if_any}
+use Rattle.cache_server.specs.Answering.{answered, answered_all}
 use Rattle.cache_server.specs.Cache.{CacheValue}
+use Rattle.cache_server.specs.History.{HistoryEntry, CacheAfter, Brings}
 use Rattle.cache_server.specs.Server.{ServerValue}
 use Rattle.cache_server.specs.Sessions.{FeedsFirstAt}
 
@@ -12,6 +14,15 @@ AnswersIfAny old None None new = new ≡ old
 AnswersIfAny old None (Some text) new = ⊥
 AnswersIfAny old (Some event) None new = ⊥
 AnswersIfAny old (Some event) (Some text) new = answered old event ≡ (text, new)
+
+-- the answer to an entry after the history that completes one request, or nothing where it
+-- completes none
+abbrev pub IsOneAnswerTo :
+    List ℕ → CacheValue → List HistoryEntry → HistoryEntry → List ℕ → Type 0
+IsOneAnswerTo prefix opening history entry text =
+    (event : Option EventValue) × (before : CacheValue) × (cache : CacheValue)
+    × CacheAfter prefix opening history before × Brings prefix history entry (if_any event)
+    × (answered_all before (if_any event) ≡ (text, cache))
 
 -- Of a piece that isn't empty some bytes were taken, and all where there is no answer. An answer is
 -- one reply: a head, and a body at most.

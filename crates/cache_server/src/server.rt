@@ -7,7 +7,7 @@ ghost use Rattle.cache_server.specs.History.{HistoryEntry, Piece, End, AnswersTo
 ghost use Rattle.cache_server.specs.Server.{session_at, ServerStands, StandsOrFails};
 ghost use Rattle.cache_server.specs.Server.{Continues, IsOpenAt, held_bytes_at};
 ghost use Rattle.cache_server.specs.Sessions.{ClosesAt, FeedsFirstAt, KeepsOthers, OpensAt};
-ghost use Rattle.cache_server.specs.Turn.{AnswersOne, Turns};
+ghost use Rattle.cache_server.specs.Turn.{AnswersOne, IsOneAnswerTo, Turns};
 
 use crate::answer::Answer;
 use crate::cache::Cache;
@@ -102,7 +102,7 @@ impl<A: Allocator + Copy> Server<A> {
             AnswersOne self.old piece.now x.0 (option_map text_of x.1) self.new) }
         ensures answers { IfOk result (λ x. (opening : CacheValue) (history : List HistoryEntry)
             → ServerStands opening self.old history
-            → AnswersTo self.old.prefix opening history (Piece connection (take x.0 piece.now))
+            → IsOneAnswerTo self.old.prefix opening history (Piece connection (take x.0 piece.now))
             (unwrap_or (option_map text_of x.1) [])) }
         ensures ok { IfOk result (λ x. (opening : CacheValue) (history : List HistoryEntry)
             → ServerStands opening self.old history

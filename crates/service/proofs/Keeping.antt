@@ -6,13 +6,15 @@ use Rattle.std.proofs.lemmas.Bool.Decides.{eqb_tells}
 use Rattle.std.proofs.lemmas.List.{append-nil}
 use Rattle.cache_server.specs.Cache.{CacheValue}
 use Rattle.cache_server.specs.History.{HistoryEntry, End}
-use Rattle.cache_server.specs.Server.{ServerValue, ServerStands}
-use Rattle.service.specs.Sockets.{EndsAs}
-use Rattle.service.specs.Talks.{entry_number, Answered, Talks, HasEnded, AreBelow, ServesEach}
+use Rattle.std.specs.Prelude.{Ok, Err}
+use Rattle.cache_server.specs.Server.{ServerValue, ServerStands, IsOpenAt, session_at}
+use Rattle.cache_server.specs.declared.error.ConnError.TheVariants.{Memory}
+use Rattle.service.specs.Sockets.{EndsAs, Why}
+use Rattle.service.specs.Talks.{entry_number, Answered, Talks, IsShut, MayEnd, Unless, HasEnded, AreBelow, ServesEach}
 use Rattle.service.specs.Talks as talks
-use Rattle.service.specs.Member.{MemberValue, TalksOn, MayEnd, TalksOnUnless, AreOf, HasMovedOn, MovesOn, new_member}
-use Rattle.service.specs.Together.{member_at, TalksOrEnded, KeepsTogether, GoesOnTogether, AreSame, OthersAreSame, MovesOnAt, EntersAt, EndsAt, EndsIfAny}
-use Rattle.service.proofs.Talking.{AreApart, apart_from_own, holds_apart, ended_apart, answered_apart, may_leave, leaves}
+use Rattle.service.specs.Member.{MemberValue, TalksOn, MayEndNow, TalksOnUnless, AreOf, HasMovedOn, MovesOn, new_member}
+use Rattle.service.specs.Together.{member_at, TalksOrEnded, KeepsTogether, GoesOnTogether, AreSame, OthersAreSame, MovesOnAt, MayEndAt, EntersAt, EndsAt, EndsIfAny}
+use Rattle.service.proofs.Talking.{AreApart, apart_from_own, holds_apart, ended_before, answered_apart, may_end}
 
 -- ---- numbers below a count
 
@@ -35,16 +37,29 @@ below_more n (e ∷ es) (b, bs) = (omega arith, below_more n es bs)
 none_is_some : {A X : Type 0} (o : Option A) (x : A) → o ≡ Some x → o ≡ None → X
 none_is_some o x e f = let g : Some x ≡ None = sym e ∙ f in cc
 
-module _ {S : Type 0} (spoke : ℕ → S → List ℕ → List ℕ → Type 0) (ended : ℕ → List ℕ → List ℕ → Type 0) where
+-- ---- why a connection may end
+
+uncut : (cut : Bool) (P : Type 0) → P → Unless cut P
+uncut true P h = tt
+uncut false P h = h
+
+lost_may : (cut : Bool) (over shut lost : Type 0) (left unsent : List ℕ) (why : Why) → (over → lost) → Unless cut (MayEnd over shut left unsent why) → Unless cut (MayEnd lost shut left unsent why)
+lost_may true over shut lost left unsent why f h = tt
+lost_may false over shut lost left unsent (Ok done) f (inl (o, p, q)) = inl (f o, p, q)
+lost_may false over shut lost left unsent (Ok done) f (inr h) = inr h
+lost_may false over shut lost left unsent (Err e) f (inl none) = inl none
+lost_may false over shut lost left unsent (Err e) f (inr o) = inr (f o)
+
+module _ {S : Type 0} (cut : Bool) (spoke : ℕ → S → List ℕ → List ℕ → Type 0) (ended : ℕ → List ℕ → List ℕ → Why → Type 0) (lost : ℕ → Type 0) where
   abbrev KeepsSo : List (ℕ × MemberValue S) → ℕ → ServerValue → List (ℕ × MemberValue S) → ℕ → ServerValue → Type 0
   KeepsSo members accepted server members' accepted' server' =
       (prefix : List ℕ) (opening : CacheValue) (history : List HistoryEntry)
-      → KeepsTogether spoke ended prefix opening history members accepted server → KeepsTogether spoke ended prefix opening history members' accepted' server'
+      → KeepsTogether cut spoke ended lost prefix opening history members accepted server → KeepsTogether cut spoke ended lost prefix opening history members' accepted' server'
 
-  pub keeps_nowhere : (members : List (ℕ × MemberValue S)) (accepted : ℕ) (server : ServerValue) → GoesOnTogether spoke ended members accepted server members accepted server
+  pub keeps_nowhere : (members : List (ℕ × MemberValue S)) (accepted : ℕ) (server : ServerValue) → GoesOnTogether cut spoke ended lost members accepted server members accepted server
   keeps_nowhere members accepted server = record { on = λ prefix opening history keeps. keeps }
 
-  pub keeps_further : (l m n : List (ℕ × MemberValue S)) (a b c : ℕ) (s t u : ServerValue) → GoesOnTogether spoke ended l a s m b t → GoesOnTogether spoke ended m b t n c u → GoesOnTogether spoke ended l a s n c u
+  pub keeps_further : (l m n : List (ℕ × MemberValue S)) (a b c : ℕ) (s t u : ServerValue) → GoesOnTogether cut spoke ended lost l a s m b t → GoesOnTogether cut spoke ended lost m b t n c u → GoesOnTogether cut spoke ended lost l a s n c u
   keeps_further l m n a b c s t u p q = record { on = λ prefix opening history keeps. q.on prefix opening history (p.on prefix opening history keeps) }
 
   keeps_same_so : (members members' : List (ℕ × MemberValue S)) (accepted : ℕ) (server : ServerValue) → AreSame members members' → KeepsSo members accepted server members' accepted server
@@ -53,16 +68,16 @@ module _ {S : Type 0} (spoke : ℕ → S → List ℕ → List ℕ → Type 0) (
     stands = keeps.stands;
     same = keeps.same;
     theirs = keeps.theirs;
-    each = λ k h. subst (TalksOrEnded spoke ended prefix opening history keeps.entries k) (sym (same k)) (keeps.each k h);
+    each = λ k h. subst (TalksOrEnded cut spoke ended lost prefix opening history keeps.entries k) (sym (same k)) (keeps.each k h);
     fresh = λ k h. same k ∙ keeps.fresh k h;
   }
 
-  pub keeps_same : (members members' : List (ℕ × MemberValue S)) (accepted : ℕ) (server : ServerValue) → AreSame members members' → GoesOnTogether spoke ended members accepted server members' accepted server
+  pub keeps_same : (members members' : List (ℕ × MemberValue S)) (accepted : ℕ) (server : ServerValue) → AreSame members members' → GoesOnTogether cut spoke ended lost members accepted server members' accepted server
   keeps_same members members' accepted server same = record { on = keeps_same_so members members' accepted server same }
 
   module _ (prefix : List ℕ) (opening : CacheValue) (history : List HistoryEntry) where
     is_open : (members : List (ℕ × MemberValue S)) (accepted : ℕ) (server : ServerValue) (k : ℕ) (m : MemberValue S)
-        → KeepsTogether spoke ended prefix opening history members accepted server → member_at members k ≡ Some m → k < accepted
+        → KeepsTogether cut spoke ended lost prefix opening history members accepted server → member_at members k ≡ Some m → k < accepted
     is_open members accepted server k m keeps e = by_order (cases_lt k accepted)
       where
         by_order : (k < accepted) ⊎ (accepted ≤ k) → k < accepted
@@ -70,22 +85,22 @@ module _ {S : Type 0} (spoke : ℕ → S → List ℕ → List ℕ → Type 0) (
         by_order (inr h) = none_is_some (member_at members k) m e (keeps.fresh k h)
 
     holds_at : (members : List (ℕ × MemberValue S)) (accepted : ℕ) (server : ServerValue) (k : ℕ) (m : MemberValue S)
-        → (keeps : KeepsTogether spoke ended prefix opening history members accepted server) → member_at members k ≡ Some m → TalksOn spoke prefix opening history keeps.entries k m
+        → (keeps : KeepsTogether cut spoke ended lost prefix opening history members accepted server) → member_at members k ≡ Some m → TalksOn spoke prefix opening history keeps.entries k m
     holds_at members accepted server k m keeps e =
-        subst (TalksOrEnded spoke ended prefix opening history keeps.entries k) e (keeps.each k (is_open members accepted server k m keeps e))
+        subst (TalksOrEnded cut spoke ended lost prefix opening history keeps.entries k) e (keeps.each k (is_open members accepted server k m keeps e))
 
     either_apart : (j : ℕ) (o : Option (MemberValue S)) (more entries : List HistoryEntry) → AreApart j more
-        → TalksOrEnded spoke ended prefix opening history entries j o → TalksOrEnded spoke ended prefix opening history (entries ++ more) j o
-    either_apart j None more entries ns h = ended_apart prefix opening history ended j more entries ns h
+        → TalksOrEnded cut spoke ended lost prefix opening history entries j o → TalksOrEnded cut spoke ended lost prefix opening history (entries ++ more) j o
+    either_apart j None more entries ns h = ended_before prefix opening history cut ended lost j more entries h
     either_apart j (Some m) more entries ns h = holds_apart prefix opening history spoke j more entries m ns h
 
     -- entries of an open connection alone, after which it stands so
     keeps_with : (members members' : List (ℕ × MemberValue S)) (accepted : ℕ) (old new : ServerValue) (k : ℕ) (more : List HistoryEntry)
-        → (keeps : KeepsTogether spoke ended prefix opening history members accepted old)
+        → (keeps : KeepsTogether cut spoke ended lost prefix opening history members accepted old)
         → k < accepted → AreOf k more → OthersAreSame k members members'
         → ServerStands opening new (history ++ (keeps.entries ++ more)) → new.prefix ≡ prefix
-        → TalksOrEnded spoke ended prefix opening history (keeps.entries ++ more) k (member_at members' k)
-        → KeepsTogether spoke ended prefix opening history members' accepted new
+        → TalksOrEnded cut spoke ended lost prefix opening history (keeps.entries ++ more) k (member_at members' k)
+        → KeepsTogether cut spoke ended lost prefix opening history members' accepted new
     keeps_with members members' accepted old new k more keeps h own others stands same now = record {
       entries = keeps.entries ++ more;
       stands = stands;
@@ -96,65 +111,64 @@ module _ {S : Type 0} (spoke : ℕ → S → List ℕ → List ℕ → Type 0) (
     }
       where
         by_test : (j : ℕ) → j < accepted → ((eqb j k ≡ true) × (j ≡ k)) ⊎ ((eqb j k ≡ false) × (j ≡ k → ⊥))
-            → TalksOrEnded spoke ended prefix opening history (keeps.entries ++ more) j (member_at members' j)
-        by_test j below (inl (t, e)) = subst (λ (i : ℕ). TalksOrEnded spoke ended prefix opening history (keeps.entries ++ more) i (member_at members' i)) (sym e) now
+            → TalksOrEnded cut spoke ended lost prefix opening history (keeps.entries ++ more) j (member_at members' j)
+        by_test j below (inl (t, e)) = subst (λ (i : ℕ). TalksOrEnded cut spoke ended lost prefix opening history (keeps.entries ++ more) i (member_at members' i)) (sym e) now
         by_test j below (inr (f, n)) =
-            subst (TalksOrEnded spoke ended prefix opening history (keeps.entries ++ more) j) (sym (others j n))
+            subst (TalksOrEnded cut spoke ended lost prefix opening history (keeps.entries ++ more) j) (sym (others j n))
             (either_apart j (member_at members j) more keeps.entries (apart_from_own k j more n own) (keeps.each j below))
 
-    moved_at : (b : Bool) (members members' : List (ℕ × MemberValue S)) (accepted : ℕ) (old new : ServerValue) (k : ℕ)
-        → (moves : MovesOnAt b spoke k old members new members') → (keeps : KeepsTogether spoke ended prefix opening history members accepted old)
-        → HasMovedOn b spoke prefix opening history keeps.entries k moves.after new
-    moved_at b members members' accepted old new k moves keeps =
-        subst (λ (z : List ℕ). HasMovedOn b spoke z opening history keeps.entries k moves.after new) keeps.same
+    moved_at : (over : S → Type 0) (b : Option Why) (members members' : List (ℕ × MemberValue S)) (accepted : ℕ) (old new : ServerValue) (k : ℕ)
+        → (moves : MovesOnAt b spoke over k old members new members') → (keeps : KeepsTogether cut spoke ended lost prefix opening history members accepted old)
+        → HasMovedOn b spoke over prefix opening history keeps.entries k moves.after new
+    moved_at over b members members' accepted old new k moves keeps =
+        subst (λ (z : List ℕ). HasMovedOn b spoke over z opening history keeps.entries k moves.after new) keeps.same
         (moves.moves.on opening history keeps.entries keeps.stands
         (subst (λ (z : List ℕ). TalksOn spoke z opening history keeps.entries k moves.before) (sym keeps.same) (holds_at members accepted old k moves.before keeps moves.held)))
 
-    has_ended : (entries : List HistoryEntry) (k : ℕ) (stream : S) → EndsAs spoke stream ended → MayEnd spoke prefix opening history entries k stream
-        → HasEnded ended prefix opening history (entries ++ End k ∷ []) k
-    has_ended entries k stream ends l = record {
+    has_ended : (over : S → Type 0) (entries : List HistoryEntry) (k : ℕ) (stream : S) (why : Why) → EndsAs spoke over stream why ended lost → MayEndNow spoke over prefix opening history entries k stream why
+        → HasEnded cut ended lost prefix opening history (entries ++ End k ∷ []) k
+    has_ended over entries k stream why ends l = record {
+      before = entries;
+      after = [];
+      whole = refl;
       read = l.read;
       sent = l.sent;
       left = l.left;
       unsent = l.unsent;
-      is = ends k l.read l.sent l.said;
-      talks = record {
-        came = l.talks.came;
-        text = l.talks.text;
-        reading = l.talks.reading;
-        sending = l.talks.sending;
-        answered = talks.ended entries l.talks.came l.talks.text l.talks.answered;
-      };
+      why = why;
+      is = ends.said k l.read l.sent l.said;
+      talks = l.talks;
+      may = lost_may cut (over stream) (IsShut prefix k (history ++ entries)) (lost k) l.left l.unsent why (ends.found k l.read l.sent l.said)
+          (uncut cut (MayEnd (over stream) (IsShut prefix k (history ++ entries)) l.left l.unsent why) l.may);
     }
 
-  keeps_moved_so : (members members' : List (ℕ × MemberValue S)) (accepted : ℕ) (old new : ServerValue) (k : ℕ)
-      → MovesOnAt false spoke k old members new members' → KeepsSo members accepted old members' accepted new
-  keeps_moved_so members members' accepted old new k moves prefix opening history keeps =
-      let x : HasMovedOn false spoke prefix opening history keeps.entries k moves.after new = moved_at prefix opening history false members members' accepted old new k moves keeps in
+  keeps_moved_so : (over : S → Type 0) (members members' : List (ℕ × MemberValue S)) (accepted : ℕ) (old new : ServerValue) (k : ℕ)
+      → MovesOnAt None spoke over k old members new members' → KeepsSo members accepted old members' accepted new
+  keeps_moved_so over members members' accepted old new k moves prefix opening history keeps =
+      let x : HasMovedOn None spoke over prefix opening history keeps.entries k moves.after new = moved_at prefix opening history over None members members' accepted old new k moves keeps in
       keeps_with prefix opening history members members' accepted old new k x.more keeps
       (is_open prefix opening history members accepted old k moves.before keeps moves.held) x.theirs moves.others x.stands x.same
-      (subst (TalksOrEnded spoke ended prefix opening history (keeps.entries ++ x.more) k) (sym moves.at) x.holds)
+      (subst (TalksOrEnded cut spoke ended lost prefix opening history (keeps.entries ++ x.more) k) (sym moves.at) x.holds)
 
-  pub keeps_moved : (members members' : List (ℕ × MemberValue S)) (accepted : ℕ) (old new : ServerValue) (k : ℕ)
-      → MovesOnAt false spoke k old members new members' → GoesOnTogether spoke ended members accepted old members' accepted new
-  keeps_moved members members' accepted old new k moves = record { on = keeps_moved_so members members' accepted old new k moves }
+  pub keeps_moved : (over : S → Type 0) (members members' : List (ℕ × MemberValue S)) (accepted : ℕ) (old new : ServerValue) (k : ℕ)
+      → MovesOnAt None spoke over k old members new members' → GoesOnTogether cut spoke ended lost members accepted old members' accepted new
+  keeps_moved over members members' accepted old new k moves = record { on = keeps_moved_so over members members' accepted old new k moves }
 
   -- it moved on, and was ended then
-  left_so : (b : Bool) (members mid members' : List (ℕ × MemberValue S)) (accepted : ℕ) (old between new : ServerValue) (k : ℕ)
-      → MovesOnAt b spoke k old members between mid → EndsIfAny spoke ended k between mid new members' → KeepsSo members accepted old members' accepted new
-  left_so b members mid members' accepted old between new k moves (inr (none, same, all)) prefix opening history keeps = none_is_some (member_at mid k) moves.after moves.at none
-  left_so b members mid members' accepted old between new k moves (inl ends) prefix opening history keeps =
-      let x : HasMovedOn b spoke prefix opening history keeps.entries k moves.after between = moved_at prefix opening history b members mid accepted old between k moves keeps in
+  left_so : (over : S → Type 0) (why : Why) (members mid members' : List (ℕ × MemberValue S)) (accepted : ℕ) (old between new : ServerValue) (k : ℕ)
+      → MovesOnAt (Some why) spoke over k old members between mid → EndsIfAny spoke over ended lost k why between mid new members' → KeepsSo members accepted old members' accepted new
+  left_so over why members mid members' accepted old between new k moves (inr (none, same, all)) prefix opening history keeps = none_is_some (member_at mid k) moves.after moves.at none
+  left_so over why members mid members' accepted old between new k moves (inl ends) prefix opening history keeps =
+      let x : HasMovedOn (Some why) spoke over prefix opening history keeps.entries k moves.after between = moved_at prefix opening history over (Some why) members mid accepted old between k moves keeps in
       keeps_with prefix opening history members members' accepted old new k (x.more ++ End k ∷ []) keeps
       (is_open prefix opening history members accepted old k moves.before keeps moves.held) (own_end x.more x.theirs)
       (λ j n. ends.others j n ∙ moves.others j n)
       (subst (λ (z : List HistoryEntry). ServerStands opening new z) (append_assoc history (keeps.entries ++ x.more) (End k ∷ []) ∙ ap (λ (z : List HistoryEntry). history ++ z) (append_assoc keeps.entries x.more (End k ∷ []))) (ends.stands opening (history ++ (keeps.entries ++ x.more)) x.stands))
       (ends.same ∙ x.same)
-      (subst (TalksOrEnded spoke ended prefix opening history (keeps.entries ++ (x.more ++ End k ∷ [])) k) (sym ends.gone)
-      (subst (λ (z : List HistoryEntry). HasEnded ended prefix opening history z k) (append_assoc keeps.entries x.more (End k ∷ []))
-      (has_ended prefix opening history (keeps.entries ++ x.more) k ends.m.stream ends.ends
-      (subst (λ (z : MemberValue S). MayEnd spoke prefix opening history (keeps.entries ++ x.more) k z.stream) (same_member (member_at mid k) moves.at ends.held)
-      (may_leave prefix opening history b spoke (keeps.entries ++ x.more) k moves.after x.holds)))))
+      (subst (TalksOrEnded cut spoke ended lost prefix opening history (keeps.entries ++ (x.more ++ End k ∷ [])) k) (sym ends.gone)
+      (subst (λ (z : List HistoryEntry). HasEnded cut ended lost prefix opening history z k) (append_assoc keeps.entries x.more (End k ∷ []))
+      (has_ended prefix opening history over (keeps.entries ++ x.more) k ends.m.stream why ends.ends
+      (subst (λ (z : MemberValue S). MayEndNow spoke over prefix opening history (keeps.entries ++ x.more) k z.stream why) (same_member (member_at mid k) moves.at ends.held) x.holds))))
     where
       own_end : (more : List HistoryEntry) → AreOf k more → AreOf k (more ++ End k ∷ [])
       own_end [] t = (refl, tt)
@@ -163,26 +177,65 @@ module _ {S : Type 0} (spoke : ℕ → S → List ℕ → List ℕ → Type 0) (
       same_member : (o : Option (MemberValue S)) → o ≡ Some moves.after → o ≡ Some ends.m → moves.after ≡ ends.m
       same_member o p q = cc
 
-  pub keeps_left : (b : Bool) (members mid members' : List (ℕ × MemberValue S)) (accepted : ℕ) (old between new : ServerValue) (k : ℕ)
-      → MovesOnAt b spoke k old members between mid → EndsIfAny spoke ended k between mid new members' → GoesOnTogether spoke ended members accepted old members' accepted new
-  keeps_left b members mid members' accepted old between new k moves ends = record { on = left_so b members mid members' accepted old between new k moves ends }
+  pub keeps_left : (over : S → Type 0) (why : Why) (members mid members' : List (ℕ × MemberValue S)) (accepted : ℕ) (old between new : ServerValue) (k : ℕ)
+      → MovesOnAt (Some why) spoke over k old members between mid → EndsIfAny spoke over ended lost k why between mid new members' → GoesOnTogether cut spoke ended lost members accepted old members' accepted new
+  keeps_left over why members mid members' accepted old between new k moves ends = record { on = left_so over why members mid members' accepted old between new k moves ends }
 
-  ended_so : (members members' : List (ℕ × MemberValue S)) (accepted : ℕ) (old new : ServerValue) (k : ℕ)
-      → EndsAt spoke ended k old members new members' → KeepsSo members accepted old members' accepted new
-  ended_so members members' accepted old new k ends prefix opening history keeps =
+  -- it may end so, whatever led to the server
+  abbrev MayEndSo : (S → Type 0) → ℕ → ServerValue → MemberValue S → Why → Type 0
+  MayEndSo over k server m why =
+      (prefix : List ℕ) (opening : CacheValue) (history entries : List HistoryEntry) → ServerStands opening server (history ++ entries) → server.prefix ≡ prefix
+      → Unless cut (MayEnd (over m.stream) (IsShut prefix k (history ++ entries)) m.left m.unsent why)
+
+  ended_so : (over : S → Type 0) (why : Why) (members members' : List (ℕ × MemberValue S)) (accepted : ℕ) (old new : ServerValue) (k : ℕ)
+      → (ends : EndsAt spoke over ended lost k why old members new members') → MayEndSo over k old ends.m why → KeepsSo members accepted old members' accepted new
+  ended_so over why members members' accepted old new k ends may prefix opening history keeps =
+      let h : TalksOn spoke prefix opening history keeps.entries k ends.m = holds_at prefix opening history members accepted old k ends.m keeps ends.held in
+      let m : Unless cut (MayEnd (over ends.m.stream) (IsShut prefix k (history ++ keeps.entries)) ends.m.left ends.m.unsent why) = may prefix opening history keeps.entries keeps.stands keeps.same in
       keeps_with prefix opening history members members' accepted old new k (End k ∷ []) keeps
       (is_open prefix opening history members accepted old k ends.m keeps ends.held) (refl, tt) ends.others
       (subst (λ (z : List HistoryEntry). ServerStands opening new z) (append_assoc history keeps.entries (End k ∷ [])) (ends.stands opening (history ++ keeps.entries) keeps.stands))
       (ends.same ∙ keeps.same)
-      (subst (TalksOrEnded spoke ended prefix opening history (keeps.entries ++ End k ∷ []) k) (sym ends.gone)
-      (has_ended prefix opening history keeps.entries k ends.m.stream ends.ends
-      (leaves prefix opening history spoke keeps.entries k ends.m (holds_at prefix opening history members accepted old k ends.m keeps ends.held))))
+      (subst (TalksOrEnded cut spoke ended lost prefix opening history (keeps.entries ++ End k ∷ []) k) (sym ends.gone) (record {
+        before = keeps.entries;
+        after = [];
+        whole = refl;
+        read = h.read;
+        sent = h.sent;
+        left = ends.m.left;
+        unsent = ends.m.unsent;
+        why = why;
+        is = ends.ends.said k h.read h.sent h.said;
+        talks = h.talks;
+        may = lost_may cut (over ends.m.stream) (IsShut prefix k (history ++ keeps.entries)) (lost k) ends.m.left ends.m.unsent why (ends.ends.found k h.read h.sent h.said) m;
+      }))
 
-  pub keeps_ended : (members members' : List (ℕ × MemberValue S)) (accepted : ℕ) (old new : ServerValue) (k : ℕ)
-      → EndsIfAny spoke ended k old members new members' → GoesOnTogether spoke ended members accepted old members' accepted new
-  keeps_ended members members' accepted old new k (inr (none, same, all)) =
-      subst (λ (z : ServerValue). GoesOnTogether spoke ended members accepted old members' accepted z) (sym same) (keeps_same members members' accepted old all)
-  keeps_ended members members' accepted old new k (inl ends) = record { on = ended_so members members' accepted old new k ends }
+  keeps_ended_so : (over : S → Type 0) (why : Why) (members members' : List (ℕ × MemberValue S)) (accepted : ℕ) (old new : ServerValue) (k : ℕ)
+      → ((m : MemberValue S) → member_at members k ≡ Some m → MayEndSo over k old m why) → EndsIfAny spoke over ended lost k why old members new members' → GoesOnTogether cut spoke ended lost members accepted old members' accepted new
+  keeps_ended_so over why members members' accepted old new k may (inr (none, same, all)) =
+      subst (λ (z : ServerValue). GoesOnTogether cut spoke ended lost members accepted old members' accepted z) (sym same) (keeps_same members members' accepted old all)
+  keeps_ended_so over why members members' accepted old new k may (inl ends) = record { on = ended_so over why members members' accepted old new k ends (may ends.m ends.held) }
+
+  -- it is ended as it may be
+  pub keeps_ended : (over : S → Type 0) (why : Why) (members members' : List (ℕ × MemberValue S)) (accepted : ℕ) (old new : ServerValue) (k : ℕ)
+      → MayEndAt over k old members why → EndsIfAny spoke over ended lost k why old members new members' → GoesOnTogether cut spoke ended lost members accepted old members' accepted new
+  keeps_ended over why members members' accepted old new k may ends = keeps_ended_so over why members members' accepted old new k so ends
+    where
+      same_member : (o : Option (MemberValue S)) (m : MemberValue S) → o ≡ Some may.m → o ≡ Some m → may.m ≡ m
+      same_member o m p q = cc
+
+      so : (m : MemberValue S) → member_at members k ≡ Some m → MayEndSo over k old m why
+      so m e prefix opening history entries stands same =
+          uncut cut (MayEnd (over m.stream) (IsShut prefix k (history ++ entries)) m.left m.unsent why)
+          (may_end opening old k (history ++ entries) prefix (over m.stream) m.left m.unsent why stands same
+          (subst (λ (z : MemberValue S). MayEnd (over z.stream) (IsOpenAt (session_at old k) → ⊥) z.left z.unsent why) (same_member (member_at members k) m may.held e) may.may))
+
+  -- without memory it may end at any time
+  pub keeps_lost : (over : S → Type 0) (members mid members' : List (ℕ × MemberValue S)) (accepted : ℕ) (old between new : ServerValue) (k : ℕ)
+      → MovesOnAt None spoke over k old members between mid → EndsIfAny spoke over ended lost k (Err Memory) between mid new members' → GoesOnTogether cut spoke ended lost members accepted old members' accepted new
+  keeps_lost over members mid members' accepted old between new k moves ends =
+      keeps_further members mid members' accepted accepted accepted old between new (keeps_moved over members mid accepted old between k moves)
+      (keeps_ended_so over (Err Memory) mid members' accepted between new k (λ m e prefix opening history entries stands same. uncut cut (MayEnd (over m.stream) (IsShut prefix k (history ++ entries)) m.left m.unsent (Err Memory)) (inl refl)) ends)
 
   keeps_entered_so : (members members' : List (ℕ × MemberValue S)) (accepted : ℕ) (server : ServerValue) (stream : S)
       → spoke accepted stream [] [] → EntersAt accepted stream members members' → KeepsSo members accepted server members' (accepted + 1) server
@@ -202,33 +255,34 @@ module _ {S : Type 0} (spoke : ℕ → S → List ℕ → List ℕ → Type 0) (
         said = said;
         talks = record {
           came = [];
-          text = [];
+          earlier = [];
+          part = [];
           reading = refl;
           sending = refl;
-          answered = answered_apart prefix opening history accepted keeps.entries [] [] [] (apart_from_below accepted keeps.entries keeps.theirs) talks.none;
+          answered = answered_apart prefix opening history accepted keeps.entries [] [] [] [] (apart_from_below accepted keeps.entries keeps.theirs) talks.none;
         };
       }
 
       by_test : (j : ℕ) → j < accepted + 1 → ((eqb j accepted ≡ true) × (j ≡ accepted)) ⊎ ((eqb j accepted ≡ false) × (j ≡ accepted → ⊥))
-          → TalksOrEnded spoke ended prefix opening history keeps.entries j (member_at members' j)
+          → TalksOrEnded cut spoke ended lost prefix opening history keeps.entries j (member_at members' j)
       by_test j below (inl (t, e)) =
-          subst (λ (i : ℕ). TalksOrEnded spoke ended prefix opening history keeps.entries i (member_at members' i)) (sym e)
-          (subst (TalksOrEnded spoke ended prefix opening history keeps.entries accepted) (sym enters.at) now)
+          subst (λ (i : ℕ). TalksOrEnded cut spoke ended lost prefix opening history keeps.entries i (member_at members' i)) (sym e)
+          (subst (TalksOrEnded cut spoke ended lost prefix opening history keeps.entries accepted) (sym enters.at) now)
       by_test j below (inr (f, n)) =
-          subst (TalksOrEnded spoke ended prefix opening history keeps.entries j) (sym (enters.others j n)) (keeps.each j (less (cases_lt j accepted)))
+          subst (TalksOrEnded cut spoke ended lost prefix opening history keeps.entries j) (sym (enters.others j n)) (keeps.each j (less (cases_lt j accepted)))
         where
           less : (j < accepted) ⊎ (accepted ≤ j) → j < accepted
           less (inl h) = h
           less (inr h) = absurd (n (omega arith))
 
   pub keeps_entered : (members members' : List (ℕ × MemberValue S)) (accepted : ℕ) (server : ServerValue) (stream : S)
-      → spoke accepted stream [] [] → EntersAt accepted stream members members' → GoesOnTogether spoke ended members accepted server members' (accepted + 1) server
+      → spoke accepted stream [] [] → EntersAt accepted stream members members' → GoesOnTogether cut spoke ended lost members accepted server members' (accepted + 1) server
   keeps_entered members members' accepted server stream said enters = record { on = keeps_entered_so members members' accepted server stream said enters }
 
   -- ---- the whole run
 
   pub keeps_first : (opening : CacheValue) (history : List HistoryEntry) (members : List (ℕ × MemberValue S)) (server : ServerValue)
-      → members ≡ [] → ServerStands opening server history → KeepsTogether spoke ended server.prefix opening history members 0 server
+      → members ≡ [] → ServerStands opening server history → KeepsTogether cut spoke ended lost server.prefix opening history members 0 server
   keeps_first opening history members server e stands = record {
     entries = [];
     stands = subst (ServerStands opening server) (sym (append-nil history)) stands;
@@ -239,10 +293,45 @@ module _ {S : Type 0} (spoke : ℕ → S → List ℕ → List ℕ → Type 0) (
   }
 
   pub keeps_all : (prefix : List ℕ) (opening : CacheValue) (history : List HistoryEntry) (members : List (ℕ × MemberValue S)) (accepted : ℕ) (server : ServerValue)
-      → ((k : ℕ) → k < accepted → member_at members k ≡ None) → KeepsTogether spoke ended prefix opening history members accepted server → ServesEach ended prefix opening history accepted server
+      → ((k : ℕ) → k < accepted → member_at members k ≡ None) → KeepsTogether cut spoke ended lost prefix opening history members accepted server → ServesEach cut ended lost prefix opening history accepted server
   keeps_all prefix opening history members accepted server gone keeps = record {
     entries = keeps.entries;
     stands = keeps.stands;
     theirs = keeps.theirs;
-    each = λ k h. subst (TalksOrEnded spoke ended prefix opening history keeps.entries k) (gone k h) (keeps.each k h);
+    each = λ k h. subst (TalksOrEnded cut spoke ended lost prefix opening history keeps.entries k) (gone k h) (keeps.each k h);
   }
+
+-- ---- the run is cut off
+
+cut_talks : {S : Type 0} (spoke : ℕ → S → List ℕ → List ℕ → Type 0) (ended : ℕ → List ℕ → List ℕ → Why → Type 0) (lost : ℕ → Type 0) (prefix : List ℕ) (opening : CacheValue) (history entries : List HistoryEntry) (k : ℕ) (o : Option (MemberValue S))
+    → TalksOrEnded false spoke ended lost prefix opening history entries k o → TalksOrEnded true spoke ended lost prefix opening history entries k o
+cut_talks spoke ended lost prefix opening history entries k (Some m) h = h
+cut_talks spoke ended lost prefix opening history entries k None h = record {
+  before = h.before;
+  after = h.after;
+  whole = h.whole;
+  read = h.read;
+  sent = h.sent;
+  left = h.left;
+  unsent = h.unsent;
+  why = h.why;
+  is = h.is;
+  talks = h.talks;
+  may = tt;
+}
+
+pub keeps_cut : {S : Type 0} (spoke : ℕ → S → List ℕ → List ℕ → Type 0) (ended : ℕ → List ℕ → List ℕ → Why → Type 0) (lost : ℕ → Type 0) (prefix : List ℕ) (opening : CacheValue) (history : List HistoryEntry) (members : List (ℕ × MemberValue S)) (accepted : ℕ) (server : ServerValue)
+    → KeepsTogether false spoke ended lost prefix opening history members accepted server → KeepsTogether true spoke ended lost prefix opening history members accepted server
+keeps_cut spoke ended lost prefix opening history members accepted server keeps = record {
+  entries = keeps.entries;
+  stands = keeps.stands;
+  same = keeps.same;
+  theirs = keeps.theirs;
+  each = λ k h. cut_talks spoke ended lost prefix opening history keeps.entries k (member_at members k) (keeps.each k h);
+  fresh = keeps.fresh;
+}
+
+-- any of them is ended
+pub cut_ended : {S : Type 0} (spoke : ℕ → S → List ℕ → List ℕ → Type 0) (ended : ℕ → List ℕ → List ℕ → Why → Type 0) (lost : ℕ → Type 0) (over : S → Type 0) (why : Why) (members members' : List (ℕ × MemberValue S)) (accepted : ℕ) (old new : ServerValue) (k : ℕ)
+    → EndsIfAny spoke over ended lost k why old members new members' → GoesOnTogether true spoke ended lost members accepted old members' accepted new
+cut_ended spoke ended lost over why members members' accepted old new k ends = keeps_ended_so true spoke ended lost over why members members' accepted old new k (λ m e prefix opening history entries stands same. tt) ends

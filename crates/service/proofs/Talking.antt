@@ -3,14 +3,23 @@ use Rattle.std.proofs.Common.{◌≡◌, ℕ, ◌<◌, ◌≤◌, ◌⊎◌, inl
 use Rattle.std.specs.Prelude.{option_map}
 use Rattle.std.specs.Option.{unwrap_or}
 use Rattle.std.proofs.lemmas.List.{append-nil, take-append-drop, take-append-le, drop-drop, drop_at, drop-append-le, take-take}
+use Rattle.std.specs.Prelude.{Ok, Err}
+use Rattle.http_core.specs.Event.{EventValue}
+use Rattle.http_core.specs.Session.{SessionValue, Closed}
+use Rattle.http_core.specs.Session as sessions
+use Rattle.http_core.specs.Stream.{Cuts}
+use Rattle.http_core.proofs.Pieces.{not_open}
 use Rattle.cache_server.specs.Answer.{AnswerValue, text_of}
 use Rattle.cache_server.specs.Cache.{CacheValue}
-use Rattle.cache_server.specs.History.{HistoryEntry, Piece, Fail, End, AnswersTo}
-use Rattle.cache_server.specs.Server.{ServerValue, ServerStands, StandsOrFails, session_at}
-use Rattle.service.specs.Sockets.{ReadsFrom, SendsTo, Stays}
-use Rattle.service.specs.Talks.{entry_number, Answered, Talks, HasEnded}
+use Rattle.cache_server.specs.History.{HistoryEntry, Piece, Fail, End, stream_of, has_failed}
+use Rattle.cache_server.specs.Server.{ServerValue, ServerStands, StandsOrFails, StandsSo, KeepsSession, IsOpenAt, session_at}
+use Rattle.cache_server.specs.Turn.{IsOneAnswerTo}
+use Rattle.cache_server.specs.declared.error.ConnError.TheVariants.{WriteFault, Memory}
+use Rattle.service.specs.Sockets.{ReadsFrom, SendsTo, Stays, Why}
+use Rattle.service.specs.Talks.{entry_number, Answered, Talks, IsShut, MayEnd, HasEnded}
 use Rattle.service.specs.Talks as talks
-use Rattle.service.specs.Member.{MemberValue, unsent_of, TalksOn, MayEnd, TalksOnUnless, AreOf, HasMovedOn, MovesOn, Passes, PassesSent}
+use Rattle.service.specs.declared.turn.Turn.{Turn}
+use Rattle.service.specs.Member.{MemberValue, unsent_of, TalksOn, MayEndNow, FailsFor, EndsWell, end_of, TalksOnUnless, AreOf, HasMovedOn, MovesOn, Passes, PassesSent}
 
 -- ---- entries of other connections
 
@@ -23,21 +32,22 @@ apart_from_own k j [] n t = tt
 apart_from_own k j (e ∷ es) n (o, os) = (λ (x : entry_number e ≡ j). n (sym x ∙ o), apart_from_own k j es n os)
 
 module _ (prefix : List ℕ) (opening : CacheValue) (history : List HistoryEntry) where
-  pub answered_apart : (j : ℕ) (more entries : List HistoryEntry) (came text : List ℕ) → AreApart j more
-      → Answered prefix opening history j entries came text → Answered prefix opening history j (entries ++ more) came text
-  answered_apart j [] entries came text t a = subst (λ (z : List HistoryEntry). Answered prefix opening history j z came text) (sym (append-nil entries)) a
-  answered_apart j (e ∷ more) entries came text (n, ns) a =
-      subst (λ (z : List HistoryEntry). Answered prefix opening history j z came text) (append_assoc entries (e ∷ []) more)
-      (answered_apart j more (entries ++ e ∷ []) came text ns (talks.other entries came text e a n))
+  pub answered_apart : (j : ℕ) (more entries : List HistoryEntry) (came earlier last : List ℕ) → AreApart j more
+      → Answered prefix opening history j entries came earlier last → Answered prefix opening history j (entries ++ more) came earlier last
+  answered_apart j [] entries came earlier last t a = subst (λ (z : List HistoryEntry). Answered prefix opening history j z came earlier last) (sym (append-nil entries)) a
+  answered_apart j (e ∷ more) entries came earlier last (n, ns) a =
+      subst (λ (z : List HistoryEntry). Answered prefix opening history j z came earlier last) (append_assoc entries (e ∷ []) more)
+      (answered_apart j more (entries ++ e ∷ []) came earlier last ns (talks.other entries came earlier last e a n))
 
   pub talks_apart : (j : ℕ) (more entries : List HistoryEntry) (read sent left unsent : List ℕ) → AreApart j more
       → Talks prefix opening history entries j read sent left unsent → Talks prefix opening history (entries ++ more) j read sent left unsent
   talks_apart j more entries read sent left unsent ns t = record {
     came = t.came;
-    text = t.text;
+    earlier = t.earlier;
+    part = t.part;
     reading = t.reading;
     sending = t.sending;
-    answered = answered_apart j more entries t.came t.text ns t.answered;
+    answered = answered_apart j more entries t.came t.earlier (t.part ++ unsent) ns t.answered;
   }
 
   pub holds_apart : {S : Type 0} (spoke : ℕ → S → List ℕ → List ℕ → Type 0) (j : ℕ) (more entries : List HistoryEntry) (m : MemberValue S) → AreApart j more
@@ -49,45 +59,54 @@ module _ (prefix : List ℕ) (opening : CacheValue) (history : List HistoryEntry
     talks = talks_apart j more entries h.read h.sent m.left m.unsent ns h.talks;
   }
 
-  pub ended_apart : (ended : ℕ → List ℕ → List ℕ → Type 0) (j : ℕ) (more entries : List HistoryEntry) → AreApart j more
-      → HasEnded ended prefix opening history entries j → HasEnded ended prefix opening history (entries ++ more) j
-  ended_apart ended j more entries ns h = record {
+  -- whatever comes after its end
+  pub ended_before : (cut : Bool) (ended : ℕ → List ℕ → List ℕ → Why → Type 0) (lost : ℕ → Type 0) (j : ℕ) (more entries : List HistoryEntry)
+      → HasEnded cut ended lost prefix opening history entries j → HasEnded cut ended lost prefix opening history (entries ++ more) j
+  ended_before cut ended lost j more entries h = record {
+    before = h.before;
+    after = h.after ++ more;
+    whole = ap (λ (z : List HistoryEntry). z ++ more) h.whole ∙ append_assoc h.before (End j ∷ h.after) more;
     read = h.read;
     sent = h.sent;
     left = h.left;
     unsent = h.unsent;
+    why = h.why;
     is = h.is;
-    talks = talks_apart j more entries h.read h.sent h.left h.unsent ns h.talks;
+    talks = h.talks;
+    may = h.may;
   }
 
   -- ---- one connection
 
-  pub leaves : {S : Type 0} (spoke : ℕ → S → List ℕ → List ℕ → Type 0) (entries : List HistoryEntry) (k : ℕ) (m : MemberValue S)
-      → TalksOn spoke prefix opening history entries k m → MayEnd spoke prefix opening history entries k m.stream
-  leaves spoke entries k m h = record {
+  -- it may end for a fault, as where it is over or memory is wanting
+  fault_may : (over shut : Type 0) (left unsent : List ℕ) (why : Why) → FailsFor over (Some why) → MayEnd over shut left unsent why
+  fault_may over shut left unsent (Ok done) f = absurd f
+  fault_may over shut left unsent (Err e) f = f
+
+  pub leaves : {S : Type 0} (spoke : ℕ → S → List ℕ → List ℕ → Type 0) (over : S → Type 0) (entries : List HistoryEntry) (k : ℕ) (m : MemberValue S) (why : Why)
+      → TalksOn spoke prefix opening history entries k m → MayEnd (over m.stream) (IsShut prefix k (history ++ entries)) m.left m.unsent why
+      → MayEndNow spoke over prefix opening history entries k m.stream why
+  leaves spoke over entries k m why h may = record {
     read = h.read;
     sent = h.sent;
     left = m.left;
     unsent = m.unsent;
     said = h.said;
     talks = h.talks;
+    may = may;
   }
 
-  pub unless : {S : Type 0} (b : Bool) (spoke : ℕ → S → List ℕ → List ℕ → Type 0) (entries : List HistoryEntry) (k : ℕ) (m : MemberValue S)
-      → TalksOn spoke prefix opening history entries k m → TalksOnUnless b spoke prefix opening history entries k m
-  unless false spoke entries k m h = h
-  unless true spoke entries k m h = leaves spoke entries k m h
-
-  pub may_leave : {S : Type 0} (b : Bool) (spoke : ℕ → S → List ℕ → List ℕ → Type 0) (entries : List HistoryEntry) (k : ℕ) (m : MemberValue S)
-      → TalksOnUnless b spoke prefix opening history entries k m → MayEnd spoke prefix opening history entries k m.stream
-  may_leave false spoke entries k m h = leaves spoke entries k m h
-  may_leave true spoke entries k m h = h
+  pub unless : {S : Type 0} (e : Option Why) (spoke : ℕ → S → List ℕ → List ℕ → Type 0) (over : S → Type 0) (entries : List HistoryEntry) (k : ℕ) (m : MemberValue S)
+      → FailsFor (over m.stream) e → TalksOn spoke prefix opening history entries k m → TalksOnUnless e spoke over prefix opening history entries k m
+  unless None spoke over entries k m f h = h
+  unless (Some why) spoke over entries k m f h = leaves spoke over entries k m why h (fault_may (over m.stream) (IsShut prefix k (history ++ entries)) m.left m.unsent why f)
 
   pub talks_read : (entries : List HistoryEntry) (k : ℕ) (read sent left unsent bytes : List ℕ)
       → Talks prefix opening history entries k read sent left unsent → Talks prefix opening history entries k (read ++ bytes) sent (left ++ bytes) unsent
   talks_read entries k read sent left unsent bytes t = record {
     came = t.came;
-    text = t.text;
+    earlier = t.earlier;
+    part = t.part;
     reading = ap (λ (z : List ℕ). z ++ bytes) t.reading ∙ append_assoc t.came left bytes;
     sending = t.sending;
     answered = t.answered;
@@ -97,10 +116,11 @@ module _ (prefix : List ℕ) (opening : CacheValue) (history : List HistoryEntry
       → Talks prefix opening history entries k read sent left (bytes ++ unsent) → Talks prefix opening history entries k read (sent ++ bytes) left unsent
   talks_sent entries k read sent left unsent bytes t = record {
     came = t.came;
-    text = t.text;
+    earlier = t.earlier;
+    part = t.part ++ bytes;
     reading = t.reading;
-    sending = t.sending ∙ sym (append_assoc sent bytes unsent);
-    answered = t.answered;
+    sending = ap (λ (z : List ℕ). z ++ bytes) t.sending ∙ append_assoc t.earlier t.part bytes;
+    answered = subst (λ (z : List ℕ). Answered prefix opening history k entries t.came t.earlier z) (sym (append_assoc t.part bytes unsent)) t.answered;
   }
 
   pub talks_as : (entries : List HistoryEntry) (k : ℕ) (read sent left unsent left' unsent' : List ℕ) → left' ≡ left → unsent' ≡ unsent
@@ -148,17 +168,60 @@ text_unsent : (answer : Option AnswerValue) → unwrap_or (option_map text_of an
 text_unsent None = refl
 text_unsent (Some a) = refl
 
-module _ {S : Type 0} (spoke : ℕ → S → List ℕ → List ℕ → Type 0) where
-  abbrev MovesSo : Bool → ℕ → ServerValue → MemberValue S → ServerValue → MemberValue S → Type 0
-  MovesSo b k old before new after =
+-- ---- faults
+
+fails_so : (P Q : Type 0) (e : Option Why) → (P → Q) → FailsFor P e → FailsFor Q e
+fails_so P Q None f h = tt
+fails_so P Q (Some (Ok done)) f h = h
+fails_so P Q (Some (Err e)) f (inl none) = inl none
+fails_so P Q (Some (Err e)) f (inr h) = inr (f h)
+
+-- a fault after which the turn ends is one for which it is over
+pub fails_for : {P Q : Type 0} (turn : Turn) → (P → Q) → FailsFor P (end_of turn) → FailsFor Q (end_of turn)
+fails_for {P} {Q} turn f h = fails_so P Q (end_of turn) f h
+
+-- ---- no more can be answered
+
+shut_session : (prefix : List ℕ) (o : Option SessionValue) (k : ℕ) (history : List HistoryEntry) → KeepsSession prefix o k history → (IsOpenAt o → ⊥) → IsShut prefix k history
+unfolding sessions.Stands
+shut_session prefix None k history keeps shut = absurd (shut tt)
+shut_session prefix (Some session) k history keeps shut = by (has_failed k history) refl keeps.1
+  where
+    closed : session.state ≡ Closed
+    closed = not_open session.state shut
+
+    left_none : (left : Option (List ℕ)) → sessions.Leaves session.prefix session.state left → left ≡ None
+    left_none None l = refl
+    left_none (Some rest) l = absurd (subst (λ z. sessions.Holds session.prefix z rest) closed l)
+
+    by : (b : Bool) → has_failed k history ≡ b → StandsSo b session (stream_of k history) → IsShut prefix k history
+    by true e stands = inl e
+    by false e stands = inr (cut stands)
+      where
+        cut : StandsSo false session (stream_of k history) → (events : List EventValue) × Cuts prefix (stream_of k history) events None
+        cut (events, (left, is, leaves)) = (events, subst (λ z. Cuts z (stream_of k history) events None) keeps.0 (subst (λ z. Cuts session.prefix (stream_of k history) events z) (left_none left leaves) is))
+
+pub shut_is : (opening : CacheValue) (server : ServerValue) (k : ℕ) (history : List HistoryEntry) → ServerStands opening server history → (IsOpenAt (session_at server k) → ⊥) → IsShut server.prefix k history
+shut_is opening server k history stands shut = shut_session server.prefix (session_at server k) k history (stands.sessions k) shut
+
+-- why it may end, by the server's session and by what came before
+pub may_end : (opening : CacheValue) (server : ServerValue) (k : ℕ) (history : List HistoryEntry) (prefix : List ℕ) (over : Type 0) (left unsent : List ℕ) (why : Why) → ServerStands opening server history → server.prefix ≡ prefix
+    → MayEnd over (IsOpenAt (session_at server k) → ⊥) left unsent why → MayEnd over (IsShut prefix k history) left unsent why
+may_end opening server k history prefix over left unsent (Ok done) stands same (inl all) = inl all
+may_end opening server k history prefix over left unsent (Ok done) stands same (inr (shut, none)) = inr (subst (λ z. IsShut z k history) same (shut_is opening server k history stands shut), none)
+may_end opening server k history prefix over left unsent (Err e) stands same f = f
+
+module _ {S : Type 0} (spoke : ℕ → S → List ℕ → List ℕ → Type 0) (over : S → Type 0) where
+  abbrev MovesSo : Option Why → ℕ → ServerValue → MemberValue S → ServerValue → MemberValue S → Type 0
+  MovesSo e k old before new after =
       (opening : CacheValue) (history entries : List HistoryEntry) → ServerStands opening old (history ++ entries)
-      → TalksOn spoke old.prefix opening history entries k before → HasMovedOn b spoke old.prefix opening history entries k after new
+      → TalksOn spoke old.prefix opening history entries k before → HasMovedOn e spoke over old.prefix opening history entries k after new
 
   -- ---- nothing comes to the server
 
-  pub stays_passes : (b : Bool) (before after : MemberValue S) → Stays spoke before.stream after.stream → after.left ≡ before.left → after.unsent ≡ before.unsent → Passes b spoke before after
-  stays_passes b before after stays p q = record {
-    on = λ prefix opening history entries k h. unless prefix opening history b spoke entries k after (record {
+  pub stays_passes : (e : Option Why) (before after : MemberValue S) → Stays spoke before.stream after.stream → after.left ≡ before.left → after.unsent ≡ before.unsent → FailsFor (over after.stream) e → Passes e spoke over before after
+  stays_passes e before after stays p q f = record {
+    on = λ prefix opening history entries k h. unless prefix opening history e spoke over entries k after f (record {
       read = h.read;
       sent = h.sent;
       said = stays k h.read h.sent h.said;
@@ -166,40 +229,35 @@ module _ {S : Type 0} (spoke : ℕ → S → List ℕ → List ℕ → Type 0) w
     });
   }
 
-  pub nothing_passes : (b : Bool) (m : MemberValue S) → Passes b spoke m m
-  nothing_passes b m = stays_passes b m m (λ k read sent h. h) refl refl
+  pub nothing_passes : (m : MemberValue S) → Passes None spoke over m m
+  nothing_passes m = stays_passes None m m (λ k read sent h. h) refl refl tt
 
   -- some was read, where nothing was left
-  pub reads_pass : (b : Bool) (before after : MemberValue S) (bytes : List ℕ) → ReadsFrom spoke before.stream bytes after.stream → before.left ≡ [] → after.left ≡ bytes → after.unsent ≡ before.unsent → Passes b spoke before after
-  reads_pass b before after bytes reads e p q = record {
-    on = λ prefix opening history entries k h. unless prefix opening history b spoke entries k after (record {
+  pub reads_pass : (before after : MemberValue S) (bytes : List ℕ) → ReadsFrom spoke before.stream bytes after.stream → before.left ≡ [] → after.left ≡ bytes → after.unsent ≡ before.unsent → Passes None spoke over before after
+  reads_pass before after bytes reads e p q = record {
+    on = λ prefix opening history entries k h. record {
       read = h.read ++ bytes;
       sent = h.sent;
       said = reads k h.read h.sent h.said;
       talks = talks_as prefix opening history entries k (h.read ++ bytes) h.sent (before.left ++ bytes) before.unsent after.left after.unsent (p ∙ ap (λ (z : List ℕ). z ++ bytes) (sym e)) q
           (talks_read prefix opening history entries k h.read h.sent before.left before.unsent bytes h.talks);
-    });
-  }
-
-  -- some was sent of what wasn't
-  pub sends_pass : (b : Bool) (before after : MemberValue S) (bytes : List ℕ) → SendsTo spoke before.stream bytes after.stream → after.left ≡ before.left → before.unsent ≡ bytes ++ after.unsent → Passes b spoke before after
-  sends_pass b before after bytes sends p q = record {
-    on = λ prefix opening history entries k h. unless prefix opening history b spoke entries k after (record {
-      read = h.read;
-      sent = h.sent ++ bytes;
-      said = sends k h.read h.sent h.said;
-      talks = talks_sent prefix opening history entries k h.read h.sent after.left after.unsent bytes
-          (talks_as prefix opening history entries k h.read h.sent before.left before.unsent after.left (bytes ++ after.unsent) p (sym q) h.talks);
-    });
+    };
   }
 
   -- a part of what wasn't sent was, and then it passed on so
-  pub sent_passes : (b : Bool) (l m n : MemberValue S) (count : ℕ) → SendsTo spoke l.stream (take count l.unsent) m.stream → m.left ≡ l.left → m.unsent ≡ l.unsent
-      → PassesSent b spoke count m n → Passes b spoke l n
-  sent_passes false l m n count sends p q r = sends_pass false l n (take count l.unsent)
-      (λ k read sent h. r.stays k read (sent ++ take count l.unsent) (sends k read sent h))
-      (r.left refl ∙ p) (sym (take-append-drop count l.unsent) ∙ ap (λ (z : List ℕ). take count l.unsent ++ z) (ap (drop count) (sym q) ∙ sym (r.unsent refl)))
-  sent_passes true l m n count sends p q r = record {
+  pub sent_passes : (e : Option Why) (l m n : MemberValue S) (count : ℕ) → SendsTo spoke l.stream (take count l.unsent) m.stream → m.left ≡ l.left → m.unsent ≡ l.unsent
+      → PassesSent e spoke over count m n → Passes e spoke over l n
+  sent_passes None l m n count sends p q r = record {
+    on = λ prefix opening history entries k h. record {
+      read = h.read;
+      sent = h.sent ++ take count l.unsent;
+      said = r.stays k h.read (h.sent ++ take count l.unsent) (sends k h.read h.sent h.said);
+      talks = talks_as prefix opening history entries k h.read (h.sent ++ take count l.unsent) l.left (drop count l.unsent) n.left n.unsent (r.left refl ∙ p) (r.unsent refl ∙ ap (drop count) q)
+          (talks_sent prefix opening history entries k h.read h.sent l.left (drop count l.unsent) (take count l.unsent)
+          (talks_as prefix opening history entries k h.read h.sent l.left l.unsent l.left (take count l.unsent ++ drop count l.unsent) refl (take-append-drop count l.unsent) h.talks));
+    };
+  }
+  sent_passes (Some why) l m n count sends p q r = record {
     on = λ prefix opening history entries k h. record {
       read = h.read;
       sent = h.sent ++ take count l.unsent;
@@ -208,96 +266,126 @@ module _ {S : Type 0} (spoke : ℕ → S → List ℕ → List ℕ → Type 0) w
       said = r.stays k h.read (h.sent ++ take count l.unsent) (sends k h.read h.sent h.said);
       talks = talks_sent prefix opening history entries k h.read h.sent l.left (drop count l.unsent) (take count l.unsent)
           (talks_as prefix opening history entries k h.read h.sent l.left l.unsent l.left (take count l.unsent ++ drop count l.unsent) refl (take-append-drop count l.unsent) h.talks);
+      may = fault_may prefix opening history (over n.stream) (IsShut prefix k (history ++ entries)) l.left (drop count l.unsent) why r.fails;
     };
   }
 
   -- ended, or with so much more sent
-  pub sends_end : (count : ℕ) (before after : MemberValue S) → Stays spoke before.stream after.stream → PassesSent true spoke count before after
-  sends_end count before after stays = record { left = λ e. cc; unsent = λ e. cc; stays = stays }
+  pub sends_lost : (count : ℕ) (before after : MemberValue S) → Stays spoke before.stream after.stream → PassesSent (Some (Err Memory)) spoke over count before after
+  sends_lost count before after stays = record { left = λ e. cc; unsent = λ e. cc; stays = stays; fails = inl refl }
 
-  pub sends_more : (b : Bool) (count : ℕ) (before after : MemberValue S) → Stays spoke before.stream after.stream → after.left ≡ before.left → after.unsent ≡ drop count before.unsent → PassesSent b spoke count before after
-  sends_more b count before after stays p q = record { left = λ e. p; unsent = λ e. q; stays = stays }
+  pub sends_over : (count : ℕ) (before after : MemberValue S) → Stays spoke before.stream after.stream → over after.stream → PassesSent (Some (Err WriteFault)) spoke over count before after
+  sends_over count before after stays o = record { left = λ e. cc; unsent = λ e. cc; stays = stays; fails = inr o }
 
-  pub passes_on : (b : Bool) (l m n : MemberValue S) → Passes false spoke l m → Passes b spoke m n → Passes b spoke l n
-  passes_on b l m n p q = record { on = λ prefix opening history entries k h. q.on prefix opening history entries k (p.on prefix opening history entries k h) }
+  pub sends_more : (count : ℕ) (before after : MemberValue S) → Stays spoke before.stream after.stream → after.left ≡ before.left → after.unsent ≡ drop count before.unsent → PassesSent None spoke over count before after
+  sends_more count before after stays p q = record { left = λ e. p; unsent = λ e. q; stays = stays; fails = tt }
 
-  passes_moves_so : (b : Bool) (k : ℕ) (server : ServerValue) (before after : MemberValue S) → Passes b spoke before after → MovesSo b k server before server after
-  passes_moves_so b k server before after p opening history entries stands h = record {
+  passes_moves_so : (e : Option Why) (k : ℕ) (server : ServerValue) (before after : MemberValue S) → Passes e spoke over before after → MovesSo e k server before server after
+  passes_moves_so e k server before after p opening history entries stands h = record {
     more = [];
     theirs = tt;
     stands = subst (λ (z : List HistoryEntry). ServerStands opening server (history ++ z)) (sym (append-nil entries)) stands;
     same = refl;
-    holds = subst (λ (z : List HistoryEntry). TalksOnUnless b spoke server.prefix opening history z k after) (sym (append-nil entries)) (p.on server.prefix opening history entries k h);
+    holds = subst (λ (z : List HistoryEntry). TalksOnUnless e spoke over server.prefix opening history z k after) (sym (append-nil entries)) (p.on server.prefix opening history entries k h);
   }
 
-  pub passes_moves : (b : Bool) (k : ℕ) (server : ServerValue) (before after : MemberValue S) → Passes b spoke before after → MovesOn b spoke k server before server after
-  passes_moves b k server before after p = record { on = passes_moves_so b k server before after p }
+  pub passes_moves : (e : Option Why) (k : ℕ) (server : ServerValue) (before after : MemberValue S) → Passes e spoke over before after → MovesOn e spoke over k server before server after
+  passes_moves e k server before after p = record { on = passes_moves_so e k server before after p }
 
-  -- where it may end, only the stream counts
-  pub reads_end : (before after : MemberValue S) (bytes : List ℕ) → ReadsFrom spoke before.stream bytes after.stream → Passes true spoke before after
-  reads_end before after bytes reads = record {
+  -- no bytes were read
+  pub reads_none : (before after : S) (bytes : List ℕ) → bytes ≡ [] → ReadsFrom spoke before bytes after → Stays spoke before after
+  reads_none before after bytes e reads k read sent h = subst (λ z. spoke k after z sent) (ap (λ z. read ++ z) e ∙ append-nil read) (reads k read sent h)
+
+  -- the peer has ended it, and nothing is left
+  pub reads_end : (before after : MemberValue S) → Stays spoke before.stream after.stream → before.left ≡ [] → before.unsent ≡ [] → over after.stream → Passes (Some (Ok tt)) spoke over before after
+  reads_end before after stays left unsent o = record {
     on = λ prefix opening history entries k h. record {
-      read = h.read ++ bytes;
+      read = h.read;
       sent = h.sent;
-      left = before.left ++ bytes;
+      left = before.left;
       unsent = before.unsent;
-      said = reads k h.read h.sent h.said;
-      talks = talks_read prefix opening history entries k h.read h.sent before.left before.unsent bytes h.talks;
+      said = stays k h.read h.sent h.said;
+      talks = h.talks;
+      may = inl (o, left, unsent);
     };
   }
 
-  pub moves_end : (k : ℕ) (s t : ServerValue) (l m n : MemberValue S) → n.stream ≡ m.stream → MovesOn false spoke k s l t m → MovesOn true spoke k s l t n
+  -- no more can be answered
+  pub lingers_moves : (e : Option Why) (k : ℕ) (server : ServerValue) (before after : MemberValue S) → EndsWell e → (IsOpenAt (session_at server k) → ⊥) → Stays spoke before.stream after.stream → after.left ≡ before.left → after.unsent ≡ before.unsent → before.unsent ≡ []
+      → MovesOn e spoke over k server before server after
+  lingers_moves None k server before after well shut stays p q none = passes_moves None k server before after (stays_passes None before after stays p q tt)
+  lingers_moves (Some (Err e)) k server before after well shut stays p q none = absurd well
+  lingers_moves (Some (Ok done)) k server before after well shut stays p q none = record {
+    on = λ opening history entries stands h. record {
+      more = [];
+      theirs = tt;
+      stands = subst (λ (z : List HistoryEntry). ServerStands opening server (history ++ z)) (sym (append-nil entries)) stands;
+      same = refl;
+      holds = subst (λ (z : List HistoryEntry). MayEndNow spoke over server.prefix opening history z k after.stream (Ok done)) (sym (append-nil entries)) (record {
+        read = h.read;
+        sent = h.sent;
+        left = before.left;
+        unsent = before.unsent;
+        said = stays k h.read h.sent h.said;
+        talks = h.talks;
+        may = inr (shut_is opening server k (history ++ entries) stands shut, none);
+      });
+    };
+  }
+
+  -- without memory, only the stream counts
+  pub moves_end : (k : ℕ) (s t : ServerValue) (l m n : MemberValue S) → n.stream ≡ m.stream → MovesOn None spoke over k s l t m → MovesOn (Some (Err Memory)) spoke over k s l t n
   moves_end k s t l m n e p = record {
     on = λ opening history entries stands h.
-        let x : HasMovedOn false spoke s.prefix opening history entries k m t = p.on opening history entries stands h in
+        let x : HasMovedOn None spoke over s.prefix opening history entries k m t = p.on opening history entries stands h in
         record {
           more = x.more;
           theirs = x.theirs;
           stands = x.stands;
           same = x.same;
-          holds = subst (λ (z : S). MayEnd spoke s.prefix opening history (entries ++ x.more) k z) (sym e) (leaves s.prefix opening history spoke (entries ++ x.more) k m x.holds);
+          holds = subst (λ (z : S). MayEndNow spoke over s.prefix opening history (entries ++ x.more) k z (Err Memory)) (sym e) (leaves s.prefix opening history spoke over (entries ++ x.more) k m (Err Memory) x.holds (inl refl));
         };
   }
 
-  pub moves_from : (b : Bool) (k : ℕ) (s t : ServerValue) (l l' n : MemberValue S) → l' ≡ l → MovesOn b spoke k s l' t n → MovesOn b spoke k s l t n
-  moves_from b k s t l l' n e p = subst (λ (z : MemberValue S). MovesOn b spoke k s z t n) e p
+  pub moves_from : (e : Option Why) (k : ℕ) (s t : ServerValue) (l l' n : MemberValue S) → l' ≡ l → MovesOn e spoke over k s l' t n → MovesOn e spoke over k s l t n
+  moves_from e k s t l l' n q p = subst (λ (z : MemberValue S). MovesOn e spoke over k s z t n) q p
 
-  pub stays_moves : (b : Bool) (k : ℕ) (server : ServerValue) (before after : MemberValue S) → Stays spoke before.stream after.stream → after.left ≡ before.left → after.unsent ≡ before.unsent
-      → MovesOn b spoke k server before server after
-  stays_moves b k server before after stays p q = passes_moves b k server before after (stays_passes b before after stays p q)
+  pub stays_moves : (e : Option Why) (k : ℕ) (server : ServerValue) (before after : MemberValue S) → Stays spoke before.stream after.stream → after.left ≡ before.left → after.unsent ≡ before.unsent → FailsFor (over after.stream) e
+      → MovesOn e spoke over k server before server after
+  stays_moves e k server before after stays p q f = passes_moves e k server before after (stays_passes e before after stays p q f)
 
   -- some is read, and some of it comes to the server
-  pub reads_moves : (b : Bool) (k : ℕ) (s t : ServerValue) (l m n : MemberValue S) → Passes false spoke l m → MovesOn b spoke k s m t n → MovesOn b spoke k s l t n
-  reads_moves b k s t l m n p q = record { on = λ opening history entries stands h. q.on opening history entries stands (p.on s.prefix opening history entries k h) }
+  pub reads_moves : (e : Option Why) (k : ℕ) (s t : ServerValue) (l m n : MemberValue S) → Passes None spoke over l m → MovesOn e spoke over k s m t n → MovesOn e spoke over k s l t n
+  reads_moves e k s t l m n p q = record { on = λ opening history entries stands h. q.on opening history entries stands (p.on s.prefix opening history entries k h) }
 
-  pub moves_nowhere : (k : ℕ) (server : ServerValue) (m : MemberValue S) → MovesOn false spoke k server m server m
-  moves_nowhere k server m = passes_moves false k server m m (nothing_passes false m)
+  pub moves_nowhere : (k : ℕ) (server : ServerValue) (m : MemberValue S) → MovesOn None spoke over k server m server m
+  moves_nowhere k server m = passes_moves None k server m m (nothing_passes m)
 
-  moves_further_so : (b : Bool) (k : ℕ) (s t u : ServerValue) (l m n : MemberValue S) → MovesOn false spoke k s l t m → MovesOn b spoke k t m u n → MovesSo b k s l u n
-  moves_further_so b k s t u l m n p q opening history entries stands h =
-      let x : HasMovedOn false spoke s.prefix opening history entries k m t = p.on opening history entries stands h in
-      let y : HasMovedOn b spoke t.prefix opening history (entries ++ x.more) k n u =
+  moves_further_so : (e : Option Why) (k : ℕ) (s t u : ServerValue) (l m n : MemberValue S) → MovesOn None spoke over k s l t m → MovesOn e spoke over k t m u n → MovesSo e k s l u n
+  moves_further_so e k s t u l m n p q opening history entries stands h =
+      let x : HasMovedOn None spoke over s.prefix opening history entries k m t = p.on opening history entries stands h in
+      let y : HasMovedOn e spoke over t.prefix opening history (entries ++ x.more) k n u =
       q.on opening history (entries ++ x.more) x.stands (subst (λ (z : List ℕ). TalksOn spoke z opening history (entries ++ x.more) k m) (sym x.same) x.holds) in
       record {
         more = x.more ++ y.more;
         theirs = both_own k x.more y.more x.theirs y.theirs;
         stands = subst (λ (z : List HistoryEntry). ServerStands opening u (history ++ z)) (append_assoc entries x.more y.more) y.stands;
         same = y.same ∙ x.same;
-        holds = subst (λ (z : List HistoryEntry). TalksOnUnless b spoke s.prefix opening history z k n) (append_assoc entries x.more y.more)
-            (subst (λ (z : List ℕ). TalksOnUnless b spoke z opening history ((entries ++ x.more) ++ y.more) k n) x.same y.holds);
+        holds = subst (λ (z : List HistoryEntry). TalksOnUnless e spoke over s.prefix opening history z k n) (append_assoc entries x.more y.more)
+            (subst (λ (z : List ℕ). TalksOnUnless e spoke over z opening history ((entries ++ x.more) ++ y.more) k n) x.same y.holds);
       }
 
-  pub moves_further : (b : Bool) (k : ℕ) (s t u : ServerValue) (l m n : MemberValue S) → MovesOn false spoke k s l t m → MovesOn b spoke k t m u n → MovesOn b spoke k s l u n
-  moves_further b k s t u l m n p q = record { on = moves_further_so b k s t u l m n p q }
+  pub moves_further : (e : Option Why) (k : ℕ) (s t u : ServerValue) (l m n : MemberValue S) → MovesOn None spoke over k s l t m → MovesOn e spoke over k t m u n → MovesOn e spoke over k s l u n
+  moves_further e k s t u l m n p q = record { on = moves_further_so e k s t u l m n p q }
 
   -- ---- some of what is left comes to the server
 
   next_moves_so : (k : ℕ) (old new : ServerValue) (before after : MemberValue S) (piece : List ℕ) (taken : ℕ) (answer : Option AnswerValue)
       → before.left ≡ piece → before.unsent ≡ [] → after.stream ≡ before.stream → after.left ≡ drop taken piece → after.unsent ≡ unsent_of answer 0
       → new.prefix ≡ old.prefix
-      → ((opening : CacheValue) (history : List HistoryEntry) → ServerStands opening old history → AnswersTo old.prefix opening history (Piece k (take taken piece)) (unwrap_or (option_map text_of answer) []))
+      → ((opening : CacheValue) (history : List HistoryEntry) → ServerStands opening old history → IsOneAnswerTo old.prefix opening history (Piece k (take taken piece)) (unwrap_or (option_map text_of answer) []))
       → ((opening : CacheValue) (history : List HistoryEntry) → ServerStands opening old history → ServerStands opening new (history ++ Piece k (take taken piece) ∷ []))
-      → MovesSo false k old before new after
+      → MovesSo None k old before new after
   next_moves_so k old new before after piece taken answer p q r s u same answers goes opening history entries stands h =
       let t : Talks old.prefix opening history entries k h.read h.sent before.left before.unsent = h.talks in
       let bytes : List ℕ = take taken piece in
@@ -313,10 +401,12 @@ module _ {S : Type 0} (spoke : ℕ → S → List ℕ → List ℕ → Type 0) w
           said = subst (λ (z : S). spoke k z h.read h.sent) (sym r) h.said;
           talks = record {
             came = t.came ++ bytes;
-            text = t.text ++ told;
+            earlier = t.earlier ++ (t.part ++ before.unsent);
+            part = [];
             reading = t.reading ∙ ap (λ (z : List ℕ). t.came ++ z) (p ∙ sym (take-append-drop taken piece) ∙ ap (λ (z : List ℕ). bytes ++ z) (sym s)) ∙ sym (append_assoc t.came bytes after.left);
-            sending = ap (λ (z : List ℕ). z ++ told) (t.sending ∙ ap (λ (z : List ℕ). h.sent ++ z) q ∙ append-nil h.sent) ∙ ap (λ (z : List ℕ). h.sent ++ z) (text_unsent answer ∙ sym u);
-            answered = talks.piece entries t.came t.text bytes told t.answered (answers opening (history ++ entries) stands);
+            sending = t.sending ∙ ap (λ (z : List ℕ). t.earlier ++ z) (sym (append-nil t.part) ∙ ap (λ (z : List ℕ). t.part ++ z) (sym q)) ∙ sym (append-nil (t.earlier ++ (t.part ++ before.unsent)));
+            answered = subst (λ (z : List ℕ). Answered old.prefix opening history k (entries ++ Piece k bytes ∷ []) (t.came ++ bytes) (t.earlier ++ (t.part ++ before.unsent)) z) (text_unsent answer ∙ sym u)
+                (talks.piece entries t.came t.earlier (t.part ++ before.unsent) bytes told t.answered (answers opening (history ++ entries) stands));
           };
         };
       }
@@ -324,18 +414,18 @@ module _ {S : Type 0} (spoke : ℕ → S → List ℕ → List ℕ → Type 0) w
   pub next_moves : (k : ℕ) (old new : ServerValue) (before after : MemberValue S) (piece : List ℕ) (taken : ℕ) (answer : Option AnswerValue)
       → before.left ≡ piece → before.unsent ≡ [] → after.stream ≡ before.stream → after.left ≡ drop taken piece → after.unsent ≡ unsent_of answer 0
       → new.prefix ≡ old.prefix
-      → ((opening : CacheValue) (history : List HistoryEntry) → ServerStands opening old history → AnswersTo old.prefix opening history (Piece k (take taken piece)) (unwrap_or (option_map text_of answer) []))
+      → ((opening : CacheValue) (history : List HistoryEntry) → ServerStands opening old history → IsOneAnswerTo old.prefix opening history (Piece k (take taken piece)) (unwrap_or (option_map text_of answer) []))
       → ((opening : CacheValue) (history : List HistoryEntry) → ServerStands opening old history → ServerStands opening new (history ++ Piece k (take taken piece) ∷ []))
-      → MovesOn false spoke k old before new after
+      → MovesOn None spoke over k old before new after
   next_moves k old new before after piece taken answer p q r s u same answers goes = record { on = next_moves_so k old new before after piece taken answer p q r s u same answers goes }
 
   next_fails_so : (k : ℕ) (old new : ServerValue) (before after : MemberValue S) (piece : List ℕ)
       → before.left ≡ piece → after.stream ≡ before.stream → new.prefix ≡ old.prefix
       → ((opening : CacheValue) (history : List HistoryEntry) → ServerStands opening old history → StandsOrFails opening old k piece new history)
-      → MovesSo true k old before new after
+      → MovesSo (Some (Err Memory)) k old before new after
   next_fails_so k old new before after piece p r same fails opening history entries stands h = by_end (fails opening (history ++ entries) stands)
     where
-      by_end : StandsOrFails opening old k piece new (history ++ entries) → HasMovedOn true spoke old.prefix opening history entries k after new
+      by_end : StandsOrFails opening old k piece new (history ++ entries) → HasMovedOn (Some (Err Memory)) spoke over old.prefix opening history entries k after new
       by_end (inl (none, still, s)) = record {
         more = [];
         theirs = tt;
@@ -348,6 +438,7 @@ module _ {S : Type 0} (spoke : ℕ → S → List ℕ → List ℕ → Type 0) w
           unsent = before.unsent;
           said = subst (λ (z : S). spoke k z h.read h.sent) (sym r) h.said;
           talks = subst (λ (z : List HistoryEntry). Talks old.prefix opening history z k h.read h.sent before.left before.unsent) (sym (append-nil entries)) h.talks;
+          may = inl refl;
         };
       }
       by_end (inr (front, rest, whole, s)) =
@@ -365,16 +456,18 @@ module _ {S : Type 0} (spoke : ℕ → S → List ℕ → List ℕ → Type 0) w
               said = subst (λ (z : S). spoke k z h.read h.sent) (sym r) h.said;
               talks = record {
                 came = t.came ++ front;
-                text = t.text;
+                earlier = t.earlier;
+                part = t.part;
                 reading = t.reading ∙ ap (λ (z : List ℕ). t.came ++ z) (p ∙ whole) ∙ sym (append_assoc t.came front rest);
                 sending = t.sending;
-                answered = talks.lost entries t.came t.text front t.answered;
+                answered = talks.lost entries t.came t.earlier (t.part ++ before.unsent) front t.answered;
               };
+              may = inl refl;
             };
           }
 
   pub next_fails : (k : ℕ) (old new : ServerValue) (before after : MemberValue S) (piece : List ℕ)
       → before.left ≡ piece → after.stream ≡ before.stream → new.prefix ≡ old.prefix
       → ((opening : CacheValue) (history : List HistoryEntry) → ServerStands opening old history → StandsOrFails opening old k piece new history)
-      → MovesOn true spoke k old before new after
+      → MovesOn (Some (Err Memory)) spoke over k old before new after
   next_fails k old new before after piece p r same fails = record { on = next_fails_so k old new before after piece p r same fails }

@@ -1,5 +1,5 @@
 -- A whole run over connections.
-use Rattle.std.proofs.Common.{◌≡◌, ℕ, ◌+◌, ◌<◌, ◌≤◌, ◌⊎◌, inl, inr, true, false, Option, None, List, [], ◌++◌, sym, ◌∙◌, subst, arith}
+use Rattle.std.proofs.Common.{◌≡◌, ℕ, ◌+◌, ◌<◌, ◌≤◌, ◌⊎◌, inl, inr, Bool, true, false, Option, None, List, [], ◌++◌, sym, ◌∙◌, subst, arith}
 use Rattle.std.proofs.Math.Dec.{eqb}
 use Rattle.std.proofs.lemmas.Bool.{cases_lt}
 use Rattle.std.proofs.lemmas.Bool.Decides.{eqb_tells}
@@ -7,38 +7,47 @@ use Rattle.std.proofs.lemmas.List.{append-nil}
 use Rattle.cache_server.specs.Cache.{CacheValue}
 use Rattle.cache_server.specs.History.{HistoryEntry}
 use Rattle.cache_server.specs.Server.{ServerValue, ServerStands}
+use Rattle.service.specs.Sockets.{Why}
 use Rattle.service.specs.Talks.{ServesEach}
 use Rattle.service.specs.Member.{MemberValue}
 use Rattle.service.specs.Together.{member_at, EndsIfAny, GoesOnTogether}
-use Rattle.service.proofs.Keeping.{keeps_first, keeps_all}
+use Rattle.service.proofs.Keeping.{keeps_first, keeps_all, keeps_cut}
 
-pub serves_none : (ended : ℕ → List ℕ → List ℕ → Type 0) (opening : CacheValue) (history : List HistoryEntry) (server : ServerValue)
-    → ServerStands opening server history → ServesEach ended server.prefix opening history 0 server
-serves_none ended opening history server stands = record {
+pub serves_none : (cut : Bool) (ended : ℕ → List ℕ → List ℕ → Why → Type 0) (lost : ℕ → Type 0) (opening : CacheValue) (history : List HistoryEntry) (server : ServerValue)
+    → ServerStands opening server history → ServesEach cut ended lost server.prefix opening history 0 server
+serves_none cut ended lost opening history server stands = record {
   entries = [];
   stands = subst (ServerStands opening server) (sym (append-nil history)) stands;
   theirs = tt;
   each = λ k h. absurd (omega arith);
 }
 
-pub serves_all : {S : Type 0} (spoke : ℕ → S → List ℕ → List ℕ → Type 0) (ended : ℕ → List ℕ → List ℕ → Type 0)
+pub serves_all : {S : Type 0} (spoke : ℕ → S → List ℕ → List ℕ → Type 0) (ended : ℕ → List ℕ → List ℕ → Why → Type 0) (lost : ℕ → Type 0)
+    (opening : CacheValue) (history : List HistoryEntry) (none all : List (ℕ × MemberValue S)) (accepted : ℕ) (s u : ServerValue)
+    → none ≡ [] → GoesOnTogether false spoke ended lost none 0 s all accepted u
+    → ((k : ℕ) → member_at all k ≡ None) → ServerStands opening s history → ServesEach false ended lost s.prefix opening history accepted u
+serves_all spoke ended lost opening history none all accepted s u e p gone stands =
+    keeps_all false spoke ended lost s.prefix opening history all accepted u (λ k h. gone k)
+    (p.on s.prefix opening history (keeps_first false spoke ended lost opening history none s e stands))
+
+pub serves_cut : {S : Type 0} (spoke : ℕ → S → List ℕ → List ℕ → Type 0) (ended : ℕ → List ℕ → List ℕ → Why → Type 0) (lost : ℕ → Type 0)
     (opening : CacheValue) (history : List HistoryEntry) (none some all : List (ℕ × MemberValue S)) (accepted : ℕ) (s t u : ServerValue)
-    → none ≡ [] → GoesOnTogether spoke ended none 0 s some accepted t → GoesOnTogether spoke ended some accepted t all accepted u
-    → ((k : ℕ) → k < accepted → member_at all k ≡ None) → ServerStands opening s history → ServesEach ended s.prefix opening history accepted u
-serves_all spoke ended opening history none some all accepted s t u e p q gone stands =
-    keeps_all spoke ended s.prefix opening history all accepted u gone
-    (q.on s.prefix opening history (p.on s.prefix opening history (keeps_first spoke ended opening history none s e stands)))
+    → none ≡ [] → GoesOnTogether false spoke ended lost none 0 s some accepted t → GoesOnTogether true spoke ended lost some accepted t all accepted u
+    → ((k : ℕ) → k < accepted → member_at all k ≡ None) → ServerStands opening s history → ServesEach true ended lost s.prefix opening history accepted u
+serves_cut spoke ended lost opening history none some all accepted s t u e p q gone stands =
+    keeps_all true spoke ended lost s.prefix opening history all accepted u gone
+    (q.on s.prefix opening history (keeps_cut spoke ended lost s.prefix opening history some accepted t (p.on s.prefix opening history (keeps_first false spoke ended lost opening history none s e stands))))
 
 -- one more connection isn't open
-pub gone_more : {S : Type 0} (spoke : ℕ → S → List ℕ → List ℕ → Type 0) (ended : ℕ → List ℕ → List ℕ → Type 0) (number : ℕ) (s t : ServerValue) (old new : List (ℕ × MemberValue S))
-    → EndsIfAny spoke ended number s old t new → ((k : ℕ) → k < number → member_at old k ≡ None) → (k : ℕ) → k < number + 1 → member_at new k ≡ None
-gone_more {S} spoke ended number s t old new ends gone k h = by_test (eqb_tells k number)
+pub gone_more : {S : Type 0} (spoke : ℕ → S → List ℕ → List ℕ → Type 0) (over : S → Type 0) (ended : ℕ → List ℕ → List ℕ → Why → Type 0) (lost : ℕ → Type 0) (number : ℕ) (why : Why) (s t : ServerValue) (old new : List (ℕ × MemberValue S))
+    → EndsIfAny spoke over ended lost number why s old t new → ((k : ℕ) → k < number → member_at old k ≡ None) → (k : ℕ) → k < number + 1 → member_at new k ≡ None
+gone_more {S} spoke over ended lost number why s t old new ends gone k h = by_test (eqb_tells k number)
   where
-    at : EndsIfAny spoke ended number s old t new → member_at new number ≡ None
+    at : EndsIfAny spoke over ended lost number why s old t new → member_at new number ≡ None
     at (inl e) = e.gone
     at (inr (none, same, all)) = all number ∙ none
 
-    others : EndsIfAny spoke ended number s old t new → (k ≡ number → ⊥) → member_at new k ≡ member_at old k
+    others : EndsIfAny spoke over ended lost number why s old t new → (k ≡ number → ⊥) → member_at new k ≡ member_at old k
     others (inl e) n = e.others k n
     others (inr (none, same, all)) n = all k
 

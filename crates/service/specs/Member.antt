@@ -1,12 +1,13 @@
 -- An open connection, one of many.
-use Rattle.std.specs.Prelude.{◌≡◌, ℕ, Bool, true, false, List, [], ◌∷◌, ◌++◌, Option, Some, None}
+use Rattle.std.specs.Prelude.{◌≡◌, ◌⊎◌, ℕ, ⊤, List, [], ◌∷◌, ◌++◌, Option, Some, None, Ok, Err}
 use Rattle.std.specs.Prelude.{drop}
 use Rattle.cache_server.specs.Answer.{AnswerValue, text_of}
 use Rattle.cache_server.specs.Cache.{CacheValue}
 use Rattle.cache_server.specs.History.{HistoryEntry}
 use Rattle.cache_server.specs.Server.{ServerValue, ServerStands}
-use Rattle.service.specs.Sockets.{Stays}
-use Rattle.service.specs.Talks.{Talks, entry_number}
+use Rattle.service.specs.Sockets.{Stays, Why}
+use Rattle.cache_server.specs.declared.error.ConnError.TheVariants.{Memory}
+use Rattle.service.specs.Talks.{IsShut, MayEnd, Talks, entry_number}
 use Rattle.service.specs.declared.turn.Turn.{Turn}
 use Rattle.service.specs.declared.turn.Turn.TheVariants.{Again, Waits, Held, Ends}
 
@@ -37,69 +38,90 @@ pub record TalksOn
   pub said : spoke k m.stream read sent
   pub talks : Talks prefix opening history entries k read sent m.left m.unsent
 
--- it may end
-pub record MayEnd
-    {S : Type 0} (spoke : ℕ → S → List ℕ → List ℕ → Type 0) (prefix : List ℕ)
+-- it may end, for this reason
+pub record MayEndNow
+    {S : Type 0} (spoke : ℕ → S → List ℕ → List ℕ → Type 0) (over : S → Type 0) (prefix : List ℕ)
     (opening : CacheValue) (history entries : List HistoryEntry) (k : ℕ) (stream : S)
-    : Type 0 where
+    (why : Why) : Type 0 where
   pub read : List ℕ
   pub sent : List ℕ
   pub left : List ℕ
   pub unsent : List ℕ
   pub said : spoke k stream read sent
   pub talks : Talks prefix opening history entries k read sent left unsent
+  pub may : MayEnd (over stream) (IsShut prefix k (history ++ entries)) left unsent why
 
-abbrev pub ends_by : Turn → Bool
-ends_by Again = false
-ends_by Waits = false
-ends_by Held = false
-ends_by (Ends end) = true
+-- why it ends with this turn, if it does
+abbrev pub end_of : Turn → Option Why
+end_of Again = None
+end_of Waits = None
+end_of Held = None
+end_of (Ends why) = Some why
 
+-- it ends only with a fault: memory is wanting, or this holds
+abbrev pub FailsFor : Type 0 → Option Why → Type 0
+FailsFor over None = ⊤
+FailsFor over (Some (Ok done)) = ⊥
+FailsFor over (Some (Err e)) = (e ≡ Memory) ⊎ over
+
+-- it ends only without a fault
+abbrev pub EndsWell : Option Why → Type 0
+EndsWell None = ⊤
+EndsWell (Some (Ok done)) = ⊤
+EndsWell (Some (Err e)) = ⊥
+
+-- it goes on, or ends for this reason
 abbrev pub TalksOnUnless :
-    {S : Type 0} → Bool → (ℕ → S → List ℕ → List ℕ → Type 0) → List ℕ → CacheValue
-    → List HistoryEntry → List HistoryEntry → ℕ → MemberValue S → Type 0
-TalksOnUnless false spoke prefix opening history entries k m =
+    {S : Type 0} → Option Why → (ℕ → S → List ℕ → List ℕ → Type 0)
+    → (S → Type 0) → List ℕ → CacheValue → List HistoryEntry → List HistoryEntry → ℕ
+    → MemberValue S → Type 0
+TalksOnUnless None spoke over prefix opening history entries k m =
     TalksOn spoke prefix opening history entries k m
-TalksOnUnless true spoke prefix opening history entries k m =
-    MayEnd spoke prefix opening history entries k m.stream
+TalksOnUnless (Some why) spoke over prefix opening history entries k m =
+    MayEndNow spoke over prefix opening history entries k m.stream why
 
 abbrev pub AreOf : ℕ → List HistoryEntry → Type 0
 AreOf k [] = Unit {0}
 AreOf k (entry ∷ entries) = (entry_number entry ≡ k) × AreOf k entries
 
--- entries of the connection alone led to the server, and it goes on, or may end
+-- entries of the connection alone led to the server, and it goes on, or ends
 pub record HasMovedOn
-    {S : Type 0} (ends : Bool) (spoke : ℕ → S → List ℕ → List ℕ → Type 0) (prefix : List ℕ)
+    {S : Type 0} (end : Option Why)
+    (spoke : ℕ → S → List ℕ → List ℕ → Type 0) (over : S → Type 0) (prefix : List ℕ)
     (opening : CacheValue) (history entries : List HistoryEntry) (k : ℕ) (m : MemberValue S)
     (server : ServerValue) : Type 0 where
   pub more : List HistoryEntry
   pub theirs : AreOf k more
   pub stands : ServerStands opening server (history ++ (entries ++ more))
   pub same : server.prefix ≡ prefix
-  pub holds : TalksOnUnless ends spoke prefix opening history (entries ++ more) k m
+  pub holds : TalksOnUnless end spoke over prefix opening history (entries ++ more) k m
 
 -- so it is whatever history had led to the server
 pub record MovesOn
-    {S : Type 0} (ends : Bool) (spoke : ℕ → S → List ℕ → List ℕ → Type 0) (k : ℕ)
+    {S : Type 0} (end : Option Why)
+    (spoke : ℕ → S → List ℕ → List ℕ → Type 0) (over : S → Type 0) (k : ℕ)
     (old : ServerValue) (before : MemberValue S) (new : ServerValue) (after : MemberValue S)
     : Type 0 where
   pub on : (opening : CacheValue) (history entries : List HistoryEntry)
       → ServerStands opening old (history ++ entries)
       → TalksOn spoke old.prefix opening history entries k before
-      → HasMovedOn ends spoke old.prefix opening history entries k after new
+      → HasMovedOn end spoke over old.prefix opening history entries k after new
 
 -- some was read or sent, and nothing came to the server
 pub record Passes
-    {S : Type 0} (ends : Bool) (spoke : ℕ → S → List ℕ → List ℕ → Type 0)
+    {S : Type 0} (end : Option Why)
+    (spoke : ℕ → S → List ℕ → List ℕ → Type 0) (over : S → Type 0)
     (before after : MemberValue S) : Type 0 where
   pub on : (prefix : List ℕ) (opening : CacheValue) (history entries : List HistoryEntry) (k : ℕ)
       → TalksOn spoke prefix opening history entries k before
-      → TalksOnUnless ends spoke prefix opening history entries k after
+      → TalksOnUnless end spoke over prefix opening history entries k after
 
 -- so it is, where so many bytes of what wasn't sent were sent before it
 pub record PassesSent
-    {S : Type 0} (ends : Bool) (spoke : ℕ → S → List ℕ → List ℕ → Type 0) (count : ℕ)
+    {S : Type 0} (end : Option Why)
+    (spoke : ℕ → S → List ℕ → List ℕ → Type 0) (over : S → Type 0) (count : ℕ)
     (before after : MemberValue S) : Type 0 where
-  pub left : ends ≡ false → after.left ≡ before.left
-  pub unsent : ends ≡ false → after.unsent ≡ drop count before.unsent
+  pub left : end ≡ None → after.left ≡ before.left
+  pub unsent : end ≡ None → after.unsent ≡ drop count before.unsent
   pub stays : Stays spoke before.stream after.stream
+  pub fails : FailsFor (over after.stream) end

@@ -1,5 +1,13 @@
 -- What is said of a stream: which connection it is, what was read of it, and what was sent to it.
-use Rattle.std.specs.Prelude.{ℕ, List, ◌++◌}
+use Rattle.std.specs.Prelude.{◌≡◌, ℕ, List, ◌++◌, Result}
+use Rattle.std.specs.IoError.{error_kind}
+use Rattle.std.specs.declared.io.Error.{Error}
+use Rattle.std.specs.declared.io.ErrorKind.TheVariants.{Interrupted, OutOfMemory, WouldBlock}
+use Rattle.cache_server.specs.declared.error.ConnError.{ConnError}
+
+-- why a connection ends: without a fault, or for one
+abbrev pub Why : Type 0
+Why = Result (Unit {0}) ConnError
 
 -- these bytes were read of the stream
 abbrev pub ReadsFrom : {S : Type 0} → (ℕ → S → List ℕ → List ℕ → Type 0) → S → List ℕ → S → Type 0
@@ -16,8 +24,17 @@ abbrev pub Stays : {S : Type 0} → (ℕ → S → List ℕ → List ℕ → Typ
 Stays spoke old new =
     (k : ℕ) (read sent : List ℕ) → spoke k old read sent → spoke k new read sent
 
--- what was said of the stream is said of a connection that has ended
-abbrev pub EndsAs :
-    {S : Type 0} → (ℕ → S → List ℕ → List ℕ → Type 0) → S → (ℕ → List ℕ → List ℕ → Type 0) → Type 0
-EndsAs spoke stream ended =
-    (k : ℕ) (read sent : List ℕ) → spoke k stream read sent → ended k read sent
+-- a fault of the stream: not that it has nothing yet, was interrupted, or found no memory
+pub record IsBroken (e : Error) : Type 0 where
+  pub has : error_kind e ≡ WouldBlock → ⊥
+  pub was : error_kind e ≡ Interrupted → ⊥
+  pub room : error_kind e ≡ OutOfMemory → ⊥
+
+-- what was said of the stream is said of a connection that has ended, for this reason
+pub record EndsAs
+    {S : Type 0} (spoke : ℕ → S → List ℕ → List ℕ → Type 0) (over : S → Type 0) (stream : S)
+    (why : Why)
+    (ended : ℕ → List ℕ → List ℕ → Why → Type 0) (lost : ℕ → Type 0)
+    : Type 0 where
+  pub said : (k : ℕ) (read sent : List ℕ) → spoke k stream read sent → ended k read sent why
+  pub found : (k : ℕ) (read sent : List ℕ) → spoke k stream read sent → over stream → lost k

@@ -1,9 +1,14 @@
 -- What is asked over connections, and what is answered there.
-use Rattle.std.specs.Prelude.{◌≡◌, ℕ, ◌<◌, List, [], ◌∷◌, ◌++◌, Option, Some, None, drop}
-use Rattle.cache_server.specs.Answer.{AnswerValue, text_of}
+use Rattle.std.specs.Prelude.{◌≡◌, ◌⊎◌, ℕ, ◌<◌, Bool, true, false, ⊤, List, [], ◌∷◌, ◌++◌, None}
+use Rattle.std.specs.Prelude.{Ok, Err}
+use Rattle.http_core.specs.Event.{EventValue}
+use Rattle.http_core.specs.Stream.{Cuts}
 use Rattle.cache_server.specs.Cache.{CacheValue}
-use Rattle.cache_server.specs.History.{HistoryEntry, Piece, Fail, End, AnswersTo}
+use Rattle.cache_server.specs.History.{HistoryEntry, Piece, Fail, End, stream_of, has_failed}
 use Rattle.cache_server.specs.Server.{ServerValue, ServerStands}
+use Rattle.cache_server.specs.Turn.{IsOneAnswerTo}
+use Rattle.cache_server.specs.declared.error.ConnError.TheVariants.{Memory}
+use Rattle.service.specs.Sockets.{Why}
 
 -- which connection an entry of a history is of
 abbrev pub entry_number : HistoryEntry → ℕ
@@ -11,50 +16,73 @@ entry_number (Piece k bytes) = k
 entry_number (Fail k) = k
 entry_number (End k) = k
 
--- In the entries after the history these bytes came over the connection, and this text is the
--- answers to them, in order. What was at hand as memory was wanting has none.
+-- In the entries after the history these bytes came over the connection, one request at a time; the
+-- answers to all but the last are `earlier`, and `last` is that to the last. What was at hand as
+-- memory was wanting has none.
 pub data Answered (prefix : List ℕ) (opening : CacheValue) (history : List HistoryEntry) (k : ℕ)
-    : List HistoryEntry → List ℕ → List ℕ → Type 0 where
-  none : Answered prefix opening history k [] [] []
-  piece : (entries : List HistoryEntry) (came text bytes answer : List ℕ)
-      → Answered prefix opening history k entries came text
-      → AnswersTo prefix opening (history ++ entries) (Piece k bytes) answer
+    : List HistoryEntry → List ℕ → List ℕ → List ℕ → Type 0 where
+  none : Answered prefix opening history k [] [] [] []
+  piece : (entries : List HistoryEntry) (came earlier last bytes answer : List ℕ)
+      → Answered prefix opening history k entries came earlier last
+      → IsOneAnswerTo prefix opening (history ++ entries) (Piece k bytes) answer
       → Answered prefix opening history k
-      (entries ++ Piece k bytes ∷ []) (came ++ bytes) (text ++ answer)
-  lost : (entries : List HistoryEntry) (came text bytes : List ℕ)
-      → Answered prefix opening history k entries came text
+      (entries ++ Piece k bytes ∷ []) (came ++ bytes) (earlier ++ last) answer
+  lost : (entries : List HistoryEntry) (came earlier last bytes : List ℕ)
+      → Answered prefix opening history k entries came earlier last
       → Answered prefix opening history k
-      (entries ++ (Piece k bytes ∷ Fail k ∷ [])) (came ++ bytes) text
-  ended : (entries : List HistoryEntry) (came text : List ℕ)
-      → Answered prefix opening history k entries came text
-      → Answered prefix opening history k (entries ++ End k ∷ []) came text
-  other : (entries : List HistoryEntry) (came text : List ℕ) (entry : HistoryEntry)
-      → Answered prefix opening history k entries came text
+      (entries ++ (Piece k bytes ∷ Fail k ∷ [])) (came ++ bytes) earlier last
+  other : (entries : List HistoryEntry) (came earlier last : List ℕ) (entry : HistoryEntry)
+      → Answered prefix opening history k entries came earlier last
       → (entry_number entry ≡ k → ⊥)
-      → Answered prefix opening history k (entries ++ entry ∷ []) came text
+      → Answered prefix opening history k (entries ++ entry ∷ []) came earlier last
 
--- Of what was read of the connection all but `left` came to the server, and the answers to that
--- were sent but for `unsent`.
+-- Of what was read of the connection all but `left` came to the server, and the answers to that were
+-- sent but for `unsent`, which is of one answer.
 pub record Talks
     (prefix : List ℕ) (opening : CacheValue) (history entries : List HistoryEntry) (k : ℕ)
     (read sent left unsent : List ℕ) : Type 0 where
   pub came : List ℕ
-  pub text : List ℕ
+  pub earlier : List ℕ
+  pub part : List ℕ
   pub reading : read ≡ came ++ left
-  pub sending : text ≡ sent ++ unsent
-  pub answered : Answered prefix opening history k entries came text
+  pub sending : sent ≡ earlier ++ part
+  pub answered : Answered prefix opening history k entries came earlier (part ++ unsent)
 
--- The connection has ended: a beginning of what was read of it came to the server, and a beginning
--- of the answers to that was sent.
+-- no further byte on the connection can be answered: a request closes it, or memory was wanting
+abbrev pub IsShut : List ℕ → ℕ → List HistoryEntry → Type 0
+IsShut prefix k history =
+    (has_failed k history ≡ true)
+    ⊎ ((events : List EventValue) × Cuts prefix (stream_of k history) events None)
+
+-- Why a connection may end. Without a fault it is over, and all that was read is answered and sent,
+-- or no more can be answered, and the last answer is sent. With one memory is wanting, or it is over.
+abbrev pub MayEnd : Type 0 → Type 0 → List ℕ → List ℕ → Why → Type 0
+MayEnd over shut left unsent (Ok done) =
+    (over × (left ≡ []) × (unsent ≡ [])) ⊎ (shut × (unsent ≡ []))
+MayEnd over shut left unsent (Err e) = (e ≡ Memory) ⊎ over
+
+-- so it is, unless the whole run was cut off
+abbrev pub Unless : Bool → Type 0 → Type 0
+Unless false P = P
+Unless true P = ⊤
+
+-- The connection has ended, after these entries. Until then a beginning of what was read of it came
+-- to the server, and a beginning of the answers to that was sent, to the last one at least.
 pub record HasEnded
-    (ended : ℕ → List ℕ → List ℕ → Type 0) (prefix : List ℕ) (opening : CacheValue)
+    (cut : Bool) (ended : ℕ → List ℕ → List ℕ → Why → Type 0)
+    (lost : ℕ → Type 0) (prefix : List ℕ) (opening : CacheValue)
     (history entries : List HistoryEntry) (k : ℕ) : Type 0 where
+  pub before : List HistoryEntry
+  pub after : List HistoryEntry
+  pub whole : entries ≡ before ++ End k ∷ after
   pub read : List ℕ
   pub sent : List ℕ
   pub left : List ℕ
   pub unsent : List ℕ
-  pub is : ended k read sent
-  pub talks : Talks prefix opening history entries k read sent left unsent
+  pub why : Why
+  pub is : ended k read sent why
+  pub talks : Talks prefix opening history before k read sent left unsent
+  pub may : Unless cut (MayEnd (lost k) (IsShut prefix k (history ++ before)) left unsent why)
 
 -- each entry is of a connection with a number below this one
 abbrev pub AreBelow : ℕ → List HistoryEntry → Type 0
@@ -64,9 +92,10 @@ AreBelow count (entry ∷ entries) = (entry_number entry < count) × AreBelow co
 -- Of the connections with a number below this one each has ended, and what came over them alone led
 -- to the server.
 pub record ServesEach
-    (ended : ℕ → List ℕ → List ℕ → Type 0) (prefix : List ℕ) (opening : CacheValue)
+    (cut : Bool) (ended : ℕ → List ℕ → List ℕ → Why → Type 0)
+    (lost : ℕ → Type 0) (prefix : List ℕ) (opening : CacheValue)
     (history : List HistoryEntry) (count : ℕ) (new : ServerValue) : Type 0 where
   pub entries : List HistoryEntry
   pub stands : ServerStands opening new (history ++ entries)
   pub theirs : AreBelow count entries
-  pub each : (k : ℕ) → k < count → HasEnded ended prefix opening history entries k
+  pub each : (k : ℕ) → k < count → HasEnded cut ended lost prefix opening history entries k

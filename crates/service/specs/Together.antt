@@ -5,9 +5,9 @@ use Rattle.std.specs.BTreeMap.{is_at}
 use Rattle.std.specs.Map.{lookup}
 use Rattle.cache_server.specs.Cache.{CacheValue}
 use Rattle.cache_server.specs.History.{HistoryEntry, End}
-use Rattle.cache_server.specs.Server.{ServerValue, ServerStands}
-use Rattle.service.specs.Talks.{HasEnded, AreBelow}
-use Rattle.service.specs.Sockets.{EndsAs}
+use Rattle.cache_server.specs.Server.{ServerValue, ServerStands, IsOpenAt, session_at}
+use Rattle.service.specs.Talks.{HasEnded, MayEnd, AreBelow}
+use Rattle.service.specs.Sockets.{EndsAs, Why}
 use Rattle.service.specs.Member.{MemberValue, TalksOn, MovesOn, new_member}
 
 abbrev pub member_at : {S : Type 0} → List (ℕ × MemberValue S) → ℕ → Option (MemberValue S)
@@ -15,16 +15,18 @@ member_at members k = lookup (is_at (nat_cmp k)) members
 
 -- a connection is open and goes on, or has ended
 abbrev pub TalksOrEnded :
-    {S : Type 0} → (ℕ → S → List ℕ → List ℕ → Type 0) → (ℕ → List ℕ → List ℕ → Type 0) → List ℕ
+    {S : Type 0} → Bool → (ℕ → S → List ℕ → List ℕ → Type 0)
+    → (ℕ → List ℕ → List ℕ → Why → Type 0) → (ℕ → Type 0) → List ℕ
     → CacheValue → List HistoryEntry → List HistoryEntry → ℕ → Option (MemberValue S) → Type 0
-TalksOrEnded spoke ended prefix opening history entries k None =
-    HasEnded ended prefix opening history entries k
-TalksOrEnded spoke ended prefix opening history entries k (Some m) =
+TalksOrEnded cut spoke ended lost prefix opening history entries k None =
+    HasEnded cut ended lost prefix opening history entries k
+TalksOrEnded cut spoke ended lost prefix opening history entries k (Some m) =
     TalksOn spoke prefix opening history entries k m
 
 -- so many connections were accepted, and the entries are of these alone
 pub record KeepsTogether
-    {S : Type 0} (spoke : ℕ → S → List ℕ → List ℕ → Type 0) (ended : ℕ → List ℕ → List ℕ → Type 0)
+    {S : Type 0} (cut : Bool) (spoke : ℕ → S → List ℕ → List ℕ → Type 0)
+    (ended : ℕ → List ℕ → List ℕ → Why → Type 0) (lost : ℕ → Type 0)
     (prefix : List ℕ) (opening : CacheValue) (history : List HistoryEntry)
     (members : List (ℕ × MemberValue S)) (accepted : ℕ) (server : ServerValue) : Type 0 where
   pub entries : List HistoryEntry
@@ -32,17 +34,18 @@ pub record KeepsTogether
   pub same : server.prefix ≡ prefix
   pub theirs : AreBelow accepted entries
   pub each : (k : ℕ) → k < accepted
-      → TalksOrEnded spoke ended prefix opening history entries k (member_at members k)
+      → TalksOrEnded cut spoke ended lost prefix opening history entries k (member_at members k)
   pub fresh : (k : ℕ) → accepted ≤ k → member_at members k ≡ None
 
 -- so it is afterwards, where it was so before
 pub record GoesOnTogether
-    {S : Type 0} (spoke : ℕ → S → List ℕ → List ℕ → Type 0) (ended : ℕ → List ℕ → List ℕ → Type 0)
+    {S : Type 0} (cut : Bool) (spoke : ℕ → S → List ℕ → List ℕ → Type 0)
+    (ended : ℕ → List ℕ → List ℕ → Why → Type 0) (lost : ℕ → Type 0)
     (members : List (ℕ × MemberValue S)) (accepted : ℕ) (server : ServerValue)
     (members' : List (ℕ × MemberValue S)) (accepted' : ℕ) (server' : ServerValue) : Type 0 where
   pub on : (prefix : List ℕ) (opening : CacheValue) (history : List HistoryEntry)
-      → KeepsTogether spoke ended prefix opening history members accepted server
-      → KeepsTogether spoke ended prefix opening history members' accepted' server'
+      → KeepsTogether cut spoke ended lost prefix opening history members accepted server
+      → KeepsTogether cut spoke ended lost prefix opening history members' accepted' server'
 
 -- the same connections
 abbrev pub AreSame : {S : Type 0} → List (ℕ × MemberValue S) → List (ℕ × MemberValue S) → Type 0
@@ -54,7 +57,8 @@ OthersAreSame k old new = (j : ℕ) → (j ≡ k → ⊥) → member_at new j �
 
 -- the connection with the number has moved on
 pub record MovesOnAt
-    {S : Type 0} (ends : Bool) (spoke : ℕ → S → List ℕ → List ℕ → Type 0) (k : ℕ)
+    {S : Type 0} (end : Option Why)
+    (spoke : ℕ → S → List ℕ → List ℕ → Type 0) (over : S → Type 0) (k : ℕ)
     (old : ServerValue) (members : List (ℕ × MemberValue S))
     (new : ServerValue) (members' : List (ℕ × MemberValue S)) : Type 0 where
   pub before : MemberValue S
@@ -62,7 +66,7 @@ pub record MovesOnAt
   pub held : member_at members k ≡ Some before
   pub at : member_at members' k ≡ Some after
   pub others : OthersAreSame k members members'
-  pub moves : MovesOn ends spoke k old before new after
+  pub moves : MovesOn end spoke over k old before new after
 
 -- a new connection
 pub record EntersAt
@@ -71,16 +75,26 @@ pub record EntersAt
   pub at : member_at new k ≡ Some (new_member stream)
   pub others : OthersAreSame k old new
 
--- the connection with the number was ended, and the server was told
+-- the connection with the number may end for this reason
+pub record MayEndAt
+    {S : Type 0} (over : S → Type 0) (k : ℕ) (server : ServerValue)
+    (members : List (ℕ × MemberValue S)) (why : Why) : Type 0 where
+  pub m : MemberValue S
+  pub held : member_at members k ≡ Some m
+  pub may : MayEnd (over m.stream) (IsOpenAt (session_at server k) → ⊥) m.left m.unsent why
+
+-- the connection with the number was ended for this reason, and the server was told
 pub record EndsAt
-    {S : Type 0} (spoke : ℕ → S → List ℕ → List ℕ → Type 0) (ended : ℕ → List ℕ → List ℕ → Type 0)
-    (k : ℕ) (old : ServerValue) (members : List (ℕ × MemberValue S))
+    {S : Type 0} (spoke : ℕ → S → List ℕ → List ℕ → Type 0) (over : S → Type 0)
+    (ended : ℕ → List ℕ → List ℕ → Why → Type 0) (lost : ℕ → Type 0)
+    (k : ℕ) (why : Why)
+    (old : ServerValue) (members : List (ℕ × MemberValue S))
     (new : ServerValue) (members' : List (ℕ × MemberValue S)) : Type 0 where
   pub m : MemberValue S
   pub held : member_at members k ≡ Some m
   pub gone : member_at members' k ≡ None
   pub others : OthersAreSame k members members'
-  pub ends : EndsAs spoke m.stream ended
+  pub ends : EndsAs spoke over m.stream why ended lost
   pub same : new.prefix ≡ old.prefix
   pub stands : (opening : CacheValue) (history : List HistoryEntry)
       → ServerStands opening old history
@@ -88,8 +102,10 @@ pub record EndsAt
 
 -- it was ended, or there was none
 abbrev pub EndsIfAny :
-    {S : Type 0} → (ℕ → S → List ℕ → List ℕ → Type 0) → (ℕ → List ℕ → List ℕ → Type 0)
-    → ℕ → ServerValue → List (ℕ × MemberValue S) → ServerValue → List (ℕ × MemberValue S) → Type 0
-EndsIfAny spoke ended k old members new members' =
-    EndsAt spoke ended k old members new members'
+    {S : Type 0} → (ℕ → S → List ℕ → List ℕ → Type 0) → (S → Type 0)
+    → (ℕ → List ℕ → List ℕ → Why → Type 0) → (ℕ → Type 0)
+    → ℕ → Why → ServerValue → List (ℕ × MemberValue S)
+    → ServerValue → List (ℕ × MemberValue S) → Type 0
+EndsIfAny spoke over ended lost k why old members new members' =
+    EndsAt spoke over ended lost k why old members new members'
     ⊎ ((member_at members k ≡ None) × (new ≡ old) × AreSame members members')

@@ -1,4 +1,5 @@
 use crate::sockets::{Peer, Ready, Sockets};
+use cache_server::ConnError;
 use mio::net::{TcpListener, TcpStream};
 use mio::{Events, Interest, Poll, Token};
 use std::alloc::Global;
@@ -44,6 +45,8 @@ impl Epoll {
 impl Peer for TcpStream {
     ghost spoke = { λ _ _ _ _. Unit {0} };
 
+    ghost over = { λ _. Unit {0} };
+
     fn read(&mut self, buffer: &mut [u8]) -> io::Result<usize> {
         let mut stream = &*self;
         Read::read(&mut stream, buffer)
@@ -52,6 +55,10 @@ impl Peer for TcpStream {
     fn write(&mut self, bytes: &[u8]) -> io::Result<usize> {
         let mut stream = &*self;
         Write::write(&mut stream, bytes)
+    }
+
+    fn is_silent(&self, silent: u64, allowed: u64) -> bool {
+        silent >= allowed
     }
 
     fn shut(&mut self) {
@@ -67,7 +74,9 @@ impl Peer for TcpStream {
 impl Sockets for Epoll {
     type Stream = TcpStream;
 
-    ghost ended = { λ _ _ _. Unit {0} };
+    ghost ended = { λ _ _ _ _. Unit {0} };
+
+    ghost lost = { λ _. Unit {0} };
 
     fn accept(&mut self, number: u64) -> io::Result<(TcpStream, SocketAddr)> {
         let (stream, peer) = self.listener.accept()?;
@@ -80,7 +89,8 @@ impl Sockets for Epoll {
         Ok((stream, peer))
     }
 
-    fn end(&mut self, stream: TcpStream) {
+    fn end(&mut self, stream: TcpStream, why: Result<(), ConnError>) {
+        let _why = why;
         let _closed = stream;
     }
 

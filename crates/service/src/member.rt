@@ -1,7 +1,9 @@
-ghost use Rattle.std.specs.Prelude.{◌≡◌, [], take, drop, true, IfOk, OnErr};
-ghost use Rattle.service.specs.Member.{MovesOn, Passes, PassesSent, ends_by, new_member};
-ghost use Rattle.service.specs.Member.{unsent_of};
-ghost use Rattle.service.specs.Sockets.{SendsTo, Stays};
+ghost use Rattle.std.specs.Prelude.{◌≡◌, [], take, drop, true, IfErr, IfOk, IfSome, IsTrue, OnErr};
+ghost use Rattle.cache_server.specs.Server.{IsOpenAt, session_at};
+ghost use Rattle.service.specs.Member.{EndsWell, FailsFor, MovesOn, Passes, PassesSent, end_of};
+ghost use Rattle.service.specs.Member.{new_member, unsent_of};
+ghost use Rattle.service.specs.Sockets.{IsBroken, SendsTo, Stays};
+ghost use Rattle.service.specs.Talks.{MayEnd};
 
 use crate::desk::Desk;
 use crate::load::{Leave, Load};
@@ -175,14 +177,29 @@ impl<S: Peer + Drop> Member<S> {
         Some(self.moved.saturating_add(idle))
     }
 
-    /// What came of it where it was silent for too long.
-    pub(crate) fn silence(&self) -> Result<(), ConnError> {
-        if self.lingering.is_some() {
-            Ok(())
-        } else if self.answer.is_some() {
-            Err(ConnError::WriteFault)
+    /// Why it ends, where it was silent for too long: its deadline is over, and so says its stream.
+    pub(crate) fn silence(
+        &self,
+        is_open: bool,
+        idle: Option<u64>,
+        pressed: bool,
+        now: u64,
+    ) -> Option<Result<(), ConnError>>
+        ensures { IfSome result (λ why. MayEnd (S.over self.now.stream) (IsTrue is_open → ⊥)
+            self.now.left self.now.unsent why) }
+    {
+        let allowed = self.deadline(idle, pressed)?.saturating_sub(self.moved);
+        if self.answer.is_none() && !is_open {
+            return Some(Ok(()));
+        }
+        let silent = now.saturating_sub(self.moved);
+        if !self.stream.is_silent(silent, allowed) {
+            return None;
+        }
+        if self.answer.is_some() {
+            Some(Err(ConnError::WriteFault))
         } else {
-            Err(ConnError::ReadFault)
+            Some(Err(ConnError::ReadFault))
         }
     }
 
@@ -196,7 +213,8 @@ impl<S: Peer + Drop> Member<S> {
         leave: Leave,
         now: u64,
     ) -> Turn
-        ensures { MovesOn (ends_by result) S.spoke number server.old self.old server.new self.new }
+        ensures { MovesOn (end_of result) S.spoke S.over number
+            server.old self.old server.new self.new }
     {
         for _ in 0..STEPS {
             match self.step(number, server, desk, leave, now) {
@@ -219,7 +237,7 @@ impl<S: Peer + Drop> Member<S> {
         Turn::Again
     }
 
-    #[tactic(auto, using(crate::proofs::Talking::moves_nowhere, crate::proofs::Talking::passes_moves, crate::proofs::Talking::stays_moves))]
+    #[tactic(auto, using(crate::proofs::Talking::moves_nowhere, crate::proofs::Talking::passes_moves, crate::proofs::Talking::stays_moves, crate::proofs::Talking::lingers_moves))]
     fn step(
         &mut self,
         number: u64,
@@ -228,13 +246,14 @@ impl<S: Peer + Drop> Member<S> {
         leave: Leave,
         now: u64,
     ) -> Turn
-        ensures { MovesOn (ends_by result) S.spoke number server.old self.old server.new self.new }
+        ensures { MovesOn (end_of result) S.spoke S.over number
+            server.old self.old server.new self.new }
     {
+        let is_last = !server.is_open(number);
         if self.answer.is_some() {
-            let is_last = !server.is_open(number);
             return self.send(is_last, desk, now);
         }
-        if self.lingering.is_some() {
+        if is_last {
             return self.linger(desk, now);
         }
         if !leave.answers {
@@ -253,9 +272,8 @@ impl<S: Peer + Drop> Member<S> {
     }
 
     /// Sends some of the answer.
-    #[tactic(auto, using(crate::proofs::Talking::stays_passes))]
     fn send(&mut self, is_last: bool, desk: &mut Desk, now: u64) -> Turn
-        ensures { Passes (ends_by result) S.spoke self.old self.new }
+        ensures { Passes (end_of result) S.spoke S.over self.old self.new }
     {
         match self.write_some(desk) {
             Ok(count) => self.pass(count, is_last, now),
@@ -270,9 +288,11 @@ impl<S: Peer + Drop> Member<S> {
         ensures sent { IfOk result (λ count.
             SendsTo S.spoke self.old.stream (take count self.old.unsent) self.new.stream) }
         ensures fault { OnErr result (Stays S.spoke self.old.stream self.new.stream) }
+        ensures end { IfOk result (λ count. count ≡ 0 → S.over self.new.stream) }
+        ensures broken { IfErr result (λ e. IsBroken e → S.over self.new.stream) }
     {
         let Some(answer) = &self.answer else {
-            return Err(io::Error::from(ErrorKind::Other));
+            return Err(io::Error::from(ErrorKind::Interrupted));
         };
         let head = answer.head().len();
         if self.sent >= head {
@@ -283,12 +303,13 @@ impl<S: Peer + Drop> Member<S> {
     }
 
     /// So much more of the answer is sent.
-    #[tactic(auto, using(crate::proofs::Talking::sends_end, crate::proofs::Talking::sends_more))]
+    #[tactic(auto, using(crate::proofs::Talking::sends_lost, crate::proofs::Talking::sends_over, crate::proofs::Talking::sends_more))]
     fn pass(&mut self, count: usize, is_last: bool, now: u64) -> Turn
-        ensures { PassesSent (ends_by result) S.spoke count self.old self.new }
+        requires { count ≡ 0 → S.over self.old.stream }
+        ensures { PassesSent (end_of result) S.spoke S.over count self.old self.new }
     {
         let Some(sent) = self.sent.checked_add(count) else {
-            return Turn::Ends(Err(ConnError::WriteFault));
+            return Turn::Ends(Err(ConnError::Memory));
         };
         if count == 0 {
             return Turn::Ends(Err(ConnError::WriteFault));
@@ -338,6 +359,7 @@ impl<S: Peer + Drop> Member<S> {
 
     /// Drops some of what still comes.
     fn linger(&mut self, desk: &mut Desk, now: u64) -> Turn
+        ensures end { EndsWell (end_of result) }
         ensures left { self.new.left ≡ self.old.left }
         ensures unsent { self.new.unsent ≡ self.old.unsent }
         ensures stays { Stays S.spoke self.old.stream self.new.stream }
@@ -375,7 +397,8 @@ impl<S: Peer + Drop> Member<S> {
     /// Answers the next request of what was read before.
     fn go_on(&mut self, number: u64, server: &mut Server<Global>, desk: &Desk) -> Turn
         requires { self.old.unsent ≡ [] }
-        ensures { MovesOn (ends_by result) S.spoke number server.old self.old server.new self.new }
+        ensures { MovesOn (end_of result) S.spoke S.over number
+            server.old self.old server.new self.new }
     {
         let input = mem::replace(&mut self.input, Vec::new(desk.alloc));
         let at = self.at.min(input.len());
@@ -402,7 +425,8 @@ impl<S: Peer + Drop> Member<S> {
     ) -> Turn
         requires left { self.old.left ≡ [] }
         requires unsent { self.old.unsent ≡ [] }
-        ensures { MovesOn (ends_by result) S.spoke number server.old self.old server.new self.new }
+        ensures { MovesOn (end_of result) S.spoke S.over number
+            server.old self.old server.new self.new }
     {
         let buffer = desk.buffer.as_mut_slice();
         let count = match self.stream.read(buffer) {
@@ -464,7 +488,9 @@ impl<S: Peer + Drop> Member<S> {
 
 /// What comes of a call that failed: without memory, where the system has nothing for it, where it
 /// was interrupted, and otherwise.
-fn after_fault(fault: &io::Error, other: ConnError) -> Turn {
+fn after_fault(fault: &io::Error, other: ConnError) -> Turn
+    ensures { FailsFor (IsBroken fault.now) (end_of result) }
+{
     match fault.kind() {
         ErrorKind::OutOfMemory => Turn::Ends(Err(ConnError::Memory)),
         ErrorKind::WouldBlock => Turn::Waits,

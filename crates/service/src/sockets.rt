@@ -1,7 +1,8 @@
-ghost use Rattle.std.specs.Prelude.{ℕ, List, [], take, IfOk, OnErr};
+ghost use Rattle.std.specs.Prelude.{◌≡◌, ℕ, List, [], take, IfErr, IfOk, IsTrue, OnErr};
 ghost use Rattle.std.specs.Io.{ReadsAtMost, WritesAtMost};
-ghost use Rattle.service.specs.Sockets.{EndsAs, ReadsFrom, SendsTo, Stays};
+ghost use Rattle.service.specs.Sockets.{EndsAs, IsBroken, ReadsFrom, SendsTo, Stays, Why};
 
+use cache_server::ConnError;
 use std::alloc::Global;
 use std::io;
 use std::net::SocketAddr;
@@ -22,19 +23,31 @@ pub trait Peer {
     /// That it is the connection with this number, and that so much was read of it and sent to it.
     ghost spoke: { ℕ → Self → List ℕ → List ℕ → Type 0 };
 
-    /// Reads some bytes, none only at the end or with no room.
+    /// That it is over: its peer has ended it, a call on it failed, or it was silent for too long. Only
+    /// the calls that found it so say it.
+    ghost over: { Self → Type 0 };
+
+    /// Reads some bytes into a buffer that has room, none only at the end.
     fn read(&mut self, buffer: &mut [u8]) -> io::Result<usize>
         ensures bound { ReadsAtMost result buffer.new }
         ensures read { IfOk result (λ count.
             ReadsFrom spoke self.old (take count buffer.new) self.new) }
-        ensures fault { OnErr result (Stays spoke self.old self.new) };
+        ensures fault { OnErr result (Stays spoke self.old self.new) }
+        ensures end { IfOk result (λ count. count ≡ 0 → over self.new) }
+        ensures broken { IfErr result (λ e. IsBroken e → over self.new) };
 
-    /// Sends some of the bytes.
+    /// Sends some of the bytes, of which there are some, and none only where it is over.
     fn write(&mut self, bytes: &[u8]) -> io::Result<usize>
         ensures bound { WritesAtMost result bytes.now }
         ensures sent { IfOk result (λ count.
             SendsTo spoke self.old (take count bytes.now) self.new) }
-        ensures fault { OnErr result (Stays spoke self.old self.new) };
+        ensures fault { OnErr result (Stays spoke self.old self.new) }
+        ensures end { IfOk result (λ count. count ≡ 0 → over self.new) }
+        ensures broken { IfErr result (λ e. IsBroken e → over self.new) };
+
+    /// Whether it was silent for too long: for so many milliseconds, where so many are allowed.
+    fn is_silent(&self, silent: u64, allowed: u64) -> bool
+        ensures { IsTrue result → over self.now };
 
     /// Ends the writing side.
     fn shut(&mut self)
@@ -50,16 +63,19 @@ pub trait Sockets {
     type Stream: Peer + Drop;
 
     /// That the connection with this number has ended, when so much had been read of it and sent to
-    /// it. Only the call that ended it says so.
-    ghost ended: { ℕ → List ℕ → List ℕ → Type 0 };
+    /// it, and why. Only the call that ended it says so.
+    ghost ended: { ℕ → List ℕ → List ℕ → Why → Type 0 };
+
+    /// That it was over then.
+    ghost lost: { ℕ → Type 0 };
 
     /// The next connection, under this number.
     fn accept(&mut self, number: u64) -> io::Result<(Self::Stream, SocketAddr)>
         ensures { IfOk result (λ accepted. Self.Stream.spoke number accepted.0 [] []) };
 
-    /// Ends a connection.
-    fn end(&mut self, stream: Self::Stream)
-        ensures { EndsAs Self.Stream.spoke stream ended };
+    /// Ends a connection, and is told why.
+    fn end(&mut self, stream: Self::Stream, why: Result<(), ConnError>)
+        ensures { EndsAs Self.Stream.spoke Self.Stream.over stream why ended lost };
 
     /// Waits until the system has something, for so long at most, and adds it to what is ready.
     fn wait(&mut self, timeout: Option<Duration>, ready: &mut Vec<Ready, Global>) -> io::Result<()>;

@@ -1,12 +1,12 @@
 ghost use Rattle.std.specs.Prelude.{◌≡◌, ◌<◌, ◌≤◌, ℕ, List, [], None, IfErr, IfOk, IfSome};
-ghost use Rattle.std.specs.Prelude.{OnErr, OnOk};
+ghost use Rattle.std.specs.Prelude.{OnErr, OnOk, false, true};
 ghost use Rattle.cache_server.specs.Cache.{CacheValue};
 ghost use Rattle.cache_server.specs.History.{HistoryEntry};
 ghost use Rattle.cache_server.specs.Server.{ServerStands, ServerValue};
-ghost use Rattle.service.specs.Member.{ends_by};
+ghost use Rattle.service.specs.Member.{end_of};
 ghost use Rattle.service.specs.Talks.{ServesEach};
-ghost use Rattle.service.specs.Together.{AreSame, EndsIfAny, EntersAt, GoesOnTogether, MovesOnAt};
-ghost use Rattle.service.specs.Together.{OthersAreSame, member_at};
+ghost use Rattle.service.specs.Together.{AreSame, EndsIfAny, EntersAt, GoesOnTogether, MayEndAt};
+ghost use Rattle.service.specs.Together.{MovesOnAt, OthersAreSame, member_at};
 
 use crate::desk::Desk;
 use crate::epoll::Epoll;
@@ -65,10 +65,12 @@ pub fn serve_together<R: AllocGlobal + Clock + Log + Net>(
     // What came over these connections led to the server, in the order of its calls.
     ensures ok { OnOk result ((opening : CacheValue) (history : List HistoryEntry)
         → ServerStands opening server.old history
-        → ServesEach (λ _ _ _. Unit {0}) server.old.prefix opening history connections server.new) }
+        → ServesEach false (λ _ _ _ _. Unit {0}) (λ _. Unit {0})
+        server.old.prefix opening history connections server.new) }
     ensures err { IfErr result (λ fault. (opening : CacheValue) (history : List HistoryEntry)
         → ServerStands opening server.old history
-        → ServesEach (λ _ _ _. Unit {0}) server.old.prefix opening history fault.accepted server.new) }
+        → ServesEach true (λ _ _ _ _. Unit {0}) (λ _. Unit {0})
+        server.old.prefix opening history fault.accepted server.new) }
     ensures few { IfErr result (λ fault. fault.accepted ≤ connections) }
 {
     let mut sockets = match Epoll::new(rt, listener) {
@@ -80,7 +82,7 @@ pub fn serve_together<R: AllocGlobal + Clock + Log + Net>(
 
 /// Serves so many connections of the sockets, up to `at_once` of them at a time, none of which waits
 /// for another. Each is read only while it has no answer that isn't sent.
-#[tactic(auto, using(crate::proofs::Whole::serves_all, crate::proofs::Whole::serves_none))]
+#[tactic(auto, using(crate::proofs::Whole::serves_all, crate::proofs::Whole::serves_cut, crate::proofs::Whole::serves_none))]
 pub fn serve_sockets<R: AllocGlobal + Clock + Log, N: Sockets>(
     rt: &R,
     sockets: &mut N,
@@ -89,14 +91,17 @@ pub fn serve_sockets<R: AllocGlobal + Clock + Log, N: Sockets>(
     idle: Option<Duration>,
     server: &mut Server<Global>,
 ) -> Result<(), NotAccepted>
-    // Of each connection a beginning of what was read came to the server, and a beginning of the
-    // answers to that was sent. What came led to the server, in the order of its calls.
+    // Of each connection a beginning of what was read came to the server, and the answers to that
+    // were sent but for a part of one; and it ended for a reason, unless the run was cut off. What
+    // came led to the server, in the order of its calls.
     ensures ok { OnOk result ((opening : CacheValue) (history : List HistoryEntry)
         → ServerStands opening server.old history
-        → ServesEach N.ended server.old.prefix opening history connections server.new) }
+        → ServesEach false N.ended N.lost
+        server.old.prefix opening history connections server.new) }
     ensures err { IfErr result (λ fault. (opening : CacheValue) (history : List HistoryEntry)
         → ServerStands opening server.old history
-        → ServesEach N.ended server.old.prefix opening history fault.accepted server.new) }
+        → ServesEach true N.ended N.lost
+        server.old.prefix opening history fault.accepted server.new) }
     ensures few { IfErr result (λ fault. fault.accepted ≤ connections) }
 {
     let mut accepted: u64 = 0;
@@ -104,11 +109,12 @@ pub fn serve_sockets<R: AllocGlobal + Clock + Log, N: Sockets>(
         Ok(together) => together,
         Err(fault) => return Err(NotAccepted { accepted, fault }),
     };
-    let end = together.serve(rt, sockets, &mut accepted, connections, server);
-    together.end_all(rt, sockets, server, accepted);
-    match end {
+    match together.serve(rt, sockets, &mut accepted, connections, server) {
         Ok(()) => Ok(()),
-        Err(fault) => Err(NotAccepted { accepted, fault }),
+        Err(fault) => {
+            together.end_all(rt, sockets, server, accepted);
+            Err(NotAccepted { accepted, fault })
+        }
     }
 }
 
@@ -214,10 +220,12 @@ impl<S: Peer + Drop> Together<S> {
         server: &mut Server<Global>,
     ) -> io::Result<()>
         requires { accepted.old ≤ connections }
-        ensures keeps { GoesOnTogether S.spoke N.ended self.old.members.entries accepted.old server.old
+        ensures keeps { GoesOnTogether false S.spoke N.ended N.lost
+            self.old.members.entries accepted.old server.old
             self.new.members.entries accepted.new server.new }
         ensures within { accepted.new ≤ connections }
         ensures all { OnOk result (accepted.new ≡ connections) }
+        ensures gone { OnOk result ((k : ℕ) → member_at self.new.members.entries k ≡ None) }
     {
         let mut events = Vec::with_capacity(rt.alloc(), EVENTS)?;
         for _ in 0..u64::MAX {
@@ -244,7 +252,7 @@ impl<S: Peer + Drop> Together<S> {
         connections: u64,
     ) -> io::Result<()>
         requires { accepted.old ≤ connections }
-        ensures keeps { (server : ServerValue) → GoesOnTogether S.spoke N.ended
+        ensures keeps { (server : ServerValue) → GoesOnTogether false S.spoke N.ended N.lost
             self.old.members.entries accepted.old server
             self.new.members.entries accepted.new server }
         ensures within { accepted.new ≤ connections }
@@ -267,7 +275,7 @@ impl<S: Peer + Drop> Together<S> {
         connections: u64,
     ) -> io::Result<()>
         requires { accepted.old < connections }
-        ensures keeps { (server : ServerValue) → GoesOnTogether S.spoke N.ended
+        ensures keeps { (server : ServerValue) → GoesOnTogether false S.spoke N.ended N.lost
             self.old.members.entries accepted.old server
             self.new.members.entries accepted.new server }
         ensures within { accepted.new ≤ connections }
@@ -354,7 +362,7 @@ impl<S: Peer + Drop> Together<S> {
         sockets: &mut N,
         server: &mut Server<Global>,
     )
-        ensures { (accepted : ℕ) → GoesOnTogether S.spoke N.ended
+        ensures { (accepted : ℕ) → GoesOnTogether false S.spoke N.ended N.lost
             self.old.members.entries accepted server.old
             self.new.members.entries accepted server.new }
     {
@@ -427,7 +435,7 @@ impl<S: Peer + Drop> Together<S> {
     }
 
     /// A turn of the member with the number.
-    #[tactic(auto, using(crate::proofs::Keeping::keeps_same, crate::proofs::Keeping::keeps_further, crate::proofs::Keeping::keeps_moved, crate::proofs::Keeping::keeps_left))]
+    #[tactic(auto, using(crate::proofs::Keeping::keeps_same, crate::proofs::Keeping::keeps_further, crate::proofs::Keeping::keeps_moved, crate::proofs::Keeping::keeps_left, crate::proofs::Keeping::keeps_lost))]
     fn turn<R: AllocGlobal + Log, N: Sockets<Stream = S>>(
         &mut self,
         rt: &R,
@@ -436,7 +444,7 @@ impl<S: Peer + Drop> Together<S> {
         number: u64,
         now: u64,
     )
-        ensures { (accepted : ℕ) → GoesOnTogether S.spoke N.ended
+        ensures { (accepted : ℕ) → GoesOnTogether false S.spoke N.ended N.lost
             self.old.members.entries accepted server.old
             self.new.members.entries accepted server.new }
     {
@@ -462,7 +470,7 @@ impl<S: Peer + Drop> Together<S> {
         number: u64,
         now: u64,
     ) -> Option<(Turn, bool)>
-        ensures some { IfSome result (λ out. MovesOnAt (ends_by out.0) S.spoke number
+        ensures some { IfSome result (λ out. MovesOnAt (end_of out.0) S.spoke S.over number
             server.old self.old.members.entries server.new self.new.members.entries) }
         ensures server { result ≡ None → server.new ≡ server.old }
         ensures members { result ≡ None
@@ -492,9 +500,9 @@ impl<S: Peer + Drop> Together<S> {
         sockets: &mut N,
         server: &mut Server<Global>,
         number: u64,
-        end: Result<(), ConnError>,
+        why: Result<(), ConnError>,
     )
-        ensures { EndsIfAny S.spoke N.ended number
+        ensures { EndsIfAny S.spoke S.over N.ended N.lost number why
             server.old self.old.members.entries server.new self.new.members.entries }
     {
         let Some(member) = self.take(number) else {
@@ -503,9 +511,9 @@ impl<S: Peer + Drop> Together<S> {
         self.scales.weigh(number, &member.load(), &Load::none());
         self.door.waits = true;
         let (stream, peer, traffic) = member.into_parts();
-        sockets.end(stream);
+        sockets.end(stream, why);
         server.end(number);
-        tell(rt, number, &peer, &traffic, &end);
+        tell(rt, number, &peer, &traffic, &why);
     }
 
     /// Takes the member with the number out.
@@ -521,7 +529,7 @@ impl<S: Peer + Drop> Together<S> {
     }
 
     /// Ends the connections that are still open.
-    #[tactic(auto, using(crate::proofs::Keeping::keeps_nowhere, crate::proofs::Keeping::keeps_further, crate::proofs::Keeping::keeps_ended))]
+    #[tactic(auto, using(crate::proofs::Keeping::keeps_nowhere, crate::proofs::Keeping::keeps_further, crate::proofs::Keeping::cut_ended))]
     fn end_all<R: Log, N: Sockets<Stream = S>>(
         &mut self,
         rt: &R,
@@ -529,7 +537,8 @@ impl<S: Peer + Drop> Together<S> {
         server: &mut Server<Global>,
         accepted: u64,
     )
-        ensures keeps { GoesOnTogether S.spoke N.ended self.old.members.entries accepted server.old
+        ensures keeps { GoesOnTogether true S.spoke N.ended N.lost
+            self.old.members.entries accepted server.old
             self.new.members.entries accepted server.new }
         ensures all { (k : ℕ) → k < accepted → member_at self.new.members.entries k ≡ None }
     {
@@ -553,23 +562,55 @@ impl<S: Peer + Drop> Together<S> {
         wake
     }
 
-    /// What came of the connection with the number where it was silent for too long.
-    fn silence(&self, number: u64) -> Result<(), ConnError> {
+    /// Why the connection with the number ends, where it was silent for too long.
+    fn silence(
+        &self,
+        server: &Server<Global>,
+        number: u64,
+        pressed: bool,
+        now: u64,
+    ) -> Option<Result<(), ConnError>>
+        ensures { IfSome result (λ why.
+            MayEndAt S.over number server.now self.now.members.entries why) }
+    {
+        let is_open = server.is_open(number);
+        let idle = self.idle;
         match self.members.get(&number) {
-            Some(member) => member.silence(),
-            None => Ok(()),
+            Some(member) => member.silence(is_open, idle, pressed, now),
+            None => None,
+        }
+    }
+
+    /// Ends the connection with the number, if it was silent for too long.
+    #[tactic(auto, using(crate::proofs::Keeping::keeps_nowhere, crate::proofs::Keeping::keeps_ended))]
+    fn give_up<R: Log, N: Sockets<Stream = S>>(
+        &mut self,
+        rt: &R,
+        sockets: &mut N,
+        server: &mut Server<Global>,
+        number: u64,
+        pressed: bool,
+        now: u64,
+    )
+        ensures { (accepted : ℕ) → GoesOnTogether false S.spoke N.ended N.lost
+            self.old.members.entries accepted server.old
+            self.new.members.entries accepted server.new }
+    {
+        match self.silence(server, number, pressed, now) {
+            Some(why) => self.end(rt, sockets, server, number, why),
+            None => self.wake = now,
         }
     }
 
     /// Ends the connections that were silent for too long.
-    #[tactic(auto, using(crate::proofs::Keeping::keeps_nowhere, crate::proofs::Keeping::keeps_further, crate::proofs::Keeping::keeps_ended))]
+    #[tactic(auto, using(crate::proofs::Keeping::keeps_nowhere, crate::proofs::Keeping::keeps_further))]
     fn sweep<R: AllocGlobal + Clock + Log, N: Sockets<Stream = S>>(
         &mut self,
         rt: &R,
         sockets: &mut N,
         server: &mut Server<Global>,
     )
-        ensures { (accepted : ℕ) → GoesOnTogether S.spoke N.ended
+        ensures { (accepted : ℕ) → GoesOnTogether false S.spoke N.ended N.lost
             self.old.members.entries accepted server.old
             self.new.members.entries accepted server.new }
     {
@@ -581,8 +622,7 @@ impl<S: Peer + Drop> Together<S> {
         let mut due = Vec::new(rt.alloc());
         self.wake = self.overdue(now, pressed, &mut due);
         for number in due.iter() {
-            let silence = self.silence(*number);
-            self.end(rt, sockets, server, *number, silence);
+            self.give_up(rt, sockets, server, *number, pressed, now);
         }
     }
 }

@@ -9,7 +9,7 @@ use Rattle.cache_server.specs.Sessions.{ClosesAt}
 use Rattle.cache_server.specs.Turn.{Turns}
 use Rattle.cache_server.proofs.Serving.{on_err}
 use Rattle.cache_server.proofs.Standing.{stands_closed}
-use Rattle.cache_server.proofs.Turning.{is_there, fed_none, fed_turn, opened_stands, opened_answers, opened_breaks, one_answer, continues_with, continues_failing, of_result}
+use Rattle.cache_server.proofs.Turning.{is_there, fed_none, fed_turn, opened_stands, opened_answer, opened_breaks, one_answer, continues_with, continues_failing, of_result}
 use Rattle.cache_server.proofs.server.Server.next.Goals as goal
 
 pub turn-requires : goal.turn-requires
@@ -29,8 +29,7 @@ returns-clause-one g c =
 
 pub returns-clause-answers : goal.returns-clause-answers
 returns-clause-answers g c =
-    IfOk-weaker c.turn.result _ _ (λ x t opening history stands. opened_answers opening c.args.self.now c.open.new.self c.turn.new.self c.args.connection history c.in_ok-open.ensures.ok stands (take x.0 c.args.piece.now) (unwrap_or (option_map text_of x.1) [])
-    (fed_turn c.open.new.self c.args.connection c.args.piece.now x.0 (option_map text_of x.1) c.turn.new.self t)) c.turn.ensures.ok
+    IfOk-weaker c.turn.result _ _ (λ x t opening history stands. opened_answer opening c.args.self.now c.open.new.self c.turn.new.self c.args.connection history c.in_ok-open.ensures.ok stands c.args.piece.now x.0 (option_map text_of x.1) t) c.turn.ensures.ok
 
 pub returns-clause-ok : goal.returns-clause-ok
 returns-clause-ok g c =

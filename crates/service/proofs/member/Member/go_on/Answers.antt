@@ -9,7 +9,7 @@ pub returns-in-Ok : goal.returns-in-Ok
 returns-in-Ok g c =
     let left : drop c.self.inside.at c.self.inside.input.items ≡ c.args.self.now.left = ap (λ (z : MemberValue g.row.S.Denot). z.left) c.self.view_is in
     let stream : c.self.inside.stream ≡ c.args.self.now.stream = ap (λ (z : MemberValue g.row.S.Denot). z.stream) c.self.view_is in
-    next_moves g.S.Peer.spoke c.args.number c.args.server.now c.next.new.self c.args.self.now c.keep.new.self c.split_at.result.1.now c.in-Ok.taken c.in-Ok.answer
+    next_moves g.S.Peer.spoke g.S.Peer.over c.args.number c.args.server.now c.next.new.self c.args.self.now c.keep.new.self c.split_at.result.1.now c.in-Ok.taken c.in-Ok.answer
     (grind (arith, common_steps, drop_min {X = ℕ})) c.requires (c.keep.ensures.stream ∙ stream) (grind (arith, common_steps, drop-drop {A = ℕ})) c.keep.ensures.unsent
     c.in-Ok.ensures.prefix c.in-Ok.ensures.answers c.in-Ok.ensures.ok
 
@@ -17,5 +17,5 @@ pub returns-in-Err : goal.returns-in-Err
 returns-in-Err g c =
     let left : drop c.self.inside.at c.self.inside.input.items ≡ c.args.self.now.left = ap (λ (z : MemberValue g.row.S.Denot). z.left) c.self.view_is in
     let stream : c.self.inside.stream ≡ c.args.self.now.stream = ap (λ (z : MemberValue g.row.S.Denot). z.stream) c.self.view_is in
-    next_fails g.S.Peer.spoke c.args.number c.args.server.now c.next.new.self c.args.self.now _ c.split_at.result.1.now
+    next_fails g.S.Peer.spoke g.S.Peer.over c.args.number c.args.server.now c.next.new.self c.args.self.now _ c.split_at.result.1.now
     (grind (arith, common_steps, drop_min {X = ℕ})) stream c.next.ensures.prefix c.in-Err.ensures.err

@@ -1,8 +1,13 @@
-use Rattle.service.proofs.Talking.{sent_passes}
-use Rattle.service.specs.Member.{ends_by}
+use Rattle.service.proofs.Talking.{sent_passes, stays_passes, fails_for}
+use Rattle.service.specs.Member.{end_of}
 use Rattle.service.proofs.member.Member.send.Goals as goal
 
 pub returns-in-Ok : goal.returns-in-Ok
 returns-in-Ok g c =
-    sent_passes g.S.Peer.spoke (ends_by c.pass.result) c.args.self.now c.write_some.new.self c.pass.new.self c.in-Ok.count
+    sent_passes g.S.Peer.spoke g.S.Peer.over (end_of c.pass.result) c.args.self.now c.write_some.new.self c.pass.new.self c.in-Ok.count
     c.in-Ok.ensures.sent c.write_some.ensures.left c.write_some.ensures.unsent c.pass.ensures
+
+pub returns-in-Err : goal.returns-in-Err
+returns-in-Err g c =
+    stays_passes g.S.Peer.spoke g.S.Peer.over (end_of c.after_fault.result) c.args.self.now c.write_some.new.self
+    c.in-Err.ensures.fault c.write_some.ensures.left c.write_some.ensures.unsent (fails_for c.after_fault.result c.in-Err.ensures.broken c.after_fault.ensures)

@@ -1,6 +1,6 @@
 use Rattle.std.proofs.Common.{rules, subst, arith}
 use Rattle.std.proofs.lemmas.Grind.{common_steps}
-use Rattle.service.specs.Member.{MemberValue, MovesOn, ends_by}
+use Rattle.service.specs.Member.{MemberValue, MovesOn, end_of}
 use Rattle.service.proofs.together.Together.advance.Goals as goal
 
 pub returns-clause-some : goal.returns-clause-some
@@ -10,5 +10,5 @@ returns-clause-some g c = record {
   held = search rules;
   at = search rules;
   others = λ j n. search rules;
-  moves = subst (λ (z : MemberValue g.row.S.Denot). MovesOn (ends_by c.turn-turn.result) g.S.Peer.spoke c.args.number c.args.server.now z c.turn-turn.new.server c.turn-turn.new.self) c.queue.ensures c.turn-turn.ensures;
+  moves = subst (λ (z : MemberValue g.row.S.Denot). MovesOn (end_of c.turn-turn.result) g.S.Peer.spoke g.S.Peer.over c.args.number c.args.server.now z c.turn-turn.new.server c.turn-turn.new.self) c.queue.ensures c.turn-turn.ensures;
 }

@@ -1,12 +1,13 @@
-use Rattle.service.proofs.Keeping.{keeps_further, keeps_ended}
+use Rattle.std.specs.Prelude.{true}
+use Rattle.service.proofs.Keeping.{keeps_further, cut_ended}
 use Rattle.service.proofs.Whole.{gone_more}
 use Rattle.service.proofs.together.Together.end_all.Goals as goal
 
 pub loop-number-preserved : goal.loop-number-preserved
 loop-number-preserved g c = (
-  keeps_further g.S.Peer.spoke g.N.Sockets.ended c.args.self.now.members.entries c.loop-number.self.members.entries c.end.new.self.members.entries
+  keeps_further true g.S.Peer.spoke g.N.Sockets.ended g.N.Sockets.lost c.args.self.now.members.entries c.loop-number.self.members.entries c.end.new.self.members.entries
       c.args.accepted c.args.accepted c.args.accepted c.args.server.now c.loop-number.server c.end.new.server
       c.loop-number.invariant.0
-      (keeps_ended g.S.Peer.spoke g.N.Sockets.ended c.loop-number.self.members.entries c.end.new.self.members.entries c.args.accepted c.loop-number.server c.end.new.server c.loop-number.number c.end.ensures),
-  gone_more g.S.Peer.spoke g.N.Sockets.ended c.loop-number.number c.loop-number.server c.end.new.server c.loop-number.self.members.entries c.end.new.self.members.entries c.end.ensures c.loop-number.invariant.1,
+      (cut_ended g.S.Peer.spoke g.N.Sockets.ended g.N.Sockets.lost g.S.Peer.over _ c.loop-number.self.members.entries c.end.new.self.members.entries c.args.accepted c.loop-number.server c.end.new.server c.loop-number.number c.end.ensures),
+  gone_more g.S.Peer.spoke g.S.Peer.over g.N.Sockets.ended g.N.Sockets.lost c.loop-number.number _ c.loop-number.server c.end.new.server c.loop-number.self.members.entries c.end.new.self.members.entries c.end.ensures c.loop-number.invariant.1,
 )

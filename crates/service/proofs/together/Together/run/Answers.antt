@@ -1,3 +1,4 @@
+use Rattle.std.specs.Prelude.{false}
 use Rattle.std.proofs.Common.{◌≡◌, ap, subst}
 use Rattle.service.specs.Together.{AreSame}
 use Rattle.service.proofs.Keeping.{keeps_same, keeps_further}
@@ -6,7 +7,7 @@ use Rattle.service.proofs.together.Together.run.Goals as goal
 
 pub loop-number-preserved : goal.loop-number-preserved
 loop-number-preserved g c accepted =
-    keeps_further g.S.Peer.spoke g.N.Sockets.ended c.args.self.now.members.entries c.loop-number.self.members.entries c.turn.new.self.members.entries
+    keeps_further false g.S.Peer.spoke g.N.Sockets.ended g.N.Sockets.lost c.args.self.now.members.entries c.loop-number.self.members.entries c.turn.new.self.members.entries
     accepted accepted accepted c.args.server.now c.loop-number.server c.turn.new.server
     (c.loop-number.invariant accepted) (c.turn.ensures accepted)
 
@@ -16,8 +17,8 @@ returns-then-self g c accepted =
       | then-is_empty w ↦ ap (λ s. s.members.entries) w.self-is
       | else-is_empty w ↦ ap (λ s. s.members.entries) w.self-is
     ] in
-    keeps_further g.S.Peer.spoke g.N.Sockets.ended c.args.self.now.members.entries c.loop-number.self.members.entries c.release.new.self.members.entries
+    keeps_further false g.S.Peer.spoke g.N.Sockets.ended g.N.Sockets.lost c.args.self.now.members.entries c.loop-number.self.members.entries c.release.new.self.members.entries
     accepted accepted accepted c.args.server.now c.loop-number.server c.loop-number.server
     (c.loop-number.invariant accepted)
-    (keeps_same g.S.Peer.spoke g.N.Sockets.ended c.loop-number.self.members.entries c.release.new.self.members.entries accepted c.loop-number.server
+    (keeps_same false g.S.Peer.spoke g.N.Sockets.ended g.N.Sockets.lost c.loop-number.self.members.entries c.release.new.self.members.entries accepted c.loop-number.server
     (subst (λ ms. AreSame ms c.release.new.self.members.entries) same c.release.ensures))

@@ -1,6 +1,7 @@
+use Rattle.std.specs.Prelude.{false}
 use Rattle.std.proofs.Common.{ℕ}
 use Rattle.service.specs.Together.{GoesOnTogether}
 use Rattle.service.proofs.together.Together.sweep.Given as goal
 
 abbrev pub invariant-loop-number : goal.invariant-loop-number
-invariant-loop-number g l = (accepted : ℕ) → GoesOnTogether g.S.Peer.spoke g.N.Sockets.ended l.fn.self.members.entries accepted l.fn.server l.self.members.entries accepted l.server
+invariant-loop-number g l = (accepted : ℕ) → GoesOnTogether false g.S.Peer.spoke g.N.Sockets.ended g.N.Sockets.lost l.fn.self.members.entries accepted l.fn.server l.self.members.entries accepted l.server
