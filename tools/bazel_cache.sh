@@ -94,6 +94,7 @@ tail -q -n 1 "$work"/log-80?0
 
 echo "== where one of them has lost what it held"
 kill "${servers[1]}"
+wait "${servers[1]}" 2>/dev/null || true # (else its port is still taken)
 unset 'servers[1]'
 serve 8090 --at-once 256
 build "${behind[@]}"
