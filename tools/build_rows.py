@@ -3,10 +3,10 @@
 
 Steps that make a file, end with a code, name their program badly, make what is no output, read an input, are ended by
 a signal, and wait for each other; links and folders of folders at an output path, and what a step writes beside its
-files; lines whose directories merge, and that don't; the second build of a plan, which runs nothing; the
-`verify` of each record; folders that can't be those of the jobs; and builds over a server that cuts each reply in turn,
-or changes a byte of it. It prints a line for each row, and ends with status 1 where one failed. Nothing
-outside this machine is asked.
+files; lines whose directories merge, and that don't; trees that are fetched into a folder; the second build of a plan,
+which runs nothing; the `verify` of each record; folders that can't be those of the jobs; and builds over a server that
+cuts each reply in turn, or changes a byte of it. It prints a line for each row, and ends with status 1 where one failed.
+Nothing outside this machine is asked.
 """
 
 import os
@@ -16,7 +16,7 @@ import tempfile
 import harness
 import stores
 from harness import Between, Server
-from messages import EMPTY, Digest, File, action_message, command_message, directory_message
+from messages import EMPTY, Digest, File, Link, action_message, command_message, directory_message
 
 NINE = b"123456789"
 SHELL = ["/bin/sh", "-c"]
@@ -66,7 +66,7 @@ class Builds:
     def one_step(self, words, reads=()):
         return self.plan([("mk", words, ["out"], reads)], ["a out mk out"])
 
-    def build(self, plan, sources=EMPTY.text(), jobs=1, spoil=lambda work: None, address=None):
+    def build(self, plan, sources=EMPTY.text(), jobs=1, spoil=lambda work: None, address=None, more=()):
         """Builds a plan; the run, and the folder of its plan and its record. The folder of the jobs is spoilt first."""
         self.count += 1
         place = f"{self.work}/{self.count}"
@@ -74,7 +74,7 @@ class Builds:
         spoil(f"{place}/work")
         stores.write_file(f"{place}/plan", plan.encode())
         done = self.run("build", "--server", address or self.address, "--sources", sources, "--plan", f"{place}/plan",
-                        "--record", f"{place}/record", "--work", f"{place}/work", "--jobs", str(jobs))
+                        "--record", f"{place}/record", "--work", f"{place}/work", "--jobs", str(jobs), *more)
         return done, place
 
     def expect(self, name, done, place, out, status):
@@ -166,12 +166,20 @@ def rows_of_outputs(builds):
 
 
 def rows_of_streams(builds):
-    """What a step writes to its output and its error goes nowhere."""
+    """What a step writes to its output and its error goes nowhere, and with `--verbose` its error to the build's own."""
     done, place = builds.build(builds.one_step([*SHELL, "printf %s 123456789 > out; echo output; echo error: x >&2"]))
     builds.expect_built("a step that writes to its output and its error", done, place, MADE)
     done, place = builds.build(builds.one_step([*SHELL, "echo error: x >&2; kill -9 $$"]))
     builds.expect("a step that writes an error and is ended by a signal", done, place, "", 3)
     builds.rows.tell("and no line is the step's", b"error: x\n" not in done.stderr, done.stderr)
+    script = "printf %s 123456789 > out; echo more output; echo warning >&2"
+    done, place = builds.build(builds.one_step([*SHELL, script]), more=["--verbose"])
+    shown = (done.stdout, done.stderr, done.returncode) == (f"built {MADE} steps 1\n".encode(), b"warning\n", 0)
+    builds.rows.tell("with --verbose a step's error is shown, and its output isn't", shown, done)
+    done, place = builds.build(builds.one_step([*SHELL, "echo warning >&2; kill -9 $$"]), more=["--verbose"])
+    first, _, last = done.stderr.partition(b"\n")
+    shown = first == b"warning" and harness.is_error(last) and done.returncode == 3
+    builds.rows.tell("and before the line of the build's own error", shown, done)
 
 
 def rows_of_two_steps(builds):
@@ -297,6 +305,67 @@ def rows_of_its_verify(builds, place):
         builds.rows.tell(f"a byte of its reply {number + 1} is changed: no", right, told)
 
 
+def standing_at(folder):
+    """What stands below a folder: `None` for a folder, a link's target, or a file's bytes and whether it may be run."""
+    found = {}
+    for above, folders, files in os.walk(folder):
+        for name in folders + files:
+            path = os.path.join(above, name)
+            below = os.path.relpath(path, folder)
+            if os.path.islink(path):
+                found[below] = os.readlink(path)
+            elif os.path.isdir(path):
+                found[below] = None
+            else:
+                with open(path, "rb") as it:
+                    found[below] = (it.read(), os.access(path, os.X_OK))
+    return found
+
+
+def rows_of_trees(builds):
+    """`get --into`: the tree of a digest in a folder, as the tree has it; and no folder that has something is written into."""
+
+    def get(digest, folder):
+        return builds.run("get", "--server", builds.address, "--into", folder, digest)
+
+    def expect(name, done, out, status):
+        right = done.stdout == out.encode() and done.returncode == status
+        builds.rows.tell(name, right and (harness.is_error(done.stderr) if status > 1 else done.stderr == b""), done)
+
+    def expect_tree(name, digest, folder, tree):
+        expect(name, get(digest, folder), "", 0)
+        builds.rows.tell(f"{name}: it is the tree", standing_at(folder) == tree, standing_at(folder))
+
+    script = "mkdir -p out/d/e; printf %s 123456789 > out/d/f; : > out/g"
+    done, place = builds.build(builds.plan([("mk", [*SHELL, script], ["out"], ())], ["a/b out mk out", "c out mk out/g"]))
+    tree = {"a": {"b": {"d": {"e": {}, "f": File(Digest.of(NINE), False)}, "g": File(EMPTY, False)}}, "c": File(EMPTY, False)}
+    root = Digest.of(directory_message(tree)).text()
+    builds.expect_built("a root with folders above what a step made", done, place, root)
+    empty = (b"", False)
+    made = {"a": None, "a/b": None, "a/b/d": None, "a/b/d/e": None, "a/b/d/f": (NINE, False), "a/b/g": empty, "c": empty}
+    expect_tree("the root of a build", root, f"{place}/tree", made)
+    os.mkdir(f"{place}/empty")
+    expect_tree("into a folder that is empty", root, f"{place}/empty", made)
+    expect("into it again, as it isn't empty now", get(root, f"{place}/empty"), "", 3)
+    builds.rows.tell("and it is as it was", standing_at(f"{place}/empty") == made)
+    expect("into a file", get(root, f"{place}/plan"), "", 3)
+    expect("below a folder that isn't there", get(root, f"{place}/none/tree"), "", 3)
+    expect("the digest of a file", get(Digest.of(NINE).text(), f"{place}/file"), "", 3)
+    outside = {"l": Link("../../plan"), "m": Link("/etc"), "x": File(Digest.of(NINE))}
+    builds.put(directory_message(outside))
+    given = Digest.of(directory_message(outside)).text()
+    expect_tree("links and a program", given, f"{place}/links", {"l": "../../plan", "m": "/etc", "x": (NINE, True)})
+    lost = Digest.of(b"lost")
+    lacking = {"a": File(Digest.of(NINE)), "b": File(lost), "c": File(Digest.of(NINE))}
+    builds.put(directory_message(lacking))
+    lacks = get(Digest.of(directory_message(lacking)).text(), f"{place}/lacking")
+    expect("a file that the server lacks", lacks, f"missing {lost.text()}\n", 1)
+    builds.rows.tell("and what was written before stays", standing_at(f"{place}/lacking") == {"a": (NINE, True)})
+    expect("a tree that the server lacks", get(f"{'0' * 64}/80", f"{place}/lacked"), f"missing {'0' * 64}/80\n", 1)
+    builds.rows.tell("and no folder was made", not os.path.exists(f"{place}/lacked"))
+    expect_tree("the empty tree", EMPTY.text(), f"{place}/nothing", {})
+
+
 def spoilt(body):
     return body[:-1] + bytes([body[-1] ^ 1]) if body else body
 
@@ -311,6 +380,7 @@ def try_all(rows, program):
             rows_of_two_steps(builds)
             rows_of_merges(builds)
             rows_of_the_folder(builds)
+            rows_of_trees(builds)
             rows_of_replies(builds)
         finally:
             builds.server.end()

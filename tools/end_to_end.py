@@ -2,8 +2,9 @@
 """Tries the built program with real sockets and processes: end_to_end.py [PROGRAM]
 
 Each part prints a line for each row or test: the tests of tools/, the rows of a server and of a build (server_rows.py,
-build_rows.py), and ten seconds of requests at random beside a model (soak.py). Where Bazel is installed, the round trips with
-it run too (bazel_roundtrip.sh, and with nginx bazel_cache.sh), else a line says that they were left out. PROGRAM is
+build_rows.py), ten seconds of requests at random beside a model (soak.py), and each command with each request for memory
+refused and each call of the system failing in turn (fault_rows.py, where a C compiler is installed). Where Bazel is installed,
+the round trips with it run too (bazel_roundtrip.sh, and with nginx bazel_cache.sh). A line says what was left out. PROGRAM is
 crates/buildcache/out/buildcache, where `rt ci` leaves it. Nothing outside this machine is asked. The last line is
 'N passed, M failed', and the status 1 where one failed.
 """
@@ -16,6 +17,7 @@ import time
 import unittest
 
 import build_rows
+import fault_rows
 import harness
 import server_rows
 import soak
@@ -60,6 +62,7 @@ PARTS = {
     "a server": server_rows.try_all,
     "a build": build_rows.try_all,
     "requests at random": lambda rows, program: soak.soak(program, rows, SOAK_SECONDS),
+    "faults": fault_rows.try_all,
     "Bazel": try_bazel,
 }
 

@@ -81,10 +81,11 @@ class Rows:
         return 1 if self.failed else 0
 
 
-def run(program, *words, seconds=60):
+def run(program, *words, seconds=60, env=None):
     """What the program prints, as bytes, and its status, which is None where it hasn't ended by then."""
+    how = {"stdin": subprocess.DEVNULL, "capture_output": True, "check": False, "env": env}
     try:
-        return subprocess.run([program, *words], stdin=subprocess.DEVNULL, capture_output=True, timeout=seconds, check=False)
+        return subprocess.run([program, *words], timeout=seconds, **how)
     except subprocess.TimeoutExpired as late:
         return subprocess.CompletedProcess(late.cmd, None, late.stdout or b"", late.stderr or b"")
 
@@ -95,13 +96,14 @@ def is_error(told):
 
 
 class Server:
-    """The program's own server on a free port. At the end it is awaited where it serves so many connections, or else ended."""
+    """The program's own server on a free port, with its errors where they are to go. At the end it is awaited where it serves so
+    many connections, or else ended."""
 
-    def __init__(self, program, connections=None, limit=1 << 30, result_limit=1 << 20, more=()):
+    def __init__(self, program, connections=None, limit=1 << 30, result_limit=1 << 20, more=(), errors=subprocess.DEVNULL):
         self.is_counted = connections is not None
         words = ["serve", "--listen", f"{LOCAL}:0", "--connections", str(MANY if connections is None else connections)]
         words += ["--limit", str(limit), "--result-limit", str(result_limit), *more]
-        how = {"stdin": subprocess.DEVNULL, "stdout": subprocess.PIPE, "stderr": subprocess.DEVNULL, "text": True}
+        how = {"stdin": subprocess.DEVNULL, "stdout": subprocess.PIPE, "stderr": errors, "text": True}
         self.process = subprocess.Popen([program, *words], **how)
         said = self.process.stdout.readline()
         found = re.fullmatch(r"listening 127\.0\.0\.1:(\d+)\n", said)

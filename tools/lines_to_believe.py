@@ -12,7 +12,7 @@ ASIDE = {
     "action_messages": ["Merging"],
     "cache_server": ["Sessions"],
     "cli": ["Faults"],
-    "commands": ["Put"],
+    "commands": ["Children"],
     "eviction": ["Victims", "View"],
     "plan": ["Parts"],
     "runs": ["TwoSteps"],

@@ -240,7 +240,7 @@ def name_of(kind, head):
             split = at
     sides = [head[split + 1:], head[:split]] if split is not None else [head]
     name = "".join(tuple_name(it, parameters) or last_name(it) for it in sides)
-    parts = [it for it in arguments(sides[1]) if it not in parameters] if len(sides) > 1 else []
+    parts = own_arguments(sides[1], parameters) if len(sides) > 1 else []
     return f"{name}<{''.join(parts)}>" if parts else name
 
 
@@ -269,8 +269,8 @@ def last_name(words):
     return name
 
 
-def arguments(words):
-    """The last name of each argument between the outer <> of a path."""
+def arguments(words, parameters):
+    """The last name of each argument between the outer <> of a path, and of its own arguments but for an impl's parameters."""
     depth, parts = 0, [[]]
     for word in words:
         depth += (word == "<") - (word == ">")
@@ -278,4 +278,8 @@ def arguments(words):
             parts.append([])
         elif depth > 1 or depth == 1 and word != "<":
             parts[-1].append(word)
-    return [it for it in map(last_name, parts) if it]
+    return ["".join([last_name(it), *own_arguments(it, parameters)]) for it in parts if last_name(it)]
+
+
+def own_arguments(words, parameters):
+    return [it for it in arguments(words, parameters) if it not in parameters] if "<" in words else []

@@ -2,7 +2,7 @@
 """Tries the program as a server and as a client, over sockets: server_rows.py PROGRAM
 
 The streams of bytes and their exact answers, whole and byte by byte; the prefix that stands before the paths; many
-connections at once, of clients that are slow, deaf, silent or gone beside one that works; `put`,
+connections at once, of clients that are slow, deaf, silent or gone beside one that works; the line on a terminal; `put`,
 `get` and `verify --server` over the program's own server and over nginx (where it is installed) with WebDAV as a store
 that checks nothing; servers that refuse, cut, fall silent, answer nonsense or lie; and the program's own server behind
 one that cuts each reply in turn, or changes a byte of it. It prints a line for each row, and ends with status 1 where
@@ -10,9 +10,12 @@ one failed. Nothing outside this machine is asked.
 """
 
 import os
+import pty
+import select
 import shutil
 import socket
 import struct
+import subprocess
 import sys
 import tempfile
 import threading
@@ -163,8 +166,8 @@ def reset(stream):
     stream.close()
 
 
-def many(program, *more, connections=None, limit=1 << 26):
-    return Server(program, connections, limit, 1000, ("--at-once", "32", *more))
+def many(program, *more, connections=None, limit=1 << 26, errors=subprocess.DEVNULL):
+    return Server(program, connections, limit, 1000, ("--at-once", "32", *more), errors)
 
 
 def try_mixed(rows, program):
@@ -275,6 +278,47 @@ def try_silence(rows, program):
         rows.tell("one that is silent for --idle 1 is let go, and one that works isn't", right, (ends, longest))
 
 
+def read_until(stream, end, seconds=5):
+    """What comes of a descriptor, to this text or for so long."""
+    came, late = b"", time.monotonic() + seconds
+    while end not in came and (left := late - time.monotonic()) > 0:
+        if select.select([stream], [], [], left)[0]:
+            came += os.read(stream, 1 << 16)
+    return came
+
+
+def try_line(rows, program):
+    """The line on a terminal, which says how many are open, and the hits so far."""
+    ours, theirs = pty.openpty()
+    with many(program, connections=2, errors=theirs) as it:
+        streams = [connect(it.port) for _ in range(2)]
+        line = b"\r2 open, 0 hits\x1b[K"
+        seen = read_until(ours, line)
+        rows.tell("on a terminal a line says that two are open, and no hits", seen.endswith(line), seen)
+        answered = all(ask(streams[0], *asked) for asked in ((put(f"/cas/{DIGITS}", NINE), DONE), (get(f"/cas/{DIGITS}"), found(NINE))))
+        line = b"\r2 open, 1 hits\x1b[K"
+        seen = read_until(ours, line)
+        rows.tell("then that there was a hit, within a second or two, and nothing else", answered and seen == line, seen)
+        streams[1].close()
+        seen = read_until(ours, b"done\r\n")
+        rows.tell("the line of the log stands in its place", seen.startswith(b"\r\x1b[K") and seen.count(b"\x1b[K") == 1, seen)
+        line = b"\r1 open, 1 hits\x1b[K"
+        seen = read_until(ours, line)
+        rows.tell("and then it says that one is open", seen == line, seen)
+        streams[0].close()
+        seen = read_until(ours, b"done\r\n")
+        rows.tell("which is taken away at the end", seen.startswith(b"\r\x1b[K") and it.wait() == 0, seen)
+    os.close(theirs)
+    os.close(ours)
+    ours, theirs = os.pipe()
+    with many(program, connections=1, errors=theirs) as it, connect(it.port) as stream:
+        answered = ask(stream, get(f"/cas/{FEED}"), ABSENT)
+        seen = read_until(ours, b"open", 1.5)
+        rows.tell("without a terminal no line comes", answered and seen == b"", seen)
+    os.close(theirs)
+    os.close(ours)
+
+
 def try_counts(rows, program):
     words = ["serve", "--listen", "127.0.0.1:0", "--connections", "0", "--limit", "1", "--result-limit", "1", "--at-once"]
     for count in ("0", "1025", "2000", "x", "-1", ""):
@@ -286,7 +330,7 @@ def try_counts(rows, program):
 
 
 def try_many(rows, program):
-    for part in (try_mixed, try_neighbours, try_places, try_silence, try_counts):
+    for part in (try_mixed, try_neighbours, try_places, try_silence, try_line, try_counts):
         part(rows, program)
 
 

@@ -2,7 +2,7 @@
 """Asks a server of `buildcache serve` at random, and compares each answer with a model: soak.py PROGRAM [SECONDS [SEED]]
 
 For SECONDS (60) it sends GET and PUT of blobs and results, pin and unpin, to a server whose limits are small, so that
-entries are given up all the time. The model is the cache as docs/FORMATS.md has it, in lists: each answer has to be
+entries are evicted all the time. The model is the cache as docs/FORMATS.md has it, in lists: each answer has to be
 the model's, bytes and all. Connections are closed and opened at random, in the middle of a body too, which changes
 nothing. After every 10,000 requests results are pinned until blobs and results are refused for want of room (507);
 it goes on so for 2,000 requests, and then all are unpinned.
@@ -114,7 +114,7 @@ class Model:
         return out
 
     def enter(self, new, others, cost, pinned, limit):
-        """The new entry first, and the last unpinned others given up as far as need be. None: no room."""
+        """The new entry first, and the last unpinned others evicted as far as need be. None: no room."""
         kept = [new] + others
         over = sum(map(cost, kept)) - limit
         for entry in reversed(others):

@@ -34,17 +34,6 @@ and_right false b h = absurd cc
 pub no_bytes : (d : DigestValue) → is_empty d ≡ true → bytes_eq (sha256 []) d.hash ≡ true
 no_bytes d e = nat_list_eq_equiv.symm (sha256 []) d.hash ∙ and_right (d.size == 0) (bytes_eq d.hash (sha256 [])) e
 
-empty_size : (n : ℕ) → is_some (of_size n (Some [])) ≡ true → (n == 0) ≡ true
-empty_size n h = eq-eqb n 0 (sym (eqb-true 0 n (is_sized (0 == n) h)))
-  where
-    is_sized : (b : Bool) → is_some {T = List ℕ} (cond b (Some []) None) ≡ true → b ≡ true
-    is_sized true h = refl
-    is_sized false h = h
-
--- a digest with the hash of no bytes is held if it is that of no bytes
-pub empty_held : (d : DigestValue) → bytes_eq (sha256 []) d.hash ≡ true → is_some (of_size d.size (Some [])) ≡ true → is_empty d ≡ true
-empty_held d e h = λ i. empty_size d.size h i && (nat_list_eq_equiv.symm d.hash (sha256 []) ∙ e) i
-
 module _ (f g : List ℕ → Option (List ℕ)) where
   -- both answer alike for the digests
   abbrev pub Agrees : List DigestValue → Type 0

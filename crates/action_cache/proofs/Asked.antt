@@ -4,9 +4,11 @@ use Rattle.std.proofs.lemmas.Slice.Eq.{bytes_eq-Decides}
 use Rattle.sha2.specs.Sha256.{sha256}
 use Rattle.std.specs.List.{find, AllByRecursion, IsDistinct}
 use Rattle.blob_digest.specs.DigestValue.{DigestValue}
+use Rattle.blob_store.specs.Blobs.{all_held}
 use Rattle.action_cache.specs.References.{Reference, Reader, is_held, files_of, fault_of, fault_in_tree, first_given, refers, is_complete, outputs_of, first_fault}
 use Rattle.action_cache.specs.Machine.{CacheState, Answer, Marked, given, nothing, opened, under, found, result_used, got_blob, get_blob, got_result, get_result}
 use Rattle.action_cache.specs.Asking.{CacheAsk, Unpin, after_ask, after, IsWhole, AreWhole, StaysPinned}
+use Rattle.action_cache.proofs.Once.{none_missing}
 use Rattle.action_cache.proofs.Keeping.{both_true, all_under, same_complete, same_refers_to, wanted_under}
 use Rattle.action_cache.proofs.Leading.{AreUnderHashes, IsSound, leads_ask, stays_ask, used_found}
 
@@ -21,20 +23,13 @@ module _ (reader : Reader) where
   -- ---- complete results, in words
 
   module _ (found : List ℕ → Option (List ℕ)) where
-    none_left : (fs : List DigestValue) → find (λ f. not (is_held found f)) fs ≡ None → AllByRecursion (λ f. is_held found f ≡ true) fs
-    none_left [] e = tt
-    none_left (f ∷ fs) e = (elim (is_held found f) as (λ y. is_held found f ≡ y → cond (not y) (Some f) (find (λ f. not (is_held found f)) fs) ≡ None → (is_held found f ≡ true) × AllByRecursion (λ f. is_held found f ≡ true) fs) [
-      | true ↦ λ t n. (t, none_left fs n)
-      | false ↦ λ t n. absurd cc
-    ]) refl e
-
     firsts : (a b : Option DigestValue) → first_given a b ≡ None → (a ≡ None) × (b ≡ None)
     firsts None b e = (refl, e)
     firsts (Some d) b e = absurd cc
 
-    held_files : (d : DigestValue) (o : Option (List DigestValue)) → fault_in_tree found d o ≡ None → (files : List DigestValue) × (o ≡ Some files) × AllByRecursion (λ f. is_held found f ≡ true) files
+    held_files : (d : DigestValue) (o : Option (List DigestValue)) → fault_in_tree found d o ≡ None → (files : List DigestValue) × (o ≡ Some files) × (all_held found files ≡ true)
     held_files d None e = absurd cc
-    held_files d (Some fs) e = (fs, refl, none_left fs e)
+    held_files d (Some fs) e = (fs, refl, none_missing found fs e)
 
   module _ (s : CacheState) where
     whole_one : (r : Reference) → fault_of (found reader s) reader r ≡ None → IsWhole reader s r

@@ -8,7 +8,7 @@ use Rattle.std.proofs.lemmas.List.{length-map}
 use Rattle.std.proofs.lemmas.Map.Entries.{lookup-filter-keys}
 use Rattle.std.proofs.lemmas.Slice.Eq.{bytes_eq-Decides}
 use Rattle.eviction.specs.Kept.{Held, Kept, is_pinned, cost_of, others}
-use Rattle.eviction.specs.Entering.{enter, spared_last, new_entry, given_up, entered}
+use Rattle.eviction.specs.Entering.{enter, spared_last, new_entry, evicted, entered}
 use Rattle.eviction.specs.Pinning.{pins_of}
 use Rattle.eviction.proofs.Filters.{filter-map}
 use Rattle.eviction.proofs.Distinct.{filter_distinct}
@@ -24,7 +24,7 @@ use Rattle.action_cache.proofs.Changes.{alike_marked, under-plain}
 use Rattle.action_cache.specs.State.{state_of}
 
 module _ (reader : Reader) (s : Kept (List ℕ)) (flat : s.overhead ≡ 0) (d : IsDistinct bytes_eq (keys_of s.entries)) (h b : List ℕ) where
-  -- by the marks on results, or by counts: the same enters, and the same is given up
+  -- by the marks on results, or by counts: the same enters, and the same is evicted
   pub entered_marked : (result_limit : ℕ) (results : List (List ℕ × Held)) → IsTied reader s.entries results
       → blobs_entered reader (state_of s.limit result_limit s.entries results) h b ≡ option_map (λ (t : Kept (List ℕ)). plain t.entries) (entered bytes_eq s h b)
   entered_marked result_limit results t =
@@ -46,25 +46,25 @@ module _ (reader : Reader) (s : Kept (List ℕ)) (flat : s.overhead ≡ 0) (d : 
       left q old mid new e (inl same) = (ap (λ o. option_map_or (λ (x : Held). x.pins) o 0) (e ∙ same), λ _. e ∙ same)
       left q old mid new e (inr gone) = (ap (λ o. option_map_or (λ (x : Held). x.pins) o 0) (e ∙ gone.0) ∙ sym gone.1, λ some. let none = gone.1 in absurd (omega arith))
 
-      both : (q : List ℕ) → (pins_of bytes_eq (new_entry bytes_eq s h b ∷ spared_last is_pinned (given_up bytes_eq s h b) (others bytes_eq h s.entries)) q ≡ pins_of bytes_eq s.entries q)
-          × (0 < pins_of bytes_eq s.entries q → lookup (bytes_eq q) (new_entry bytes_eq s h b ∷ spared_last is_pinned (given_up bytes_eq s h b) (others bytes_eq h s.entries)) ≡ lookup (bytes_eq q) s.entries)
-      both q = (elim (bytes_eq q h) as (λ y. bytes_eq q h ≡ y → (pins_of bytes_eq (new_entry bytes_eq s h b ∷ spared_last is_pinned (given_up bytes_eq s h b) (others bytes_eq h s.entries)) q ≡ pins_of bytes_eq s.entries q) × (0 < pins_of bytes_eq s.entries q → lookup (bytes_eq q) (new_entry bytes_eq s h b ∷ spared_last is_pinned (given_up bytes_eq s h b) (others bytes_eq h s.entries)) ≡ lookup (bytes_eq q) s.entries)) [
+      both : (q : List ℕ) → (pins_of bytes_eq (new_entry bytes_eq s h b ∷ spared_last is_pinned (evicted bytes_eq s h b) (others bytes_eq h s.entries)) q ≡ pins_of bytes_eq s.entries q)
+          × (0 < pins_of bytes_eq s.entries q → lookup (bytes_eq q) (new_entry bytes_eq s h b ∷ spared_last is_pinned (evicted bytes_eq s h b) (others bytes_eq h s.entries)) ≡ lookup (bytes_eq q) s.entries)
+      both q = (elim (bytes_eq q h) as (λ y. bytes_eq q h ≡ y → (pins_of bytes_eq (new_entry bytes_eq s h b ∷ spared_last is_pinned (evicted bytes_eq s h b) (others bytes_eq h s.entries)) q ≡ pins_of bytes_eq s.entries q) × (0 < pins_of bytes_eq s.entries q → lookup (bytes_eq q) (new_entry bytes_eq s h b ∷ spared_last is_pinned (evicted bytes_eq s h b) (others bytes_eq h s.entries)) ≡ lookup (bytes_eq q) s.entries)) [
         | true ↦ λ t.
             let same : q ≡ h = (bytes_eq-Decides q h).0 t in
             let none : pins_of bytes_eq s.entries q ≡ 0 = ap (pins_of bytes_eq s.entries) same ∙ ap (λ o. option_map_or (λ (x : Held). x.pins) o 0) absent in
             let test : bytes_eq q (new_entry bytes_eq s h b).0 ≡ true = ap (bytes_eq q) (stored_key_is s.entries h) ∙ t in (
-              (λ i. option_map_or (λ (x : Held). x.pins) (cond (test i) (Some (new_entry bytes_eq s h b).1) (lookup (bytes_eq q) (spared_last is_pinned (given_up bytes_eq s h b) (others bytes_eq h s.entries)))) 0) ∙ ap (pins_of bytes_eq s.entries) (sym same),
+              (λ i. option_map_or (λ (x : Held). x.pins) (cond (test i) (Some (new_entry bytes_eq s h b).1) (lookup (bytes_eq q) (spared_last is_pinned (evicted bytes_eq s h b) (others bytes_eq h s.entries)))) 0) ∙ ap (pins_of bytes_eq s.entries) (sym same),
               λ some. absurd (omega arith),
             )
         | false ↦ λ t.
             let test : bytes_eq q (new_entry bytes_eq s h b).0 ≡ false = ap (bytes_eq q) (stored_key_is s.entries h) ∙ t in
-            let first : lookup (bytes_eq q) (new_entry bytes_eq s h b ∷ spared_last is_pinned (given_up bytes_eq s h b) (others bytes_eq h s.entries)) ≡ lookup (bytes_eq q) (spared_last is_pinned (given_up bytes_eq s h b) (others bytes_eq h s.entries)) = λ i. cond (test i) (Some (new_entry bytes_eq s h b).1) (lookup (bytes_eq q) (spared_last is_pinned (given_up bytes_eq s h b) (others bytes_eq h s.entries))) in
+            let first : lookup (bytes_eq q) (new_entry bytes_eq s h b ∷ spared_last is_pinned (evicted bytes_eq s h b) (others bytes_eq h s.entries)) ≡ lookup (bytes_eq q) (spared_last is_pinned (evicted bytes_eq s h b) (others bytes_eq h s.entries)) = λ i. cond (test i) (Some (new_entry bytes_eq s h b).1) (lookup (bytes_eq q) (spared_last is_pinned (evicted bytes_eq s h b) (others bytes_eq h s.entries))) in
             let rest : lookup (bytes_eq q) (others bytes_eq h s.entries) ≡ lookup (bytes_eq q) s.entries = lookup-filter-keys (bytes_eq q) (λ j. not (bytes_eq h j)) true (λ j u. ap not (nat_list_eq_equiv.symm h j ∙ sym (nat_list_eq_equiv.congr q j h u) ∙ t)) s.entries in
-            left q (lookup (bytes_eq q) s.entries) (lookup (bytes_eq q) (spared_last is_pinned (given_up bytes_eq s h b) (others bytes_eq h s.entries))) (lookup (bytes_eq q) (new_entry bytes_eq s h b ∷ spared_last is_pinned (given_up bytes_eq s h b) (others bytes_eq h s.entries))) first
-            (subst (λ o. Leaves bytes_eq nat_list_eq_equiv o (lookup (bytes_eq q) (spared_last is_pinned (given_up bytes_eq s h b) (others bytes_eq h s.entries)))) rest (spared_last_leaves bytes_eq nat_list_eq_equiv q (given_up bytes_eq s h b) (others bytes_eq h s.entries) (filter_distinct bytes_eq (λ e. not (bytes_eq h e.0)) s.entries d)))
+            left q (lookup (bytes_eq q) s.entries) (lookup (bytes_eq q) (spared_last is_pinned (evicted bytes_eq s h b) (others bytes_eq h s.entries))) (lookup (bytes_eq q) (new_entry bytes_eq s h b ∷ spared_last is_pinned (evicted bytes_eq s h b) (others bytes_eq h s.entries))) first
+            (subst (λ o. Leaves bytes_eq nat_list_eq_equiv o (lookup (bytes_eq q) (spared_last is_pinned (evicted bytes_eq s h b) (others bytes_eq h s.entries)))) rest (spared_last_leaves bytes_eq nat_list_eq_equiv q (evicted bytes_eq s h b) (others bytes_eq h s.entries) (filter_distinct bytes_eq (λ e. not (bytes_eq h e.0)) s.entries d)))
       ]) refl
 
-      found : (q : List ℕ) → 0 < pins_of bytes_eq s.entries q → found_in (new_entry bytes_eq s h b ∷ spared_last is_pinned (given_up bytes_eq s h b) (others bytes_eq h s.entries)) q ≡ found_in s.entries q
+      found : (q : List ℕ) → 0 < pins_of bytes_eq s.entries q → found_in (new_entry bytes_eq s h b ∷ spared_last is_pinned (evicted bytes_eq s h b) (others bytes_eq h s.entries)) q ≡ found_in s.entries q
       found q some =
-          under-plain q (new_entry bytes_eq s h b ∷ spared_last is_pinned (given_up bytes_eq s h b) (others bytes_eq h s.entries))
+          under-plain q (new_entry bytes_eq s h b ∷ spared_last is_pinned (evicted bytes_eq s h b) (others bytes_eq h s.entries))
           ∙ ap (option_map (λ (x : Held). x.bytes)) ((both q).1 some) ∙ sym (under-plain q s.entries)

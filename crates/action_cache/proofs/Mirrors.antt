@@ -7,7 +7,7 @@ use Rattle.std.proofs.lemmas.List.{map-append}
 use Rattle.sha2.specs.Sha256.{sha256}
 use Rattle.eviction.specs.Kept.{Held, Kept, touched, moved_to_front}
 use Rattle.eviction.specs.Entering.{entered}
-use Rattle.eviction.specs.Pinning.{is_held}
+use Rattle.eviction.specs.Pinning.{is_stored}
 use Rattle.eviction.proofs.Filters.{filter-map}
 use Rattle.blob_store.specs.declared.error.BlobError.{BlobError}
 use Rattle.blob_store.specs.declared.error.BlobError.TheVariants.{TooLarge, HashDiffers, Full, Memory}
@@ -52,7 +52,7 @@ module _ (reader : Reader) (s : Kept (List ℕ)) (rl : ℕ) (results : List (Lis
     pub still : IsTied reader u.entries results
     pub flat_still : u.overhead ≡ 0
 
-  held_is : is_some (found reader st h) ≡ is_held bytes_eq s.entries h
+  held_is : is_some (found reader st h) ≡ is_stored bytes_eq s.entries h
   held_is = ap is_some (under-plain h s.entries) ∙ present (lookup (bytes_eq h) s.entries)
 
   stays : (u : Kept (List ℕ)) (out : Answer × CacheState) → s ≡ u → out ≡ (done, st) → IsPut u out
@@ -80,7 +80,7 @@ module _ (reader : Reader) (s : Kept (List ℕ)) (rl : ℕ) (results : List (Lis
       let q = none_refused (nat_lt greatest_blob (length b)) (bytes_eq (sha256 b) h) (is_none (blob_put s h b)) n in
       (elim (bytes_eq (sha256 []) h) as (λ z. bytes_eq (sha256 []) h ≡ z → IsPut u (put_blob reader st h b)) [
         | true ↦ λ z. let e' = rw z at e in stays u (put_blob reader st h b) (cc) (rw (q.0, q.1, z) refl)
-        | false ↦ λ z. (elim (is_held bytes_eq s.entries h) as (λ y. is_held bytes_eq s.entries h ≡ y → IsPut u (put_blob reader st h b)) [
+        | false ↦ λ z. (elim (is_stored bytes_eq s.entries h) as (λ y. is_stored bytes_eq s.entries h ≡ y → IsPut u (put_blob reader st h b)) [
           | true ↦ λ t. let e' = rw (z, t) at e in moves u (put_blob reader st h b) (cc) (rw (q.0, q.1, z, held_is, t) refl)
           | false ↦ λ t. let e' = rw (z, t) at e in enters b u (put_blob reader st h b) (absent (lookup (bytes_eq h) s.entries) t) e' (rw (q.0, q.1, z, held_is, t) refl)
         ]) refl
@@ -103,7 +103,7 @@ module _ (reader : Reader) (s : Kept (List ℕ)) (rl : ℕ) (results : List (Lis
   no_room : (b : List ℕ) → nat_lt greatest_blob (length b) ≡ false → bytes_eq (sha256 b) h ≡ true → is_none (blob_put s h b) ≡ true → put_blob reader st h b ≡ (refused full, st)
   no_room b p q n = (elim (bytes_eq (sha256 []) h) as (λ z. bytes_eq (sha256 []) h ≡ z → put_blob reader st h b ≡ (refused full, st)) [
     | true ↦ λ z. let n' = rw z at n in absurd cc
-    | false ↦ λ z. (elim (is_held bytes_eq s.entries h) as (λ y. is_held bytes_eq s.entries h ≡ y → put_blob reader st h b ≡ (refused full, st)) [
+    | false ↦ λ z. (elim (is_stored bytes_eq s.entries h) as (λ y. is_stored bytes_eq s.entries h ≡ y → put_blob reader st h b ≡ (refused full, st)) [
       | true ↦ λ t. let n' = rw (z, t) at n in absurd cc
       | false ↦ λ t.
           let n' = rw (z, t) at n in

@@ -10,25 +10,14 @@ use Rattle.std.proofs.lemmas.Slice.Eq.{bytes_eq-Decides}
 use Rattle.sha2.specs.Sha256.{sha256}
 use Rattle.blob_digest.specs.DigestValue.{DigestValue}
 use Rattle.eviction.specs.Pinning.{is_among}
-use Rattle.blob_store.specs.Blobs.{hashes_of, is_held as is_blob_held}
+use Rattle.blob_store.specs.Blobs.{hashes_of, is_held, all_held}
 use Rattle.blob_store.proofs.BlobLemmas.{hashes_push}
-use Rattle.action_cache.specs.References.{Reference, Reader, is_empty, of_size, is_held, names_hash, files_of, digests_of, references, fault_in_tree, fault_of, first_given, first_fault}
-use Rattle.action_cache.specs.Survey.{AreHeld, AreOnce}
-use Rattle.action_cache.proofs.Agreeing.{empty_held}
+use Rattle.action_cache.specs.References.{Reference, Reader, is_empty, names_hash, files_of, digests_of, references, fault_in_tree, fault_of, first_given, first_fault}
+use Rattle.action_cache.specs.Survey.{AreOnce}
 
 or_none : (a : Bool) → (a || false) ≡ a
 or_none true = refl
 or_none false = refl
-
--- what is held is held in the store
-pub held_too : (found : List ℕ → Option (List ℕ)) (d : DigestValue) → is_held found d ≡ true → is_blob_held found d ≡ true
-held_too found d h = (elim (is_empty d) as (λ b. is_empty d ≡ b → is_some (cond b (Some []) (of_size d.size (found d.hash))) ≡ true) [
-  | true ↦ λ t. refl
-  | false ↦ λ t. (elim (bytes_eq (sha256 []) d.hash) as (λ b. bytes_eq (sha256 []) d.hash ≡ b → is_some (of_size d.size (cond b (Some []) (found d.hash))) ≡ true → is_some (of_size d.size (found d.hash)) ≡ true) [
-    | true ↦ λ q held. let empty = empty_held d q held in absurd cc
-    | false ↦ λ q held. held
-  ]) refl h
-]) refl
 
 pub none_once : AreOnce [] []
 unfolding IsDistinct
@@ -42,13 +31,14 @@ pub not_true : (a : Bool) → not a ≡ true → a ≡ false
 not_true true h = absurd cc
 not_true false h = refl
 
-all_parts : {X : Type 0} (P : X → Type 0) (xs ys : List X) → AllByRecursion P (xs ++ ys) → AllByRecursion P xs × AllByRecursion P ys
-all_parts P [] ys h = (tt, h)
-all_parts P (x ∷ xs) ys h = let r = all_parts P xs ys h.1 in ((h.0, r.0), r.1)
+both : (a b : Bool) → (a && b) ≡ true → (a ≡ true) × (b ≡ true)
+both true b h = (refl, h)
+both false b h = absurd cc
 
-all_join : {X : Type 0} (P : X → Type 0) (xs ys : List X) → AllByRecursion P xs → AllByRecursion P ys → AllByRecursion P (xs ++ ys)
-all_join P [] ys h k = k
-all_join P (x ∷ xs) ys h k = (h.0, all_join P xs ys h.1 k)
+-- all are held, and one more
+held_parts : (found : List ℕ → Option (List ℕ)) (ds : List DigestValue) (d : DigestValue) → all_held found (ds ++ d ∷ []) ≡ true → (all_held found ds ≡ true) × (is_held found d ≡ true)
+held_parts found ds d all =
+    let parts = both (all_held found ds) (is_held found d && true) (sym (list_all-append (is_held found) ds (d ∷ [])) ∙ all) in (parts.0, (both (is_held found d) true parts.1).0)
 
 turned : (xs : List (List ℕ)) (y : List ℕ) → list_any (bytes_eq y) xs ≡ is_among bytes_eq xs y
 turned [] y = refl
@@ -66,7 +56,7 @@ module _ (ds once : List DigestValue) (d : DigestValue) (o : AreOnce ds once) wh
   once_empty e = record {
     distinct = o.distinct;
     named = λ h. o.named h ∙ sym (or_none (list_any (names_hash h) ds)) ∙ (λ i. list_any (names_hash h) ds || (not (sym e i) && bytes_eq d.hash h)) ∙ sym (named_more h);
-    held = λ found all. o.held found (all_parts (λ x. is_held found x ≡ true) ds (d ∷ []) all).0;
+    held = λ found all. o.held found (held_parts found ds d all).0;
   }
 
   -- a hash that came before is left out
@@ -74,7 +64,7 @@ module _ (ds once : List DigestValue) (d : DigestValue) (o : AreOnce ds once) wh
   once_again e seen = record {
     distinct = o.distinct;
     named = λ h. same h ∙ (λ i. o.named h i || (not (sym e i) && bytes_eq d.hash h)) ∙ sym (named_more h);
-    held = λ found all. o.held found (all_parts (λ x. is_held found x ≡ true) ds (d ∷ []) all).0;
+    held = λ found all. o.held found (held_parts found ds d all).0;
   }
     where
       same : (h : List ℕ) → is_among bytes_eq (hashes_of once) h ≡ (is_among bytes_eq (hashes_of once) h || bytes_eq d.hash h)
@@ -89,8 +79,8 @@ module _ (ds once : List DigestValue) (d : DigestValue) (o : AreOnce ds once) wh
     distinct = subst (IsDistinct bytes_eq) (sym pushed) (IsDistinct-push nat_list_eq_equiv (hashes_of once) d.hash o.distinct (turned (hashes_of once) d.hash ∙ new));
     named = λ h. ap (λ l. is_among bytes_eq l h) pushed ∙ among_push (hashes_of once) d.hash h ∙ (λ i. o.named h i || (not (sym e i) && bytes_eq d.hash h)) ∙ sym (named_more h);
     held = λ found all.
-        let parts = all_parts (λ x. is_held found x ≡ true) ds (d ∷ []) all in
-        list_all-append (is_blob_held found) once (d ∷ []) ∙ (λ i. o.held found parts.0 i && (held_too found d parts.1.0 i && true));
+        let parts = held_parts found ds d all in
+        list_all-append (is_held found) once (d ∷ []) ∙ (λ i. o.held found parts.0 i && (parts.1 i && true));
   }
     where
       pushed : hashes_of (once ++ d ∷ []) ≡ hashes_of once ++ d.hash ∷ []
@@ -128,16 +118,16 @@ module _ (ds once : List DigestValue) (d : DigestValue) (old new : List ℕ → 
 -- ---- where there is no fault all is held
 
 module _ (found : List ℕ → Option (List ℕ)) where
-  none_missing : (fs : List DigestValue) → find (λ f. not (is_held found f)) fs ≡ None → AreHeld found fs
-  none_missing [] e = tt
-  none_missing (f ∷ fs) e = (elim (is_held found f) as (λ b. is_held found f ≡ b → AreHeld found (f ∷ fs)) [
-    | true ↦ λ t. (t, none_missing fs (rw t at e))
+  pub none_missing : (fs : List DigestValue) → find (λ f. not (is_held found f)) fs ≡ None → all_held found fs ≡ true
+  none_missing [] e = refl
+  none_missing (f ∷ fs) e = (elim (is_held found f) as (λ b. is_held found f ≡ b → all_held found (f ∷ fs) ≡ true) [
+    | true ↦ λ t. let others = none_missing fs (rw t at e) in λ i. t i && others i
     | false ↦ λ t. let e' = rw t at e in absurd cc
   ]) refl
 
-  tree_held : (d : DigestValue) (t : Bool) (o : Option (List DigestValue)) → cond t (fault_in_tree found d o) None ≡ None → AreHeld found (cond t (unwrap_or o []) [])
-  tree_held d false o e = tt
-  tree_held d true None e = tt
+  tree_held : (d : DigestValue) (t : Bool) (o : Option (List DigestValue)) → cond t (fault_in_tree found d o) None ≡ None → all_held found (cond t (unwrap_or o []) []) ≡ true
+  tree_held d false o e = refl
+  tree_held d true None e = refl
   tree_held d true (Some fs) e = none_missing fs e
 
   first_none : (a b : Option DigestValue) → first_given a b ≡ None → (a ≡ None) × (b ≡ None)
@@ -145,14 +135,14 @@ module _ (found : List ℕ → Option (List ℕ)) where
   first_none (Some d) b e = absurd cc
 
   module _ (reader : Reader) where
-    reference_held : (r : Reference) → fault_of found reader r ≡ None → AreHeld found (digests_of found reader r)
-    reference_held r e = (elim (is_held found r.digest) as (λ b. is_held found r.digest ≡ b → AreHeld found (digests_of found reader r)) [
-      | true ↦ λ t. (t, tree_held r.digest r.is_tree (files_of found reader r.digest) (rw t at e))
+    reference_held : (r : Reference) → fault_of found reader r ≡ None → all_held found (digests_of found reader r) ≡ true
+    reference_held r e = (elim (is_held found r.digest) as (λ b. is_held found r.digest ≡ b → all_held found (digests_of found reader r) ≡ true) [
+      | true ↦ λ t. let files = tree_held r.digest r.is_tree (files_of found reader r.digest) (rw t at e) in λ i. t i && files i
       | false ↦ λ t. let e' = rw t at e in absurd cc
     ]) refl
 
-    pub all_held_of : (rs : List Reference) → first_fault found reader rs ≡ None → AreHeld found (references found reader rs)
-    all_held_of [] e = tt
+    pub all_held_of : (rs : List Reference) → first_fault found reader rs ≡ None → all_held found (references found reader rs) ≡ true
+    all_held_of [] e = refl
     all_held_of (r ∷ rs) e =
         let n = first_none (fault_of found reader r) (first_fault found reader rs) e in
-        all_join (λ d. is_held found d ≡ true) (digests_of found reader r) (references found reader rs) (reference_held r n.0) (all_held_of rs n.1)
+        list_all-append (is_held found) (digests_of found reader r) (references found reader rs) ∙ (λ i. reference_held r n.0 i && all_held_of rs n.1 i)

@@ -12,14 +12,14 @@ use Rattle.std.proofs.lemmas.Map.Keys.{IsDistinct-tail}
 use Rattle.std.proofs.lemmas.Map.Entries.{none_past_head}
 use Rattle.blob_digest.specs.DigestValue.{DigestValue}
 use Rattle.eviction.specs.Kept.{Held, is_pinned, total_cost}
-use Rattle.eviction.specs.Pinning.{repinned, is_among, all_held, one_more}
+use Rattle.eviction.specs.Pinning.{repinned, is_among, all_stored, one_more}
 use Rattle.eviction.proofs.Repins.{repinned_same}
 use Rattle.action_cache.specs.References.{Reference, Reader, is_empty, of_size, is_held, names_hash, fault_in_tree, digests_of, files_of, references, fault_of, first_given, first_fault, outputs_of, refers, is_complete}
 use Rattle.action_cache.specs.Machine.{CacheState, Marked, done, refused, not_held, incomplete, why_incomplete, found, pin, pinned_now, with_results, marked}
 use Rattle.action_cache.specs.Tied.{how_many, marks, found_in, IsTied}
 use Rattle.action_cache.specs.State.{state_of}
 use Rattle.sha2.specs.Sha256.{sha256}
-use Rattle.action_cache.proofs.Agreeing.{empty_held}
+use Rattle.blob_store.proofs.BlobLemmas.{held_is_found}
 use Rattle.action_cache.proofs.Pins.{pin_tied, plain-repinned}
 use Rattle.action_cache.proofs.Changes.{under-plain}
 use Rattle.action_cache.proofs.Unpinning.{all_among, mark, under-marks}
@@ -31,18 +31,8 @@ module _ (found : List ℕ → Option (List ℕ)) (h : List ℕ) where
     | true ↦ λ t. let n' = rw t at n in absurd cc
     | false ↦ λ t.
         let same : d.hash ≡ h = (bytes_eq-Decides d.hash h).0 (rw t at n) in
-        ap (λ x. is_some (found x)) (sym same) ∙ under_hash t
+        ap (λ x. is_some (found x)) (sym same) ∙ held_is_found found d t e
   ]) refl
-    where
-      sized : (n : ℕ) (o : Option (List ℕ)) → is_some (of_size n o) ≡ true → is_some o ≡ true
-      sized n None e = e
-      sized n (Some b) e = refl
-
-      under_hash : is_empty d ≡ false → is_some (found d.hash) ≡ true
-      under_hash t = (elim (bytes_eq (sha256 []) d.hash) as (λ b. bytes_eq (sha256 []) d.hash ≡ b → is_some (of_size d.size (cond b (Some []) (found d.hash))) ≡ true → is_some (found d.hash) ≡ true) [
-        | true ↦ λ q held. let empty = empty_held d q held in absurd cc
-        | false ↦ λ q held. sized d.size (found d.hash) held
-      ]) refl e
 
   either : (a b : Bool) (P : Type 0) → (a ≡ true → P) → (b ≡ true → P) → (a || b) ≡ true → P
   either true b P f g e = f refl
@@ -165,10 +155,10 @@ module _ (reader : Reader) (limit rl : ℕ) (blobs results : List (List ℕ × H
             present None = refl
             present (Some x) = refl
 
-        pub blobs_held : all_held bytes_eq blobs ks ≡ true
+        pub blobs_held : all_stored bytes_eq blobs ks ≡ true
         blobs_held = all_among (λ k. is_some (lookup (bytes_eq k) blobs)) ks named_held
 
-        pub result_held : all_held bytes_eq results (h ∷ []) ≡ true
+        pub result_held : all_stored bytes_eq results (h ∷ []) ≡ true
         result_held = ap (λ o. is_some o && true) held
 
         pub still_tied : IsTied reader (repinned (one_more bytes_eq ks) blobs) (repinned (one_more bytes_eq (h ∷ [])) results)

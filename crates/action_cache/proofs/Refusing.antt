@@ -17,7 +17,7 @@ pub only_memory : (st : CacheState) (out : Answer × CacheState) (e f : BlobErro
 only_memory st out e f (inl same) not = absurd (not same)
 only_memory st out e f (inr memory) not = subst (λ x. IsRefused st out (of_blob x)) (sym memory) tt
 
--- want of memory is told of nothing else
+-- lack of memory is told of nothing else
 pub memory_of : (e : BlobError) → of_blob e ≡ cache.Memory → e ≡ blob.Memory
 memory_of blob.HashDiffers h = let no : cache.HashDiffers ≡ cache.Memory = h in absurd cc
 memory_of blob.TooLarge h = let no : cache.TooLarge ≡ cache.Memory = h in absurd cc

@@ -9,7 +9,7 @@ use Rattle.std.proofs.lemmas.Slice.Eq.{bytes_eq-Decides}
 use Rattle.std.proofs.lemmas.List.{length-map, reverse-reverse}
 use Rattle.std.proofs.lemmas.List.Elements.{filter-append}
 use Rattle.eviction.specs.Kept.{Held, Kept, is_pinned, cost_of, others, moved_to_front, bytes_under}
-use Rattle.eviction.specs.Entering.{enter, spared, spared_last, new_entry, given_up, entered, can_enter}
+use Rattle.eviction.specs.Entering.{enter, spared, spared_last, new_entry, evicted, entered, can_enter}
 use Rattle.eviction.specs.Pinning.{pins_of}
 use Rattle.eviction.proofs.Filters.{filter-map, filter-reverse}
 use Rattle.eviction.proofs.Distinct.{listed, filter_one}
@@ -50,7 +50,7 @@ module _ (reader : Reader) (limit : ℕ) (blobs : List (List ℕ × Held)) (s : 
   abbrev st : CacheState
   st = state_of limit s.limit blobs s.entries
 
-  -- by marks or by counts: the same enters, and the same is given up
+  -- by marks or by counts: the same enters, and the same is evicted
   pub results_marked : results_entered reader st h b ≡ option_map (λ (t : Kept (List ℕ)). marks t.entries) (entered bytes_eq s h b)
   results_marked =
       let same : option_map_or (λ (r : Marked). r.pinned) (under h (marks s.entries)) false ≡ nat_lt 0 (pins_of bytes_eq s.entries h) =
@@ -98,13 +98,13 @@ module _ (reader : Reader) (limit : ℕ) (blobs : List (List ℕ × Held)) (s : 
       let old : filter is_pinned (moved_to_front bytes_eq h s.entries) ≡ filter is_pinned (listed bytes_eq (lookup_entry (bytes_eq h) s.entries)) ++ rest =
       filter-append is_pinned (filter (λ (r : List ℕ × Held). bytes_eq h r.0) s.entries) (others bytes_eq h s.entries) ∙ ap (λ l. filter is_pinned l ++ rest) (filter_one bytes_eq nat_list_eq_equiv h s.entries d) in
       let new : filter is_pinned t.entries ≡ cond (is_pinned (new_entry bytes_eq s h b)) (new_entry bytes_eq s h b ∷ rest) rest =
-      ap (filter is_pinned) (entered_is bytes_eq s t h b e).entries ∙ ap (λ l. cond (is_pinned (new_entry bytes_eq s h b)) (new_entry bytes_eq s h b ∷ l) l) (pinned-spared_last (given_up bytes_eq s h b) (others bytes_eq h s.entries)) in
+      ap (filter is_pinned) (entered_is bytes_eq s t h b e).entries ∙ ap (λ l. cond (is_pinned (new_entry bytes_eq s h b)) (new_entry bytes_eq s h b ∷ l) l) (pinned-spared_last (evicted bytes_eq s h b) (others bytes_eq h s.entries)) in
       let swap = by_entry (lookup_entry (bytes_eq h) s.entries) refl rest same in
       record {
         counts = λ x. moved.counts x ∙ ap (how_many (λ (r : List ℕ × Held). refers (found_in blobs) reader r.1.bytes x)) old ∙ sym (swap.counts (λ bytes. refers (found_in blobs) reader bytes x)) ∙ ap (how_many (λ (r : List ℕ × Held). refers (found_in blobs) reader r.1.bytes x)) (sym new);
         complete = subst (AllByRecursion (λ (r : List ℕ × Held). is_complete (found_in blobs) reader r.1.bytes ≡ true)) (sym new) (swap.all (is_complete (found_in blobs) reader) (subst (AllByRecursion (λ (r : List ℕ × Held). is_complete (found_in blobs) reader r.1.bytes ≡ true)) old moved.complete));
         once = subst (AllByRecursion (λ (r : List ℕ × Held). r.1.pins ≤ 1)) (sym (entered_is bytes_eq s t h b e).entries)
-            (few_pins s.entries tied.once, all_spared_last (λ (r : List ℕ × Held). r.1.pins ≤ 1) is_pinned (given_up bytes_eq s h b) (others bytes_eq h s.entries) (all_filter (λ (r : List ℕ × Held). r.1.pins ≤ 1) (λ (r : List ℕ × Held). not (bytes_eq h r.0)) s.entries tied.once));
+            (few_pins s.entries tied.once, all_spared_last (λ (r : List ℕ × Held). r.1.pins ≤ 1) is_pinned (evicted bytes_eq s h b) (others bytes_eq h s.entries) (all_filter (λ (r : List ℕ × Held). r.1.pins ≤ 1) (λ (r : List ℕ × Held). not (bytes_eq h r.0)) s.entries tied.once));
       }
     where
       few_pins : (es : List (List ℕ × Held)) → AllByRecursion (λ (r : List ℕ × Held). r.1.pins ≤ 1) es → pins_of bytes_eq es h ≤ 1

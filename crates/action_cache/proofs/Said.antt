@@ -27,9 +27,9 @@ use Rattle.action_messages.specs.Reads.{Reads, SaysDigest, SaysStream}
 use Rattle.action_messages.specs.Refused.{IsRefusedResult}
 use Rattle.action_messages.specs.Unordered.{unordered, IsOrderingOf, output_paths}
 use Rattle.action_messages.proofs.Agreeing.{SaysUnordered, unordered_found, unordered_only}
-use Rattle.action_messages.proofs.Decoding.{found_is, apart_permuted, paths_permuted, lawful_permuted, lawful_said, not_unread}
+use Rattle.action_messages.proofs.Decoding.{found_is, apart_permuted, paths_permuted, valid_permuted, valid_said, not_unread}
 use Rattle.action_messages.proofs.Pairs.{ByPairs, pairs_permuted, all_permuted}
-use Rattle.action_messages.proofs.Results.{file_paths_lawful, directory_paths_lawful, symlink_paths_lawful, paths_found, result_found, result_given}
+use Rattle.action_messages.proofs.Results.{file_paths_valid, directory_paths_valid, symlink_paths_valid, paths_found, result_found, result_given}
 use Rattle.action_messages.proofs.SameOrder.{AscendBy, same_order}
 use Rattle.action_messages.proofs.Searches.{bytes_trans}
 use Rattle.action_cache.specs.declared.error.CacheError.{CacheError}
@@ -109,11 +109,11 @@ unfolding said_result
 said_is m bytes fits (rs, spelled, s) =
     let u : ActionResultValue = record { files = s.files.read; directories = s.directories.read; symlinks = s.symlinks.read; exit_code = m.exit_code; stdout = m.stdout; stderr = m.stderr } in
     let said : SaysUnordered u rs = record { known = s.known; files = s.files.each; directories = s.directories.each; exit_code = s.exit_code; stdout = s.stdout; stderr = s.stderr; symlinks = s.symlinks.each } in
-    let files = by_path_is (λ f. f.path) s.files.read m.files s.files.same s.lawful.paths.files_ascend in
-    let directories = by_path_is (λ d. d.path) s.directories.read m.directories s.directories.same s.lawful.paths.directories_ascend in
-    let symlinks = by_path_is (λ l. l.path) s.symlinks.read m.symlinks s.symlinks.same s.lawful.paths.symlinks_ascend in
+    let files = by_path_is (λ f. f.path) s.files.read m.files s.files.same s.valid.paths.files_ascend in
+    let directories = by_path_is (λ d. d.path) s.directories.read m.directories s.directories.same s.valid.paths.directories_ascend in
+    let symlinks = by_path_is (λ l. l.path) s.symlinks.read m.symlinks s.symlinks.same s.valid.paths.symlinks_ascend in
     let ordered : in_order u ≡ m = λ i. record { files = files i; directories = directories i; symlinks = symlinks i; exit_code = m.exit_code; stdout = m.stdout; stderr = m.stderr } in
-    ap (λ (r : Result ActionResultValue MessageError). r >>= λ v. action_result_of (in_order v)) (unordered_only bytes u fits (rs, spelled, said)) ∙ ap action_result_of ordered ∙ result_given m s.lawful
+    ap (λ (r : Result ActionResultValue MessageError). r >>= λ v. action_result_of (in_order v)) (unordered_only bytes u fits (rs, spelled, said)) ∙ ap action_result_of ordered ∙ result_given m s.valid
 
 pub outputs_read : (m : ActionResultValue) (bytes : List ℕ) → IsBytes bytes → Reads m bytes → references_in bytes ≡ Some (referred_to m)
 outputs_read m bytes fits reads = ap referred_in (said_is m bytes fits reads)
@@ -134,8 +134,8 @@ said_apart bytes u m fits read e =
     let r = in_order u in
     let o = ordered_in u in
     let said = unordered_found bytes u fits read in
-    let lawful = lawful_permuted u r o (lawful_said u said.0 said.2) in
-    let rules = paths_found (file_paths r.files) (directory_paths r.directories) (symlink_paths r.symlinks) (file_paths_lawful r.files lawful.files) (directory_paths_lawful r.directories lawful.directories) (symlink_paths_lawful r.symlinks lawful.symlinks) (result_found r m e).0 in
+    let valid = valid_permuted u r o (valid_said u said.0 said.2) in
+    let rules = paths_found (file_paths r.files) (directory_paths r.directories) (symlink_paths r.symlinks) (file_paths_valid r.files valid.files) (directory_paths_valid r.directories valid.directories) (symlink_paths_valid r.symlinks valid.symlinks) (result_found r m e).0 in
     apart_permuted (output_paths r) (output_paths u) (IsPermutation-sym (output_paths u) (output_paths r) (paths_permuted u r o)) rules.apart
 
 not_said : (bytes : List ℕ) (u m : ActionResultValue) (e : MessageError) → IsBytes bytes → unordered bytes ≡ Ok u → action_result_of (in_order u) ≡ Ok m → IsRefusedResult e bytes → ⊥
@@ -144,12 +144,12 @@ not_said bytes u m e fits read made (inr (v, also, overlap, is)) =
     overlap (subst (λ (x : ActionResultValue). ArePathsApart (output_paths x)) (ok_is {E = MessageError} u v (sym read ∙ also)) (said_apart bytes u m fits read made))
 
 -- a stream that is said is one
-stream_lawful : (number : ℕ) (s : StreamValue) (rs : List Record) → SaysStream number s rs → IsStream s
-stream_lawful number s rs said = record { digest = by s.digest said.digest }
+stream_valid : (number : ℕ) (s : StreamValue) (rs : List Record) → SaysStream number s rs → IsStream s
+stream_valid number s rs said = record { digest = by s.digest said.digest }
   where
     by : (d : Option DigestValue) → SaysOne SaysDigest d (elements_at (number + 1) rs) → IfSome d IsDigest
     by None h = tt
-    by (Some d) h = h.1.2.lawful
+    by (Some d) h = h.1.2.valid
 
 -- the result that is made of what is said in the bytes is read from them
 made_reads : (bytes : List ℕ) (u m : ActionResultValue) → IsBytes bytes → unordered bytes ≡ Ok u → action_result_of (in_order u) ≡ Ok m → Reads m bytes
@@ -157,16 +157,16 @@ made_reads bytes u m fits read e =
     let r = in_order u in
     let o = ordered_in u in
     let said = unordered_found bytes u fits read in
-    let lawful = lawful_permuted u r o (lawful_said u said.0 said.2) in
+    let valid = valid_permuted u r o (valid_said u said.0 said.2) in
     let is = result_found r m e in
     let made : IsActionResult r = record {
-      files = lawful.files;
-      directories = lawful.directories;
-      symlinks = lawful.symlinks;
+      files = valid.files;
+      directories = valid.directories;
+      symlinks = valid.symlinks;
       exit_code = subst (FitsSigned w32) said.2.exit_code (int32_at-fits 4 said.0);
-      stdout = stream_lawful 5 u.stdout said.0 said.2.stdout;
-      stderr = stream_lawful 7 u.stderr said.0 said.2.stderr;
-      paths = paths_found (file_paths r.files) (directory_paths r.directories) (symlink_paths r.symlinks) (file_paths_lawful r.files lawful.files) (directory_paths_lawful r.directories lawful.directories) (symlink_paths_lawful r.symlinks lawful.symlinks) is.0;
+      stdout = stream_valid 5 u.stdout said.0 said.2.stdout;
+      stderr = stream_valid 7 u.stderr said.0 said.2.stderr;
+      paths = paths_found (file_paths r.files) (directory_paths r.directories) (symlink_paths r.symlinks) (file_paths_valid r.files valid.files) (directory_paths_valid r.directories valid.directories) (symlink_paths_valid r.symlinks valid.symlinks) is.0;
     } in
     found_is bytes u (Ok m) fits read (subst IsActionResult is.1 made, subst (IsOrderingOf u) is.1 o)
 

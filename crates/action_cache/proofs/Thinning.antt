@@ -1,4 +1,4 @@
--- To give up entries that are not pinned thins a list, and leaves each pinned one found.
+-- To evict entries that are not pinned thins a list, and leaves each pinned one found.
 use Rattle.std.proofs.Common.{◌≡◌, ℕ, zero, suc, ◌+◌, ◌≤◌, Bool, true, false, cond, not, List, [], ◌∷◌, ◌++◌, reverse, length, bytes_eq, Some, None, refl, ap, sym, ◌∙◌, subst, arith, ◌⊎◌, inl, inr}
 use Rattle.std.specs.List.{filter, AllByRecursion, IsDistinct}
 use Rattle.std.specs.Map.{keys_of, lookup}
@@ -6,7 +6,7 @@ use Rattle.std.proofs.lemmas.List.{length-reverse, reverse-reverse}
 use Rattle.std.proofs.lemmas.Map.Keys.{IsDistinct-head, IsDistinct-tail, IsDistinct-cons}
 use mathlib.Core.List.{reverse_aux}
 use Rattle.eviction.specs.Kept.{total}
-use Rattle.eviction.specs.Entering.{spared, spared_last, has_room, fits, given_up_for, enter}
+use Rattle.eviction.specs.Entering.{spared, spared_last, has_room, fits, evicted_for, enter}
 use Rattle.eviction.proofs.Choices.{least_passes, is_le}
 use Rattle.eviction.proofs.Filters.{filter-reverse}
 
@@ -57,7 +57,7 @@ module _ {E : Type 0} (pinned : E → Bool) where
   enters cost limit new others most out l e = by_room (has_room pinned cost limit new others) refl e
     where
       count : ℕ
-      count = given_up_for pinned cost limit new others most
+      count = evicted_for pinned cost limit new others most
 
       by_room : (b : Bool) → has_room pinned cost limit new others ≡ b → cond b (Some (new ∷ spared_last pinned count others)) None ≡ Some out → Enters cost limit new others out
       by_room true room e =

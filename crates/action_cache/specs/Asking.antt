@@ -3,6 +3,7 @@ use Rattle.std.specs.Prelude.{◌≡◌, ℕ, ◌+◌, ◌≤◌, true, List, le
 use Rattle.std.specs.List.{fold, AllByRecursion}
 use Rattle.eviction.specs.Kept.{total}
 use Rattle.blob_digest.specs.DigestValue.{DigestValue}
+use Rattle.blob_store.specs.Blobs.{all_held}
 use Rattle.action_cache.specs.References.{Reference, Reader, is_held, files_of, outputs_of, refers}
 use Rattle.action_cache.specs.Machine as machine
 use Rattle.action_cache.specs.Machine.{CacheState, Marked, under, found}
@@ -35,7 +36,7 @@ module _ (reader : Reader) where
     pub held : is_held (found reader s) r.digest ≡ true
     pub files : r.is_tree ≡ true → (files : List DigestValue)
         × (files_of (found reader s) reader r.digest ≡ Some files)
-        × AllByRecursion (λ f. is_held (found reader s) f ≡ true) files
+        × (all_held (found reader s) files ≡ true)
 
   -- so is all to which the bytes of a result refer
   abbrev pub AreWhole : CacheState → List ℕ → Type 0

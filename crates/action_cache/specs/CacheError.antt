@@ -42,7 +42,7 @@ of_bounded bounded.NotHeld = cache.NotHeld
 of_bounded bounded.NotPinned = cache.NotPinned
 of_bounded bounded.Memory = cache.Memory
 
--- the refusal that an error tells of; want of memory is none of the machine's
+-- the refusal that an error tells of; lack of memory is none of the machine's
 abbrev pub refusal_of : CacheError → Option Refusal
 refusal_of cache.HashDiffers = Some hash_differs
 refusal_of cache.TooLarge = Some too_large

@@ -4,7 +4,7 @@ use Rattle.std.specs.Prelude.{is_some, is_none, unwrap_or, if◌then◌else◌}
 use Rattle.std.specs.List.{find, list_any}
 use Rattle.std.specs.Option.{option_and_then}
 use Rattle.blob_digest.specs.DigestValue.{DigestValue}
-pub use Rattle.blob_store.specs.Blobs.{is_empty, of_size, held_under}
+pub use Rattle.blob_store.specs.Blobs.{is_empty, of_size, held_under, blob_of, is_held}
 
 -- what stands in a result: the digest of a blob, or of a Tree
 pub record Reference : Type 0 where
@@ -40,22 +40,15 @@ module _ (files : DigestValue → Option (List DigestValue)) where
 
 -- found answers the bytes that are stored under a hash
 module _ (found : List ℕ → Option (List ℕ)) where
-  -- the blob that a digest names: what is held under its hash, if it is as long as the digest says
-  abbrev pub blob_of : DigestValue → Option (List ℕ)
-  blob_of d = of_size d.size (held_under found d.hash)
-
-  abbrev pub is_held : DigestValue → Bool
-  is_held d = is_some (blob_of d)
-
   -- the first that isn't held, or the Tree if it doesn't decode
   abbrev pub fault_in_tree : DigestValue → Option (List DigestValue) → Option DigestValue
   fault_in_tree d None = Some d
-  fault_in_tree d (Some fs) = find (λ f. not (is_held f)) fs
+  fault_in_tree d (Some fs) = find (λ f. not (is_held found f)) fs
 
   module _ (files : DigestValue → Option (List DigestValue)) where
     abbrev pub fault_by : Reference → Option DigestValue
     fault_by r =
-        if is_held r.digest
+        if is_held found r.digest
         then (if r.is_tree then fault_in_tree r.digest (files r.digest) else None)
         else Some r.digest
 
@@ -65,7 +58,7 @@ module _ (found : List ℕ → Option (List ℕ)) where
 
   module _ (reader : Reader) where
     abbrev pub files_of : DigestValue → Option (List DigestValue)
-    files_of d = option_and_then reader.files (blob_of d)
+    files_of d = option_and_then reader.files (blob_of found d)
 
     abbrev pub digests_of : Reference → List DigestValue
     digests_of r = digests_by files_of r

@@ -9,21 +9,18 @@ use Rattle.blob_digest.specs.Digest.{digest_cmp}
 use Rattle.blob_digest.specs.DigestValue.{DigestValue}
 use Rattle.eviction.specs.Pinning.{is_among}
 use Rattle.blob_store.specs.Blobs.{hashes_of, all_held}
-use Rattle.action_cache.specs.References.{Reference, Reader, names_hash, is_held, files_of}
+use Rattle.action_cache.specs.References.{Reference, Reader, names_hash, files_of}
 use Rattle.action_cache.specs.References.{references, outputs_of, first_fault}
 use Rattle.action_cache.specs.Reading.{by_messages}
 use Rattle.action_cache.specs.declared.survey.Survey.{Survey}
-
--- all of them are held, each with its length
-abbrev pub AreHeld : (List ℕ → Option (List ℕ)) → List DigestValue → Type 0
-AreHeld found ds = AllByRecursion (λ d. is_held found d ≡ true) ds
 
 -- The digests each once: no two have one hash, they name the same hashes, and where all of the
 -- first are held so are all of these.
 pub record AreOnce (ds once : List DigestValue) : Type 0 where
   pub distinct : IsDistinct bytes_eq (hashes_of once)
   pub named : (h : List ℕ) → is_among bytes_eq (hashes_of once) h ≡ list_any (names_hash h) ds
-  pub held : (found : List ℕ → Option (List ℕ)) → AreHeld found ds → all_held found once ≡ true
+  pub held : (found : List ℕ → Option (List ℕ))
+      → all_held found ds ≡ true → all_held found once ≡ true
 
 -- the references in order, each once, and the first fault
 pub record Surveys {A : Type 0} (reader : Reader) (found : List ℕ → Option (List ℕ))

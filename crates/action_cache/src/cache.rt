@@ -115,7 +115,7 @@ impl<A: Allocator + Copy> ActionCache<A> {
             ≡ (done, self.new)) }
         ensures refused { IfErr result
             (IsRefused self.old (blob_put by_messages self.old hash bytes.items)) }
-        // Want of memory hides no refusal.
+        // Lack of memory hides no refusal.
         ensures memory { result ≡ Err CacheError.Memory
             → (blob_put by_messages self.old hash bytes.items).0 ≡ done }
         ensures err { OnErr result (self.new ≡ self.old) }

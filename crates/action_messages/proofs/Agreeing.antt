@@ -166,9 +166,9 @@ digest_agrees = agree digest_shape [] digest_in SaysDigest
     let z = size_found (int64_at 2 rs) g.0 g.1 in
     let small = size_small (int64_at 2 rs) g.0 (int64_at-fits 2 rs s) z in
     let made : DigestValue = record { hash = a.0; size = g.0 } in
-    let said : SaysDigest made rs = record { known = k; hash = h.1; size = z; lawful = record { hash = h.0; size = small } } in
+    let said : SaysDigest made rs = record { known = k; hash = h.1; size = z; valid = record { hash = h.0; size = small } } in
     subst (λ (x : DigestValue). SaysDigest x rs) (ok_is {E = MessageError} made d g.2) said)
-    (λ rs d s said. (said.known, rw (said.hash, hash_again d.hash said.lawful.hash, said.size) refl))
+    (λ rs d s said. (said.known, rw (said.hash, hash_again d.hash said.valid.hash, said.size) refl))
 
 file_agrees : Agree any_output_file SaysFile
 unfolding any_output_file
@@ -180,9 +180,9 @@ file_agrees = agree output_file_shape [] any_output_file_in SaysFile
     let path = path_found (bytes_at 1 rs) p.0 p.1 in
     let digest = subst (λ x. SaysOne SaysDigest x (elements_at 2 rs)) (required_some 2 a.0 d.0 d.1) (one_found any_digest SaysDigest digest_agrees (elements_at 2 rs) a.0 (payloads_bytes 2 rs s) a.1) in
     let made : OutputFileValue = record { path = p.0; digest = d.0; executable = bool_at 4 rs } in
-    let said : SaysFile made rs = record { known = k; path = path.1; digest = digest; executable = refl; lawful = record { path = path.0; digest = digest.1.2.lawful } } in
+    let said : SaysFile made rs = record { known = k; path = path.1; digest = digest; executable = refl; valid = record { path = path.0; digest = digest.1.2.valid } } in
     subst (λ (x : OutputFileValue). SaysFile x rs) (ok_is {E = MessageError} made f p.2) said)
-    (λ rs f s said. (said.known, rw (one_only any_digest SaysDigest digest_agrees (elements_at 2 rs) (Some f.digest) (payloads_bytes 2 rs s) said.digest, said.path, path_given f.path said.lawful.path, said.executable) refl))
+    (λ rs f s said. (said.known, rw (one_only any_digest SaysDigest digest_agrees (elements_at 2 rs) (Some f.digest) (payloads_bytes 2 rs s) said.digest, said.path, path_given f.path said.valid.path, said.executable) refl))
 
 directory_agrees : Agree any_output_directory SaysDirectory
 unfolding any_output_directory
@@ -194,9 +194,9 @@ directory_agrees = agree output_directory_shape (4 ∷ []) any_output_directory_
     let path = path_found (bytes_at 1 rs) p.0 p.1 in
     let digest = subst (λ x. SaysOne SaysDigest x (elements_at 3 rs)) (required_some 3 a.0 d.0 d.1) (one_found any_digest SaysDigest digest_agrees (elements_at 3 rs) a.0 (payloads_bytes 3 rs s) a.1) in
     let made : OutputDirectoryValue = record { path = p.0; tree = d.0 } in
-    let said : SaysDirectory made rs = record { known = k; path = path.1; tree = digest; lawful = record { path = path.0; tree = digest.1.2.lawful } } in
+    let said : SaysDirectory made rs = record { known = k; path = path.1; tree = digest; valid = record { path = path.0; tree = digest.1.2.valid } } in
     subst (λ (x : OutputDirectoryValue). SaysDirectory x rs) (ok_is {E = MessageError} made f p.2) said)
-    (λ rs f s said. (said.known, rw (one_only any_digest SaysDigest digest_agrees (elements_at 3 rs) (Some f.tree) (payloads_bytes 3 rs s) said.tree, said.path, path_given f.path said.lawful.path) refl))
+    (λ rs f s said. (said.known, rw (one_only any_digest SaysDigest digest_agrees (elements_at 3 rs) (Some f.tree) (payloads_bytes 3 rs s) said.tree, said.path, path_given f.path said.valid.path) refl))
 
 symlink_agrees : Agree any_output_symlink SaysSymlink
 unfolding any_output_symlink
@@ -207,9 +207,9 @@ symlink_agrees = agree output_symlink_shape [] any_output_symlink_in SaysSymlink
     let path = path_found (bytes_at 1 rs) p.0 p.1 in
     let target = target_found (bytes_at 2 rs) t.0 t.1 in
     let made : OutputSymlinkValue = record { path = p.0; target = t.0 } in
-    let said : SaysSymlink made rs = record { known = k; path = path.1; target = target.0; lawful = record { path = path.0; target = target.1 } } in
+    let said : SaysSymlink made rs = record { known = k; path = path.1; target = target.0; valid = record { path = path.0; target = target.1 } } in
     subst (λ (x : OutputSymlinkValue). SaysSymlink x rs) (ok_is {E = MessageError} made f t.2) said)
-    (λ rs f s said. (said.known, rw (said.path, path_given f.path said.lawful.path, said.target, target_given f.target said.lawful.target) refl))
+    (λ rs f s said. (said.known, rw (said.path, path_given f.path said.valid.path, said.target, target_given f.target said.valid.target) refl))
 
 stream_found : (n : ℕ) (rs : List Record) (x : StreamValue) → AreSound rs → any_stream_at n rs ≡ Ok x → SaysStream n x rs
 unfolding any_stream_at

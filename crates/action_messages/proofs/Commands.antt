@@ -40,28 +40,28 @@ byte_not c text h = false_not (has_byte c text) (none_found c text h)
 
 -- ---- arguments
 
-texts_lawful : (texts : List (List ℕ)) → AllByRecursion IsString texts → list_all is_argument texts ≡ true → AllByRecursion IsText texts
-texts_lawful [] utf8 h = tt
-texts_lawful (text ∷ texts) utf8 h =
-    (record { utf8 = utf8.0; no_nul = no_byte 0 text (and_first (is_argument text) (list_all is_argument texts) h) }, texts_lawful texts utf8.1 (and_second (is_argument text) (list_all is_argument texts) h))
+texts_valid : (texts : List (List ℕ)) → AllByRecursion IsString texts → list_all is_argument texts ≡ true → AllByRecursion IsText texts
+texts_valid [] utf8 h = tt
+texts_valid (text ∷ texts) utf8 h =
+    (record { utf8 = utf8.0; no_nul = no_byte 0 text (and_first (is_argument text) (list_all is_argument texts) h) }, texts_valid texts utf8.1 (and_second (is_argument text) (list_all is_argument texts) h))
 
-lawful_texts : (texts : List (List ℕ)) → AllByRecursion IsText texts → list_all is_argument texts ≡ true
-lawful_texts [] h = refl
-lawful_texts (text ∷ texts) h = and_both (is_argument text) (list_all is_argument texts) (byte_not 0 text h.0.no_nul) (lawful_texts texts h.1)
+valid_texts : (texts : List (List ℕ)) → AllByRecursion IsText texts → list_all is_argument texts ≡ true
+valid_texts [] h = refl
+valid_texts (text ∷ texts) h = and_both (is_argument text) (list_all is_argument texts) (byte_not 0 text h.0.no_nul) (valid_texts texts h.1)
 
-arguments_lawful : (arguments : List (List ℕ)) → AllByRecursion IsString arguments → some_argument arguments ≡ Ok tt → are_arguments arguments ≡ true → NamesProgram arguments × AllByRecursion IsText arguments
-arguments_lawful [] utf8 some h = absurd cc
-arguments_lawful (program ∷ arguments) utf8 some h =
-    (some_byte (length program) (and_first (not (eqb (length program) 0)) (list_all is_argument (program ∷ arguments)) h), texts_lawful (program ∷ arguments) utf8 (and_second (not (eqb (length program) 0)) (list_all is_argument (program ∷ arguments)) h))
+arguments_valid : (arguments : List (List ℕ)) → AllByRecursion IsString arguments → some_argument arguments ≡ Ok tt → are_arguments arguments ≡ true → NamesProgram arguments × AllByRecursion IsText arguments
+arguments_valid [] utf8 some h = absurd cc
+arguments_valid (program ∷ arguments) utf8 some h =
+    (some_byte (length program) (and_first (not (eqb (length program) 0)) (list_all is_argument (program ∷ arguments)) h), texts_valid (program ∷ arguments) utf8 (and_second (not (eqb (length program) 0)) (list_all is_argument (program ∷ arguments)) h))
 
-lawful_arguments : (arguments : List (List ℕ)) → NamesProgram arguments → AllByRecursion IsText arguments → (some_argument arguments ≡ Ok tt) × (are_arguments arguments ≡ true)
-lawful_arguments [] program h = absurd program
-lawful_arguments (first ∷ arguments) program h = (refl, and_both (not (eqb (length first) 0)) (list_all is_argument (first ∷ arguments)) (byte_some (length first) program) (lawful_texts (first ∷ arguments) h))
+valid_arguments : (arguments : List (List ℕ)) → NamesProgram arguments → AllByRecursion IsText arguments → (some_argument arguments ≡ Ok tt) × (are_arguments arguments ≡ true)
+valid_arguments [] program h = absurd program
+valid_arguments (first ∷ arguments) program h = (refl, and_both (not (eqb (length first) 0)) (list_all is_argument (first ∷ arguments)) (byte_some (length first) program) (valid_texts (first ∷ arguments) h))
 
 -- ---- variables
 
-variable_lawful : (v : SettingValue) → IsSetting v → is_variable v ≡ true → IsVariable v
-variable_lawful v is h =
+variable_valid : (v : SettingValue) → IsSetting v → is_variable v ≡ true → IsVariable v
+variable_valid v is h =
     let name = and_first (is_variable_name v.name) (not (has_byte 0 v.value)) h in
     let front = and_first (not (eqb (length v.name) 0) && not (has_byte 61 v.name)) (not (has_byte 0 v.name)) name in
     record {
@@ -71,21 +71,21 @@ variable_lawful v is h =
       value = record { utf8 = is.value; no_nul = no_byte 0 v.value (and_second (is_variable_name v.name) (not (has_byte 0 v.value)) h) };
     }
 
-lawful_variable : (v : SettingValue) → IsVariable v → is_variable v ≡ true
-lawful_variable v h =
+valid_variable : (v : SettingValue) → IsVariable v → is_variable v ≡ true
+valid_variable v h =
     and_both (is_variable_name v.name) (not (has_byte 0 v.value))
     (and_both (not (eqb (length v.name) 0) && not (has_byte 61 v.name)) (not (has_byte 0 v.name))
     (and_both (not (eqb (length v.name) 0)) (not (has_byte 61 v.name)) (byte_some (length v.name) h.some) (byte_not 61 v.name h.no_equals))
     (byte_not 0 v.name h.name.no_nul))
     (byte_not 0 v.value h.value.no_nul)
 
-variables_lawful : (vs : List SettingValue) → AllByRecursion IsSetting vs → list_all is_variable vs ≡ true → AllByRecursion IsVariable vs
-variables_lawful [] is h = tt
-variables_lawful (v ∷ vs) is h = (variable_lawful v is.0 (and_first (is_variable v) (list_all is_variable vs) h), variables_lawful vs is.1 (and_second (is_variable v) (list_all is_variable vs) h))
+variables_valid : (vs : List SettingValue) → AllByRecursion IsSetting vs → list_all is_variable vs ≡ true → AllByRecursion IsVariable vs
+variables_valid [] is h = tt
+variables_valid (v ∷ vs) is h = (variable_valid v is.0 (and_first (is_variable v) (list_all is_variable vs) h), variables_valid vs is.1 (and_second (is_variable v) (list_all is_variable vs) h))
 
-lawful_variables : (vs : List SettingValue) → AllByRecursion IsVariable vs → list_all is_variable vs ≡ true
-lawful_variables [] h = refl
-lawful_variables (v ∷ vs) h = and_both (is_variable v) (list_all is_variable vs) (lawful_variable v h.0) (lawful_variables vs h.1)
+valid_variables : (vs : List SettingValue) → AllByRecursion IsVariable vs → list_all is_variable vs ≡ true
+valid_variables [] h = refl
+valid_variables (v ∷ vs) h = and_both (is_variable v) (list_all is_variable vs) (valid_variable v h.0) (valid_variables vs h.1)
 
 pub settings_of : (vs : List SettingValue) → AllByRecursion IsVariable vs → AllByRecursion IsSetting vs
 settings_of vs h = weaker IsVariable IsSetting (λ v is. record { name = is.name.utf8; value = is.value.utf8 }) vs h
@@ -105,14 +105,14 @@ unfolding texts_checked
 texts_found arguments environment utf8 is e =
     let a = bind_ok (some_argument arguments) _ tt e in
     let b = bind_ok (refused_unless (are_arguments arguments) (BadText 1)) (λ _. refused_unless (list_all is_variable environment) (BadText 2)) tt a.2 in
-    let l = arguments_lawful arguments utf8 a.1 (unless_ok (are_arguments arguments) (BadText 1) b.1) in
-    record { program = l.0; arguments = l.1; environment = variables_lawful environment is (unless_ok (list_all is_variable environment) (BadText 2) b.2) }
+    let l = arguments_valid arguments utf8 a.1 (unless_ok (are_arguments arguments) (BadText 1) b.1) in
+    record { program = l.0; arguments = l.1; environment = variables_valid environment is (unless_ok (list_all is_variable environment) (BadText 2) b.2) }
 
 pub texts_given : (arguments : List (List ℕ)) (environment : List SettingValue) → AreTexts arguments environment → texts_checked arguments environment ≡ Ok tt
 unfolding texts_checked
 texts_given arguments environment h =
-    let a = lawful_arguments arguments h.program h.arguments in
-    let v = lawful_variables environment h.environment in
+    let a = valid_arguments arguments h.program h.arguments in
+    let v = valid_variables environment h.environment in
     rw (a.0, a.1, v) refl
 
 pub record AreLists (environment : List SettingValue) (output_paths : List (List (List ℕ))) : Type 0 where
@@ -173,8 +173,8 @@ unfolding command_of
 command_given c k = let h = command_checked c k in let t : texts_checked c.arguments c.environment ≡ Ok tt = h.0 in let l : lists_checked c.environment c.output_paths ≡ Ok tt = h.1 in rw (t, l) refl
 
 pub command_answer : (c : CommandValue) (r : Result CommandValue MessageError) → Gives (λ x. x) r (command_of c) → IfOk r IsCommand → IsOk r ↔ IsCommand c
-command_answer c (Ok x) given lawful = (λ _. subst IsCommand (sym (command_same c x given)) lawful, λ _. refl)
-command_answer c (Err e) given lawful = (λ h. absurd (cc h), λ k. let o = command_given c k in absurd (cc (sym o ∙ given)))
+command_answer c (Ok x) given valid = (λ _. subst IsCommand (sym (command_same c x given)) valid, λ _. refl)
+command_answer c (Err e) given valid = (λ h. absurd (cc h), λ k. let o = command_given c k in absurd (cc (sym o ∙ given)))
 
 -- ---- the working directory
 

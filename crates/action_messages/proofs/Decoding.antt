@@ -27,13 +27,13 @@ use Rattle.action_messages.specs.ActionResult.{ActionResultValue, IsActionResult
 use Rattle.action_messages.specs.Nested.{SaysEach}
 use Rattle.action_messages.specs.Reads.{SaysFile, SaysDirectory, SaysSymlink, SaysStream, Reads}
 use Rattle.action_messages.specs.Refused.{NoneRefused, IsFirstRefused, IsUnreadResult, IsRefusedResult}
-use Rattle.action_messages.specs.Unordered.{unordered_in, known_fields, unordered, output_paths, IsOrderingOf, AreOutputsLawful}
+use Rattle.action_messages.specs.Unordered.{unordered_in, known_fields, unordered, output_paths, IsOrderingOf, AreOutputsValid}
 use Rattle.action_messages.proofs.Agreeing.{SaysUnordered, unordered_found, unordered_only}
 use Rattle.action_messages.proofs.Apart.{ArePaths}
 use Rattle.action_messages.proofs.NestedOrder.{none_refused, all_read, first_once, err_is, failed_with}
 use Rattle.action_messages.proofs.Pairs.{ByPairs, IsSymmetric, pairs_permuted, all_permuted}
 use Rattle.action_messages.proofs.ReadOnce.{reads_once}
-use Rattle.action_messages.proofs.Results.{file_paths_lawful, directory_paths_lawful, symlink_paths_lawful, paths_given, result_found}
+use Rattle.action_messages.proofs.Results.{file_paths_valid, directory_paths_valid, symlink_paths_valid, paths_given, result_found}
 use Rattle.action_messages.proofs.SameOrder.{AscendBy}
 
 -- ---- paths apart, in any order
@@ -112,8 +112,8 @@ pub record IsSortedResult (r : ActionResultValue) : Type 0 where
   pub directories : IsSortedByText (λ (x : OutputDirectoryValue). x.path) r.directories
   pub symlinks : IsSortedByText (λ (x : OutputSymlinkValue). x.path) r.symlinks
 
-pub lawful_permuted : (u r : ActionResultValue) → IsOrderingOf u r → AreOutputsLawful u → AreOutputsLawful r
-lawful_permuted u r o k = record {
+pub valid_permuted : (u r : ActionResultValue) → IsOrderingOf u r → AreOutputsValid u → AreOutputsValid r
+valid_permuted u r o k = record {
   files = all_permuted IsOutputFile u.files r.files o.files k.files;
   directories = all_permuted IsOutputDirectory u.directories r.directories o.directories k.directories;
   symlinks = all_permuted IsOutputSymlink u.symlinks r.symlinks o.symlinks k.symlinks;
@@ -122,12 +122,12 @@ lawful_permuted u r o k = record {
 abbrev paths_of_result : ActionResultValue → Result (Unit {0}) MessageError
 paths_of_result r = paths_checked (file_paths r.files) (directory_paths r.directories) (symlink_paths r.symlinks)
 
-sorted_checked : (u r : ActionResultValue) → IsOrderingOf u r → IsSortedResult r → AreOutputsLawful u → ArePathsApart (output_paths u) → paths_of_result r ≡ Ok tt
+sorted_checked : (u r : ActionResultValue) → IsOrderingOf u r → IsSortedResult r → AreOutputsValid u → ArePathsApart (output_paths u) → paths_of_result r ≡ Ok tt
 sorted_checked u r o s k h =
-    let l = lawful_permuted u r o k in
-    let f = file_paths_lawful r.files l.files in
-    let d = directory_paths_lawful r.directories l.directories in
-    let y = symlink_paths_lawful r.symlinks l.symlinks in
+    let l = valid_permuted u r o k in
+    let f = file_paths_valid r.files l.files in
+    let d = directory_paths_valid r.directories l.directories in
+    let y = symlink_paths_valid r.symlinks l.symlinks in
     let apart = apart_permuted (output_paths u) (output_paths r) (paths_permuted u r o) h in
     let front = apart_front (file_paths r.files ++ directory_paths r.directories) (symlink_paths r.symlinks) apart in
     let two = apart_front (file_paths r.files) (directory_paths r.directories) front.0 in
@@ -139,7 +139,7 @@ sorted_checked u r o s k h =
     } in
     paths_given (file_paths r.files) (directory_paths r.directories) (symlink_paths r.symlinks) f d y rules
 
-pub overlapping : (u r : ActionResultValue) (e : MessageError) → IsOrderingOf u r → IsSortedResult r → action_result_of r ≡ Err e → AreOutputsLawful u → ArePathsApart (output_paths u) → ⊥
+pub overlapping : (u r : ActionResultValue) (e : MessageError) → IsOrderingOf u r → IsSortedResult r → action_result_of r ≡ Err e → AreOutputsValid u → ArePathsApart (output_paths u) → ⊥
 unfolding action_result_of
 overlapping u r e o s refused k h = let no = sym refused ∙ ap (λ (x : Result (Unit {0}) MessageError). x >>= λ _. Ok r) (sorted_checked u r o s k h) in cc
 
@@ -148,24 +148,24 @@ ordered_made u s r o e k = let f = result_found s r e in (k, subst (IsOrderingOf
 
 -- ---- bytes
 
-lawful_each : {A : Type 0} (Says : A → List Record → Type 0) (Keeps : A → Type 0) → ((a : A) (rs : List Record) → Says a rs → Keeps a) → (xs : List A) (payloads : List (List ℕ)) → SaysEach Says xs payloads → AllByRecursion Keeps xs
-lawful_each Says Keeps keep [] [] s = tt
-lawful_each Says Keeps keep [] (bytes ∷ payloads) s = tt
-lawful_each Says Keeps keep (x ∷ xs) [] s = absurd s
-lawful_each Says Keeps keep (x ∷ xs) (bytes ∷ payloads) s = (keep x s.0.0 s.0.2, lawful_each Says Keeps keep xs payloads s.1)
+valid_each : {A : Type 0} (Says : A → List Record → Type 0) (Keeps : A → Type 0) → ((a : A) (rs : List Record) → Says a rs → Keeps a) → (xs : List A) (payloads : List (List ℕ)) → SaysEach Says xs payloads → AllByRecursion Keeps xs
+valid_each Says Keeps keep [] [] s = tt
+valid_each Says Keeps keep [] (bytes ∷ payloads) s = tt
+valid_each Says Keeps keep (x ∷ xs) [] s = absurd s
+valid_each Says Keeps keep (x ∷ xs) (bytes ∷ payloads) s = (keep x s.0.0 s.0.2, valid_each Says Keeps keep xs payloads s.1)
 
-pub lawful_said : (u : ActionResultValue) (rs : List Record) → SaysUnordered u rs → AreOutputsLawful u
-lawful_said u rs s = record {
-  files = lawful_each SaysFile IsOutputFile (λ a qs h. h.lawful) u.files _ s.files;
-  directories = lawful_each SaysDirectory IsOutputDirectory (λ a qs h. h.lawful) u.directories _ s.directories;
-  symlinks = lawful_each SaysSymlink IsOutputSymlink (λ a qs h. h.lawful) u.symlinks _ s.symlinks;
+pub valid_said : (u : ActionResultValue) (rs : List Record) → SaysUnordered u rs → AreOutputsValid u
+valid_said u rs s = record {
+  files = valid_each SaysFile IsOutputFile (λ a qs h. h.valid) u.files _ s.files;
+  directories = valid_each SaysDirectory IsOutputDirectory (λ a qs h. h.valid) u.directories _ s.directories;
+  symlinks = valid_each SaysSymlink IsOutputSymlink (λ a qs h. h.valid) u.symlinks _ s.symlinks;
 }
 
 abbrev IsMade : ActionResultValue → ActionResultValue → Type 0
 IsMade u r = IsActionResult r × IsOrderingOf u r
 
 abbrev IsOverlap : ActionResultValue → MessageError → Type 0
-IsOverlap u e = (e ≡ SameName) × (AreOutputsLawful u → ArePathsApart (output_paths u) → ⊥)
+IsOverlap u e = (e ≡ SameName) × (AreOutputsValid u → ArePathsApart (output_paths u) → ⊥)
 
 pub found_is : (bytes : List ℕ) (u : ActionResultValue) (r : Result ActionResultValue MessageError) → IsBytes bytes → unordered bytes ≡ Ok u → IfOk r (IsMade u) → IfOk r (λ x. Reads x bytes)
 found_is bytes u (Ok x) fits read made =
@@ -181,14 +181,14 @@ found_is bytes u (Ok x) fits read made =
         stdout = subst (λ y. SaysStream 5 y s.0) o.stdout s.2.stdout;
         stderr = subst (λ y. SaysStream 7 y s.0) o.stderr s.2.stderr;
         symlinks = record { read = u.symlinks; each = s.2.symlinks; same = o.symlinks };
-        lawful = made.0;
+        valid = made.0;
       },
     )
 found_is bytes u (Err e) fits read made = tt
 
 pub refused_is : (bytes : List ℕ) (u : ActionResultValue) (r : Result ActionResultValue MessageError) → IsBytes bytes → unordered bytes ≡ Ok u → IfErr r (IsOverlap u) → IfErr r (λ e. (e ≡ Memory) ⊎ IsRefusedResult e bytes)
 refused_is bytes u (Ok x) fits read h = tt
-refused_is bytes u (Err e) fits read h = let s = unordered_found bytes u fits read in inr (inr (u, read, h.1 (lawful_said u s.0 s.2), h.0))
+refused_is bytes u (Err e) fits read h = let s = unordered_found bytes u fits read in inr (inr (u, read, h.1 (valid_said u s.0 s.2), h.0))
 
 -- what is read as a result is said, and no two of its outputs overlap
 reads_said : (m : ActionResultValue) (bytes : List ℕ) → IsBytes bytes → Reads m bytes → (u : ActionResultValue) × (unordered bytes ≡ Ok u) × ArePathsApart (output_paths u)
@@ -203,7 +203,7 @@ reads_said m bytes fits (rs, spelled, s) =
       stderr = refl;
     } in
     let said : SaysUnordered u rs = record { known = s.known; files = s.files.each; directories = s.directories.each; exit_code = s.exit_code; stdout = s.stdout; stderr = s.stderr; symlinks = s.symlinks.each } in
-    (u, unordered_only bytes u fits (rs, spelled, said), apart_permuted (output_paths m) (output_paths u) (paths_permuted m u o) s.lawful.paths.apart)
+    (u, unordered_only bytes u fits (rs, spelled, said), apart_permuted (output_paths m) (output_paths u) (paths_permuted m u o) s.valid.paths.apart)
 
 same_read : (u v : ActionResultValue) (r : Result ActionResultValue MessageError) → r ≡ Ok u → r ≡ Ok v → u ≡ v
 same_read u v r e f = ok_is {E = MessageError} u v (sym e ∙ f)

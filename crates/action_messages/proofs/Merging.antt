@@ -21,7 +21,7 @@ use Rattle.action_messages.specs.declared.recorded_output.RecordedOutput.{Record
 use Rattle.action_messages.specs.Outputs.{RecordedValue, recorded_value, recorded_values, file, directory, link, recorded_path, files_among, directories_among, links_among, AreOutputs}
 use Rattle.action_messages.specs.Merging.{earlier, first_of}
 use Rattle.action_messages.proofs.Apart.{firsts, rests, weaker, text_rows, apart_parts, from_parts}
-use Rattle.action_messages.proofs.Results.{file_paths_lawful, directory_paths_lawful, symlink_paths_lawful}
+use Rattle.action_messages.proofs.Results.{file_paths_valid, directory_paths_valid, symlink_paths_valid}
 
 abbrev text_at : RecordedValue → List ℕ
 text_at x = path_text (recorded_path x)
@@ -364,9 +364,9 @@ walks_begin r k =
     let whole = apart_parts (f ++ d) l k.paths.apart in
     let both = apart_parts f d whole.0 in
     let crossed = from_parts f d l whole.2 in
-    let fs = file_paths_lawful r.files k.files in
-    let ds = directory_paths_lawful r.directories k.directories in
-    let ls = symlink_paths_lawful r.symlinks k.symlinks in
+    let fs = file_paths_valid r.files k.files in
+    let ds = directory_paths_valid r.directories k.directories in
+    let ls = symlink_paths_valid r.symlinks k.symlinks in
     record {
       files = refl;
       directories = refl;

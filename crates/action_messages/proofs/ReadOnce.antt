@@ -66,26 +66,26 @@ size_once m n e = cc
 
 digest_once : Once SaysDigest
 digest_once d e rs h k =
-    let hash = hash_once d.hash e.hash h.lawful.hash k.lawful.hash (sym h.hash ∙ k.hash) in
+    let hash = hash_once d.hash e.hash h.valid.hash k.valid.hash (sym h.hash ∙ k.hash) in
     let size = size_once d.size e.size (sym h.size ∙ k.size) in
     λ i. record { hash = hash i; size = size i }
 
 file_once : Once SaysFile
 file_once f g rs h k =
-    let path = path_once f.path g.path h.lawful.path k.lawful.path (sym h.path ∙ k.path) in
+    let path = path_once f.path g.path h.valid.path k.valid.path (sym h.path ∙ k.path) in
     let digest = all_once SaysDigest digest_once f.digest g.digest _ h.digest.1 k.digest.1 in
     let executable = sym h.executable ∙ k.executable in
     λ i. record { path = path i; digest = digest i; executable = executable i }
 
 directory_once : Once SaysDirectory
 directory_once f g rs h k =
-    let path = path_once f.path g.path h.lawful.path k.lawful.path (sym h.path ∙ k.path) in
+    let path = path_once f.path g.path h.valid.path k.valid.path (sym h.path ∙ k.path) in
     let tree = all_once SaysDigest digest_once f.tree g.tree _ h.tree.1 k.tree.1 in
     λ i. record { path = path i; tree = tree i }
 
 symlink_once : Once SaysSymlink
 symlink_once f g rs h k =
-    let path = path_once f.path g.path h.lawful.path k.lawful.path (sym h.path ∙ k.path) in
+    let path = path_once f.path g.path h.valid.path k.valid.path (sym h.path ∙ k.path) in
     let target = sym h.target ∙ k.target in
     λ i. record { path = path i; target = target i }
 
@@ -97,9 +97,9 @@ stream_once number s t rs h k =
 
 result_once : Once SaysResult
 result_once m n rs h k =
-    let files = sorted_once (λ f. f.path) SaysFile file_once m.files n.files _ h.lawful.paths.files_ascend k.lawful.paths.files_ascend h.files k.files in
-    let directories = sorted_once (λ f. f.path) SaysDirectory directory_once m.directories n.directories _ h.lawful.paths.directories_ascend k.lawful.paths.directories_ascend h.directories k.directories in
-    let symlinks = sorted_once (λ f. f.path) SaysSymlink symlink_once m.symlinks n.symlinks _ h.lawful.paths.symlinks_ascend k.lawful.paths.symlinks_ascend h.symlinks k.symlinks in
+    let files = sorted_once (λ f. f.path) SaysFile file_once m.files n.files _ h.valid.paths.files_ascend k.valid.paths.files_ascend h.files k.files in
+    let directories = sorted_once (λ f. f.path) SaysDirectory directory_once m.directories n.directories _ h.valid.paths.directories_ascend k.valid.paths.directories_ascend h.directories k.directories in
+    let symlinks = sorted_once (λ f. f.path) SaysSymlink symlink_once m.symlinks n.symlinks _ h.valid.paths.symlinks_ascend k.valid.paths.symlinks_ascend h.symlinks k.symlinks in
     let exit_code = sym h.exit_code ∙ k.exit_code in
     let stdout = stream_once 5 m.stdout n.stdout rs h.stdout k.stdout in
     let stderr = stream_once 7 m.stderr n.stderr rs h.stderr k.stderr in

@@ -73,7 +73,7 @@ result_reordered m rs ss same h = record {
   stdout = stream_reordered 5 m.stdout rs ss same h.stdout;
   stderr = stream_reordered 7 m.stderr rs ss same h.stderr;
   symlinks = subst (SaysSorted SaysSymlink m.symlinks) (elements_reordered 12 rs ss same) h.symlinks;
-  lawful = h.lawful;
+  valid = h.valid;
 }
 
 pub reads_reordered : (m : ActionResultValue) (bytes other : List ℕ) (rs ss : List Record) → SpellsAny bytes rs → SpellsAny other ss → HaveSameFields rs ss → Reads m bytes → Reads m other

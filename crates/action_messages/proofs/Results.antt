@@ -20,17 +20,17 @@ use Rattle.action_messages.proofs.Searches.{bytes_trans}
 use Rattle.action_messages.proofs.Apart.{ArePaths, none_under, under_none, apart_within, within_apart, apart_from, from_apart, apart_join, apart_parts, from_join, from_parts}
 use Rattle.action_messages.proofs.Commands.{unless_ok}
 
-pub file_paths_lawful : (files : List OutputFileValue) → AllByRecursion IsOutputFile files → ArePaths (file_paths files)
-file_paths_lawful [] h = tt
-file_paths_lawful (f ∷ files) h = (h.0.path, file_paths_lawful files h.1)
+pub file_paths_valid : (files : List OutputFileValue) → AllByRecursion IsOutputFile files → ArePaths (file_paths files)
+file_paths_valid [] h = tt
+file_paths_valid (f ∷ files) h = (h.0.path, file_paths_valid files h.1)
 
-pub directory_paths_lawful : (directories : List OutputDirectoryValue) → AllByRecursion IsOutputDirectory directories → ArePaths (directory_paths directories)
-directory_paths_lawful [] h = tt
-directory_paths_lawful (d ∷ directories) h = (h.0.path, directory_paths_lawful directories h.1)
+pub directory_paths_valid : (directories : List OutputDirectoryValue) → AllByRecursion IsOutputDirectory directories → ArePaths (directory_paths directories)
+directory_paths_valid [] h = tt
+directory_paths_valid (d ∷ directories) h = (h.0.path, directory_paths_valid directories h.1)
 
-pub symlink_paths_lawful : (symlinks : List OutputSymlinkValue) → AllByRecursion IsOutputSymlink symlinks → ArePaths (symlink_paths symlinks)
-symlink_paths_lawful [] h = tt
-symlink_paths_lawful (l ∷ symlinks) h = (h.0.path, symlink_paths_lawful symlinks h.1)
+pub symlink_paths_valid : (symlinks : List OutputSymlinkValue) → AllByRecursion IsOutputSymlink symlinks → ArePaths (symlink_paths symlinks)
+symlink_paths_valid [] h = tt
+symlink_paths_valid (l ∷ symlinks) h = (h.0.path, symlink_paths_valid symlinks h.1)
 
 pub paths_found : (f d l : List (List (List ℕ))) → ArePaths f → ArePaths d → ArePaths l → paths_checked f d l ≡ Ok tt → AreOutputPaths f d l
 unfolding paths_checked
@@ -93,7 +93,7 @@ paths_given f d l fs ds ls h =
 -- ---- the rules of a result
 
 pub result_checked : (r : ActionResultValue) → IsActionResult r → paths_checked (file_paths r.files) (directory_paths r.directories) (symlink_paths r.symlinks) ≡ Ok tt
-result_checked r k = paths_given (file_paths r.files) (directory_paths r.directories) (symlink_paths r.symlinks) (file_paths_lawful r.files k.files) (directory_paths_lawful r.directories k.directories) (symlink_paths_lawful r.symlinks k.symlinks) k.paths
+result_checked r k = paths_given (file_paths r.files) (directory_paths r.directories) (symlink_paths r.symlinks) (file_paths_valid r.files k.files) (directory_paths_valid r.directories k.directories) (symlink_paths_valid r.symlinks k.symlinks) k.paths
 
 pub result_found : (r x : ActionResultValue) → action_result_of r ≡ Ok x → (paths_checked (file_paths r.files) (directory_paths r.directories) (symlink_paths r.symlinks) ≡ Ok tt) × (r ≡ x)
 unfolding action_result_of
@@ -107,5 +107,5 @@ result_given r k = let h = result_checked r k in rw h refl
 
 -- what `new` answers
 pub result_answer : (r : ActionResultValue) (answer : Result ActionResultValue MessageError) → Gives (λ x. x) answer (action_result_of r) → IfOk answer IsActionResult → IsOk answer ↔ IsActionResult r
-result_answer r (Ok x) given lawful = (λ _. subst IsActionResult (sym ((result_found r x given).1)) lawful, λ _. refl)
-result_answer r (Err e) given lawful = (λ h. absurd (cc h), λ k. let o = result_given r k in absurd (cc (sym o ∙ given)))
+result_answer r (Ok x) given valid = (λ _. subst IsActionResult (sym ((result_found r x given).1)) valid, λ _. refl)
+result_answer r (Err e) given valid = (λ h. absurd (cc h), λ k. let o = result_given r k in absurd (cc (sym o ∙ given)))

@@ -107,7 +107,7 @@ digest_written = written digest_shape [] digest_parts IsDigest SaysDigest digest
     known = known;
     hash = bytes_again 1 rs (encode_lower d.hash) apart.0;
     size = int64_read 2 rs (pos d.size) (small_fits d.size k.size) apart.1.0;
-    lawful = k;
+    valid = k;
   };
 }) digest_joined
 
@@ -137,7 +137,7 @@ file_written = written output_file_shape [] file_parts IsOutputFile SaysFile out
     path = bytes_again 1 rs (path_text f.path) apart.0;
     digest = one_written digest_bytes IsDigest SaysDigest digest_written 2 rs (Some f.digest) s k.digest apart.1.0;
     executable = bool_again 4 rs f.executable apart.1.1.0;
-    lawful = k;
+    valid = k;
   };
 }) (λ f. ap spelling (of_three (bytes_field 1 (path_text f.path)) (message_field 2 (Some (digest_bytes f.digest))) (bool_field 4 f.executable)))
 
@@ -159,7 +159,7 @@ directory_written = written output_directory_shape (4 ∷ []) directory_parts Is
     known = known;
     path = bytes_again 1 rs (path_text d.path) apart.0;
     tree = one_written digest_bytes IsDigest SaysDigest digest_written 3 rs (Some d.tree) s k.tree apart.1.0;
-    lawful = k;
+    valid = k;
   };
 }) (λ d. ap spelling (ap (λ (l : List Record). bytes_field 1 (path_text d.path) ++ l) (append-nil (message_field 3 (Some (digest_bytes d.tree))))))
 
@@ -181,7 +181,7 @@ symlink_written = written output_symlink_shape [] symlink_parts IsOutputSymlink 
     known = known;
     path = bytes_again 1 rs (path_text l.path) apart.0;
     target = bytes_again 2 rs l.target apart.1.0;
-    lawful = k;
+    valid = k;
   };
 }) (λ l. ap spelling (ap (λ (rs : List Record). bytes_field 1 (path_text l.path) ++ rs) (append-nil (bytes_field 2 l.target))))
 
@@ -242,7 +242,7 @@ result_written = written action_result_shape (9 ∷ []) result_parts IsActionRes
     stdout = stream_written 5 rs r.stdout s k.stdout apart.1.1.1.0 apart.1.1.1.1.0;
     stderr = stream_written 7 rs r.stderr s k.stderr apart.1.1.1.1.1.0 apart.1.1.1.1.1.1.0;
     symlinks = sorted_written output_symlink_bytes IsOutputSymlink SaysSymlink symlink_written 12 rs r.symlinks s k.symlinks apart.1.1.1.1.1.1.1.0;
-    lawful = k;
+    valid = k;
   };
 }) (λ r. ap spelling (of_eight (element_fields 2 (map output_file_bytes r.files)) (element_fields 3 (map output_directory_bytes r.directories)) (int_field 4 r.exit_code) (bytes_field 5 r.stdout.raw) (message_field 6 (option_map digest_bytes r.stdout.digest)) (bytes_field 7 r.stderr.raw) (message_field 8 (option_map digest_bytes r.stderr.digest)) (element_fields 12 (map output_symlink_bytes r.symlinks))))
 

@@ -23,4 +23,4 @@ required number None = Err (MissingField number)
 required number (Some x) = Ok x
 
 abbrev pub refused_unless : Bool → MessageError → Result (Unit {0}) MessageError
-refused_unless lawful e = if lawful then Ok tt else Err e
+refused_unless valid e = if valid then Ok tt else Err e

@@ -26,27 +26,27 @@ pub record SaysDigest (d : DigestValue) (rs : List Record) : Type 0 where
   pub known : AreKnown digest_shape [] rs
   pub hash : bytes_at 1 rs ≡ encode_lower d.hash
   pub size : int64_at 2 rs ≡ pos d.size
-  pub lawful : IsDigest d
+  pub valid : IsDigest d
 
 pub record SaysFile (f : OutputFileValue) (rs : List Record) : Type 0 where
   pub known : AreKnown output_file_shape [] rs
   pub path : bytes_at 1 rs ≡ path_text f.path
   pub digest : SaysOne SaysDigest (Some f.digest) (elements_at 2 rs)
   pub executable : bool_at 4 rs ≡ f.executable
-  pub lawful : IsOutputFile f
+  pub valid : IsOutputFile f
 
 -- field 4 is skipped
 pub record SaysDirectory (d : OutputDirectoryValue) (rs : List Record) : Type 0 where
   pub known : AreKnown output_directory_shape (4 ∷ []) rs
   pub path : bytes_at 1 rs ≡ path_text d.path
   pub tree : SaysOne SaysDigest (Some d.tree) (elements_at 3 rs)
-  pub lawful : IsOutputDirectory d
+  pub valid : IsOutputDirectory d
 
 pub record SaysSymlink (l : OutputSymlinkValue) (rs : List Record) : Type 0 where
   pub known : AreKnown output_symlink_shape [] rs
   pub path : bytes_at 1 rs ≡ path_text l.path
   pub target : bytes_at 2 rs ≡ l.target
-  pub lawful : IsOutputSymlink l
+  pub valid : IsOutputSymlink l
 
 -- the stream whose bytes are the field of this number, and whose digest is the next
 pub record SaysStream (number : ℕ) (s : StreamValue) (rs : List Record) : Type 0 where
@@ -62,7 +62,7 @@ pub record SaysResult (m : ActionResultValue) (rs : List Record) : Type 0 where
   pub stdout : SaysStream 5 m.stdout rs
   pub stderr : SaysStream 7 m.stderr rs
   pub symlinks : SaysSorted SaysSymlink m.symlinks (elements_at 12 rs)
-  pub lawful : IsActionResult m
+  pub valid : IsActionResult m
 
 -- the bytes are read as the result
 abbrev pub Reads : ActionResultValue → List ℕ → Type 0

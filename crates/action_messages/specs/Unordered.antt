@@ -95,7 +95,7 @@ pub record IsOrderingOf (u r : ActionResultValue) : Type 0 where
   pub stderr : u.stderr ≡ r.stderr
 
 -- each output keeps its rules
-pub record AreOutputsLawful (u : ActionResultValue) : Type 0 where
+pub record AreOutputsValid (u : ActionResultValue) : Type 0 where
   pub files : AllByRecursion IsOutputFile u.files
   pub directories : AllByRecursion IsOutputDirectory u.directories
   pub symlinks : AllByRecursion IsOutputSymlink u.symlinks

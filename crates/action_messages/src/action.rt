@@ -69,7 +69,7 @@ impl<A: Allocator> Action<A> {
     /// The action without its inputs.
     pub fn frame(&self) -> &Frame<A>
         ensures value { result.now ≡ self.now.frame }
-        ensures lawful { IsAction self.now }
+        ensures valid { IsAction self.now }
     {
         &self.frame
     }
@@ -89,7 +89,7 @@ impl<A: Allocator> Action<A> {
     /// The digest of the root directory of the inputs.
     pub fn input_root_digest(&self) -> Digest
         ensures value { result ≡ self.now.input }
-        ensures lawful { IsAction self.now }
+        ensures valid { IsAction self.now }
     {
         self.input_root_digest
     }
@@ -97,7 +97,7 @@ impl<A: Allocator> Action<A> {
     /// The digest of the command's encoding.
     pub fn command_digest(&self) -> Digest
         ensures value { result ≡ self.now.frame.command }
-        ensures lawful { IsAction self.now }
+        ensures valid { IsAction self.now }
     {
         self.frame.command_digest()
     }
@@ -105,7 +105,7 @@ impl<A: Allocator> Action<A> {
     /// Whether the result is not to be kept for other builds.
     pub fn do_not_cache(&self) -> bool
         ensures value { result ≡ self.now.frame.do_not_cache }
-        ensures lawful { IsAction self.now }
+        ensures valid { IsAction self.now }
     {
         self.frame.do_not_cache()
     }
@@ -113,7 +113,7 @@ impl<A: Allocator> Action<A> {
     /// Bytes that tell apart actions which are equal but for them.
     pub fn salt(&self) -> &[u8]
         ensures value { result.now ≡ self.now.frame.salt }
-        ensures lawful { IsAction self.now }
+        ensures valid { IsAction self.now }
     {
         self.frame.salt()
     }
@@ -121,7 +121,7 @@ impl<A: Allocator> Action<A> {
     /// What is asked of the machine.
     pub fn platform(&self) -> &Platform<A>
         ensures value { result.now ≡ self.now.frame.platform }
-        ensures lawful { IsAction self.now }
+        ensures valid { IsAction self.now }
     {
         self.frame.platform()
     }
@@ -190,7 +190,7 @@ impl<A: Allocator + Copy> Action<A> {
     /// The canonical encoding.
     pub fn encode(&self, alloc: A) -> Result<Vec<u8, A>, AllocError>
         ensures bytes { IfOk result (λ bytes. bytes.items ≡ action_bytes self.now) }
-        ensures lawful { IsAction self.now }
+        ensures valid { IsAction self.now }
     {
         let _ = &self.frame;
         self.write(alloc)

@@ -9,7 +9,7 @@ ghost use Rattle.messages.specs.Gives.{GivesUnlessMemory};
 ghost use Rattle.messages.specs.Order.{bytes_cmp};
 ghost use Rattle.messages.specs.declared.error.MessageError.TheVariants.{SameName, Memory};
 ghost use Rattle.action_messages.specs.Reads.{Reads};
-ghost use Rattle.action_messages.specs.Unordered.{IsOrderingOf, AreOutputsLawful, output_paths};
+ghost use Rattle.action_messages.specs.Unordered.{IsOrderingOf, AreOutputsValid, output_paths};
 ghost use Rattle.action_messages.specs.Refused.{IsRefusedResult};
 ghost use Rattle.action_messages.specs.Ascending.{IsAscendingBy};
 ghost use Rattle.action_messages.specs.Overlaps.{ArePathsApart, texts_of};
@@ -134,7 +134,7 @@ impl<A: Allocator> ActionResult<A> {
               stdout = stdout;
               stderr = stderr;
             })) }
-        ensures lawful { IfOk result IsActionResult }
+        ensures valid { IfOk result IsActionResult }
     {
         check_outputs(&files, &directories, &symlinks)?;
         let _ = stdout.digest();
@@ -186,7 +186,7 @@ impl<A: Allocator> ActionResult<A> {
     /// The files that the action made, by the texts of their paths.
     pub fn files(&self) -> &[OutputFile<A>]
         ensures value { result.now ≡ self.now.files }
-        ensures lawful { IsActionResult self.now }
+        ensures valid { IsActionResult self.now }
     {
         &self.files
     }
@@ -194,7 +194,7 @@ impl<A: Allocator> ActionResult<A> {
     /// The directories that it made, by the texts of their paths.
     pub fn directories(&self) -> &[OutputDirectory<A>]
         ensures value { result.now ≡ self.now.directories }
-        ensures lawful { IsActionResult self.now }
+        ensures valid { IsActionResult self.now }
     {
         &self.directories
     }
@@ -202,7 +202,7 @@ impl<A: Allocator> ActionResult<A> {
     /// The symbolic links that it made, by the texts of their paths.
     pub fn symlinks(&self) -> &[OutputSymlink<A>]
         ensures value { result.now ≡ self.now.symlinks }
-        ensures lawful { IsActionResult self.now }
+        ensures valid { IsActionResult self.now }
     {
         &self.symlinks
     }
@@ -210,7 +210,7 @@ impl<A: Allocator> ActionResult<A> {
     /// The exit code of the process.
     pub fn exit_code(&self) -> i32
         ensures value { result ≡ self.now.exit_code }
-        ensures lawful { IsActionResult self.now }
+        ensures valid { IsActionResult self.now }
     {
         self.exit_code
     }
@@ -218,7 +218,7 @@ impl<A: Allocator> ActionResult<A> {
     /// What was written to standard output.
     pub fn stdout(&self) -> &Stream<A>
         ensures value { result.now ≡ self.now.stdout }
-        ensures lawful { IsActionResult self.now }
+        ensures valid { IsActionResult self.now }
     {
         &self.stdout
     }
@@ -226,7 +226,7 @@ impl<A: Allocator> ActionResult<A> {
     /// What was written to standard error.
     pub fn stderr(&self) -> &Stream<A>
         ensures value { result.now ≡ self.now.stderr }
-        ensures lawful { IsActionResult self.now }
+        ensures valid { IsActionResult self.now }
     {
         &self.stderr
     }
@@ -270,7 +270,7 @@ impl<A: Allocator + Copy> Encode<A> for ActionResult<A> {
 fn ordered<A: Allocator>(read: Unordered<A>) -> Result<ActionResult<A>, MessageError>
     ensures found { IfOk result (λ r. IsActionResult r × IsOrderingOf read r) }
     ensures refused { IfErr result (λ e. (e ≡ SameName)
-        × (AreOutputsLawful read → ArePathsApart (output_paths read) → ⊥)) }
+        × (AreOutputsValid read → ArePathsApart (output_paths read) → ⊥)) }
 {
     let Unordered {
         mut files,
@@ -307,7 +307,7 @@ impl<A: Allocator + Copy> ActionResult<A> {
     /// The canonical encoding.
     pub fn encode(&self, alloc: A) -> Result<Vec<u8, A>, AllocError>
         ensures bytes { IfOk result (λ bytes. bytes.items ≡ action_result_bytes self.now) }
-        ensures lawful { IsActionResult self.now }
+        ensures valid { IsActionResult self.now }
     {
         let _ = &self.files;
         self.write(alloc)

@@ -100,7 +100,7 @@ fn are_variables<A: Allocator>(environment: &[Setting<A>]) -> bool
     true
 }
 
-/// Whether there is an argument, and the texts of the arguments and of the environment are lawful.
+/// Whether there is an argument, and the texts of the arguments and of the environment are valid.
 #[tactic(auto, unfolding(crate::specs::Command::texts_checked))]
 fn check_texts<A: Allocator>(
     arguments: &[String<A>],
@@ -225,7 +225,7 @@ impl<A: Allocator> Command<A> {
               working_directory = working_directory;
               output_paths = output_paths.items;
             })) }
-        ensures lawful { IfOk result IsCommand }
+        ensures valid { IfOk result IsCommand }
     {
         check_texts(&arguments, &environment)?;
         check_lists(&environment, &output_paths)?;
@@ -266,7 +266,7 @@ impl<A: Allocator> Command<A> {
     /// The arguments, the program's name first.
     pub fn arguments(&self) -> &[String<A>]
         ensures value { map string_bytes result.now ≡ self.now.arguments }
-        ensures lawful { IsCommand self.now }
+        ensures valid { IsCommand self.now }
     {
         &self.arguments
     }
@@ -274,7 +274,7 @@ impl<A: Allocator> Command<A> {
     /// The environment, by name.
     pub fn environment(&self) -> &[EnvironmentVariable<A>]
         ensures value { result.now ≡ self.now.environment }
-        ensures lawful { IsCommand self.now }
+        ensures valid { IsCommand self.now }
     {
         &self.environment
     }
@@ -282,7 +282,7 @@ impl<A: Allocator> Command<A> {
     /// The directory that the program starts in, below the input root; none for the root itself.
     pub fn working_directory(&self) -> Option<&Path<A>>
         ensures value { option_copied result ≡ self.now.working_directory }
-        ensures lawful { IsCommand self.now }
+        ensures valid { IsCommand self.now }
     {
         self.working_directory.as_ref()
     }
@@ -290,7 +290,7 @@ impl<A: Allocator> Command<A> {
     /// The paths of what the program makes, below the working directory, by their texts.
     pub fn output_paths(&self) -> &[Path<A>]
         ensures value { result.now ≡ self.now.output_paths }
-        ensures lawful { IsCommand self.now }
+        ensures valid { IsCommand self.now }
     {
         &self.output_paths
     }
@@ -299,7 +299,7 @@ impl<A: Allocator> Command<A> {
     /// memory.
     pub fn lists<B: Allocator>(&self, path: &Path<B>) -> bool
         ensures listed { IsTrue result ↔ Contains self.now.output_paths path.now }
-        ensures lawful { IsCommand self.now }
+        ensures valid { IsCommand self.now }
     {
         has_text(self.output_paths(), path.as_bytes())
     }
@@ -376,7 +376,7 @@ impl<A: Allocator + Copy> Command<A> {
     /// The canonical encoding.
     pub fn encode(&self, alloc: A) -> Result<Vec<u8, A>, AllocError>
         ensures bytes { IfOk result (λ bytes. bytes.items ≡ command_bytes self.now) }
-        ensures lawful { IsCommand self.now }
+        ensures valid { IsCommand self.now }
     {
         let _ = &self.arguments;
         self.write(alloc)

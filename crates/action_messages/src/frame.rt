@@ -75,7 +75,7 @@ impl<A: Allocator> Frame<A> {
     /// The digest of the command's encoding.
     pub fn command_digest(&self) -> Digest
         ensures value { result ≡ self.now.command }
-        ensures lawful { IsFrame self.now }
+        ensures valid { IsFrame self.now }
     {
         self.command_digest
     }
@@ -83,7 +83,7 @@ impl<A: Allocator> Frame<A> {
     /// Whether the result is not to be kept for other builds.
     pub fn do_not_cache(&self) -> bool
         ensures value { result ≡ self.now.do_not_cache }
-        ensures lawful { IsFrame self.now }
+        ensures valid { IsFrame self.now }
     {
         self.do_not_cache
     }
@@ -91,7 +91,7 @@ impl<A: Allocator> Frame<A> {
     /// Bytes that tell apart actions which are equal but for them.
     pub fn salt(&self) -> &[u8]
         ensures value { result.now ≡ self.now.salt }
-        ensures lawful { IsFrame self.now }
+        ensures valid { IsFrame self.now }
     {
         &self.salt
     }
@@ -99,7 +99,7 @@ impl<A: Allocator> Frame<A> {
     /// What is asked of the machine.
     pub fn platform(&self) -> &Platform<A>
         ensures value { result.now ≡ self.now.platform }
-        ensures lawful { IsFrame self.now }
+        ensures valid { IsFrame self.now }
     {
         &self.platform
     }
@@ -194,7 +194,7 @@ impl<A: Allocator + Copy> Frame<A> {
     /// The canonical encoding.
     pub fn encode(&self, alloc: A) -> Result<Vec<u8, A>, AllocError>
         ensures bytes { IfOk result (λ bytes. bytes.items ≡ frame_bytes self.now) }
-        ensures lawful { IsFrame self.now }
+        ensures valid { IsFrame self.now }
     {
         let _ = &self.salt;
         self.write(alloc)

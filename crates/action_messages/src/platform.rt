@@ -71,7 +71,7 @@ impl<A: Allocator> Platform<A> {
     /// The properties, by name and then by value.
     pub fn properties(&self) -> &[Property<A>]
         ensures value { result.now ≡ self.now.properties }
-        ensures lawful { IsPlatform self.now }
+        ensures valid { IsPlatform self.now }
     {
         &self.properties
     }
@@ -173,7 +173,7 @@ impl<A: Allocator + Copy> Platform<A> {
     /// The canonical encoding.
     pub fn encode(&self, alloc: A) -> Result<Vec<u8, A>, AllocError>
         ensures bytes { IfOk result (λ bytes. bytes.items ≡ platform_bytes self.now) }
-        ensures lawful { IsPlatform self.now }
+        ensures valid { IsPlatform self.now }
     {
         let _ = &self.properties;
         self.write(alloc)

@@ -50,7 +50,7 @@ impl<A: Allocator> Setting<A> {
     /// The name.
     pub fn name(&self) -> &str
         ensures value { result.now ≡ self.now.name }
-        ensures lawful { IsSetting self.now }
+        ensures valid { IsSetting self.now }
     {
         self.name.as_str()
     }
@@ -58,7 +58,7 @@ impl<A: Allocator> Setting<A> {
     /// The value.
     pub fn value(&self) -> &str
         ensures value { result.now ≡ self.now.value }
-        ensures lawful { IsSetting self.now }
+        ensures valid { IsSetting self.now }
     {
         self.value.as_str()
     }
@@ -66,7 +66,7 @@ impl<A: Allocator> Setting<A> {
     /// The order of properties: by the bytes of the name, then by those of the value.
     pub(crate) fn compare(&self, other: &Setting<A>) -> Ordering
         ensures value { result ≡ setting_cmp self.now other.now }
-        ensures lawful { IsSetting other.now }
+        ensures valid { IsSetting other.now }
     {
         let names = self.name.as_bytes().cmp(other.name.as_bytes());
         names.then(self.value.as_bytes().cmp(other.value.as_bytes()))

@@ -47,7 +47,7 @@ impl<A: Allocator> Stream<A> {
     /// The bytes that stand in the result.
     pub fn raw(&self) -> &[u8]
         ensures value { result.now ≡ self.now.raw }
-        ensures lawful { IsStream self.now }
+        ensures valid { IsStream self.now }
     {
         &self.raw
     }
@@ -55,7 +55,7 @@ impl<A: Allocator> Stream<A> {
     /// The digest of the blob.
     pub fn digest(&self) -> Option<Digest>
         ensures value { result ≡ self.now.digest }
-        ensures lawful { IsStream self.now }
+        ensures valid { IsStream self.now }
     {
         self.digest
     }

@@ -17,8 +17,8 @@ module _ {A : Type 0} where
       same_paths (insert es n e) ∙ map-append (λ (d : List (List ℕ) × Output A). d.0) (take n es) (e ∷ drop n es)
       ∙ ap (λ l. l ++ e.0 ∷ paths_in (drop n es)) (sym (take-map (λ (d : List (List ℕ) × Output A). d.0) n es)) ∙ ap (λ l. take n (paths_in es) ++ e.0 ∷ l) (sym (drop-map (λ (d : List (List ℕ) × Output A). d.0) n es))
 
-  pub lawful_added : (es : List (List (List ℕ) × Output A)) (n : ℕ) (e : List (List ℕ) × Output A) (code : ℤ) → HasRoom (paths_in es) e.0 (Some n) → IsOutcome (record { exit_code = code; outputs = outputs_in (insert es n e) })
-  lawful_added es n e code h =
+  pub valid_added : (es : List (List (List ℕ) × Output A)) (n : ℕ) (e : List (List ℕ) × Output A) (code : ℤ) → HasRoom (paths_in es) e.0 (Some n) → IsOutcome (record { exit_code = code; outputs = outputs_in (insert es n e) })
+  valid_added es n e code h =
       let same = paths_added es n e in
       record {
         paths = subst (AllByRecursion IsPath) (sym same) h.1;
@@ -29,7 +29,7 @@ module _ {A : Type 0} where
   -- the outcome before and behind, as the code has them
   pub is_added : (old new : OutcomeValue) (es : List (List (List ℕ) × Output A)) (n : ℕ) (e : List (List ℕ) × Output A) → outputs_in es ≡ old.outputs → new.outputs ≡ outputs_in (insert es n e) → new.exit_code ≡ old.exit_code → HasRoom (paths_in es) e.0 (Some n) → AddsOutput old e.0 (output_value e.1) new
   is_added old new es n e before after code h = record {
-    lawful = subst (λ l. IsOutcome (record { exit_code = new.exit_code; outputs = l })) (sym after) (lawful_added es n e new.exit_code h);
+    valid = subst (λ l. IsOutcome (record { exit_code = new.exit_code; outputs = l })) (sym after) (valid_added es n e new.exit_code h);
     exit_code = code;
     before = outputs_in (take n es);
     behind = outputs_in (drop n es);

@@ -104,7 +104,7 @@ under_once B d x y (inr h) (inr k) = h.1 ∙ sym k.1
 pub tree_once : (B : Blobs) (d : DigestValue) (t u : TreeValue) → IsTold IsTree tree_bytes B d t → IsTold IsTree tree_bytes B d u → t ≡ u
 tree_once B d t u h k =
     let same : ◌≡◌ {A = Option (List ℕ)} (Some (tree_bytes t)) (Some (tree_bytes u)) = under_once B d (Some (tree_bytes t)) (Some (tree_bytes u)) h.blob.held k.blob.held in
-    tree_bytes_injective t u h.lawful k.lawful (let bytes : tree_bytes t ≡ tree_bytes u = cc in bytes)
+    tree_bytes_injective t u h.valid k.valid (let bytes : tree_bytes t ≡ tree_bytes u = cc in bytes)
 
 pub stands_once : (B : Blobs) (x : RecordedValue) (v w : OutputValue) → StandsFor B x v → StandsFor B x w → v ≡ w
 stands_once B (file f) v w h k = h ∙ sym k

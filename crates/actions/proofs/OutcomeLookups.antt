@@ -29,8 +29,8 @@ module _ {A : Type 0} where
   pub ascending : (o : OutcomeValue) (es : List (List (List ℕ) × Output A)) → outputs_in es ≡ o.outputs → IsOutcome o → IsAscendingBy bytes_cmp (texts_of (paths_in es))
   ascending o es e k = subst (λ ps. IsAscendingBy bytes_cmp (texts_of ps)) (paths_of o es e) k.ascend
 
-  pub lawful : (o : OutcomeValue) (es : List (List (List ℕ) × Output A)) → outputs_in es ≡ o.outputs → IsOutcome o → AllByRecursion IsPath (paths_in es)
-  lawful o es e k = subst (AllByRecursion IsPath) (paths_of o es e) k.paths
+  pub valid : (o : OutcomeValue) (es : List (List (List ℕ) × Output A)) → outputs_in es ≡ o.outputs → IsOutcome o → AllByRecursion IsPath (paths_in es)
+  valid o es e k = subst (AllByRecursion IsPath) (paths_of o es e) k.paths
 
   pub within : (es : List (List (List ℕ) × Output A)) (place : ℕ) (above : List (List ℕ)) → slice_get (paths_in es) place ≡ Some above → place < length es
   within es place above e = omega (arith, slice_get_within (paths_in es) place above e, length-map es (λ (d : List (List ℕ) × Output A). d.0))

@@ -21,11 +21,11 @@ apart_back p q h (inl e) = h (inl (sym e))
 apart_back p q h (inr (inl u)) = h (inr (inr u))
 apart_back p q h (inr (inr u)) = h (inr (inl u))
 
-lawful_paths : (xs : List RecordedValue) → AllByRecursion IsOutputFile (files_among xs) → AllByRecursion IsOutputDirectory (directories_among xs) → AllByRecursion IsOutputSymlink (links_among xs) → AllByRecursion IsPath (map recorded_path xs)
-lawful_paths [] f d l = tt
-lawful_paths (file x ∷ xs) f d l = (f.0.path, lawful_paths xs f.1 d l)
-lawful_paths (directory x ∷ xs) f d l = (d.0.path, lawful_paths xs f d.1 l)
-lawful_paths (link x ∷ xs) f d l = (l.0.path, lawful_paths xs f d l.1)
+valid_paths : (xs : List RecordedValue) → AllByRecursion IsOutputFile (files_among xs) → AllByRecursion IsOutputDirectory (directories_among xs) → AllByRecursion IsOutputSymlink (links_among xs) → AllByRecursion IsPath (map recorded_path xs)
+valid_paths [] f d l = tt
+valid_paths (file x ∷ xs) f d l = (f.0.path, valid_paths xs f.1 d l)
+valid_paths (directory x ∷ xs) f d l = (d.0.path, valid_paths xs f d.1 l)
+valid_paths (link x ∷ xs) f d l = (l.0.path, valid_paths xs f d l.1)
 
 -- a path apart from those of each kind
 row : (p : List (List ℕ)) (xs : List RecordedValue) → AllByRecursion (Apart p) (file_paths (files_among xs)) → AllByRecursion (Apart p) (directory_paths (directories_among xs)) → AllByRecursion (Apart p) (symlink_paths (links_among xs)) → AllByRecursion (Apart p) (map recorded_path xs)
@@ -57,9 +57,9 @@ same_paths B [] es h = ap output_paths h
 same_paths B (x ∷ xs) [] h = elim h [ ]
 same_paths B (x ∷ xs) (e ∷ es) h = λ i. h.0 i ∷ same_paths B xs es h.2 i
 
--- whatever the exit code, the outputs of a lawful result stand for outputs that keep the rules of an outcome
-pub lawful_outcome : (B : Blobs) (r : ActionResultValue) (xs : List RecordedValue) (es : List (List (List ℕ) × OutputValue)) (code : ℤ) → IsActionResult r → AreOutputs r xs → StandForAll B xs es → IsOutcome (record { exit_code = code; outputs = es })
-lawful_outcome B r xs es code k all stand =
+-- whatever the exit code, the outputs of a valid result stand for outputs that keep the rules of an outcome
+pub valid_outcome : (B : Blobs) (r : ActionResultValue) (xs : List RecordedValue) (es : List (List (List ℕ) × OutputValue)) (code : ℤ) → IsActionResult r → AreOutputs r xs → StandForAll B xs es → IsOutcome (record { exit_code = code; outputs = es })
+valid_outcome B r xs es code k all stand =
     let same = same_paths B xs es stand in
     let f = file_paths r.files in
     let d = directory_paths r.directories in
@@ -68,7 +68,7 @@ lawful_outcome B r xs es code k all stand =
     let both = apart_parts f d whole.0 in
     let crossed = from_parts f d l whole.2 in
     record {
-      paths = subst (AllByRecursion IsPath) (sym same) (lawful_paths xs (subst (AllByRecursion IsOutputFile) (sym all.files) k.files) (subst (AllByRecursion IsOutputDirectory) (sym all.directories) k.directories) (subst (AllByRecursion IsOutputSymlink) (sym all.symlinks) k.symlinks));
+      paths = subst (AllByRecursion IsPath) (sym same) (valid_paths xs (subst (AllByRecursion IsOutputFile) (sym all.files) k.files) (subst (AllByRecursion IsOutputDirectory) (sym all.directories) k.directories) (subst (AllByRecursion IsOutputSymlink) (sym all.symlinks) k.symlinks));
       ascend = subst (λ ps. IsAscendingBy bytes_cmp (texts_of ps)) (sym same) all.ascend;
       apart = subst ArePathsApart (sym same) (all_apart xs
           (subst (λ ys. ArePathsApart (file_paths ys)) (sym all.files) both.0)
@@ -79,7 +79,7 @@ lawful_outcome B r xs es code k all stand =
 
 -- with the exit code of the result it is the outcome that the result stands for
 pub recorded_from : (B : Blobs) (r : ActionResultValue) (xs : List RecordedValue) (es : List (List (List ℕ) × OutputValue)) → IsActionResult r → AreOutputs r xs → StandForAll B xs es → IsRecorded B r (record { exit_code = r.exit_code; outputs = es })
-recorded_from B r xs es k all stand = record { lawful = lawful_outcome B r xs es r.exit_code k all stand; exit_code = refl; recorded = xs; ordered = all; outputs = stand }
+recorded_from B r xs es k all stand = record { valid = valid_outcome B r xs es r.exit_code k all stand; exit_code = refl; recorded = xs; ordered = all; outputs = stand }
 
 pub recorded_outcome : (B : Blobs) (r : ActionResultValue) (xs : List RecordedValue) (es : List (List (List ℕ) × OutputValue)) (code : ℤ) (o : OutcomeValue) → IsActionResult r → AreOutputs r xs → StandForAll B xs es → code ≡ r.exit_code → o ≡ record { exit_code = code; outputs = es } → IsRecorded B r o
 recorded_outcome B r xs es code o k all stand same is =

@@ -38,7 +38,7 @@ pub stand_more : (B : Blobs) (xs : List RecordedValue) (es : List (List (List �
 stand_more B xs es x v h stands = stand_push B xs es x (recorded_path x, v) h refl stands
 
 pub recorded_still : (B C : Blobs) (r : ActionResultValue) (o : OutcomeValue) → Grows B C → IsRecorded B r o → IsRecorded C r o
-recorded_still B C r o g h = record { lawful = h.lawful; exit_code = h.exit_code; recorded = h.recorded; ordered = h.ordered; outputs = stand_still B C h.recorded o.outputs g h.outputs }
+recorded_still B C r o g h = record { valid = h.valid; exit_code = h.exit_code; recorded = h.recorded; ordered = h.ordered; outputs = stand_still B C h.recorded o.outputs g h.outputs }
 
 -- the fault of the first that isn't told, behind those that are
 first_fault : (B : Blobs) (xs : List RecordedValue) (es : List (List (List ℕ) × OutputValue)) (x : RecordedValue) (rest : List RecordedValue) (f : Fault) → StandForAll B xs es → IsOutputFault B x f → IsFirstTreeFault B (directories_among (xs ++ x ∷ rest)) f

@@ -8,7 +8,7 @@ use Rattle.messages.specs.Directory.{directory_bytes}
 use Rattle.messages.specs.Tree.{TreeValue, IsTree, tree_bytes}
 use Rattle.tree.proofs.WireRecords.{AreFixed, spelling_injective}
 use Rattle.tree.proofs.DirectoryBytes.{directory_bytes_injective}
-use Rattle.tree.proofs.TreeDigests.{lawful_digests}
+use Rattle.tree.proofs.TreeDigests.{valid_digests}
 
 fixed : (xs : List (List ℕ)) → AreFixed (element_fields 2 xs)
 fixed [] = tt
@@ -33,7 +33,7 @@ same_directories (m ∷ ms) [] h k e = cc
 same_directories (m ∷ ms) (n ∷ ns) h k e =
     let heads : directory_bytes m ≡ directory_bytes n = cc in
     let tails : map directory_bytes ms ≡ map directory_bytes ns = cc in
-    let first = directory_bytes_injective m n (lawful_digests m h.0) (lawful_digests n k.0) heads in
+    let first = directory_bytes_injective m n (valid_digests m h.0) (valid_digests n k.0) heads in
     let rest = same_directories ms ns h.1 k.1 tails in
     λ i. first i ∷ rest i
 
@@ -46,7 +46,7 @@ tree_bytes_injective t u h k e =
     let value : ◌≡◌ {A = Value} (Bytes (directory_bytes t.root)) (Bytes (directory_bytes u.root)) = ap (λ (r : Record). r.value) first in
     let roots : directory_bytes t.root ≡ directory_bytes u.root = cc in
     let elements : element_fields 2 (map directory_bytes t.children) ≡ element_fields 2 (map directory_bytes u.children) = cc in
-    let root = directory_bytes_injective t.root u.root (lawful_digests t.root h.root) (lawful_digests u.root k.root) roots in
+    let root = directory_bytes_injective t.root u.root (valid_digests t.root h.root) (valid_digests u.root k.root) roots in
     let children = same_directories t.children u.children h.children k.children (same_elements (map directory_bytes t.children) (map directory_bytes u.children) elements) in
     λ i. record { root = root i; children = children i }
 

@@ -64,7 +64,7 @@ outputs_form outputs = map (λ e. (e.0, output_node e.1)) outputs
 -- The output stands among the others, at the one place that the order has for it.
 pub record AddsOutput (old : OutcomeValue) (path : List (List ℕ)) (output : OutputValue)
     (new : OutcomeValue) : Type 0 where
-  pub lawful : IsOutcome new
+  pub valid : IsOutcome new
   pub exit_code : new.exit_code ≡ old.exit_code
   pub before : List (List (List ℕ) × OutputValue)
   pub behind : List (List (List ℕ) × OutputValue)

@@ -28,7 +28,7 @@ StandForAll blobs (x ∷ xs) (e ∷ outputs) =
 -- The outcome that a result stands for, by what a source tells: the same exit code, and what its
 -- outputs stand for.
 pub record IsRecorded (blobs : Blobs) (r : ActionResultValue) (o : OutcomeValue) : Type 0 where
-  pub lawful : IsOutcome o
+  pub valid : IsOutcome o
   pub exit_code : o.exit_code ≡ r.exit_code
   pub recorded : List RecordedValue
   pub ordered : AreOutputs r recorded

@@ -31,7 +31,7 @@ struct Over {
 /// searched for.
 fn find_over<A: Allocator, L: Listed>(items: &[L], path: &Path<A>) -> Option<Over>
     requires ascend { IsAscendingBy bytes_cmp (texts_of (map L.path_in items.now)) }
-    requires lawful { AllByRecursion IsPath (map L.path_in items.now) }
+    requires valid { AllByRecursion IsPath (map L.path_in items.now) }
     ensures { IsOver (map L.path_in items.now) path.now result }
 {
     let text = path.as_bytes();
@@ -57,7 +57,7 @@ fn find_over<A: Allocator, L: Listed>(items: &[L], path: &Path<A>) -> Option<Ove
 fn first_child<'a, A: Allocator>(tree: &'a Tree<A>, digest: &Digest) -> Option<&'a Directory<A>>
     ensures found { MatchOption result (Contains (child_digests tree.now) digest.now → ⊥)
         (λ m. IsFirstChild tree.now digest.now m.now) }
-    ensures lawful { IsTree tree.now }
+    ensures valid { IsTree tree.now }
 {
     for (index, other) in tree.child_digests().iter().enumerate() {
         if *other == *digest {

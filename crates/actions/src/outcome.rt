@@ -69,7 +69,7 @@ impl<A: Allocator> Outcome<A> {
     /// The exit code of the process.
     pub fn exit_code(&self) -> i32
         ensures value { result ≡ self.now.exit_code }
-        ensures lawful { IsOutcome self.now }
+        ensures valid { IsOutcome self.now }
     {
         self.exit_code
     }
@@ -77,7 +77,7 @@ impl<A: Allocator> Outcome<A> {
     /// The outputs, by the texts of their paths.
     pub fn outputs(&self) -> &[(Path<A>, Output<A>)]
         ensures value { outputs_in result.now ≡ self.now.outputs }
-        ensures lawful { IsOutcome self.now }
+        ensures valid { IsOutcome self.now }
     {
         &self.outputs
     }
@@ -112,7 +112,7 @@ fn room_for<A: Allocator + Copy>(
     path: &Path<A>,
 ) -> Result<Option<usize>, AllocError>
     requires ascend { IsAscendingBy bytes_cmp (texts_of (map (λ e. e.0) outputs.now)) }
-    requires lawful { AllByRecursion IsPath (map (λ e. e.0) outputs.now) }
+    requires valid { AllByRecursion IsPath (map (λ e. e.0) outputs.now) }
     requires apart { ArePathsApart (map (λ e. e.0) outputs.now) }
     ensures { IfOk result (HasRoom (map (λ e. e.0) outputs.now) path.now) }
 {

@@ -38,7 +38,7 @@ fn filled(rt: &HostRuntime, entries: u64, pinned_from: u64) -> Result<Bounded<u6
     Ok(store)
 }
 
-/// How long puts of new entries took, each of which gives up an old one.
+/// How long puts of new entries took, each of which evicts an old one.
 fn time_puts(
     rt: &HostRuntime,
     store: &mut Bounded<u64, Global>,

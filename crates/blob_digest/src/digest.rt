@@ -58,7 +58,7 @@ impl Digest {
     /// The 32 bytes of the hash.
     pub fn hash(&self) -> [u8; 32]
         ensures value { result ≡ self.now.hash }
-        ensures lawful { IsDigest self.now }
+        ensures valid { IsDigest self.now }
     {
         self.hash
     }
@@ -66,7 +66,7 @@ impl Digest {
     /// The size in bytes.
     pub fn size(&self) -> u64
         ensures value { result ≡ self.now.size }
-        ensures lawful { IsDigest self.now }
+        ensures valid { IsDigest self.now }
     {
         self.size
     }

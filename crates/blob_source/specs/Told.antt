@@ -8,7 +8,7 @@ use Rattle.blob_source.specs.Source.{Blobs, IsBlobUnder, IsMissing, IsWrong}
 -- The message told under a digest keeps its rules, and its encoding is the blob there.
 pub record IsTold {M : Type 0}
     (keeps : M → Type 0) (spells : M → List ℕ) (B : Blobs) (d : DigestValue) (m : M) : Type 0 where
-  pub lawful : keeps m
+  pub valid : keeps m
   pub blob : IsBlobUnder B d (spells m)
 
 -- the blob there is the encoding of no message of the kind

@@ -1,21 +1,22 @@
 -- Blobs stay under their hashes.
-use Rattle.std.proofs.Common.{◌≡◌, ℕ, zero, suc, ◌<◌, Bool, true, false, cond, not, List, [], ◌∷◌, ◌++◌, reverse, map, length, take, get_or, ◌+◌, bytes_eq, Option, Some, None, option_map, refl, ap, sym, ◌∙◌, subst, arith}
+use Rattle.std.proofs.Common.{◌≡◌, ℕ, zero, suc, ◌<◌, Bool, true, false, cond, not, List, [], ◌∷◌, ◌++◌, reverse, map, length, take, get_or, ◌+◌, bytes_eq, Option, Some, None, option_map, refl, ap, sym, ◌∙◌, subst}
 use Rattle.std.specs.List.{filter, list_all, AllByRecursion}
 use Rattle.std.specs.Map.{lookup, lookup_entry}
 use Rattle.std.specs.Option.{option_map_or}
 use Rattle.std.proofs.lemmas.Slice.Eq.{bytes_eq-Decides}
+use Rattle.std.proofs.lemmas.Bool.{eqb-true, eq-eqb}
 use Rattle.std.proofs.lemmas.List.{take_more}
 use mathlib.Core.List.{reverse_aux}
 use Rattle.sha2.specs.Sha256.{sha256}
 use Rattle.lru.proofs.CallerLemmas.{Contains-lookup_entry}
 use Rattle.eviction.specs.Kept.{Held, Kept, bytes_under, is_pinned, others, moved_to_front, touched}
-use Rattle.eviction.specs.Entering.{spared, spared_last, stored_key, given_up, entered}
-use Rattle.eviction.specs.Pinning.{repinned, is_held, pins_of, all_pinned, all_held as all_stored}
+use Rattle.eviction.specs.Entering.{spared, spared_last, stored_key, evicted, entered}
+use Rattle.eviction.specs.Pinning.{repinned, is_stored, pins_of, all_pinned, all_stored}
 use Rattle.eviction.proofs.Entered.{entered_is}
 use Rattle.std.specs.Prelude.{◌==◌, ◌&&◌, ◌||◌, nat_lt, is_some}
 use Rattle.blob_digest.specs.Digest.{DigestValue, digest_of, empty_digest}
-use Rattle.blob_store.specs.Blobs.{AreBlobs, HasHash, found_in, held_under, all_held, hashes_of, is_empty, of_size, is_kept, is_held as is_blob_held}
-use Rattle.blob_store.specs.Storing.{blob_put, used}
+use Rattle.blob_store.specs.Blobs.{AreBlobs, HasHash, found_in, held_under, all_held, hashes_of, is_empty, of_size, is_kept, is_held}
+use Rattle.blob_store.specs.Storing.{used}
 use Rattle.eviction.proofs.Looks.{lookup_moved}
 use Rattle.std.specs.Cmp.Lexicographic.{nat_list_eq_equiv}
 use Rattle.std.specs.Prelude.{Result, Ok, Err, IsErrAnd, IfErr}
@@ -75,7 +76,7 @@ entered_blobs s t k b e h some a =
     let is = entered_is bytes_eq s t k b e in
     let P : List ℕ × Held → Type 0 = λ x. (x.0 ≡ sha256 x.1.bytes) × (bytes_eq (sha256 []) x.0 ≡ false) in
     let at = stored_key_is s.entries k in
-    subst AreBlobs (sym is.entries) ((at ∙ h, ap (bytes_eq (sha256 [])) at ∙ some), all_spared_last P is_pinned (given_up bytes_eq s k b) (others bytes_eq k s.entries) (all_filter P (λ x. not (bytes_eq k x.0)) s.entries a))
+    subst AreBlobs (sym is.entries) ((at ∙ h, ap (bytes_eq (sha256 [])) at ∙ some), all_spared_last P is_pinned (evicted bytes_eq s k b) (others bytes_eq k s.entries) (all_filter P (λ x. not (bytes_eq k x.0)) s.entries a))
 
 pub found_is : (h : List ℕ) (es : List (List ℕ × Held)) → found_in es h ≡ option_map (λ (x : Held). x.bytes) (lookup (bytes_eq h) es)
 found_is h [] = refl
@@ -105,7 +106,7 @@ pub told : {X : Type 0} (r : Result X BlobError) (f g : BoundedError) (Q : Type 
 told (Ok x) f g Q a h q = absurd a
 told (Err e) f g Q a h q = (a ∙ ap of_bounded h, q)
 
--- want of memory isn't told of as another refusal
+-- lack of memory isn't told of as another refusal
 pub wanting_not : {X : Type 0} (r : Result X BlobError) (e : BlobError) → IsErrAnd r (λ x. x ≡ Memory) → (e ≡ Memory → ⊥) → r ≡ Err e → ⊥
 wanting_not (Ok x) e a not is = absurd a
 wanting_not (Err d) e a not is = let same : d ≡ e = cc in not (sym same ∙ a)
@@ -148,14 +149,29 @@ empty_test d e h = ap (λ (x : DigestValue). bytes_eq d.hash x.hash && (d.size =
 sized : (n : ℕ) (b : List ℕ) → is_some (of_size n (Some b)) ≡ (length b == n)
 sized n b = elim (length b == n) as (λ y. is_some (cond y (Some b) None) ≡ y) [ true ↦ refl | false ↦ refl ]
 
-pub held_empty : (found : List ℕ → Option (List ℕ)) (d : DigestValue) → is_empty d ≡ true → true ≡ is_blob_held found d
-held_empty found d e = rw e refl
+pub held_some : (found : List ℕ → Option (List ℕ)) (d : DigestValue) (b : List ℕ) → held_under found d.hash ≡ Some b → (length b == d.size) ≡ is_held found d
+held_some found d b f = rw f (sym (sized d.size b))
 
-pub held_some : (found : List ℕ → Option (List ℕ)) (d : DigestValue) (b : List ℕ) → is_empty d ≡ false → found d.hash ≡ Some b → (length b == d.size) ≡ is_blob_held found d
-held_some found d b e f = rw (e, f) (sym (sized d.size b))
+pub held_none : (found : List ℕ → Option (List ℕ)) (d : DigestValue) → held_under found d.hash ≡ None → false ≡ is_held found d
+held_none found d f = rw f refl
 
-pub held_none : (found : List ℕ → Option (List ℕ)) (d : DigestValue) → is_empty d ≡ false → found d.hash ≡ None → false ≡ is_blob_held found d
-held_none found d e f = rw (e, f) refl
+empty_size : (n : ℕ) → is_some (of_size n (Some [])) ≡ true → (n == 0) ≡ true
+empty_size n h = eq-eqb n 0 (sym (eqb-true 0 n (sym (sized n []) ∙ h)))
+
+-- a digest with the hash of no bytes is held if it is that of no bytes
+empty_held : (d : DigestValue) → bytes_eq (sha256 []) d.hash ≡ true → is_some (of_size d.size (Some [])) ≡ true → is_empty d ≡ true
+empty_held d e h = λ i. empty_size d.size h i && (nat_list_eq_equiv.symm d.hash (sha256 []) ∙ e) i
+
+sized_some : (n : ℕ) (o : Option (List ℕ)) → is_some (of_size n o) ≡ true → is_some o ≡ true
+sized_some n None h = h
+sized_some n (Some b) h = refl
+
+-- what is held is found, but for no bytes
+pub held_is_found : (found : List ℕ → Option (List ℕ)) (d : DigestValue) → is_empty d ≡ false → is_held found d ≡ true → is_some (found d.hash) ≡ true
+held_is_found found d t h = (elim (bytes_eq (sha256 []) d.hash) as (λ b. bytes_eq (sha256 []) d.hash ≡ b → is_some (of_size d.size (cond b (Some []) (found d.hash))) ≡ true → is_some (found d.hash) ≡ true) [
+  | true ↦ λ q held. let empty = empty_held d q held in absurd cc
+  | false ↦ λ q held. sized_some d.size (found d.hash) held
+]) refl h
 
 pub same_hash : (a b : List ℕ) → false ≡ not (bytes_eq a b) → a ≡ b
 same_hash a b h = (elim (bytes_eq a b) as (λ y. bytes_eq a b ≡ y → a ≡ b) [
@@ -179,8 +195,8 @@ hashes_more ds i d h at = ap hashes_of (take_more ds i d h ∙ ap (λ y. take i 
 pub held_stored : (es : List (List ℕ × Held)) (ds : List DigestValue) → all_held (found_in es) ds ≡ true → all_stored bytes_eq es (hashes_of ds) ≡ true
 held_stored es [] a = refl
 held_stored es (d ∷ ds) a = (elim (is_empty d) as (λ b. is_empty d ≡ b → all_stored bytes_eq es (map (λ (x : DigestValue). x.hash) (cond (not b) (d ∷ filter (λ x. not (is_empty x)) ds) (filter (λ x. not (is_empty x)) ds))) ≡ true) [
-  | true ↦ λ t. held_stored es ds (both_right (is_blob_held (found_in es) d) (all_held (found_in es) ds) a)
-  | false ↦ λ t. both (is_held bytes_eq es d.hash) (all_stored bytes_eq es (hashes_of ds)) (stored t (both_left (is_blob_held (found_in es) d) (all_held (found_in es) ds) a)) (held_stored es ds (both_right (is_blob_held (found_in es) d) (all_held (found_in es) ds) a))
+  | true ↦ λ t. held_stored es ds (both_right (is_held (found_in es) d) (all_held (found_in es) ds) a)
+  | false ↦ λ t. both (is_stored bytes_eq es d.hash) (all_stored bytes_eq es (hashes_of ds)) (stored t (both_left (is_held (found_in es) d) (all_held (found_in es) ds) a)) (held_stored es ds (both_right (is_held (found_in es) d) (all_held (found_in es) ds) a))
 ]) refl
   where
     both : (a b : Bool) → a ≡ true → b ≡ true → (a && b) ≡ true
@@ -194,16 +210,12 @@ held_stored es (d ∷ ds) a = (elim (is_empty d) as (λ b. is_empty d ≡ b → 
     both_right true b h = h
     both_right false b h = absurd cc
 
-    sized_some : (n : ℕ) (o : Option (List ℕ)) → is_some (of_size n o) ≡ true → is_some o ≡ true
-    sized_some n None h = h
-    sized_some n (Some b) h = refl
-
     present : (o : Option Held) → is_some (option_map (λ (x : Held). x.bytes) o) ≡ is_some o
     present None = refl
     present (Some x) = refl
 
-    stored : is_empty d ≡ false → is_blob_held (found_in es) d ≡ true → is_held bytes_eq es d.hash ≡ true
-    stored t h = sym (present (lookup (bytes_eq d.hash) es)) ∙ ap is_some (sym (found_is d.hash es)) ∙ sized_some d.size (found_in es d.hash) (rw t at h)
+    stored : is_empty d ≡ false → is_held (found_in es) d ≡ true → is_stored bytes_eq es d.hash ≡ true
+    stored t h = sym (present (lookup (bytes_eq d.hash) es)) ∙ ap is_some (sym (found_is d.hash es)) ∙ held_is_found (found_in es) d t h
 
 -- each of the digests is pinned, but that of no bytes
 pub each_kept : (es : List (List ℕ × Held)) (ds : List DigestValue) → list_all (is_kept es) ds ≡ all_pinned bytes_eq es (hashes_of ds)

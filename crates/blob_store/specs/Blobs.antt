@@ -26,10 +26,9 @@ module _ (found : List ℕ → Option (List ℕ)) where
   abbrev pub held_under : List ℕ → Option (List ℕ)
   held_under h = if bytes_eq (sha256 []) h then Some [] else found h
 
-  -- the bytes that a digest names: stored under its hash, and as long as it says. The empty blob is
-  -- always held
+  -- the blob that a digest names: what is held under its hash, if it is as long as the digest says
   abbrev pub blob_of : DigestValue → Option (List ℕ)
-  blob_of d = if is_empty d then Some [] else of_size d.size (found d.hash)
+  blob_of d = of_size d.size (held_under d.hash)
 
   abbrev pub is_held : DigestValue → Bool
   is_held d = is_some (blob_of d)

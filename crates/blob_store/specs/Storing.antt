@@ -5,7 +5,7 @@ use Rattle.sha2.specs.Sha256.{sha256}
 use Rattle.blob_digest.specs.Body.{greatest_blob}
 use Rattle.eviction.specs.Kept.{Kept, touched}
 use Rattle.eviction.specs.Entering.{entered}
-use Rattle.eviction.specs.Pinning.{is_held}
+use Rattle.eviction.specs.Pinning.{is_stored}
 use Rattle.blob_store.specs.declared.error.BlobError.{BlobError}
 use Rattle.blob_store.specs.declared.error.BlobError.TheVariants.{TooLarge, HashDiffers, Full}
 use Rattle.blob_store.specs.declared.error.BlobError.TheVariants.{Memory}
@@ -19,7 +19,7 @@ used s h = if bytes_eq (sha256 []) h then s else touched bytes_eq s h
 abbrev pub blob_put : Kept (List ℕ) → List ℕ → List ℕ → Option (Kept (List ℕ))
 blob_put s h b =
     if bytes_eq (sha256 []) h then Some s
-    else (if is_held bytes_eq s.entries h then Some (touched bytes_eq s h)
+    else (if is_stored bytes_eq s.entries h then Some (touched bytes_eq s h)
     else entered bytes_eq s h b)
 
 -- why a put is refused, if it is

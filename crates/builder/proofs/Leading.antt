@@ -3,7 +3,7 @@ use Rattle.std.proofs.Common.{◌≡◌, ℕ, List, [], ◌∷◌, refl, sym, �
 use Rattle.blob_source.specs.Source.{Telling}
 use Rattle.runs.specs.Engine.{EngineValue}
 use Rattle.worker.specs.Outcomes.{Yields}
-use Rattle.worker.specs.Calls.{Call, started, ran, taken, lost, Does, Leads, IsLed}
+use Rattle.worker.specs.Calls.{Call, started, launched, ran, taken, lost, Does, Leads, IsLed}
 
 -- the engine has the plan, the sources, the frames and the commands of the other
 record IsOver (old new : EngineValue) : Type 0 where
@@ -21,6 +21,7 @@ over_then f g = record { plan = g.plan ∙ f.plan; sources = g.sources ∙ f.sou
 module _ (A : Type 0) (y : Yields) (t : Telling) where
   does_over : (later : List Call) (c : Call) (old new : EngineValue) → Does A y t later c old new → IsOver old new
   does_over later (started i id) old new d = over d.is.after (record { plan = refl; sources = refl; frames = refl; commands = refl })
+  does_over later (launched id action child) old new d = over d.same (record { plan = refl; sources = refl; frames = refl; commands = refl })
   does_over later (ran id action v) old new d = over d.finished.after (record { plan = refl; sources = refl; frames = refl; commands = refl })
   does_over later (taken id action v) old new d = over d.finished.after (record { plan = refl; sources = refl; frames = refl; commands = refl })
   does_over later (lost id) old new d = over d.2 (record { plan = refl; sources = refl; frames = refl; commands = refl })

@@ -5,3 +5,4 @@ pub mod Within
 pub mod Watched
 mod Failing
 mod Staying
+mod AsRun

@@ -31,7 +31,7 @@ use Rattle.runs.proofs.Lost.{steady_of}
 use Rattle.runs.proofs.Noted.{outcome_there, kept_each}
 use Rattle.runs.proofs.Places.{set_at}
 use Rattle.runs.proofs.Steady.{IsMade, made_of}
-use Rattle.worker.specs.Calls.{Call, started, ran, taken, lost, WasStarted, Does, Leads, IsLed}
+use Rattle.worker.specs.Calls.{Call, started, launched, ran, taken, lost, WasStarted, Does, Leads, IsLed}
 use Rattle.worker.specs.Outcomes.{Yields}
 use Rattle.worker.specs.Stored.{IsToldOrTree, IsStored}
 use Rattle.worker.proofs.Started.{job_of, after}
@@ -148,6 +148,7 @@ module _ (A : Type 0) (y : Yields) (t : Telling) (plan : PlanValue) where
 
   does_together : (later : List Call) (c : Call) (old new : EngineValue) → Does A y t later c old new → AreTogether old → AreTogether new
   does_together later (started i id) old new w h = started_together i id old new w h
+  does_together later (launched id d x) old new w h = subst AreTogether (sym w.same) h
   does_together later (ran id d v) old new f h = finished_together id v old new f.finished h
   does_together later (taken id d v) old new f h = finished_together id v old new f.finished h
   does_together later (lost id) old new (j, at, gone) h = record {

@@ -1,5 +1,5 @@
 -- What lines put together stays so where right bytes stay told, and as more steps finish.
-use Rattle.std.proofs.Common.{◌≡◌, ℕ, zero, suc, ◌<◌, List, [], ◌∷◌, ◌++◌, Option, Some, None, refl, ap, sym, ◌∙◌, subst, inl, inr}
+use Rattle.std.proofs.Common.{◌≡◌, ℕ, zero, suc, ◌<◌, List, [], ◌∷◌, ◌++◌, Option, Some, None, sym, ◌∙◌, subst, inl, inr}
 use Rattle.messages.specs.declared.node.Node.TheVariants.{File, Link, Dir}
 use Rattle.messages.specs.Node.{child}
 use Rattle.blob_digest.specs.Digest.{DigestValue}
@@ -114,20 +114,20 @@ found_is : (x y : NodeValue) → found x ≡ found y → x ≡ y
 found_is x y e = cc
 
 module _ (B : Blobs) (e : EngineValue) (engine : IsEngine e) where
-  lawful : (j : ℕ) (f : FinishedValue) → finished_in j e ≡ Some f → IsOutcome f.outcome
-  lawful j f is =
+  valid : (j : ℕ) (f : FinishedValue) → finished_in j e ≡ Some f → IsOutcome f.outcome
+  valid j f is =
       let c = has_one e.commands j (subst (λ n. j < n) (engine.count ∙ sym engine.stand.commands_count) (taken_within e.finished j f is)) in
-      (engine.taken j f c.0 is c.1).lawful
+      (engine.taken j f c.0 is c.1).valid
 
   looks_at_once : (o : OriginValue) (r s : Looked) → LooksUpOrigin B e o r → LooksUpOrigin B e o s → r ≡ s
   looks_at_once (source p) r s h k = looks_once B e.sources p r s h k
   looks_at_once (output j p) r s h k =
-      looked_once h.0.outcome p r s (lawful j h.0 h.1) h.2 (subst (λ (f : FinishedValue). LooksIn f.outcome p s) (one_answer (finished_in j e) k.0 h.0 k.1 h.1) k.2)
+      looked_once h.0.outcome p r s (valid j h.0 h.1) h.2 (subst (λ (f : FinishedValue). LooksIn f.outcome p s) (one_answer (finished_in j e) k.0 h.0 k.1 h.1) k.2)
 
   within_at_once : (o : OriginValue) (v w : WithinValue) → OriginWithin e o v → OriginWithin e o w → v ≡ w
   within_at_once (source p) v w h k = h ∙ sym k
   within_at_once (output j p) v w h k =
-      within_once h.0.outcome p v w (lawful j h.0 h.1) h.2 (subst (λ (f : FinishedValue). LiesWithin f.outcome p w) (one_answer (finished_in j e) k.0 h.0 k.1 h.1) k.2)
+      within_once h.0.outcome p v w (valid j h.0 h.1) h.2 (subst (λ (f : FinishedValue). LiesWithin f.outcome p w) (one_answer (finished_in j e) k.0 h.0 k.1 h.1) k.2)
 
   stands_once : (o : OriginValue) (x y : NodeWithin) → StandsAtOrigin B e o x → StandsAtOrigin B e o y → x ≡ y
   stands_once o x y h k =

@@ -3,26 +3,33 @@ use Rattle.std.proofs.Common.{◌≡◌, ℕ, List, [], ◌∷◌, length, Optio
 use Rattle.std.specs.Prelude.{IsSome}
 use Rattle.std.specs.List.{AllByRecursion}
 use Rattle.blob_digest.specs.Digest.{DigestValue}
-use Rattle.blob_source.specs.Source.{Blobs, Telling}
+use Rattle.blob_source.specs.Source.{AsksSome, Blobs, Telling}
 use Rattle.plan.specs.Values.{PlanValue}
 use Rattle.runs.specs.Calls.{HaveAllFinished, IsOpened}
 use Rattle.runs.specs.Engine.{FinishedValue, EngineValue, IsEngine}
 use Rattle.worker.specs.Outcomes.{Yields}
+use Rattle.worker.specs.Stores.{IsKept}
 use Rattle.worker.specs.Watching.{finished_count, IsProgress, IsUpToDate, IsWatched}
 use Rattle.worker.specs.declared.watching.Progress.{Progress}
+use Rattle.worker.proofs.Goes.{puts_kept}
+use Rattle.worker.proofs.Heard.{progress_moved}
 use Rattle.builder.specs.Watched.{IsProgressOfPlan, IsToldWhole}
 
 all_map : (Is So : Progress → Type 0) → ((p : Progress) → Is p → So p) → (ps : List Progress) → AllByRecursion Is ps → AllByRecursion So ps
 all_map Is So follows [] h = tt
 all_map Is So follows (p ∷ ps) h = (follows p h.0, all_map Is So follows ps h.1)
 
-pub watched_of_plan : {A : Type 0} {y : Yields} {most : ℕ} {plan : PlanValue} {sources : DigestValue} (opening : Telling) (first : EngineValue) {before after : Option (List Progress)} → IsOpened opening.blobs plan sources first
-    → IsWatched (IsProgress A y most first) before after → IsWatched (IsProgressOfPlan A y most plan sources) before after
-watched_of_plan {A} {y} {most} {plan} {sources} opening first opened w = record {
+pub watched_of_plan : {A : Type 0} {y : Yields} {most : ℕ} {plan : PlanValue} {sources : DigestValue} (before opening ending told : Telling) (first : EngineValue) {old new : Option (List Progress)} → AsksSome before opening → IsOpened opening.blobs plan sources first
+    → AsksSome ending told → IsWatched (IsProgress A y ending most first) old new → IsWatched (IsProgressOfPlan A y most plan sources before told) old new
+watched_of_plan {A} {y} {most} {plan} {sources} before opening ending told first {old} {new} asked opened later w = record {
   told = w.told;
   heard = w.heard;
-  each = all_map (IsProgress A y most first) (IsProgressOfPlan A y most plan sources) (λ p h. record { opening = opening; first = first; opened = opened; so_far = h }) w.told w.each;
+  each = all_map (IsProgress A y ending most first) (IsProgressOfPlan A y most plan sources before told)
+      (λ p h. record { opening = opening; asked = asked; first = first; opened = opened; so_far = progress_moved A y most first ending told [] (puts_kept kept) kept.blobs p h }) w.told w.each;
 }
+  where
+    kept : IsKept ending told
+    kept = record { blobs = λ e b at right. later.asks.blobs e b at; results = λ e b at. later.asks.results e b at; puts = later.asks.puts }
 
 all_counted : (fs : List (Option FinishedValue)) → AllByRecursion IsSome fs → finished_count fs ≡ length fs
 all_counted [] h = refl

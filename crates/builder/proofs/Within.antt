@@ -30,7 +30,7 @@ module _ (A : Type 0) (z y : Yields) (most : ℕ) (plan : PlanValue) (sources : 
     answered = h.answered;
   }
 
-  fault_within : (fault : Fault) → IsBuildFault A z most plan sources told fault → IsBuildFault A y most plan sources told fault
+  pub fault_within : (fault : Fault) → IsBuildFault A z most plan sources told fault → IsBuildFault A y most plan sources told fault
   fault_within fault (inl h) = inl h
   fault_within fault (inr (inl h)) = inr (inl h)
   fault_within fault (inr (inr (inl h))) = inr (inr (inl (record {
@@ -54,5 +54,5 @@ module _ (A : Type 0) (z y : Yields) (most : ℕ) (plan : PlanValue) (sources : 
   })))
 
   pub told_within : (r : Told A) → IsBuildTold z most plan sources told r → IsBuildTold y most plan sources told r
-  told_within (Built line noted) h = record { build = h.build; is = built_within h.build h.is; line_is = h.line_is; noted_is = h.noted_is }
+  told_within (Built line noted directories) h = record { build = h.build; is = built_within h.build h.is; line_is = h.line_is; noted_is = h.noted_is; directories_are = h.directories_are }
   told_within (Failed line) h = record { place = h.place; number = h.number; stands = fault_within _ h.stands; line_is = h.line_is }

@@ -1,5 +1,5 @@
 -- The number of each refusal of a build, and what has none: a failure of the store or of the
--- runner, and want of memory.
+-- runner, and lack of memory.
 use Rattle.runs.specs.declared.error.OpenError.{OpenError}
 use Rattle.runs.specs.declared.error.OpenError.TheVariants as opening
 use Rattle.runs.specs.declared.error.RunsError.{RunsError}

@@ -4,3 +4,4 @@ pub mod Lines
 pub mod Telling
 pub mod Refused
 pub mod Watched
+pub mod AsRun

@@ -5,6 +5,7 @@ use Rattle.blob_source.specs.Source.{Telling}
 use Rattle.plan.specs.Record.{record_text}
 use Rattle.plan.specs.Values.{PlanValue}
 use Rattle.worker.specs.Outcomes.{Yields}
+use Rattle.worker.specs.Values.{blobs_of}
 use Rattle.builder.specs.declared.fault.Fault.TheVariants.{Refused}
 use Rattle.builder.specs.declared.fault.Place.{Place}
 use Rattle.builder.specs.declared.telling.Told.{Told}
@@ -13,13 +14,15 @@ use Rattle.builder.specs.Built.{BuiltValue, IsBuilt}
 use Rattle.builder.specs.Lines.{built_text, failed_text}
 use Rattle.builder.specs.Refused.{IsBuildFault}
 
--- the line of a build that came to its root, and its record's text
+-- the line of a build that came to its root, its record's text, and the Directories that were made
 pub record TellsBuilt (A : Type 0) (yields : Yields) (most : ℕ) (plan : PlanValue)
-    (sources : DigestValue) (told : Telling) (line noted : List ℕ) : Type 0 where
+    (sources : DigestValue) (told : Telling) (line noted : List ℕ)
+    (directories : List (List ℕ)) : Type 0 where
   pub build : BuiltValue
   pub is : IsBuilt A yields most plan sources told build
   pub line_is : line ≡ built_text build.root (length plan.steps)
   pub noted_is : noted ≡ record_text build.noted
+  pub directories_are : directories ≡ build.directories
 
 -- the line of the refusal that ended a build
 pub record TellsFailed (A : Type 0) (yields : Yields) (most : ℕ) (plan : PlanValue)
@@ -31,7 +34,8 @@ pub record TellsFailed (A : Type 0) (yields : Yields) (most : ℕ) (plan : PlanV
 
 abbrev pub IsBuildTold : {A : Type 0} → Yields → ℕ → PlanValue → DigestValue → Telling → Told A
     → Type 0
-IsBuildTold {A} yields most plan sources told (Built line noted) =
+IsBuildTold {A} yields most plan sources told (Built line noted directories) =
     TellsBuilt A yields most plan sources told (string_bytes line) noted.items
+    (blobs_of directories.items)
 IsBuildTold {A} yields most plan sources told (Failed line) =
     TellsFailed A yields most plan sources told (string_bytes line)

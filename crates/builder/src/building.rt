@@ -4,12 +4,12 @@ ghost use Rattle.worker.specs.Counted.{Counts};
 ghost use Rattle.blob_source.specs.Sink.{KeepsRight};
 ghost use Rattle.blob_source.specs.Source.{AsksSome};
 ghost use Rattle.builder.specs.Faults.{IsRunnerFailure, IsStoreFailure};
-ghost use Rattle.builder.specs.Built.{IsBuilt, IsEnd};
+ghost use Rattle.builder.specs.Built.{IsBuilt, IsEnd, RanOrAsked, RanTo};
 ghost use Rattle.builder.specs.Refused.{FailsOpening, RefusesStep, RefusesRoot, IsBuildFault};
 ghost use Rattle.builder.specs.Watched.{IsProgressOfPlan, IsToldWhole};
 ghost use Rattle.builder.specs.declared.fault.Fault.TheVariants as faults;
 ghost use Rattle.runs.specs.Calls.{HaveAllFinished, IsOpened};
-ghost use Rattle.worker.specs.Calls.{IsBuiltBy, running};
+ghost use Rattle.worker.specs.Calls.{IsBuiltWith, running};
 ghost use Rattle.worker.specs.Stored.{HasNoneFinished, IsStored};
 ghost use Rattle.worker.specs.Watching.{IsProgress, IsUpToDate, IsWatched};
 
@@ -19,7 +19,7 @@ use plan::{Plan, Record};
 use runs::Engine;
 use std::alloc::Allocator;
 use std::marker::Model;
-use tree::{BlobSink, Memo};
+use tree::{BlobSink, Folded, Memo};
 use worker::{Runner, Watcher, build};
 
 /// What a build came to.
@@ -27,16 +27,23 @@ use worker::{Runner, Watcher, build};
 pub struct Built<A: Allocator> {
     /// The digest of the tree in which it ended.
     pub root: Digest,
+    /// The Directories of that tree that putting it together made, that of its root first.
+    pub directories: Vec<Vec<u8, A>, A>,
     /// The digests of the actions that finished.
     pub noted: Record<A>,
 }
 
 impl<A: Allocator> Model for Built<A> {
     ghost use Rattle.builder.specs.Built.{BuiltValue};
+    ghost use Rattle.worker.specs.Values.{blobs_of};
 
     ghost Value = { BuiltValue };
 
-    ghost view = { λ b. record { root = b.root; noted = b.noted } };
+    ghost view = { λ b. record {
+      root = b.root;
+      directories = blobs_of b.directories.items;
+      noted = b.noted;
+    } };
 }
 
 /// Opens an engine of the plan.
@@ -69,8 +76,8 @@ fn run<A: Allocator + Copy, S: BlobSink<A>, N: Runner<A>, W: Watcher>(
 ) -> Result<(), Fault>
     requires some { 0 < jobs }
     requires idle { running engine.old.jobs ≡ 0 }
-    ensures led { IsBuiltBy A (N.yields runner.old) (S.tells sink.old) (S.tells sink.new) jobs
-        engine.old engine.new }
+    ensures led { IsBuiltWith A (N.yields runner.old) (N.starts runner.old) (N.starts runner.new)
+        (S.tells sink.old) (S.tells sink.new) jobs engine.old engine.new }
     ensures done { OnOk result (HaveAllFinished engine.new) }
     ensures refused { IfErr result
         (RefusesStep A (N.yields runner.old) jobs engine.old (S.tells sink.new)) }
@@ -78,7 +85,8 @@ fn run<A: Allocator + Copy, S: BlobSink<A>, N: Runner<A>, W: Watcher>(
         (HasNoneFinished engine.old → IsStored (S.tells sink.new) engine.new) }
     ensures alive { N.alive runner.new ≡ N.alive runner.old }
     ensures right { KeepsRight (S.tells sink.old).blobs (S.tells sink.new).blobs }
-    ensures watched { IsWatched (IsProgress A (N.yields runner.old) jobs engine.old)
+    ensures watched { IsWatched
+        (IsProgress A (N.yields runner.old) (S.tells sink.new) jobs engine.old)
         (W.told watcher.old) (W.told watcher.new) }
     ensures up_to_date { OnOk result
         (IsUpToDate engine.old engine.new (W.told watcher.old) (W.told watcher.new)) }
@@ -109,12 +117,16 @@ fn end<A: Allocator + Copy, S: BlobSink<A>>(
         (IsErrAnd result IsStoreFailure) }
 {
     let mut memo = Memo::new(alloc);
-    let root = match engine.root(alloc, &mut memo, sink) {
-        Ok(root) => root,
+    let Folded { root, directories } = match engine.root_tree(alloc, &mut memo, sink) {
+        Ok(tree) => tree,
         Err(error) => return Err(of_runs(Place::Root, &error)),
     };
     match engine.record(alloc) {
-        Ok(Some(noted)) => Ok(Built { root, noted }),
+        Ok(Some(noted)) => Ok(Built {
+            root,
+            directories,
+            noted,
+        }),
         Ok(None) => unreachable!(),
         Err(_e) => Err(Fault::Memory),
     }
@@ -133,6 +145,13 @@ pub fn build_plan<A: Allocator + Copy, S: BlobSink<A>, N: Runner<A>, W: Watcher>
     jobs: usize,
 ) -> Result<Built<A>, Fault>
     requires some { 0 < jobs }
+    // Whatever it answers: the children that were started and the results that were put are those of
+    // a build of the plan, from what the store told before. The root and the record are of that
+    // build.
+    ensures ran { RanOrAsked A (N.yields runner.old) jobs plan sources (N.starts runner.old)
+        (N.starts runner.new) (S.tells sink.old) (S.tells sink.new) }
+    ensures root { IfOk result (RanTo A (N.yields runner.old) jobs plan sources
+        (N.starts runner.old) (N.starts runner.new) (S.tells sink.old) (S.tells sink.new)) }
     // The root and the record are those of an engine of the plan in which each step has finished,
     // with what the runner yielded or the store had recorded. By what the store told, the verdict
     // on them is yes.
@@ -145,8 +164,8 @@ pub fn build_plan<A: Allocator + Copy, S: BlobSink<A>, N: Runner<A>, W: Watcher>
     ensures alive { N.alive runner.new ≡ N.alive runner.old }
     ensures right { KeepsRight (S.tells sink.old).blobs (S.tells sink.new).blobs }
     // The watcher is told numbers of this build alone, and last that each step has finished.
-    ensures watched { IsWatched (IsProgressOfPlan A (N.yields runner.old) jobs plan sources)
-        (W.told watcher.old) (W.told watcher.new) }
+    ensures watched { IsWatched (IsProgressOfPlan A (N.yields runner.old) jobs plan sources
+        (S.tells sink.old) (S.tells sink.new)) (W.told watcher.old) (W.told watcher.new) }
     ensures whole { OnOk result
         (IsToldWhole (length plan.steps) (W.told watcher.old) (W.told watcher.new)) }
     // The store failed exactly where that is told, and the runner at least there.
@@ -157,7 +176,7 @@ pub fn build_plan<A: Allocator + Copy, S: BlobSink<A>, N: Runner<A>, W: Watcher>
 {
     let mut engine = open(alloc, sources, plan, sink)?;
     run(alloc, &mut engine, sink, runner, watcher, jobs)?;
-    // A read for the prover: an engine is lawful.
+    // A read for the prover: an engine is valid.
     let _ = engine.plan();
     end(alloc, &engine, sink)
 }

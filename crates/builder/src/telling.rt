@@ -3,12 +3,13 @@ ghost use Rattle.blob_source.specs.Sink.{KeepsRight};
 ghost use Rattle.builder.specs.Faults.{HasNoNumber, IsRunnerFailure, IsStoreFailure};
 ghost use Rattle.std.specs.Result.{IsErrAnd};
 ghost use Rattle.worker.specs.Counted.{Counts};
+ghost use Rattle.builder.specs.Built.{RanOrAsked};
 ghost use Rattle.builder.specs.Refused.{IsBuildFault};
 ghost use Rattle.builder.specs.Telling.{IsBuildTold};
 ghost use Rattle.builder.specs.Watched.{IsProgressOfPlan, IsToldWholeOf};
 ghost use Rattle.worker.specs.Watching.{IsWatched};
 
-use crate::building::build_plan;
+use crate::building::{Built, build_plan};
 use crate::fault::Fault;
 use crate::line::{built_line, failed_line};
 use blob_digest::Digest;
@@ -25,6 +26,9 @@ pub enum Told<A: Allocator> {
         line: String<A>,
         /// The record's text.
         noted: Vec<u8, A>,
+        /// The Directories of its tree that putting it together made, that of its root first. The
+        /// store has those that the steps' outputs and the sources brought.
+        directories: Vec<Vec<u8, A>, A>,
     },
     /// A step or the root was refused.
     Failed {
@@ -36,7 +40,7 @@ pub enum Told<A: Allocator> {
 fn copy_of<A: Allocator + Copy>(alloc: A, plan: &Plan<A>) -> Result<Plan<A>, AllocError>
     ensures { IfOk result (λ copy. copy ≡ plan.now) }
 {
-    // A read for the prover: a plan is lawful.
+    // A read for the prover: a plan is valid.
     let _ = plan.steps();
     match Plan::read(alloc, &plan.write(alloc)?) {
         Ok(copy) => Ok(copy),
@@ -56,6 +60,10 @@ pub fn tell_build<A: Allocator + Copy, S: BlobSink<A>, N: Runner<A>, W: Watcher>
     jobs: usize,
 ) -> Result<Told<A>, Fault>
     requires some { 0 < jobs }
+    // Whatever it answers: the children that were started and the results that were put are those of
+    // a build of the plan, from what the store told before.
+    ensures ran { RanOrAsked A (N.yields runner.old) jobs plan.now sources.now
+        (N.starts runner.old) (N.starts runner.new) (S.tells sink.old) (S.tells sink.new) }
     // The line and the record are those of such a build, or the line tells its refusal.
     ensures told { IfOk result
         (IsBuildTold (N.yields runner.old) jobs plan.now sources.now (S.tells sink.new)) }
@@ -67,8 +75,8 @@ pub fn tell_build<A: Allocator + Copy, S: BlobSink<A>, N: Runner<A>, W: Watcher>
     ensures alive { N.alive runner.new ≡ N.alive runner.old }
     ensures right { KeepsRight (S.tells sink.old).blobs (S.tells sink.new).blobs }
     // The watcher is told numbers of this build alone, and last that each step has finished.
-    ensures watched { IsWatched (IsProgressOfPlan A (N.yields runner.old) jobs plan.now sources.now)
-        (W.told watcher.old) (W.told watcher.new) }
+    ensures watched { IsWatched (IsProgressOfPlan A (N.yields runner.old) jobs plan.now sources.now
+        (S.tells sink.old) (S.tells sink.new)) (W.told watcher.old) (W.told watcher.new) }
     ensures whole { IfOk result (λ told. IsToldWholeOf told (length plan.now.steps)
         (W.told watcher.old) (W.told watcher.new)) }
     // The store failed exactly where that is told, and the runner at least there.
@@ -79,9 +87,16 @@ pub fn tell_build<A: Allocator + Copy, S: BlobSink<A>, N: Runner<A>, W: Watcher>
 {
     let copy = copy_of(alloc, plan)?;
     match build_plan(alloc, *sources, copy, sink, runner, watcher, jobs) {
-        Ok(built) => Ok(Told::Built {
-            line: built_line(alloc, &built.root, plan)?,
-            noted: built.noted.write(alloc)?,
+        Ok(
+            Built {
+                root,
+                directories,
+                noted,
+            },
+        ) => Ok(Told::Built {
+            line: built_line(alloc, &root, plan)?,
+            noted: noted.write(alloc)?,
+            directories,
         }),
         Err(Fault::Refused(place, number)) => Ok(Told::Failed {
             line: failed_line(alloc, plan, place, number)?,

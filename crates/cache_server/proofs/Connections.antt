@@ -1,6 +1,6 @@
 -- A run over one connection.
 use Rattle.std.proofs.Common.{◌≡◌, ℕ, inl, inr, Option, Some, None, List, [], ◌∷◌, ◌++◌, ◌≤◌, length, take, arith, refl, sym, ◌∙◌, ap, subst, append_assoc}
-use Rattle.std.proofs.lemmas.List.{append-nil}
+use Rattle.std.proofs.lemmas.List.{append-nil, length-append}
 use Rattle.std.specs.Io.KnownBytes.{Appends, Consumes, Keeps, IsAtEnd}
 use Rattle.std.proofs.KnownBytes.{Appends-nil, Appends-trans, Consumes-nil, Consumes-trans, Consumes-kept}
 use Rattle.http_core.specs.Event.{EventValue}
@@ -84,6 +84,7 @@ module _ (prefix : List ℕ) (old : CacheValue) (input left more written_before 
           appends = r.appends;
           answered = record { events = r.before; cut = subst (λ z. Cuts z r.read r.before d.0) r.same d.1; answers = subst (λ z. ServesAll old r.before z now) (sym (append-nil r.text)) r.answers };
           no_further = nothing_further prefix r.read r.before r.goes_on;
+          few_left = omega arith;
         },
         inl end,
       )
@@ -100,6 +101,7 @@ module _ (prefix : List ℕ) (old : CacheValue) (input left more written_before 
           appends = r.appends;
           answered = record { events = r.before; cut = subst (λ z. Cuts z r.read r.before c.0) r.same c.1; answers = subst (λ z. ServesAll old r.before z now) (sym (append-nil r.text)) r.answers };
           no_further = nothing_further prefix r.read r.before r.goes_on;
+          few_left = omega arith;
         },
       )
 
@@ -116,6 +118,7 @@ module _ (prefix : List ℕ) (old : CacheValue) (input left more written_before 
             appends = r.appends;
             answered = record { events = r.before; cut = subst (λ z. Cuts z r.read r.before c.0) r.same c.1; answers = subst (λ z. ServesAll old r.before z now) (sym (append-nil r.text)) r.answers };
             no_further = piece_further prefix r.read piece (r.read ++ piece) r.before r.goes_on few refl;
+            few_left = few;
           },
         )
 
@@ -151,6 +154,7 @@ module _ (prefix : List ℕ) (old : CacheValue) (input left more written_before 
                   answers = subst (λ z. ServesAll old (r.before ++ events) z after) (sym (append-nil (r.text ++ t.told))) s;
                 };
                 no_further = piece_further prefix r.read piece ((r.read ++ piece) ++ []) r.before r.goes_on few (append-nil (r.read ++ piece));
+                few_left = omega arith;
               },
               inr refl,
             )
@@ -178,6 +182,7 @@ module _ (prefix : List ℕ) (old : CacheValue) (input left more written_before 
                 answers = subst (λ z. ServesAll old (r.before ++ t.done) z after) (sym (append_assoc r.text t.told lost)) s;
               };
               no_further = piece_further prefix r.read piece ((r.read ++ h.front) ++ h.rest) r.before r.goes_on few (sym whole);
+              few_left = let n = ap length h.whole ∙ length-append h.front h.rest in omega (arith, n, few);
             },
           )
 
@@ -196,6 +201,7 @@ runs_none prefix old input written = record {
   appends = Appends-nil written;
   answered = record { events = []; cut = nothing_cut prefix; answers = serves_none old };
   no_further = nothing_further prefix [] [] (record { rest = []; cut = nothing_cut prefix });
+  few_left = omega arith;
 }
 
 -- whatever ended a run, some of what was read is answered

@@ -1,8 +1,7 @@
 -- Replies of the cache, by what the machine answers.
-use Rattle.std.proofs.Common.{◌≡◌, ℕ, ◌==◌, length, arith, ◌⊎◌, inl, inr, Bool, true, false, cond, Option, Some, None, List, [], ◌∷◌, Result, Ok, Err, OnOk, OnErr, IfErr, IfSome, refl, sym, ◌∙◌, ap, subst}
-use Rattle.std.specs.Prelude.{option_map, bytes_eq, IsErrAnd}
-use Rattle.sha2.specs.Sha256.{sha256}
-use Rattle.http_core.specs.Reply.{ReplyValue, bare}
+use Rattle.std.proofs.Common.{◌≡◌, ℕ, ◌==◌, length, arith, ◌⊎◌, inl, inr, true, false, Option, Some, None, List, [], ◌∷◌, Result, Ok, Err, OnOk, OnErr, IfErr, IfSome, refl, sym, ◌∙◌, ap}
+use Rattle.std.specs.Prelude.{option_map}
+use Rattle.http_core.specs.Reply.{bare}
 use Rattle.action_cache.specs.declared.error.CacheError.{CacheError}
 use Rattle.action_cache.specs.CacheError.{refusal_of, IsRefused}
 use Rattle.action_cache.specs.Machine.{CacheState, Answer, done, given, nothing, refused, Refusal, under, got_blob, get_blob}
@@ -10,9 +9,8 @@ use Rattle.action_cache.specs.Machine as machine
 use Rattle.action_cache.specs.Reading.{by_messages}
 use Rattle.http_core.specs.declared.event.Area.{Area}
 use Rattle.http_core.specs.declared.event.Area.TheVariants.{Ac, Cas, Pin, Unpin}
-use Rattle.http_core.specs.Event.{AskValue, Get, Put}
-use Rattle.action_cache.specs.References.{Reader}
-use Rattle.action_cache.specs.State.{answer_of, bytes_given}
+use Rattle.http_core.specs.Event.{Get, Put}
+use Rattle.action_cache.specs.State.{answer_of}
 use Rattle.cache_server.specs.Cache.{step, found_reply, reply_to, replied, without_body}
 use Rattle.action_cache.specs.declared.error.CacheError.TheVariants as cache
 use Rattle.cache_server.specs.Status.{status_of, IsToldBy, WantsMemory}

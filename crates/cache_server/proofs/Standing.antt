@@ -188,7 +188,7 @@ stands_failed opening old new k history front done text after gains serves p oth
         (keeps_aside old.prefix (session_at old j) j (history ++ Piece k front ∷ []) (Fail k) refl refl (other_fail j k n)
         (keeps_aside old.prefix (session_at old j) j history (Piece k front) refl (other_bytes j k front n) refl (stands.sessions j)))
 
--- want of memory before the piece was cut
+-- lack of memory before the piece was cut
 closes_by : (opening : CacheValue) (old new : ServerValue) (k : ℕ) (piece : List ℕ) (history : List HistoryEntry) (held : Option SessionValue)
     → session_at old k ≡ held → IsClosedAt held (session_at new k) → KeepsOthers old k new → KeepsSession old.prefix held k history → ServerStands opening old history → StandsOrFails opening old k piece new history
 closes_by opening old new k piece history None is gone kept keeps stands = inl (is, gone, stands_unknown opening old new k history is gone kept stands)
@@ -206,7 +206,7 @@ closes_by opening old new k piece history (Some session) is (after, at, same, cl
 pub stands_closed : (opening : CacheValue) (old new : ServerValue) (k : ℕ) (piece : List ℕ) (history : List HistoryEntry) → ClosesAt old k new → ServerStands opening old history → StandsOrFails opening old k piece new history
 stands_closed opening old new k piece history closes stands = closes_by opening old new k piece history (session_at old k) refl closes.at closes.kept (stands.sessions k) stands
 
--- want of memory in the answers
+-- lack of memory in the answers
 closed_after : (held : Option SessionValue) (session : SessionValue) (now : Option SessionValue) → held ≡ Some session → IsClosedAt held now
     → (after : SessionValue) × (now ≡ Some after) × (after.prefix ≡ session.prefix) × IsClosed after
 closed_after held session now e c = subst (λ z. IsClosedAt z now) e c

@@ -1,21 +1,21 @@
 -- One request at a time.
-use Rattle.std.proofs.Common.{◌≡◌, ℕ, ◌<◌, ◌≤◌, ◌+◌, ◌⊎◌, inl, inr, Bool, true, false, Option, Some, None, List, [], ◌∷◌, ◌++◌, take, drop, length, refl, sym, ◌∙◌, ap, subst, append_assoc, IsSome, Result, Ok, Err, OnErr, IfOk}
+use Rattle.std.proofs.Common.{◌≡◌, ℕ, ◌+◌, ◌⊎◌, inl, inr, true, false, Option, Some, None, List, [], ◌∷◌, ◌++◌, take, drop, refl, sym, ◌∙◌, ap, subst, append_assoc, IsSome, Result, Ok, Err, OnErr, IfOk}
 use Rattle.std.specs.Prelude.{unwrap_or}
 use Rattle.std.specs.List.{AllByRecursion}
-use Rattle.std.proofs.lemmas.List.{append-nil, take-append-drop}
+use Rattle.std.proofs.lemmas.List.{append-nil}
 use Rattle.std.proofs.Math.Dec.{eqb}
 use Rattle.std.proofs.Math.Seq.{take-add}
 use Rattle.std.proofs.lemmas.Bool.Decides.{eqb_tells}
-use Rattle.http_core.specs.Event.{EventValue, IsLawful}
+use Rattle.http_core.specs.Event.{EventValue, IsValid}
 use Rattle.http_core.specs.Session.{SessionValue, IsClosed, if_any}
 use Rattle.http_core.specs.Session as sessions
 use Rattle.cache_server.specs.Cache.{CacheValue}
-use Rattle.cache_server.specs.History.{HistoryEntry, Piece, Fail, stream_of, has_failed, CacheAfter, Brings, AnswersTo}
+use Rattle.cache_server.specs.History.{HistoryEntry, Piece, Fail, stream_of, CacheAfter, Brings, AnswersTo}
 use Rattle.cache_server.specs.Server.{ServerValue, session_at, StandsSo, KeepsSession, ServerStands, StandsOrFails, Continues}
-use Rattle.cache_server.specs.Sessions.{KeepsOthers, IsSessionFor, IsClosedAt, ClosesAt, OpensAt, FeedsFirstAt}
+use Rattle.cache_server.specs.Sessions.{IsSessionFor, IsClosedAt, ClosesAt, OpensAt, FeedsFirstAt}
 use Rattle.cache_server.specs.Turn.{AnswersIfAny, AnswersOne, IsOneAnswerTo, Turns}
 use Rattle.cache_server.proofs.Serving.{ServesAll, serves_none, serves_one, serves_join}
-use Rattle.cache_server.proofs.Standing.{HasFed, is_fed, stands_fed, answers_fed, stands_closed, stands_broken}
+use Rattle.cache_server.proofs.Standing.{HasFed, is_fed, stands_fed, answers_fed, stands_broken}
 
 -- a connection with a fresh session stands as one without
 keeps_fresh : (prefix : List ℕ) (held : Option SessionValue) (session : SessionValue) (k : ℕ) (history : List HistoryEntry)
@@ -44,7 +44,7 @@ feeds_none : (s : SessionValue) → sessions.Feeds s [] [] s
 feeds_none s = record {
   stands = λ stream before t. subst (λ z. sessions.Stands s z (before ++ [])) (sym (append-nil stream)) (subst (sessions.Stands s stream) (sym (append-nil before)) t);
   closed = λ c. (c, refl);
-  lawful = tt;
+  valid = tt;
   prefix = refl;
 }
 
@@ -53,7 +53,7 @@ feeds_join a b c x y d e f g = record {
   stands = λ stream before t. subst (λ z. sessions.Stands c z (before ++ (d ++ e))) (append_assoc stream x y)
       (subst (sessions.Stands c ((stream ++ x) ++ y)) (append_assoc before d e) (g.stands (stream ++ x) (before ++ d) (f.stands stream before t)));
   closed = λ shut. (let p : IsClosed b × (d ≡ []) = f.closed shut in let q : IsClosed c × (e ≡ []) = g.closed p.0 in (q.0, ap (λ z. z ++ e) p.1 ∙ q.1));
-  lawful = all_join IsLawful d e f.lawful g.lawful;
+  valid = all_join IsValid d e f.valid g.valid;
   prefix = g.prefix ∙ f.prefix;
 }
 

@@ -29,8 +29,8 @@ pub record ReadsNoFurther (prefix read : List ℕ) : Type 0 where
 
 module _ (prefix : List ℕ) (old : CacheValue) (input input_left before after : Option (List ℕ))
     (new : CacheValue) where
-  -- The requests in what was read did their work, but for the rest of it, and their answers are
-  -- written, but for what is lost.
+  -- The requests in what was read did their work, but for the rest of it, of at most one piece, and
+  -- their answers are written, but for what is lost.
   pub record RunsBut (rest lost : List ℕ) (left : Option (List ℕ)) : Type 0 where
     pub front : List ℕ
     pub told : List ℕ
@@ -38,6 +38,7 @@ module _ (prefix : List ℕ) (old : CacheValue) (input input_left before after :
     pub appends : Appends before after told
     pub answered : IsAnswered prefix old front (told ++ lost) left new
     pub no_further : ReadsNoFurther prefix (front ++ rest)
+    pub few_left : length rest ≤ 65536
 
   -- all that was read is answered, and the input has ended or an event in it closes
   abbrev pub Runs : Type 0

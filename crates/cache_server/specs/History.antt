@@ -6,7 +6,7 @@ use Rattle.http_core.specs.Stream.{Cuts}
 use Rattle.cache_server.specs.Cache.{CacheValue}
 use Rattle.cache_server.specs.Answering.{answered_all}
 
--- A piece of the stream of a connection, want of memory while a piece of it was at hand, or its
+-- A piece of the stream of a connection, lack of memory while a piece of it was at hand, or its
 -- end. In a history the first stands in front.
 pub data HistoryEntry : Type 0 where
   Piece : ℕ → List ℕ → HistoryEntry

@@ -41,7 +41,7 @@ pub record ServerStands (opening : CacheValue) (s : ServerValue) (history : List
   pub cache : CacheAfter s.prefix opening history s.cache
   pub sessions : (k : ℕ) → KeepsSession s.prefix (session_at s k) k history
 
--- After want of memory: there was none for a session, and there is none. Else the requests in a
+-- After lack of memory: there was none for a session, and there is none. Else the requests in a
 -- beginning of the piece were served, and the connection failed.
 abbrev pub StandsOrFails :
     CacheValue → ServerValue → ℕ → List ℕ → ServerValue → List HistoryEntry → Type 0

@@ -78,11 +78,9 @@ impl<A: Allocator + Copy> Server<A> {
             let (_, rest) = piece.split_at(at);
             let (taken, answer) = self.turn(alloc, connection, rest)?;
             at += taken;
-            if let Some(answer) = answer {
-                if push_text(&mut text, &answer).is_err() {
-                    self.close(alloc, connection);
-                    return Err(AllocError);
-                }
+            if push_text(&mut text, answer).is_err() {
+                self.close(alloc, connection);
+                return Err(AllocError);
             }
         }
         Ok(text)
@@ -241,10 +239,17 @@ impl<A: Allocator + Copy> Server<A> {
     }
 }
 
-/// Adds the text of the answer.
-fn push_text<A: Allocator>(text: &mut Vec<u8, A>, answer: &Answer<A>) -> Result<(), AllocError>
-    ensures { OnOk result (text.new.items ≡ text.old.items ++ text_of answer.now) }
+/// Adds the text of the answer, if there is one.
+fn push_text<A: Allocator>(
+    text: &mut Vec<u8, A>,
+    answer: Option<Answer<A>>,
+) -> Result<(), AllocError>
+    ensures { OnOk result
+        (text.new.items ≡ text.old.items ++ unwrap_or (option_map text_of answer) []) }
 {
+    let Some(answer) = answer else {
+        return Ok(());
+    };
     text.extend_from_slice(answer.head())?;
     text.extend_from_slice(answer.body())
 }

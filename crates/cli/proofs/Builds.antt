@@ -1,39 +1,152 @@
--- What a build tells is that of some build of the plan.
-use Rattle.std.proofs.Common.{◌≡◌, Bool, List, Option, Result, Ok, Err, IfOk, OnOk, ℕ}
+-- What a build tells is that of some build of the plan, and why it tells nothing.
+use Rattle.std.proofs.Common.{◌≡◌, ◌≢◌, ◌⊎◌, Bool, List, [], Option, Result, Ok, Err, IfErr, IfOk, OnOk, ℕ, inl, inr, refl, subst, string_bytes}
+use Rattle.std.specs.Prelude.{codes}
 use Rattle.std.specs.Io.KnownBytes.{Appends}
 use Rattle.clap.specs.Words.{Row}
+use Rattle.command_lines.specs.CommandLine.{option_text}
+use Rattle.commands.specs.Places.{FailsOver, FailsToConnect, IsConnected}
+use Rattle.commands.proofs.Placed.{of_options}
+use Rattle.commands.specs.Options.{IsValidServer}
+use Rattle.commands.specs.Printed.{IsConnectedTo}
+use Rattle.commands.specs.Refusal.{IsCommandFault, IsPrintFault}
 use Rattle.commands.specs.World.{Sight}
+use Rattle.commands.specs.declared.connecting.ServerOptions.{ServerOptions}
 use Rattle.commands.specs.declared.error.CommandError.{CommandError}
+use Rattle.commands.specs.declared.error.CommandError.TheVariants.{Words, Digest, Number, Text, Unlike, File}
+use Rattle.commands.specs.declared.error.CommandError.TheVariants.{NotAFile, TooLarge, Entry, Connection}
+use Rattle.commands.specs.declared.error.CommandError.TheVariants.{Server, WrongBytes, Accept, Address, Random}
+use Rattle.commands.specs.declared.error.CommandError.TheVariants.{Output, Memory, Process}
 use Rattle.std.proofs.Math.Logic.{∥∥₁_map}
 use Rattle.std.specs.declared.alloc.Global.{Global}
+use Rattle.std.specs.declared.string.String.{String}
 use Rattle.blob_digest.specs.Digest.{DigestValue}
 use Rattle.blob_source.specs.Source.{Telling}
-use Rattle.builder.proofs.Within.{told_within}
+use Rattle.builder.proofs.Within.{fault_within, told_within}
+use Rattle.builder.specs.Lines.{place_text}
+use Rattle.builder.specs.Refused.{IsBuildFault}
 use Rattle.builder.specs.Telling.{IsBuildTold}
+use Rattle.builder.specs.declared.fault.Fault.{Fault}
+use Rattle.builder.specs.declared.fault.Fault.TheVariants.{Device}
+use Rattle.builder.specs.declared.fault.Place.{Place}
 use Rattle.builder.specs.declared.telling.Told.{Told}
 use Rattle.builder.specs.declared.telling.Told.TheVariants.{Built, Failed}
 use Rattle.plan.specs.Values.{PlanValue}
+use Rattle.remote.specs.Line.{ConnectionValue}
 use Rattle.worker.specs.Outcomes.{Yields}
-use Rattle.cli.specs.Built.{PrintsBuild, any_yields, IsToldOf, is_whole, line_of}
+use Rattle.cli.specs.Built.{AsksBuild, HoldsRoot, IsNoted, IsToldOf, NamesJobs, PrintsBuild, TellsAsked, any_yields, is_whole, jobs_of, line_of}
+use Rattle.cli.specs.Refused.{FailsBuild, FailsJobs, FailsTelling, ReachesServer, StopsAtProcess}
+use Rattle.cli.specs.Refused.FailsBuild.{in_jobs, in_memory, in_output, in_process, in_server, in_words}
 
 module _ (source : Telling → Type 0) (plan : PlanValue) (sources : DigestValue) (most : ℕ) (told : Telling) where
-  of_any : (r : Told Global) → ∥ source told ∥₁ → IsBuildTold any_yields most plan sources told r → IsToldOf source most plan sources r
-  of_any (Built line noted) by h = (told, by, h)
-  of_any (Failed line) by h = (told, by, h)
+  of_any : (r : Told Global) → ∥ source told ∥₁ → IsBuildTold any_yields most plan sources told r → HoldsRoot source r → IsToldOf source most plan sources r
+  of_any (Built line noted directories) by h root = (told, by, h, root)
+  of_any (Failed line) by h root = (told, by, h)
 
-  pub told_of : (z : Yields) (r : Told Global) → ∥ source told ∥₁ → IsBuildTold z most plan sources told r → IsToldOf source most plan sources r
-  told_of z r by h = of_any r by (told_within Global z any_yields most plan sources told (λ l c p may. tt) r h)
+  pub told_of : (z : Yields) (r : Told Global) → ∥ source told ∥₁ → IsBuildTold z most plan sources told r → HoldsRoot source r → IsToldOf source most plan sources r
+  told_of z r by h root = of_any r by (told_within Global z any_yields most plan sources told (λ l c p may. tt) r h) root
+
+  pub stops_of : (z : Yields) (place : Place) (fault : Fault) (text : String Global) → ∥ source told ∥₁ → IsBuildFault Global z most plan sources told fault → fault ≡ Device place
+      → string_bytes text ≡ place_text plan.steps place → StopsAtProcess source most plan sources (Process text)
+  stops_of z place fault text by h device is = record {
+    told = told;
+    source_is = by;
+    place = place;
+    ended = fault_within Global z any_yields most plan sources told (λ l c p may. tt) (Device place) (subst (λ (f : Fault). IsBuildFault Global z most plan sources told f) device h);
+    text = text;
+    text_is = is;
+    is = refl;
+  }
 
 -- by what another kind of source told
+root_by : {P Q : Telling → Type 0} → ((told : Telling) → P told → Q told) → (r : Told Global) → HoldsRoot P r → HoldsRoot Q r
+root_by f (Built line noted directories) h = (h.0, ∥∥₁_map h.1 (f h.0), h.2)
+root_by f (Failed line) h = h
+
 pub told_by : {P Q : Telling → Type 0} → ((told : Telling) → P told → Q told) → (most : ℕ) (plan : PlanValue) (sources : DigestValue)
     → (r : Told Global) → IsToldOf P most plan sources r → IsToldOf Q most plan sources r
-told_by f most plan sources (Built line noted) h = (h.0, ∥∥₁_map h.1 (f h.0), h.2)
+told_by f most plan sources (Built line noted directories) h = (h.0, ∥∥₁_map h.1 (f h.0), h.2, root_by f (Built line noted directories) h.3)
 told_by f most plan sources (Failed line) h = (h.0, ∥∥₁_map h.1 (f h.0), h.2)
 
--- what was printed of a build, and whether it came to its root
-pub printed_by : (sees : Sight) (options : List Row) (old new : Option (List ℕ)) (result : Result Bool CommandError) (told : Told Global)
-    → OnOk result (Appends old new (line_of told)) → IfOk result (λ whole. is_whole told ≡ whole)
-    → ((whole : Bool) → is_whole told ≡ whole → Appends old new (line_of told) → PrintsBuild sees options whole old new)
-    → IfOk result (λ whole. PrintsBuild sees options whole old new)
-printed_by sees options old new (Ok whole) told printed is f = f whole is printed
-printed_by sees options old new (Err e) told printed is f = tt
+-- and as many jobs at once, by another name
+pub tells_by : {P Q : Telling → Type 0} → ((told : Telling) → P told → Q told) → (most jobs : ℕ) → most ≡ jobs → (plan : PlanValue) (sources : DigestValue)
+    → (r : Told Global) → IsToldOf P most plan sources r → IsToldOf Q jobs plan sources r
+tells_by {P} {Q} f most jobs is plan sources r h = subst (λ (n : ℕ). IsToldOf Q n plan sources r) is (told_by f most plan sources r h)
+
+stops_by : {P Q : Telling → Type 0} → ((told : Telling) → P told → Q told) → (most jobs : ℕ) → most ≡ jobs → (plan : PlanValue) (sources : DigestValue)
+    → (e : CommandError) → StopsAtProcess P most plan sources e → StopsAtProcess Q jobs plan sources e
+stops_by f most jobs is plan sources e h = record {
+  told = h.told;
+  source_is = ∥∥₁_map h.source_is (f h.told);
+  place = h.place;
+  ended = subst (λ (n : ℕ). IsBuildFault Global any_yields n plan sources h.told (Device h.place)) is h.ended;
+  text = h.text;
+  text_is = h.text_is;
+  is = h.is;
+}
+
+-- a Directory of the root couldn't be put
+pub putting_fails : (start : ConnectionValue) (most : ℕ) (plan : PlanValue) (sources : DigestValue) (e : CommandError) → (e ≡ Memory) ⊎ ∥ FailsOver start e ∥₁
+    → FailsTelling start most plan sources e
+putting_fails start most plan sources e (inl memory) = inl memory
+putting_fails start most plan sources e (inr over) = inr (inr over)
+
+module _ (sees : Sight) (options : List Row) where
+  -- words that name no jobs
+  pub jobs_fail : (e : CommandError) → (e ≡ Memory) ⊎ FailsJobs options e → FailsBuild sees options e
+  jobs_fail e (inl memory) = in_memory memory
+  jobs_fail e (inr fails) = in_jobs fails
+
+  -- or no server
+  pub words_fail : (e : CommandError) → NamesJobs options → IsCommandFault e → (e ≢ Memory → ¬ IsValidServer options (option_text options (codes "server"))) → FailsBuild sees options e
+  words_fail (Words text) jobs is none = in_words jobs (record { none = none (λ h. cc); told = tt })
+  words_fail (Number option greatest text) jobs is none = in_words jobs (record { none = none (λ h. cc); told = tt })
+  words_fail (Unlike option wanted text) jobs is none = in_words jobs (record { none = none (λ h. cc); told = tt })
+  words_fail Memory jobs is none = in_memory refl
+  words_fail (Digest option text fault) jobs is none = absurd is
+  words_fail (Text path fault) jobs is none = absurd is
+  words_fail (File path fault) jobs is none = absurd is
+  words_fail (NotAFile path) jobs is none = absurd is
+  words_fail (TooLarge path) jobs is none = absurd is
+  words_fail (Entry path fault) jobs is none = absurd is
+  words_fail (Connection server fault) jobs is none = absurd is
+  words_fail (Server server asked digest fault) jobs is none = absurd is
+  words_fail (WrongBytes server digest) jobs is none = absurd is
+  words_fail (Address text fault) jobs is none = absurd is
+  words_fail (Accept fault) jobs is none = absurd is
+  words_fail (Process place) jobs is none = absurd is
+  words_fail (Random fault) jobs is none = absurd is
+  words_fail (Output fault) jobs is none = absurd is
+
+  -- what was printed of a build, and whether it came to its root
+  pub printed_by : (old new : Option (List ℕ)) (result : Result Bool CommandError) (told : Told Global) → TellsAsked sees options told → IsNoted sees options told
+      → OnOk result (Appends old new (line_of told)) → IfOk result (λ whole. is_whole told ≡ whole) → IfOk result (λ whole. PrintsBuild sees options whole old new)
+  printed_by old new (Ok whole) told tells noted printed is = record { told = told; tells = tells; noted = noted; is = is; printed = printed }
+  printed_by old new (Err e) told tells noted printed is = tt
+
+  -- or that nothing could be printed
+  pub output_fails : (result : Result Bool CommandError) (told : Told Global) → TellsAsked sees options told → IsNoted sees options told
+      → IfErr result IsPrintFault → IfErr result (FailsBuild sees options)
+  output_fails (Ok whole) told tells noted fails = tt
+  output_fails (Err e) told tells noted fails = in_output told tells noted fails
+
+  module _ (plan : PlanValue) (sources : DigestValue) (asks : AsksBuild sees options plan sources) (server : ServerOptions) (address : string_bytes server.address ≡ option_text options (codes "server")) where
+    -- the server couldn't be reached
+    pub connect_fails : (e : CommandError) → FailsToConnect sees (string_bytes server.address) e → FailsBuild sees options e
+    connect_fails e fails = in_server plan sources asks ∣ inl (subst (λ a. FailsToConnect sees a e) address fails) ∣₁
+
+    module _ (start : ConnectionValue) (host : server.host ≡ option_text options (codes "server")) (prefix : server.prefix ≡ option_text options (codes "prefix"))
+        (opened : IsConnected sees (string_bytes server.address) server.host server.prefix start) where
+      opened_to : IsConnectedTo sees options start
+      opened_to = subst (λ (a : List ℕ). IsConnected sees a (option_text options (codes "server")) (option_text options (codes "prefix")) start) address
+          (subst (λ (h : List ℕ). IsConnected sees (string_bytes server.address) h (option_text options (codes "prefix")) start) host
+          (subst (λ (p : List ℕ). IsConnected sees (string_bytes server.address) server.host p start) prefix opened))
+
+      pub reaches : ReachesServer sees options
+      reaches = record { plan = plan; sources = sources; asks = asks; start = start; opened = opened_to }
+
+      -- or while the build was told there was a fault
+      pub telling_fails : (most : ℕ) → most ≡ jobs_of options → sees.lists (option_text options (codes "work")) [] → (e : CommandError) → FailsTelling start most plan sources e → FailsBuild sees options e
+      telling_fails most is empty e (inl memory) = in_memory memory
+      telling_fails most is empty e (inr (inl process)) =
+          in_process plan sources (record { asks = asks; empty = empty }) (stops_by (of_options sees options server start address host prefix opened) most (jobs_of options) is plan sources e process)
+      telling_fails most is empty e (inr (inr over)) = in_server plan sources asks (∥∥₁_map over (λ fails. inr (start, opened_to, fails)))

@@ -1,16 +1,26 @@
 -- What a command came to, said of the words.
-use Rattle.std.proofs.Common.{◌≡◌, ◌∙◌, ap, subst, Bool, true, false, ℕ, List, []}
+use Rattle.std.proofs.Common.{◌≡◌, ◌∙◌, ◌⊎◌, ◌<◌, ◌+◌, ap, arith, subst, sym, inl, inr, refl, Bool, true, false, ℕ, List, []}
 use Rattle.std.specs.Prelude.{codes, ◌↔◌, IsTrue, Option, Some, None, option_map, unwrap_or}
 use Rattle.std.specs.Option.{option_map_or}
 use Rattle.std.proofs.lemmas.Bool.{iff_false}
-use Rattle.clap.specs.Words.{Row, Text}
+use Rattle.clap.specs.Words.{IsAmong, Row, Text, fault_of}
 use Rattle.verifier.specs.Verdict.{IsYes}
-use Rattle.command_lines.specs.CommandLine.{CallsCommand, options_of}
-use Rattle.cli.specs.Ended.{IsCalledAndDone, LacksBlob, PrintsYes, PrintsNo, WritesBlob}
-use Rattle.commands.specs.Printed.{GetsBlob, PrintsVerdict}
+use Rattle.command_lines.specs.CommandLine.{CallsCommand, options_of, program_line}
+use Rattle.cli.specs.Refused.{FailsBuild}
+use Rattle.cli.specs.Ended.{Fails, IsDone, IsNo, WantsHelp, WantsVersion}
+use Rattle.cli.specs.Ended.Fails.{in_build, in_verify}
+use Rattle.cli.specs.Ended.IsDone.{yes}
+use Rattle.cli.specs.Ended.IsNo.{no}
+use Rattle.commands.specs.Printed.{PrintsVerdict}
 use Rattle.commands.specs.Refusal.{FailsVerify}
 use Rattle.commands.specs.World.{Sight}
+use Rattle.clap.specs.declared.error.kind.ErrorKind.TheVariants.{DisplayHelp, DisplayVersion}
+use Rattle.commands.specs.Status.{status_of}
 use Rattle.commands.specs.declared.error.CommandError.{CommandError}
+use Rattle.commands.specs.declared.error.CommandError.TheVariants.{Words, Digest, Number, Text as TextFault, Unlike, File}
+use Rattle.commands.specs.declared.error.CommandError.TheVariants.{NotAFile, TooLarge, Entry, Connection}
+use Rattle.commands.specs.declared.error.CommandError.TheVariants.{Server, WrongBytes, Accept, Address, Random}
+use Rattle.commands.specs.declared.error.CommandError.TheVariants.{Output, Memory, Process}
 
 -- the rows of the subcommand that was found are those of the one that the words call
 pub options_found : (found called : Option (Text × List Row)) (rows : List Row) → found ≡ called → Some rows ≡ option_map (λ p. p.1) found → rows ≡ option_map_or (λ p. p.1) called []
@@ -27,23 +37,60 @@ IsAnswer sees rows old new positive = (prints : PrintsVerdict sees rows old new)
 said : {sees : Sight} (words : List Text) {rows : List Row} {old new : Option (List ℕ)} {positive : Bool} → rows ≡ options_of words → IsAnswer sees rows old new positive → IsAnswer sees (options_of words) old new positive
 said {sees} words {rows} {old} {new} {positive} is h = subst (λ (options : List Row). IsAnswer sees options old new positive) is h
 
-pub yes_printed : {sees : Sight} (words : List Text) {rows : List Row} {old new : Option (List ℕ)} {positive : Bool} → CallsCommand words (codes "verify") → rows ≡ options_of words → IsAnswer sees rows old new positive → positive ≡ true → PrintsYes sees words old new
-yes_printed words called is h true_is = let s = said words is h in record { called = called; prints = s.0; positive = s.1.0 true_is }
+module _ {sees : Sight} (words : List Text) {rows : List Row} (is : rows ≡ options_of words) where
+  pub yes_done : {old new : Option (List ℕ)} {b : Bool} → CallsCommand words (codes "verify") → IsAnswer sees rows old new b → b ≡ true → IsDone sees words old new
+  yes_done called h true_is = let s = said words is h in yes called s.0 (s.1.0 true_is)
 
-pub no_printed : {sees : Sight} (words : List Text) {rows : List Row} {old new : Option (List ℕ)} {positive : Bool} → CallsCommand words (codes "verify") → rows ≡ options_of words → IsAnswer sees rows old new positive → positive ≡ false → PrintsNo sees words old new
-no_printed words called is h false_is = let s = said words is h in record { called = called; prints = s.0; negative = iff_false s.1 false_is }
+  pub no_told : {old new : Option (List ℕ)} {b : Bool} → CallsCommand words (codes "verify") → IsAnswer sees rows old new b → b ≡ false → IsNo sees words old new
+  no_told called h false_is = let s = said words is h in no called s.0 (iff_false s.1 false_is)
 
-pub did : (command : Text) (done : List Row → Option (List ℕ) → Option (List ℕ) → Type 0) (words : List Text) {rows : List Row} {old new : Option (List ℕ)} → CallsCommand words command → rows ≡ options_of words → done rows old new → IsCalledAndDone command done words old new
-did command done words {rows} {old} {new} called is h = record { called = called; is = subst (λ (options : List Row). done options old new) is h }
+  pub verify_fails : (e : CommandError) → CallsCommand words (codes "verify") → FailsVerify sees rows e → Fails sees words e
+  verify_fails e called h = in_verify called (subst (λ (o : List Row). FailsVerify sees o e) is h)
 
-got : {sees : Sight} (words : List Text) {rows : List Row} {old new : Option (List ℕ)} {found b : Bool} → rows ≡ options_of words → GetsBlob sees rows old new found → found ≡ b → GetsBlob sees (options_of words) old new b
-got {sees} words {rows} {old} {new} {found} is h found_is = subst (λ (b : Bool). GetsBlob sees (options_of words) old new b) found_is (subst (λ (options : List Row). GetsBlob sees options old new found) is h)
+  pub build_fails : (e : CommandError) → CallsCommand words (codes "build") → FailsBuild sees rows e → Fails sees words e
+  build_fails e called h = in_build called (subst (λ (o : List Row). FailsBuild sees o e) is h)
 
-pub blob_written : {sees : Sight} (words : List Text) {rows : List Row} {old new : Option (List ℕ)} {found : Bool} → CallsCommand words (codes "get") → rows ≡ options_of words → GetsBlob sees rows old new found → found ≡ true → WritesBlob sees words old new
-blob_written words called is h true_is = record { called = called; is = got words is h true_is }
+-- words that call a command ask for no help
+pub no_help : (words : List Text) → fault_of program_line words ≡ [] → WantsHelp words → ⊥
+no_help words faultless asks = subst (IsAmong DisplayHelp) faultless asks
 
-pub blob_lacked : {sees : Sight} (words : List Text) {rows : List Row} {old new : Option (List ℕ)} {found : Bool} → CallsCommand words (codes "get") → rows ≡ options_of words → GetsBlob sees rows old new found → found ≡ false → LacksBlob sees words old new
-blob_lacked words called is h false_is = record { called = called; is = got words is h false_is }
+pub no_version : (words : List Text) → fault_of program_line words ≡ [] → WantsVersion words → ⊥
+no_version words faultless asks = subst (IsAmong DisplayVersion) faultless asks
 
-pub failed : {sees : Sight} (words : List Text) {rows : List Row} {e : CommandError} → rows ≡ options_of words → FailsVerify sees rows e → FailsVerify sees (options_of words) e
-failed {sees} words {rows} {e} is h = subst (λ (options : List Row). FailsVerify sees options e) is h
+not_less : (k : ℕ) → 2 + k < 2 → ⊥
+not_less k lt = omega arith
+
+-- the status of an error
+status_is : (e : CommandError) → (status_of e ≡ 2) ⊎ (status_of e ≡ 3)
+status_is (Words text) = inl refl
+status_is (Digest option text fault) = inl refl
+status_is (Number option greatest text) = inl refl
+status_is (TextFault path fault) = inl refl
+status_is (Unlike option wanted text) = inl refl
+status_is (File path fault) = inr refl
+status_is (NotAFile path) = inr refl
+status_is (TooLarge path) = inr refl
+status_is (Entry path fault) = inr refl
+status_is (Connection server fault) = inr refl
+status_is (Server server asked digest fault) = inr refl
+status_is (WrongBytes server digest) = inr refl
+status_is (Address text fault) = inr refl
+status_is (Accept fault) = inr refl
+status_is (Process place) = inr refl
+status_is (Random fault) = inr refl
+status_is (Output fault) = inr refl
+status_is Memory = inr refl
+
+pub few_statuses : (s : ℕ) (e : CommandError) → s ≡ status_of e → s < 4
+few_statuses s e is = go (status_is e)
+  where
+    go : (status_of e ≡ 2) ⊎ (status_of e ≡ 3) → s < 4
+    go (inl two) = subst (λ n. n < 4) (sym (is ∙ two)) (omega arith)
+    go (inr three) = subst (λ n. n < 4) (sym (is ∙ three)) (omega arith)
+
+pub no_answer : (s : ℕ) (e : CommandError) → s ≡ status_of e → s < 2 → ⊥
+no_answer s e is lt = go (status_is e)
+  where
+    go : (status_of e ≡ 2) ⊎ (status_of e ≡ 3) → ⊥
+    go (inl two) = absurd (not_less 0 (subst (λ n. n < 2) (is ∙ two) lt))
+    go (inr three) = absurd (not_less 1 (subst (λ n. n < 2) (is ∙ three) lt))

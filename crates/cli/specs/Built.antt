@@ -1,5 +1,6 @@
 -- What `build` prints.
-use Rattle.std.specs.Prelude.{◌≡◌, ◌≤◌, ℕ, Bool, true, false, List, Option, codes, string_bytes}
+use Rattle.std.specs.Prelude.{◌≡◌, ◌<◌, ◌≤◌, ℕ, Bool, true, false, List, [], Option, codes}
+use Rattle.std.specs.Prelude.{string_bytes}
 use Rattle.std.specs.Io.KnownBytes.{Appends}
 use Rattle.std.specs.declared.alloc.Global.{Global}
 use Rattle.blob_digest.specs.Digest.{DigestValue}
@@ -9,61 +10,93 @@ use Rattle.builder.specs.declared.telling.Told.{Told}
 use Rattle.builder.specs.declared.telling.Told.TheVariants.{Built, Failed}
 use Rattle.clap.specs.Words.{Row}
 use Rattle.command_lines.specs.CommandLine.{option_text}
-use Rattle.commands.specs.Options.{IsNumber, number_of}
-use Rattle.plan.specs.Values.{PlanValue}
+use Rattle.commands.specs.Options.{IsNumber, IsValidServer, number_of}
 use Rattle.commands.specs.Printed.{IsOfOptions}
 use Rattle.commands.specs.Refusal.{HasPlanRead}
 use Rattle.commands.specs.World.{Sight}
+use Rattle.plan.specs.Values.{PlanValue}
 use Rattle.text_verifier.specs.Texts.{IsDigestText}
-use Rattle.worker.specs.Outcomes.{Yields}
+use Rattle.worker.specs.Outcomes.{HasAllRight, Yields}
+use Rattle.worker.specs.Values.{blobs_of}
 
 -- a runner that may yield anything: what its processes come to isn't said here
 abbrev pub any_yields : Yields
 any_yields l c p = Unit {0}
 
+-- such a source told each Directory that was made for the root of a build that came to it
+abbrev pub HoldsRoot : (Telling → Type 0) → Told Global → Type 0
+HoldsRoot source (Built line noted directories) = (told : Telling) × (∥ source told ∥₁)
+    × HasAllRight told.blobs (blobs_of directories.items)
+HoldsRoot source (Failed line) = Unit {0}
+
 -- By what such a source told: the line and the record of a build that came to its root, where calls
 -- led from an engine of the plan to one in which each step has finished, at most so many jobs running
--- after each, the store has what each step came to, and the verdict on the record is yes. Or the line
--- of the refusal that stands where the build ended.
+-- after each, the store has what each step came to, and the verdict on the record is yes; and the
+-- Directories of the root are there. Or the line of the refusal that stands where the build ended.
 abbrev pub IsToldOf : (Telling → Type 0) → ℕ → PlanValue → DigestValue → Told Global → Type 0
-IsToldOf source most plan sources (Built line noted) = (told : Telling) × (∥ source told ∥₁)
+IsToldOf source most plan sources (Built line noted directories) = (told : Telling) × (∥ source told ∥₁)
     × TellsBuilt Global any_yields most plan sources told (string_bytes line) noted.items
+    (blobs_of directories.items) × HoldsRoot source (Built line noted directories)
 IsToldOf source most plan sources (Failed line) = (told : Telling) × (∥ source told ∥₁)
     × TellsFailed Global any_yields most plan sources told (string_bytes line)
 
 -- whether it came to its root
 abbrev pub is_whole : Told Global → Bool
-is_whole (Built line noted) = true
+is_whole (Built line noted directories) = true
 is_whole (Failed line) = false
 
 abbrev pub line_of : Told Global → List ℕ
-line_of (Built line noted) = string_bytes line
+line_of (Built line noted directories) = string_bytes line
 line_of (Failed line) = string_bytes line
 
 -- the record of a build that came to its root was written to the file that the options name
 abbrev pub IsNoted : Sight → List Row → Told Global → Type 0
-IsNoted sees options (Built line noted) =
+IsNoted sees options (Built line noted directories) =
     sees.wrote (option_text options (codes "record")) noted.items
 IsNoted sees options (Failed line) = Unit {0}
 
--- the number of jobs that the options spell, which is at most 64
-pub record IsJobs (options : List Row) (jobs : ℕ) : Type 0 where
-  pub text : IsNumber (option_text options (codes "jobs"))
-  pub is : jobs ≡ number_of (option_text options (codes "jobs"))
-  pub few : jobs ≤ 64
+-- ---- what the options ask for
 
--- The line of a build was printed, of the plan whose text was read, over the sources whose digest
--- the options spell, with as many jobs at once as they say, by what their server told.
+abbrev pub jobs_of : List Row → ℕ
+jobs_of options = number_of (option_text options (codes "jobs"))
+
+-- a number of jobs from 1 to 64
+pub record NamesJobs (options : List Row) : Type 0 where
+  pub number : IsNumber (option_text options (codes "jobs"))
+  pub some : 0 < jobs_of options
+  pub few : jobs_of options ≤ 64
+
+-- and a server, with what is valid to say of it
+pub record NamesBuild (options : List Row) : Type 0 where
+  pub jobs : NamesJobs options
+  pub server : IsValidServer options (option_text options (codes "server"))
+
+-- and then the plan whose text was read, over the sources whose digest the options spell
+pub record AsksBuild (sees : Sight) (options : List Row) (plan : PlanValue) (sources : DigestValue)
+    : Type 0 where
+  pub named : NamesBuild options
+  pub spelled : IsDigestText (option_text options (codes "sources")) sources
+  pub plan_is : HasPlanRead sees options plan
+
+-- The folder of the jobs was read, and had nothing in it.
+pub record StartsBuild (sees : Sight) (options : List Row) (plan : PlanValue)
+    (sources : DigestValue) : Type 0 where
+  pub asks : AsksBuild sees options plan sources
+  pub empty : sees.lists (option_text options (codes "work")) []
+
+-- What was told is of a build of that, with as many jobs at once as the options say, by what their
+-- server told.
+pub record TellsAsked (sees : Sight) (options : List Row) (told : Told Global) : Type 0 where
+  pub plan : PlanValue
+  pub sources : DigestValue
+  pub starts : StartsBuild sees options plan sources
+  pub tells : IsToldOf (IsOfOptions sees options) (jobs_of options) plan sources told
+
+-- its line was printed, and where it came to its root its record written
 pub record PrintsBuild (sees : Sight) (options : List Row) (whole : Bool)
     (old new : Option (List ℕ)) : Type 0 where
-  pub plan : PlanValue
-  pub plan_is : HasPlanRead sees options plan
-  pub sources : DigestValue
-  pub spelled : IsDigestText (option_text options (codes "sources")) sources
-  pub jobs : ℕ
-  pub at_once : IsJobs options jobs
   pub told : Told Global
-  pub tells : IsToldOf (IsOfOptions sees options) jobs plan sources told
+  pub tells : TellsAsked sees options told
   pub noted : IsNoted sees options told
   pub is : is_whole told ≡ whole
   pub printed : Appends old new (line_of told)

@@ -1,70 +1,104 @@
--- What the words of the program come to: the command that they call, and what it printed.
-use Rattle.std.specs.Prelude.{◌⊎◌, ℕ, true, false, List, Option, codes}
-use Rattle.clap.specs.Words.{Row, Text}
+-- What the words of the program come to: what was printed, or why nothing was.
+use Rattle.std.specs.Prelude.{◌≡◌, ◌≢◌, ℕ, true, false, List, Option, codes}
+use Rattle.std.specs.Io.KnownBytes.{Appends}
+use Rattle.clap.specs.Words.{IsAmong, Text, fault_of}
+use Rattle.clap.specs.declared.error.kind.ErrorKind.{ErrorKind}
+use Rattle.clap.specs.declared.error.kind.ErrorKind.TheVariants.{DisplayHelp, DisplayVersion}
+use Rattle.command_lines.specs.CommandLine.{CallsCommand, options_of, program_line}
 use Rattle.verifier.specs.Verdict.{IsYes}
-use Rattle.commands.specs.Printed.{GetsBlob, PrintsDigest, PrintsVerdict, ServesAsked}
-use Rattle.commands.specs.World.{Sight}
 use Rattle.cli.specs.Built.{PrintsBuild}
-use Rattle.command_lines.specs.CommandLine.{CallsCommand, AsksForHelp, options_of}
+use Rattle.cli.specs.Help.{help_asked, version_line}
+use Rattle.cli.specs.Refused.{FailsBuild}
+use Rattle.commands.specs.Printed.{GetsAsked, PrintsDigest, PrintsVerdict, ServesAsked}
+use Rattle.commands.specs.Refusal.{FailsVerify, IsPrintFault}
+use Rattle.commands.specs.Status.{status_of}
+use Rattle.commands.specs.Told.{TellsOf}
+use Rattle.commands.specs.World.{Sight}
+use Rattle.commands.specs.declared.error.CommandError.{CommandError}
+use Rattle.commands.specs.declared.error.CommandError.TheVariants.{Memory, Words}
 
--- the words call `verify`, and the line of its yes was printed
-pub record PrintsYes (sees : Sight) (words : List Text) (old new : Option (List ℕ)) : Type 0 where
-  pub called : CallsCommand words (codes "verify")
-  pub prints : PrintsVerdict sees (options_of words) old new
-  pub positive : IsYes prints.verdict
+-- the words ask for help, or for the version
+abbrev pub WantsHelp : List Text → Type 0
+WantsHelp words = IsAmong DisplayHelp (fault_of program_line words)
 
--- the words call `verify`, and the line of its no was printed
-pub record PrintsNo (sees : Sight) (words : List Text) (old new : Option (List ℕ)) : Type 0 where
-  pub called : CallsCommand words (codes "verify")
-  pub prints : PrintsVerdict sees (options_of words) old new
-  pub negative : ¬ IsYes prints.verdict
+abbrev pub WantsVersion : List Text → Type 0
+WantsVersion words = IsAmong DisplayVersion (fault_of program_line words)
 
--- the words call this command, and this was done
-pub record IsCalledAndDone (command : Text)
-    (done : List Row → Option (List ℕ) → Option (List ℕ) → Type 0)
-    (words : List Text) (old new : Option (List ℕ)) : Type 0 where
-  pub called : CallsCommand words command
-  pub is : done (options_of words) old new
+-- it was printed
+pub data ShowsAsked (words : List Text) (old new : Option (List ℕ)) : Type 0 where
+  help : WantsHelp words → Appends old new (help_asked words) → ShowsAsked words old new
+  version : WantsVersion words → Appends old new version_line → ShowsAsked words old new
 
--- the words call `get`, and the bytes of the blob with the digest were written
-abbrev pub WritesBlob : Sight → List Text → Option (List ℕ) → Option (List ℕ) → Type 0
-WritesBlob sees =
-    IsCalledAndDone (codes "get") (λ options old new. GetsBlob sees options old new true)
+-- The line of a yes was printed, or a blob, or the line of the digest of what was put, or that of
+-- the address where connections were served, or that of a build's root, or the help or the version.
+pub data IsDone (sees : Sight) (words : List Text) (old new : Option (List ℕ)) : Type 0 where
+  yes : CallsCommand words (codes "verify")
+      → (prints : PrintsVerdict sees (options_of words) old new) → IsYes prints.verdict
+      → IsDone sees words old new
+  got : CallsCommand words (codes "get") → GetsAsked sees (options_of words) old new true
+      → IsDone sees words old new
+  put : CallsCommand words (codes "put") → PrintsDigest sees (options_of words) old new
+      → IsDone sees words old new
+  served : CallsCommand words (codes "serve") → ServesAsked sees (options_of words) old new
+      → IsDone sees words old new
+  built : CallsCommand words (codes "build") → PrintsBuild sees (options_of words) true old new
+      → IsDone sees words old new
+  shown : ShowsAsked words old new → IsDone sees words old new
 
--- the words call `get`, a server told that it has no such blob, and nothing was written
-abbrev pub LacksBlob : Sight → List Text → Option (List ℕ) → Option (List ℕ) → Type 0
-LacksBlob sees =
-    IsCalledAndDone (codes "get") (λ options old new. GetsBlob sees options old new false)
+-- the line of a no was printed, or nothing since there is no such blob, or the line of a build's
+-- refusal
+pub data IsNo (sees : Sight) (words : List Text) (old new : Option (List ℕ)) : Type 0 where
+  no : CallsCommand words (codes "verify")
+      → (prints : PrintsVerdict sees (options_of words) old new) → ¬ IsYes prints.verdict
+      → IsNo sees words old new
+  none : CallsCommand words (codes "get") → GetsAsked sees (options_of words) old new false
+      → IsNo sees words old new
+  failed : CallsCommand words (codes "build") → PrintsBuild sees (options_of words) false old new
+      → IsNo sees words old new
 
--- the words call `put`, and the line of the digest of what was put was printed
-abbrev pub PrintsPut : Sight → List Text → Option (List ℕ) → Option (List ℕ) → Type 0
-PrintsPut sees = IsCalledAndDone (codes "put") (PrintsDigest sees)
+-- ---- why they come to neither
 
--- the words call `serve`, the line of the address was printed where a socket listens as they say,
--- and what they ask for was served there
-abbrev pub ServesCalled : Sight → List Text → Option (List ℕ) → Option (List ℕ) → Type 0
-ServesCalled sees = IsCalledAndDone (codes "serve") (ServesAsked sees)
+-- the words are at fault, with more than to ask for help or the version
+pub record HasFault (words : List Text) : Type 0 where
+  pub kind : ErrorKind
+  pub among : IsAmong kind (fault_of program_line words)
+  pub no_help : kind ≢ DisplayHelp
+  pub no_version : kind ≢ DisplayVersion
 
--- the words call `build`, and the line of its root was printed
-abbrev pub PrintsRoot : Sight → List Text → Option (List ℕ) → Option (List ℕ) → Type 0
-PrintsRoot sees =
-    IsCalledAndDone (codes "build") (λ options old new. PrintsBuild sees options true old new)
+-- and they ask for neither
+pub record AreFaulty (words : List Text) : Type 0 where
+  pub fault : HasFault words
+  pub no_help : ¬ WantsHelp words
+  pub no_version : ¬ WantsVersion words
 
--- the words call `build`, and the line of the refusal that ended it was printed
-abbrev pub PrintsRefusal : Sight → List Text → Option (List ℕ) → Option (List ℕ) → Type 0
-PrintsRefusal sees =
-    IsCalledAndDone (codes "build") (λ options old new. PrintsBuild sees options false old new)
+-- the error tells what is wrong with words
+abbrev pub TellsOfWords : CommandError → Type 0
+TellsOfWords (Words text) = Unit {0}
+TellsOfWords _ = ⊥
 
--- the line of a yes was printed, or a blob was written, or the digest printed of one that was put,
--- or the address that was served, or the line of a build's root, or nothing but help or the version
--- was asked for
-abbrev pub IsDone : Sight → List Text → Option (List ℕ) → Option (List ℕ) → Type 0
-IsDone sees words old new =
-    PrintsYes sees words old new
-    ⊎ (WritesBlob sees words old new ⊎ (PrintsPut sees words old new
-    ⊎ (ServesCalled sees words old new ⊎ (AsksForHelp words ⊎ PrintsRoot sees words old new))))
+-- the words are at fault, or what they ask for couldn't be printed, or memory ran out
+pub data FailsInWords (words : List Text) (e : CommandError) : Type 0 where
+  in_memory : e ≡ Memory → FailsInWords words e
+  in_fault : HasFault words → TellsOfWords e → FailsInWords words e
+  in_help : WantsHelp words → IsPrintFault e → FailsInWords words e
+  in_version : WantsVersion words → IsPrintFault e → FailsInWords words e
 
--- the line of a no was printed, or a server has no such blob, or a build was refused
-abbrev pub IsNo : Sight → List Text → Option (List ℕ) → Option (List ℕ) → Type 0
-IsNo sees words old new =
-    PrintsNo sees words old new ⊎ (LacksBlob sees words old new ⊎ PrintsRefusal sees words old new)
+-- The words are at fault, or the command that they call has a fault, which of `verify` and `build`
+-- is the first. What `put`, `get` and `serve` are refused for isn't said.
+pub data Fails (sees : Sight) (words : List Text) (e : CommandError) : Type 0 where
+  in_words : FailsInWords words e → Fails sees words e
+  in_verify : CallsCommand words (codes "verify") → FailsVerify sees (options_of words) e
+      → Fails sees words e
+  in_build : CallsCommand words (codes "build") → FailsBuild sees (options_of words) e
+      → Fails sees words e
+  in_put : CallsCommand words (codes "put") → Fails sees words e
+  in_get : CallsCommand words (codes "get") → Fails sees words e
+  in_serve : CallsCommand words (codes "serve") → Fails sees words e
+
+-- an error with this status is why, and its line was told
+pub record EndsRefused (sees : Sight) (words : List Text) (status : ℕ) (old new : Option (List ℕ))
+    : Type 0 where
+  pub error : CommandError
+  pub why : Fails sees words error
+  pub status_is : status_of error ≡ status
+  pub told : TellsOf error old new

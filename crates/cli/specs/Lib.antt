@@ -1,3 +1,4 @@
 pub mod Built
 pub mod Ended
-pub mod Faults
+pub mod Help
+pub mod Refused

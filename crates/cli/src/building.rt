@@ -1,51 +1,55 @@
-ghost use Rattle.std.specs.Prelude.{◌≡◌, ◌<◌, IfErr, IfOk, IsTrue, OnOk, codes};
-ghost use Rattle.std.specs.Prelude.{string_bytes};
+ghost use Rattle.std.specs.Prelude.{◌≡◌, ◌⊎◌, ◌<◌, ◌↔◌, [], IfErr, IfOk, IsSome};
+ghost use Rattle.std.specs.Prelude.{OnErr, OnOk, codes, string_bytes, true};
 ghost use Rattle.std.specs.Io.KnownBytes.{Appends};
 ghost use Rattle.clap.specs.Words.{found_of, rows_of};
-ghost use Rattle.cli.specs.Built.{IsJobs, IsNoted, IsToldOf, PrintsBuild, is_whole, line_of};
+ghost use Rattle.cli.specs.Built.{AsksBuild, HoldsRoot, IsNoted, IsToldOf, NamesJobs};
+ghost use Rattle.cli.specs.Built.{PrintsBuild, is_whole, jobs_of, line_of};
+ghost use Rattle.cli.specs.Refused.{FailsBuild, FailsFolder, FailsJobs, FailsTelling};
 ghost use Rattle.commands.specs.Faults.{IsFileFault};
-ghost use Rattle.commands.specs.Places.{IsFresh, IsToldOver};
-ghost use Rattle.commands.specs.Refusal.{IsCommandFault};
+ghost use Rattle.commands.specs.Places.{FailsOver, IsFresh, IsToldOver};
+ghost use Rattle.commands.specs.Refusal.{IsPrintFault};
 ghost use Rattle.commands.specs.Status.{status_of};
-ghost use Rattle.command_lines.specs.CommandLine.{option_text};
+ghost use Rattle.command_lines.specs.CommandLine.{IsSet, option_text};
 ghost use Rattle.remote.specs.Remote.{connection_of, telling_of};
-ghost use Rattle.text_verifier.specs.Texts.{IsDigestText};
 
 use crate::build_progress::BuildProgress;
 use blob_digest::Digest;
 use builder::{Fault, Told, place_text, tell_build};
 use clap::ArgMatches;
-use command_lines::text_of;
+use command_lines::{is_set, text_of};
 use commands::{
-    Client, CommandError, Origin, ServerOptions, World, file_error, number_in, open, plan_in_file,
-    read_digest, read_server, unlike,
+    Client, CommandError, Origin, ServerOptions, World, number_in, open, plan_in_file, read_digest,
+    read_server, unlike,
 };
 use plan::Plan;
 use processes::{ChildErrors, Disk, ProcessRunner};
 use remote::{Remote, Stream};
 use std::alloc::Global;
+use std::io;
 use std::io::{ErrorKind, Write};
 use std::marker::Brand;
 use std::rt::{Files, Processes};
-use std::{fs, io};
 use tree::FetchError;
+use worker::{Refusal, put_all};
 
 /// How many steps may run at once.
 const GREATEST_JOBS: u64 = 64;
 
-/// What the words of `build` ask for.
+/// What the words of `build` ask for, as it was read.
 #[derive(Drop)]
 struct Asked {
-    server: ServerOptions,
     jobs: usize,
+    server: ServerOptions,
     sources: Digest,
+    plan: Plan<Global>,
 }
 
 /// The number of jobs that the words give.
 fn read_jobs(alloc: Global, matches: &ArgMatches<'_>) -> Result<usize, CommandError>
-    ensures some { IfOk result (λ jobs. 0 < jobs) }
-    ensures found { IfOk result (IsJobs (rows_of (found_of matches.now))) }
-    ensures fault { IfErr result IsCommandFault }
+    ensures named { OnOk result (NamesJobs (rows_of (found_of matches.now))) }
+    ensures found { IfOk result (λ jobs. jobs ≡ jobs_of (rows_of (found_of matches.now))) }
+    ensures refused { IfErr result
+        (λ e. (e ≡ CommandError.Memory) ⊎ FailsJobs (rows_of (found_of matches.now)) e) }
 {
     let text = text_of(matches, "jobs");
     match number_in(text) {
@@ -54,34 +58,66 @@ fn read_jobs(alloc: Global, matches: &ArgMatches<'_>) -> Result<usize, CommandEr
     }
 }
 
-fn read_asked(alloc: Global, matches: &ArgMatches<'_>) -> Result<Asked, CommandError>
+/// Reads what the words ask for: the number of jobs, the server, the digest, and then the plan.
+fn read_asked<W: World>(
+    alloc: Global,
+    world: &W,
+    matches: &ArgMatches<'_>,
+) -> Result<Asked, CommandError>
+    ensures asks { IfOk result
+        (λ asked. AsksBuild W.sees (rows_of (found_of matches.now)) asked.plan asked.sources) }
+    ensures jobs { IfOk result (λ asked. asked.jobs ≡ jobs_of (rows_of (found_of matches.now))) }
     ensures some { IfOk result (λ asked. 0 < asked.jobs) }
-    ensures jobs { IfOk result (λ asked. IsJobs (rows_of (found_of matches.now)) asked.jobs) }
     ensures address { IfOk result (λ asked. string_bytes asked.server.address
         ≡ option_text (rows_of (found_of matches.now)) (codes "server")) }
     ensures host { IfOk result (λ asked. asked.server.host
         ≡ option_text (rows_of (found_of matches.now)) (codes "server")) }
     ensures prefix { IfOk result (λ asked. asked.server.prefix
         ≡ option_text (rows_of (found_of matches.now)) (codes "prefix")) }
-    ensures sources { IfOk result (λ asked.
-        IsDigestText (option_text (rows_of (found_of matches.now)) (codes "sources"))
-        asked.sources) }
+    ensures refused { IfErr result (FailsBuild W.sees (rows_of (found_of matches.now))) }
 {
-    let server = read_server(alloc, matches, text_of(matches, "server"))?;
     let jobs = read_jobs(alloc, matches)?;
+    let server = read_server(alloc, matches, text_of(matches, "server"))?;
     let sources = read_digest(alloc, matches, "sources")?;
+    let plan = plan_in_file(alloc, world, matches)?;
     Ok(Asked {
-        server,
         jobs,
+        server,
         sources,
+        plan,
     })
 }
 
-/// The errors of a build's processes are shown on a terminal alone.
-fn errors_of<T>(terminal: &Option<T>) -> ChildErrors {
-    match terminal {
-        Some(_) => ChildErrors::Shown,
-        None => ChildErrors::Discarded,
+/// The errors of a build's processes are shown on a terminal, and where the words want that.
+fn errors_of<T>(matches: &ArgMatches<'_>, terminal: &Option<T>) -> ChildErrors
+    ensures shown { result ≡ ChildErrors.Shown
+        ↔ (IsSome terminal.now ⊎ IsSet (rows_of (found_of matches.now)) (codes "verbose")) }
+{
+    if terminal.is_some() || is_set(matches, "verbose") {
+        ChildErrors::Shown
+    } else {
+        ChildErrors::Discarded
+    }
+}
+
+/// Puts the Directories of the root of a build that came to it, so that the root can be fetched.
+fn put_root<S: Stream + Drop, K: Origin>(
+    alloc: Global,
+    server: &ServerOptions,
+    client: &mut Client<S, K>,
+    told: &Told<Global>,
+) -> Result<(), CommandError>
+    ensures held { OnOk result (HoldsRoot (IsToldOver K.start) told.now) }
+    ensures fault { IfErr result (λ e. (e ≡ CommandError.Memory) ⊎ ∥ FailsOver K.start e ∥₁) }
+    ensures status { IfErr result (λ e. status_of e ≡ 3) }
+{
+    match told {
+        Told::Built { directories, .. } => match put_all(alloc, client, directories) {
+            Ok(()) => Ok(()),
+            Err(Refusal::Fetch) => Err(client.error(alloc, server, FetchError::Failed)?),
+            Err(_e) => Err(CommandError::Memory),
+        },
+        Told::Failed { .. } => Ok(()),
     }
 }
 
@@ -91,7 +127,6 @@ fn build_in_folder<R, S: Stream + Drop, K: Origin, T: Write + Drop>(
     work: String,
     errors: ChildErrors,
     asked: &Asked,
-    plan: &Plan<Global>,
     remote: Remote<S, Global>,
     progress: &mut BuildProgress<'_, T>,
 ) -> Result<Told<Global>, CommandError>
@@ -101,25 +136,29 @@ where
     requires start { K.start ≡ connection_of S.flow remote }
     requires fresh { IsFresh (telling_of remote) }
     ensures told { IfOk result
-        (IsToldOf (IsToldOver K.start) asked.now.jobs plan.now asked.now.sources) }
-    ensures fault { IfErr result (λ e. status_of e ≡ 3) }
+        (IsToldOf (IsToldOver K.start) asked.now.jobs asked.now.plan asked.now.sources) }
+    ensures fault { IfErr result
+        (FailsTelling K.start asked.now.jobs asked.now.plan asked.now.sources) }
+    ensures status { IfErr result (λ e. status_of e ≡ 3) }
 {
     let alloc = rt.alloc();
     let mut client: Client<S, K> = Client::new(remote);
     let mut runner = ProcessRunner::new(Disk::new(rt, errors), work);
-    let (sources, jobs) = (&asked.sources, asked.jobs);
     match tell_build(
         alloc,
-        sources,
-        plan,
+        &asked.sources,
+        &asked.plan,
         &mut client,
         &mut runner,
         progress,
-        jobs,
+        asked.jobs,
     ) {
-        Ok(told) => Ok(told),
+        Ok(told) => {
+            put_root(alloc, &asked.server, &mut client, &told)?;
+            Ok(told)
+        }
         Err(Fault::Device(place)) => Err(CommandError::Process {
-            place: place_text(alloc, plan, place)?,
+            place: place_text(alloc, &asked.plan, place)?,
         }),
         Err(Fault::Fetch(_)) => Err(client.error(alloc, &asked.server, FetchError::Failed)?),
         Err(_e) => Err(CommandError::Memory),
@@ -127,18 +166,19 @@ where
 }
 
 /// The folder of the jobs is there, and nothing is in it.
-fn check_work<R: Files + AllocGlobal>(rt: &R, path: &str) -> Result<(), CommandError>
-    ensures fault { IfErr result (IsFileFault path.now) }
+fn check_work<W: World>(alloc: Global, world: &W, path: &str) -> Result<(), CommandError>
+    ensures empty { OnOk result (W.sees.lists path.now []) }
+    ensures fault { IfErr result (FailsFolder W.sees path.now) }
+    ensures status { IfErr result (λ e. status_of e ≡ 3) }
 {
-    let fault = match fs::read_dir(&rt, path) {
-        Ok(mut entries) => match entries.next() {
-            None => return Ok(()),
-            Some(Ok(_entry)) => io::Error::from(ErrorKind::DirectoryNotEmpty),
-            Some(Err(fault)) => fault,
-        },
-        Err(fault) => fault,
-    };
-    Err(file_error(rt, path, fault)?)
+    let names = world.list(alloc, path)?;
+    if names.is_empty() {
+        return Ok(());
+    }
+    Err(CommandError::File {
+        path: String::from_str(alloc, path)?,
+        fault: io::Error::from(ErrorKind::DirectoryNotEmpty),
+    })
 }
 
 /// Writes the record of a build that came to its root to the file that the words name.
@@ -149,7 +189,10 @@ fn write_record<W: World>(
     told: &Told<Global>,
 ) -> Result<(), CommandError>
     ensures noted { OnOk result (IsNoted W.sees (rows_of (found_of matches.now)) told.now) }
-    ensures fault { IfErr result (λ e. status_of e ≡ 3) }
+    ensures whole { OnErr result (is_whole told.now ≡ true) }
+    ensures fault { IfErr result
+        (IsFileFault (option_text (rows_of (found_of matches.now)) (codes "record"))) }
+    ensures status { IfErr result (λ e. status_of e ≡ 3) }
 {
     match told {
         Told::Built { noted, .. } => {
@@ -171,7 +214,8 @@ fn print_told<O: Write>(told: &Told<Global>, out: &mut O) -> Result<bool, Comman
     ensures printed { OnOk result
         (Appends (O.contents out.old) (O.contents out.new) (line_of told.now)) }
     ensures whole { IfOk result (λ whole. is_whole told.now ≡ whole) }
-    ensures fault { IfErr result (λ e. status_of e ≡ 3) }
+    ensures fault { IfErr result IsPrintFault }
+    ensures status { IfErr result (λ e. status_of e ≡ 3) }
 {
     let (line, whole) = match told {
         Told::Built { line, .. } => (line, true),
@@ -197,23 +241,24 @@ where
     R: AllocGlobal + Files + Processes + Clone + Drop,
     ensures printed { IfOk result (λ whole. PrintsBuild W.sees (rows_of (found_of matches.now))
         whole (O.contents out.old) (O.contents out.new)) }
+    // A refusal is for the first fault: what comes before it has none.
+    ensures refused { IfErr result (FailsBuild W.sees (rows_of (found_of matches.now))) }
     ensures unprinted { IfErr result
         (λ fault. status_of fault ≡ 2 → O.contents out.new ≡ O.contents out.old) }
 {
     let alloc = rt.alloc();
-    let asked = read_asked(alloc, matches)?;
-    let plan = plan_in_file(alloc, world, matches)?;
-    let work = String::from_str(alloc, text_of(matches, "work"))?;
+    let asked = read_asked(alloc, world, matches)?;
     let remote = open(alloc, world, &asked.server)?;
-    check_work(rt, work.as_str())?;
-    let errors = errors_of(&terminal);
-    let mut progress = BuildProgress::new(alloc, &plan, terminal);
+    let work = text_of(matches, "work");
+    check_work(alloc, world, work)?;
+    let work = String::from_str(alloc, work)?;
+    let errors = errors_of(matches, &terminal);
+    let mut progress = BuildProgress::new(alloc, &asked.plan, terminal);
     let told = build_in_folder::<R, W::Link, Brand, T>(
         rt,
         work,
         errors,
         &asked,
-        &plan,
         remote,
         &mut progress,
     );

@@ -4,6 +4,8 @@
 
 mod build_progress;
 mod building;
+mod help;
 mod running;
+mod showing;
 
 pub use running::run_words;

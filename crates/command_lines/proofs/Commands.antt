@@ -1,16 +1,17 @@
 -- What the program has for each name of its commands, and that they are understood.
-use Rattle.std.proofs.Common.{◌≡◌, Bool, refl, true, false, codes, ap, arith, [], ◌∷◌, ◌++◌, Some, None}
-use Rattle.std.specs.Prelude.{unwrap_or}
+use Rattle.std.proofs.Common.{◌≡◌, ◌∙◌, Bool, cond, refl, true, false, codes, ap, arith, [], ◌∷◌, ◌++◌, Option, Some, None}
+use Rattle.std.specs.Prelude.{option_and_then, option_map, slice_get, unwrap_or}
 use Rattle.std.specs.List.{IsDistinct, find}
+use Rattle.std.specs.Option.{option_or}
 use Rattle.clap.proofs.OnLiterals.{clap_on_literals}
 use Rattle.clap.specs.Lexer.{long_of}
 use Rattle.std.specs.Str.{bytes_eq}
-use Rattle.clap.specs.Walk.{answers_to, arg_by_id, arg_by_long}
+use Rattle.clap.specs.Walk.{Rule, answers_to, arg_by_id, arg_by_long}
 use Rattle.clap.specs.Simple.{App, Shape, built, label_of}
 use Rattle.command_lines.specs.CommandLine.{AsksVerify, build_line, get_line, program_line, put_line, serve_line, verify_line, option_text, options_of}
 use Rattle.command_lines.specs.Given.{CanBeTexts, CanTake, Given, MissesNeeded, IsUnderstood, given_text, in_two_words, verify_in_two}
 use Rattle.clap.specs.Words.{Text}
-use Rattle.command_lines.proofs.Walking.{CallsBuilt, IsPlainLevel, KnowsOption, option_rule}
+use Rattle.command_lines.proofs.Walking.{CallsBuilt, IsPlainLevel, KnowsOption, flag_rule, option_rule}
 use Rattle.command_lines.proofs.Understood.{Knows, missed, understood}
 
 -- the command as the program's building leaves it
@@ -62,15 +63,17 @@ verify_knows = record {
     ),
   );
   words = tt;
+  flags = tt;
+  usual = λ name. refl;
   needs = λ there. refl;
 }
 
 verify_calls : CallsBuilt (built program_line) (codes "verify") (built_in_program verify_line)
 unfolding clap_on_literals
-verify_calls = record { next = refl; faultless = refl; found = refl; no_defaults = refl; checked = refl }
+verify_calls = record { next = refl; faultless = refl; found = refl; fine_defaults = refl; checked = refl }
 
 verify_plain : IsPlainLevel (built_in_program verify_line)
-verify_plain = record { no_help_wanted = refl; no_command_wanted = refl; no_defaults = refl }
+verify_plain = record { no_help_wanted = refl; no_command_wanted = refl; fine_defaults = refl }
 
 pub verify_understood : IsUnderstood verify_line
 verify_understood = understood verify_line (built_in_program verify_line) verify_knows verify_plain verify_calls refl
@@ -105,15 +108,17 @@ serve_knows = record {
     ),
   );
   words = tt;
+  flags = tt;
+  usual = λ name. refl;
   needs = λ there. refl;
 }
 
 serve_calls : CallsBuilt (built program_line) (codes "serve") (built_in_program serve_line)
 unfolding clap_on_literals
-serve_calls = record { next = refl; faultless = refl; found = refl; no_defaults = refl; checked = refl }
+serve_calls = record { next = refl; faultless = refl; found = refl; fine_defaults = refl; checked = refl }
 
 serve_plain : IsPlainLevel (built_in_program serve_line)
-serve_plain = record { no_help_wanted = refl; no_command_wanted = refl; no_defaults = refl }
+serve_plain = record { no_help_wanted = refl; no_command_wanted = refl; fine_defaults = refl }
 
 pub serve_understood : IsUnderstood serve_line
 serve_understood = understood serve_line (built_in_program serve_line) serve_knows serve_plain serve_calls refl
@@ -136,15 +141,17 @@ put_knows = record {
     ),
   );
   words = (record { by_index = refl; by_id = refl }, tt);
+  flags = tt;
+  usual = λ name. refl;
   needs = λ there. refl;
 }
 
 put_calls : CallsBuilt (built program_line) (codes "put") (built_in_program put_line)
 unfolding clap_on_literals
-put_calls = record { next = refl; faultless = refl; found = refl; no_defaults = refl; checked = refl }
+put_calls = record { next = refl; faultless = refl; found = refl; fine_defaults = refl; checked = refl }
 
 put_plain : IsPlainLevel (built_in_program put_line)
-put_plain = record { no_help_wanted = refl; no_command_wanted = refl; no_defaults = refl }
+put_plain = record { no_help_wanted = refl; no_command_wanted = refl; fine_defaults = refl }
 
 pub put_understood : IsUnderstood put_line
 put_understood = understood put_line (built_in_program put_line) put_knows put_plain put_calls refl
@@ -162,20 +169,25 @@ get_knows = record {
       knows (built_in_program get_line) false (codes "prefix") refl refl refl (λ t. refl) refl (λ t. refl),
       (
         knows (built_in_program get_line) false (codes "timeout") refl refl refl (λ t. refl) refl (λ t. refl),
-        tt,
+        (
+          knows (built_in_program get_line) false (codes "into") refl refl refl (λ t. refl) refl (λ t. refl),
+          tt,
+        ),
       ),
     ),
   );
   words = (record { by_index = refl; by_id = refl }, tt);
+  flags = tt;
+  usual = λ name. refl;
   needs = λ there. refl;
 }
 
 get_calls : CallsBuilt (built program_line) (codes "get") (built_in_program get_line)
 unfolding clap_on_literals
-get_calls = record { next = refl; faultless = refl; found = refl; no_defaults = refl; checked = refl }
+get_calls = record { next = refl; faultless = refl; found = refl; fine_defaults = refl; checked = refl }
 
 get_plain : IsPlainLevel (built_in_program get_line)
-get_plain = record { no_help_wanted = refl; no_command_wanted = refl; no_defaults = refl }
+get_plain = record { no_help_wanted = refl; no_command_wanted = refl; fine_defaults = refl }
 
 pub get_understood : IsUnderstood get_line
 get_understood = understood get_line (built_in_program get_line) get_knows get_plain get_calls refl
@@ -184,6 +196,10 @@ pub get_missed : MissesNeeded get_line
 get_missed = missed get_line (built_in_program get_line) get_knows get_plain get_calls
 
 -- ---- build
+
+usually : (b : Bool) → option_and_then (λ (a : Rule). slice_get a.defaults 0) (cond b (Some (flag_rule (codes "verbose"))) None) ≡ option_map (λ (n : Text). codes "false") (cond b (Some (codes "verbose")) None)
+usually true = refl
+usually false = refl
 
 build_knows : Knows build_line (built_in_program build_line)
 build_knows = record {
@@ -213,15 +229,17 @@ build_knows = record {
     ),
   );
   words = tt;
+  flags = (record { by_long = refl; bare = refl; bare_goes_on = refl }, tt);
+  usual = λ name. usually (bytes_eq (codes "verbose") name);
   needs = λ there. refl;
 }
 
 build_calls : CallsBuilt (built program_line) (codes "build") (built_in_program build_line)
 unfolding clap_on_literals
-build_calls = record { next = refl; faultless = refl; found = refl; no_defaults = refl; checked = refl }
+build_calls = record { next = refl; faultless = refl; found = refl; fine_defaults = refl; checked = refl }
 
 build_plain : IsPlainLevel (built_in_program build_line)
-build_plain = record { no_help_wanted = refl; no_command_wanted = refl; no_defaults = refl }
+build_plain = record { no_help_wanted = refl; no_command_wanted = refl; fine_defaults = refl }
 
 pub build_understood : IsUnderstood build_line
 build_understood = understood build_line (built_in_program build_line) build_knows build_plain build_calls refl
@@ -230,6 +248,10 @@ pub build_missed : MissesNeeded build_line
 build_missed = missed build_line (built_in_program build_line) build_knows build_plain build_calls
 
 -- ---- an example
+
+or_nothing : (o : Option Text) → option_or o None ≡ o
+or_nothing None = refl
+or_nothing (Some x) = refl
 
 in_two : Text → Text → Given
 in_two name text = record { name = name; text = text; manner = in_two_words }
@@ -260,7 +282,7 @@ verify_in_two_understood store sources plan noted claim texts =
     } in
     let asks = verify_understood given takes in
     let text_is : (name : Text) → option_text (options_of (verify_in_two store sources plan noted claim)) name ≡ unwrap_or (given_text name given) [] =
-    λ name. ap (λ o. unwrap_or o []) (asks.texts_are name) in
+    λ name. ap (λ o. unwrap_or o []) (asks.texts_are name ∙ or_nothing (given_text name given)) in
     record {
       called = asks.called;
       store_is = text_is (codes "store");

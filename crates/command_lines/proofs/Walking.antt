@@ -3,22 +3,23 @@ use Rattle.std.proofs.Common.{◌≡◌, ◌∙◌, ◌&&◌, ◌||◌, ◌==◌
 use Rattle.std.specs.Prelude.{⊤, option_and_then}
 use Rattle.std.specs.List.{find, fold, list_all, list_any}
 use Rattle.std.specs.Str.{bytes_eq}
-use Rattle.std.proofs.lemmas.Slice.Eq.{bytes_eq-Decides}
 use Rattle.clap.specs.Lexer.{long_of, long_of_rest, short_of, short_of_rest, strip_byte}
 use Rattle.clap.specs.Values.{reading_of}
-use Rattle.clap.specs.Walk.{Held, Row, Rule, Text, Walk, arg_by_id, arg_by_index, arg_by_long, at_row, finished, has_row, idle, is_pending, more_values, nothing_held, pushed, option, settled, used, walk, walk_from, walked, with_default, answers_to, stop_after}
+use Rattle.clap.specs.Walk.{Held, Row, Rule, Text, Walk, arg_by_id, arg_by_index, arg_by_long, finished, has_row, idle, is_empty, is_pending, more_values, nothing_held, pushed, option, settled, used, walk, walk_from, walked, with_default, answers_to, stop_after}
 use Rattle.clap.specs.Simple.{App, Shape, entered, filled, label_of, names_of, new_rule, rows_at, with_index}
 use Rattle.clap.proofs.WalkLemmas.{both, walk_stopped}
 use Rattle.clap.proofs.FaultLemmas.{stopped_fault}
 use Rattle.clap.specs.Takes.{is_given}
 use Rattle.clap.specs.Kinds.{Kinds, or_else}
-use Rattle.clap.specs.Faults.{built_fault, check_fault, default_fault, defaults_fault, level_fault, settle_fault, turn_fault, walk_fault}
+use Rattle.clap.specs.Faults.{built_fault, check_fault, default_fault, defaults_fault, given_default_fault, level_fault, settle_fault, turn_fault, walk_fault}
 use Rattle.clap.specs.declared.error.kind.ErrorKind.TheVariants.{MissingRequiredArgument}
 use Rattle.clap.specs.declared.builder.action.ArgAction.TheVariants.{Set}
 use Rattle.clap.specs.declared.builder.value_parser.ValueParser.TheVariants as vp
 use Rattle.clap.specs.declared.parser.matches.ValueSource.TheVariants.{CommandLine}
-use Rattle.command_lines.specs.CommandLine.{required_word}
-use Rattle.command_lines.specs.Given.{Given, Manner, by_itself, can_be_text, in_one_word, in_two_words, typed, typed_as}
+use Rattle.command_lines.proofs.Defaults.{with_defaults}
+use Rattle.command_lines.proofs.Rows.{at_missing, is_bare, itself}
+use Rattle.command_lines.specs.CommandLine.{flag, required_word}
+use Rattle.command_lines.specs.Given.{Given, Manner, as_flag, by_itself, can_be_text, in_one_word, in_two_words, typed, typed_as}
 
 -- ---- a word that can be a text
 
@@ -63,22 +64,15 @@ no_short (c ∷ d ∷ rest) h = go (c == 45) h
 
 -- ---- rows
 
-either_none : (a b : Bool) → (a || b) ≡ false → (a ≡ false) × (b ≡ false)
-either_none true b e = absurd (true≢false e)
-either_none false b e = (refl, e)
-
-pub at_missing : (id : Text) (change : Row → List Row) (missing rows : List Row) → has_row id rows ≡ false → at_row id change missing rows ≡ rows ++ missing
-at_missing id change missing [] none = refl
-at_missing id change missing (r ∷ rs) none =
-    let parts = either_none (bytes_eq r.id id) (has_row id rs) none in
-    rw (parts.0) (ap (λ xs. r ∷ xs) (at_missing id change missing rs parts.1))
-
--- an option, and a word alone, as a command that is built has them
+-- an option, a word alone and a flag, as a command that is built has them
 abbrev pub option_rule : Bool → Text → Rule
 option_rule must name = filled (record (new_rule name) { long = Some name; value_names = 1; action = Some Set; required = must })
 
 abbrev pub word_rule : Text → Rule
 word_rule name = with_index 1 (filled (required_word name))
+
+abbrev pub flag_rule : Text → Rule
+flag_rule name = filled (flag name)
 
 -- what a command has for one that is given
 abbrev pub row_for : Text → Text → Row
@@ -86,9 +80,6 @@ row_for name text = record { id = name; values = text ∷ []; count = None; sour
 
 abbrev pub row_given : Given → Row
 row_given g = row_for g.name g.text
-
-itself : (name : Text) → bytes_eq name name ≡ true
-itself name = (bytes_eq-Decides name name).1 refl
 
 and_none : (b : Bool) → (b && false) ≡ false
 and_none true = refl
@@ -101,6 +92,10 @@ option_used must name text rows new =
 word_used : (name text : Text) (rows : List Row) → has_row name rows ≡ false → used (word_rule name) (text ∷ []) rows ≡ rows ++ row_for name text ∷ []
 word_used name text rows new =
     rw (at_missing name (λ _. []) [] rows new, append-nil rows) (at_missing name (more_values CommandLine (text ∷ [])) (row_for name text ∷ []) rows new)
+
+flag_used : (name : Text) (rows : List Row) → has_row name rows ≡ false → used (flag_rule name) [] rows ≡ rows ++ row_for name (codes "true") ∷ []
+flag_used name rows new =
+    rw (at_missing name (λ _. []) [] rows new, append-nil rows) (at_missing name (more_values CommandLine (codes "true" ∷ [])) (row_for name (codes "true") ∷ []) rows new)
 
 -- ---- between two that are given
 
@@ -122,16 +117,23 @@ pub record KnowsWord (s : Shape) (name : Text) : Type 0 where
   pub by_index : arg_by_index s.rules 1 ≡ Some (word_rule name)
   pub by_id : arg_by_id s.rules name ≡ Some (word_rule name)
 
+pub record KnowsFlag (s : Shape) (name : Text) : Type 0 where
+  pub by_long : arg_by_long s.rules name ≡ Some (flag_rule name)
+  pub bare : long_of (codes "--" ++ name) ≡ Some (name, None)
+  pub bare_goes_on : bytes_eq (codes "--" ++ name) (codes "--") ≡ false
+
 -- the next one that is given has its place
 abbrev pub HasItsPlace : Shape → ℕ → Manner → Text → Text → Type 0
 HasItsPlace s p in_two_words name text = KnowsOption s name × (can_be_text text ≡ true)
 HasItsPlace s p in_one_word name text = KnowsOption s name
 HasItsPlace s p by_itself name text = KnowsWord s name × (can_be_text text ≡ true) × (p ≡ 1)
+HasItsPlace s p as_flag name text = KnowsFlag s name × (text ≡ codes "true")
 
 abbrev pub place_after : Manner → ℕ → ℕ
 place_after in_two_words p = p
 place_after in_one_word p = p
 place_after by_itself p = 2
+place_after as_flag p = p
 
 -- each has its place, in turn, and none has a row yet
 abbrev pub AreInTurn : Shape → ℕ → List Row → List Given → Type 0
@@ -191,6 +193,16 @@ module _ (s : Shape) where
     faultless = rw (no_end text plain, no_long text plain, no_short text plain, known) (ap (λ b. cond b [] (settle_fault s.rules s.args_override_self h)) (and_none (is_pending (word_rule name) h.pending)) ∙ fine);
   }
 
+  -- a flag
+  flag_turn : (name word : Text) (h : Held) (rows : List Row) (p : ℕ) → bytes_eq word (codes "--") ≡ false → long_of word ≡ Some (name, None)
+      → arg_by_long s.rules name ≡ Some (flag_rule name) → Rests h rows → has_row name rows ≡ false
+      → Turns (at h p) word (at (record h { rows = rows ++ row_for name (codes "true") ∷ []; pending = None }) p)
+  unfolding walked
+  flag_turn name word h rows p goes_on long known rests new = record {
+    next = rw (goes_on, long, known, rests.rows_are) (ap (λ rs. at (record h { rows = rs; pending = None }) p) (flag_used name rows new));
+    faultless = rw (goes_on, long, known, rests.faultless, rests.rows_are, new);
+  }
+
   -- the walk over the words ends between two that are given, with these rows
   pub record Arrives (w : Walk) (words : List Text) (rows : List Row) : Type 0 where
     pub held : Held
@@ -239,6 +251,12 @@ module _ (s : Shape) where
       (turned _ _ _ _ all (word_turn name text h ready.1 k.by_index rests.faultless)
       (next (record h { rows = now; pending = Some (name, text ∷ []) })
       (subst (λ rs. Rests (record h { rows = now; pending = Some (name, text ∷ []) }) (rs ++ row_for name text ∷ [])) rests.rows_are (word_rests name text h now k.by_id none))))
+  one_more as_flag name text words h p rows all rests ready new next =
+      let k = ready.0 in
+      let row_is : row_for name (codes "true") ≡ row_for name text = ap (row_for name) (sym ready.1) in
+      turned _ _ _ _ all (flag_turn name (codes "--" ++ name) h rows p k.bare_goes_on k.bare k.by_long rests new)
+      (next (record h { rows = rows ++ row_for name (codes "true") ∷ []; pending = None })
+      (subst (λ r. Rests (record h { rows = rows ++ row_for name (codes "true") ∷ []; pending = None }) (rows ++ r ∷ [])) row_is (record { rows_are = refl; faultless = refl })))
 
   pub arrives : (given : List Given) (h : Held) (p : ℕ) (rows : List Row) → Rests h rows → AreInTurn s p rows given → Arrives (at h p) (typed given) (rows ++ map row_given given)
   unfolding walk_fault
@@ -250,51 +268,31 @@ module _ (s : Shape) where
 
 -- ---- a whole level
 
-abbrev is_bare : List Text → Bool
-is_bare [] = true
-is_bare (v ∷ vs) = false
-
--- no argument has a default value
-abbrev pub lack_defaults : List Rule → Bool
-lack_defaults = list_all (λ a. is_bare a.defaults)
-
-none_there : (values : List Text) → is_bare values ≡ true → values ≡ []
-none_there [] h = refl
-none_there (v ∷ vs) h = absurd (true≢false (sym h))
+-- the argument has no default values, or has some that are no fault
+abbrev pub has_fine_default : Rule → Bool
+has_fine_default a = is_empty a.defaults || is_bare (given_default_fault a a.defaults)
 
 -- the settings of a command of whose words the walk alone decides
 pub record IsPlainLevel (s : Shape) : Type 0 where
   pub no_help_wanted : s.arg_required_else_help ≡ false
   pub no_command_wanted : s.subcommand_required ≡ false
-  pub no_defaults : lack_defaults s.rules ≡ true
+  pub fine_defaults : list_all has_fine_default s.rules ≡ true
 
-cond_same : {X : Type 0} (b : Bool) (x : X) → cond b x x ≡ x
-cond_same true x = refl
-cond_same false x = refl
+default_fine : (rows : List Row) (a : Rule) → has_fine_default a ≡ true → default_fault rows a ≡ []
+default_fine rows a fine = go (has_row a.id rows) (is_empty a.defaults) (given_default_fault a a.defaults) fine
+  where
+    go : (has none : Bool) (kinds : Kinds) → (none || is_bare kinds) ≡ true → cond (has || none) [] kinds ≡ []
+    go true none kinds h = refl
+    go false true kinds h = refl
+    go false false [] h = refl
+    go false false (k ∷ ks) h = absurd (true≢false (sym h))
 
-cond_left : {X : Type 0} (b : Bool) (x y : X) → cond (b || true) x y ≡ x
-cond_left true x y = refl
-cond_left false x y = refl
-
-default_none : (rows : List Row) (a : Rule) → a.defaults ≡ [] → with_default rows a ≡ rows
-default_none rows a none = rw none (cond_same (has_row a.id rows) rows)
-
-defaults_none : (rules : List Rule) (rows : List Row) → lack_defaults rules ≡ true → fold with_default rows rules ≡ rows
-defaults_none [] rows none = refl
-defaults_none (a ∷ rest) rows none =
-    let parts = both (is_bare a.defaults) (lack_defaults rest) none in
-    rw (default_none rows a (none_there a.defaults parts.0)) (defaults_none rest rows parts.1)
-
-default_fine : (rows : List Row) (a : Rule) → a.defaults ≡ [] → default_fault rows a ≡ []
-default_fine rows a none = rw none (cond_left (has_row a.id rows) [] _)
-
-defaults_fine : (rules : List Rule) (rows : List Row) → lack_defaults rules ≡ true → defaults_fault rows rules ≡ []
+defaults_fine : (rules : List Rule) (rows : List Row) → list_all has_fine_default rules ≡ true → defaults_fault rows rules ≡ []
 unfolding defaults_fault
-defaults_fine [] rows none = refl
-defaults_fine (a ∷ rest) rows none =
-    let parts = both (is_bare a.defaults) (lack_defaults rest) none in
-    let here = none_there a.defaults parts.0 in
-    rw (default_fine rows a here, default_none rows a here) (defaults_fine rest rows parts.1)
+defaults_fine [] rows fine = refl
+defaults_fine (a ∷ rest) rows fine =
+    let parts = both (has_fine_default a) (list_all has_fine_default rest) fine in
+    rw (default_fine rows a parts.0) (defaults_fine rest (with_default rows a) parts.1)
 
 -- a required argument has no row
 abbrev pub lacks_one : Shape → List Row → Bool
@@ -313,13 +311,13 @@ nothing_else [] = refl
 nothing_else (k ∷ ks) = refl
 
 module _ (s : Shape) (plain : IsPlainLevel s) (words : List Text) (rows : List Row) (came : Arrives s (at nothing_held 1) words rows) where
-  pub level_rows : (finished s.rules (walk s.rules [] nothing_held words).held) ≡ rows
-  level_rows = rw (came.walks, came.rests.rows_are) (defaults_none s.rules rows plain.no_defaults)
+  pub level_rows : (finished s.rules (walk s.rules [] nothing_held words).held) ≡ with_defaults s.rules rows
+  level_rows = rw (came.walks, came.rests.rows_are)
 
-  pub level_fault_is : (lacks : Bool) → lacks_one s rows ≡ lacks → level_fault s [] nothing_held words false [] ≡ missing_fault lacks
+  pub level_fault_is : (lacks : Bool) → lacks_one s (with_defaults s.rules rows) ≡ lacks → level_fault s [] nothing_held words false [] ≡ missing_fault lacks
   level_fault_is lacks is =
-      let checked : check_fault s rows false ≡ missing_fault lacks = rw (plain.no_help_wanted, plain.no_command_wanted, is) (ap missing_fault (not_and_none s.subcommand_negates_reqs lacks)) in
-      rw (came.faultless, came.walks, came.rests.faultless, came.rests.rows_are, defaults_fine s.rules rows plain.no_defaults, defaults_none s.rules rows plain.no_defaults) checked
+      let checked : check_fault s (with_defaults s.rules rows) false ≡ missing_fault lacks = rw (plain.no_help_wanted, plain.no_command_wanted, is) (ap missing_fault (not_and_none s.subcommand_negates_reqs lacks)) in
+      rw (came.faultless, came.walks, came.rests.faultless, came.rests.rows_are, defaults_fine s.rules rows plain.fine_defaults) checked
 
 -- ---- the program
 
@@ -328,8 +326,8 @@ pub record CallsBuilt (a : App) (name : Text) (s : Shape) : Type 0 where
   pub next : walked a.top.rules (names_of a) (walk_from nothing_held) name ≡ record (walk_from nothing_held) { stopped = Some (name, []) }
   pub faultless : turn_fault a.top (names_of a) (walk_from nothing_held) name ≡ []
   pub found : find (λ x. answers_to name (label_of x)) a.subs ≡ Some s
-  pub no_defaults : lack_defaults a.top.rules ≡ true
-  pub checked : check_fault a.top [] true ≡ []
+  pub fine_defaults : list_all has_fine_default a.top.rules ≡ true
+  pub checked : check_fault a.top (with_defaults a.top.rules []) true ≡ []
 
 module _ (a : App) (name : Text) (s : Shape) (calls : CallsBuilt a name s) (words : List Text) where
   stops : walk a.top.rules (names_of a) nothing_held (name ∷ words) ≡ record (walk_from nothing_held) { stopped = Some (name, words) }
@@ -344,4 +342,4 @@ module _ (a : App) (name : Text) (s : Shape) (calls : CallsBuilt a name s) (word
 
   pub call_fault_is : built_fault a nothing_held (name ∷ words) ≡ level_fault s [] nothing_held words false []
   call_fault_is =
-      rw (walk_fine, stops, calls.found, defaults_fine a.top.rules [] calls.no_defaults, defaults_none a.top.rules [] calls.no_defaults, calls.checked) (nothing_else (level_fault s [] nothing_held words false []))
+      rw (walk_fine, stops, calls.found, defaults_fine a.top.rules [] calls.fine_defaults, calls.checked) (nothing_else (level_fault s [] nothing_held words false []))

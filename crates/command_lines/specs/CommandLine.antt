@@ -5,7 +5,7 @@ use Rattle.std.specs.Option.{option_map_or}
 use Rattle.clap.specs.Simple.{on_top}
 use Rattle.clap.specs.Words.{App, IsAmong, Row, Rule, Text, fault_of, first_of, new_app, new_rule}
 use Rattle.clap.specs.Words.{subcommand_of, with_rule, with_subcommand}
-use Rattle.clap.specs.declared.builder.action.ArgAction.TheVariants.{Set}
+use Rattle.clap.specs.declared.builder.action.ArgAction.TheVariants.{Set, SetTrue}
 use Rattle.clap.specs.declared.error.kind.ErrorKind.TheVariants.{DisplayHelp, DisplayVersion}
 
 -- an option `--NAME VALUE`, and one that a command cannot do without
@@ -21,6 +21,10 @@ required_option name =
 abbrev pub required_word : Text → Rule
 required_word name = record (new_rule name) { value_names = 1; action = Some Set; required = true }
 
+-- a flag `--NAME`, with no text
+abbrev pub flag : Text → Rule
+flag name = record (new_rule name) { long = Some name; action = Some SetTrue }
+
 -- the command with one more of these
 abbrev pub may_have : App → Text → App
 may_have app name = with_rule app (optional_option name)
@@ -30,6 +34,9 @@ must_have app name = with_rule app (required_option name)
 
 abbrev pub takes_word : App → Text → App
 takes_word app name = with_rule app (required_word name)
+
+abbrev pub has_flag : App → Text → App
+has_flag app name = with_rule app (flag name)
 
 -- a command that is a client of a server
 abbrev pub client_line : Text → App
@@ -59,18 +66,19 @@ serve_line =
     (codes "limit")) (codes "result-limit"))
     (codes "prefix")) (codes "idle")) (codes "at-once")
 
--- `put` with a file or a folder, and `get` with a digest
+-- `put` with a file or a folder, and `get` with a digest and perhaps a folder
 abbrev pub put_line : App
 put_line = takes_word (client_line (codes "put")) (codes "path")
 
 abbrev pub get_line : App
-get_line = takes_word (client_line (codes "get")) (codes "digest")
+get_line = may_have (takes_word (client_line (codes "get")) (codes "digest")) (codes "into")
 
 -- `build` and its options
 abbrev pub build_line : App
 build_line =
-    must_have (must_have (must_have (must_have (must_have (client_line (codes "build"))
-    (codes "sources")) (codes "plan")) (codes "record")) (codes "work")) (codes "jobs")
+    has_flag (must_have (must_have (must_have (must_have (must_have (client_line (codes "build"))
+    (codes "sources")) (codes "plan")) (codes "record")) (codes "work")) (codes "jobs"))
+    (codes "verbose")
 
 -- the program: it has a version, and wants a command as its first word
 abbrev pub program_line : App
@@ -99,6 +107,10 @@ options_of words = option_map_or (λ p. p.1) (subcommand_of program_line words) 
 -- the text that stands for an option
 abbrev pub option_text : List Row → Text → Text
 option_text options name = unwrap_or (first_of name options) []
+
+-- the flag is given
+abbrev pub IsSet : List Row → Text → Type 0
+IsSet options name = first_of name options ≡ Some (codes "true")
 
 -- in place of a command's work, the words ask for help or for the version
 abbrev pub AsksForHelp : List Text → Type 0

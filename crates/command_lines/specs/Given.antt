@@ -1,16 +1,21 @@
 -- What is given to a command, and the words that are typed for it.
-use Rattle.std.specs.Prelude.{◌≡◌, ◌==◌, Bool, true, not, List, [], ◌∷◌, ◌++◌, map, Option, None}
-use Rattle.std.specs.Prelude.{codes, bytes_eq, find, is_some, option_map}
+use Rattle.std.specs.Prelude.{◌≡◌, ◌==◌, ◌&&◌, Bool, true, false, not, List, [], ◌∷◌, ◌++◌, map}
+use Rattle.std.specs.Prelude.{Option, Some, None, codes, bytes_eq, find, is_some, option_map}
 use Rattle.std.specs.List.{AllByRecursion, Contains, IsDistinct, filter, flat_map}
+use Rattle.std.specs.Option.{option_or}
+use Rattle.clap.specs.declared.builder.action.ArgAction.{ArgAction}
+use Rattle.clap.specs.declared.builder.action.ArgAction.TheVariants.{SetTrue}
 use Rattle.clap.specs.Words.{App, Text, fault_of, first_of}
 use Rattle.clap.specs.declared.error.kind.ErrorKind.TheVariants.{MissingRequiredArgument}
 use Rattle.command_lines.specs.CommandLine.{CallsCommand, options_of, program_line}
 
--- how it is typed: `--store FOLDER`, or `--store=FOLDER`, or a word that stands alone
+-- how it is typed: `--store FOLDER`, or `--store=FOLDER`, or a word that stands alone, or a flag as
+-- `--verbose`
 pub data Manner : Type 0 where
   in_two_words : Manner
   in_one_word : Manner
   by_itself : Manner
+  as_flag : Manner
 
 -- a text, and the name of the option or of the word alone that it is given for
 pub record Given : Type 0 where
@@ -23,6 +28,7 @@ abbrev pub typed_as : Manner → Text → Text → List Text
 typed_as in_two_words name text = (codes "--" ++ name) ∷ text ∷ []
 typed_as in_one_word name text = (codes "--" ++ name ++ codes "=" ++ text) ∷ []
 typed_as by_itself name text = text ∷ []
+typed_as as_flag name text = (codes "--" ++ name) ∷ []
 
 -- the words of all that is given, in its order
 abbrev pub typed : List Given → List Text
@@ -34,9 +40,18 @@ given_text name given = option_map (λ g. g.text) (find (λ g. bytes_eq g.name n
 
 -- ---- what a command can take
 
--- the names of its options
+-- what is done where it is given makes it a flag
+abbrev pub is_flag : Option ArgAction → Bool
+is_flag (Some SetTrue) = true
+is_flag _ = false
+
+-- the names of its options, and of its flags
 abbrev pub names_of_options : App → List Text
-names_of_options line = map (λ r. r.id) (filter (λ r. is_some r.long) line.top.rules)
+names_of_options line =
+    map (λ r. r.id) (filter (λ r. is_some r.long && not (is_flag r.action)) line.top.rules)
+
+abbrev pub names_of_flags : App → List Text
+names_of_flags line = map (λ r. r.id) (filter (λ r. is_flag r.action) line.top.rules)
 
 -- the names of its words that stand alone
 abbrev pub names_of_words : App → List Text
@@ -52,13 +67,15 @@ can_be_text [] = true
 can_be_text (c ∷ []) = true
 can_be_text (c ∷ d ∷ rest) = not (c == 45)
 
--- the command has such an option or word, and a text that is a word of its own can be one
+-- The command has such an option, word or flag. A text that is a word of its own can be one, and
+-- that of a flag is `true`.
 abbrev pub HasPlaceFor : App → Manner → Text → Text → Type 0
 HasPlaceFor line in_two_words name text =
     Contains (names_of_options line) name × (can_be_text text ≡ true)
 HasPlaceFor line in_one_word name text = Contains (names_of_options line) name
 HasPlaceFor line by_itself name text =
     Contains (names_of_words line) name × (can_be_text text ≡ true)
+HasPlaceFor line as_flag name text = Contains (names_of_flags line) name × (text ≡ codes "true")
 
 -- the command has a place for each, and none is given twice
 pub record HasPlaces (line : App) (given : List Given) : Type 0 where
@@ -72,10 +89,16 @@ pub record CanTake (line : App) (given : List Given) : Type 0 where
 
 -- ---- what is understood
 
--- the words call the command, with these texts for these names and none for another
+-- `false` for a flag of the command, and none for another name
+abbrev pub usual_text : App → Text → Option Text
+usual_text line name =
+    option_map (λ _. codes "false") (find (λ n. bytes_eq n name) (names_of_flags line))
+
+-- the words call the command, with the texts that are given, and else the usual ones
 pub record AsksFor (words : List Text) (line : App) (given : List Given) : Type 0 where
   pub called : CallsCommand words line.top.name
-  pub texts_are : (name : Text) → first_of name (options_of words) ≡ given_text name given
+  pub texts_are : (name : Text) → first_of name (options_of words)
+      ≡ option_or (given_text name given) (usual_text line name)
 
 -- whatever the command can take, in whatever order and manner: its words ask for just that
 abbrev pub IsUnderstood : App → Type 0

@@ -7,5 +7,5 @@ mod options;
 mod words;
 
 pub use laws::words_are_understood;
-pub use options::{option_of, text_of};
+pub use options::{is_set, option_of, text_of};
 pub use words::parse;

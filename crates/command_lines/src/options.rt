@@ -1,6 +1,6 @@
-ghost use Rattle.std.specs.Prelude.{◌≡◌, option_map};
+ghost use Rattle.std.specs.Prelude.{◌≡◌, ◌↔◌, IsTrue, option_map};
 ghost use Rattle.clap.specs.Words.{found_of, first_of, rows_of};
-ghost use Rattle.command_lines.specs.CommandLine.{option_text};
+ghost use Rattle.command_lines.specs.CommandLine.{IsSet, option_text};
 
 use clap::ArgMatches;
 
@@ -17,4 +17,11 @@ pub fn text_of<'a>(matches: &ArgMatches<'a>, option: &'static str) -> &'a str
     ensures { result.now ≡ option_text (rows_of (found_of matches.now)) option.now }
 {
     option_of(matches, option).unwrap_or("")
+}
+
+/// Whether a flag is given.
+pub fn is_set(matches: &ArgMatches<'_>, flag: &'static str) -> bool
+    ensures { IsTrue result ↔ IsSet (rows_of (found_of matches.now)) flag.now }
+{
+    option_of(matches, flag) == Some("true")
 }

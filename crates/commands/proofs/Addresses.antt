@@ -1,5 +1,5 @@
 -- Where HOST:PORT is cut: at the last colon, since a number has none.
-use Rattle.std.proofs.Common.{◌≡◌, ◌≢◌, ◌∙◌, ℕ, ◌+◌, ◌<◌, List, [], ◌∷◌, ◌++◌, ◌==◌, ap, arith, drop, get_or, length, length-append, refl, suc, zero, subst, sym, take, take-append-drop}
+use Rattle.std.proofs.Common.{◌≡◌, ◌≢◌, ◌∙◌, ℕ, ◌<◌, List, [], ◌∷◌, ◌++◌, ◌==◌, ap, arith, drop, get_or, length, length-append, refl, suc, zero, subst, sym, take, take-append-drop}
 use Rattle.std.specs.Prelude.{None}
 use Rattle.std.specs.Char.{digit_value}
 use Rattle.std.specs.Str.{NoCharPasses}

@@ -1,6 +1,10 @@
 pub mod Addresses
+pub mod Checked
 pub mod Exits
-pub mod FileErrors
+pub mod Unread
 pub mod Writing
+pub mod Taken
 pub mod Tellings
 pub mod Placed
+pub mod SoFar
+pub mod Gotten

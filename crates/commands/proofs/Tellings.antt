@@ -1,7 +1,6 @@
 -- What a client and a store keep is what their calls brought.
-use Rattle.std.proofs.Common.{◌≡◌, ◌≢◌, ◌⊎◌, ◌∙◌, ℕ, List, Option, Some, None, Result, Ok, Err, IfOk, IfErr, OnErr, OnOk, inl, inr, refl, sym, ap, subst, Ordering}
-use Rattle.std.proofs.Math.Logic.{∥∥₁_map}
-use Rattle.std.specs.Prelude.{IsErrOf, IsSomeAnd}
+use Rattle.std.proofs.Common.{◌≡◌, ◌≢◌, ◌⊎◌, ◌∙◌, ℕ, List, Option, Some, None, Result, Ok, Err, IfOk, inl, inr, refl, sym, ap, subst, Ordering}
+use Rattle.std.specs.Prelude.{IsSomeAnd}
 use Rattle.std.specs.Ordering.{nat_cmp, ordering_reverse, ordering_then}
 use Rattle.std.specs.Cmp.Lexicographic.{slice_cmp}
 use Rattle.std.specs.declared.alloc.Global.{Global}
@@ -10,7 +9,7 @@ use Rattle.std.specs.declared.vec.Vec.{Vec}
 use Rattle.std.proofs.lemmas.Cmp.{nat_cmp_total, nat_list_cmp_total}
 use Rattle.std.proofs.lemmas.Map.Lookups.{exact_bytes, exact_pairs, exact_unsigned}
 use Rattle.blob_digest.specs.Digest.{DigestValue, digest_cmp}
-use Rattle.blob_source.specs.Source.{Blobs, Grows, GrowsAt, bytes_of}
+use Rattle.blob_source.specs.Source.{GrowsAt, bytes_of}
 use Rattle.blob_source.specs.Sink.{PutsAt}
 use Rattle.blob_source.specs.declared.source.FetchError.{FetchError}
 use Rattle.http_core.specs.declared.event.Area.{Area}
@@ -18,11 +17,11 @@ use Rattle.remote.specs.Folder.{FailsAt, IsReadAt, LooksInFolder, entry_path}
 use Rattle.blob_source.specs.declared.source.FetchError.TheVariants.{Failed, Memory}
 use Rattle.remote.specs.Line.{ConnectionValue, Gets, Puts, get, put}
 use Rattle.remote.specs.Remote.{LooksUp, Stores}
-use Rattle.remote.specs.Table.{HasAnswer, answers, bytes_kept, told_by}
+use Rattle.remote.specs.Table.{answers, bytes_kept, told_by}
 use Rattle.remote.specs.declared.files.FileError.{FileError}
 use Rattle.remote.specs.declared.table.Table.{Table}
-use Rattle.commands.specs.Places.{CameAllOver, CameOver, Comes, FailsToRead, IsOver}
-use Rattle.commands.specs.Places.Comes.{fresh, got, taken, refused}
+use Rattle.commands.specs.Places.{CameAllOver, CameOver, Comes, FailsInStore}
+use Rattle.commands.specs.Places.Comes.{got, taken, refused}
 use Rattle.commands.specs.World.{Sight}
 
 -- ---- digests
@@ -169,8 +168,8 @@ refused_otherwise e = cc
 pub failed_on : (sees : Sight) (folder part : List ℕ) (d : DigestValue) (error new_error : Option (FileError Global)) (before after : Table Global)
     (result : Result (Option (Vec ℕ Global)) FetchError)
     → LooksInFolder sees.reads sees.fails (entry_path folder part d) d error new_error before after result
-    → ((e : FileError Global) → error ≡ Some e → FailsToRead sees folder e)
-    → (e : FileError Global) → new_error ≡ Some e → FailsToRead sees folder e
+    → ((e : FileError Global) → error ≡ Some e → FailsInStore sees folder e)
+    → (e : FileError Global) → new_error ≡ Some e → FailsInStore sees folder e
 failed_on sees folder part d error new_error before after (Ok answer) looks was e is = was e (sym (looks.unfailed (answered answer)) ∙ is)
 failed_on sees folder part d error new_error before after (Err Memory) looks was e is = was e (sym (looks.unfailed refused_otherwise) ∙ is)
 failed_on sees folder part d error new_error before after (Err Failed) looks was e is =

@@ -87,8 +87,8 @@ beginning_kept old mid new text h same = record { rest = h.rest; up_to = up_to_k
 -- a line was told up to here, and what is written stays
 pub tells_by : (error : CommandError) (old mid new : Option (List ℕ)) (line : List ℕ) → IsErrorLine line
     → (error ≡ Memory → line ≡ codes "error: out of memory\n") → AppendsBeginning old mid line → Keeps mid new → TellsOf error old new
-tells_by error old mid new line lawful memory begun same =
-    record { line = line; lawful = lawful; memory = memory; appended = beginning_kept old mid new line begun same }
+tells_by error old mid new line valid memory begun same =
+    record { line = line; valid = valid; memory = memory; appended = beginning_kept old mid new line begun same }
 
 -- the two parts of a line: its text, and the newline
 pub front_of_line : (text line : List ℕ) (n : ℕ) → line ≡ text ++ 10 ∷ [] → n ≡ length line - 1 → take n line ≡ text

@@ -26,7 +26,8 @@ pub record WritesPart (digest : DigestValue) (old new : Option (List ℕ)) : Typ
   pub right : digest_of bytes ≡ digest
   pub begun : AppendsBeginning old new bytes
 
--- the blob with the digest, or nothing where the reply over such a connection was that there is none
+-- the blob with the digest, or nothing where the reply over such a connection was that there is
+-- none
 abbrev pub Writes : (ConnectionValue → Type 0) → DigestValue → Option (List ℕ)
     → Option (List ℕ) → Bool → Type 0
 Writes opened digest old new true = WritesRight digest old new

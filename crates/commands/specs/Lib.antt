@@ -1,3 +1,4 @@
+pub mod Children
 pub mod Faults
 pub mod Got
 pub mod Options
@@ -7,4 +8,5 @@ pub mod Put
 pub mod Refusal
 pub mod Status
 pub mod Told
+pub mod Trees
 pub mod World

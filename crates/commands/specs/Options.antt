@@ -34,8 +34,8 @@ abbrev pub IsTimeout : Option (List ℕ) → Type 0
 IsTimeout None = Unit {0}
 IsTimeout (Some text) = IsNumber text
 
--- what the options say of the server at this address is lawful
-pub record IsLawfulServer (options : List Row) (address : List ℕ) : Type 0 where
+-- what the options say of the server at this address is valid
+pub record IsValidServer (options : List Row) (address : List ℕ) : Type 0 where
   pub place : IsAddress address
   pub host : IsTrue (is_host address)
   pub timeout : IsTimeout (first_of (codes "timeout") options)

@@ -15,7 +15,7 @@ use Rattle.remote.specs.declared.files.FileError.{FileError}
 use Rattle.text_verifier.specs.Answered.{IsAnswer}
 use Rattle.text_verifier.specs.Texts.{Question}
 use Rattle.text_verifier.specs.declared.answering.Answer.{Answer}
-use Rattle.commands.specs.Faults.{of_file}
+use Rattle.commands.specs.Faults.{error_of_file}
 use Rattle.commands.specs.World.{Sight}
 use Rattle.commands.specs.declared.error.CommandError.{CommandError}
 use Rattle.commands.specs.declared.error.CommandError.TheVariants.{Connection, Memory, Server}
@@ -26,24 +26,24 @@ pub record IsFresh (told : Telling) : Type 0 where
   pub results : (d : DigestValue) → told.results d ≡ None
 
 -- the answer to the question by what such a source told
-abbrev pub IsTold : (Telling → Type 0) → Question → Answer Global → Type 0
-IsTold source question answer =
+abbrev pub IsAnsweredBy : (Telling → Type 0) → Question → Answer Global → Type 0
+IsAnsweredBy source question answer =
     (told : Telling) × (∥ source told ∥₁) × IsAnswer told question answer
 
 -- ---- a store folder
 
 -- what is told was read in this part of the folder
-abbrev pub AreRead : Sight → List ℕ → List ℕ → Blobs → Type 0
-AreRead sees folder part told =
+abbrev pub WereRead : Sight → List ℕ → List ℕ → Blobs → Type 0
+WereRead sees folder part told =
     (d : DigestValue) (b : List ℕ) → told d ≡ Some b → sees.reads (entry_path folder part d) b
 
 -- a store in this folder told this
 pub record IsOfFolder (sees : Sight) (folder : List ℕ) (told : Telling) : Type 0 where
-  pub blobs : AreRead sees folder (codes "cas") told.blobs
-  pub results : AreRead sees folder (codes "ac") told.results
+  pub blobs : WereRead sees folder (codes "cas") told.blobs
+  pub results : WereRead sees folder (codes "ac") told.results
 
 -- a file of the store couldn't be read, for this
-pub record FailsToRead (sees : Sight) (folder : List ℕ) (e : FileError Global) : Type 0 where
+pub record FailsInStore (sees : Sight) (folder : List ℕ) (e : FileError Global) : Type 0 where
   pub part : List ℕ
   pub digest : DigestValue
   pub fails : FailsAt sees.fails (entry_path folder part digest) e
@@ -52,12 +52,12 @@ pub record FailsToRead (sees : Sight) (folder : List ℕ) (e : FileError Global)
 pub record IsInFolder (sees : Sight) (folder : List ℕ) (told : Telling)
     (error : Option (FileError Global)) : Type 0 where
   pub told_is : IsOfFolder sees folder told
-  pub failed : (e : FileError Global) → error ≡ Some e → FailsToRead sees folder e
+  pub failed : (e : FileError Global) → error ≡ Some e → FailsInStore sees folder e
 
 -- the error tells that a file of the store couldn't be read, or that memory ran out
 abbrev pub FailsInFolder : Sight → List ℕ → CommandError → Type 0
 FailsInFolder sees folder e = (e ≡ Memory)
-    ⊎ ((f : FileError Global) × FailsToRead sees folder f × (e ≡ of_file f))
+    ⊎ ((f : FileError Global) × FailsInStore sees folder f × (e ≡ error_of_file f))
 
 -- ---- a server
 
@@ -69,7 +69,7 @@ FailsToConnect sees address Memory = Unit {0}
 FailsToConnect sees address _ = ⊥
 
 -- a connection to the server at this address was opened, for requests with this host and prefix
-pub record IsOpened (sees : Sight) (address host prefix : List ℕ) (c : ConnectionValue)
+pub record IsConnected (sees : Sight) (address host prefix : List ℕ) (c : ConnectionValue)
     : Type 0 where
   pub connected : sees.connects address c.flow
   pub host_is : c.host ≡ host
@@ -99,28 +99,28 @@ CameAllOver start area told =
     (d : DigestValue) (b : List ℕ) → told d ≡ Some b → CameOver start area d.hash b
 
 -- a client over the connection told this, which now stands so
-pub record IsOver (start now : ConnectionValue) (told : Telling) : Type 0 where
+pub record IsClientOver (start now : ConnectionValue) (told : Telling) : Type 0 where
   pub came : Comes start now
   pub blobs : CameAllOver start Cas told.blobs
   pub results : CameAllOver start Ac told.results
 
 -- the error tells of this fault of a connection, or that memory ran out
-abbrev pub TellsFault : Option Fault → CommandError → Type 0
-TellsFault fault (Server server asked digest told) = fault ≡ Some told
-TellsFault fault Memory = Unit {0}
-TellsFault fault _ = ⊥
+abbrev pub TellsOfFault : Option Fault → CommandError → Type 0
+TellsOfFault fault (Server server asked digest told) = fault ≡ Some told
+TellsOfFault fault Memory = Unit {0}
+TellsOfFault fault _ = ⊥
 
 -- the error tells of the last fault of the connection
 abbrev pub FailsOver : ConnectionValue → CommandError → Type 0
-FailsOver start e = (now : ConnectionValue) × Comes start now × TellsFault now.fault e
+FailsOver start e = (now : ConnectionValue) × Comes start now × TellsOfFault now.fault e
 
 abbrev pub IsToldOver : ConnectionValue → Telling → Type 0
-IsToldOver start told = (now : ConnectionValue) × IsOver start now told
+IsToldOver start told = (now : ConnectionValue) × IsClientOver start now told
 
 -- a client of the server at this address, under this prefix, told this
 pub record IsOfServer (sees : Sight) (address prefix : List ℕ) (told : Telling) : Type 0 where
   pub start : ConnectionValue
-  pub opened : IsOpened sees address address prefix start
+  pub opened : IsConnected sees address address prefix start
   pub over : IsToldOver start told
 
 -- for a marker that names no connection

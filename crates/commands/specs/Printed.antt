@@ -1,5 +1,5 @@
 -- What a command prints, by its options.
-use Rattle.std.specs.Prelude.{◌≡◌, ◌⊎◌, ℕ, true, Bool, List, [], ◌∷◌, ◌++◌, Option, None}
+use Rattle.std.specs.Prelude.{◌≡◌, ◌⊎◌, ℕ, Bool, List, [], ◌∷◌, ◌++◌, Option, None, Some}
 use Rattle.std.specs.Prelude.{IsSome, codes, string_bytes}
 use Rattle.std.specs.Io.KnownBytes.{Appends}
 use Rattle.std.specs.Net.Text.{socket_text}
@@ -9,7 +9,6 @@ use Rattle.blob_digest.specs.Digest.{DigestValue}
 use Rattle.blob_digest.specs.Text.{digest_text}
 use Rattle.clap.specs.Words.{Row, first_of}
 use Rattle.report.specs.Line.{report_line}
-use Rattle.blob_source.specs.Sink.{HasRight}
 use Rattle.cache_server.specs.Cache.{empty_cache}
 use Rattle.remote.specs.Line.{ConnectionValue}
 use Rattle.blob_source.specs.Source.{Telling}
@@ -17,8 +16,10 @@ use Rattle.verifier.specs.declared.verdict.Verdict.{Verdict}
 use Rattle.text_verifier.specs.Answered.{IsJudged}
 use Rattle.text_verifier.specs.Texts.{HasTexts, Question, IsDigestText}
 use Rattle.commands.specs.Got.{Writes, WritesPart}
-use Rattle.commands.specs.Options.{IsLawfulServer, number_of, number_or}
-use Rattle.commands.specs.Places.{IsOfFolder, IsOfServer, IsOpened}
+use Rattle.commands.specs.Options.{IsValidServer, number_of, number_or}
+use Rattle.commands.specs.Places.{IsOfFolder, IsOfServer, IsConnected, IsToldOver}
+use Rattle.commands.specs.Put.{PutsPath}
+use Rattle.commands.specs.Trees.{BeginsMissing, IsTreeGot}
 use Rattle.commands.specs.World.{Serving, Sight}
 use Rattle.commands.specs.declared.serving.Asked.{Asked}
 use Rattle.commands.specs.declared.verifying.Build.{Build}
@@ -32,11 +33,11 @@ pub record NamesStore (options : List Row) : Type 0 where
   pub prefix : first_of (codes "prefix") options ≡ None
   pub timeout : first_of (codes "timeout") options ≡ None
 
--- the options name a server, with what is lawful to say of it, and no store folder
+-- the options name a server, with what is valid to say of it, and no store folder
 pub record NamesServer (options : List Row) : Type 0 where
   pub server : IsSome (first_of (codes "server") options)
   pub store : first_of (codes "store") options ≡ None
-  pub lawful : IsLawfulServer options (option_text options (codes "server"))
+  pub valid : IsValidServer options (option_text options (codes "server"))
 
 -- the options name exactly one place where the recorded build is
 abbrev pub NamesPlace : List Row → Type 0
@@ -45,10 +46,10 @@ NamesPlace options = NamesStore options ⊎ NamesServer options
 -- ---- verify
 
 -- the folder, or the server, that the options name
-abbrev pub IsPlace : List Row → Build → Type 0
-IsPlace options (Folder folder) =
+abbrev pub IsNamedPlace : List Row → Build → Type 0
+IsNamedPlace options (Folder folder) =
     NamesStore options × (string_bytes folder ≡ option_text options (codes "store"))
-IsPlace options (Server server) = NamesServer options
+IsNamedPlace options (Server server) = NamesServer options
     × (string_bytes server.address ≡ option_text options (codes "server"))
     × (server.host ≡ option_text options (codes "server"))
     × (server.prefix ≡ option_text options (codes "prefix"))
@@ -65,7 +66,7 @@ IsOfPlace sees options told =
     ⊎ (NamesServer options × IsOfOptions sees options told)
 
 -- The digests in the words, and the files that they name, as they were read, ask this question.
-pub record AsksFor (sees : Sight) (options : List Row) (question : Question) : Type 0 where
+pub record AsksQuestion (sees : Sight) (options : List Row) (question : Question) : Type 0 where
   pub plan_bytes : List ℕ
   pub plan_read : sees.reads (option_text options (codes "plan")) plan_bytes
   pub noted_bytes : List ℕ
@@ -77,7 +78,7 @@ pub record AsksFor (sees : Sight) (options : List Row) (question : Question) : T
 pub record JudgesAsked (sees : Sight) (options : List Row) (verdict : Verdict Global)
     : Type 0 where
   pub question : Question
-  pub asks : AsksFor sees options question
+  pub asks : AsksQuestion sees options question
   pub told : Telling
   pub source : ∥ IsOfPlace sees options told ∥₁
   pub judged : IsJudged told question verdict
@@ -92,32 +93,52 @@ pub record PrintsVerdict (sees : Sight) (options : List Row) (old new : Option (
 -- ---- the others
 
 -- a connection to the server that the options name was opened, and stood so
-abbrev pub IsOpenedTo : Sight → List Row → ConnectionValue → Type 0
-IsOpenedTo sees options =
-    IsOpened sees (option_text options (codes "server")) (option_text options (codes "server"))
+abbrev pub IsConnectedTo : Sight → List Row → ConnectionValue → Type 0
+IsConnectedTo sees options =
+    IsConnected sees (option_text options (codes "server")) (option_text options (codes "server"))
     (option_text options (codes "prefix"))
 
--- the blob was written whose digest the options spell, or the server that they name replied that
--- there is none
+-- Without words of a folder, the blob was written whose digest the options spell, or the server
+-- that they name replied that there is none.
 pub record GetsBlob (sees : Sight) (options : List Row) (old new : Option (List ℕ)) (found : Bool)
     : Type 0 where
+  pub alone : first_of (codes "into") options ≡ None
   pub digest : DigestValue
   pub spelled : IsDigestText (option_text options (codes "digest")) digest
-  pub writes : Writes (IsOpenedTo sees options) digest old new found
+  pub writes : Writes (IsConnectedTo sees options) digest old new found
 
--- nothing was written, or a beginning of a blob whose digest the options spell
-abbrev pub GetsPart : List Row → Option (List ℕ) → Option (List ℕ) → Type 0
-GetsPart options old new =
-    (new ≡ old) ⊎ ((digest : DigestValue)
-    × IsDigestText (option_text options (codes "digest")) digest × WritesPart digest old new)
-
--- the line of a digest was printed, under which a client of the server that the options name then
--- told a blob that has it
-pub record PrintsDigest (sees : Sight) (options : List Row) (old new : Option (List ℕ)) : Type 0 where
+-- The tree whose digest the options spell, as the server that they name told it, was written into
+-- the folder that they name; or that server lacks a blob of it.
+pub record GetsTree (sees : Sight) (options : List Row) (old new : Option (List ℕ)) (found : Bool)
+    : Type 0 where
+  pub folder : List ℕ
+  pub into : first_of (codes "into") options ≡ Some folder
   pub digest : DigestValue
-  pub told : Telling
-  pub source : ∥ IsOfOptions sees options told ∥₁
-  pub held : HasRight told.blobs digest
+  pub spelled : IsDigestText (option_text options (codes "digest")) digest
+  pub start : ConnectionValue
+  pub connected : IsConnectedTo sees options start
+  pub got : IsTreeGot sees (IsToldOver start) digest folder old new found
+
+abbrev pub GetsAsked : Sight → List Row → Option (List ℕ) → Option (List ℕ) → Bool → Type 0
+GetsAsked sees options old new found =
+    GetsBlob sees options old new found ⊎ GetsTree sees options old new found
+
+-- Nothing was written, or a beginning of a blob whose digest the options spell; or where they name a
+-- folder, a beginning of the line of a blob that the server lacks.
+abbrev pub GetsPart : List Row → Option (List ℕ) → Option (List ℕ) → Type 0
+GetsPart options old new = (new ≡ old)
+    ⊎ (((digest : DigestValue) × (first_of (codes "into") options ≡ None)
+    × IsDigestText (option_text options (codes "digest")) digest × WritesPart digest old new)
+    ⊎ (IsSome (first_of (codes "into") options) × BeginsMissing old new))
+
+-- What was read at the path is put to the server that the options name, and the line of its digest
+-- was printed.
+pub record PrintsDigest (sees : Sight) (options : List Row) (old new : Option (List ℕ))
+    : Type 0 where
+  pub start : ConnectionValue
+  pub opened : IsConnectedTo sees options start
+  pub digest : DigestValue
+  pub put : PutsPath sees start (option_text options (codes "path")) digest
   pub printed : Appends old new (digest_text digest ++ 10 ∷ [])
 
 -- ---- serve

@@ -1,20 +1,51 @@
--- What the digest of a folder that was put is.
-use Rattle.std.specs.Prelude.{◌≡◌}
-use Rattle.blob_digest.specs.Digest.{DigestValue}
-use Rattle.blob_source.specs.Sink.{HasRight}
-use Rattle.blob_source.specs.Source.{Telling}
-use Rattle.tree.specs.FlatTree.{FlatValue, IsListOf}
-use Rattle.tree.specs.Form.{NodeValue, root}
-use Rattle.tree.specs.Tree.{Tree}
+-- What `put` puts: what was read at a path and below it, and the blobs that the server took.
+use Rattle.std.specs.Prelude.{◌⊎◌, ℕ, false, List, ◌∷◌, ◌++◌, Some}
+use Rattle.std.specs.List.{Contains}
+use Rattle.blob_digest.specs.Digest.{DigestValue, digest_of}
+use Rattle.http_core.specs.declared.event.Area.TheVariants.{Cas}
+use Rattle.messages.specs.Directory.{directory_bytes}
+use Rattle.messages.specs.DirectoryRules.{DirectoryValue, IsDirectory}
+use Rattle.messages.specs.Node.{IsChild}
+use Rattle.messages.specs.declared.node.Node.TheVariants.{Dir, File, Link}
+use Rattle.remote.specs.Line.{ConnectionValue, Puts}
+use Rattle.tree.specs.Form.{NodeValue}
+use Rattle.commands.specs.Places.{Comes}
+use Rattle.commands.specs.World.{Sight, a_file, a_folder, a_link}
 
--- the digest of the tree whose list the entries are
-pub record IsFolderRoot (entries : FlatValue) (digest : DigestValue) : Type 0 where
-  pub tree : Tree NodeValue
-  pub list : IsListOf entries tree
-  pub is : digest ≡ root tree
+-- the server took a PUT of this blob over the connection, which was opened so
+pub record TakesBlob (start : ConnectionValue) (bytes : List ℕ) : Type 0 where
+  pub old : ConnectionValue
+  pub new : ConnectionValue
+  pub before : Comes start old
+  pub is : Puts old new Cas (digest_of bytes).hash bytes
 
--- such a source told a blob that has the digest
-pub record IsHeldBy (source : Telling → Type 0) (digest : DigestValue) : Type 0 where
-  pub told : Telling
-  pub source_is : ∥ source told ∥₁
-  pub held : HasRight told.blobs digest
+-- the folder was read, and the Directory has a child of each name in it
+pub record IsListed (sees : Sight) (place : List ℕ) (d : DirectoryValue) : Type 0 where
+  pub names : List (List ℕ)
+  pub read : sees.lists place names
+  pub all : (n : List ℕ) → Contains names n → (x : NodeValue) × IsChild n d (Some x)
+
+-- such a node stands at a place, where a link isn't followed
+abbrev pub StandsAs : Sight → List ℕ → NodeValue → Type 0
+StandsAs sees place (File digest executable) = sees.stands place a_file
+StandsAs sees place (Dir digest) = sees.stands place a_folder
+StandsAs sees place (Link target) = sees.stands place (a_link target)
+
+-- What was read at a place is this node, and the server took its blob and each blob below it. A
+-- file is put by its bytes, without its executable bit, a folder by the Directory of what is in it.
+pub data IsPutAt (sees : Sight) (start : ConnectionValue) : List ℕ → NodeValue → Type 0 where
+  file_put : (place bytes : List ℕ) → sees.reads place bytes → ∥ TakesBlob start bytes ∥₁
+      → IsPutAt sees start place (File (digest_of bytes) false)
+  link_put : (place target : List ℕ) → sees.stands place (a_link target)
+      → IsPutAt sees start place (Link target)
+  folder_put : (place : List ℕ) (d : DirectoryValue) → IsDirectory d → IsListed sees place d
+      → ((n : List ℕ) (x : NodeValue) → IsChild n d (Some x) → StandsAs sees (place ++ 47 ∷ n) x)
+      → ((n : List ℕ) (x : NodeValue) → IsChild n d (Some x)
+      → IsPutAt sees start (place ++ 47 ∷ n) x)
+      → ∥ TakesBlob start (directory_bytes d) ∥₁
+      → IsPutAt sees start place (Dir (digest_of (directory_bytes d)))
+
+-- the digest is that of the file or the folder that was read at the path
+abbrev pub PutsPath : Sight → ConnectionValue → List ℕ → DigestValue → Type 0
+PutsPath sees start path digest =
+    IsPutAt sees start path (File digest false) ⊎ IsPutAt sees start path (Dir digest)

@@ -1,6 +1,6 @@
 -- Why `verify` ends without its answer: the first fault, in the order words, digests, plan, record,
 -- connection and work. Of a file, that it can't be read comes before what is wrong in its text.
-use Rattle.std.specs.Prelude.{◌≡◌, ◌⊎◌, ℕ, List, Option, codes, string_bytes}
+use Rattle.std.specs.Prelude.{◌≡◌, ◌⊎◌, ℕ, List, codes, string_bytes}
 use Rattle.std.specs.declared.alloc.Global.{Global}
 use Rattle.blob_digest.specs.declared.error.DigestError.{DigestError}
 use Rattle.clap.specs.Words.{Row}
@@ -15,13 +15,11 @@ use Rattle.text_verifier.specs.Texts.{HasPlan, Question}
 use Rattle.verifier.specs.declared.verdict.Verdict.{Verdict}
 use Rattle.command_lines.specs.CommandLine.{option_text}
 use Rattle.commands.specs.declared.error.CommandError.{CommandError}
-use Rattle.commands.specs.declared.error.CommandError.TheVariants.{Words, Number, Unlike, Digest, Text}
-use Rattle.commands.specs.declared.error.CommandError.TheVariants.{Memory, Output}
-use Rattle.commands.specs.Faults.{of_file}
-use Rattle.commands.specs.Places.{FailsInFolder, FailsOver, FailsToConnect, IsOpened}
-use Rattle.commands.specs.Printed.{AsksFor, JudgesAsked, NamesPlace, NamesServer, NamesStore}
-use Rattle.commands.specs.Status.{status_of}
-use Rattle.commands.specs.Told.{TellsOf}
+use Rattle.commands.specs.declared.error.CommandError.TheVariants.{Words, Number, Digest, Text}
+use Rattle.commands.specs.declared.error.CommandError.TheVariants.{Memory, Output, Unlike}
+use Rattle.commands.specs.Faults.{error_of_file}
+use Rattle.commands.specs.Places.{FailsInFolder, FailsOver, FailsToConnect, IsConnected}
+use Rattle.commands.specs.Printed.{AsksQuestion, JudgesAsked, NamesPlace, NamesServer, NamesStore}
 use Rattle.commands.specs.World.{Sight}
 
 -- ---- as far as there is no fault
@@ -41,11 +39,11 @@ pub record HasPlanRead (sees : Sight) (options : List Row) (plan : PlanValue) : 
 -- ---- faults
 
 -- the output takes no more
-abbrev pub IsOutputFault : CommandError → Type 0
-IsOutputFault (Output fault) = Unit {0}
-IsOutputFault _ = ⊥
+abbrev pub IsPrintFault : CommandError → Type 0
+IsPrintFault (Output fault) = Unit {0}
+IsPrintFault _ = ⊥
 
--- an error of words, or want of memory
+-- an error of words, or lack of memory
 abbrev pub IsCommandFault : CommandError → Type 0
 IsCommandFault (Words text) = Unit {0}
 IsCommandFault (Number option greatest text) = Unit {0}
@@ -74,7 +72,7 @@ abbrev pub FailsText : Sight → List ℕ → (List ℕ → PlanError → Type 0
 FailsText sees path faulty (Text p fault) =
     (string_bytes p ≡ path) × ((bytes : List ℕ) × sees.reads path bytes × faulty bytes fault)
 FailsText sees path faulty e =
-    (e ≡ Memory) ⊎ ((f : FileError Global) × sees.fails path f × (e ≡ of_file f))
+    (e ≡ Memory) ⊎ ((f : FileError Global) × sees.fails path f × (e ≡ error_of_file f))
 
 abbrev pub FailsPlan : Sight → List Row → CommandError → Type 0
 FailsPlan sees options = FailsText sees (option_text options (codes "plan")) IsPlanFault
@@ -86,7 +84,8 @@ FailsRecord sees options plan =
 -- the server can't be reached, or the connection to it failed
 abbrev pub FailsServer : Sight → List ℕ → List ℕ → CommandError → Type 0
 FailsServer sees address prefix e = FailsToConnect sees address e
-    ⊎ ((start : ConnectionValue) × IsOpened sees address address prefix start × FailsOver start e)
+    ⊎ ((start : ConnectionValue) × IsConnected sees address address prefix start
+    × FailsOver start e)
 
 -- a file of the store that the options name can't be read, or the server that they name is at fault
 abbrev pub FailsPlace : Sight → List Row → CommandError → Type 0
@@ -104,15 +103,7 @@ pub data FailsVerify (sees : Sight) (options : List Row) (e : CommandError) : Ty
   in_plan : HasDigests options → FailsPlan sees options e → FailsVerify sees options e
   in_record : (plan : PlanValue) → HasDigests options → HasPlanRead sees options plan
       → FailsRecord sees options plan e → FailsVerify sees options e
-  in_place : (question : Question) → AsksFor sees options question → ∥ FailsPlace sees options e ∥₁
+  in_place : (question : Question) → AsksQuestion sees options question
+      → ∥ FailsPlace sees options e ∥₁ → FailsVerify sees options e
+  in_output : (verdict : Verdict Global) → JudgesAsked sees options verdict → IsPrintFault e
       → FailsVerify sees options e
-  in_output : (verdict : Verdict Global) → JudgesAsked sees options verdict → IsOutputFault e
-      → FailsVerify sees options e
-
--- an error with this status is the first fault, and its line was told
-pub record EndsRefused (sees : Sight) (options : List Row) (status : ℕ)
-    (old new : Option (List ℕ)) : Type 0 where
-  pub error : CommandError
-  pub first : FailsVerify sees options error
-  pub status_is : status_of error ≡ status
-  pub told : TellsOf error old new

@@ -3,9 +3,9 @@ use Rattle.std.specs.Prelude.{ℕ}
 use Rattle.commands.specs.declared.error.CommandError.{CommandError}
 use Rattle.commands.specs.declared.error.CommandError.TheVariants.{Words, Digest, Number, Text}
 use Rattle.commands.specs.declared.error.CommandError.TheVariants.{Unlike, File, NotAFile, TooLarge}
-use Rattle.commands.specs.declared.error.CommandError.TheVariants.{Entry, Connection, Server, WrongBytes}
+use Rattle.commands.specs.declared.error.CommandError.TheVariants.{Entry, Connection, Server}
 use Rattle.commands.specs.declared.error.CommandError.TheVariants.{Accept, Address, Random, Output}
-use Rattle.commands.specs.declared.error.CommandError.TheVariants.{Memory, Process}
+use Rattle.commands.specs.declared.error.CommandError.TheVariants.{Memory, Process, WrongBytes}
 
 -- 2 where the words or the texts that they name are at fault, and 3 where a file, a socket, a
 -- server, the output or memory is

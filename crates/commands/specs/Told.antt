@@ -2,7 +2,6 @@
 use Rattle.std.specs.Prelude.{◌≡◌, ℕ, ◌<◌, List, [], ◌∷◌, ◌++◌, length, Option, codes}
 use Rattle.std.specs.Io.KnownBytes.{Appends}
 use Rattle.report.specs.Line.{HasNoNewline}
-use Rattle.commands.specs.Status.{status_of}
 use Rattle.commands.specs.declared.error.CommandError.{CommandError}
 use Rattle.commands.specs.declared.error.CommandError.TheVariants.{Memory}
 
@@ -35,15 +34,9 @@ pub record IsErrorLine (line : List ℕ) : Type 0 where
   pub one : HasNoNewline told
   pub line_is : line ≡ codes "error: " ++ (told ++ 10 ∷ [])
 
--- the line of an error was appended, or a beginning of it: want of memory is told as that
+-- the line of an error was appended, or a beginning of it: lack of memory is told as that
 pub record TellsOf (error : CommandError) (old new : Option (List ℕ)) : Type 0 where
   pub line : List ℕ
-  pub lawful : IsErrorLine line
+  pub valid : IsErrorLine line
   pub memory : error ≡ Memory → line ≡ codes "error: out of memory\n"
   pub appended : AppendsBeginning old new line
-
--- the line of an error with this status was appended, or a beginning of it
-pub record EndsTold (status : ℕ) (old new : Option (List ℕ)) : Type 0 where
-  pub error : CommandError
-  pub status_is : status_of error ≡ status
-  pub told : TellsOf error old new

@@ -1,16 +1,19 @@
 -- What may be said of what a command reaches outside, by what was told of it.
-use Rattle.std.specs.Prelude.{ℕ, List}
+use Rattle.std.specs.Prelude.{ℕ, List, string_bytes}
 use Rattle.std.specs.declared.alloc.Global.{Global}
 use Rattle.std.specs.declared.io.Error.{Error}
 use Rattle.std.specs.declared.net.socket_addr.SocketAddr.{SocketAddr}
 use Rattle.cache_server.specs.Cache.{CacheValue}
+use Rattle.checkout.specs.Folder.{FolderValue}
 use Rattle.remote.specs.Flow.{Flow}
 use Rattle.remote.specs.declared.files.FileError.{FileError}
+use Rattle.commands.specs.declared.world.Found.{Found}
+use Rattle.commands.specs.declared.world.Found.TheVariants.{File, Folder, Link}
 use Rattle.commands.specs.declared.world.Listening.{Listening}
 use Rattle.commands.specs.declared.world.Service.{Service}
 
--- Connections that are to be served: at which address, by which cache, under which prefix, how many,
--- how many of them at a time, and for how many seconds one may be silent (0: for ever).
+-- Connections that are to be served: at which address, by which cache, under which prefix, how
+-- many, how many of them at a time, and for how many seconds one may be silent (0: for ever).
 pub record Serving : Type 0 where
   pub address : SocketAddr
   pub cache : CacheValue
@@ -19,11 +22,21 @@ pub record Serving : Type 0 where
   pub at_once : ℕ
   pub idle : ℕ
 
+-- what stands at a path: a folder, a symbolic link to a text, or a file or what is none of these
+pub data FoundValue : Type 0 where
+  a_folder : FoundValue
+  a_link : List ℕ → FoundValue
+  a_file : FoundValue
+
 -- What was told and done. Only the calls that were told it and did it say so.
 pub record Sight : Type 1 where
   -- the file at the path was read, and had these bytes
   pub reads : List ℕ → List ℕ → Type 0
-  -- it couldn't be read, for this
+  -- the folder at the path was read, and had entries of these names
+  pub lists : List ℕ → List (List ℕ) → Type 0
+  -- this stands at the path, where a link isn't followed
+  pub stands : List ℕ → FoundValue → Type 0
+  -- what stands at the path couldn't be read, for this
   pub fails : List ℕ → FileError Global → Type 0
   -- a stream was opened to the server at this address, and stood so
   pub connects : List ℕ → Flow → Type 0
@@ -31,6 +44,10 @@ pub record Sight : Type 1 where
   pub refuses : List ℕ → Error → Type 0
   -- the bytes were written to the file at the path
   pub wrote : List ℕ → List ℕ → Type 0
+  -- the folder had nothing in it, then this was written into it, and nothing else
+  pub holds : FolderValue → Type 0
+  -- nothing could be written at the path, for this
+  pub unwritten : List ℕ → Error → Type 0
   -- a socket listens at this place, at this address
   pub listens : List ℕ → SocketAddr → Type 0
   -- these connections were served
@@ -40,13 +57,23 @@ pub record Sight : Type 1 where
 abbrev pub nothing_known : Sight
 nothing_known = record {
   reads = λ _ _. Unit {0};
+  lists = λ _ _. Unit {0};
+  stands = λ _ _. Unit {0};
   fails = λ _ _. Unit {0};
   connects = λ _ _. Unit {0};
   refuses = λ _ _. Unit {0};
   wrote = λ _ _. Unit {0};
+  holds = λ _. Unit {0};
+  unwritten = λ _ _. Unit {0};
   listens = λ _ _. Unit {0};
   serves = λ _. Unit {0};
 }
+
+-- what was found at a path
+abbrev pub what_stands : Found → FoundValue
+what_stands Folder = a_folder
+what_stands (Link target) = a_link (string_bytes target)
+what_stands File = a_file
 
 -- the connections of this socket, as they are to be served
 abbrev pub serving : Listening → Service → Serving

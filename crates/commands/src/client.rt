@@ -1,8 +1,11 @@
-ghost use Rattle.std.specs.Prelude.{◌≡◌, IfErr, IfOk, string_bytes};
+ghost use Rattle.std.specs.Prelude.{◌≡◌, IfErr, IfOk, IsErrOf, OnOk, string_bytes};
 ghost use Rattle.blob_digest.specs.Digest.{DigestValue, digest_of};
-ghost use Rattle.blob_source.specs.Sink.{HasRight};
-ghost use Rattle.commands.specs.Places.{FailsOver, FailsToConnect, IsFresh, IsOpened, IsOver};
-ghost use Rattle.commands.specs.Places.{TellsFault};
+ghost use Rattle.blob_source.specs.Called.{Calls};
+ghost use Rattle.blob_source.specs.Sink.{IsPut, PutsBlob};
+ghost use Rattle.commands.specs.Faults.{TellsRefusal};
+ghost use Rattle.commands.specs.Places.{FailsOver, FailsToConnect, IsClientOver, IsConnected};
+ghost use Rattle.commands.specs.Places.{IsFresh, TellsOfFault};
+ghost use Rattle.commands.specs.Put.{TakesBlob};
 ghost use Rattle.commands.specs.Status.{status_of};
 ghost use Rattle.remote.specs.Remote.{blobs_of, connection_of, telling_of};
 ghost use Rattle.remote.specs.Table.{HasAnswer};
@@ -37,7 +40,7 @@ pub struct Client<S: Stream + Drop, K: Origin> {
     asked: &'static str,
     digest: Digest,
     of: PhantomData<K>,
-    ghost over: { ∥ IsOver K.start (connection_of S.flow remote) (telling_of remote) ∥₁ },
+    ghost over: { ∥ IsClientOver K.start (connection_of S.flow remote) (telling_of remote) ∥₁ },
 }
 
 impl<S: Stream + Drop, K: Origin> Client<S, K> {
@@ -45,6 +48,7 @@ impl<S: Stream + Drop, K: Origin> Client<S, K> {
     pub fn new(remote: Remote<S, Global>) -> Client<S, K>
         requires start { K.start ≡ connection_of S.flow remote }
         requires fresh { IsFresh (telling_of remote) }
+        ensures { result.remote ≡ remote }
     {
         Client {
             remote,
@@ -62,7 +66,7 @@ impl<S: Stream + Drop, K: Origin> Client<S, K> {
         bytes: &[u8],
     ) -> Result<Digest, CommandError>
         ensures named { IfOk result (λ digest. digest ≡ digest_of bytes.now) }
-        ensures held { IfOk result (HasRight (telling_of self.new.remote).blobs) }
+        ensures taken { OnOk result (∥ TakesBlob K.start bytes.now ∥₁) }
     {
         match self.put_blob(alloc, bytes) {
             Ok(digest) => Ok(digest),
@@ -70,7 +74,7 @@ impl<S: Stream + Drop, K: Origin> Client<S, K> {
         }
     }
 
-    /// The error of a call that was refused.
+    /// The error of the last call, which was refused.
     pub fn error(
         &self,
         alloc: Global,
@@ -79,6 +83,9 @@ impl<S: Stream + Drop, K: Origin> Client<S, K> {
     ) -> Result<CommandError, AllocError>
         ensures over { IfOk result (λ e. ∥ FailsOver K.start e ∥₁) }
         ensures status { IfOk result (λ e. status_of e ≡ 3) }
+        ensures error { IfOk result (TellsRefusal (string_bytes server.now.address)
+            self.now.asked.now self.now.digest (connection_of S.flow self.now.remote).fault
+            refusal) }
     {
         let fault = self.remote.last_fault();
         server_error(alloc, server, self.asked, &self.digest, fault, refusal)
@@ -104,7 +111,14 @@ impl<S: Stream + Drop, K: Origin> BlobSource<Global> for Client<S, K> {
 }
 
 impl<S: Stream + Drop, K: Origin> BlobSink<Global> for Client<S, K> {
-    fn put_blob(&mut self, alloc: Global, bytes: &[u8]) -> Result<Digest, FetchError> {
+    fn put_blob(&mut self, alloc: Global, bytes: &[u8]) -> Result<Digest, FetchError>
+        ensures named { IfOk result (λ digest. digest ≡ digest_of bytes.now) }
+        ensures held { OnOk result (IsPut bytes.now
+            (telling_of self.old.remote).blobs (telling_of self.new.remote).blobs) }
+        ensures called { Calls (PutsBlob bytes.now) (telling_of self.old.remote)
+            (telling_of self.new.remote) (IsErrOf result FetchError.Failed) }
+        ensures taken { OnOk result (∥ TakesBlob K.start bytes.now ∥₁) }
+    {
         self.asked = "put of blob";
         self.digest = Digest::of(bytes);
         self.remote.put_blob(alloc, bytes)
@@ -131,8 +145,10 @@ pub(crate) fn server_error(
     fault: Option<Fault>,
     refusal: FetchError,
 ) -> Result<CommandError, AllocError>
-    ensures tells { IfOk result (TellsFault fault) }
+    ensures tells { IfOk result (TellsOfFault fault) }
     ensures status { IfOk result (λ e. status_of e ≡ 3) }
+    ensures error { IfOk result
+        (TellsRefusal (string_bytes server.now.address) asked.now digest.now fault refusal) }
 {
     match fault {
         Some(fault) if refusal == FetchError::Failed => Ok(CommandError::Server {
@@ -151,7 +167,7 @@ pub fn open<W: World>(
     world: &W,
     server: &ServerOptions,
 ) -> Result<Remote<W::Link, Global>, CommandError>
-    ensures opened { IfOk result (λ remote. IsOpened W.sees (string_bytes server.now.address)
+    ensures opened { IfOk result (λ remote. IsConnected W.sees (string_bytes server.now.address)
         server.now.host server.now.prefix (connection_of W.Link.flow remote)) }
     ensures fresh { IfOk result (λ remote. IsFresh (telling_of remote)) }
     ensures unasked { IfOk result (λ remote.

@@ -4,7 +4,7 @@ ghost use Rattle.std.specs.Io.{ReadsAtMost, WritesAtMost};
 ghost use Rattle.std.specs.Io.Buffered.{reader_buffer, reader_inner};
 ghost use Rattle.clap.specs.Words.{first_of, found_of, rows_of};
 ghost use Rattle.command_lines.specs.CommandLine.{option_text};
-ghost use Rattle.commands.specs.Options.{IsAddress, IsLawfulServer, IsTimeout};
+ghost use Rattle.commands.specs.Options.{IsAddress, IsValidServer, IsTimeout};
 ghost use Rattle.commands.specs.Refusal.{IsCommandFault};
 ghost use Rattle.http_core.specs.Host.{is_host};
 ghost use Rattle.http_core.specs.Prefix.{is_prefix};
@@ -38,7 +38,7 @@ fn read_host(alloc: Global, address: &str) -> Result<Host<Global>, CommandError>
     ensures host { IfOk result (λ host. host ≡ address.now) }
     ensures place { OnOk result (IsAddress address.now) }
     ensures fault { IfErr result IsCommandFault }
-    ensures unlawful { IfErr result (λ e. e ≢ CommandError.Memory
+    ensures invalid { IfErr result (λ e. e ≢ CommandError.Memory
         → IsAddress address.now → IsTrue (is_host address.now) → ⊥) }
 {
     let host = Host::read(alloc, address)?;
@@ -52,7 +52,7 @@ fn read_timeout(alloc: Global, matches: &ArgMatches<'_>) -> Result<Option<Durati
     ensures timeout { OnOk result
         (IsTimeout (first_of (codes "timeout") (rows_of (found_of matches.now)))) }
     ensures fault { IfErr result IsCommandFault }
-    ensures unlawful { IfErr result (λ e. e ≢ CommandError.Memory
+    ensures invalid { IfErr result (λ e. e ≢ CommandError.Memory
         → ¬ IsTimeout (first_of (codes "timeout") (rows_of (found_of matches.now)))) }
 {
     let Some(text) = option_of(matches, "timeout") else {
@@ -72,10 +72,10 @@ pub(crate) fn read_prefix(
 ) -> Result<Prefix<Global>, CommandError>
     ensures prefix { IfOk result
         (λ prefix. prefix ≡ option_text (rows_of (found_of matches.now)) (codes "prefix")) }
-    ensures lawful { OnOk result
+    ensures valid { OnOk result
         (is_prefix (option_text (rows_of (found_of matches.now)) (codes "prefix")) ≡ true) }
     ensures fault { IfErr result IsCommandFault }
-    ensures unlawful { IfErr result (λ e. e ≢ CommandError.Memory
+    ensures invalid { IfErr result (λ e. e ≢ CommandError.Memory
         → ¬ IsTrue (is_prefix (option_text (rows_of (found_of matches.now)) (codes "prefix")))) }
 {
     let text = text_of(matches, "prefix");
@@ -95,10 +95,10 @@ pub fn read_server(
     ensures host { IfOk result (λ server. server.host ≡ address.now) }
     ensures prefix { IfOk result
         (λ server. server.prefix ≡ option_text (rows_of (found_of matches.now)) (codes "prefix")) }
-    ensures lawful { OnOk result (IsLawfulServer (rows_of (found_of matches.now)) address.now) }
+    ensures valid { OnOk result (IsValidServer (rows_of (found_of matches.now)) address.now) }
     ensures fault { IfErr result IsCommandFault }
-    ensures unlawful { IfErr result (λ e. e ≢ CommandError.Memory
-        → ¬ IsLawfulServer (rows_of (found_of matches.now)) address.now) }
+    ensures invalid { IfErr result (λ e. e ≢ CommandError.Memory
+        → ¬ IsValidServer (rows_of (found_of matches.now)) address.now) }
 {
     let host = read_host(alloc, address)?;
     let timeout = read_timeout(alloc, matches)?;

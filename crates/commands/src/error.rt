@@ -5,7 +5,7 @@ use blob_digest::DigestError;
 use plan::PlanError;
 use remote::Fault;
 use service::NotAccepted;
-use std::alloc::{AllocError, AllocFailed};
+use std::alloc::{AllocError, AllocFailed, Global};
 use std::io;
 use thiserror::Error;
 
@@ -138,5 +138,13 @@ impl<T: Drop> From<AllocFailed<T>> for CommandError {
 
     fn from(_e: AllocFailed<T>) -> CommandError {
         CommandError::Memory
+    }
+}
+
+/// The error of what stands at a place and can't be put.
+pub(crate) fn entry_error(alloc: Global, place: &str, fault: &'static str) -> CommandError {
+    match String::from_str(alloc, place) {
+        Ok(path) => CommandError::Entry { path, fault },
+        Err(_) => CommandError::Memory,
     }
 }

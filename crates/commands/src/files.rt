@@ -1,6 +1,7 @@
 ghost use Rattle.std.specs.Prelude.{◌≡◌, ◌≢◌, IfErr, IfOk, MatchResult, Ok};
 ghost use Rattle.std.specs.IoError.{error_kind};
 ghost use Rattle.commands.specs.Faults.{IsFileFault};
+ghost use Rattle.remote.specs.Folder.{IsErrorOf};
 
 use crate::error::CommandError;
 use remote::FileError;
@@ -11,9 +12,9 @@ use std::rt::Files;
 
 impl From<FileError<Global>> for CommandError {
     ghost use Rattle.std.specs.Prelude.{◌≡◌};
-    ghost use Rattle.commands.specs.Faults.{of_file};
+    ghost use Rattle.commands.specs.Faults.{error_of_file};
 
-    ghost from_gives = { λ error e. e ≡ of_file error };
+    ghost from_gives = { λ error e. e ≡ error_of_file error };
 
     fn from(error: FileError<Global>) -> CommandError {
         match error {
@@ -41,4 +42,17 @@ pub fn file_error<R: AllocGlobal>(
     }
     let path = String::from_str(rt.alloc(), path)?;
     Ok(CommandError::File { path, fault })
+}
+
+/// The error of what can't be read.
+pub(crate) fn unread(alloc: Global, path: &str, fault: io::Error) -> FileError<Global>
+    ensures { IsErrorOf path.now result }
+{
+    if matches!(fault.kind(), ErrorKind::OutOfMemory) {
+        return FileError::Memory;
+    }
+    match String::from_str(alloc, path) {
+        Ok(path) => FileError::Io { path, fault },
+        Err(_) => FileError::Memory,
+    }
 }

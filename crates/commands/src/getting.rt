@@ -1,7 +1,8 @@
-ghost use Rattle.std.specs.Prelude.{◌≡◌, None, IfErr, IfNone, IfOk, IfSome, OnErr};
+ghost use Rattle.std.specs.Prelude.{◌≡◌, ◌⊎◌, None, IfErr, IfNone, IfOk, IfSome, OnErr};
 ghost use Rattle.blob_digest.specs.Digest.{DigestValue, digest_of};
 ghost use Rattle.clap.specs.Words.{found_of, rows_of};
-ghost use Rattle.commands.specs.Printed.{GetsBlob, GetsPart};
+ghost use Rattle.commands.specs.Got.{Writes, WritesPart};
+ghost use Rattle.commands.specs.Printed.{GetsAsked, GetsPart};
 ghost use Rattle.commands.specs.Status.{status_of};
 ghost use Rattle.http_core.specs.declared.event.Area.TheVariants.{Cas};
 ghost use Rattle.remote.specs.Line.{Gets};
@@ -13,11 +14,12 @@ use crate::connecting::{ServerOptions, read_server};
 use crate::error::CommandError;
 use crate::options::read_digest;
 use crate::telling::write_bytes;
+use crate::trees::get_tree;
 use crate::world::World;
 use blob_digest::Digest;
 use blob_source::BlobSource;
 use clap::ArgMatches;
-use command_lines::text_of;
+use command_lines::{option_of, text_of};
 use remote::{Remote, Stream};
 use std::alloc::Global;
 use std::io::Write;
@@ -58,17 +60,42 @@ fn get_blob<S: Stream + Drop>(
     }
 }
 
-/// Writes the bytes of the blob whose digest the words spell, and answers whether the server has
-/// it.
+/// Prints the bytes of the blob of the digest, and answers whether the server at the other end of
+/// the connection has it.
+fn print_blob<S: Stream + Drop, O: Write>(
+    alloc: Global,
+    server: &ServerOptions,
+    remote: Remote<S, Global>,
+    digest: &Digest,
+    out: &mut O,
+) -> Result<bool, CommandError>
+    requires { (d : DigestValue) → HasAnswer (blobs_of remote) d → ⊥ }
+    ensures printed { IfOk result (Writes (λ c. c ≡ connection_of S.flow remote) digest.now
+        (O.contents out.old) (O.contents out.new)) }
+    ensures begun { OnErr result ((O.contents out.new ≡ O.contents out.old)
+        ⊎ WritesPart digest.now (O.contents out.old) (O.contents out.new)) }
+    ensures fault { IfErr result (λ e. status_of e ≡ 3) }
+{
+    let mut remote = remote;
+    let Some(bytes) = get_blob(alloc, server, &mut remote, digest)? else {
+        return Ok(false);
+    };
+    write_bytes(out, &bytes)?;
+    out.flush().map_err(CommandError::Output)?;
+    Ok(true)
+}
+
+/// Writes the bytes of the blob whose digest the words spell, or its tree into the folder that they
+/// name, and answers whether the server has all of it.
 pub fn run_get<W: World, O: Write>(
     alloc: Global,
     world: &W,
     matches: &ArgMatches<'_>,
     out: &mut O,
 ) -> Result<bool, CommandError>
-    ensures answered { IfOk result (GetsBlob W.sees (rows_of (found_of matches.now))
+    ensures answered { IfOk result (GetsAsked W.sees (rows_of (found_of matches.now))
         (O.contents out.old) (O.contents out.new)) }
-    // A refusal leaves no byte that isn't the blob's.
+    // A refusal leaves no byte that isn't the blob's, or of the line of one that the server lacks.
     ensures begun { OnErr result
         (GetsPart (rows_of (found_of matches.now)) (O.contents out.old) (O.contents out.new)) }
     ensures unprinted { IfErr result
@@ -76,11 +103,9 @@ pub fn run_get<W: World, O: Write>(
 {
     let server = read_server(alloc, matches, text_of(matches, "server"))?;
     let digest = read_digest(alloc, matches, "digest")?;
-    let mut remote = open(alloc, world, &server)?;
-    let Some(bytes) = get_blob(alloc, &server, &mut remote, &digest)? else {
-        return Ok(false);
-    };
-    write_bytes(out, &bytes)?;
-    out.flush().map_err(CommandError::Output)?;
-    Ok(true)
+    let remote = open(alloc, world, &server)?;
+    match option_of(matches, "into") {
+        Some(folder) => get_tree(alloc, world, &server, remote, &digest, folder, out),
+        None => print_blob(alloc, &server, remote, &digest, out),
+    }
 }

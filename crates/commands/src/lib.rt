@@ -2,6 +2,7 @@
 //! command stands on: its errors and statuses, files, digests in options, a client of a server.
 #![tactic(auto)]
 
+mod children;
 mod client;
 mod connecting;
 mod error;
@@ -14,6 +15,7 @@ mod serving;
 mod shelf;
 mod telling;
 mod terminal_line;
+mod trees;
 mod verifying;
 mod world;
 
@@ -28,4 +30,4 @@ pub use serving::run_serve;
 pub use telling::tell;
 pub use terminal_line::TerminalLine;
 pub use verifying::{plan_in_file, run_verify};
-pub use world::{Listening, Service, System, World};
+pub use world::{Found, Listening, Service, System, World};

@@ -1,6 +1,6 @@
 ghost use Rattle.std.specs.Prelude.{◌≡◌, ◌≢◌, IfOk, IfErr, OnOk, OnErr};
 ghost use Rattle.std.specs.Io.KnownBytes.{Appends};
-ghost use Rattle.commands.specs.Refusal.{IsOutputFault};
+ghost use Rattle.commands.specs.Refusal.{IsPrintFault};
 ghost use Rattle.commands.specs.Status.{status_of};
 ghost use Rattle.commands.specs.Told.{AppendsPart, IsErrorLine, TellsOf};
 ghost use Rattle.report.specs.Line.{HasNoNewline};
@@ -14,7 +14,7 @@ pub(crate) fn write_bytes<O: Write>(out: &mut O, bytes: &[u8]) -> Result<(), Com
     ensures written { OnOk result (Appends (O.contents out.old) (O.contents out.new) bytes.now) }
     ensures part { OnErr result (AppendsPart (O.contents out.old) (O.contents out.new) bytes.now) }
     ensures fault { IfErr result (λ e. status_of e ≡ 3) }
-    ensures output { IfErr result IsOutputFault }
+    ensures output { IfErr result IsPrintFault }
 {
     let mut rest = bytes;
     for _ in 0..u64::MAX {
@@ -52,7 +52,7 @@ fn in_one_line(alloc: Global, text: &[u8]) -> Result<Vec<u8>, AllocError>
 
 /// The error's line. That memory is wanting is told without any.
 fn error_line(alloc: Global, error: &CommandError) -> Result<Vec<u8>, AllocError>
-    ensures lawful { IfOk result (λ line. IsErrorLine line.items) }
+    ensures valid { IfOk result (λ line. IsErrorLine line.items) }
     ensures other { IfOk result (λ _. error.now ≢ CommandError.Memory) }
 {
     if matches!(error, CommandError::Memory) {
@@ -67,7 +67,7 @@ fn error_line(alloc: Global, error: &CommandError) -> Result<Vec<u8>, AllocError
     Ok(line)
 }
 
-/// Tells the error in one line. Where memory is out for that, the line tells want of memory.
+/// Tells the error in one line. Where no memory is left for that, the line tells `out of memory`.
 pub fn tell<E: Write>(alloc: Global, error: &CommandError, err: &mut E)
     ensures { TellsOf error.now (E.contents err.old) (E.contents err.new) }
 {

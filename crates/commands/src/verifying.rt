@@ -5,12 +5,12 @@ ghost use Rattle.blob_source.specs.Source.{Telling};
 ghost use Rattle.clap.specs.Words.{found_of, first_of, rows_of};
 ghost use Rattle.command_lines.specs.CommandLine.{option_text};
 ghost use Rattle.commands.specs.Places.{FailsInFolder, FailsOver, IsFresh, IsOfFolder};
-ghost use Rattle.commands.specs.Places.{IsOfServer, IsTold, IsToldOver};
-ghost use Rattle.commands.specs.Printed.{AsksFor, IsOfPlace, IsPlace, NamesPlace, NamesStore};
-ghost use Rattle.commands.specs.Printed.{PrintsVerdict};
+ghost use Rattle.commands.specs.Places.{IsOfServer, IsAnsweredBy, IsToldOver};
+ghost use Rattle.commands.specs.Printed.{AsksQuestion, IsNamedPlace, IsOfPlace, NamesPlace};
+ghost use Rattle.commands.specs.Printed.{NamesStore, PrintsVerdict};
 ghost use Rattle.commands.specs.Refusal.{FailsDigests, FailsPlace, FailsPlan, FailsRecord};
 ghost use Rattle.commands.specs.Refusal.{FailsServer, FailsVerify, HasPlanRead, IsCommandFault};
-ghost use Rattle.commands.specs.Refusal.{IsOutputFault};
+ghost use Rattle.commands.specs.Refusal.{IsPrintFault};
 ghost use Rattle.commands.specs.Status.{status_of};
 ghost use Rattle.commands.specs.Told.{PrintsNoLine};
 ghost use Rattle.remote.specs.Remote.{connection_of, telling_of};
@@ -70,7 +70,7 @@ fn typed_digests(alloc: Global, matches: &ArgMatches<'_>) -> Result<Digests, Com
 }
 
 /// The plan in the file that the words name.
-#[tactic(auto, using(crate::proofs::FileErrors::text_fails, crate::proofs::FileErrors::memory_fails))]
+#[tactic(auto, using(crate::proofs::Unread::text_fails, crate::proofs::Unread::memory_fails))]
 pub fn plan_in_file<W: World>(
     alloc: Global,
     world: &W,
@@ -95,7 +95,7 @@ pub fn plan_in_file<W: World>(
 }
 
 /// What is asked: the digests, the plan, and the record of it in the file that the words name.
-#[tactic(auto, using(crate::proofs::FileErrors::text_fails, crate::proofs::FileErrors::memory_fails))]
+#[tactic(auto, using(crate::proofs::Unread::text_fails, crate::proofs::Unread::memory_fails))]
 fn read_case<W: World>(
     alloc: Global,
     world: &W,
@@ -108,7 +108,7 @@ fn read_case<W: World>(
     requires claim { IsDigestText
         (option_text (rows_of (found_of matches.now)) (codes "claim")) digests.claim }
     requires plan { HasPlanRead W.sees (rows_of (found_of matches.now)) plan }
-    ensures asks { IfOk result (AsksFor W.sees (rows_of (found_of matches.now))) }
+    ensures asks { IfOk result (AsksQuestion W.sees (rows_of (found_of matches.now))) }
     ensures fault { IfErr result (FailsRecord W.sees (rows_of (found_of matches.now)) plan) }
 {
     let path = text_of(matches, "record");
@@ -128,7 +128,7 @@ fn read_case<W: World>(
 
 /// Where the words say that the recorded build is: a store folder or a server, and not both.
 fn read_place(alloc: Global, matches: &ArgMatches<'_>) -> Result<Build, CommandError>
-    ensures place { IfOk result (IsPlace (rows_of (found_of matches.now))) }
+    ensures place { IfOk result (IsNamedPlace (rows_of (found_of matches.now))) }
     ensures fault { IfErr result IsCommandFault }
     ensures unnamed { IfErr result
         (λ e. e ≢ CommandError.Memory → ¬ NamesPlace (rows_of (found_of matches.now))) }
@@ -169,7 +169,7 @@ fn judge_folder<W: World, K: Place>(
     case: &Case<Global>,
 ) -> Result<Answer<Global>, CommandError>
     requires { K.place ≡ string_bytes folder }
-    ensures answered { IfOk result (IsTold (IsOfFolder W.sees K.place) case.now) }
+    ensures answered { IfOk result (IsAnsweredBy (IsOfFolder W.sees K.place) case.now) }
     ensures fault { IfErr result (λ e. ∥ FailsInFolder W.sees K.place e ∥₁) }
 {
     let files = FilesOf(world);
@@ -190,7 +190,7 @@ fn judge_over<S: Stream + Drop, K: Origin>(
 ) -> Result<Answer<Global>, CommandError>
     requires start { K.start ≡ connection_of S.flow remote }
     requires fresh { IsFresh (telling_of remote) }
-    ensures answered { IfOk result (IsTold (IsToldOver K.start) case.now) }
+    ensures answered { IfOk result (IsAnsweredBy (IsToldOver K.start) case.now) }
     ensures fault { IfErr result (λ e. ∥ FailsOver K.start e ∥₁) }
 {
     let mut client: Client<S, K> = Client::new(remote);
@@ -209,8 +209,8 @@ fn judge_server<W: World>(
     case: &Case<Global>,
 ) -> Result<Answer<Global>, CommandError>
     requires { server.now.host ≡ string_bytes server.now.address }
-    ensures answered { IfOk result (IsTold (IsOfServer W.sees (string_bytes server.now.address)
-        server.now.prefix) case.now) }
+    ensures answered { IfOk result (IsAnsweredBy
+        (IsOfServer W.sees (string_bytes server.now.address) server.now.prefix) case.now) }
     ensures fault { IfErr result (λ e. ∥ FailsServer W.sees (string_bytes server.now.address)
         server.now.prefix e ∥₁) }
 {
@@ -226,9 +226,9 @@ fn judge<W: World>(
     build: Build,
     case: &Case<Global>,
 ) -> Result<Answer<Global>, CommandError>
-    requires { IsPlace (rows_of (found_of matches.now)) build }
+    requires { IsNamedPlace (rows_of (found_of matches.now)) build }
     ensures answered { IfOk result
-        (IsTold (IsOfPlace W.sees (rows_of (found_of matches.now))) case.now) }
+        (IsAnsweredBy (IsOfPlace W.sees (rows_of (found_of matches.now))) case.now) }
     ensures fault { IfErr result
         (λ e. ∥ FailsPlace W.sees (rows_of (found_of matches.now)) e ∥₁) }
 {
@@ -245,7 +245,7 @@ fn print_line<O: Write>(answer: &Answer<Global>, out: &mut O) -> Result<(), Comm
     ensures printed { OnOk result (Appends (O.contents out.old) (O.contents out.new)
         (string_bytes answer.now.line)) }
     ensures unended { OnErr result (PrintsNoLine (O.contents out.old) (O.contents out.new)) }
-    ensures fault { IfErr result IsOutputFault }
+    ensures fault { IfErr result IsPrintFault }
 {
     let line = answer.line.as_bytes();
     let (text, newline) = line.split_at(line.len() - 1);

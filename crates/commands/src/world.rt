@@ -1,17 +1,34 @@
-ghost use Rattle.std.specs.Prelude.{IfErr, IfOk, OnOk, string_bytes};
+ghost use Rattle.std.specs.Prelude.{IfErr, IfOk, IsErrOf, OnOk, map, string_bytes};
+ghost use Rattle.blob_source.specs.Called.{Called};
+ghost use Rattle.checkout.specs.Refused.{FailsCheckout};
+ghost use Rattle.checkout.specs.Written.{HoldsTree};
 ghost use Rattle.remote.specs.Folder.{IsErrorOf};
 
 use crate::connecting::{Connection, ServerOptions};
+use crate::files::unread;
+use blob_digest::Digest;
+use blob_source::BlobSource;
 use cache_server::{Cache, Server};
+use checkout::{CheckoutError, SystemWriter, check_out};
 use http_core::Prefix;
 use log::Log;
 use remote::{FileError, FileReader, Stream, read_file};
-use service::{NotAccepted, serve, serve_together};
+use service::{ErrorTerminal, NotAccepted, serve, serve_together};
 use std::alloc::Global;
 use std::net::{Net, SocketAddr, TcpListener, TcpStream};
 use std::rt::Files;
 use std::time::{Clock, Duration};
 use std::{fs, io};
+
+/// What stands at a path.
+#[derive(Drop)]
+pub enum Found {
+    Folder,
+    /// A symbolic link, and where it leads to.
+    Link(String),
+    /// A file, or what is none of these.
+    File,
+}
 
 /// A socket that listens, and its address.
 #[derive(Drop)]
@@ -37,7 +54,7 @@ pub trait World {
     /// A connection to a server.
     type Link: Stream + Drop;
 
-    ghost use Rattle.commands.specs.World.{Sight, serving};
+    ghost use Rattle.commands.specs.World.{Sight, serving, what_stands};
 
     /// What may be said of what it told.
     ghost sees: { Sight };
@@ -45,6 +62,23 @@ pub trait World {
     /// The bytes of a file.
     fn read(&self, alloc: Global, path: &str) -> Result<Vec<u8>, FileError<Global>>
         ensures read { IfOk result (λ bytes. sees.reads path.now bytes.items) }
+        ensures error { IfErr result (IsErrorOf path.now) }
+        ensures fault { IfErr result (sees.fails path.now) };
+
+    /// The names in a folder, in the order of their bytes.
+    fn list(&self, alloc: Global, path: &str) -> Result<Vec<String>, FileError<Global>>
+        ensures listed { IfOk result (λ names. sees.lists path.now (map string_bytes names.items)) }
+        ensures error { IfErr result (IsErrorOf path.now) }
+        ensures fault { IfErr result (sees.fails path.now) };
+
+    /// What stands at a path. A link isn't followed.
+    fn look(&self, alloc: Global, path: &str) -> Result<Found, FileError<Global>>
+        ensures stands { IfOk result (λ found. sees.stands path.now (what_stands found)) }
+        ensures error { IfErr result (IsErrorOf path.now) }
+        ensures fault { IfErr result (sees.fails path.now) };
+
+    /// Whether a folder stands at a path. Links are followed.
+    fn is_folder(&self, alloc: Global, path: &str) -> Result<bool, FileError<Global>>
         ensures error { IfErr result (IsErrorOf path.now) }
         ensures fault { IfErr result (sees.fails path.now) };
 
@@ -57,6 +91,22 @@ pub trait World {
     /// Writes a file: a new one beside it, which then takes its place.
     fn write(&self, alloc: Global, path: &str, bytes: &[u8]) -> io::Result<()>
         ensures { OnOk result (sees.wrote path.now bytes.now) };
+
+    /// Writes the tree with a digest, as a source tells it, into a folder that isn't there or is
+    /// empty.
+    fn check_out<S: BlobSource<Global>>(
+        &self,
+        alloc: Global,
+        path: &str,
+        root: &Digest,
+        source: &mut S,
+    ) -> Result<(), CheckoutError<Global>>
+        ensures written { OnOk result
+            (HoldsTree sees.holds (S.tells source.new).blobs root.now path.now) }
+        ensures refused { IfErr result
+            (FailsCheckout sees.unwritten (S.tells source.new).blobs root.now path.now) }
+        ensures called { Called (S.tells source.old) (S.tells source.new)
+            (IsErrOf result CheckoutError.Fetch) };
 
     /// Listens at an address.
     fn listen(&self, address: &str) -> io::Result<Listening>
@@ -73,7 +123,7 @@ pub struct System<'r, R>(pub &'r R);
 
 impl<'r, R> World for System<'r, R>
 where
-    R: AllocGlobal + Clock + Files + Log,
+    R: AllocGlobal + Clock + ErrorTerminal + Files + Log,
     R: Net<Listener = TcpListener, Stream = TcpStream>,
 {
     type Link = Connection<'r, R>;
@@ -87,6 +137,49 @@ where
         read_file(self.0, path)
     }
 
+    fn list(&self, alloc: Global, path: &str) -> Result<Vec<String>, FileError<Global>> {
+        let mut names = Vec::new(alloc);
+        let entries = match fs::read_dir(&self.0, path) {
+            Ok(entries) => entries,
+            Err(fault) => return Err(unread(alloc, path, fault)),
+        };
+        for entry in entries {
+            let name = match entry {
+                Ok(entry) => String::from_str(alloc, entry.file_name())?,
+                Err(fault) => return Err(unread(alloc, path, fault)),
+            };
+            if names.push(name).is_err() {
+                return Err(FileError::Memory);
+            }
+        }
+        names.sort()?;
+        Ok(names)
+    }
+
+    fn look(&self, alloc: Global, path: &str) -> Result<Found, FileError<Global>> {
+        let metadata = match fs::symlink_metadata(self.0, path) {
+            Ok(metadata) => metadata,
+            Err(fault) => return Err(unread(alloc, path, fault)),
+        };
+        if metadata.is_dir() {
+            return Ok(Found::Folder);
+        }
+        if !metadata.is_symlink() {
+            return Ok(Found::File);
+        }
+        match fs::read_link(self.0, path) {
+            Ok(target) => Ok(Found::Link(String::from_str(alloc, target.as_str())?)),
+            Err(fault) => Err(unread(alloc, path, fault)),
+        }
+    }
+
+    fn is_folder(&self, alloc: Global, path: &str) -> Result<bool, FileError<Global>> {
+        match fs::metadata(self.0, path) {
+            Ok(metadata) => Ok(metadata.is_dir()),
+            Err(fault) => Err(unread(alloc, path, fault)),
+        }
+    }
+
     fn connect(&self, alloc: Global, server: &ServerOptions) -> io::Result<Connection<'r, R>> {
         Connection::open(alloc, self.0, server)
     }
@@ -95,6 +188,17 @@ where
         let fresh = format!(in alloc; "{path}.new")?;
         fs::write(self.0, fresh.as_str(), bytes)?;
         fs::rename(self.0, fresh.as_str(), path)
+    }
+
+    fn check_out<S: BlobSource<Global>>(
+        &self,
+        alloc: Global,
+        path: &str,
+        root: &Digest,
+        source: &mut S,
+    ) -> Result<(), CheckoutError<Global>> {
+        let _folder = check_out(alloc, &SystemWriter(self.0), path, root, source)?;
+        Ok(())
     }
 
     fn listen(&self, address: &str) -> io::Result<Listening> {

@@ -1,4 +1,4 @@
--- What one pass from the least recent entry picks is what a new entry makes the store give up.
+-- What one pass from the least recent entry picks is what a new entry makes the store evict.
 use Rattle.std.proofs.Common.{◌≡◌, ℕ, zero, suc, ◌+◌, ◌-◌, ◌≤◌, ◌<◌, Bool, true, false, cond, not, ◌||◌, nat_le, nat_lt, List, [], ◌∷◌, reverse, length, Option, Some, None, refl, ap, sym, ◌∙◌, subst, arith}
 use Rattle.std.specs.Prelude.{◌==◌}
 use Rattle.std.specs.Cmp.{IsEquivalence}
@@ -11,7 +11,7 @@ use Rattle.std.proofs.lemmas.List.{length-reverse, reverse-reverse}
 use Rattle.std.proofs.lemmas.List.Filters.{length-filter_both}
 use Rattle.std.proofs.lemmas.Map.Keys.{IsDistinct-head, IsDistinct-tail}
 use Rattle.eviction.specs.Kept.{Held, Kept, IsTallied, is_pinned, cost_of, total_cost, pinned_cost, others}
-use Rattle.eviction.specs.Entering.{least, without_first, without_last, new_entry, can_enter, given_up, entered}
+use Rattle.eviction.specs.Entering.{least, without_first, without_last, new_entry, can_enter, evicted, entered}
 use Rattle.eviction.specs.Pinning.{is_among}
 use Rattle.eviction.specs.Victims.{Stands, part_if_pinned, victims, without_keys}
 use Rattle.eviction.proofs.Filters.{filter_all, filter-reverse}
@@ -268,7 +268,7 @@ module _ {K : Type 0} (eq : K → K → Bool) (laws : IsEquivalence eq) (s : Kep
   shorter = let both = length-filter_both (λ e. eq k e.0) (λ e. not (eq k e.0)) (λ _. refl) s.entries in omega (arith, length-reverse rest)
 
   module _ (d : IsDistinct eq (keys_of s.entries)) (x : ℕ) (room : length bytes + s.overhead + pinned_cost s.overhead rest ≤ s.limit) (excess : x ≡ (length bytes + s.overhead + total_cost s.overhead rest) - s.limit) where
-    many : length (picked x) ≡ given_up eq s k bytes
+    many : length (picked x) ≡ evicted eq s k bytes
     many =
         ap length (reversed_rest x)
         ∙ length-victims eq k s.overhead s.limit (reverse rest) (length bytes + s.overhead) x (length s.entries) apart_rest shorter (rw pinned_rest room) (rw (total-reverse s.overhead rest) excess)
@@ -276,7 +276,7 @@ module _ {K : Type 0} (eq : K → K → Bool) (laws : IsEquivalence eq) (s : Kep
         (λ m. nat_le (total_cost s.overhead (new ∷ without_last m rest)) s.limit)
         (λ m. ap (λ n. nat_le (length bytes + s.overhead + n) s.limit) (sym (total-reverse s.overhead (without_first m (reverse rest))))) (length s.entries)
 
-    rest_without : without_keys eq (picked x) rest ≡ without_last (given_up eq s k bytes) rest
+    rest_without : without_keys eq (picked x) rest ≡ without_last (evicted eq s k bytes) rest
     rest_without =
         sym (reverse-reverse (without_keys eq (picked x) rest))
         ∙ ap reverse (sym (filter-reverse (λ e. not (is_among eq (picked x) e.0)) rest)
@@ -286,13 +286,13 @@ module _ {K : Type 0} (eq : K → K → Bool) (laws : IsEquivalence eq) (s : Kep
         ∙ ap (λ m. without_first m (reverse rest)) many)
 
     -- what stays when the new entry has come and the picked keys have gone
-    pub without_picked : without_keys eq (picked x) (new ∷ rest) ≡ new ∷ without_last (given_up eq s k bytes) rest
+    pub without_picked : without_keys eq (picked x) (new ∷ rest) ≡ new ∷ without_last (evicted eq s k bytes) rest
     without_picked = rw (stays (picked x) (subst (AllByRecursion (λ v. eq k v ≡ false)) (sym (reversed_rest x)) (victims_all eq k s.overhead (λ j. eq k j ≡ false) x (reverse rest) (keys_apart (reverse rest) apart_rest))))
         (ap (λ l. new ∷ l) rest_without)
 
-    pub pinned_stay : pinned_cost s.overhead (without_last (given_up eq s k bytes) rest) ≡ pinned_cost s.overhead rest
+    pub pinned_stay : pinned_cost s.overhead (without_last (evicted eq s k bytes) rest) ≡ pinned_cost s.overhead rest
     pinned_stay =
-        let m = given_up eq s k bytes in
+        let m = evicted eq s k bytes in
         ap (total_cost s.overhead) (filter-reverse is_pinned (without_first m (reverse rest)) ∙ ap reverse (pinned-without_first m (reverse rest)))
         ∙ total-reverse s.overhead (filter is_pinned (reverse rest)) ∙ pinned_rest
 
@@ -325,13 +325,13 @@ module _ {K : Type 0} (eq : K → K → Bool) (laws : IsEquivalence eq) (s : Kep
       excess' : x ≡ (length bytes + s.overhead + total_cost s.overhead rest) - s.limit
       excess' = let a = rest_total in omega arith
 
-      after_is : after ≡ new ∷ without_last (given_up eq s k bytes) rest
+      after_is : after ≡ new ∷ without_last (evicted eq s k bytes) rest
       after_is = left ∙ without_picked d x room_for excess'
 
       abbrev test : ℕ → Bool
       test m = nat_le (total_cost s.overhead (new ∷ without_last m rest)) s.limit
 
-      passes : test (given_up eq s k bytes) ≡ true
+      passes : test (evicted eq s k bytes) ≡ true
       passes = least_passes test (length s.entries) (ap (λ n. nat_le (length bytes + s.overhead + n) s.limit) (total-reverse s.overhead (without_first (length s.entries) (reverse rest))) ∙ fits_all)
 
       pub enters_as : entered eq s k bytes ≡ Some (record { entries = after; limit = s.limit; overhead = s.overhead })
@@ -340,7 +340,7 @@ module _ {K : Type 0} (eq : K → K → Bool) (laws : IsEquivalence eq) (s : Kep
       pinned_after : pinned_cost s.overhead after ≡ part_if_pinned new.1.pins (length bytes + s.overhead) + pinned_cost s.overhead rest
       pinned_after = ap (pinned_cost s.overhead) after_is ∙ by_pins (nat_lt 0 new.1.pins)
         where
-          by_pins : (b : Bool) → total_cost s.overhead (cond b (new ∷ filter is_pinned (without_last (given_up eq s k bytes) rest)) (filter is_pinned (without_last (given_up eq s k bytes) rest)))
+          by_pins : (b : Bool) → total_cost s.overhead (cond b (new ∷ filter is_pinned (without_last (evicted eq s k bytes) rest)) (filter is_pinned (without_last (evicted eq s k bytes) rest)))
               ≡ cond b (length bytes + s.overhead) 0 + pinned_cost s.overhead rest
           by_pins true = ap (λ n. length bytes + s.overhead + n) (pinned_stay d x room_for excess')
           by_pins false = let stay = pinned_stay d x room_for excess' in omega arith
@@ -349,7 +349,7 @@ module _ {K : Type 0} (eq : K → K → Bool) (laws : IsEquivalence eq) (s : Kep
       tallied_after = record {
         held_is = let a = rest_total in omega arith;
         pinned_is = let a = pinned_after in let b = rest_pinned in omega arith;
-        within = let p = is_le (total_cost s.overhead (new ∷ without_last (given_up eq s k bytes) rest)) s.limit passes in let a = rest_total in let b = ap (total_cost s.overhead) after_is in omega arith;
+        within = let p = is_le (total_cost s.overhead (new ∷ without_last (evicted eq s k bytes) rest)) s.limit passes in let a = rest_total in let b = ap (total_cost s.overhead) after_is in omega arith;
         limit_is = t.limit_is;
       }
 
@@ -365,7 +365,7 @@ module _ {K : Type 0} (eq : K → K → Bool) (laws : IsEquivalence eq) (s : Kep
     pub admitted : can_enter eq s k bytes ≡ true
     admitted = enters d held pinned old_cost t st' fits'
 
-    -- the costs with those of the new entry, before anything is given up
+    -- the costs with those of the new entry, before anything is evicted
     pub whole_is : held - old_cost + cost ≡ total_cost s.overhead (new ∷ rest)
     whole_is = let a = rest_total d held pinned old_cost t st' fits' in omega arith
 

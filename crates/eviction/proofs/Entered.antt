@@ -4,7 +4,7 @@ use Rattle.std.specs.Cmp.{IsEquivalence}
 use Rattle.std.specs.List.{filter}
 use Rattle.std.proofs.lemmas.List.{reverse-reverse}
 use Rattle.eviction.specs.Kept.{Held, Kept, is_pinned, cost_of, total_cost, others}
-use Rattle.eviction.specs.Entering.{spared, spared_last, fits, without_first, without_last, new_entry, can_enter, given_up, entered, IsLeast, FitsWithout}
+use Rattle.eviction.specs.Entering.{spared, spared_last, fits, without_first, without_last, new_entry, can_enter, evicted, entered, IsLeast, FitsWithout}
 use Rattle.eviction.proofs.Filters.{filter-reverse}
 use Rattle.eviction.proofs.Costs.{total-reverse}
 use Rattle.eviction.proofs.Choices.{le_is, is_le, least_passes, least_is_least, pinned-without_first, without_all, pinned_rest, shorter}
@@ -21,7 +21,7 @@ module _ {K : Type 0} where
 
   module _ (eq : K → K → Bool) where
     pub record IsEntered (s t : Kept K) (k : K) (b : List ℕ) : Type 0 where
-      pub entries : t.entries ≡ new_entry eq s k b ∷ spared_last is_pinned (given_up eq s k b) (others eq k s.entries)
+      pub entries : t.entries ≡ new_entry eq s k b ∷ spared_last is_pinned (evicted eq s k b) (others eq k s.entries)
       pub limit : t.limit ≡ s.limit
       pub overhead : t.overhead ≡ s.overhead
       pub could : can_enter eq s k b ≡ true
@@ -29,8 +29,8 @@ module _ {K : Type 0} where
     pub entered_is : (s t : Kept K) (k : K) (b : List ℕ) → entered eq s k b ≡ Some t → IsEntered s t k b
     entered_is s t k b e = by_room (can_enter eq s k b) refl e
       where
-        by_room : (y : Bool) → can_enter eq s k b ≡ y → option_map (with_entries s) (cond y (Some (new_entry eq s k b ∷ spared_last is_pinned (given_up eq s k b) (others eq k s.entries))) None) ≡ Some t → IsEntered s t k b
-        by_room true c e = let same : with_entries s (new_entry eq s k b ∷ spared_last is_pinned (given_up eq s k b) (others eq k s.entries)) ≡ t = cc in record {
+        by_room : (y : Bool) → can_enter eq s k b ≡ y → option_map (with_entries s) (cond y (Some (new_entry eq s k b ∷ spared_last is_pinned (evicted eq s k b) (others eq k s.entries))) None) ≡ Some t → IsEntered s t k b
+        by_room true c e = let same : with_entries s (new_entry eq s k b ∷ spared_last is_pinned (evicted eq s k b) (others eq k s.entries)) ≡ t = cc in record {
           entries = sym (ap (λ (x : Kept K). x.entries) same);
           limit = sym (ap (λ (x : Kept K). x.limit) same);
           overhead = sym (ap (λ (x : Kept K). x.overhead) same);
@@ -42,7 +42,7 @@ module _ {K : Type 0} where
     entered_pinned s t k b e =
         let new = new_entry eq s k b in
         ap (filter is_pinned) (entered_is s t k b e).entries
-        ∙ ap (λ l. cond (is_pinned new) (new ∷ l) l) (pinned-spared_last (given_up eq s k b) (others eq k s.entries))
+        ∙ ap (λ l. cond (is_pinned new) (new ∷ l) l) (pinned-spared_last (evicted eq s k b) (others eq k s.entries))
 
     module _ (laws : IsEquivalence eq) (s : Kept K) (k : K) (b : List ℕ) where
       cost_all : total_cost s.overhead (without_last (length s.entries) (others eq k s.entries)) ≡ total_cost s.overhead (filter is_pinned (others eq k s.entries))
@@ -51,13 +51,13 @@ module _ {K : Type 0} where
           ∙ ap (total_cost s.overhead) (without_all (length s.entries) (reverse (others eq k s.entries)) (shorter eq laws s k b))
           ∙ pinned_rest eq laws s k b
 
-      pub gives_up_least : can_enter eq s k b ≡ true → IsLeast (FitsWithout eq s k b) (given_up eq s k b)
-      gives_up_least c =
+      pub evicts_least : can_enter eq s k b ≡ true → IsLeast (FitsWithout eq s k b) (evicted eq s k b)
+      evicts_least c =
           let test : ℕ → Bool = fits is_pinned (cost_of s.overhead) s.limit (new_entry eq s k b) (others eq k s.entries) in
           let most = length s.entries in
           let all : test most ≡ true = ap (λ n. nat_le (length b + s.overhead + n) s.limit) cost_all ∙ c in
           record {
-            holds = is_le (total_cost s.overhead (new_entry eq s k b ∷ without_last (given_up eq s k b) (others eq k s.entries))) s.limit (least_passes test most all);
+            holds = is_le (total_cost s.overhead (new_entry eq s k b ∷ without_last (evicted eq s k b) (others eq k s.entries))) s.limit (least_passes test most all);
             least = λ m passes. by_order m passes (le_is (total_cost s.overhead (new_entry eq s k b ∷ without_last m (others eq k s.entries))) s.limit passes) (least_is_least test most m);
           }
         where
@@ -65,5 +65,5 @@ module _ {K : Type 0} where
           not_below m n h = omega arith
 
           by_order : (m : ℕ) → FitsWithout eq s k b m → fits is_pinned (cost_of s.overhead) s.limit (new_entry eq s k b) (others eq k s.entries) m ≡ true
-              → (m < given_up eq s k b → fits is_pinned (cost_of s.overhead) s.limit (new_entry eq s k b) (others eq k s.entries) m ≡ false) → given_up eq s k b ≤ m
-          by_order m p t f = not_below m (given_up eq s k b) (λ below. let no = f below in absurd cc)
+              → (m < evicted eq s k b → fits is_pinned (cost_of s.overhead) s.limit (new_entry eq s k b) (others eq k s.entries) m ≡ false) → evicted eq s k b ≤ m
+          by_order m p t f = not_below m (evicted eq s k b) (λ below. let no = f below in absurd cc)

@@ -9,7 +9,7 @@ use Rattle.eviction.specs.declared.entry.Entry.{Entry}
 use Rattle.eviction.specs.Kept.{Held, moved_to_front, others, total_cost, bytes_under}
 use Rattle.eviction.specs.Entering.{stored_key, cost_under}
 use Rattle.eviction.proofs.Costs.{total_others, pinned_others}
-use Rattle.eviction.specs.Pinning.{is_among, is_held, pins_of}
+use Rattle.eviction.specs.Pinning.{is_among, is_stored, pins_of}
 use Rattle.eviction.specs.Victims.{Stands, without_keys}
 use Rattle.eviction.specs.View.{held, held_all}
 use Rattle.eviction.proofs.Filters.{filter-map, filter-filter, filter_same}
@@ -45,8 +45,8 @@ module _ {K A : Type 0} where
       elim (test e.0) as (λ b. cond b (Some (held e.1)) (lookup test (held_all es)) ≡ option_map held (cond b (Some e.1) (lookup test es)))
       [ true ↦ refl | false ↦ lookup_held test es ]
 
-  pub is_held_held : (eq : K → K → Bool) (k : K) (es : List (K × Entry A)) → is_held eq (held_all es) k ≡ is_some (lookup (eq k) es)
-  is_held_held eq k es = ap is_some (lookup_held (eq k) es) ∙ held_or_not (lookup (eq k) es)
+  pub is_stored_held : (eq : K → K → Bool) (k : K) (es : List (K × Entry A)) → is_stored eq (held_all es) k ≡ is_some (lookup (eq k) es)
+  is_stored_held eq k es = ap is_some (lookup_held (eq k) es) ∙ held_or_not (lookup (eq k) es)
 
   pub find_held : (test : K → Bool) (es : List (K × Entry A)) → lookup_entry test (held_all es) ≡ option_map (λ e. (e.0, held e.1)) (lookup_entry test es)
   find_held test [] = refl

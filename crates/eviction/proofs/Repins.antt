@@ -11,9 +11,9 @@ use Rattle.std.proofs.lemmas.Map.Entries.{none_past_head}
 use Rattle.std.proofs.lemmas.Map.{NonePasses}
 use Rattle.eviction.specs.declared.entry.Entry.{Entry}
 use Rattle.eviction.specs.Kept.{Held, IsTallied, is_pinned, cost_of, total_cost, pinned_cost}
-use Rattle.eviction.specs.Pinning.{repinned, is_among, pins_of, is_held, all_held, all_pinned}
+use Rattle.eviction.specs.Pinning.{repinned, is_among, pins_of, is_stored, all_stored, all_pinned}
 use Rattle.std.proofs.lemmas.Bool.Decides.{nat_tests}
-use Rattle.eviction.proofs.Looks.{is_held_held, lookup_held, pins_found}
+use Rattle.eviction.proofs.Looks.{is_stored_held, lookup_held, pins_found}
 use Rattle.eviction.specs.Victims.{part_if_pinned}
 use Rattle.eviction.specs.View.{held, held_all}
 
@@ -184,8 +184,8 @@ module _ {K : Type 0} where
   same_all p q h (k ∷ ks) = λ i. h k i && same_all p q h ks i
 
 module _ {K A : Type 0} (eq : K → K → Bool) where
-  pub all_held_is : (es : List (K × Entry A)) (ks : List K) → list_all (λ k. is_some (lookup (eq k) es)) ks ≡ all_held eq (held_all es) ks
-  all_held_is es ks = same_all (λ k. is_some (lookup (eq k) es)) (is_held eq (held_all es)) (λ k. sym (is_held_held eq k es)) ks
+  pub all_stored_is : (es : List (K × Entry A)) (ks : List K) → list_all (λ k. is_some (lookup (eq k) es)) ks ≡ all_stored eq (held_all es) ks
+  all_stored_is es ks = same_all (λ k. is_some (lookup (eq k) es)) (is_stored eq (held_all es)) (λ k. sym (is_stored_held eq k es)) ks
 
   pub count_is : (k : K) (es : List (K × Entry A)) → option_map_or (λ (e : Entry A). e.pins) (lookup (eq k) es) 0 ≡ pins_of eq (held_all es) k
   count_is k es = pins_found (lookup (eq k) es) ∙ ap (λ o. option_map_or (λ (h : Held). h.pins) o 0) (sym (lookup_held (eq k) es))

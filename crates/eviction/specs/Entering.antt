@@ -1,4 +1,4 @@
--- How an entry enters a store, and what is given up for it.
+-- How an entry enters a store, and what is evicted for it.
 use Rattle.std.specs.Prelude.{ℕ, zero, suc, ◌+◌, ◌≤◌, Bool, nat_le, List, [], ◌∷◌, reverse, length}
 use Rattle.std.specs.Prelude.{Option, Some, None, option_map, if◌then◌else◌}
 use Rattle.std.specs.List.{filter}
@@ -32,15 +32,15 @@ module _ {E : Type 0} (pinned : E → Bool) where
     abbrev pub fits : ℕ → Bool
     fits m = nat_le (total cost (new ∷ spared_last m others)) limit
 
-    -- How many others are given up: the least number with which all costs fit. It is looked for up
+    -- How many others are evicted: the least number with which all costs fit. It is looked for up
     -- to most, which is at least how many others there are.
-    abbrev pub given_up_for : ℕ → ℕ
-    given_up_for most = least fits most
+    abbrev pub evicted_for : ℕ → ℕ
+    evicted_for most = least fits most
 
     -- the entries when the new one has entered, if it can
     abbrev pub enter : ℕ → Option (List E)
     enter most =
-        if has_room then Some (new ∷ spared_last (given_up_for most) others) else None
+        if has_room then Some (new ∷ spared_last (evicted_for most) others) else None
 
 module _ {K : Type 0} where
   abbrev pub without_first : ℕ → List (K × Held) → List (K × Held)
@@ -70,10 +70,10 @@ module _ {K : Type 0} where
     abbrev pub can_enter : Bool
     can_enter = has_room is_pinned (cost_of s.overhead) s.limit new_entry rest_of
 
-    -- how many of the least recent unpinned others are given up
-    abbrev pub given_up : ℕ
-    given_up =
-        given_up_for is_pinned (cost_of s.overhead) s.limit new_entry rest_of (length s.entries)
+    -- how many of the least recent unpinned others are evicted
+    abbrev pub evicted : ℕ
+    evicted =
+        evicted_for is_pinned (cost_of s.overhead) s.limit new_entry rest_of (length s.entries)
 
     abbrev pub entries_entered : Option (List (K × Held))
     entries_entered =

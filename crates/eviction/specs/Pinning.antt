@@ -17,15 +17,15 @@ module _ {K : Type 0} where
     abbrev pub is_among : List K → K → Bool
     is_among ks k = list_any (λ x. eq x k) ks
 
-    abbrev pub is_held : List (K × Held) → K → Bool
-    is_held es k = is_some (lookup (eq k) es)
+    abbrev pub is_stored : List (K × Held) → K → Bool
+    is_stored es k = is_some (lookup (eq k) es)
 
     -- how often a key is pinned
     abbrev pub pins_of : List (K × Held) → K → ℕ
     pins_of es k = option_map_or (λ h. h.pins) (lookup (eq k) es) 0
 
-    abbrev pub all_held : List (K × Held) → List K → Bool
-    all_held es ks = list_all (is_held es) ks
+    abbrev pub all_stored : List (K × Held) → List K → Bool
+    all_stored es ks = list_all (is_stored es) ks
 
     abbrev pub all_pinned : List (K × Held) → List K → Bool
     all_pinned es ks = list_all (λ k. nat_lt 0 (pins_of es k)) ks

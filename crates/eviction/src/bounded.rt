@@ -4,7 +4,7 @@ ghost use Rattle.std.specs.Borrow.{sem};
 ghost use Rattle.std.specs.List.{IsDistinct};
 ghost use Rattle.eviction.specs.Kept.{IsKept, total_cost, touched, bytes_under};
 ghost use Rattle.eviction.specs.Entering.{entered, can_enter};
-ghost use Rattle.eviction.specs.Pinning.{CanPinMore, pins_of, is_held, all_held, all_pinned};
+ghost use Rattle.eviction.specs.Pinning.{CanPinMore, pins_of, is_stored, all_stored, all_pinned};
 ghost use Rattle.eviction.specs.Pinning.{pinned_all, unpinned_all};
 
 use crate::entry::{Entry, part_of_pinned, standing_under};
@@ -19,7 +19,7 @@ use std::marker::Model;
 use std::num::NonZeroUsize;
 
 /// Bytes under keys, whose costs together are at most a limit. Each costs its length and the
-/// overhead. Pinned entries are never given up.
+/// overhead. Pinned entries are never evicted.
 #[derive(Drop)]
 pub struct Bounded<K: Copy + Eq + Hash, A: Allocator> {
     cache: LruCache<K, Entry<A>, RandomState, A>,
@@ -69,17 +69,17 @@ impl<K: Copy + Eq + Hash, A: Allocator + Copy> Bounded<K, A> {
     /// The sum of the entries' costs. It is never above the limit, and no two keys are equal.
     pub fn held_bytes(&self) -> u64
         ensures value { result ≡ total_cost self.now.overhead self.now.entries }
-        ensures lawful { IsKept K.eq self.now }
+        ensures valid { IsKept K.eq self.now }
     {
         let _distinct = self.cache.len();
         self.held
     }
 
     /// Puts the bytes under the key, first, in place of what stood there. Where they fit beside the
-    /// pinned others, the least recent unpinned others are given up until all costs fit; else they
+    /// pinned others, the least recent unpinned others are evicted until all costs fit; else they
     /// are refused as `Full`.
     ///
-    /// It costs a look at each entry that is given up, and at each pinned one that is less recent
+    /// It costs a look at each entry that is evicted, and at each pinned one that is less recent
     /// than one of these, and that once. Where nothing needs to go it costs a look-up, and now and
     /// then a doubling of the table.
     pub fn put(&mut self, key: K, bytes: Vec<u8, A>) -> Result<(), BoundedError>
@@ -111,7 +111,7 @@ impl<K: Copy + Eq + Hash, A: Allocator + Copy> Bounded<K, A> {
     /// Moves the entry under the key to the front, and answers whether there is one. It costs a
     /// look-up.
     pub fn touch(&mut self, key: &K) -> bool
-        ensures held { result ≡ is_held K.eq self.old.entries key.now }
+        ensures held { result ≡ is_stored K.eq self.old.entries key.now }
         ensures moves { self.new ≡ touched K.eq self.old key.now }
     {
         let _count = self.cache.len();
@@ -154,9 +154,9 @@ impl<K: Copy + Eq + Hash, A: Allocator + Copy> Bounded<K, A> {
     }
 
     /// Whether the key is held. Nothing moves. It costs a look-up.
-    #[tactic(auto, using(crate::proofs::Looks::is_held_held))]
+    #[tactic(auto, using(crate::proofs::Looks::is_stored_held))]
     pub fn contains(&self, key: &K) -> bool
-        ensures { result ≡ is_held K.eq self.now.entries key.now }
+        ensures { result ≡ is_stored K.eq self.now.entries key.now }
     {
         self.cache.contains(key)
     }
@@ -174,9 +174,9 @@ impl<K: Copy + Eq + Hash, A: Allocator + Copy> Bounded<K, A> {
         requires distinct { IsDistinct K.eq keys.now }
         requires counts { CanPinMore K.eq self.old.entries keys.now }
         ensures ok { OnOk result (self.new ≡ pinned_all K.eq self.old keys.now) }
-        ensures held { OnOk result (all_held K.eq self.old.entries keys.now ≡ true) }
+        ensures held { OnOk result (all_stored K.eq self.old.entries keys.now ≡ true) }
         ensures err { OnErr result (self.new ≡ self.old) }
-        ensures not_held { OnErr result (all_held K.eq self.old.entries keys.now ≡ false) }
+        ensures not_held { OnErr result (all_stored K.eq self.old.entries keys.now ≡ false) }
         ensures error { IfErr result (λ e. e ≡ BoundedError.NotHeld) }
     {
         if !holds_all(&self.cache, keys) {

@@ -1,17 +1,17 @@
 ghost use Rattle.std.specs.Prelude.{◌≡◌, ℕ, List, ◌∷◌, Some, true};
 ghost use Rattle.std.specs.List.{filter};
 ghost use Rattle.eviction.specs.Kept.{Kept, is_pinned, others};
-ghost use Rattle.eviction.specs.Entering.{entered, can_enter, given_up, new_entry, FitsWithout};
+ghost use Rattle.eviction.specs.Entering.{entered, can_enter, evicted, new_entry, FitsWithout};
 ghost use Rattle.eviction.specs.Entering.{IsLeast};
 
 use std::hash::Hash;
 
-/// Where an entry enters, it gives up the least number of the last unpinned others without which
+/// Where an entry enters, it evicts the least number of the last unpinned others without which
 /// the costs fit. A law: it does nothing.
 pub fn entering_gives_up_the_fewest<K: Copy + Eq + Hash>()
     ensures { (s : Kept K) (k : K) (bytes : List ℕ)
         → can_enter K.eq s k bytes ≡ true
-        → IsLeast (FitsWithout K.eq s k bytes) (given_up K.eq s k bytes) }
+        → IsLeast (FitsWithout K.eq s k bytes) (evicted K.eq s k bytes) }
 {}
 
 /// Where an entry enters, all pinned others stay, in their order. A law: it does nothing.

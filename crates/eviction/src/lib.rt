@@ -1,5 +1,5 @@
 //! Bounded stores of bytes under keys. The least recently used entries that are not pinned are
-//! given up for new ones.
+//! evicted for new ones.
 #![tactic(auto)]
 
 mod bounded;

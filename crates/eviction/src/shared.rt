@@ -52,9 +52,4 @@ impl<A: Allocator> Shared<A> {
     {
         self.bytes
     }
-
-    /// Whether nobody else holds them. Nothing is proved of it.
-    pub fn is_last(&self) -> bool {
-        Rc::strong_count(&self.bytes) <= 1
-    }
 }

@@ -10,7 +10,7 @@ use Rattle.http_core.specs.Connection.{closes_of}
 use Rattle.http_core.specs.Head.{Parts, head_parts}
 use Rattle.http_core.specs.Judging.{Judges}
 use Rattle.http_core.specs.Rules.{first_status, rules_of, refused_status, is_put, length_of, size_of, asked, Targets, Judged, is_served}
-use Rattle.http_core.specs.Event.{EventValue, Asked, Get, Put, IsServed, IsLawful}
+use Rattle.http_core.specs.Event.{EventValue, Asked, Get, Put, IsServed, IsValid}
 use Rattle.http_core.specs.Session.{IsAllowed}
 
 none_apply : (rules : List (Bool × ℕ)) → first_status rules ≡ None → AllByRecursion (λ r. r.0 ≡ false) rules
@@ -55,6 +55,6 @@ allowed prefix block j (inr (inr x)) =
     let p : Parts = head_parts x.1 in
     judged_allowed prefix p (refused_status p.minor p.method p.fields) j refl x.3
 
-pub lawful_with : (events : List EventValue) (event : EventValue) → AllByRecursion IsLawful events → IsLawful event → AllByRecursion IsLawful (events ++ event ∷ [])
-lawful_with [] event all h = (h, tt)
-lawful_with (e ∷ events) event (first, all) h = (first, lawful_with events event all h)
+pub valid_with : (events : List EventValue) (event : EventValue) → AllByRecursion IsValid events → IsValid event → AllByRecursion IsValid (events ++ event ∷ [])
+valid_with [] event all h = (h, tt)
+valid_with (e ∷ events) event (first, all) h = (first, valid_with events event all h)

@@ -3,10 +3,10 @@ use Rattle.std.proofs.Common.{◌≡◌, ◌≢◌, ℕ, ◌≤◌, ◌+◌, Som
 use Rattle.std.proofs.Math.Seq.{take-add}
 use Rattle.std.proofs.lemmas.List.{append-nil, map-append, take_all, take-append-drop}
 use Rattle.http_core.specs.declared.event.Event.{Event}
-use Rattle.http_core.specs.Event.{EventValue, closes, event_of, events_of, IsLawful}
+use Rattle.http_core.specs.Event.{EventValue, closes, event_of, events_of, IsValid}
 use Rattle.http_core.specs.Session.{SessionState, Reading, Taking, Closed, SessionValue, Stands, Feeds, ended}
 use Rattle.std.specs.List.{AllByRecursion}
-use Rattle.http_core.proofs.Fitting.{lawful_with}
+use Rattle.http_core.proofs.Fitting.{valid_with}
 use Rattle.http_core.proofs.Standing.{Moves, stands_on, stands_event, stands_closed, stands_stop}
 
 further : (stream piece rest : List ℕ) (at taken : ℕ) → rest ≡ drop at piece → (stream ++ take at piece) ++ take taken rest ≡ stream ++ take (at + taken) piece
@@ -61,7 +61,7 @@ not_open (Reading bytes) h = absurd (h (λ e. cc))
 not_open (Taking area hash size close body) h = absurd (h (λ e. cc))
 not_open Closed h = refl
 
-pub lawful_more : {A : Type 0} (events more : List (Event A)) (event : Event A) → more ≡ events ++ event ∷ []
-    → AllByRecursion IsLawful (events_of events) → IsLawful (event_of event) → AllByRecursion IsLawful (events_of more)
-lawful_more events more event e all h =
-    subst (λ z. AllByRecursion IsLawful z) (sym (ap (λ es. events_of es) e ∙ map-append event_of events (event ∷ []))) (lawful_with (events_of events) (event_of event) all h)
+pub valid_more : {A : Type 0} (events more : List (Event A)) (event : Event A) → more ≡ events ++ event ∷ []
+    → AllByRecursion IsValid (events_of events) → IsValid (event_of event) → AllByRecursion IsValid (events_of more)
+valid_more events more event e all h =
+    subst (λ z. AllByRecursion IsValid z) (sym (ap (λ es. events_of es) e ∙ map-append event_of events (event ∷ []))) (valid_with (events_of events) (event_of event) all h)

@@ -19,15 +19,15 @@ shown_says block x head s h =
     let same : s.response ≡ h.response = (response_unique block s.response h.response [] [] s.reads.0 h.reads.0).0 in
     same_parts _ _ _ _ _ _ s.version s.code s.fields ∙ ap said_by same ∙ h.is
 
--- what is shown is lawful, where it says something
-pub lawful_head : (o : Option ReplyHead) (block : List ℕ) (x : Response) → IsBlock block → length block ≤ 16384 → pairs block ≤ 66 → ShowsResponse block x
+-- what is shown is valid, where it says something
+pub valid_head : (o : Option ReplyHead) (block : List ℕ) (x : Response) → IsBlock block → length block ≤ 16384 → pairs block ≤ 66 → ShowsResponse block x
     → o ≡ reply_of x.spans.version x.spans.code (map (header_bytes block) (take x.spans.headers x.headers)) → IfSome o (λ head. IsReplyHead block head)
-lawful_head None block x b fits few s e = tt
-lawful_head (Some head) block x b fits few s e = record { ends = b; fits = fits; few = few; response = s.response; reads = s.reads; is = sym (same_parts _ _ _ _ _ _ s.version s.code s.fields) ∙ sym e }
+valid_head None block x b fits few s e = tt
+valid_head (Some head) block x b fits few s e = record { ends = b; fits = fits; few = few; response = s.response; reads = s.reads; is = sym (same_parts _ _ _ _ _ _ s.version s.code s.fields) ∙ sym e }
 
-pub unlawful : (o : Option ReplyHead) (P : ReplyHead → Type 0) → ((head : ReplyHead) → P head → o ≡ Some head) → IfNone o ((head : ReplyHead) → P head → ⊥)
-unlawful None P f = λ head p. let e : None ≡ Some head = f head p in cc
-unlawful (Some x) P f = tt
+pub invalid : (o : Option ReplyHead) (P : ReplyHead → Type 0) → ((head : ReplyHead) → P head → o ≡ Some head) → IfNone o ((head : ReplyHead) → P head → ⊥)
+invalid None P f = λ head p. let e : None ≡ Some head = f head p in cc
+invalid (Some x) P f = tt
 
 some_is : (a b : ReplyHead) → Some a ≡ Some b → a ≡ b
 some_is a b e = cc

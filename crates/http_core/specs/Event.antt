@@ -25,9 +25,9 @@ IsServed (Get Pin hash) = ⊥
 IsServed (Get Unpin hash) = ⊥
 IsServed (Put area hash body) = length body ≤ greatest_blob
 
-abbrev pub IsLawful : EventValue → Type 0
-IsLawful (Asked ask close) = IsServed ask
-IsLawful (Refused status close) = ⊤
+abbrev pub IsValid : EventValue → Type 0
+IsValid (Asked ask close) = IsServed ask
+IsValid (Refused status close) = ⊤
 
 abbrev pub closes : EventValue → Bool
 closes (Asked ask close) = close

@@ -17,28 +17,28 @@ use Rattle.http_core.specs.Rules.{count_of, length_of}
 abbrev pub IsResponseOf : List ℕ → ResponseHead → Type 0
 IsResponseOf block h = ReadsResponse block h [] × (length h.fields ≤ 64)
 
--- the length of a reply's body, if it is lawful: 204 has none, and alone may leave it out
+-- the length of a reply's body, if it is valid: 204 has none, and alone may leave it out
 abbrev pub reply_length : ℕ → Length → Option ℕ
 reply_length status Absent = if status == 204 then Some 0 else None
 reply_length status Bad = None
 reply_length status (Is size) =
     if nat_lt (if status == 204 then 0 else greatest_blob) size then None else Some size
 
--- the head, where the length is lawful
+-- the head, where the length is valid
 abbrev pub with_length : ℕ → List (List ℕ × List ℕ) → Option ℕ → Option ReplyHead
 with_length status fields None = None
 with_length status fields (Some size) =
     Some (record { status = status; length = size; close = closes_of fields })
 
 -- What a head of version 1.minor, with the status and the fields, says of the reply, if it is
--- lawful: of version 1.1, with no coding of the body, and with one lawful length.
+-- valid: of version 1.1, with no coding of the body, and with one valid length.
 unfoldable pub reply_of : ℕ → ℕ → List (List ℕ × List ℕ) → Option ReplyHead
 reply_of minor status fields =
     if minor == 0 then None
     else (if nat_lt 0 (count_of (codes "transfer-encoding") fields) then None
     else with_length status fields (reply_length status (length_of fields)))
 
--- what it says of the reply, if it is lawful
+-- what it says of the reply, if it is valid
 abbrev pub said_by : ResponseHead → Option ReplyHead
 said_by h = reply_of h.minor (status_code h) (map name_and_value h.fields)
 

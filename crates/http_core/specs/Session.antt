@@ -9,7 +9,7 @@ use Rattle.http_core.specs.declared.session.Stage.TheVariants as stages
 use Rattle.std.specs.List.{AllByRecursion}
 use Rattle.blob_digest.specs.Body.{greatest_blob}
 use Rattle.http_core.specs.Block.{HasNoBlock, IsBlock}
-use Rattle.http_core.specs.Event.{Get, EventValue, closes, IsServed, IsLawful}
+use Rattle.http_core.specs.Event.{Get, EventValue, closes, IsServed, IsValid}
 use Rattle.http_core.specs.Judging.{Judges}
 use Rattle.http_core.specs.Stream.{Completes, Cuts}
 
@@ -89,7 +89,7 @@ pub record Takes
   pub within : taken ≤ length piece
   pub moves : (rest : List ℕ) → Holds old.prefix old.state rest
       → Follows old.prefix (rest ++ take taken piece) event new.state
-  pub lawful : AllByRecursion IsLawful (if_any event)
+  pub valid : AllByRecursion IsValid (if_any event)
 
 -- what a judgement lets a request ask
 abbrev pub IsAllowed : Judgement → Type 0
@@ -105,7 +105,7 @@ pub record Feeds
   pub stands : (stream : List ℕ) (before : List EventValue)
       → Stands old stream before → Stands new (stream ++ piece) (before ++ events)
   pub closed : IsClosed old → IsClosed new × (events ≡ [])
-  pub lawful : AllByRecursion IsLawful events
+  pub valid : AllByRecursion IsValid events
   pub prefix : new.prefix ≡ old.prefix
 
 -- a session is where a request ends, if there is an event

@@ -28,7 +28,7 @@ pub(crate) struct Response {
     pub headers: [HeaderSpan; 64],
 }
 
-/// Reads the head of a reply from its block, if it is lawful: of at most 16,384 bytes up to its
+/// Reads the head of a reply from its block, if it is valid: of at most 16,384 bytes up to its
 /// first empty line, of version 1.1, without `Transfer-Encoding`, with one `Content-Length` of at
 /// most 16,777,216; with status 204 it may be absent and is else 0.
 pub fn read_reply_head(block: &[u8]) -> Option<ReplyHead>
@@ -64,7 +64,7 @@ fn read_response(block: &[u8]) -> Option<Response>
     }
 }
 
-/// What the head says of its reply, if it is lawful.
+/// What the head says of its reply, if it is valid.
 #[tactic(auto, unfolding(crate::specs::ReplyHead::reply_of))]
 fn head_in(block: &[u8], spans: &ResponseSpans, headers: &[HeaderSpan]) -> Option<ReplyHead>
     requires { IsResponseWithin block.now headers.now spans.now }
@@ -86,7 +86,7 @@ fn head_in(block: &[u8], spans: &ResponseSpans, headers: &[HeaderSpan]) -> Optio
     })
 }
 
-/// The length of the body of a reply with this status, if it is lawful.
+/// The length of the body of a reply with this status, if it is valid.
 fn reply_length(status: u16, length: Length) -> Option<u64>
     ensures { result ≡ reply_length status length }
 {

@@ -3,7 +3,7 @@ ghost use Rattle.std.specs.Prelude.{IsTrue, IfOk, OnErr, OnOk, Option};
 ghost use Rattle.std.specs.List.{AllByRecursion};
 ghost use Rattle.http_core.specs.declared.event.Area.{Area};
 ghost use Rattle.http_core.specs.Block.{IsBlock};
-ghost use Rattle.http_core.specs.Event.{IsLawful, events_of, option_event};
+ghost use Rattle.http_core.specs.Event.{IsValid, events_of, option_event};
 ghost use Rattle.http_core.specs.Judging.{Judges};
 ghost use Rattle.http_core.specs.Session.{SessionValue, Reading, Taking, Stands, Feeds, FeedsFirst};
 ghost use Rattle.http_core.specs.Session.{IsOpen, IsClosed, Takes, Follows, IsAllowed, ended, if_any};
@@ -119,7 +119,7 @@ impl<A: Allocator + Copy> Session<A> {
         }
     }
 
-    /// Closes the session. The bytes of a body that isn't whole are given up.
+    /// Closes the session. The bytes of a body that isn't whole are dropped.
     pub fn close(&mut self, alloc: A)
         ensures state { IsClosed self.new }
         ensures prefix { self.new.prefix ≡ self.old.prefix }
@@ -213,7 +213,7 @@ impl<A: Allocator + Copy> Session<A> {
         ensures follows { (prefix block : List ℕ) → IsBlock block → length block ≤ 16384
             → Judges prefix block judgement
             → Follows prefix block (option_event result) self.new.state }
-        ensures lawful { AllByRecursion IsLawful (if_any (option_event result)) }
+        ensures valid { AllByRecursion IsValid (if_any (option_event result)) }
         ensures prefix { self.new.prefix ≡ self.old.prefix }
     {
         match judgement {

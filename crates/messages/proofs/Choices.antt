@@ -54,7 +54,7 @@ pub none_found : (c : ℕ) (text : List ℕ) → AllByRecursion (λ b. b ≢ c) 
 none_found c [] h = refl
 none_found c (b ∷ text) h = or_neither (eqb b c) (list_any (λ x. eqb x c) text) (differ b c (eqb b c) refl h.0) (none_found c text h.1)
 
--- ---- refusals, which come before want of memory
+-- ---- refusals, which come before lack of memory
 
 pub given_unrefused : {X Y : Type 0} (r : Result X MessageError) (read : Result Y MessageError) (y : Y) → read ≡ Ok y → RefusesBeforeMemory r read
 given_unrefused r read y given = λ e h. let k : Ok y ≡ Err e = sym given ∙ h in absurd cc

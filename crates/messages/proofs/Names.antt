@@ -96,8 +96,8 @@ not_utf8 text false e isnt = refl
 pub utf8_test : (text : List ℕ) → (IsUtf8 text → ⊥) → is_utf8 text ≡ false
 utf8_test text isnt = not_utf8 text (is_utf8 text) refl isnt
 
-pub name_lawful : (text : List ℕ) → IsUtf8 text → is_segment text ≡ true → IsName text
-name_lawful text utf8 segment = record { utf8 = is_utf8-from_IsUtf8 text utf8; segment = IsSegment-from text segment }
+pub name_valid : (text : List ℕ) → IsUtf8 text → is_segment text ≡ true → IsName text
+name_valid text utf8 segment = record { utf8 = is_utf8-from_IsUtf8 text utf8; segment = IsSegment-from text segment }
 
 pub no_text : (text : List ℕ) → (IsUtf8 text → ⊥) → name_of text ≡ Err BadName
 no_text text isnt = let u = utf8_test text isnt in rw u refl

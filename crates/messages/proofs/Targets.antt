@@ -61,8 +61,8 @@ target_found text target e =
     let c = chosen_ok (is_utf8 text && is_link text) text BadPath target e in
     (c.1, subst IsTarget c.1 (IsTarget-from text c.0))
 
-pub target_lawful : (text : List ℕ) → IsUtf8 text → is_link text ≡ true → IsTarget text
-target_lawful text utf8 link = record { utf8 = is_utf8-from_IsUtf8 text utf8; link = IsLink-from text link }
+pub target_valid : (text : List ℕ) → IsUtf8 text → is_link text ≡ true → IsTarget text
+target_valid text utf8 link = record { utf8 = is_utf8-from_IsUtf8 text utf8; link = IsLink-from text link }
 
 pub no_text : (text : List ℕ) → (IsUtf8 text → ⊥) → target_of text ≡ Err BadPath
 no_text text isnt = let u = utf8_test text isnt in rw u refl

@@ -13,7 +13,7 @@ abbrev pub GivesUnlessMemory : {X Y : Type 0} → (X → Y) → Result X Message
 GivesUnlessMemory view (Ok x) read = read ≡ Ok (view x)
 GivesUnlessMemory view (Err e) read = FailsUnlessMemory e read
 
--- a refusal is told before want of memory
+-- a refusal is told before lack of memory
 abbrev pub RefusesBeforeMemory : {X Y : Type 0} → Result X MessageError → Result Y MessageError
     → Type 0
 RefusesBeforeMemory result read = (e : MessageError) → read ≡ Err e → result ≡ Err e

@@ -97,7 +97,7 @@ pub fn encode_digest<A: Allocator + Copy>(
     digest: &Digest,
 ) -> Result<Vec<u8, A>, AllocError>
     ensures bytes { IfOk result (λ bytes. bytes.items ≡ digest_bytes digest.now) }
-    ensures lawful { IsDigest digest.now }
+    ensures valid { IsDigest digest.now }
 {
     let _ = digest.size();
     digest.write(alloc)

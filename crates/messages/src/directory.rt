@@ -101,7 +101,7 @@ impl<A: Allocator> Directory<A> {
     /// The files, by name.
     pub fn files(&self) -> &[FileNode<A>]
         ensures value { result.now ≡ self.now.files }
-        ensures lawful { IsDirectory self.now }
+        ensures valid { IsDirectory self.now }
     {
         self.files.as_slice()
     }
@@ -109,7 +109,7 @@ impl<A: Allocator> Directory<A> {
     /// The directories, by name.
     pub fn directories(&self) -> &[DirectoryNode<A>]
         ensures value { result.now ≡ self.now.directories }
-        ensures lawful { IsDirectory self.now }
+        ensures valid { IsDirectory self.now }
     {
         self.directories.as_slice()
     }
@@ -117,7 +117,7 @@ impl<A: Allocator> Directory<A> {
     /// The symbolic links, by name.
     pub fn symlinks(&self) -> &[SymlinkNode<A>]
         ensures value { result.now ≡ self.now.symlinks }
-        ensures lawful { IsDirectory self.now }
+        ensures valid { IsDirectory self.now }
     {
         self.symlinks.as_slice()
     }
@@ -188,7 +188,7 @@ impl<A: Allocator + Copy> Directory<A> {
 
     fn find_child(&self, alloc: A, name: &[u8]) -> Result<Option<Node<A>>, AllocError>
         ensures exact { IfOk result (λ node. node ≡ child name.now self.now) }
-        ensures lawful { IsDirectory self.now }
+        ensures valid { IsDirectory self.now }
         ensures memory { IsErr result → Contains (symlink_names self.now.symlinks) name.now }
     {
         if let Some(file) = find_named(&self.files, name) {
@@ -211,7 +211,7 @@ impl<A: Allocator + Copy> Directory<A> {
     /// The canonical encoding.
     pub fn encode(&self, alloc: A) -> Result<Vec<u8, A>, AllocError>
         ensures bytes { IfOk result (λ bytes. bytes.items ≡ directory_bytes self.now) }
-        ensures lawful { IsDirectory self.now }
+        ensures valid { IsDirectory self.now }
     {
         let _ = self.files();
         self.write(alloc)

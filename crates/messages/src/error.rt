@@ -13,7 +13,7 @@ pub enum MessageError {
     /// The bytes are no canonical encoding of the message's fields.
     #[error("{0}")]
     Wire(CanonError),
-    /// A name is absent or unlawful.
+    /// A name is absent or invalid.
     #[error("a name has 1 to 255 bytes of UTF-8 without / and NUL, and is neither . nor ..")]
     BadName,
     /// A list is out of order.
@@ -22,7 +22,7 @@ pub enum MessageError {
     /// Two names are one, or a path equals or lies under another.
     #[error("a name or path comes twice, or lies under another")]
     SameName,
-    /// A path or a target is absent or unlawful.
+    /// A path or a target is absent or invalid.
     #[error("a path has 1 to 64 names joined by /, a target 1 to 4096 bytes without NUL")]
     BadPath,
     /// The message has no field of this number that is supported.
@@ -34,11 +34,11 @@ pub enum MessageError {
     /// The children of a tree are not those that its directories name.
     #[error("the children of a tree are not those that its directories name")]
     BadTree,
-    /// A digest's hash or size is unlawful.
+    /// A digest's hash or size is invalid.
     #[error("{0}")]
     BadDigest(DigestError),
-    /// A text of the field of this number is unlawful.
-    #[error("a text of field {0} is unlawful")]
+    /// A text of the field of this number is invalid.
+    #[error("a text of field {0} is invalid")]
     BadText(u32),
     /// No memory was left.
     #[error("out of memory")]

@@ -155,7 +155,7 @@ impl<A: Allocator> Name<A> {
     /// The text.
     pub fn as_str(&self) -> &str
         ensures value { result.now ≡ self.now }
-        ensures lawful { IsName self.now }
+        ensures valid { IsName self.now }
     {
         self.text.as_str()
     }
@@ -163,7 +163,7 @@ impl<A: Allocator> Name<A> {
     /// The bytes of the text.
     pub fn as_bytes(&self) -> &[u8]
         ensures value { result.now ≡ self.now }
-        ensures lawful { IsName self.now }
+        ensures valid { IsName self.now }
     {
         self.as_str().as_bytes()
     }

@@ -129,7 +129,7 @@ impl<A: Allocator> Path<A> {
     /// The names, each as a value of its own.
     pub fn to_names<B: Allocator + Copy>(&self, alloc: B) -> Result<Vec<Name<B>, B>, AllocError>
         ensures value { IfOk result (λ names. names.items ≡ self.now) }
-        ensures lawful { IsPath self.now }
+        ensures valid { IsPath self.now }
     {
         let mut names = Vec::new(alloc);
         let text = self.as_str();
@@ -143,7 +143,7 @@ impl<A: Allocator> Path<A> {
     pub fn as_str(&self) -> &str
         ensures value { result.now ≡ path_text self.now }
         ensures parts { parts_of result.now ≡ self.now }
-        ensures lawful { IsPath self.now }
+        ensures valid { IsPath self.now }
     {
         self.text.as_str()
     }
@@ -152,7 +152,7 @@ impl<A: Allocator> Path<A> {
     pub fn as_bytes(&self) -> &[u8]
         ensures value { result.now ≡ path_text self.now }
         ensures parts { parts_of result.now ≡ self.now }
-        ensures lawful { IsPath self.now }
+        ensures valid { IsPath self.now }
     {
         self.text.as_bytes()
     }

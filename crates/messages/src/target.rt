@@ -97,7 +97,7 @@ impl<A: Allocator> Target<A> {
     /// The text.
     pub fn as_str(&self) -> &str
         ensures value { result.now ≡ self.now }
-        ensures lawful { IsTarget self.now }
+        ensures valid { IsTarget self.now }
     {
         self.text.as_str()
     }
@@ -105,7 +105,7 @@ impl<A: Allocator> Target<A> {
     /// The bytes of the text.
     pub fn as_bytes(&self) -> &[u8]
         ensures value { result.now ≡ self.now }
-        ensures lawful { IsTarget self.now }
+        ensures valid { IsTarget self.now }
     {
         self.as_str().as_bytes()
     }

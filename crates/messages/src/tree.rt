@@ -205,7 +205,7 @@ fn checked_tree<A: Allocator + Copy>(
 ) -> Result<Tree<A>, MessageError>
     requires { digests.items ≡ digests_of (map directory_bytes children.items) }
     ensures exact { GivesUnlessMemory (λ t. t) result (tree_of (tree_with root children.items)) }
-    ensures lawful { IfOk result IsTree }
+    ensures valid { IfOk result IsTree }
 {
     let named = named_digests(alloc, &root, &children)?;
     check_children(alloc, &named, &digests)?;
@@ -241,7 +241,7 @@ impl<A: Allocator> Tree<A> {
     /// The directory at the top.
     pub fn root(&self) -> &Directory<A>
         ensures value { result.now ≡ self.now.root }
-        ensures lawful { IsTree self.now }
+        ensures valid { IsTree self.now }
     {
         &self.root
     }
@@ -249,7 +249,7 @@ impl<A: Allocator> Tree<A> {
     /// The directories below it, in the order in which they stand.
     pub fn children(&self) -> &[Directory<A>]
         ensures value { result.now ≡ self.now.children }
-        ensures lawful { IsTree self.now }
+        ensures valid { IsTree self.now }
     {
         self.children.as_slice()
     }
@@ -257,7 +257,7 @@ impl<A: Allocator> Tree<A> {
     /// The digest of each child's encoding, in that order. Nothing is hashed again.
     pub fn child_digests(&self) -> &[Digest]
         ensures value { result.now ≡ child_digests self.now }
-        ensures lawful { IsTree self.now }
+        ensures valid { IsTree self.now }
     {
         self.digests.as_slice()
     }
@@ -326,7 +326,7 @@ impl<A: Allocator + Copy> Tree<A> {
     /// The canonical encoding.
     pub fn encode(&self, alloc: A) -> Result<Vec<u8, A>, AllocError>
         ensures bytes { IfOk result (λ bytes. bytes.items ≡ tree_bytes self.now) }
-        ensures lawful { IsTree self.now }
+        ensures valid { IsTree self.now }
     {
         let _ = self.root();
         self.write(alloc)

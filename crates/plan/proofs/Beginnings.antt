@@ -34,7 +34,7 @@ in_begins target origin rest first = (_, first.1.1)
 
 -- the beginning that these steps are
 pub record IsBehind (version : Version) (steps : List StepValue) (start : Beginning) : Type 0 where
-  pub lawful : IsBeginning version start
+  pub valid : IsBeginning version start
   pub text : beginning_text version start ≡ plan_header version ++ flat_map (step_text steps) steps
   pub number : next_number start ≡ line_count steps + 2
   pub step_fault : (name : List ℕ) (frame : DigestValue) (fault : Fault) → IsStepFault steps name fault → IsLineFault version start (step_line name frame) fault
@@ -91,7 +91,7 @@ behind_last version steps earlier step few h apart e =
     let same_len : length steps ≡ length (earlier ++ step ∷ []) = ap (λ (ss : List StepValue). length ss) e in
     let counted : line_count steps ≡ line_count (earlier ++ step ∷ []) = ap line_count e in
     record {
-      lawful = (omega arith, parts.0, parts.1, apart_parts.0, apart_parts.1);
+      valid = (omega arith, parts.0, parts.1, apart_parts.0, apart_parts.1);
       text = step_text_joined version earlier step parts.0 parts.1 ∙ ap (λ (ss : List StepValue). plan_header version ++ flat_map (step_text ss) ss) (sym e);
       number = omega arith;
       step_fault = λ name frame fault f. subst (λ (ss : List StepValue). IsStepFault ss name fault) e f;
@@ -103,7 +103,7 @@ behind_last version steps earlier step few h apart e =
 
 behind_none : (version : Version) (steps : List StepValue) → steps ≡ [] → IsBehind version steps at_start
 behind_none version steps e = subst (λ (ss : List StepValue). IsBehind version ss at_start) (sym e) (record {
-  lawful = tt;
+  valid = tt;
   text = sym (append-nil (plan_header version));
   number = omega arith;
   step_fault = none_at_start version;
@@ -121,8 +121,8 @@ behind version steps few h apart = elim (last_of steps) [
 fault_with : (version : Version) (text : List ℕ) (start : Beginning) (rest : List ℕ) (number : ℕ) (fault : Fault) (e : ReadError)
     → IsBeginning version start → text ≡ beginning_text version start ++ rest → number ≡ next_number start → IsNextFault version start rest fault → e ≡ Faulty (record { line = number; fault = fault })
     → FaultyUnlessMemory (IsFaultBehind text) e
-fault_with version text start rest number fault e lawful cut at h told =
-    let told_fault : IsFaultBehind text (record { line = number; fault = fault }) = record { version = version; start = start; rest = rest; lawful = lawful; cut = cut; number = at; fault = h } in
+fault_with version text start rest number fault e valid cut at h told =
+    let told_fault : IsFaultBehind text (record { line = number; fault = fault }) = record { version = version; start = start; rest = rest; valid = valid; cut = cut; number = at; fault = h } in
     subst (FaultyUnlessMemory (IsFaultBehind text)) (sym told) told_fault
 
 cut_behind : (version : Version) (text rest : List ℕ) (steps : List StepValue) (start : Beginning) → IsBehind version steps start → text ≡ flat_map (step_text steps) steps ++ rest
@@ -136,15 +136,15 @@ pub step_fault : (version : Version) (text rest behind_it : List ℕ) (steps : L
     → e ≡ Faulty (record { line = number; fault = fault }) → FaultyUnlessMemory (IsFaultBehind (plan_header version ++ text)) e
 step_fault version text rest behind_it steps name frame number fault e few h apart cut at first f told =
     let b = behind version steps few h apart in
-    fault_with version (plan_header version ++ text) b.0 rest number fault e b.1.lawful (cut_behind version text rest steps b.0 b.1 cut) (at ∙ sym b.1.number)
+    fault_with version (plan_header version ++ text) b.0 rest number fault e b.1.valid (cut_behind version text rest steps b.0 b.1 cut) (at ∙ sym b.1.number)
     (inr (step_line name frame, first, b.1.step_fault name frame fault f)) told
 
 -- no step's line and no `root` stands behind the steps
 pub root_fault : (version : Version) (text rest : List ℕ) (steps : List StepValue) (number : ℕ) (e : ReadError) → IsFront version text steps rest number → ¬ Begins (line_text (codes "root")) rest
     → e ≡ Faulty (record { line = number; fault = faults.BadLine }) → FaultyUnlessMemory (IsFaultBehind (plan_header version ++ text)) e
 root_fault version text rest steps number e front none told =
-    let b = behind version steps front.few front.lawful front.apart in
-    fault_with version (plan_header version ++ text) b.0 rest number faults.BadLine e b.1.lawful (cut_behind version text rest steps b.0 b.1 front.cut) (front.counted ∙ sym b.1.number)
+    let b = behind version steps front.few front.valid front.apart in
+    fault_with version (plan_header version ++ text) b.0 rest number faults.BadLine e b.1.valid (cut_behind version text rest steps b.0 b.1 front.cut) (front.counted ∙ sym b.1.number)
     (inl (refl, b.1.no_line rest front.none none front.no_in)) told
 
 -- ---- a directory's line is at fault
@@ -180,7 +180,7 @@ lines_of_step version text rest behind_it steps name frame first e few h apart c
       version = version;
       start = in_step steps (step_with name frame f.good);
       rest = f.rest;
-      lawful = (few, h, record { name = is.name; new = is.new; frame = is.frame; lines = f.lawful }, apart, f.apart);
+      valid = (few, h, record { name = is.name; new = is.new; frame = is.frame; lines = f.valid }, apart, f.apart);
       cut =
           ap (λ (t : List ℕ). plan_header version ++ t)
           (cut ∙ ap (λ (t : List ℕ). flat_map (step_text steps) steps ++ t) (begins ∙ ap (λ (t : List ℕ). line_text (step_words name frame) ++ t) f.cut ∙ sym (append_assoc (line_text (step_words name frame)) (lines_text steps f.good) f.rest))
@@ -212,7 +212,7 @@ lines_of_root version text rest behind_it steps number e front begins f =
       version = version;
       start = in_root steps f.good;
       rest = f.rest;
-      lawful = record { few = front.few; steps = front.lawful; root_lines = f.lawful; apart = front.apart; root_apart = f.apart };
+      valid = record { few = front.few; steps = front.valid; root_lines = f.valid; apart = front.apart; root_apart = f.apart };
       cut = root_cut version text rest behind_it f.rest steps f.good front.cut begins f.cut;
       number = omega arith;
       fault = next_in_root version steps f.good f.rest e.fault f.fault;
@@ -222,9 +222,9 @@ lines_of_root version text rest behind_it steps number e front begins f =
 pub end_fault : (version : Version) (text rest behind_it end : List ℕ) (steps : List StepValue) (lines : List LineValue) (number at : ℕ) (e : ReadError)
     → IsFront version text steps rest number → rest ≡ line_text (codes "root") ++ behind_it → AreLines (length steps) lines → KeepApart version lines → behind_it ≡ lines_text steps lines ++ end → end ≢ [] → ¬ Begins (codes "in ") end
     → at ≡ number + 1 + length lines → e ≡ Faulty (record { line = at; fault = faults.BadLine }) → FaultyUnlessMemory (IsFaultBehind (plan_header version ++ text)) e
-end_fault version text rest behind_it end steps lines number at e front begins lawful apart f some none counted told =
+end_fault version text rest behind_it end steps lines number at e front begins valid apart f some none counted told =
     let front_counted = front.counted in
-    fault_with version (plan_header version ++ text) (in_root steps lines) end at faults.BadLine e (record { few = front.few; steps = front.lawful; root_lines = lawful; apart = front.apart; root_apart = apart }) (root_cut version text rest behind_it end steps lines front.cut begins f) (omega arith)
+    fault_with version (plan_header version ++ text) (in_root steps lines) end at faults.BadLine e (record { few = front.few; steps = front.valid; root_lines = valid; apart = front.apart; root_apart = apart }) (root_cut version text rest behind_it end steps lines front.cut begins f) (omega arith)
     (inl (refl, (λ _. some, by))) told
   where
     by : (line : WrittenLine) → MayStand (in_root steps lines) line → ¬ BeginsWithLine line end
@@ -244,7 +244,7 @@ has_not_new (s ∷ steps) name h (inl e) = h.0 e
 has_not_new (s ∷ steps) name h (inr has) = has_not_new steps name h.1 has
 
 pub is_step : (steps : List StepValue) (step : StepValue) → ¬ HasStep steps step.name → IsStepName step.name → IsDigest step.frame → AreLines (length steps) step.lines → IsStep steps step
-is_step steps step new named lawful lines = record { name = named; new = new_of steps step.name new; frame = lawful; lines = lines }
+is_step steps step new named valid lines = record { name = named; new = new_of steps step.name new; frame = valid; lines = lines }
 
 pub front_more : (text rest behind_it more : List ℕ) (steps : List StepValue) (step : StepValue) → AreSteps [] steps → IsStep steps step → text ≡ flat_map (step_text steps) steps ++ rest
     → rest ≡ line_text (step_words step.name step.frame) ++ behind_it → behind_it ≡ lines_text steps step.lines ++ more
@@ -258,7 +258,7 @@ front_more text rest behind_it more steps step h is cut begins f =
 -- what a loop over the steps keeps
 pub record KeepsFront (version : Version) (text : List ℕ) (steps : List StepValue) (rest : List ℕ) (number : ℕ) : Type 0 where
   pub few : length steps ≤ 4096
-  pub lawful : AreSteps [] steps
+  pub valid : AreSteps [] steps
   pub apart : AllKeepApart version steps
   pub cut : text ≡ flat_map (step_text steps) steps ++ rest
   pub counted : number ≡ line_count steps + 2
@@ -273,7 +273,7 @@ next_front version text rest behind_it more steps step next number at few room h
     let len = length-append steps (step ∷ []) in
     subst (λ (ss : List StepValue). KeepsFront version text ss more at) (sym told) (record {
       few = omega arith;
-      lawful = steps_more [] steps step h is;
+      valid = steps_more [] steps step h is;
       apart = apart_last version steps step apart last;
       cut = front_more text rest behind_it more steps step h is cut begins f;
       counted = omega arith;

@@ -16,7 +16,7 @@ use Rattle.plan.specs.Plan.{AreLines, HaveApartTargets, KeepApart, AllKeepApart,
 use Rattle.plan.specs.Targets.{OverlapsAny}
 use Rattle.plan.specs.Values.{LineValue, StepValue, PlanValue, IsLine}
 use Rattle.plan.proofs.Beginnings.{step_with, plan_with, has_not_new}
-use Rattle.plan.proofs.Directories.{targets_of, turned, named, written_lawful}
+use Rattle.plan.proofs.Directories.{targets_of, turned, named, written_valid}
 use Rattle.plan.proofs.Lines.{heads}
 use Rattle.plan.proofs.StepTexts.{own_text, own_all, shifted, steps_more}
 use Rattle.plan.proofs.Written.{first_one, no_line_left}
@@ -52,7 +52,7 @@ join : (version : Version) (b : Beginning) (fs gs : List WrittenLine) (m end : B
 join version b [] gs m end h k = subst (λ (z : Beginning). Chain version z gs end) (sym h) k
 join version b (f ∷ fs) gs m end h k = (h.0, (h.1.0, h.1.1, join version h.1.0 fs gs m end h.1.2 k))
 
--- ---- a lawful beginning is a chain
+-- ---- a valid beginning is a chain
 
 forms : List StepValue → List LineValue → List WrittenLine
 forms earlier lines = map (λ (line : LineValue). in_line line.target (written_origin earlier line.origin)) lines
@@ -85,7 +85,7 @@ next_in version earlier done line more h is apart =
     record {
       steps = h;
       line = line;
-      lawful = all_at (IsLine (length earlier)) done line more is.each;
+      valid = all_at (IsLine (length earlier)) done line more is.each;
       at = refl;
       from = refl;
       room = omega arith;
@@ -97,7 +97,7 @@ moved : (done : List LineValue) (line : LineValue) (more : List LineValue) → d
 moved done line more = sym (append_assoc done (line ∷ []) more)
 
 written_line : (earlier : List StepValue) (line : LineValue) → AreSteps [] earlier → IsLine (length earlier) line → IsWrittenLine (in_line line.target (written_origin earlier line.origin))
-written_line earlier line h is = (is.target, written_lawful earlier line.origin (named [] earlier h) is.origin)
+written_line earlier line h is = (is.target, written_valid earlier line.origin (named [] earlier h) is.origin)
 
 step_lines : (version : Version) (earlier : List StepValue) (name : List ℕ) (frame : DigestValue) (done more : List LineValue) → AreSteps [] earlier → AreLines (length earlier) (done ++ more) → KeepApart version (done ++ more)
     → Chain version (in_step earlier (step_with name frame done)) (forms earlier more) (in_step earlier (step_with name frame (done ++ more)))
@@ -107,7 +107,7 @@ step_lines version earlier name frame done (line ∷ more) h is apart =
     let next = next_in version earlier done line more h is apart in
     let rest = step_lines version earlier name frame (done ++ line ∷ []) more h (subst (AreLines (length earlier)) (moved done line more) is) (subst (KeepApart version) (moved done line more) apart) in
     let last = subst (λ (ls : List LineValue). Chain version (in_step earlier (step_with name frame (done ++ line ∷ []))) (forms earlier more) (in_step earlier (step_with name frame ls))) (sym (moved done line more)) rest in
-    (written_line earlier line h next.lawful, (in_step earlier (step_with name frame (done ++ line ∷ [])), (done ++ line ∷ [], next, refl), last))
+    (written_line earlier line h next.valid, (in_step earlier (step_with name frame (done ++ line ∷ [])), (done ++ line ∷ [], next, refl), last))
 
 root_lines : (version : Version) (steps : List StepValue) (done more : List LineValue) → AreSteps [] steps → AreLines (length steps) (done ++ more) → KeepApart version (done ++ more) → Chain version (in_root steps done) (forms steps more) (in_root steps (done ++ more))
 unfolding forms next_in
@@ -116,7 +116,7 @@ root_lines version steps done (line ∷ more) h is apart =
     let next = next_in version steps done line more h is apart in
     let rest = root_lines version steps (done ++ line ∷ []) more h (subst (AreLines (length steps)) (moved done line more) is) (subst (KeepApart version) (moved done line more) apart) in
     let last = subst (λ (ls : List LineValue). Chain version (in_root steps (done ++ line ∷ [])) (forms steps more) (in_root steps ls)) (sym (moved done line more)) rest in
-    (written_line steps line h next.lawful, (in_root steps (done ++ line ∷ []), (done ++ line ∷ [], next, refl), last))
+    (written_line steps line h next.valid, (in_root steps (done ++ line ∷ []), (done ++ line ∷ [], next, refl), last))
 
 step_forms : List StepValue → StepValue → List WrittenLine
 step_forms earlier step = step_line step.name step.frame ∷ forms earlier step.lines
@@ -231,18 +231,18 @@ header_one Two Two text f g = refl
 record IsFaultIn (version : Version) (text : List ℕ) (e : PlanError) : Type 0 where
   start : Beginning
   rest : List ℕ
-  lawful : IsBeginning version start
+  valid : IsBeginning version start
   cut : text ≡ beginning_text version start ++ rest
   number : e.line ≡ next_number start
   fault : IsNextFault version start rest e.fault
 
 fault_in : (version : Version) (text : List ℕ) (e : PlanError) → IsFaultBehind text e → Begins (plan_header version) text → IsFaultIn version text e
 fault_in version text e x begins =
-    let own : IsFaultIn x.version text e = record { start = x.start; rest = x.rest; lawful = x.lawful; cut = x.cut; number = x.number; fault = x.fault } in
+    let own : IsFaultIn x.version text e = record { start = x.start; rest = x.rest; valid = x.valid; cut = x.cut; number = x.number; fault = x.fault } in
     subst (λ (v : Version). IsFaultIn v text e) (header_one x.version version text (begins_behind x.version text x.rest x.start x.cut) begins) own
 
 in_one_version : (version : Version) (text : List ℕ) (e f : PlanError) → IsFaultIn version text e → IsFaultIn version text f → e ≡ f
-in_one_version version text e f x y = elim (meet version x.start y.start text x.rest y.rest x.lawful y.lawful x.cut y.cut) [
+in_one_version version text e f x y = elim (meet version x.start y.start text x.rest y.rest x.valid y.valid x.cut y.cut) [
   | inl same ↦
       let number : e.line ≡ f.line = x.number ∙ ap next_number same.0 ∙ sym y.number in
       let moved_fault = subst (λ (r : List ℕ). IsNextFault version y.start r e.fault) same.1 (subst (λ (b : Beginning). IsNextFault version b x.rest e.fault) same.0 x.fault) in
@@ -281,7 +281,7 @@ plan_begins plan = (_, refl)
 
 no_fault_in : (plan : PlanValue) (e : PlanError) → IsPlan plan → IsFaultIn plan.version (plan_text plan) e → ⊥
 unfolding at_root
-no_fault_in plan e is x = elim (meet plan.version x.start (at_root plan) (plan_text plan) x.rest [] x.lawful is x.cut (sym (append-nil (plan_text plan)))) [
+no_fault_in plan e is x = elim (meet plan.version x.start (at_root plan) (plan_text plan) x.rest [] x.valid is x.cut (sym (append-nil (plan_text plan)))) [
   | inl same ↦ root_ends plan e.fault (subst (λ (r : List ℕ). IsNextFault plan.version (at_root plan) r e.fault) same.1 (subst (λ (b : Beginning). IsNextFault plan.version b x.rest e.fault) same.0 x.fault))
   | inr other ↦ elim other [
     | inl on ↦ no_goes_on plan.version x.start x.rest e.fault on x.fault

@@ -131,7 +131,7 @@ overlaps_in Two targets new lines p same refusal = absurd (cc refusal)
 
 -- ---- a line that names earlier steps
 
--- each step has a lawful name
+-- each step has a valid name
 abbrev pub AreNamed : List StepValue → Type 0
 AreNamed steps = AllByRecursion (λ s. IsStepName s.name) steps
 
@@ -149,9 +149,9 @@ has_at [] number lt = absurd (omega arith)
 has_at (s ∷ steps) zero lt = inl refl
 has_at (s ∷ steps) (suc number) lt = inr (has_at steps number (omega arith))
 
-pub written_lawful : (steps : List StepValue) (origin : OriginValue) → AreNamed steps → IsOrigin (length steps) origin → IsWrittenOrigin (written_origin steps origin)
-written_lawful steps (source path) h is = is
-written_lawful steps (output number path) h is = (name_at steps number h is.0, is.1)
+pub written_valid : (steps : List StepValue) (origin : OriginValue) → AreNamed steps → IsOrigin (length steps) origin → IsWrittenOrigin (written_origin steps origin)
+written_valid steps (source path) h is = is
+written_valid steps (output number path) h is = (name_at steps number h is.0, is.1)
 
 pub not_later : (steps : List StepValue) (origin : OriginValue) → IsOrigin (length steps) origin → ¬ IsLater steps (written_origin steps origin)
 not_later steps (source path) is later = later
@@ -161,13 +161,13 @@ not_later steps (output number path) is later = later (has_at steps number is.0)
 
 pub begins_in : (steps : List StepValue) (line : LineValue) (rest behind : List ℕ) → AreNamed steps → IsLine (length steps) line → rest ≡ line_text (in_words steps line) ++ behind
     → BeginsWithLine (in_line line.target (written_origin steps line.origin)) rest
-begins_in steps line rest behind h is e = ((is.target, written_lawful steps line.origin h is.origin), (behind, e))
+begins_in steps line rest behind h is e = ((is.target, written_valid steps line.origin h is.origin), (behind, e))
 
 lines_fault : (version : Version) (steps : List StepValue) (first : ℕ) (text rest : List ℕ) (good : List LineValue) (number : ℕ) (fault : Fault) (e : ReadError)
     → text ≡ lines_text steps good ++ rest → AreLines (length steps) good → KeepApart version good → number ≡ first + length good → IsNextInFault version steps good rest fault
     → e ≡ Faulty (record { line = number; fault = fault }) → FaultyUnlessMemory (IsLinesFault version steps first text) e
-lines_fault version steps first text rest good number fault e cut lawful apart at h told =
-    let told_fault : IsLinesFault version steps first text (record { line = number; fault = fault }) = record { good = good; rest = rest; lawful = lawful; apart = apart; cut = cut; number = at; fault = h } in
+lines_fault version steps first text rest good number fault e cut valid apart at h told =
+    let told_fault : IsLinesFault version steps first text (record { line = number; fault = fault }) = record { good = good; rest = rest; valid = valid; apart = apart; cut = cut; number = at; fault = h } in
     subst (FaultyUnlessMemory (IsLinesFault version steps first text)) (sym told) told_fault
 
 next_fault : (version : Version) (steps : List StepValue) (good : List LineValue) (rest : List ℕ) (fault : Fault) → Begins (codes "in ") rest → IsFirstFault steps rest fault → IsNextInFault version steps good rest fault
@@ -182,23 +182,23 @@ next_fault version steps good rest faults.RecordDiffers begins h = absurd h
 pub form_fault : (version : Version) (steps : List StepValue) (first : ℕ) (text rest : List ℕ) (good : List LineValue) (number : ℕ) (fault : Fault) (e : ReadError)
     → text ≡ lines_text steps good ++ rest → AreLines (length steps) good → KeepApart version good → number ≡ first + length good → Begins (codes "in ") rest → IsFirstFault steps rest fault
     → e ≡ Faulty (record { line = number; fault = fault }) → FaultyUnlessMemory (IsLinesFault version steps first text) e
-form_fault version steps first text rest good number fault e cut lawful apart at begins h told =
-    lines_fault version steps first text rest good number fault e cut lawful apart at (next_fault version steps good rest fault begins h) told
+form_fault version steps first text rest good number fault e cut valid apart at begins h told =
+    lines_fault version steps first text rest good number fault e cut valid apart at (next_fault version steps good rest fault begins h) told
 
 pub many_fault : (version : Version) (steps : List StepValue) (first : ℕ) (text rest behind : List ℕ) (good : List LineValue) (line : LineValue) (number : ℕ) (e : ReadError)
     → AreNamed steps → text ≡ lines_text steps good ++ rest → AreLines (length steps) good → KeepApart version good → number ≡ first + length good → IsLine (length steps) line → rest ≡ line_text (in_words steps line) ++ behind
     → length good ≡ 65536 → e ≡ Faulty (record { line = number; fault = faults.TooMany }) → FaultyUnlessMemory (IsLinesFault version steps first text) e
-many_fault version steps first text rest behind good line number e h cut lawful apart at is f full told =
-    lines_fault version steps first text rest good number faults.TooMany e cut lawful apart at
+many_fault version steps first text rest behind good line number e h cut valid apart at is f full told =
+    lines_fault version steps first text rest good number faults.TooMany e cut valid apart at
     (inr (line.target, written_origin steps line.origin, begins_in steps line rest behind h is f, (not_later steps line.origin is.origin, full))) told
 
 pub overlap_fault : (version : Version) (steps : List StepValue) (first : ℕ) (text rest behind : List ℕ) (good : List LineValue) (line : LineValue) (number : ℕ) (targets new : List (List (List ℕ))) (target : List (List ℕ)) (taken : Bool) (e : ReadError)
     → AreNamed steps → text ≡ lines_text steps good ++ rest → AreLines (length steps) good → KeepApart version good → number ≡ first + length good → IsLine (length steps) line → rest ≡ line_text (in_words steps line) ++ behind
     → length good ≢ 65536 → AreTargetsIn version targets good → target ≡ line.target → taken ≡ false → TakesIn version taken target targets new → e ≡ Faulty (record { line = number; fault = faults.Overlap })
     → FaultyUnlessMemory (IsLinesFault version steps first text) e
-overlap_fault version steps first text rest behind good line number targets new target taken e h cut lawful apart at is f room same target_is refused takes told =
-    let few = lawful.few in
+overlap_fault version steps first text rest behind good line number targets new target taken e h cut valid apart at is f room same target_is refused takes told =
+    let few = valid.few in
     let refusal : TakesIn version false target targets new = subst (λ (t : Bool). TakesIn version t target targets new) refused takes in
     let overlaps = overlaps_in version targets new good line.target same (subst (λ (p : List (List ℕ)). TakesIn version false p targets new) target_is refusal) in
-    lines_fault version steps first text rest good number faults.Overlap e cut lawful apart at
+    lines_fault version steps first text rest good number faults.Overlap e cut valid apart at
     (inr (line.target, written_origin steps line.origin, begins_in steps line rest behind h is f, (overlaps.0, not_later steps line.origin is.origin, omega arith, overlaps.1))) told

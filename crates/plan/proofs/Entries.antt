@@ -44,11 +44,11 @@ names_all [] (suc k) h = refl
 names_all (s ∷ steps) zero h = absurd (omega arith)
 names_all (s ∷ steps) (suc k) h = ap (λ (ss : List StepValue). s ∷ ss) (names_all steps k (omega arith))
 
-pub names_lawful : (steps : List StepValue) (k : ℕ) → AllByRecursion (λ s. IsStepName s.name) steps → AllByRecursion IsStepName (step_names (take k steps))
-names_lawful [] zero h = tt
-names_lawful [] (suc k) h = tt
-names_lawful (s ∷ steps) zero h = tt
-names_lawful (s ∷ steps) (suc k) h = (h.0, names_lawful steps k h.1)
+pub names_valid : (steps : List StepValue) (k : ℕ) → AllByRecursion (λ s. IsStepName s.name) steps → AllByRecursion IsStepName (step_names (take k steps))
+names_valid [] zero h = tt
+names_valid [] (suc k) h = tt
+names_valid (s ∷ steps) zero h = tt
+names_valid (s ∷ steps) (suc k) h = (h.0, names_valid steps k h.1)
 
 pub digests_more : (digests : List DigestValue) (digest : DigestValue) → AllByRecursion IsDigest digests → IsDigest digest → AllByRecursion IsDigest (digests ++ digest ∷ [])
 digests_more [] digest h is = (is, tt)
@@ -56,7 +56,7 @@ digests_more (d ∷ digests) digest h is = (h.0, digests_more digests digest h.1
 
 -- what a loop over the steps keeps
 pub record KeepsEntries (steps : List StepValue) (k : ℕ) (text : List ℕ) (digests : List DigestValue) (rest : List ℕ) : Type 0 where
-  pub lawful : AllByRecursion IsDigest digests
+  pub valid : AllByRecursion IsDigest digests
   pub same : length digests ≡ length (step_names (take k steps))
   pub cut : text ≡ entries_text (step_names (take k steps)) digests ++ rest
 
@@ -70,7 +70,7 @@ next_entries steps k text rest more digests next digest step keeps lt e is begin
     let len = length-append (step_names (take k steps)) (step.name ∷ []) in
     let others = length-append digests (digest ∷ []) in
     subst (λ (ds : List DigestValue). KeepsEntries steps (k + 1) text ds more) (sym told) (record {
-      lawful = digests_more digests digest keeps.lawful is;
+      valid = digests_more digests digest keeps.valid is;
       same = omega arith;
       cut =
           keeps.cut ∙ ap (λ (t : List ℕ). entries_text (step_names (take k steps)) digests ++ t) begins
@@ -84,14 +84,14 @@ next_entries steps k text rest more digests next digest step keeps lt e is begin
 entry_fault : (names done left : List (List ℕ)) (digests : List DigestValue) (text rest : List ℕ) (number : ℕ) (fault : Fault) (e : ReadError)
     → names ≡ done ++ left → IsRecord (record_with done digests) → text ≡ entries_text done digests ++ rest → number ≡ length done + 2 → IsNextEntryFault left rest fault → e ≡ Faulty (record { line = number; fault = fault })
     → FaultyUnlessMemory (IsEntryFault names (record_header ++ text)) e
-entry_fault names done left digests text rest number fault e split lawful cut at h told =
+entry_fault names done left digests text rest number fault e split valid cut at h told =
     let told_fault : IsEntryFault names (record_header ++ text) (record { line = number; fault = fault }) = record {
       done = done;
       left = left;
       digests = digests;
       rest = rest;
       split = split;
-      lawful = lawful;
+      valid = valid;
       cut = ap (λ (t : List ℕ). record_header ++ t) cut ∙ sym (append_assoc record_header (entries_text done digests) rest);
       number = at;
       fault = h;
@@ -105,7 +105,7 @@ step_entry_fault steps k text rest digests step number fault e named keeps lt at
     let split = names_split steps k step lt at in
     let same = keeps.same in
     entry_fault (step_names steps) (step_names (take k steps)) (step.name ∷ split.0) digests text rest number fault e split.1
-    (record { named = names_lawful steps k named; lawful = keeps.lawful; same_length = same }) keeps.cut (omega arith) (h split.0) told
+    (record { named = names_valid steps k named; valid = keeps.valid; same_length = same }) keeps.cut (omega arith) (h split.0) told
 
 all_kept : (steps : List StepValue) (k : ℕ) (text rest : List ℕ) (digests : List DigestValue) → length steps ≤ k → KeepsEntries steps k text digests rest
     → (length digests ≡ length (step_names steps)) × (text ≡ entries_text (step_names steps) digests ++ rest)
@@ -126,13 +126,13 @@ end_entry_fault steps k text rest digests number fault e named past keeps h coun
     let all = all_kept steps k text rest digests past keeps in
     let same = all.0 in
     entry_fault (step_names steps) (step_names steps) [] digests text rest number fault e (sym (append-nil (step_names steps)))
-    (record { named = all_named steps named; lawful = keeps.lawful; same_length = same }) all.1 (omega arith) h told
+    (record { named = all_named steps named; valid = keeps.valid; same_length = same }) all.1 (omega arith) h told
 
 pub whole_record : (steps : List StepValue) (k : ℕ) (text rest : List ℕ) (digests : List DigestValue) → AllByRecursion (λ s. IsStepName s.name) steps → length steps ≤ k → KeepsEntries steps k text digests rest → rest ≡ []
     → IsRecord (record_with (step_names steps) digests) × (text ≡ entries_text (step_names steps) digests)
 whole_record steps k text rest digests named past keeps none =
     let all = all_kept steps k text rest digests past keeps in (
-      record { named = all_named steps named; lawful = keeps.lawful; same_length = all.0 },
+      record { named = all_named steps named; valid = keeps.valid; same_length = all.0 },
       all.1 ∙ ap (λ (t : List ℕ). entries_text (step_names steps) digests ++ t) none ∙ append-nil (entries_text (step_names steps) digests),
     )
 

@@ -55,7 +55,7 @@ line_with target origin = record { target = target; origin = origin }
 pub record InFollows (version : Version) (earlier : List StepValue) (lines : List LineValue) (target : List (List ℕ)) (origin : WrittenOrigin) (next : List LineValue) : Type 0 where
   pub steps : AreSteps [] earlier
   pub line : LineValue
-  pub lawful : IsLine (length earlier) line
+  pub valid : IsLine (length earlier) line
   pub at : target ≡ line.target
   pub from : origin ≡ written_origin earlier line.origin
   pub room : length lines < 65536
@@ -65,7 +65,7 @@ pub record InFollows (version : Version) (earlier : List StepValue) (lines : Lis
 in_one : (version : Version) (earlier : List StepValue) (lines : List LineValue) (target : List (List ℕ)) (origin : WrittenOrigin) (a b : List LineValue) → InFollows version earlier lines target origin a → InFollows version earlier lines target origin b → a ≡ b
 in_one version earlier lines target origin a b f g =
     let targets = sym f.at ∙ g.at in
-    let origins = origin_same earlier f.line.origin g.line.origin f.steps f.lawful.origin g.lawful.origin (sym f.from ∙ g.from) in
+    let origins = origin_same earlier f.line.origin g.line.origin f.steps f.valid.origin g.valid.origin (sym f.from ∙ g.from) in
     let same : f.line ≡ g.line = ap (λ (t : List (List ℕ)). line_with t f.line.origin) targets ∙ ap (λ (o : OriginValue). line_with g.line.target o) origins in
     f.more ∙ ap (λ (l : LineValue). lines ++ l ∷ []) same ∙ sym g.more
 
@@ -106,7 +106,7 @@ follows_one version (in_root steps lines) (in_line target origin) x y f g =
 
 in_no_fault : (version : Version) (earlier : List StepValue) (lines : List LineValue) (target : List (List ℕ)) (origin : WrittenOrigin) (next : List LineValue) (fault : Fault)
     → InFollows version earlier lines target origin next → IsInFault version earlier lines target origin fault → ⊥
-in_no_fault version earlier lines target origin next faults.LaterStep f h = not_later earlier f.line.origin f.lawful.origin (subst (IsLater earlier) f.from h)
+in_no_fault version earlier lines target origin next faults.LaterStep f h = not_later earlier f.line.origin f.valid.origin (subst (IsLater earlier) f.from h)
 in_no_fault version earlier lines target origin next faults.TooMany f h = let room = f.room in omega (arith, h.1)
 in_no_fault version earlier lines target origin next faults.Overlap f h = f.free h.0 h.3
 in_no_fault version earlier lines target origin next faults.BadHeader f h = h

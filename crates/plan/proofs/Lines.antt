@@ -91,9 +91,9 @@ step_has_space words rest named d e told =
 
 -- it has no newline
 pub step_words-without : (name : List ℕ) (d : DigestValue) → IsStepName name → IsDigest d → ¬ Contains (step_words name d) 10
-step_words-without name d named lawful =
+step_words-without name d named valid =
     behind_front (codes "step ") (name ++ 32 ∷ digest_text d) refl
-    (behind_space name (digest_text d) (name-without name 10 named refl) (digest_text-without d 10 lawful refl refl (λ e. omega (arith, e))))
+    (behind_space name (digest_text d) (name-without name 10 named refl) (digest_text-without d 10 valid refl refl (λ e. omega (arith, e))))
 
 small_size : (n : ℕ) → n ≤ greatest_size → n < 2 ^ 64
 small_size n h = omega arith

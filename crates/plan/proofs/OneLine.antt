@@ -43,9 +43,9 @@ in_space rest target origin told =
 -- a fault of the origin is one of the line
 pub line_fault : (steps : List StepValue) (words rest target origin : List ℕ) (path : List (List ℕ)) (fault : Fault) → words ≡ codes "in " ++ rest → rest ≡ target ++ 32 ∷ origin → ¬ Contains target 32
     → IsPath path → target ≡ escaped_path path → IsOriginFault steps origin fault → IsWordsFault steps words fault
-line_fault steps words rest target origin path faults.BadLine e f none is spelled h = λ t o lawful told.
-    let parts = in_parts rest target origin t o lawful.0 none f (sym e ∙ told) in
-    h o lawful.1 parts.1
+line_fault steps words rest target origin path faults.BadLine e f none is spelled h = λ t o valid told.
+    let parts = in_parts rest target origin t o valid.0 none f (sym e ∙ told) in
+    h o valid.1 parts.1
 line_fault steps words rest target origin path faults.LaterStep e f none is spelled h =
     (path, h.0, (is, h.1), e ∙ ap (λ (l : List ℕ). codes "in " ++ l) (f ∙ ap (λ (l : List ℕ). l ++ 32 ∷ origin) spelled ∙ ap (λ (l : List ℕ). escaped_path path ++ 32 ∷ l) h.2), h.3)
 line_fault steps words rest target origin path faults.BadHeader e f none is spelled h = h

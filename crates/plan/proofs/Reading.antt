@@ -43,13 +43,13 @@ pub small_number : (version : Version) (text rest : List ℕ) (steps : List Step
 small_number version text rest steps number front =
     let few = front.few in
     let counted = front.counted in
-    let many = count_few [] steps front.lawful in
+    let many = count_few [] steps front.valid in
     omega arith
 
 -- all of a text is read
 pub whole_plan : (version : Version) (text rest root behind end : List ℕ) (steps : List StepValue) (lines : List LineValue) (number : ℕ) → text ≡ plan_header version ++ rest → IsFront version rest steps root number → root ≡ line_text (codes "root") ++ behind
     → AreLines (length steps) lines → KeepApart version lines → behind ≡ lines_text steps lines ++ end → end ≡ [] → IsPlan (plan_with version steps lines) × (text ≡ plan_text (plan_with version steps lines))
-whole_plan version text rest root behind end steps lines number e front f lawful apart g none = (
-  record { few = front.few; steps = front.lawful; root_lines = lawful; apart = front.apart; root_apart = apart },
+whole_plan version text rest root behind end steps lines number e front f valid apart g none = (
+  record { few = front.few; steps = front.valid; root_lines = valid; apart = front.apart; root_apart = apart },
   e ∙ root_cut version rest root behind end steps lines front.cut f g ∙ ap (λ (t : List ℕ). plan_text (plan_with version steps lines) ++ t) none ∙ append-nil (plan_text (plan_with version steps lines)),
 )

@@ -24,7 +24,7 @@ assoc_line : (name : List ℕ) (digest : DigestValue) (x rest : List ℕ) → (l
 assoc_line name digest x rest = append_assoc (line_text (step_words name digest)) x rest
 
 tail : (name : List ℕ) (digest : DigestValue) (names : List (List ℕ)) (digests : List DigestValue) → IsRecord (record_with (name ∷ names) (digest ∷ digests)) → IsRecord (record_with names digests)
-tail name digest names digests is = let same = is.same_length in record { named = is.named.1; lawful = is.lawful.1; same_length = omega arith }
+tail name digest names digests is = let same = is.same_length in record { named = is.named.1; valid = is.valid.1; same_length = omega arith }
 
 no_digest : (name : List ℕ) (names : List (List ℕ)) → IsRecord (record_with (name ∷ names) []) → ⊥
 no_digest name names is = let same = is.same_length in omega arith
@@ -34,7 +34,7 @@ no_name digest digests is = let same = is.same_length in omega arith
 
 goes_on : (left right y : List (List ℕ)) (m : List ℕ) (d : DigestValue) (es : List DigestValue) (r s : List ℕ) → IsRecord (record_with (m ∷ y) (d ∷ es)) → left ≡ m ∷ (y ++ right) → r ≡ entries_text (m ∷ y) (d ∷ es) ++ s → GoesOn left r
 unfolding GoesOn
-goes_on left right y m d es r s is split e = (m, d, y ++ right, split, ((is.named.0, is.lawful.0), (entries_text y es ++ s, e ∙ assoc_line m d (entries_text y es) s)))
+goes_on left right y m d es r s is split e = (m, d, y ++ right, split, ((is.named.0, is.valid.0), (entries_text y es ++ s, e ∙ assoc_line m d (entries_text y es) s)))
 
 -- where two ways to cut a text part
 record Same (x y left right : List (List ℕ)) (ds es : List DigestValue) (r s : List ℕ) : Type 0 where
@@ -56,7 +56,7 @@ same_entries (n ∷ x) (d ∷ ds) [] (g ∷ es) left right r s is was split e = 
 same_entries (n ∷ x) (d ∷ ds) (m ∷ y) [] left right r s is was split e = absurd (no_digest m y was)
 same_entries (n ∷ x) (d ∷ ds) [] [] left right r s is was split e = inr (inr (goes_on right left x n d ds s r is (sym split) (sym e)))
 same_entries (n ∷ x) (d ∷ ds) (m ∷ y) (g ∷ es) left right r s is was split e =
-    let first = first_one (step_line n d) (step_line m g) (entries_text x ds ++ r) (entries_text y es ++ s) (is.named.0, is.lawful.0) (was.named.0, was.lawful.0)
+    let first = first_one (step_line n d) (step_line m g) (entries_text x ds ++ r) (entries_text y es ++ s) (is.named.0, is.valid.0) (was.named.0, was.valid.0)
     (sym (assoc_line n d (entries_text x ds) r) ∙ e ∙ assoc_line m g (entries_text y es) s)
     in
     let line = first.0 in
@@ -137,7 +137,7 @@ error_with line fault = record { line = line; fault = fault }
 
 entry_one : (names : List (List ℕ)) (text : List ℕ) (e f : PlanError) → IsEntryFault names text e → IsEntryFault names text f → e ≡ f
 entry_one names text e f x y =
-    elim (same_entries x.done x.digests y.done y.digests x.left y.left x.rest y.rest x.lawful y.lawful (sym x.split ∙ y.split)
+    elim (same_entries x.done x.digests y.done y.digests x.left y.left x.rest y.rest x.valid y.valid (sym x.split ∙ y.split)
     (append_cancel_left record_header (entries_text x.done x.digests ++ x.rest) (entries_text y.done y.digests ++ y.rest)
     (sym (cut_header text (entries_text x.done x.digests) x.rest x.cut) ∙ cut_header text (entries_text y.done y.digests) y.rest y.cut))) [
       | inl same ↦
@@ -177,7 +177,7 @@ whole_cut r = ap (λ (t : List ℕ). record_header ++ t) (sym (append-nil (entri
 pub no_record_fault : (r : RecordValue) (e : PlanError) → IsRecord r → ¬ IsRecordFault r.names (record_text r) e
 no_record_fault r e is (inl x) = x.1 (entries_text r.names r.digests, refl)
 no_record_fault r e is (inr x) =
-    elim (same_entries x.done x.digests r.names r.digests x.left [] x.rest [] x.lawful is (sym x.split ∙ sym (append-nil r.names))
+    elim (same_entries x.done x.digests r.names r.digests x.left [] x.rest [] x.valid is (sym x.split ∙ sym (append-nil r.names))
     (append_cancel_left record_header (entries_text x.done x.digests ++ x.rest) (entries_text r.names r.digests ++ []) (sym (cut_header (record_text r) (entries_text x.done x.digests) x.rest x.cut) ∙ whole_cut r))) [
       | inl same ↦ no_end_fault e.fault (subst (λ (t : List ℕ). IsNextEntryFault [] t e.fault) same.rest (subst (λ (l : List (List ℕ)). IsNextEntryFault l x.rest e.fault) same.left_same x.fault))
       | inr other ↦ elim other [

@@ -137,7 +137,7 @@ pub record IsFaultBehind (text : List ℕ) (e : PlanError) : Type 0 where
   pub version : Version
   pub start : Beginning
   pub rest : List ℕ
-  pub lawful : IsBeginning version start
+  pub valid : IsBeginning version start
   pub cut : text ≡ beginning_text version start ++ rest
   pub number : e.line ≡ next_number start
   pub fault : IsNextFault version start rest e.fault

@@ -63,7 +63,7 @@ pub record IsLinesFault (version : Version) (steps : List StepValue) (first : �
     (e : PlanError) : Type 0 where
   pub good : List LineValue
   pub rest : List ℕ
-  pub lawful : AreLines (length steps) good
+  pub valid : AreLines (length steps) good
   pub apart : KeepApart version good
   pub cut : text ≡ lines_text steps good ++ rest
   pub number : e.line ≡ first + length good
@@ -74,7 +74,7 @@ pub record IsLinesFault (version : Version) (steps : List StepValue) (first : �
 pub record IsFront (version : Version) (text : List ℕ) (steps : List StepValue) (rest : List ℕ)
     (number : ℕ) : Type 0 where
   pub few : length steps ≤ 4096
-  pub lawful : AreSteps [] steps
+  pub valid : AreSteps [] steps
   pub apart : AllKeepApart version steps
   pub cut : text ≡ flat_map (step_text steps) steps ++ rest
   pub counted : number ≡ line_count steps + 2

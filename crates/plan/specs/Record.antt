@@ -17,7 +17,7 @@ pub record RecordValue : Type 0 where
 
 pub record IsRecord (record_of : RecordValue) : Type 0 where
   pub named : AllByRecursion IsStepName record_of.names
-  pub lawful : AllByRecursion IsDigest record_of.digests
+  pub valid : AllByRecursion IsDigest record_of.digests
   pub same_length : length record_of.digests ≡ length record_of.names
 
 -- the names of the steps of a plan, in order
@@ -64,7 +64,7 @@ pub record IsEntryFault (names : List (List ℕ)) (text : List ℕ) (e : PlanErr
   pub digests : List DigestValue
   pub rest : List ℕ
   pub split : names ≡ done ++ left
-  pub lawful : IsRecord (record { names = done; digests = digests })
+  pub valid : IsRecord (record { names = done; digests = digests })
   pub cut : text ≡ record_text (record { names = done; digests = digests }) ++ rest
   pub number : e.line ≡ length done + 2
   pub fault : IsNextEntryFault left rest e.fault

@@ -31,7 +31,7 @@ pub fn write_path<A: Allocator, B: Allocator>(
     path: &Path<B>,
 ) -> Result<String<A>, AllocError>
     ensures value { IfOk result (λ text. string_bytes text ≡ escaped_path path.now) }
-    ensures lawful { IsPath path.now }
+    ensures valid { IsPath path.now }
 {
     escape(alloc, path.as_bytes())
 }

@@ -100,7 +100,7 @@ fn read_lines<'a, A: Allocator + Copy>(
     text: &'a [u8],
     first: u64,
 ) -> Result<(Vec<Line<A>, A>, &'a [u8]), ReadError>
-    requires lawful { AreSteps [] steps.now }
+    requires valid { AreSteps [] steps.now }
     requires first_fits { first < 2 ^ 62 }
     ensures found { IfOk result
         (λ r. AreLines (length steps.now) r.0.items
@@ -154,7 +154,7 @@ fn read_steps<A: Allocator + Copy>(
         let (lines, behind) = read_lines(alloc, version, &steps, line.behind, number + 1)?;
         number += 1 + lines.len() as u64;
         let step = Step {
-            name: StepName::of_lawful(alloc, line.name)?,
+            name: StepName::of_valid(alloc, line.name)?,
             frame: line.digest,
             lines,
         };
@@ -205,7 +205,7 @@ impl<A: Allocator + Copy> Plan<A> {
     /// The version.
     pub fn version(&self) -> Version
         ensures value { result ≡ self.now.version }
-        ensures lawful { IsPlan self.now }
+        ensures valid { IsPlan self.now }
     {
         self.version
     }
@@ -213,7 +213,7 @@ impl<A: Allocator + Copy> Plan<A> {
     /// The steps, in order.
     pub fn steps(&self) -> &[Step<A>]
         ensures value { result.now ≡ self.now.steps }
-        ensures lawful { IsPlan self.now }
+        ensures valid { IsPlan self.now }
     {
         self.steps.as_slice()
     }
@@ -221,7 +221,7 @@ impl<A: Allocator + Copy> Plan<A> {
     /// The lines of the root, in order.
     pub fn root(&self) -> &[Line<A>]
         ensures value { result.now ≡ self.now.root_lines }
-        ensures lawful { IsPlan self.now }
+        ensures valid { IsPlan self.now }
     {
         self.root.as_slice()
     }

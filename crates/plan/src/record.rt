@@ -65,7 +65,7 @@ fn read_entries<A: Allocator + Copy>(
     steps: &[Step<A>],
     text: &[u8],
 ) -> Result<Vec<Digest, A>, ReadError>
-    requires lawful { AllByRecursion (λ s. IsStepName s.name) steps.now }
+    requires valid { AllByRecursion (λ s. IsStepName s.name) steps.now }
     requires few { length steps.now ≤ 4096 }
     ensures found { IfOk result
         (λ digests. IsRecord

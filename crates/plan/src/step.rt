@@ -47,11 +47,11 @@ impl<A: Allocator> StepName<A> {
         if !is_step_name(name) {
             return Ok(None);
         }
-        Ok(Some(StepName::of_lawful(alloc, name)?))
+        Ok(Some(StepName::of_valid(alloc, name)?))
     }
 
     /// The name of bytes that are one.
-    pub(crate) fn of_lawful(alloc: A, name: &[u8]) -> Result<StepName<A>, AllocError>
+    pub(crate) fn of_valid(alloc: A, name: &[u8]) -> Result<StepName<A>, AllocError>
         requires { IsStepName name.now }
         ensures { IfOk result (λ n. n ≡ name.now) }
     {
@@ -72,7 +72,7 @@ impl<A: Allocator> StepName<A> {
     /// The text.
     pub fn as_str(&self) -> &str
         ensures value { result.now ≡ self.now }
-        ensures lawful { IsStepName self.now }
+        ensures valid { IsStepName self.now }
     {
         self.text.as_str()
     }
@@ -80,7 +80,7 @@ impl<A: Allocator> StepName<A> {
     /// The bytes of the text.
     pub fn as_bytes(&self) -> &[u8]
         ensures value { result.now ≡ self.now }
-        ensures lawful { IsStepName self.now }
+        ensures valid { IsStepName self.now }
     {
         self.as_str().as_bytes()
     }

@@ -67,7 +67,7 @@ impl Tally {
         ended
     }
 
-    /// The refusal, and a failure is counted. Where the count is full it is want of memory.
+    /// The refusal, and a failure is counted. Where the count is full it is lack of memory.
     pub(crate) fn refuse<A: Allocator>(&mut self, error: RunError<A>) -> RunError<A>
         ensures failed { result ≡ RunError.Device → failures_in self.old < failures_in self.new }
         ensures unfailed { (result ≡ RunError.Device → ⊥)

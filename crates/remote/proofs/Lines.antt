@@ -85,13 +85,13 @@ refuses_status old mid new request reply n e asks is no_answer h =
     (sends_trip asks)
     (record { unbroken = asks.unbroken; stream = asks.stream; next = asks.next; reply = reply; trip = subst (λ f. RoundTrip asks.stream f (text_of old request) reply) (sym h.flow) asks.trip; is = is; refused = no_answer }) h
 
--- what a reply brought isn't kept for want of memory
+-- what a reply brought isn't kept for lack of memory
 pub refuses_unkept : (old mid new : ConnectionValue) (request : Request) (reply : ReceivedReply) (e : FetchError) → IsReplied old mid request reply → Starves mid new e → RefusesRequest old new request e
 refuses_unkept old mid new request reply e asks h =
     refuses_starved old mid new request e (λ shut. absurd (true_false old.broken asks.unbroken shut)) (record { count = asks.failures; fault = asks.fault }) asks.server
     (sends_trip asks) h
 
--- ---- want of memory
+-- ---- lack of memory
 
 failed_memory : Failed ≡ Memory → ⊥
 failed_memory h = cc
@@ -102,7 +102,7 @@ explains_failure old mid new request fault e none h = record {
   lacks = λ is. inl (sym none.count ∙ h.full (λ f. memory_failed (sym is ∙ f)));
 }
 
--- such a failure is told as want of memory only where it can't be counted
+-- such a failure is told as out of memory only where it can't be counted
 pub explains_unopened : (old mid new : ConnectionValue) (request : Request) (fault : Fault) (e : FetchError) → CantOpen old mid fault → Fails mid new fault e → ExplainsMemory old new request e
 explains_unopened old mid new request Broken e (shut, same) h =
     explains_failure old mid new request Broken e (record { count = ap (λ z. z.failures) same; fault = ap (λ z. z.fault) same }) h

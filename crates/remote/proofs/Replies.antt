@@ -18,14 +18,14 @@ use Rattle.remote.proofs.Flows.{receives_then, receives_no_more}
 pub next_reply : (old mid new : Flow) (block shown body : List ℕ) (head : ReplyHead) → Receives old mid block → Receives mid new body
     → IsBlock block → length block ≤ 16384 → shown ≡ block → IsReplyHead shown head → length body ≡ head.length
     → NextReply old new (record { status = head.status; body = body; close = head.close })
-next_reply old mid new block shown body head first second ends fits same lawful size = record {
+next_reply old mid new block shown body head first second ends fits same valid size = record {
   text = block ++ body;
   is = record {
     block = block;
     whole = refl;
     ends = ends;
     fits = fits;
-    head = subst (λ n. IsReplyHead block (record { status = head.status; length = n; close = head.close })) (sym size) (subst (λ b. IsReplyHead b head) same lawful);
+    head = subst (λ n. IsReplyHead block (record { status = head.status; length = n; close = head.close })) (sym size) (subst (λ b. IsReplyHead b head) same valid);
   };
   read = receives_then old mid new block body first second;
 }
@@ -57,7 +57,7 @@ bad_memory e = cc
 -- the stream failed within a body
 pub reply_in_part : (old mid new : Flow) (block shown : List ℕ) (head : ReplyHead) (size : ℕ) → Receives old mid block → IsBlock block → shown ≡ block → IsReplyHead shown head → size ≡ head.length
     → ReceivesFewer mid new size → NextInPart old new
-reply_in_part old mid new block shown head size first ends same lawful is (body, short, second) = record {
+reply_in_part old mid new block shown head size first ends same valid is (body, short, second) = record {
   text = block ++ body;
   part = inr (record {
     block = block;
@@ -65,7 +65,7 @@ reply_in_part old mid new block shown head size first ends same lawful is (body,
     head = head;
     whole = refl;
     ends = ends;
-    lawful = subst (λ b. IsReplyHead b head) same lawful;
+    valid = subst (λ b. IsReplyHead b head) same valid;
     short = subst (λ n. length body < n) is short;
   });
   read = receives_then old mid new block body first second;

@@ -26,12 +26,12 @@ IsFaultAt path (NotAFile p) = string_bytes p ≡ path
 IsFaultAt path (TooLarge p) = string_bytes p ≡ path
 IsFaultAt path Memory = ⊥
 
--- the error tells of the file at this path, or of want of memory
+-- the error tells of the file at this path, or of lack of memory
 abbrev pub IsErrorOf : {A : Type 0} → List ℕ → FileError A → Type 0
 IsErrorOf path Memory = Unit {0}
 IsErrorOf path e = IsFaultAt path e
 
--- The error tells of this fault of the file at this path. Want of memory is no fault of the file.
+-- The error tells of this fault of the file at this path. Lack of memory is no fault of the file.
 abbrev pub TellsFault : {A : Type 0} → List ℕ → Error → FileError A → Type 0
 TellsFault path fault (Io p f) = (error_kind fault ≢ OutOfMemory) × (f ≡ fault)
     × (string_bytes p ≡ path)

@@ -187,7 +187,7 @@ pub record LacksMemory (old new : ConnectionValue) (request : Request) : Type 0 
   pub next : IsNextStream old stream
   pub is : (new.flow ≡ stream) ⊎ RoundTripForSome stream new.flow (text_of old request)
 
--- A refusal for want of memory is told for nothing else, but where a failure can't be counted.
+-- A refusal for lack of memory is told for nothing else, but where a failure can't be counted.
 pub record ExplainsMemory (old new : ConnectionValue) (request : Request) (e : FetchError)
     : Type 0 where
   pub lacks : e ≡ Memory → (old.failures ≡ greatest_count) ⊎ LacksMemory old new request

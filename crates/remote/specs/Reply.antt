@@ -14,7 +14,7 @@ pub record ReceivedReply : Type 0 where
 abbrev pub reply_value : {A : Type 0} → Reply A → ReceivedReply
 reply_value r = record { status = r.status; body = r.body.items; close = r.close }
 
--- These bytes, and none of them too many, are the reply: a block, whose head is lawful, and a body
+-- These bytes, and none of them too many, are the reply: a block, whose head is valid, and a body
 -- of the length that it says.
 pub record IsReply (bytes : List ℕ) (reply : ReceivedReply) : Type 0 where
   pub block : List ℕ
@@ -36,7 +36,7 @@ pub record RoundTrip (old new : Flow) (request : List ℕ) (reply : ReceivedRepl
   pub asks : Sends old between request
   pub answers : NextReply between new reply
 
--- no reply begins so: a block without a lawful head, or 16,384 bytes in which no block ends
+-- no reply begins so: a block without a valid head, or 16,384 bytes in which no block ends
 abbrev pub BeginsNoReply : List ℕ → Type 0
 BeginsNoReply bytes =
     (IsBlock bytes × ((head : ReplyHead) → IsReplyHead bytes head → ⊥))
@@ -54,14 +54,14 @@ pub record RoundTripForNone (old new : Flow) (request : List ℕ) : Type 0 where
   pub asks : Sends old between request
   pub answers : NextIsNoReply between new
 
--- A lawful head and less than the body that it asks for.
+-- A valid head and less than the body that it asks for.
 pub record IsHeadAndPart (bytes : List ℕ) : Type 0 where
   pub block : List ℕ
   pub body : List ℕ
   pub head : ReplyHead
   pub whole : bytes ≡ block ++ body
   pub ends : IsBlock block
-  pub lawful : IsReplyHead block head
+  pub valid : IsReplyHead block head
   pub short : length body < head.length
 
 -- replies begin so: no block ends in the bytes so far, or the body after the head isn't whole

@@ -7,7 +7,7 @@ pub enum Fault {
     /// The stream ended or failed within a request or a reply, or couldn't be opened anew.
     #[error("the connection failed")]
     Io,
-    /// What came is no lawful reply.
+    /// What came is no valid reply.
     #[error("the server's reply is none of HTTP/1.1")]
     BadReply,
     /// The reply has another status than those that answer.

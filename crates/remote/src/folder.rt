@@ -65,7 +65,7 @@ impl<'r, F: FileReader<A>, A: Allocator + Copy> FolderSource<'r, F, A> {
 }
 
 impl<'r, F: FileReader<A>, A: Allocator + Copy> Folder<'r, F, A> {
-    /// Counts a failure, unless the error is want of memory or the count is full.
+    /// Counts a failure, unless the error is lack of memory or the count is full.
     fn fail(&mut self, error: FileError<A>) -> FetchError
         ensures kept { result ≡ FetchError.Failed → self.new.error ≡ Some error }
         ensures real { result ≡ FetchError.Failed → error ≢ errors.Memory }

@@ -27,7 +27,7 @@ pub(crate) struct Line<S: Drop, A: Allocator> {
 }
 
 impl<S: Stream + Drop, A: Allocator + Copy> Line<S, A> {
-    /// Counts a failure. One whose count is full is want of memory instead.
+    /// Counts a failure. One whose count is full is lack of memory instead.
     fn fail(&mut self, fault: Fault) -> FetchError
         ensures { Fails (line_of S.flow self.old) (line_of S.flow self.new) fault result }
     {
@@ -41,7 +41,7 @@ impl<S: Stream + Drop, A: Allocator + Copy> Line<S, A> {
         FetchError::Failed
     }
 
-    /// Want of memory.
+    /// Lack of memory.
     pub(crate) fn starve(&mut self) -> FetchError
         ensures { Starves (line_of S.flow self.old) (line_of S.flow self.new) result }
     {

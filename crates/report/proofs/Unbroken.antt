@@ -52,10 +52,10 @@ pub none_in_number : (n : ℕ) → n < 2 ^ 64 → HasNoNewline (decimal n)
 none_in_number n small = all_pass-without is_ascii_digit (decimal n) 10 (decimal-IsDecimal n small).digits refl
 
 pub none_in_name : (name : List ℕ) → IsStepName name → HasNoNewline name
-none_in_name name lawful = all_pass-without is_step_name_byte name 10 lawful.bytes refl
+none_in_name name valid = all_pass-without is_step_name_byte name 10 valid.bytes refl
 
 pub none_in_digest : (d : DigestValue) → IsDigest d → HasNoNewline (digest_text d)
-none_in_digest d lawful = digest_text-without d 10 lawful refl refl (λ e. omega (arith, e))
+none_in_digest d valid = digest_text-without d 10 valid refl refl (λ e. omega (arith, e))
 
 pub none_in_signed : (z : ℤ) → mag z < 2 ^ 63 → HasNoNewline (signed_decimal z)
 none_in_signed (pos n) small = none_in_number n (omega (arith, small))
@@ -88,9 +88,9 @@ one_line text line unbroken e = record { text = text; unbroken = unbroken; ended
 
 -- the two lines
 pub yes_line : (root : DigestValue) (steps : ℕ) → IsDigest root → steps < 2 ^ 64 → IsOneLine (yes_text root steps)
-yes_line root steps lawful small =
+yes_line root steps valid small =
     let number = none_joined (codes " steps ") (decimal steps) (none_seen (codes " steps ") refl) (none_in_number steps small) in
-    let text = none_joined (digest_text root) (codes " steps " ++ decimal steps) (none_in_digest root lawful) number in
+    let text = none_joined (digest_text root) (codes " steps " ++ decimal steps) (none_in_digest root valid) number in
     record {
       text = codes "yes " ++ (digest_text root ++ (codes " steps " ++ decimal steps));
       unbroken = none_joined (codes "yes ") (digest_text root ++ (codes " steps " ++ decimal steps)) (none_seen (codes "yes ") refl) text;

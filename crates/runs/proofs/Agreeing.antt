@@ -38,20 +38,20 @@ module _ (S : List ℕ → Type 0) (apart : NoClash S) where
   below_agrees (outputs.Tree t) (single (link target)) (n ∷ q) r ordered own h is look = absurd cc
   below_agrees (outputs.Tree t) (whole u) (n ∷ q) r ordered own h is look =
       let digests : root (form u) ≡ digest_of (directory_bytes t.root) = cc in
-      let same = directory_is S apart u t.root h.lawful.root (h.held t.root (0, omega arith, refl)) (own (top (form u)) (inl refl)) (sym digests) in
+      let same = directory_is S apart u t.root h.valid.root (h.held t.root (0, omega arith, refl)) (own (top (form u)) (inl refl)) (sym digests) in
       let rest : LooksFrom (IsFirstChild t) NoFault q (option_map entry_node (entry_of n u)) r = subst (λ o. LooksFrom (IsFirstChild t) NoFault q o r) (ap (child n) same ∙ child-directory_of n u ordered) look in
       looks_from (IsFirstChild t) NoFault S (reads_tree S apart t h) q (entry_of n u) r (entry_ordered n u ordered) (λ b k. own b (inr (entry_blobs n u b k))) rest
 
   pub outputs_agree : (o : Outcome) (v : OutcomeValue) → IsTreeOutcome o → ((b : List ℕ) → IsBlobOfOutcome o b → S b) → ((e : List Name × OutputValue) → Contains v.outputs e → HoldsOutput S apart e.1)
       → IsFormOf v o → (p : List Name) (r : Looked) → LooksIn v p r → AgreesWith (option_map entry_node (output_at o.outputs p)) r
-  outputs_agree o v lawful own held same p r (inl (e, inside, q, path, look)) =
+  outputs_agree o v valid own held same p r (inl (e, inside, q, path, look)) =
       let there = mapped_from (λ (d : List Name × Entry Leaf). (d.0, entry_node d.1)) o.outputs (e.0, output_node e.1) ((same.outputs e.0 (output_node e.1)).0 (holds_mapped (λ (d : List Name × OutputValue). (d.0, output_node d.1)) v.outputs e inside)) in
       let paths : there.0.0 ≡ e.0 = ap (λ (d : List Name × NodeValue). d.0) there.2 in
       let nodes : entry_node there.0.1 ≡ output_node e.1 = ap (λ (d : List Name × NodeValue). d.1) there.2 in
-      let at : output_at o.outputs p ≡ below_entry q (Some there.0.1) = ap (output_at o.outputs) (path ∙ ap (λ r. r ++ q) (sym paths)) ∙ output_below o.outputs there.0 q lawful.apart there.1 in
+      let at : output_at o.outputs p ≡ below_entry q (Some there.0.1) = ap (output_at o.outputs) (path ∙ ap (λ r. r ++ q) (sym paths)) ∙ output_below o.outputs there.0 q valid.apart there.1 in
       subst (λ z. AgreesWith (option_map entry_node z) r) (sym at)
-      (below_agrees e.1 there.0.1 q r (all_at (λ (d : List Name × Entry Leaf). IsOrderedEntry d.1) o.outputs there.0 lawful.outputs there.1) (λ b k. own b (there.0, there.1, k)) (held e inside) nodes look)
-  outputs_agree o v lawful own held same p r (inr (none, look)) = by (output_at o.outputs p) refl
+      (below_agrees e.1 there.0.1 q r (all_at (λ (d : List Name × Entry Leaf). IsOrderedEntry d.1) o.outputs there.0 valid.outputs there.1) (λ b k. own b (there.0, there.1, k)) (held e inside) nodes look)
+  outputs_agree o v valid own held same p r (inr (none, look)) = by (output_at o.outputs p) refl
     where
       by : (z : Option (Entry Leaf)) → output_at o.outputs p ≡ z → AgreesWith (option_map entry_node z) r
       by None is = subst (AgreesWith None) (sym look) refl

@@ -54,7 +54,7 @@ use Rattle.runs.proofs.Steady.{Steady, made_of}
 use Rattle.runs.proofs.Lost.{steady_of}
 use Rattle.runs.proofs.Noted.{outcome_there, kept_count, kept_each}
 use Rattle.runs.proofs.Resolved.{holds_output, grafted}
-use Rattle.verifier.proofs.LinesTold.{lawful_tree, tree_blobs}
+use Rattle.verifier.proofs.LinesTold.{valid_tree, tree_blobs}
 use Rattle.runs.proofs.Found.{way_found, outputs_found}
 
 -- ---- lists
@@ -138,7 +138,7 @@ module _ (B C : Blobs) (e : EngineValue) (t : Tree Leaf) (meaning : Meaning) (X 
 
   -- the Trees of a recorded outcome
   holds_told : (d : DigestValue) (u : TreeValue) → IsTold IsTree tree_bytes B d u → HoldsTree S k.apart u
-  holds_told d u told = record { lawful = told.lawful; held = λ m inside. inl (inl (inr (u, told.lawful, by told.blob.held, m, inside, refl))) }
+  holds_told d u told = record { valid = told.valid; held = λ m inside. inl (inl (inr (u, told.valid, by told.blob.held, m, inside, refl))) }
     where
       by : IsUnder B d (Some (tree_bytes u)) → IsValue B (tree_bytes u)
       by (inl h) = absurd (tree_bytes_some u (let both : ◌≡◌ {A = Option (List ℕ)} (Some (tree_bytes u)) (Some []) = h.1 in cc))
@@ -183,7 +183,7 @@ module _ (B C : Blobs) (e : EngineValue) (t : Tree Leaf) (meaning : Meaning) (X 
 
   origin_found : (before : List OutcomeValue) → AreServed before → (o : OriginValue) (y : Entry Leaf) → IsOrigin (length before) o → ((p : List Name) → o ≡ source p → TellsWay B t p)
       → origin_at t s o ≡ Some y → OriginFound before o y
-  origin_found before all (source p) y lawful tells is =
+  origin_found before all (source p) y valid tells is =
       let look = subst (λ d. LooksFrom (TellsDirectory B) (FailsDirectory B) p (Some (Dir d)) (found (entry_node y))) k.mirrors.sources (way_found B p (Some (whole t)) y k.ordered (tells p refl) is) in
       record {
         twin = record { node = entry_node y; one = in_source; other = in_source };
@@ -194,8 +194,8 @@ module _ (B C : Blobs) (e : EngineValue) (t : Tree Leaf) (meaning : Meaning) (X 
         one = source_held (entry_node y);
         other = source_held (entry_node y);
       }
-  origin_found before all (output j p) y lawful tells is =
-      let v = has_one before j lawful.0 in
+  origin_found before all (output j p) y valid tells is =
+      let v = has_one before j valid.0 in
       let served = all j v.0 v.1 in
       let f = served.finished in
       let o = outcome_there e t meaning s k.mirrors j f served.is in
@@ -219,8 +219,8 @@ module _ (B C : Blobs) (e : EngineValue) (t : Tree Leaf) (meaning : Meaning) (X 
           first = λ b q. tree_blobs k.apart lies_f.1.0.1 (holds_f lies_f.1.0 lies_f.1.1) b (subst (λ w. IsBlobIn w b) lies_f.1.3 q);
           second = λ b q. tree_blobs k.apart lies_v.1.0.1 (holds_v lies_v.1.0 lies_v.1.1) b (subst (λ w. IsBlobIn w b) lies_v.1.3 q);
         };
-        one = outcome_held f.outcome (engine.taken j f c.0 served.is c.1).lawful (λ x here. lawful_tree k.apart x.1 (holds_f x here)) p (record { node = entry_node y; within = lies_f.0 }) look_f lies_f.1;
-        other = outcome_held v.0 served.stands.lawful (λ x here. lawful_tree k.apart x.1 (holds_v x here)) p (record { node = entry_node y; within = lies_v.0 }) look_v lies_v.1;
+        one = outcome_held f.outcome (engine.taken j f c.0 served.is c.1).valid (λ x here. valid_tree k.apart x.1 (holds_f x here)) p (record { node = entry_node y; within = lies_f.0 }) look_f lies_f.1;
+        other = outcome_held v.0 served.stands.valid (λ x here. valid_tree k.apart x.1 (holds_v x here)) p (record { node = entry_node y; within = lies_v.0 }) look_v lies_v.1;
       }
 
   -- lines
@@ -234,8 +234,8 @@ module _ (B C : Blobs) (e : EngineValue) (t : Tree Leaf) (meaning : Meaning) (X 
 
   lines_found : (before : List OutcomeValue) → AreServed before → (ls : List LineValue) (os : List (List Name × Entry Leaf)) → AllByRecursion (IsLine (length before)) ls
       → ((l : LineValue) → Contains ls l → (p : List Name) → l.origin ≡ source p → TellsWay B t p) → origins t s ls ≡ Some os → LinesFound before ls
-  lines_found before all [] os lawful tells is = record { twins = []; by_engine = refl; recorded = refl; are = tt; one = tt; other = tt }
-  lines_found before all (l ∷ ls) os lawful tells is =
+  lines_found before all [] os valid tells is = record { twins = []; by_engine = refl; recorded = refl; are = tt; one = tt; other = tt }
+  lines_found before all (l ∷ ls) os valid tells is =
       by (origin_at t s l.origin) (origins t s ls) refl refl is (lines_found before all ls)
     where
       by : (o : Option (Entry Leaf)) (q : Option (List (List Name × Entry Leaf))) → origin_at t s l.origin ≡ o → origins t s ls ≡ q
@@ -245,8 +245,8 @@ module _ (B C : Blobs) (e : EngineValue) (t : Tree Leaf) (meaning : Meaning) (X 
       by None q at those is rest = absurd cc
       by (Some y) None at those is rest = absurd cc
       by (Some y) (Some others) at those is rest =
-          let one = origin_found before all l.origin y lawful.0.origin (tells l (0, omega arith, refl)) at in
-          let more = rest others lawful.1 (λ m c. tells m (behind l ls m c)) those in
+          let one = origin_found before all l.origin y valid.0.origin (tells l (0, omega arith, refl)) at in
+          let more = rest others valid.1 (λ m c. tells m (behind l ls m c)) those in
           record {
             twins = (l.target, one.twin) ∷ more.twins;
             by_engine = (first_of one.twin, one.by_engine, firsts more.twins, more.by_engine, refl);
@@ -266,12 +266,12 @@ module _ (B C : Blobs) (e : EngineValue) (t : Tree Leaf) (meaning : Meaning) (X 
 
   lines_merge : (before : List OutcomeValue) → AreServed before → (ls : List LineValue) → AreLinesOf e.plan ls → ArePaths ls → AllByRecursion (IsLine (length before)) ls
       → ((l : LineValue) → Contains ls l → (p : List Name) → l.origin ≡ source p → TellsWay B t p) → (g : Tree Leaf) → graft_of t s ls ≡ Some g → LinesMerge before ls g
-  lines_merge before all ls of_plan paths lawful tells g is = by (origins t s ls) refl is
+  lines_merge before all ls of_plan paths valid tells g is = by (origins t s ls) refl is
     where
       by : (q : Option (List (List Name × Entry Leaf))) → origins t s ls ≡ q → option_and_then merge q ≡ Some g → LinesMerge before ls g
       by None at is = absurd cc
       by (Some os) at merges =
-          let found = lines_found before all ls os lawful tells at in
+          let found = lines_found before all ls os valid tells at in
           let made = serves.merges ls of_plan (firsts found.twins) found.by_engine in
           let known = grafted B e t meaning X es s engine k ls paths made.0 (record { nodes = firsts found.twins; resolved = found.by_engine; passes = made.1 }) in
           record {
@@ -288,12 +288,12 @@ module _ (B C : Blobs) (e : EngineValue) (t : Tree Leaf) (meaning : Meaning) (X 
 
   step_recorded : (before : List OutcomeValue) → AreServed before → (i : ℕ) (step : StepValue) → slice_get e.plan.steps i ≡ Some step → ArePaths step.lines → AllByRecursion (IsLine (length before)) step.lines
       → (v : OutcomeValue) (one : IsServed i v) → IsAsRecorded B C e.sources before step one.finished.action v
-  step_recorded before all i step at paths_are lawful v one =
+  step_recorded before all i step at paths_are valid v one =
       let kept = k.mirrors.actions i one.finished one.is in
       let a = kept.0 in
       let made = made_of e.plan meaning t s i a kept.1 in
       let same : made.step ≡ step = one_answer (slice_get e.plan.steps i) made.step step made.at at in
-      let parts = lines_merge before all step.lines (inr (i, step, at, refl)) paths_are lawful (λ l c p is. serves.sources l (inl (i, step, at, c)) p is) a.input (subst (λ (x : StepValue). graft_of t s x.lines ≡ Some a.input) same made.input) in
+      let parts = lines_merge before all step.lines (inr (i, step, at, refl)) paths_are valid (λ l c p is. serves.sources l (inl (i, step, at, c)) p is) a.input (subst (λ (x : StepValue). graft_of t s x.lines ≡ Some a.input) same made.input) in
       let frame = k.mirrors.frames i step at ∙ made.frame in
       let command = k.mirrors.commands i step at ∙ made.command in
       let stands = engine.stand.each i step a.frame a.command at frame command in
@@ -308,12 +308,12 @@ module _ (B C : Blobs) (e : EngineValue) (t : Tree Leaf) (meaning : Meaning) (X 
         tree = parts.tree;
         result = one.result;
         action_told = record {
-          lawful = record { frame = stands.0.frame_lawful; input = IsDigest-digest_of (top (form a.input)) };
+          valid = record { frame = stands.0.frame_valid; input = IsDigest-digest_of (top (form a.input)) };
           blob = subst (λ d. IsBlobUnder B d (action_bytes (with_input a.frame (root (form a.input))))) (sym kept.2) told.0;
         };
         may_be_cached = stands.1;
         frame = stands.0.frame_digest;
-        command_told = record { lawful = stands.0.command_lawful; blob = told.1 };
+        command_told = record { valid = stands.0.command_valid; blob = told.1 };
         resolved = parts.resolved;
         put_together = parts.put_together;
         input = parts.same;
@@ -342,21 +342,21 @@ module _ (B C : Blobs) (e : EngineValue) (t : Tree Leaf) (meaning : Meaning) (X 
 
   steps_recorded : (earlier ss : List StepValue) (before : List OutcomeValue) (ds : List DigestValue) → AreSteps earlier ss → length earlier ≡ length before → AreServed before → Rest (length before) ss ds → Ended before ss ds
   unfolding served_in
-  steps_recorded earlier [] before ds lawful count all rest = (before, refl, all, omega arith)
-  steps_recorded earlier (x ∷ ss) before [] lawful count all rest = let f = rest.digests 0 x refl in absurd (none f.0.action f.2)
+  steps_recorded earlier [] before ds valid count all rest = (before, refl, all, omega arith)
+  steps_recorded earlier (x ∷ ss) before [] valid count all rest = let f = rest.digests 0 x refl in absurd (none f.0.action f.2)
     where
       none : (d : DigestValue) → slice_get [] 0 ≡ Some d → ⊥
       none d h = cc
-  steps_recorded earlier (x ∷ ss) before (d ∷ ds) lawful count all rest =
+  steps_recorded earlier (x ∷ ss) before (d ∷ ds) valid count all rest =
       let f = rest.digests 0 x refl in
       let here : length before + 0 ≡ length before = omega arith in
       let v = served_in (length before) f.0 (subst (λ m. finished_in m e ≡ Some f.0) here f.1) in
       let at : slice_get e.plan.steps (length before) ≡ Some x = subst (λ m. slice_get e.plan.steps m ≡ Some x) here (rest.steps 0 x refl) in
       let digest : f.0.action ≡ d = (let both : ◌≡◌ {A = Option DigestValue} (Some d) (Some f.0.action) = f.2 in cc) in
-      let lines = subst (λ m. AllByRecursion (IsLine m) x.lines) count lawful.0.lines.each in
+      let lines = subst (λ m. AllByRecursion (IsLine m) x.lines) count valid.0.lines.each in
       let one = step_recorded before all (length before) x at (paths_of (length before) x.lines lines) lines v.0 v.1 in
       let grown = pushed_length before v.0 in
-      let more = steps_recorded (earlier ++ x ∷ []) ss (before ++ v.0 ∷ []) ds lawful.1 (pushed_length earlier x ∙ ap suc count ∙ sym grown) (served_next before v.0 all v.1)
+      let more = steps_recorded (earlier ++ x ∷ []) ss (before ++ v.0 ∷ []) ds valid.1 (pushed_length earlier x ∙ ap suc count ∙ sym grown) (served_next before v.0 all v.1)
       (subst (λ m. Rest m ss ds) (sym grown) (rest_next (length before) x ss d ds rest)) in
       (more.0, (v.0, subst (λ q. IsAsRecorded B C e.sources before x q v.0) digest one, more.1), more.2, more.3 ∙ counted (length before) (length ss) grown)
     where

@@ -36,7 +36,7 @@ opening_exit {T} {U} {A} {x} {r} {old} {new} exit h =
     (λ is. (is.0, ap Err (sym p.2 ∙ err_injective {T = U} p.0 (opening.Source is.0 tree.Fetch) is.1)))
     (λ is. (is.0, ap Err (p.2 ∙ err_injective {T = T} x (opening.Source is.0 tree.Fetch) is.1))) h)
 
--- want of memory is none of them
+-- lack of memory is none of them
 pub opening_memory : {T A : Type 0} {r : Result T (OpenError A)} {fails : Type 0} {old new : Telling} → IsErrAnd r (λ y. y ≡ opening.Memory) → (fails → ⊥) → Called old new fails → Called old new (FailsToOpen r)
 opening_memory {T} {A} {r} {fails} {old} {new} exit none h =
     let p = err_from_is_err_and r exit in

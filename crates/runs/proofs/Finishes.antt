@@ -160,8 +160,8 @@ module _ (e : EngineValue) (w : ℕ) (j : JobValue) (v : OutcomeValue) (k : IsEn
 
     -- no step of which it would be refused has another outcome
     agree : IsOutcome v → Disagrees e.finished j.step j.action v → ⊥
-    agree lawful (n, None, at, other) = other
-    agree lawful (n, Some f, at, other) = other.1 (one_form f.outcome v out (finished_lawful n f here) lawful (subst (IsFormOf f.outcome) (same other.0) o.2) form)
+    agree valid (n, None, at, other) = other
+    agree valid (n, Some f, at, other) = other.1 (one_form f.outcome v out (finished_valid n f here) valid (subst (IsFormOf f.outcome) (same other.0) o.2) form)
       where
         here : finished_in n e ≡ Some f
         here = ap (λ q. option_and_then (λ x. x) q) at
@@ -169,10 +169,10 @@ module _ (e : EngineValue) (w : ℕ) (j : JobValue) (v : OutcomeValue) (k : IsEn
         o : (o : Outcome) × (outcome_of n s ≡ Some o) × IsFormOf f.outcome o
         o = outcome_there e t meaning s run.mirrors n f here
 
-        finished_lawful : (n : ℕ) (f : FinishedValue) → finished_in n e ≡ Some f → IsOutcome f.outcome
-        finished_lawful n f at =
+        finished_valid : (n : ℕ) (f : FinishedValue) → finished_in n e ≡ Some f → IsOutcome f.outcome
+        finished_valid n f at =
             let c = has_one e.commands n (subst (λ m. n < m) (k.count ∙ sym k.stand.commands_count) (taken_within e.finished n f at)) in
-            (k.taken n f c.0 at c.1).lawful
+            (k.taken n f c.0 at c.1).valid
 
         same : (n ≡ j.step) ⊎ (f.action ≡ j.action) → o.0 ≡ out
         same (inl h) = sym (before_is o.0 (subst (λ m. outcome_of m s ≡ Some o.0) h o.1))
@@ -199,7 +199,7 @@ finish_event e new w v k f = record {
 }
 
 pub foreign_outcome : (e : EngineValue) (w : ℕ) (j : JobValue) (v : OutcomeValue) → IsEngine e → job_in w e ≡ Some j → IsOutcome v → Disagrees e.finished j.step j.action v → IsForeign e w v
-foreign_outcome e w j v k is lawful other = record { of_run = λ t meaning X es s run out obeys form. agree e w j v k is t meaning X es s run out obeys form lawful other }
+foreign_outcome e w j v k is valid other = record { of_run = λ t meaning X es s run out obeys form. agree e w j v k is t meaning X es s run out obeys form valid other }
 
 -- the fault of an outcome is one of the finish
 pub fault_of_outcome : {A : Type 0} (e : EngineValue) (w : ℕ) (j : JobValue) (c : CommandValue) (v : OutcomeValue) (why : RunsError A) → job_in w e ≡ Some j → slice_get e.commands j.step ≡ Some c → IsOutcomeFault c v why → IsFinishFault e w v why

@@ -12,7 +12,7 @@ use Rattle.action_messages.specs.Command.{CommandValue}
 use Rattle.actions.specs.declared.outcome.Output.{Output}
 use Rattle.actions.specs.Outcome.{OutputValue, OutcomeValue, output_value, output_node, outputs_in, outputs_form, output_paths}
 use Rattle.tree.specs.Form.{NodeValue}
-use Rattle.runs.specs.Engine.{FinishedValue, IsLawfulOutput, HoldLawfulTrees}
+use Rattle.runs.specs.Engine.{FinishedValue, IsValidOutput, HoldValidTrees}
 use Rattle.runs.specs.Calls.{IsOther, IsFirstUnlisted, IsUnlisted, IsOutcomeFault, first_kept}
 use Rattle.runs.specs.declared.error.RunsError.{RunsError}
 use Rattle.runs.specs.declared.error.RunsError.TheVariants as errors
@@ -69,17 +69,17 @@ module _ {A : Type 0} where
 
   pub record ListsOn (c : CommandValue) (xs rest : List (List (List ℕ) × Output A)) : Type 0 where
     pub listed : AllByRecursion (Contains c.output_paths) (paths_of rest) → AllByRecursion (Contains c.output_paths) (paths_of xs)
-    pub lawful : HoldLawfulTrees (outputs_in rest) → HoldLawfulTrees (outputs_in xs)
+    pub valid : HoldValidTrees (outputs_in rest) → HoldValidTrees (outputs_in xs)
     pub unlisted : (p : List (List ℕ)) → IsFirstUnlisted c (paths_of rest) p → IsFirstUnlisted c (paths_of xs) p
 
   pub lists_first : (c : CommandValue) (xs : List (List (List ℕ) × Output A)) → ListsOn c xs xs
-  lists_first c xs = record { listed = λ h. h; lawful = λ h. h; unlisted = λ p h. h }
+  lists_first c xs = record { listed = λ h. h; valid = λ h. h; unlisted = λ p h. h }
 
-  pub lists_next : (c : CommandValue) (xs : List (List (List ℕ) × Output A)) (i : ℕ) (x : List (List ℕ) × Output A) → i < length xs → x ≡ get_or xs i x → Contains c.output_paths x.0 → IsLawfulOutput (output_value x.1) → ListsOn c xs (drop i xs) → ListsOn c xs (drop (i + 1) xs)
+  pub lists_next : (c : CommandValue) (xs : List (List (List ℕ) × Output A)) (i : ℕ) (x : List (List ℕ) × Output A) → i < length xs → x ≡ get_or xs i x → Contains c.output_paths x.0 → IsValidOutput (output_value x.1) → ListsOn c xs (drop i xs) → ListsOn c xs (drop (i + 1) xs)
   lists_next c xs i x lt is inside ok goes =
       let split = split_at xs i x lt is in
       let here = subst (ListsOn c xs) split goes in
-      record { listed = λ h. here.listed (inside, h); lawful = λ h. here.lawful (ok, h); unlisted = λ p h. here.unlisted p (inr (inside, h)) }
+      record { listed = λ h. here.listed (inside, h); valid = λ h. here.valid (ok, h); unlisted = λ p h. here.unlisted p (inr (inside, h)) }
 
   pub lists_none : (c : CommandValue) (xs : List (List (List ℕ) × Output A)) (i : ℕ) (x : List (List ℕ) × Output A) (p : List (List ℕ)) → i < length xs → x ≡ get_or xs i x → (Contains c.output_paths x.0 → ⊥) → p ≡ x.0 → ListsOn c xs (drop i xs) → IsFirstUnlisted c (paths_of xs) p
   lists_none c xs i x p lt is none same goes =
@@ -89,8 +89,8 @@ module _ {A : Type 0} where
   pub lists_end : (c : CommandValue) (xs : List (List (List ℕ) × Output A)) (i : ℕ) → length xs ≤ i → ListsOn c xs (drop i xs) → AllByRecursion (Contains c.output_paths) (paths_of xs)
   lists_end c xs i le goes = (subst (ListsOn c xs) (drop_all i xs le) goes).listed tt
 
-  pub lawful_end : (c : CommandValue) (xs : List (List (List ℕ) × Output A)) (i : ℕ) → length xs ≤ i → ListsOn c xs (drop i xs) → HoldLawfulTrees (outputs_in xs)
-  lawful_end c xs i le goes = (subst (ListsOn c xs) (drop_all i xs le) goes).lawful tt
+  pub valid_end : (c : CommandValue) (xs : List (List (List ℕ) × Output A)) (i : ℕ) → length xs ≤ i → ListsOn c xs (drop i xs) → HoldValidTrees (outputs_in xs)
+  valid_end c xs i le goes = (subst (ListsOn c xs) (drop_all i xs le) goes).valid tt
 
 -- ---- other outcomes
 

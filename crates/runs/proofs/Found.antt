@@ -77,7 +77,7 @@ module _ (S : List ℕ → Type 0) (apart : NoClash S) where
   -- a directory below one of a Tree's is a child of the Tree
   named_below : (t : TreeValue) → HoldsTree S apart t → (m : DirectoryValue) → Contains (t.root ∷ t.children) m → (n : Name) (u w : Tree Leaf) → child n m ≡ option_map entry_node (entry_of n u) → entry_of n u ≡ Some (whole w)
       → Contains (child_digests t) (root (form w))
-  named_below t h m inside n u w stands there = child_named t m n (Dir (root (form w))) h.lawful inside (sym (stands ∙ ap (option_map entry_node) there)) (root (form w)) refl
+  named_below t h m inside n u w stands there = child_named t m n (Dir (root (form w))) h.valid inside (sym (stands ∙ ap (option_map entry_node) there)) (root (form w)) refl
 
   in_tree : (t : TreeValue) → HoldsTree S apart t → (p : List Name) (o : Option (Entry Leaf)) (y : Entry Leaf) → IsOrderedAt o → ((b : List ℕ) → lookups.IsBlobOfEntry o b → S b)
       → ((u : Tree Leaf) → o ≡ Some (whole u) → Contains (child_digests t) (root (form u))) → below_entry p o ≡ Some y → LooksFrom (IsFirstChild t) NoFault p (option_map entry_node o) (found (entry_node y))
@@ -106,7 +106,7 @@ module _ (S : List ℕ → Type 0) (apart : NoClash S) where
   below_found (outputs.Tree t) (single x) (n ∷ q) y ordered own h same is = absurd cc
   below_found (outputs.Tree t) (whole u) (n ∷ q) y ordered own h same is =
       let digests : root (form u) ≡ digest_of (directory_bytes t.root) = cc in
-      let top_is = directory_is S apart u t.root h.lawful.root (h.held t.root (0, omega arith, refl)) (own (top (form u)) (inl refl)) (sym digests) in
+      let top_is = directory_is S apart u t.root h.valid.root (h.held t.root (0, omega arith, refl)) (own (top (form u)) (inl refl)) (sym digests) in
       let stands : child n t.root ≡ option_map entry_node (entry_of n u) = ap (child n) top_is ∙ child-directory_of n u ordered in
       let rest = in_tree t h q (entry_of n u) y (entry_ordered n u ordered) (λ b k. own b (inr (entry_blobs n u b k))) (λ w there. named_below t h t.root (root_there t) n u w stands there) is in
       subst (λ o. LooksFrom (IsFirstChild t) NoFault q o (found (entry_node y))) (sym stands) rest
@@ -114,7 +114,7 @@ module _ (S : List ℕ → Type 0) (apart : NoClash S) where
   -- what stands in an outcome is found in each outcome by digests that is its form
   pub outputs_found : (o : Outcome) (v : OutcomeValue) → IsTreeOutcome o → ((b : List ℕ) → IsBlobOfOutcome o b → S b) → ((e : List Name × OutputValue) → Contains v.outputs e → HoldsOutput S apart e.1)
       → IsFormOf v o → (p : List Name) (y : Entry Leaf) → output_at o.outputs p ≡ Some y → LooksIn v p (found (entry_node y))
-  outputs_found o v lawful own held same p y is =
+  outputs_found o v valid own held same p y is =
       let x = output_found o.outputs p y is in
       let there = mapped_from (λ (d : List Name × OutputValue). (d.0, output_node d.1)) v.outputs (x.0.0, entry_node x.0.1) ((same.outputs x.0.0 (entry_node x.0.1)).1 (holds_mapped (λ (d : List Name × Entry Leaf). (d.0, entry_node d.1)) o.outputs x.0 x.1)) in
       let paths : there.0.0 ≡ x.0.0 = ap (λ (d : List Name × NodeValue). d.0) there.2 in
@@ -124,5 +124,5 @@ module _ (S : List ℕ → Type 0) (apart : NoClash S) where
         there.1,
         x.2,
         x.3 ∙ ap (λ r. r ++ x.2) (sym paths),
-        below_found there.0.1 x.0.1 x.2 y (all_at (λ (d : List Name × Entry Leaf). IsOrderedEntry d.1) o.outputs x.0 lawful.outputs x.1) (λ b k. own b (x.0, x.1, k)) (held there.0 there.1) (sym nodes) x.4,
+        below_found there.0.1 x.0.1 x.2 y (all_at (λ (d : List Name × Entry Leaf). IsOrderedEntry d.1) o.outputs x.0 valid.outputs x.1) (λ b k. own b (x.0, x.1, k)) (held there.0 there.1) (sym nodes) x.4,
       )

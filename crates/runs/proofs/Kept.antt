@@ -25,7 +25,7 @@ use Rattle.actions.proofs.TreeLookups.{behind}
 use Rattle.actions.proofs.Rooms.{inserted_apart}
 use Rattle.blob_source.specs.Source.{Blobs, IsBlobUnder}
 use Rattle.verifier.proofs.FreshRuns.{one_answer}
-use Rattle.runs.specs.Engine.{FinishedValue, EngineValue, IsEngine, HoldLawfulTrees, finished_in}
+use Rattle.runs.specs.Engine.{FinishedValue, EngineValue, IsEngine, HoldValidTrees, finished_in}
 use Rattle.runs.specs.Served.{HoldsTrees, IsKeptOf}
 use Rattle.runs.proofs.Places.{has_one, taken_within}
 use Rattle.runs.specs.Results.{recorded_output, recorded_outputs, no_stream, result_of}
@@ -135,9 +135,9 @@ kept_paths o is =
       apart = kinds_apart xs (subst ArePathsApart same is.apart);
     }
 
--- the paths of each kind are lawful
-pub kept_lawful : (o : OutcomeValue) → IsOutcome o → AllByRecursion IsPath (file_paths (result_of o).files) × AllByRecursion IsPath (directory_paths (result_of o).directories) × AllByRecursion IsPath (symlink_paths (result_of o).symlinks)
-kept_lawful o is =
+-- the paths of each kind are valid
+pub kept_valid : (o : OutcomeValue) → IsOutcome o → AllByRecursion IsPath (file_paths (result_of o).files) × AllByRecursion IsPath (directory_paths (result_of o).directories) × AllByRecursion IsPath (symlink_paths (result_of o).symlinks)
+kept_valid o is =
     let xs = recorded_outputs o.outputs in
     let all = subst (AllByRecursion IsPath) (sym (paths_kept o.outputs)) is.paths in
     (files_in IsPath xs all, directories_in IsPath xs all, links_in IsPath xs all)
@@ -147,22 +147,22 @@ kept_lawful o is =
 pub result_checked : (o : OutcomeValue) → IsOutcome o → (r : ActionResultValue) → r ≡ result_of o → action_result_of r ≡ Ok r
 unfolding action_result_of
 result_checked o is r same =
-    let k = kept_lawful o is in
+    let k = kept_valid o is in
     let given = paths_given (file_paths (result_of o).files) (directory_paths (result_of o).directories) (symlink_paths (result_of o).symlinks) k.0 k.1 k.2 (kept_paths o is) in
     subst (λ q. action_result_of q ≡ Ok q) (sym same) (rw given refl)
 
-stand_for : (B : Blobs) (es : List (List (List ℕ) × OutputValue)) → HoldLawfulTrees es
+stand_for : (B : Blobs) (es : List (List (List ℕ) × OutputValue)) → HoldValidTrees es
     → ((p : List (List ℕ)) (t : TreeValue) → Contains es (p, outputs.Tree t) → IsBlobUnder B (digest_of (tree_bytes t)) (tree_bytes t))
     → StandForAll B (recorded_outputs es) es
-stand_for B [] lawful held = refl
-stand_for B ((p, outputs.File d executable) ∷ es) lawful held = (refl, refl, stand_for B es lawful.1 (λ q t at. held q t (behind (p, outputs.File d executable) es (q, outputs.Tree t) at)))
-stand_for B ((p, outputs.Link target) ∷ es) lawful held = (refl, refl, stand_for B es lawful.1 (λ q t at. held q t (behind (p, outputs.Link target) es (q, outputs.Tree t) at)))
-stand_for B ((p, outputs.Tree u) ∷ es) lawful held =
-    (refl, (u, record { lawful = lawful.0; blob = held p u (0, omega arith, refl) }, refl), stand_for B es lawful.1 (λ q t at. held q t (behind (p, outputs.Tree u) es (q, outputs.Tree t) at)))
+stand_for B [] valid held = refl
+stand_for B ((p, outputs.File d executable) ∷ es) valid held = (refl, refl, stand_for B es valid.1 (λ q t at. held q t (behind (p, outputs.File d executable) es (q, outputs.Tree t) at)))
+stand_for B ((p, outputs.Link target) ∷ es) valid held = (refl, refl, stand_for B es valid.1 (λ q t at. held q t (behind (p, outputs.Link target) es (q, outputs.Tree t) at)))
+stand_for B ((p, outputs.Tree u) ∷ es) valid held =
+    (refl, (u, record { valid = valid.0; blob = held p u (0, omega arith, refl) }, refl), stand_for B es valid.1 (λ q t at. held q t (behind (p, outputs.Tree u) es (q, outputs.Tree t) at)))
 
-pub recorded_again : (B : Blobs) (o : OutcomeValue) → IsOutcome o → HoldLawfulTrees o.outputs → HoldsTrees B o → IsRecorded B (result_of o) o
-recorded_again B o is lawful held = record {
-  lawful = is;
+pub recorded_again : (B : Blobs) (o : OutcomeValue) → IsOutcome o → HoldValidTrees o.outputs → HoldsTrees B o → IsRecorded B (result_of o) o
+recorded_again B o is valid held = record {
+  valid = is;
   exit_code = refl;
   recorded = recorded_outputs o.outputs;
   ordered = record {
@@ -171,7 +171,7 @@ recorded_again B o is lawful held = record {
     directories = refl;
     symlinks = refl;
   };
-  outputs = stand_for B o.outputs lawful held;
+  outputs = stand_for B o.outputs valid held;
 }
 
 -- ---- the outputs of one kind, one after another
@@ -225,7 +225,7 @@ no_link p (outputs.Tree t) not = refl
 -- ---- what is kept of a step
 
 pub step_kept : (e : EngineValue) (i : ℕ) (f : FinishedValue) → IsEngine e → finished_in i e ≡ Some f → (r : ActionResultValue) → r ≡ result_of f.outcome → IsActionResult r → IsKeptOf e i r
-step_kept e i f engine at r is lawful = record {
+step_kept e i f engine at r is valid = record {
   held = λ B C g there held trees.
       let same : f ≡ g = one_answer (finished_in i e) f g at there in
       let o = g.outcome in
@@ -234,12 +234,12 @@ step_kept e i f engine at r is lawful = record {
       (r, held, o, subst (λ q. IsRecorded B q o) (sym of_g) (recorded_again B o taken.0 taken.1 trees), record { exit_code = refl; outputs = refl });
 }
   where
-    taken_of : (g : FinishedValue) → finished_in i e ≡ Some g → IsOutcome g.outcome × HoldLawfulTrees g.outcome.outputs
+    taken_of : (g : FinishedValue) → finished_in i e ≡ Some g → IsOutcome g.outcome × HoldValidTrees g.outcome.outputs
     taken_of g there =
         let within : i < length e.finished = taken_within e.finished i g there in
         let c = has_one e.commands i (subst (λ n. i < n) (engine.count ∙ sym engine.stand.commands_count) within) in
         let t = engine.taken i g c.0 there c.1 in
-        (t.lawful, t.outputs)
+        (t.valid, t.outputs)
 
 -- what was collected of an outcome's outputs are the fields of its result
 pub collected : (o : OutcomeValue) (es : List (List (List ℕ) × OutputValue)) (fs : List OutputFileValue) (ds : List OutputDirectoryValue) (ls : List OutputSymlinkValue) (code : ℤ) (out err : StreamValue) → es ≡ o.outputs
@@ -255,5 +255,5 @@ collected o es fs ds ls code out err same files directories links ended stdout s
 }
 
 pub kept_answer : {E : Type 0} (r : Result ActionResultValue E) (e : EngineValue) (i : ℕ) (f : FinishedValue) → IsEngine e → finished_in i e ≡ Some f → IfOk r (λ made. made ≡ result_of f.outcome) → IfOk r IsActionResult → IfOk r (IsKeptOf e i)
-kept_answer (Ok made) e i f engine at is lawful = step_kept e i f engine at made is lawful
-kept_answer (Err why) e i f engine at is lawful = tt
+kept_answer (Ok made) e i f engine at is valid = step_kept e i f engine at made is valid
+kept_answer (Err why) e i f engine at is valid = tt

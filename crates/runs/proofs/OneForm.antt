@@ -90,10 +90,10 @@ form_texts [] = refl
 form_texts (e ∷ es) = ap (λ ts. path_text e.0 ∷ ts) (form_texts es)
 
 pub one_form : (v w : OutcomeValue) (o : Outcome) → IsOutcome v → IsOutcome w → IsFormOf v o → IsFormOf w o → HaveOneForm v w
-one_form v w o lawful lawful' h k = record {
+one_form v w o valid valid' h k = record {
   exit_code = h.exit_code ∙ sym k.exit_code;
   outputs = same_rows (outputs_form v.outputs) (outputs_form w.outputs)
-      (subst (IsAscendingBy bytes_cmp) (sym (form_texts v.outputs)) lawful.ascend) (subst (IsAscendingBy bytes_cmp) (sym (form_texts w.outputs)) lawful'.ascend)
+      (subst (IsAscendingBy bytes_cmp) (sym (form_texts v.outputs)) valid.ascend) (subst (IsAscendingBy bytes_cmp) (sym (form_texts w.outputs)) valid'.ascend)
       (λ e c. (k.outputs e.0 e.1).1 ((h.outputs e.0 e.1).0 c)) (λ e c. (h.outputs e.0 e.1).1 ((k.outputs e.0 e.1).0 c));
 }
 

@@ -31,8 +31,8 @@ stand B steps fs cs told = record {
   commands_count = told.commands_count;
   each = λ i s f c a b d. let t = told.each i s f c a b d in (
     record {
-      frame_lawful = t.0.frame.lawful;
-      command_lawful = t.0.command.lawful;
+      frame_valid = t.0.frame.valid;
+      command_valid = t.0.command.valid;
       frame_digest = t.0.frame.blob.right;
       command_digest = sym t.0.command.blob.right;
     },
@@ -61,10 +61,10 @@ module _ (B : Blobs) (e : EngineValue) (meaning : Meaning) (fits : MeaningFits e
       let t = (told.each i step f.0 c.0 at f.1 c.1).0 in
       let fit = m.4 in
       let frames = told_bytes S apart B step.frame (frame_bytes f.0) (frame_bytes m.0) (λ b h. inl h) t.frame.blob (inr (inl (m.0, holds_at meaning.frames i m.0 m.2, refl))) fit.frame_digest in
-      let frame = frame_bytes_injective f.0 m.0 t.frame.lawful fit.frame_lawful frames in
+      let frame = frame_bytes_injective f.0 m.0 t.frame.valid fit.frame_valid frames in
       let digest : digest_of (command_bytes m.1) ≡ f.0.command = sym fit.command_digest ∙ ap (λ (x : FrameValue). x.command) (sym frame) in
       let commands = told_bytes S apart B f.0.command (command_bytes c.0) (command_bytes m.1) (λ b h. inl h) t.command.blob (inr (inr (m.1, holds_at meaning.commands i m.1 m.3, refl))) digest in
-      let command = command_bytes_injective c.0 m.1 t.command.lawful fit.command_lawful commands in
+      let command = command_bytes_injective c.0 m.1 t.command.valid fit.command_valid commands in
       (f.1 ∙ ap Some frame ∙ sym m.2, c.1 ∙ ap Some command ∙ sym m.3)
 
 pub opened_mirrors : (B : Blobs) (plan : PlanValue) (sources : DigestValue) (e : EngineValue) → IsOpened B plan sources e → IsOpening B e

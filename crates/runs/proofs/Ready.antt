@@ -43,9 +43,9 @@ step_lines steps i s lt is h = more s.lines (numbered_lines steps i s lt is h).e
 -- a step of an engine, found by its number
 pub ready_lines : (steps plan_steps : List StepValue) (i : ℕ) (r v : StepValue) (fs gs : List (Option FinishedValue)) (ls : List LineValue) → steps ≡ plan_steps → AreSteps [] plan_steps → i < length plan_steps → r ≡ get_or steps i r → v ≡ r → ls ≡ v.lines
     → gs ≡ fs → length fs ≡ length plan_steps → AllByRecursion (IsLine (length gs)) ls
-ready_lines steps plan_steps i r v fs gs ls same lawful lt is view lines those count =
+ready_lines steps plan_steps i r v fs gs ls same valid lt is view lines those count =
     let at : r ≡ get_or plan_steps i r = is ∙ ap (λ ss. get_or ss i r) same in
-    let ok = step_lines plan_steps i r lt at lawful in
+    let ok = step_lines plan_steps i r lt at valid in
     let left : length plan_steps ≡ length gs = sym count ∙ ap length (sym those) in
     subst (λ n. AllByRecursion (IsLine n) ls) left (subst (AllByRecursion (IsLine (length plan_steps))) (ap (λ (s : StepValue). s.lines) (sym view) ∙ sym lines) ok)
 

@@ -1,33 +1,28 @@
 -- What the lines of an engine resolve to is what stands at their origins behind each run that the engine mirrors.
-use Rattle.std.proofs.Common.{◌≡◌, ◌≢◌, ℕ, ◌<◌, List, [], ◌∷◌, Option, Some, None, refl, ap, sym, ◌∙◌, subst, inl, inr}
+use Rattle.std.proofs.Common.{◌≡◌, ℕ, ◌<◌, List, [], ◌∷◌, Option, Some, None, refl, sym, ◌∙◌, subst, inl, inr}
 use Rattle.std.specs.Prelude.{option_map, option_and_then, Contains}
 use Rattle.std.specs.List.{AllByRecursion}
 use Rattle.messages.specs.declared.node.Node.TheVariants.{Dir}
-use Rattle.messages.specs.Directory.{directory_bytes}
 use Rattle.actions.specs.declared.outcome.Output.TheVariants as outputs
 use Rattle.actions.specs.Outcome.{OutputValue}
-use Rattle.actions.specs.OutcomeLookup.{within_output, LiesWithin}
+use Rattle.actions.specs.OutcomeLookup.{LiesWithin}
 use Rattle.actions.proofs.TreeLookups.{all_at}
 use Rattle.plan.specs.Values.{OriginValue, source, output, LineValue}
-use Rattle.tree.specs.Tree.{Name, Tree, Leaf, Entry, whole, IsOrderedEntry}
+use Rattle.tree.specs.Tree.{Name, Tree, Leaf, Entry, whole}
 use Rattle.tree.specs.Form.{NodeValue, entry_node, form, root}
-use Rattle.tree.specs.Merge.{TreeLines, AreMergeable, merge}
-use Rattle.tree.specs.MergeAgrees.{StandFor, IsBlobIn, IsBlobOfTrees, IsBlobOfOne, IsBlobOfEntries, IsOfMerge}
-use Rattle.tree.specs.Merging.{NodeWithin, MergeLines, conflict, IsHeldIn, AreHeld, merged}
-use Rattle.blob_digest.specs.Digest.{NoClash}
+use Rattle.tree.specs.MergeAgrees.{IsBlobIn, IsBlobOfOne}
+use Rattle.tree.specs.Merging.{NodeWithin, MergeLines, conflict, IsHeldIn, merged}
 use Rattle.blob_source.specs.Source.{Blobs}
 use Rattle.blob_source.specs.Told.{TellsDirectory, FailsDirectory}
 use Rattle.tree.specs.Lookup.{Looked, found, LooksFrom, AgreesWith, IsValue}
-use Rattle.tree.proofs.MergeTold.{merges_tell}
-use Rattle.tree.proofs.MergeTotal.{tells_merge}
 use Rattle.tree.proofs.LookupLemmas.{looks_from, told_reads}
 use Rattle.tree.proofs.OrderLemmas.{IsOrderedAt, ordered_at}
-use Rattle.verifier.specs.Build.{Meaning, ActionMeaning, Outcome, output_at, Event, State, outcome_of, origin_at, origins, graft_of}
-use Rattle.verifier.proofs.HeldOrigins.{IsLawfulTree, source_held, outcome_held}
-use Rattle.verifier.proofs.LinesTold.{lawful_tree, tree_blobs, IsRead, LinesTell, no_lines, one_more, told_graft, no_graft_told}
-use Rattle.verifier.proofs.OutputLookups.{HoldsOutput, mapped_from, output_found}
-use Rattle.verifier.proofs.Targets.{ArePaths, some_names, output_ordered}
-use Rattle.runs.specs.Engine.{FinishedValue, EngineValue, IsLawfulOutput, IsEngine, finished_in}
+use Rattle.verifier.specs.Build.{Meaning, ActionMeaning, Outcome, output_at, Event, State, outcome_of, origin_at, graft_of}
+use Rattle.verifier.proofs.HeldOrigins.{source_held, outcome_held}
+use Rattle.verifier.proofs.LinesTold.{valid_tree, tree_blobs, IsRead, LinesTell, no_lines, one_more, told_graft, no_graft_told}
+use Rattle.verifier.proofs.OutputLookups.{HoldsOutput, output_found}
+use Rattle.verifier.proofs.Targets.{ArePaths, output_ordered}
+use Rattle.runs.specs.Engine.{FinishedValue, EngineValue, IsValidOutput, IsEngine, finished_in}
 use Rattle.runs.specs.Looking.{LooksUpOrigin, StandsAtOrigin, Resolves, PutTogether}
 use Rattle.runs.specs.Mirrors.{IsConcernedIn, IsMirrored}
 use Rattle.runs.proofs.Places.{has_one, taken_within}
@@ -49,11 +44,11 @@ module _ (B : Blobs) (e : EngineValue) (t : Tree Leaf) (meaning : Meaning) (X : 
   holds_output i f is (p, outputs.File d executable) inside = tt
   holds_output i f is (p, outputs.Link target) inside = tt
   holds_output i f is (p, outputs.Tree u) inside = record {
-    lawful = all_at (λ (x : List Name × OutputValue). IsLawfulOutput x.1) f.outcome.outputs (p, outputs.Tree u) taken inside;
+    valid = all_at (λ (x : List Name × OutputValue). IsValidOutput x.1) f.outcome.outputs (p, outputs.Tree u) taken inside;
     held = λ m c. inr (i, f, is, p, u, inside, m, c, refl);
   }
     where
-      taken : AllByRecursion (λ (x : List Name × OutputValue). IsLawfulOutput x.1) f.outcome.outputs
+      taken : AllByRecursion (λ (x : List Name × OutputValue). IsValidOutput x.1) f.outcome.outputs
       taken =
           let c = has_one e.commands i (subst (λ n. i < n) (engine.count ∙ sym engine.stand.commands_count) (taken_within e.finished i f is)) in
           (engine.taken i f c.0 is c.1).outputs
@@ -66,9 +61,9 @@ module _ (B : Blobs) (e : EngineValue) (t : Tree Leaf) (meaning : Meaning) (X : 
       let f = look.0 in
       let o = outcome_there e t meaning s k.mirrors j f look.1 in
       let settled = steady.done j o.0 o.1 in
-      let lawful = (k.table.actions settled.action o.0 settled.in_table).1 in
+      let valid = (k.table.actions settled.action o.0 settled.in_table).1 in
       subst (λ q. AgreesWith (option_map entry_node (option_and_then (λ (o : Outcome). output_at o.outputs p) q)) r) (sym o.1)
-      (outputs_agree S k.apart o.0 f.outcome lawful settled.own (holds_output j f look.1) o.2 p r look.2)
+      (outputs_agree S k.apart o.0 f.outcome valid settled.own (holds_output j f look.1) o.2 p r look.2)
 
   origin_ordered : (o : OriginValue) → IsOrderedAt (origin_at t s o)
   origin_ordered (source p) = ordered_at p (Some (whole t)) k.ordered
@@ -104,7 +99,7 @@ module _ (B : Blobs) (e : EngineValue) (t : Tree Leaf) (meaning : Meaning) (X : 
       let c = has_one e.commands j (subst (λ n. j < n) (engine.count ∙ sym engine.stand.commands_count) (taken_within e.finished j f h.node.1)) in
       let taken = engine.taken j f c.0 h.node.1 c.1 in
       record {
-        held = outcome_held f.outcome taken.lawful (λ o here. lawful_tree k.apart o.1 (holds_output j f h.node.1 o here)) p x h.node.2 lies;
+        held = outcome_held f.outcome taken.valid (λ o here. valid_tree k.apart o.1 (holds_output j f h.node.1 o here)) p x h.node.2 lies;
         blobs = λ b q. tree_blobs k.apart lies.0.1 (holds_output j f h.node.1 lies.0 lies.1) b (subst (λ w. IsBlobIn w b) lies.3 q);
       }
 

@@ -19,7 +19,7 @@ use Rattle.verifier.specs.Build.{ActionMeaning, action_digest, StepFits, outcome
 use Rattle.verifier.specs.Headline.{IsConcerned}
 use Rattle.verifier.specs.TwoSteps as two
 use Rattle.runs.proofs.VersionOne.{apart_merges}
-use Rattle.verifier.proofs.TwoSteps.{plan_lawful, sources_named, input_named, newline_named, gen_tree_lawful, fits, table_lawful, out_path, res_path}
+use Rattle.verifier.proofs.TwoSteps.{plan_valid, sources_named, input_named, newline_named, gen_tree_valid, fits, table_valid, out_path, res_path}
 use Rattle.verifier.proofs.TwoStepsRecorded.{tree_kept, gen_action_told, use_action_told, gen_command_told, use_command_told, gen_result_held, use_result_held, gen_recorded, use_recorded}
 use Rattle.verifier.proofs.TwoStepsRun.{is_run, gen_digest, use_digest}
 use Rattle.verifier.proofs.TwoStepsBlobs.{no_clash}
@@ -47,13 +47,13 @@ stand = record { frames_count = refl; commands_count = refl; each = each }
         (subst (λ d. StepFits s.frame f d) commands (subst (λ g. StepFits s.frame g h.1) frames h.4), uncached i f fs)
 
 gen_taken : TakesOutcome two.gen.0.command example.gen_outcome
-gen_taken = record { lawful = record { paths = (out_path, tt); ascend = (tt, tt); apart = (tt, tt) }; outputs = (gen_tree_lawful, tt); exit_code = refl; listed = ((0, omega arith, refl), tt) }
+gen_taken = record { valid = record { paths = (out_path, tt); ascend = (tt, tt); apart = (tt, tt) }; outputs = (gen_tree_valid, tt); exit_code = refl; listed = ((0, omega arith, refl), tt) }
 
 use_taken : TakesOutcome two.uses.0.command example.use_outcome
-use_taken = record { lawful = record { paths = (res_path, tt); ascend = (tt, tt); apart = (tt, tt) }; outputs = (tt, tt); exit_code = refl; listed = ((0, omega arith, refl), tt) }
+use_taken = record { valid = record { paths = (res_path, tt); ascend = (tt, tt); apart = (tt, tt) }; outputs = (tt, tt); exit_code = refl; listed = ((0, omega arith, refl), tt) }
 
-pub engine_lawful : IsEngine example.engine
-engine_lawful = record { stand = stand; count = refl; taken = taken; few = omega arith; running = λ w j is. absurd cc }
+pub engine_valid : IsEngine example.engine
+engine_valid = record { stand = stand; count = refl; taken = taken; few = omega arith; running = λ w j is. absurd cc }
   where
     taken : (i : ℕ) (f : FinishedValue) (c : CommandValue) → finished_in i example.engine ≡ Some f → slice_get two.meaning.commands i ≡ Some c → TakesOutcome c f.outcome
     taken zero f c at cs =
@@ -143,7 +143,7 @@ concerned b (inr (i, f, at, p, t, inside, m, among, is)) = by i f at inside
     by zero f at inside =
         let same : example.gen_finished ≡ f = cc in
         let tree = one_tree p t (subst (λ (g : FinishedValue). Contains g.outcome.outputs (p, outputs.Tree t)) (sym same) inside) in
-        inl (inr (two.gen_tree, gen_tree_lawful, (two.tree_digest, tree_kept), m, subst (λ (u : TreeValue). Contains (u.root ∷ u.children) m) (sym tree) among, is))
+        inl (inr (two.gen_tree, gen_tree_valid, (two.tree_digest, tree_kept), m, subst (λ (u : TreeValue). Contains (u.root ∷ u.children) m) (sym tree) among, is))
     by (suc zero) f at inside =
         let same : example.use_finished ≡ f = cc in
         absurd (no_tree p t (subst (λ (g : FinishedValue). Contains g.outcome.outputs (p, outputs.Tree t)) (sym same) inside))
@@ -153,7 +153,7 @@ pub is_mirrored : IsMirrored two.blobs example.engine two.tree two.meaning two.t
 is_mirrored = record {
   ordered = tt;
   fits = fits;
-  table = table_lawful;
+  table = table_valid;
   run = is_run;
   mirrors = mirrors;
   apart = λ x y c d e. no_clash x y (concerned x c) (concerned y d) e;
@@ -190,7 +190,7 @@ from_steps l (inr inside) p is = one_line (record { target = codes "result" ∷ 
 pub is_served : Serves two.blobs two.results example.engine two.tree two.meaning two.end
 is_served = record {
   sources = λ l of_plan p is. absurd (from_steps l of_plan p is);
-  merges = apart_merges two.blobs example.engine plan_lawful refl;
+  merges = apart_merges two.blobs example.engine plan_valid refl;
   actions = actions;
   results = results;
 }

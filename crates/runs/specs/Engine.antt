@@ -57,18 +57,18 @@ pub record AllStand (steps : List StepValue) (frames : List FrameValue)
       → StepFits s.frame f c × (f.do_not_cache ≡ false)
 
 -- an output that is a whole directory is a Tree that keeps its rules
-abbrev pub IsLawfulOutput : OutputValue → Type 0
-IsLawfulOutput (outputs.File d executable) = Unit {0}
-IsLawfulOutput (outputs.Link target) = Unit {0}
-IsLawfulOutput (outputs.Tree t) = IsTree t
+abbrev pub IsValidOutput : OutputValue → Type 0
+IsValidOutput (outputs.File d executable) = Unit {0}
+IsValidOutput (outputs.Link target) = Unit {0}
+IsValidOutput (outputs.Tree t) = IsTree t
 
-abbrev pub HoldLawfulTrees : List (List (List ℕ) × OutputValue) → Type 0
-HoldLawfulTrees es = AllByRecursion (λ e. IsLawfulOutput e.1) es
+abbrev pub HoldValidTrees : List (List (List ℕ) × OutputValue) → Type 0
+HoldValidTrees es = AllByRecursion (λ e. IsValidOutput e.1) es
 
 -- an outcome that isn't refused: its exit code is 0, and each output is one that the command lists
 pub record TakesOutcome (c : CommandValue) (o : OutcomeValue) : Type 0 where
-  pub lawful : IsOutcome o
-  pub outputs : HoldLawfulTrees o.outputs
+  pub valid : IsOutcome o
+  pub outputs : HoldValidTrees o.outputs
   pub exit_code : o.exit_code ≡ pos 0
   pub listed : AllByRecursion (Contains c.output_paths) (output_paths o.outputs)
 

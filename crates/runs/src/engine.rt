@@ -94,7 +94,7 @@ impl<A: Allocator + Copy> Engine<A> {
     /// The plan.
     pub fn plan(&self) -> &Plan<A>
         ensures value { result.now ≡ self.now.plan }
-        ensures lawful { IsEngine self.now }
+        ensures valid { IsEngine self.now }
     {
         let _ = &self.sources;
         &self.plan

@@ -5,7 +5,7 @@ ghost use Rattle.messages.specs.Directory.{directory_bytes};
 ghost use Rattle.blob_digest.specs.Digest.{digest_of};
 ghost use Rattle.actions.specs.Outcome.{output_value, output_node, outputs_in, outputs_form};
 ghost use Rattle.actions.specs.Outcome.{output_paths};
-ghost use Rattle.runs.specs.Engine.{TakesOutcome, IsLawfulOutput, HoldLawfulTrees, at_number};
+ghost use Rattle.runs.specs.Engine.{TakesOutcome, IsValidOutput, HoldValidTrees, at_number};
 ghost use Rattle.runs.specs.Calls.{HaveOneForm, IsOther, Disagrees, first_kept, IsUnlisted};
 ghost use Rattle.runs.specs.Calls.{IsOutcomeFault, IsFinished, IsFinishFault};
 ghost use Rattle.runs.specs.Ties.{IsFinish, IsForeign};
@@ -182,7 +182,7 @@ fn check_outcome<A: Allocator + Copy>(
 
 /// What is known of an output by its type. It does nothing.
 fn check_output<A: Allocator>(output: &Output<A>)
-    ensures { IsLawfulOutput (output_value output.now) }
+    ensures { IsValidOutput (output_value output.now) }
 {
     if let Output::Tree(tree) = output {
         let _ = tree.root();
@@ -196,7 +196,7 @@ fn check_listed<A: Allocator + Copy>(
 ) -> Result<(), RunsError<A>>
     ensures listed { OnOk result (AllByRecursion (Contains command.now.output_paths)
         (output_paths (outputs_in outputs.now))) }
-    ensures lawful { OnOk result (HoldLawfulTrees (outputs_in outputs.now)) }
+    ensures valid { OnOk result (HoldValidTrees (outputs_in outputs.now)) }
     ensures refused { IfErr result
         (IsUnlisted command.now (output_paths (outputs_in outputs.now))) }
 {

@@ -167,16 +167,17 @@ fn have_all_finished<A: Allocator>(finished: &[Option<Finished<A>>]) -> bool
 }
 
 impl<A: Allocator + Copy> Engine<A> {
-    /// The digest of what the root's lines put together.
+    /// The tree that the root's lines put together.
     fn graft_root<S: BlobSource<A>>(
         &self,
         alloc: A,
         memo: &mut Memo<A>,
         source: &mut S,
-    ) -> Result<Digest, RunsError<A>>
+    ) -> Result<Folded<A>, RunsError<A>>
         requires there { AreThere self.now self.now.plan.root_lines }
         requires known { IsKnownOf (known_by memo.old) (S.tells source.old) }
-        ensures told { IfOk result (λ d. IsGraftedRoot (S.tells source.new).blobs self.now d) }
+        ensures told { IfOk result
+            (IsFoldTogether (S.tells source.new).blobs self.now self.now.plan.root_lines) }
         ensures faulty { IfErr result
             (Explains (TreeFault (S.tells source.new).blobs self.now self.now.plan.root_lines)) }
         ensures called { Called (S.tells source.old) (S.tells source.new)
@@ -186,28 +187,28 @@ impl<A: Allocator + Copy> Engine<A> {
             (WasRefused result)
             (known_by memo.old) (known_by memo.new) (S.tells source.old) (S.tells source.new) }
     {
-        Ok(
-            self.put_together(alloc, self.plan().root(), memo, source)?
-                .root,
-        )
+        self.put_together(alloc, self.plan().root(), memo, source)
     }
 
-    /// The digest of the tree in which the build ends. Refusals: `NotReady` while a step hasn't
-    /// finished, `Origin`, `Source` and `Conflict`. A Directory that the memo knows isn't fetched, and one that
-    /// is fetched is kept.
-    pub fn root<S: BlobSource<A>>(
+    /// The tree in which the build ends: the digest of its root, and the Directories that putting it
+    /// together made. Refusals: `NotReady` while a step hasn't finished, `Origin`, `Source` and
+    /// `Conflict`. A Directory that the memo knows isn't fetched, and one that is fetched is kept.
+    pub fn root_tree<S: BlobSource<A>>(
         &self,
         alloc: A,
         memo: &mut Memo<A>,
         source: &mut S,
-    ) -> Result<Digest, RunsError<A>>
+    ) -> Result<Folded<A>, RunsError<A>>
         requires { IsKnownOf (known_by memo.old) (S.tells source.old) }
-        ensures told { IfOk result (IsGraftedRoot (S.tells source.new).blobs self.now) }
+        ensures told { IfOk result
+            (IsFoldTogether (S.tells source.new).blobs self.now self.now.plan.root_lines) }
         ensures complete { IfOk result (λ _. HaveAllFinished self.now) }
-        // It is the root of the end of every run that the engine mirrors.
-        ensures state { IfOk result (IsRootOf (S.tells source.new).blobs self.now) }
+        // Its root is that of the end of every run that the engine mirrors.
+        ensures state { IfOk result
+            (λ tree. IsRootOf (S.tells source.new).blobs self.now tree.root) }
         // With it, the recorded digests are answered yes wherever blobs and results serve the run.
-        ensures served { IfOk result (IsServedYes A (S.tells source.new).blobs self.now) }
+        ensures served { IfOk result
+            (λ tree. IsServedYes A (S.tells source.new).blobs self.now tree.root) }
         ensures refused { IfErr result (IsRootFault (S.tells source.new).blobs self.now) }
         ensures stands { IfErr result (StandsIn (S.tells source.new).blobs) }
         // `Origin` says that nothing stands at the origin in any run that the engine mirrors.
@@ -229,5 +230,32 @@ impl<A: Allocator + Copy> Engine<A> {
             return Err(RunsError::NotReady);
         }
         self.graft_root(alloc, memo, source)
+    }
+
+    /// The digest of the tree in which the build ends. Refusals are those of `root_tree`.
+    pub fn root<S: BlobSource<A>>(
+        &self,
+        alloc: A,
+        memo: &mut Memo<A>,
+        source: &mut S,
+    ) -> Result<Digest, RunsError<A>>
+        requires { IsKnownOf (known_by memo.old) (S.tells source.old) }
+        ensures told { IfOk result (IsGraftedRoot (S.tells source.new).blobs self.now) }
+        ensures complete { IfOk result (λ _. HaveAllFinished self.now) }
+        ensures state { IfOk result (IsRootOf (S.tells source.new).blobs self.now) }
+        ensures served { IfOk result (IsServedYes A (S.tells source.new).blobs self.now) }
+        ensures refused { IfErr result (IsRootFault (S.tells source.new).blobs self.now) }
+        ensures stands { IfErr result (StandsIn (S.tells source.new).blobs) }
+        ensures missing { IfErr result
+            (TellsMissing (S.tells source.new).blobs self.now self.now.plan.root_lines) }
+        ensures conflict { IfErr result
+            (TellsConflict (S.tells source.new).blobs self.now self.now.plan.root_lines) }
+        ensures called { Called (S.tells source.old) (S.tells source.new)
+            (IsErrOf result (RunsError.Source TreeError.Fetch)) }
+        ensures learned { Learns (RootNeeds (S.tells source.new).blobs self.now)
+            (WasRefused result)
+            (known_by memo.old) (known_by memo.new) (S.tells source.old) (S.tells source.new) }
+    {
+        Ok(self.root_tree(alloc, memo, source)?.root)
     }
 }

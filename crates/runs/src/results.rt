@@ -81,7 +81,7 @@ fn result_of<A: Allocator + Copy>(
     outcome: &Outcome<A>,
 ) -> Result<ActionResult<A>, AllocError>
     ensures value { IfOk result (λ made. made ≡ result_of outcome.now) }
-    ensures lawful { IfOk result IsActionResult }
+    ensures valid { IfOk result IsActionResult }
 {
     let outputs = outcome.outputs();
     let made = ActionResult::new(

@@ -99,3 +99,12 @@ pub record ServesEach
   pub stands : ServerStands opening new (history ++ entries)
   pub theirs : AreBelow count entries
   pub each : (k : ℕ) → k < count → HasEnded cut ended lost prefix opening history entries k
+
+-- so it is, whatever history had led to the server
+abbrev pub Serves :
+    Bool → (ℕ → List ℕ → List ℕ → Why → Type 0) → (ℕ → Type 0)
+    → ServerValue → ℕ → ServerValue → Type 0
+Serves cut ended over old count new =
+    (opening : CacheValue) (history : List HistoryEntry)
+    → ServerStands opening old history
+    → ServesEach cut ended over old.prefix opening history count new

@@ -1,10 +1,8 @@
-ghost use Rattle.std.specs.Prelude.{◌≡◌, ◌<◌, ◌≤◌, ℕ, List, [], None, IfErr, IfOk, IfSome};
+ghost use Rattle.std.specs.Prelude.{◌≡◌, ◌<◌, ◌≤◌, ℕ, [], None, IfErr, IfOk, IfSome};
 ghost use Rattle.std.specs.Prelude.{OnErr, OnOk, false, true};
-ghost use Rattle.cache_server.specs.Cache.{CacheValue};
-ghost use Rattle.cache_server.specs.History.{HistoryEntry};
-ghost use Rattle.cache_server.specs.Server.{ServerStands, ServerValue};
+ghost use Rattle.cache_server.specs.Server.{ServerValue};
 ghost use Rattle.service.specs.Member.{end_of};
-ghost use Rattle.service.specs.Talks.{ServesEach};
+ghost use Rattle.service.specs.Talks.{Serves};
 ghost use Rattle.service.specs.Together.{AreSame, EndsIfAny, EntersAt, GoesOnTogether, MayEndAt};
 ghost use Rattle.service.specs.Together.{MovesOnAt, OthersAreSame, member_at};
 
@@ -14,13 +12,14 @@ use crate::error::NotAccepted;
 use crate::load::{GREATEST, Leave, Load, Scales};
 use crate::member::Member;
 use crate::sockets::{Peer, Ready, Sockets};
+use crate::status::{ErrorTerminal, Status, StatusLine};
 use crate::telling::tell;
 use crate::turn::Turn;
 use cache_server::{ConnError, Server};
 use log::{Log, warn};
 use std::alloc::{AllocError, Global};
 use std::collections::BTreeMap;
-use std::io::ErrorKind;
+use std::io::{ErrorKind, Stderr};
 use std::net::{Net, SocketAddr};
 use std::time::{Clock, Duration, Instant};
 use std::{io, mem, net};
@@ -49,12 +48,14 @@ struct Together<S> {
     // When a member may have been silent for too long.
     wake: u64,
     desk: Desk,
+    line: StatusLine,
 }
 
 /// Serves so many connections of the listener, up to `at_once` of them at a time, none of which
-/// waits for another: `serve_sockets` over epoll.
+/// waits for another: `serve_sockets` over epoll. Where standard error is a terminal, a line there
+/// says how many are open, and the hits so far.
 #[tactic(auto, using(crate::proofs::Whole::serves_none))]
-pub fn serve_together<R: AllocGlobal + Clock + Log + Net>(
+pub fn serve_together<R: AllocGlobal + Clock + ErrorTerminal + Log + Net>(
     rt: &R,
     listener: net::TcpListener,
     connections: u64,
@@ -63,25 +64,30 @@ pub fn serve_together<R: AllocGlobal + Clock + Log + Net>(
     server: &mut Server<Global>,
 ) -> Result<(), NotAccepted>
     // What came over these connections led to the server, in the order of its calls.
-    ensures ok { OnOk result ((opening : CacheValue) (history : List HistoryEntry)
-        → ServerStands opening server.old history
-        → ServesEach false (λ _ _ _ _. Unit {0}) (λ _. Unit {0})
-        server.old.prefix opening history connections server.new) }
-    ensures err { IfErr result (λ fault. (opening : CacheValue) (history : List HistoryEntry)
-        → ServerStands opening server.old history
-        → ServesEach true (λ _ _ _ _. Unit {0}) (λ _. Unit {0})
-        server.old.prefix opening history fault.accepted server.new) }
+    ensures ok { OnOk result (Serves false (λ _ _ _ _. Unit {0}) (λ _. Unit {0})
+        server.old connections server.new) }
+    ensures err { IfErr result (λ fault. Serves true (λ _ _ _ _. Unit {0}) (λ _. Unit {0})
+        server.old fault.accepted server.new) }
     ensures few { IfErr result (λ fault. fault.accepted ≤ connections) }
 {
     let mut sockets = match Epoll::new(rt, listener) {
         Ok(sockets) => sockets,
         Err(fault) => return Err(NotAccepted { accepted: 0, fault }),
     };
-    serve_sockets(rt, &mut sockets, connections, at_once, idle, server)
+    serve_sockets(
+        rt,
+        &mut sockets,
+        connections,
+        at_once,
+        idle,
+        rt.error_terminal(),
+        server,
+    )
 }
 
 /// Serves so many connections of the sockets, up to `at_once` of them at a time, none of which waits
-/// for another. Each is read only while it has no answer that isn't sent.
+/// for another. Each is read only while it has no answer that isn't sent. A line on the terminal, if
+/// there is one, says how many are open, and the hits so far.
 #[tactic(auto, using(crate::proofs::Whole::serves_all, crate::proofs::Whole::serves_cut, crate::proofs::Whole::serves_none))]
 pub fn serve_sockets<R: AllocGlobal + Clock + Log, N: Sockets>(
     rt: &R,
@@ -89,27 +95,26 @@ pub fn serve_sockets<R: AllocGlobal + Clock + Log, N: Sockets>(
     connections: u64,
     at_once: usize,
     idle: Option<Duration>,
+    terminal: Option<Stderr>,
     server: &mut Server<Global>,
 ) -> Result<(), NotAccepted>
     // Of each connection a beginning of what was read came to the server, and the answers to that
     // were sent but for a part of one; and it ended for a reason, unless the run was cut off. What
     // came led to the server, in the order of its calls.
-    ensures ok { OnOk result ((opening : CacheValue) (history : List HistoryEntry)
-        → ServerStands opening server.old history
-        → ServesEach false N.ended N.lost
-        server.old.prefix opening history connections server.new) }
-    ensures err { IfErr result (λ fault. (opening : CacheValue) (history : List HistoryEntry)
-        → ServerStands opening server.old history
-        → ServesEach true N.ended N.lost
-        server.old.prefix opening history fault.accepted server.new) }
+    ensures ok { OnOk result
+        (Serves false N.ended N.lost server.old connections server.new) }
+    ensures err { IfErr result (λ fault.
+        Serves true N.ended N.lost server.old fault.accepted server.new) }
     ensures few { IfErr result (λ fault. fault.accepted ≤ connections) }
 {
     let mut accepted: u64 = 0;
-    let mut together = match Together::new(rt, at_once, idle) {
+    let mut together = match Together::new(rt, at_once, idle, terminal) {
         Ok(together) => together,
         Err(fault) => return Err(NotAccepted { accepted, fault }),
     };
-    match together.serve(rt, sockets, &mut accepted, connections, server) {
+    let served = together.serve(rt, sockets, &mut accepted, connections, server);
+    together.line.clear();
+    match served {
         Ok(()) => Ok(()),
         Err(fault) => {
             together.end_all(rt, sockets, server, accepted);
@@ -132,6 +137,7 @@ impl Door {
     fn refuse<R: Log>(
         &mut self,
         rt: &R,
+        line: &mut StatusLine,
         number: u64,
         fault: io::Error,
         is_empty: bool,
@@ -140,6 +146,7 @@ impl Door {
             self.waits = false;
             return Ok(());
         }
+        line.clear();
         warn!(rt; "{number}: not accepted: {fault}");
         if !is_empty {
             self.waits = false;
@@ -165,6 +172,7 @@ impl<S: Peer + Drop> Together<S> {
         rt: &R,
         at_once: usize,
         idle: Option<Duration>,
+        terminal: Option<Stderr>,
     ) -> io::Result<Together<S>>
         ensures { IfOk result (λ together. together.members.entries ≡ []) }
     {
@@ -186,6 +194,7 @@ impl<S: Peer + Drop> Together<S> {
             begun: Instant::now(rt)?,
             wake: u64::MAX,
             desk: Desk::new(alloc)?,
+            line: StatusLine::new(terminal),
         })
     }
 
@@ -202,10 +211,11 @@ impl<S: Peer + Drop> Together<S> {
         if !self.ready.is_empty() {
             return Some(Duration::from_secs(0));
         }
-        if self.wake == u64::MAX {
+        let wake = self.wake.min(self.line.due());
+        if wake == u64::MAX {
             return None;
         }
-        let left = self.wake.saturating_sub(self.now(clock)).saturating_add(1);
+        let left = wake.saturating_sub(self.now(clock)).saturating_add(1);
         Some(Duration::from_millis(left))
     }
 
@@ -233,6 +243,7 @@ impl<S: Peer + Drop> Together<S> {
             if *accepted >= connections && self.members.is_empty() {
                 return Ok(());
             }
+            self.show(rt, server);
             events.clear();
             sockets.wait(self.timeout(rt), &mut events)?;
             self.mark(events.as_slice());
@@ -240,6 +251,21 @@ impl<S: Peer + Drop> Together<S> {
             self.sweep(rt, sockets, server);
         }
         Err(io::Error::from(ErrorKind::Other))
+    }
+
+    /// Shows on the terminal how many are open, and the hits so far.
+    fn show<C: Clock>(&mut self, clock: &C, server: &Server<Global>)
+        ensures { AreSame self.old.members.entries self.new.members.entries }
+    {
+        if !self.line.has_terminal() {
+            return;
+        }
+        let now = self.now(clock);
+        let status = Status {
+            open: self.members.len(),
+            hits: server.counts().hits,
+        };
+        self.line.show(status, now);
     }
 
     /// Accepts the connections that wait, as long as there is a place for them.
@@ -293,7 +319,8 @@ impl<S: Peer + Drop> Together<S> {
             },
             Err(fault) => fault,
         };
-        self.door.refuse(rt, number, fault, is_empty)
+        self.door
+            .refuse(rt, &mut self.line, number, fault, is_empty)
     }
 
     /// A connection takes a place.
@@ -513,6 +540,7 @@ impl<S: Peer + Drop> Together<S> {
         let (stream, peer, traffic) = member.into_parts();
         sockets.end(stream, why);
         server.end(number);
+        self.line.clear();
         tell(rt, number, &peer, &traffic, &why);
     }
 

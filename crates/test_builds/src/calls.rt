@@ -91,7 +91,7 @@ fn ended<A: Allocator>(global: Global, ended: Result<(), RunsError<A>>) -> Answe
     }
 }
 
-pub fn start<A: Allocator + Copy>(
+fn start<A: Allocator + Copy>(
     global: Global,
     alloc: A,
     engine: &mut Engine<A>,

@@ -15,14 +15,14 @@ use tree::MemorySource;
 /// What came of a build.
 #[derive(Drop)]
 struct Tried {
-    /// Its line, and the text of the record after it; nothing for want of memory.
+    /// Its line, and the text of the record after it; nothing for lack of memory.
     told: Option<String>,
     children: Counting,
     steps: Noting,
 }
 
 /// What the two builds of a row come to, where the second tells the same; and where the first tells
-/// of want of memory, the second what the row says.
+/// of lack of memory, the second what the row says.
 pub fn answer<A: Allocator + Copy>(
     global: Global,
     alloc: A,
@@ -86,7 +86,7 @@ fn build_once<A: Allocator + Copy>(
 /// The line of a build, and the text of the record after it.
 pub fn told_of<A: Allocator>(global: Global, told: &Told<A>) -> Result<String, AllocError> {
     match told {
-        Told::Built { line, noted } => {
+        Told::Built { line, noted, .. } => {
             let line = line.as_str();
             let noted = String::from_utf8_lossy(global, noted)?;
             format!(in global; "{line}{noted}")

@@ -45,7 +45,7 @@ fn is_spare(fields: &[Vec<u8>]) -> bool {
 }
 
 /// The answer to a call, each of its requests for memory refused before; and how many were.
-fn insisted<'h>(
+pub fn insisted<'h>(
     global: Global,
     heap: &'h Refusing<Global>,
     engine: &mut Engine<&'h Refusing<Global>>,

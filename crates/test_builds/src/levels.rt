@@ -1,10 +1,11 @@
 //! Rows of sources of 64 levels, in which each directory stands twice, by the number of pairs of
 //! lines: the first of each goes down by `a`, the second by `b`.
-use crate::answers::{Answer, Broken, number_in};
+use crate::answers::{Broken, compared, number_in};
 use crate::verdicts::{judged, verdict_told};
 use blob_digest::Digest;
 use messages::{Directory, DirectoryNode, Name};
 use std::alloc::{Allocator, Global};
+use test_support::{Refusing, Row};
 use tree::MemorySource;
 
 /// How many levels stand above the one with the file.
@@ -60,22 +61,49 @@ fn hold_levels<A: Allocator + Copy>(
     Ok(sources)
 }
 
-/// The verdict, and how often the source was called, by the lowest Directory, the number of pairs
-/// and the claim.
-pub fn answer<A: Allocator + Copy>(global: Global, alloc: A, fields: &[Vec<u8>]) -> Answer {
+/// How many requests for memory were refused where the rows come to what they say. Of a row that
+/// refuses, each request of its verdict is refused before, over one source.
+pub fn run(global: Global, group: &[Row], refuses: bool) -> Result<u64, Broken> {
+    let mut refused = 0u64;
+    for row in group {
+        let (told, requests) = insisted(global, &row.fields, refuses)?;
+        compared(row, told)?;
+        refused = refused.saturating_add(requests);
+    }
+    Ok(refused)
+}
+
+/// The verdict, and how often the source was called for it, by the lowest Directory, the number of
+/// pairs and the claim; and how many requests were refused before.
+fn insisted(global: Global, fields: &[Vec<u8>], refuses: bool) -> Result<(String, u64), Broken> {
     let [lowest, pairs, claim, _] = fields else {
         return Err(Broken::NoRow);
     };
     let Ok(pairs) = u8::try_from(number_in(pairs)?) else {
         return Err(Broken::NoRow);
     };
-    let mut source = MemorySource::new(alloc);
-    let sources = hold_levels(alloc, &mut source, lowest)?;
-    let plan = plan_of(alloc, pairs)?;
+    let heap = Refusing::new(global, 0);
+    let mut source = MemorySource::new(&heap);
+    let sources = hold_levels(&heap, &mut source, lowest)?;
+    let plan = plan_of(global, pairs)?;
     let claim = Digest::read_text(claim)?;
     let texts = (plan.as_slice(), b"buildrecord 1\n".as_slice());
-    let verdict = judged(alloc, texts, &sources, &claim, &mut source)?;
-    let told = verdict_told(global, &verdict)?;
-    let calls = source.calls();
-    Ok(format!(in global; "{told} by {calls}")?)
+    for number in 1..1_000_000u64 {
+        let before = source.calls();
+        heap.refuse(if refuses { number } else { 0 });
+        let verdict = judged(&heap, texts, &sources, &claim, &mut source);
+        let is_refused = refuses && heap.has_refused();
+        heap.refuse(0);
+        match verdict {
+            Ok(verdict) if !is_refused => {
+                let told = verdict_told(global, &verdict)?;
+                let calls = source.calls().saturating_sub(before);
+                return Ok((format!(in global; "{told} by {calls}")?, number - 1));
+            }
+            Err(Broken::Memory) if is_refused => {}
+            Err(broken) => return Err(broken),
+            Ok(_) => return Err(Broken::Untold),
+        }
+    }
+    Err(Broken::Untold)
 }

@@ -35,22 +35,22 @@ enum Subject {
     FailingBuilds,
 }
 
-/// Each file, after the name of another where it has the stock of that, how many requests for memory are refused in it at least, and how many apart these
-/// are; 0 where none is.
-static FILES: [(&str, Subject, u64, u64); 13] = [
-    ("reports", Subject::Reports, 100, 1),
-    ("openings", Subject::Openings, 40, 1),
-    ("engines", Subject::Engines, 300, 1),
-    ("jobs", Subject::Jobs, 0, 0),
-    ("roots", Subject::Verdicts, 100, 1),
-    ("verdicts", Subject::Verdicts, 1000, 1),
-    ("levels", Subject::Levels, 100, 13),
-    ("many_lines", Subject::Levels, 0, 0),
-    ("children", Subject::Children, 800, 1),
-    ("verdicts failing_sources", Subject::FailingSources, 0, 0),
-    ("verdicts changed_blobs", Subject::Verdicts, 50, 1),
-    ("deep_input", Subject::Verdicts, 100, 1),
-    ("children failing_builds", Subject::FailingBuilds, 0, 0),
+/// Each file, after the name of another where it has the stock of that, and how many requests for
+/// memory are refused in it at least; 0 where none is.
+static FILES: [(&str, Subject, u64); 13] = [
+    ("reports", Subject::Reports, 100),
+    ("openings", Subject::Openings, 40),
+    ("engines", Subject::Engines, 300),
+    ("jobs", Subject::Jobs, 0),
+    ("roots", Subject::Verdicts, 100),
+    ("verdicts", Subject::Verdicts, 1000),
+    ("levels", Subject::Levels, 200),
+    ("many_lines", Subject::Levels, 0),
+    ("children", Subject::Children, 800),
+    ("verdicts failing_sources", Subject::FailingSources, 0),
+    ("verdicts changed_blobs", Subject::Verdicts, 50),
+    ("deep_input", Subject::Verdicts, 100),
+    ("children failing_builds", Subject::FailingBuilds, 0),
 ];
 
 /// What a row comes to by itself, over what its file has in stock.
@@ -68,7 +68,6 @@ fn answer<A: Allocator + Copy>(
             Some((_, changes)) => verdicts::answer(global, alloc, stock, changes),
             None => Err(Broken::NoRow),
         },
-        Subject::Levels => levels::answer(global, alloc, fields),
         Subject::Children => children::answer(global, alloc, stock, fields),
         Subject::FailingSources => match fields.split_last() {
             Some((_, changes)) => failing::verdict(global, stock, changes),
@@ -76,26 +75,25 @@ fn answer<A: Allocator + Copy>(
         },
         Subject::FailingBuilds => failing::build(global, stock, fields),
         Subject::Jobs => jobs::answer(global, stock, fields),
-        Subject::Engines => Err(Broken::NoRow),
+        Subject::Engines | Subject::Levels => Err(Broken::NoRow),
     }
 }
 
-/// How many requests for memory of the row are refused, every `apart`-th from the first, and told
-/// as such, where it comes to what it says.
+/// How many requests for memory of the row are refused in turn and told as such, where it comes to
+/// what it says.
 fn refused_in_turn(
     subject: Subject,
     global: Global,
     stock: &[Row],
     row: &Row,
-    apart: u64,
 ) -> Result<u64, Broken> {
-    for round in 0..1_000_000u64 {
-        let heap = Refusing::new(global, round.saturating_mul(apart).saturating_add(1));
+    for number in 1..1_000_000u64 {
+        let heap = Refusing::new(global, number);
         let answer = answer(subject, global, &heap, stock, &row.fields);
         match answer {
             Ok(told) if !heap.has_refused() => {
                 compared(row, told)?;
-                return Ok(round);
+                return Ok(number - 1);
             }
             Err(Broken::Memory) if heap.has_refused() => {}
             Err(broken) => return Err(broken),
@@ -111,30 +109,26 @@ fn refused_in(
     global: Global,
     stock: &[Row],
     group: &[Row],
-    apart: u64,
+    refuses: bool,
 ) -> Result<u64, Broken> {
-    if matches!(subject, Subject::Engines) {
-        return engines::run(global, stock, group);
+    match subject {
+        Subject::Engines => return engines::run(global, stock, group),
+        Subject::Levels => return levels::run(global, group, refuses),
+        _ => {}
     }
     let mut refused = 0u64;
     for row in group {
-        if apart == 0 {
-            compared(row, answer(subject, global, global, stock, &row.fields)?)?;
+        if refuses {
+            refused = refused.saturating_add(refused_in_turn(subject, global, stock, row)?);
         } else {
-            refused = refused.saturating_add(refused_in_turn(subject, global, stock, row, apart)?);
+            compared(row, answer(subject, global, global, stock, &row.fields)?)?;
         }
     }
     Ok(refused)
 }
 
 /// How many rows a file has after its stock, if all come to what they say.
-fn rows_of(
-    global: Global,
-    text: &str,
-    subject: Subject,
-    few: u64,
-    apart: u64,
-) -> Result<u64, Broken> {
+fn rows_of(global: Global, text: &str, subject: Subject, few: u64) -> Result<u64, Broken> {
     let groups = read_groups(global, text)?;
     let Some((stock, groups)) = groups.split_first() else {
         return Err(Broken::NoRow);
@@ -142,7 +136,7 @@ fn rows_of(
     let mut rows = 0u64;
     let mut refused = 0u64;
     for group in groups {
-        refused = refused.saturating_add(refused_in(subject, global, stock, group, apart)?);
+        refused = refused.saturating_add(refused_in(subject, global, stock, group, few > 0)?);
         rows = rows.saturating_add(group.len() as u64);
     }
     if refused < few {
@@ -163,14 +157,14 @@ fn print_told(rt: &HostRuntime, file: &str, told: Result<u64, Broken>) -> io::Re
 }
 
 fn main(rt: HostRuntime) -> io::Result<()> {
-    for &(files, subject, few, apart) in &FILES {
+    for &(files, subject, few) in &FILES {
         let (stock, file) = files.split_once(' ').unwrap_or(("", files));
         let mut text = String::new(rt.alloc());
         if !stock.is_empty() {
             push_stock(&rt, stock, &mut text)?;
         }
         text.push_str(fs::read_to_string(&rt, file)?.as_str())?;
-        let told = rows_of(rt.alloc(), text.as_str(), subject, few, apart);
+        let told = rows_of(rt.alloc(), text.as_str(), subject, few);
         print_told(&rt, file, told)?;
     }
     Ok(())

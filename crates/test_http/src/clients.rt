@@ -97,7 +97,7 @@ fn stream_of(row: &Row<'_>, number: u64) -> Result<Streams, AllocError> {
     Streams::new(row.heap, row.stream, next, most, number, state != "closed")
 }
 
-/// Adds what each call comes to, up to a want of memory, after which nothing may come.
+/// Adds what each call comes to, up to a refusal of memory, after which nothing may come.
 fn call_all<A: Allocator + Copy>(
     alloc: A,
     row: &Row<'_>,
@@ -111,7 +111,7 @@ fn call_all<A: Allocator + Copy>(
             Err(FetchError::Failed) => tell_fault(call, remote.last_fault(), text)?,
             Err(FetchError::Memory) => {
                 if remote.last_fault().is_some() || !is_over(alloc, remote) {
-                    text.push_str("goes on after a want of memory\n")?;
+                    text.push_str("goes on after a refusal of memory\n")?;
                 }
                 return Err(AllocError);
             }

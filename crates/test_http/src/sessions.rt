@@ -4,7 +4,7 @@ use blob_digest::Digest;
 use http_core::*;
 use std::alloc::{AllocError, Allocator, Global};
 
-/// Adds the events that a session tells of the stream, up to a want of memory, after which nothing
+/// Adds the events that a session tells of the stream, up to a refusal of memory, after which nothing
 /// may come. The words are its prefix.
 pub fn session<A: Allocator + Copy>(
     alloc: A,
@@ -22,7 +22,7 @@ pub fn session<A: Allocator + Copy>(
             Err(_) => refused = true,
         }
         if refused && session.is_open() {
-            text.push_str("open after a want of memory\n")?;
+            text.push_str("open after a refusal of memory\n")?;
         }
     }
     if refused { Err(AllocError) } else { Ok(()) }

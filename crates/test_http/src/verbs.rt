@@ -1,7 +1,7 @@
 //! What a row tells by its verb, in whatever pieces its streams come and whatever request for
 //! memory is refused.
 use crate::clients::{ask, fail_each, sent};
-use crate::faults::{fail_each_byte, fail_each_piece};
+use crate::faults::{fail_each_byte, fail_each_piece, refuse_runs};
 use crate::rows::Row;
 use crate::servers::{count, look_up, refuse_first, refuse_within, serve, serve_two};
 use crate::sessions::session;
@@ -18,6 +18,7 @@ pub fn run_row(verb: &str, row: &Row<'_>, text: &mut String) -> Result<u64, Allo
         "fail_bytes" => return fail_each_byte(row, text),
         "fail_pieces" => return fail_each_piece(row, text),
         "refuse_first" => return refuse_first(row, text),
+        "refuse_runs" => return refuse_runs(row, text),
         "refuse_within" => return refuse_within(row, text),
         "fail_each" => return fail_each(row, text),
         _ => return tell_in_each_way(verb, row, text),

@@ -1,34 +1,23 @@
-//! Rows of stores of blobs, of which each group has one. A blob is told by its bytes.
-use crate::answers::{
-    Answer, Broken, compared, limit_in, number, number_in, said, word, yes_or_no,
-};
+//! Rows of stores of blobs. A blob is told by its bytes.
+use crate::answers::{Answer, Broken, limit_in, number, number_in, said, word, yes_or_no};
 use blob_digest::{Body, Digest, Sealed};
 use blob_store::{BlobError, BlobStore};
 use std::alloc::{AllocError, Allocator, Global};
 use std::hash::RandomState;
-use test_support::Row;
 
-/// The first row of a group has the limit.
-pub fn run<A: Allocator + Copy>(
-    global: Global,
+/// A store by its limit.
+pub fn store_of<A: Allocator + Copy>(
     alloc: A,
     state: RandomState,
-    group: &[Row],
-) -> Result<(), Broken> {
-    let Some((first, rows)) = group.split_first() else {
-        return Ok(());
-    };
-    let [_, limit] = first.fields.as_slice() else {
-        return Err(Broken::NoRow);
-    };
-    let mut store: BlobStore<A> = BlobStore::new(alloc, state, limit_in(limit)?)?;
-    for row in rows {
-        compared(global, row, answer(global, alloc, &mut store, &row.fields))?;
+    fields: &[Vec<u8>],
+) -> Result<BlobStore<A>, Broken> {
+    match fields {
+        [_, limit] => Ok(BlobStore::new(alloc, state, limit_in(limit)?)?),
+        _ => Err(Broken::NoRow),
     }
-    Ok(())
 }
 
-fn answer<A: Allocator + Copy>(
+pub fn answer<A: Allocator + Copy>(
     global: Global,
     alloc: A,
     store: &mut BlobStore<A>,

@@ -1,39 +1,28 @@
-//! Rows of caches of blobs and results, of which each group has one. A blob is told by its bytes, a
-//! result by the number that each byte of its hash has.
-use crate::answers::{Answer, Broken, compared, limit_in, number, number_in, said, word};
+//! Rows of caches of blobs and results. A blob is told by its bytes, a result by the number that
+//! each byte of its hash has.
+use crate::answers::{Answer, Broken, limit_in, number, number_in, said, word};
 use crate::blobs::found;
 use action_cache::{ActionCache, CacheError};
 use blob_digest::{Digest, Sealed};
 use std::alloc::{Allocator, Global};
 use std::hash::RandomState;
-use test_support::Row;
 
-/// The first row of a group has the limits of bytes of blobs and of results.
-pub fn run<A: Allocator + Copy>(
-    global: Global,
+/// A cache by the limits of bytes of blobs and of results.
+pub fn cache_of<A: Allocator + Copy>(
     alloc: A,
     state: RandomState,
-    group: &[Row],
-) -> Result<(), Broken> {
-    let Some((first, rows)) = group.split_first() else {
-        return Ok(());
-    };
-    let [_, blobs, results] = first.fields.as_slice() else {
-        return Err(Broken::NoRow);
-    };
-    let mut cache: ActionCache<A> = ActionCache::new(
-        alloc,
-        state,
-        limit_in(blobs)?,
-        limit_in(results)?,
-    )?;
-    for row in rows {
-        compared(global, row, answer(global, alloc, &mut cache, &row.fields))?;
+    fields: &[Vec<u8>],
+) -> Result<ActionCache<A>, Broken> {
+    match fields {
+        [_, blobs, results] => {
+            let (blobs, results) = (limit_in(blobs)?, limit_in(results)?);
+            Ok(ActionCache::new(alloc, state, blobs, results)?)
+        }
+        _ => Err(Broken::NoRow),
     }
-    Ok(())
 }
 
-fn answer<A: Allocator + Copy>(
+pub fn answer<A: Allocator + Copy>(
     global: Global,
     alloc: A,
     cache: &mut ActionCache<A>,

@@ -1,36 +1,25 @@
-//! Rows of bounded stores of numbered entries, of which each group has one.
-use crate::answers::{Answer, Broken, compared, limit_in, number, number_in, word};
+//! Rows of bounded stores of numbered entries.
+use crate::answers::{Answer, Broken, limit_in, number, number_in, word};
 use eviction::{Bounded, BoundedError};
 use std::alloc::{AllocError, Allocator, Global};
 use std::hash::RandomState;
-use test_support::Row;
 
-/// The first row of a group has the limit and what each entry costs beside its bytes.
-pub fn run<A: Allocator + Copy>(
-    global: Global,
+/// A store by its limit and by what each entry costs beside its bytes.
+pub fn store_of<A: Allocator + Copy>(
     alloc: A,
     state: RandomState,
-    group: &[Row],
-) -> Result<(), Broken> {
-    let Some((first, rows)) = group.split_first() else {
-        return Ok(());
-    };
-    let [_, limit, cost] = first.fields.as_slice() else {
-        return Err(Broken::NoRow);
-    };
-    let mut store: Bounded<u64, A> = Bounded::new(
-        alloc,
-        state,
-        limit_in(limit)?,
-        number_in(cost)?,
-    )?;
-    for row in rows {
-        compared(global, row, answer(global, alloc, &mut store, &row.fields))?;
+    fields: &[Vec<u8>],
+) -> Result<Bounded<u64, A>, Broken> {
+    match fields {
+        [_, limit, cost] => {
+            let (limit, cost) = (limit_in(limit)?, number_in(cost)?);
+            Ok(Bounded::new(alloc, state, limit, cost)?)
+        }
+        _ => Err(Broken::NoRow),
     }
-    Ok(())
 }
 
-fn answer<A: Allocator + Copy>(
+pub fn answer<A: Allocator + Copy>(
     global: Global,
     alloc: A,
     store: &mut Bounded<u64, A>,

@@ -50,7 +50,7 @@ fn records<A: Allocator + Copy>(global: Global, alloc: A, bytes: &[u8]) -> Answe
     }
 }
 
-/// Writes a record, if it is lawful.
+/// Writes a record, if it is valid.
 fn write_again<A: Allocator>(
     text: &mut Vec<u8, A>,
     number: u32,

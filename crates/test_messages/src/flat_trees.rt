@@ -1,21 +1,12 @@
-//! Rows of flat trees, which are filled entry by entry: each group has one of its own.
-use crate::answers::{Answer, Broken, compared, number, said, word};
+//! Rows of flat trees, which are filled entry by entry.
+use crate::answers::{Answer, Broken, number, said, word};
 use crate::nodes::{file_told, node_of, phrase};
 use crate::trees::directories_told;
 use messages::{Node, Path};
 use std::alloc::{Allocator, Global};
-use test_support::Row;
 use tree::{AddError, FlatEntry, FlatTree, fold};
 
-pub fn run<A: Allocator + Copy>(global: Global, alloc: A, group: &[Row]) -> Result<(), Broken> {
-    let mut tree = FlatTree::new(alloc);
-    for row in group {
-        compared(global, row, answer(global, alloc, &mut tree, &row.fields))?;
-    }
-    Ok(())
-}
-
-fn answer<A: Allocator + Copy>(
+pub fn answer<A: Allocator + Copy>(
     global: Global,
     alloc: A,
     tree: &mut FlatTree<A>,

@@ -1,4 +1,4 @@
-//! Rows of messages with a repeated field of 10,000 elements. No length is told as want of memory.
+//! Rows of messages with a repeated field of 10,000 elements. No length is told as out of memory.
 use crate::answers::{Answer, Broken, said};
 use crate::written::written;
 use std::alloc::{AllocError, Allocator, Global};

@@ -10,6 +10,7 @@ mod digests;
 mod entries;
 mod fields;
 mod flat_trees;
+mod held;
 mod long_fields;
 mod long_plans;
 mod merges;
@@ -24,6 +25,7 @@ mod trees;
 mod written;
 
 use answers::{Answer, Broken, compared};
+use held::{Held, held_by};
 use std::alloc::{Allocator, Global};
 use std::hash::RandomState;
 use std::{fs, io};
@@ -31,7 +33,7 @@ use test_support::{Refusing, Row, read_groups};
 
 /// What the rows of a file are of.
 #[derive(Clone, Copy)]
-enum Subject {
+pub enum Subject {
     Digests,
     Fields,
     Shapes,
@@ -99,40 +101,53 @@ fn answer<A: Allocator + Copy>(
     }
 }
 
-fn each<A: Allocator + Copy>(
-    subject: Subject,
-    global: Global,
-    alloc: A,
-    group: &[Row],
-) -> Result<(), Broken> {
-    for row in group {
-        compared(global, row, answer(subject, global, alloc, &row.fields))?;
-    }
-    Ok(())
-}
-
-/// Whether the rows of the group come, one after another, to what they say.
+/// Whether a row was told of lack of memory, where the rows of the group come, one after another,
+/// to what they say. Such a row is asked once more, of what is held then.
 fn run<A: Allocator + Copy>(
     subject: Subject,
     global: Global,
     state: RandomState,
     alloc: A,
     group: &[Row],
-) -> Result<(), Broken> {
-    match subject {
-        Subject::Sources => sources::run(global, alloc, group),
-        Subject::Trees => trees::run(global, alloc, group),
-        Subject::FlatTrees => flat_trees::run(global, alloc, group),
-        Subject::Outcomes => outcomes::run(global, alloc, group),
-        Subject::Entries => entries::run(global, alloc, state, group),
-        Subject::Blobs => blobs::run(global, alloc, state, group),
-        Subject::Caches => caches::run(global, alloc, state, group),
-        _ => each(subject, global, alloc, group),
+) -> Result<bool, Broken> {
+    let (mut held, rows) = held_by(subject, alloc, state, group)?;
+    let mut is_told = false;
+    for row in rows {
+        let mut told = told(subject, global, alloc, &mut held, &row.fields);
+        if matches!(told, Err(Broken::Memory)) && is_asked_again(subject) && !is_told {
+            is_told = true;
+            told = self::told(subject, global, alloc, &mut held, &row.fields);
+        }
+        compared(global, row, told)?;
+    }
+    Ok(is_told)
+}
+
+/// What a row comes to.
+fn told<A: Allocator + Copy>(
+    subject: Subject,
+    global: Global,
+    alloc: A,
+    held: &mut Held<A>,
+    fields: &[Vec<u8>],
+) -> Answer {
+    match held::answer(global, alloc, held, fields) {
+        Some(told) => told,
+        None => answer(subject, global, alloc, fields),
     }
 }
 
+/// Whether rows that were told of lack of memory come to the same when they are asked once more.
+/// (The others tell how often a source was called.)
+fn is_asked_again(subject: Subject) -> bool {
+    !matches!(
+        subject,
+        Subject::Sources | Subject::Trees | Subject::Outcomes
+    )
+}
+
 /// Whether an answer may stand where a request was refused: a store may do without a table that is
-/// smaller, and a result is told as the row says or as want of memory.
+/// smaller, and a result is told as the row says or as out of memory.
 fn may_spare(subject: Subject) -> bool {
     matches!(
         subject,
@@ -141,7 +156,7 @@ fn may_spare(subject: Subject) -> bool {
 }
 
 /// How many requests for memory of the group are refused in turn and told as such, where its rows
-/// come to what they say.
+/// come to what they say, the refused one once it is asked again.
 fn refused_in_turn(
     subject: Subject,
     global: Global,
@@ -153,11 +168,12 @@ fn refused_in_turn(
         let heap = Refusing::new(global, number);
         let outcome = run(subject, global, state, &heap, group);
         match outcome {
-            Ok(()) if !heap.has_refused() => return Ok(refused),
-            Ok(()) if may_spare(subject) => {}
+            Ok(_) if !heap.has_refused() => return Ok(refused),
+            Ok(false) if may_spare(subject) => {}
+            Ok(true) => refused = refused.saturating_add(1),
             Err(Broken::Memory) if heap.has_refused() => refused = refused.saturating_add(1),
             Err(broken) => return Err(broken),
-            Ok(()) => return Err(Broken::Untold),
+            Ok(false) => return Err(Broken::Untold),
         }
     }
     Err(Broken::Untold)
@@ -175,7 +191,7 @@ fn told_of(
     let mut refused = 0u64;
     for group in &read_groups(global, text)? {
         if few == 0 {
-            run(subject, global, state, global, group)?;
+            let _is_told = run(subject, global, state, global, group)?;
         } else {
             refused = refused.saturating_add(refused_in_turn(subject, global, state, group)?);
         }

@@ -1,7 +1,7 @@
 //! Lines that are merged, as rows spell them: a target with a node each, which is read in the
 //! source.
 ghost use Rattle.std.specs.Prelude.{IfOk};
-ghost use Rattle.tree.specs.Folded.{IsFoldOfLawful};
+ghost use Rattle.tree.specs.Folded.{IsFoldOfValid};
 
 use crate::answers::Broken;
 use crate::nodes::node_of;
@@ -30,7 +30,7 @@ pub fn merged<A: Allocator + Copy, S: BlobSource<A>>(
     texts: &[Vec<u8>],
     source: &mut S,
 ) -> Result<Result<Folded<A>, TreeError<A>>, Broken>
-    ensures { IfOk result (λ told. IfOk told (λ folded. IsFoldOfLawful folded)) }
+    ensures { IfOk result (λ told. IfOk told (λ folded. IsFoldOfValid folded)) }
 {
     let mut lines = Vec::new(alloc);
     for text in texts {

@@ -1,27 +1,13 @@
-//! Rows of outcomes, of which the last that was made is asked, and of a source: each group has one.
-use crate::answers::{Answer, Broken, compared, number, said, word};
+//! Rows of outcomes, of which the last that was made is asked, and of a source.
+use crate::answers::{Answer, Broken, number, said, word};
 use crate::nodes::{node_of, node_told, refusal_told};
 use crate::trees::{hold, hold_as};
 use actions::{ActionResult, Outcome, Output, recorded};
 use messages::{MessageError, Node, Path, Target, Tree};
 use std::alloc::{Allocator, Global};
-use test_support::Row;
 use tree::{AddError, MemorySource};
 
-pub fn run<A: Allocator + Copy>(global: Global, alloc: A, group: &[Row]) -> Result<(), Broken> {
-    let mut source = MemorySource::new(alloc);
-    let mut outcome = Outcome::new(alloc, 0);
-    for row in group {
-        compared(
-            global,
-            row,
-            answer(global, alloc, &mut source, &mut outcome, &row.fields),
-        )?;
-    }
-    Ok(())
-}
-
-fn answer<A: Allocator + Copy>(
+pub fn answer<A: Allocator + Copy>(
     global: Global,
     alloc: A,
     source: &mut MemorySource<A>,

@@ -1,5 +1,5 @@
-//! Rows of a source in memory, and of what is fetched from it: each group has one of its own.
-use crate::answers::{Answer, Broken, compared, digest_text, number, said, word};
+//! Rows of a source in memory, and of what is fetched from it.
+use crate::answers::{Answer, Broken, digest_text, number, said, word};
 use crate::nodes::{phrase, with_digest};
 use blob_digest::Digest;
 use blob_source::{
@@ -7,17 +7,8 @@ use blob_source::{
 };
 use messages::Directory;
 use std::alloc::{Allocator, Global};
-use test_support::Row;
 
-pub fn run<A: Allocator + Copy>(global: Global, alloc: A, group: &[Row]) -> Result<(), Broken> {
-    let mut source = MemorySource::new(alloc);
-    for row in group {
-        compared(global, row, answer(global, alloc, &mut source, &row.fields))?;
-    }
-    Ok(())
-}
-
-fn answer<A: Allocator + Copy>(
+pub fn answer<A: Allocator + Copy>(
     global: Global,
     alloc: A,
     source: &mut MemorySource<A>,

@@ -1,22 +1,13 @@
-//! Rows of look-ups, merges, comparisons and unfoldings: each group has a source of its own.
-use crate::answers::{Answer, Broken, compared, digest_text, number_in, said, word};
+//! Rows of look-ups, merges, comparisons and unfoldings over a source.
+use crate::answers::{Answer, Broken, digest_text, number_in, said, word};
 use crate::merges::merged;
 use crate::nodes::{node_told, phrase, refusal_told};
 use blob_digest::Digest;
 use messages::Path;
 use std::alloc::{AllocError, Allocator, Global};
-use test_support::Row;
 use tree::{Difference, Folded, MemorySource, TreeError, first_difference, fold, lookup, unfold};
 
-pub fn run<A: Allocator + Copy>(global: Global, alloc: A, group: &[Row]) -> Result<(), Broken> {
-    let mut source = MemorySource::new(alloc);
-    for row in group {
-        compared(global, row, answer(global, alloc, &mut source, &row.fields))?;
-    }
-    Ok(())
-}
-
-fn answer<A: Allocator + Copy>(
+pub fn answer<A: Allocator + Copy>(
     global: Global,
     alloc: A,
     source: &mut MemorySource<A>,

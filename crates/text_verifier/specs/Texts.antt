@@ -8,7 +8,7 @@ use Rattle.plan.specs.Values.{PlanValue}
 
 -- the text spells the digest
 pub record IsDigestText (text : List ℕ) (digest : DigestValue) : Type 0 where
-  pub lawful : IsDigest digest
+  pub valid : IsDigest digest
   pub text_is : text ≡ digest_text digest
 
 -- Whether each build of a plan, from sources with a digest, ends in a claimed root, and what a
@@ -25,12 +25,12 @@ question_of sources claim plan noted =
 
 -- the plan of this text
 pub record HasPlan (text : List ℕ) (plan : PlanValue) : Type 0 where
-  pub lawful : IsPlan plan
+  pub valid : IsPlan plan
   pub text_is : text ≡ plan_text plan
 
 -- the record of this text, which is of the plan
 pub record HasRecord (plan : PlanValue) (text : List ℕ) (noted : RecordValue) : Type 0 where
-  pub lawful : IsRecord noted
+  pub valid : IsRecord noted
   pub fits : Fits noted plan
   pub text_is : text ≡ record_text noted
 

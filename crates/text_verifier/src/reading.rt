@@ -39,7 +39,7 @@ pub fn read_digests(sources: &[u8], claim: &[u8]) -> Result<Digests, TextError>
 
 /// The plan of this text.
 pub fn read_plan<A: Allocator + Copy>(alloc: A, text: &[u8]) -> Result<Plan<A>, TextError>
-    ensures lawful { IfOk result IsPlan }
+    ensures valid { IfOk result IsPlan }
     ensures found { IfOk result (λ plan. text.now ≡ plan_text plan) }
     // The plan whose text it is is answered.
     ensures only { (plan : PlanValue) → IsPlan plan → text.now ≡ plan_text plan
@@ -59,7 +59,7 @@ pub(crate) fn read_record<A: Allocator + Copy>(
     text: &[u8],
     plan: &Plan<A>,
 ) -> Result<Record<A>, TextError>
-    ensures lawful { IfOk result IsRecord }
+    ensures valid { IfOk result IsRecord }
     ensures fits { IfOk result (λ noted. Fits noted plan.now) }
     ensures found { IfOk result (λ noted. text.now ≡ record_text noted) }
     // The record whose text it is is answered.

@@ -22,7 +22,7 @@ under_still {B} {C} {d} {bytes} g (inl h) = inl h
 under_still {B} {C} {d} {bytes} g (inr h) = inr (h.0, sym (g d bytes (sym h.1)))
 
 pub told_still : {M : Type 0} {keeps : M → Type 0} {spells : M → List ℕ} {B C : Blobs} {d : DigestValue} {m : M} → Grows B C → IsTold keeps spells B d m → IsTold keeps spells C d m
-told_still g h = record { lawful = h.lawful; blob = record { held = under_still g h.blob.held; right = h.blob.right } }
+told_still g h = record { valid = h.valid; blob = record { held = under_still g h.blob.held; right = h.blob.right } }
 
 -- a look-up of rest from a node, in what a source tells
 abbrev pub LooksOn : Blobs → List Name → Option NodeValue → Looked → Type 0

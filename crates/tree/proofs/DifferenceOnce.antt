@@ -15,7 +15,7 @@ use Rattle.blob_source.specs.Told.{Fault}
 use Rattle.tree.specs.Difference.{IsFirstOf, IsNoneOf, ReadsDirectory, FailsToRead, Differing, unread, child_of, IsFirstName, FindsAt, Finds, FindsFirst}
 use Rattle.tree.proofs.TreeLemmas.{name_same, name_greater}
 use Rattle.tree.proofs.DirectoryBytes.{directory_bytes_injective}
-use Rattle.tree.proofs.TreeDigests.{lawful_digests}
+use Rattle.tree.proofs.TreeDigests.{valid_digests}
 use Rattle.tree.proofs.LookupOnce.{told_once, told_or_fault, fault_once}
 
 -- ---- one Directory is read
@@ -40,7 +40,7 @@ first_or_none own d x h k = none_there d h.before x h.behind (subst (λ bs. IsNo
 
 module _ (own : List (List ℕ)) (B : Blobs) where
   pub reads_once : (d : DigestValue) (m n : DirectoryValue) → ReadsDirectory own B d m → ReadsDirectory own B d n → m ≡ n
-  reads_once d m n (inl h) (inl k) = directory_bytes_injective m n (lawful_digests m h.0) (lawful_digests n k.0) (first_once own d (directory_bytes m) (directory_bytes n) h.1 k.1)
+  reads_once d m n (inl h) (inl k) = directory_bytes_injective m n (valid_digests m h.0) (valid_digests n k.0) (first_once own d (directory_bytes m) (directory_bytes n) h.1 k.1)
   reads_once d m n (inl h) (inr k) = absurd (first_or_none own d (directory_bytes m) h.1 k.0)
   reads_once d m n (inr h) (inl k) = absurd (first_or_none own d (directory_bytes n) k.1 h.0)
   reads_once d m n (inr h) (inr k) = told_once B d m n h.1 k.1

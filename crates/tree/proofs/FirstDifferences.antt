@@ -173,21 +173,21 @@ module _ (k m : DirectoryValue) where
 -- ---- Directories that are read
 
 first_own : (d : DigestValue) (before own : List (List ℕ)) → IsNoneOf before d → AllByRecursion IsEncoding own → ((b : List ℕ) → IsEncoding b → IsFirstOf (before ++ own) d b → ⊥) → (IsNoneOf (before ++ own) d → ⊥) → ⊥
-first_own d before [] none lawful one nowhere = nowhere (subst (λ q. IsNoneOf q d) (sym (append-nil before)) none)
-first_own d before (b ∷ own) none lawful one nowhere =
-    let other : digest_of b ≢ d = λ is. one b lawful.0 (record { before = before; behind = own; stands = refl; right = is; first = none }) in
+first_own d before [] none valid one nowhere = nowhere (subst (λ q. IsNoneOf q d) (sym (append-nil before)) none)
+first_own d before (b ∷ own) none valid one nowhere =
+    let other : digest_of b ≢ d = λ is. one b valid.0 (record { before = before; behind = own; stands = refl; right = is; first = none }) in
     let joined : (before ++ b ∷ []) ++ own ≡ before ++ b ∷ own = append_assoc before (b ∷ []) own in
-    first_own d (before ++ b ∷ []) own (all_push (λ e. digest_of e ≢ d) before b none other) lawful.1
+    first_own d (before ++ b ∷ []) own (all_push (λ e. digest_of e ≢ d) before b none other) valid.1
     (λ c e h. one c e (subst (λ q. IsFirstOf q d c) joined h)) (λ h. nowhere (subst (λ q. IsNoneOf q d) joined h))
 
-module _ (own : List (List ℕ)) (B : Blobs) (lawful : AllByRecursion IsEncoding own) where
+module _ (own : List (List ℕ)) (B : Blobs) (valid : AllByRecursion IsEncoding own) where
   -- a Directory is read, or there is a fault
   reads_or_fails : (d : DigestValue) → ((m : DirectoryValue) → IsDirectory m → digest_of (directory_bytes m) ≡ d → ReadsDirectory own B d m → ⊥) → ((f : Fault) → FailsToRead own B d f → ⊥) → ⊥
-  reads_or_fails d reads fails = first_own d [] own tt lawful
+  reads_or_fails d reads fails = first_own d [] own tt valid
       (λ b encoding first.
       let right : digest_of (directory_bytes encoding.0) ≡ d = ap digest_of (sym encoding.2) ∙ first.right in
       reads encoding.0 encoding.1 right (inl (encoding.1, subst (IsFirstOf own d) encoding.2 first)))
-      (λ none. told_or_faulty IsDirectory directory_bytes B d (λ m told. reads m told.lawful told.blob.right (inr (none, told))) (λ f fault. fails f (none, fault)))
+      (λ none. told_or_faulty IsDirectory directory_bytes B d (λ m told. reads m told.valid told.blob.right (inr (none, told))) (λ f fault. fails f (none, fault)))
 
   -- ---- the first difference
 

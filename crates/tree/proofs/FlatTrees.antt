@@ -99,7 +99,7 @@ more_names (k ∷ q) n = omega arith
 -- an entry where its parent stands and nothing else
 pub planted : (es : FlatValue) (q : List Name) (n : Name) (s : Standing NodeValue) → IsFlatTree es → s ≢ nothing → IsPath (q ++ n ∷ []) → (q ≡ []) ⊎ (standing_in es q ≡ a_directory)
     → standing_in es (q ++ n ∷ []) ≡ nothing → IsFlatTree (insert_entry path_cmp es (q ++ n ∷ []) s)
-planted es q n s h some lawful parent free =
+planted es q n s h some valid parent free =
     let t = h.tree in
     let at = by q parent in
     let none = nothing_at t at.0 q n at.1 (sym (stands_in_tree es t h.list (q ++ n ∷ []) (more_names q n)) ∙ free) in
@@ -109,7 +109,7 @@ planted es q n s h some lawful parent free =
         ordered = ordered_plant q n s t h.list.ordered;
         listing = ap (λ l. insert_entry path_cmp l (q ++ n ∷ []) s) h.list.listing ∙ sym (listed_plant q n s t at.0 some h.list.ordered at.1 none);
       };
-      paths = paths_inserted IsPath es (q ++ n ∷ []) s lawful h.paths;
+      paths = paths_inserted IsPath es (q ++ n ∷ []) s valid h.paths;
     }
   where
     by : (q : List Name) → (q ≡ []) ⊎ (standing_in es q ≡ a_directory) → (u : Tree NodeValue) × (tree_at h.tree q ≡ Some (whole u))
@@ -191,10 +191,10 @@ path_taken p d h some within =
 -- an entry at the first names of a path
 pub planted_at : (es : FlatValue) (p : List Name) (d : ℕ) (s : Standing NodeValue) → IsFlatTree es → IsPath p → 0 < d → d ≤ length p → s ≢ nothing
     → (d ≡ 1) ⊎ (standing_in es (take (d - 1) p) ≡ a_directory) → standing_in es (take d p) ≡ nothing → IsFlatTree (insert_entry path_cmp es (take d p) s)
-planted_at es p d s h lawful some within value parent free =
+planted_at es p d s h valid some within value parent free =
     let last = take_last d p some within in
     subst (λ q. IsFlatTree (insert_entry path_cmp es q s)) (sym last.1)
-    (planted es (take (d - 1) p) last.0 s h value (subst IsPath last.1 (path_taken p d lawful some within)) (by parent) (sym (ap (standing_in es) last.1) ∙ free))
+    (planted es (take (d - 1) p) last.0 s h value (subst IsPath last.1 (path_taken p d valid some within)) (by parent) (sym (ap (standing_in es) last.1) ∙ free))
   where
     by : (d ≡ 1) ⊎ (standing_in es (take (d - 1) p) ≡ a_directory) → (take (d - 1) p ≡ []) ⊎ (standing_in es (take (d - 1) p) ≡ a_directory)
     by (inl e) = inl (ap (λ i. take (i - 1) p) e)

@@ -29,7 +29,7 @@ pub mod FoldSteps
 pub mod ChildOrder
 pub mod UnfoldSteps
 pub mod ByPath
-pub mod LawfulTrees
+pub mod ValidTrees
 pub mod OwnDirectories
 pub mod FirstNames
 pub mod DifferenceSteps
@@ -56,7 +56,7 @@ pub mod MergeCounts
 pub mod MergePairs
 pub mod MergeTold
 pub mod MergeOpens
-pub mod MergeLawful
+pub mod MergeValid
 pub mod MergeJoins
 pub mod MergeTotal
 pub mod MergeFaults

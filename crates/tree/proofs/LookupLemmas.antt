@@ -15,12 +15,12 @@ use Rattle.tree.specs.Lookup.{Looked, nothing, LooksFrom, Looks, IsValue, Agrees
 use Rattle.tree.proofs.OrderLemmas.{IsOrderedAt, entry_ordered}
 use Rattle.tree.proofs.Children.{child-directory_of}
 use Rattle.tree.proofs.DirectoryBytes.{directory_bytes_injective}
-use Rattle.tree.proofs.TreeDigests.{lawful_digests, tree_digests, only_empty}
+use Rattle.tree.proofs.TreeDigests.{valid_digests, tree_digests, only_empty}
 
 -- what is told under a tree's root is the tree's Directory
 pub told_root : (B : Blobs) (t : Tree Leaf) (S : List ℕ → Type 0) (m : DirectoryValue) → ((b : List ℕ) → IsValue B b → S b) → S (top (form t)) → NoClash S → TellsDirectory B (root (form t)) m → m ≡ directory_of (form t)
 told_root B t S m values own apart told =
-    directory_bytes_injective m (directory_of (form t)) (lawful_digests m told.lawful) (tree_digests t) (held told.blob.held)
+    directory_bytes_injective m (directory_of (form t)) (valid_digests m told.valid) (tree_digests t) (held told.blob.held)
   where
     held : IsUnder B (root (form t)) (Some (directory_bytes m)) → directory_bytes m ≡ top (form t)
     held (inl h) =

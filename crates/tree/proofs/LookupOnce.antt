@@ -12,7 +12,7 @@ use Rattle.blob_source.specs.Source.{Blobs, IsUnder}
 use Rattle.blob_source.specs.Told.{IsTold, Fault, missing, wrong, malformed, IsFault, TellsDirectory, FailsDirectory}
 use Rattle.tree.specs.Lookup.{Looked, fault, LooksFrom, Looks}
 use Rattle.tree.proofs.DirectoryBytes.{directory_bytes_injective}
-use Rattle.tree.proofs.TreeDigests.{lawful_digests}
+use Rattle.tree.proofs.TreeDigests.{valid_digests}
 
 under_once : (B : Blobs) (d : DigestValue) (x y : Option (List ℕ)) → IsUnder B d x → IsUnder B d y → x ≡ y
 under_once B d x y (inl h) (inl k) = h.1 ∙ sym k.1
@@ -27,13 +27,13 @@ none_there : (B : Blobs) (d : DigestValue) (x : List ℕ) → IsUnder B d None �
 none_there B d x h k = let same : ◌≡◌ {A = Option (List ℕ)} None (Some x) = under_once B d None (Some x) h k in cc
 
 pub told_once : (B : Blobs) (d : DigestValue) (m n : DirectoryValue) → TellsDirectory B d m → TellsDirectory B d n → m ≡ n
-told_once B d m n h k = directory_bytes_injective m n (lawful_digests m h.lawful) (lawful_digests n k.lawful) (bytes_once B d (directory_bytes m) (directory_bytes n) h.blob.held k.blob.held)
+told_once B d m n h k = directory_bytes_injective m n (valid_digests m h.valid) (valid_digests n k.valid) (bytes_once B d (directory_bytes m) (directory_bytes n) h.blob.held k.blob.held)
 
 -- a message and a fault exclude each other
 pub told_or_fault : {M : Type 0} (keeps : M → Type 0) (spells : M → List ℕ) (B : Blobs) (d : DigestValue) (m : M) (f : Fault) → IsTold keeps spells B d m → IsFault keeps spells B d f → ⊥
 told_or_fault keeps spells B d m (missing e) h k = none_there B d (spells m) k.1 h.blob.held
 told_or_fault keeps spells B d m (wrong e) h k = k.1.other (subst (λ x. digest_of x ≡ d) (bytes_once B d (spells m) k.1.bytes h.blob.held k.1.held) h.blob.right)
-told_or_fault keeps spells B d m (malformed e) h k = k.1.no_message m h.lawful (bytes_once B d k.1.bytes (spells m) k.1.blob.held h.blob.held)
+told_or_fault keeps spells B d m (malformed e) h k = k.1.no_message m h.valid (bytes_once B d k.1.bytes (spells m) k.1.blob.held h.blob.held)
 
 -- a digest has one fault
 pub fault_once : {M : Type 0} (keeps : M → Type 0) (spells : M → List ℕ) (B : Blobs) (d : DigestValue) (f g : Fault) → IsFault keeps spells B d f → IsFault keeps spells B d g → f ≡ g

@@ -21,12 +21,12 @@ use Rattle.tree.specs.MergeAgrees.{IsBlobIn}
 use Rattle.tree.specs.Stage.{Stage, ◌and_then◌}
 use Rattle.tree.specs.Merging.{WithinValue, in_source, in_tree, NodeWithin, MergeLines, MergeFault, IsHeldIn, AreHeld, IsDirectoryNode, IsFirstIn, ReadsWithin, gives_node, is_repeated, counted, child_lines, node_opened, line_opened, opened, CanMeetAt, CanMeet, met, node_here, lone, stands_or, entry_merged, each_name, first_names, names_with, add_first, lines_at, merged_in, merged}
 use Rattle.tree.proofs.DirectoryBytes.{directory_bytes_injective}
-use Rattle.tree.proofs.TreeDigests.{lawful_digests, only_empty}
+use Rattle.tree.proofs.TreeDigests.{valid_digests, only_empty}
 use Rattle.tree.proofs.Listings.{all_join}
 use Rattle.tree.proofs.MergeBridge.{digest_is, all_at_name}
 use Rattle.tree.proofs.MergeCounts.{digest_itself}
 use Rattle.tree.proofs.MergeHeld.{next_first, first_among, opened_held}
-use Rattle.tree.proofs.MergeLawful.{read_lawful}
+use Rattle.tree.proofs.MergeValid.{read_valid}
 use Rattle.tree.proofs.MergePairs.{at_mapped, contains_mapped}
 use Rattle.tree.proofs.MergeStages.{all_lines_at, all_counted}
 
@@ -220,7 +220,7 @@ module _ (B : Blobs) (S : List ℕ → Type 0) (apart : NoClash S) (values : (b 
           let own : S (directory_bytes n.0) = is.second (directory_bytes n.0) (subst (λ w. IsBlobIn w (directory_bytes n.0)) (sym at) (contains_mapped directory_bytes (u.root ∷ u.children) n.0 (first_among (u.root ∷ u.children) d n.0 n.1))) in
           let bytes = same_bytes t.one is.first read n.0 own n.1.right in
           let same : n.0 ≡ m =
-          directory_bytes_injective n.0 m (lawful_digests n.0 (read_lawful B (in_tree u) d n.0 held n.1)) (lawful_digests m (read_lawful B t.one d m held_one read)) (sym bytes) in
+          directory_bytes_injective n.0 m (valid_digests n.0 (read_valid B (in_tree u) d n.0 held n.1)) (valid_digests m (read_valid B t.one d m held_one read)) (sym bytes) in
           subst (λ x. IsFirstIn (u.root ∷ u.children) d x) same n.1
 
   -- ---- what is opened

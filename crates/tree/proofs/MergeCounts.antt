@@ -1,4 +1,4 @@
--- Equal nodes count once: among blobs without a clash they are of one entry, so no entry is given up.
+-- Equal nodes count once: among blobs without a clash they are of one entry, so no entry is evicted.
 use Rattle.std.proofs.Common.{◌≡◌, ◌≢◌, ℕ, List, [], ◌∷◌, ◌++◌, refl, ap, sym, ◌∙◌, subst, Bool, true, false, cond}
 use Rattle.std.specs.Prelude.{◌||◌, Option, Some, None}
 use Rattle.std.specs.List.{AllByRecursion, list_any}

@@ -54,7 +54,7 @@ named [] m d (k, lt, e) h = absurd (omega arith)
 named (x ∷ ds) m d (zero, lt, e) h = Contains-append_left (node_digests x.directories) (named_by ds) d (subst (λ y. Contains (node_digests y.directories) d) (sym e) h)
 named (x ∷ ds) m d (suc k, lt, e) h = Contains-append_right (node_digests x.directories) (named_by ds) d (named ds m d (k, omega (arith, lt), e) h)
 
-module _ (t : TreeValue) (lawful : IsTree t) where
+module _ (t : TreeValue) (valid : IsTree t) where
   files_held : (fs : List FileNodeValue) → AreHeld (map (λ (f : FileNodeValue). (f.name ∷ [], record { node = File f.digest f.executable; within = in_tree t })) fs)
   files_held [] = tt
   files_held (f ∷ fs) = (tt, files_held fs)
@@ -66,13 +66,13 @@ module _ (t : TreeValue) (lawful : IsTree t) where
   directories_held : (ds : List DirectoryNodeValue) → ((d : DigestValue) → Contains (node_digests ds) d → Contains (digests_of (map directory_bytes (t.root ∷ t.children))) d)
       → AreHeld (map (λ (n : DirectoryNodeValue). (n.name ∷ [], record { node = Dir n.digest; within = in_tree t })) ds)
   directories_held [] h = tt
-  directories_held (n ∷ ds) h = ((lawful, h n.digest (0, omega arith, refl)), directories_held ds (λ d c. h d (behind n.digest (node_digests ds) d c)))
+  directories_held (n ∷ ds) h = ((valid, h n.digest (0, omega arith, refl)), directories_held ds (λ d c. h d (behind n.digest (node_digests ds) d c)))
 
   children_held : (m : DirectoryValue) → Contains (t.root ∷ t.children) m → AreHeld (child_lines (in_tree t) m)
   children_held m here =
       all_appended (λ g. IsHeldIn g.within g.node) _ _ (files_held m.files)
       (all_appended (λ g. IsHeldIn g.within g.node) _ _
-      (directories_held m.directories (λ d c. behind (digest_of (directory_bytes t.root)) (child_digests t) d (all_at (Contains (child_digests t)) (named_in t) d lawful.held (named (t.root ∷ t.children) m d here c))))
+      (directories_held m.directories (λ d c. behind (digest_of (directory_bytes t.root)) (child_digests t) d (all_at (Contains (child_digests t)) (named_in t) d valid.held (named (t.root ∷ t.children) m d here c))))
       (links_held m.symlinks))
 
 source_held : (fs : List FileNodeValue) (ds : List DirectoryNodeValue) (ls : List SymlinkNodeValue)

@@ -25,10 +25,10 @@ use Rattle.tree.proofs.Visits.{entry_behind}
 use Rattle.tree.proofs.OrderLemmas.{IsOrderedAt, entry_ordered}
 use Rattle.tree.proofs.LookupLemmas.{told_root, IsBlobOfEntry, entry_blobs}
 use Rattle.tree.proofs.DirectoryBytes.{directory_bytes_injective}
-use Rattle.tree.proofs.TreeDigests.{lawful_digests, tree_digests}
+use Rattle.tree.proofs.TreeDigests.{valid_digests, tree_digests}
 use Rattle.tree.proofs.Listings.{all_join}
 use Rattle.tree.proofs.MergeHeld.{behind, first_among}
-use Rattle.tree.proofs.MergeLawful.{read_lawful}
+use Rattle.tree.proofs.MergeValid.{read_valid}
 use Rattle.tree.proofs.MergeBridge.{same_test, AllNamed, HasNames, AreEntries, Opens, none_opened, dir_opened, line_kept}
 
 -- a node beside the entry whose node it is
@@ -266,7 +266,7 @@ module _ (B : Blobs) (S : List ℕ → Type 0) (apart : NoClash S) (values : (b 
   reads_tree : (w : WithinValue) (u : Tree Leaf) (m : DirectoryValue) → IsHeldIn w (Dir (root (form u))) → ((b : List ℕ) → IsBlobIn w b → S b) → S (top (form u)) → ReadsWithin B w (root (form u)) m → m ≡ directory_of (form u)
   reads_tree in_source u m held inside own told = told_root B u S m values own apart told
   reads_tree (in_tree t) u m held inside own first =
-      directory_bytes_injective m (directory_of (form u)) (lawful_digests m (read_lawful B (in_tree t) (root (form u)) m held first)) (tree_digests u)
+      directory_bytes_injective m (directory_of (form u)) (valid_digests m (read_valid B (in_tree t) (root (form u)) m held first)) (tree_digests u)
       (apart (directory_bytes m) (top (form u)) (inside (directory_bytes m) (contains_mapped directory_bytes (t.root ∷ t.children) m (first_among (t.root ∷ t.children) (root (form u)) m first))) own first.right)
 
   node_pairs : (g : NodeWithin) (u : Tree Leaf) → IsPair S (suc k) [] (g, whole u) → IsHeldIn g.within g.node → (here : MergeLines) → (node_opened B g.node g.within).passes here → given (children g.within u) ≡ here

@@ -83,7 +83,7 @@ explains_more P Q (Conflict path) f h = h
 explains_more P Q Fetch f h = h
 explains_more P Q Memory f h = h
 
--- what is the encoding of a Directory is refused for want of memory alone
+-- what is the encoding of a Directory is refused for lack of memory alone
 pub no_refusal : {T : Type 0} (e : MessageError) (m : T) → (e ≡ errors.Memory → ⊥) → FailsUnlessMemory e (Ok m) → ⊥
 no_refusal errors.Memory m other h = other refl
 no_refusal _ m other h = cc

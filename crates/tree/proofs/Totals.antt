@@ -41,7 +41,7 @@ module _ {M : Type 0} (keeps : M → Type 0) (spells : M → List ℕ) (B : Blob
             record {
               bytes = b;
               blob = record { held = h; right = right };
-              no_message = λ m lawful is. told m (record { lawful = lawful; blob = record { held = subst (λ x. IsUnder B d (Some x)) is h; right = ap digest_of (sym is) ∙ right } });
+              no_message = λ m valid is. told m (record { valid = valid; blob = record { held = subst (λ x. IsUnder B d (Some x)) is h; right = ap digest_of (sym is) ∙ right } });
             },
           );
         },
@@ -76,14 +76,14 @@ child_kept m h n (File d executable) here = (all_in IsFileNode m.files _ h.files
 child_kept m h n (Dir d) here = (all_in IsDirectoryNode m.directories _ h.directories here).digest
 child_kept m h n (Link target) here = (all_in IsSymlinkNode m.symlinks _ h.symlinks here).target
 
-pub child_lawful : (m : DirectoryValue) → IsDirectory m → (n : Name) (x : NodeValue) → child n m ≡ Some x → IsNode x
-child_lawful m h n x is = child_kept m h n x (subst (IsChild {A = Unit {0}} n m) is (child_stands (Unit {0}) n m))
+pub child_valid : (m : DirectoryValue) → IsDirectory m → (n : Name) (x : NodeValue) → child n m ≡ Some x → IsNode x
+child_valid m h n x is = child_kept m h n x (subst (IsChild {A = Unit {0}} n m) is (child_stands (Unit {0}) n m))
 
-module _ (Reads : DigestValue → DirectoryValue → Type 0) (Fails : DigestValue → Fault → Type 0) (lawful : (d : DigestValue) (m : DirectoryValue) → Reads d m → IsDirectory m) where
-  pub looks_lawful : (p : List Name) (o : Option NodeValue) → ((x : NodeValue) → o ≡ Some x → IsNode x) → (y : NodeValue) → LooksFrom Reads Fails p o (found y) → IsNode y
-  looks_lawful p None is y e = absurd cc
-  looks_lawful [] (Some x) is y e = let same : y ≡ x = cc in subst IsNode (sym same) (is x refl)
-  looks_lawful (n ∷ p) (Some (File d executable)) is y e = absurd cc
-  looks_lawful (n ∷ p) (Some (Link target)) is y e = absurd cc
-  looks_lawful (n ∷ p) (Some (Dir d)) is y (inl h) = looks_lawful p (child n h.0) (child_lawful h.0 (lawful d h.0 h.1) n) y h.2
-  looks_lawful (n ∷ p) (Some (Dir d)) is y (inr h) = absurd (let e = h.2 in cc)
+module _ (Reads : DigestValue → DirectoryValue → Type 0) (Fails : DigestValue → Fault → Type 0) (valid : (d : DigestValue) (m : DirectoryValue) → Reads d m → IsDirectory m) where
+  pub looks_valid : (p : List Name) (o : Option NodeValue) → ((x : NodeValue) → o ≡ Some x → IsNode x) → (y : NodeValue) → LooksFrom Reads Fails p o (found y) → IsNode y
+  looks_valid p None is y e = absurd cc
+  looks_valid [] (Some x) is y e = let same : y ≡ x = cc in subst IsNode (sym same) (is x refl)
+  looks_valid (n ∷ p) (Some (File d executable)) is y e = absurd cc
+  looks_valid (n ∷ p) (Some (Link target)) is y e = absurd cc
+  looks_valid (n ∷ p) (Some (Dir d)) is y (inl h) = looks_valid p (child n h.0) (child_valid h.0 (valid d h.0 h.1) n) y h.2
+  looks_valid (n ∷ p) (Some (Dir d)) is y (inr h) = absurd (let e = h.2 in cc)

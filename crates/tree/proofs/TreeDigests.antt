@@ -63,8 +63,8 @@ directories_digests : (fs : List DirectoryNodeValue) → AllByRecursion IsDirect
 directories_digests [] h = tt
 directories_digests (f ∷ fs) h = (h.0.digest, directories_digests fs h.1)
 
-pub lawful_digests : (m : DirectoryValue) → IsDirectory m → HasDigests m
-lawful_digests m h = record { files = files_digests m.files h.files; directories = directories_digests m.directories h.directories }
+pub valid_digests : (m : DirectoryValue) → IsDirectory m → HasDigests m
+valid_digests m h = record { files = files_digests m.files h.files; directories = directories_digests m.directories h.directories }
 
 pub tree_digests : (t : Tree Leaf) → HasDigests (directory_of (form t))
 tree_digests empty = record { files = tt; directories = tt }

@@ -153,7 +153,7 @@ more_paths above done more h k =
 
 pub unfolds_leaf : (B C : Blobs) (d : DigestValue) (above : List Name) (old mid new : FlatValue) (n : Name) (x : NodeValue) (path : List Name) (rest : List (Name × NodeValue)) → Grows B C
     → Unfolds B d above old mid ((n, x) ∷ rest) → path ≡ above ++ n ∷ [] → IsPath path → new ≡ mid ++ (path, a_leaf x) ∷ [] → Unfolds C d above old new rest
-unfolds_leaf B C d above old mid new n x path rest g h is lawful at =
+unfolds_leaf B C d above old mid new n x path rest g h is valid at =
     let one : Tree NodeValue = leaf n x empty in
     let same = beside_assoc h.done one (leaves rest) in
     record {
@@ -164,12 +164,12 @@ unfolds_leaf B C d above old mid new n x path rest g h is lawful at =
       ordered = subst IsOrdered (sym same) h.ordered;
       told = tells_beside C h.done one (tells_still B C h.done g h.told) tt;
       entries = more_entries above h.done one old mid new ((path, a_leaf x) ∷ []) h.entries (ap (λ p. (p, a_leaf x) ∷ []) is) at;
-      paths = more_paths above h.done one h.paths (subst IsPath is lawful, tt);
+      paths = more_paths above h.done one h.paths (subst IsPath is valid, tt);
     }
 
 pub unfolds_folder : (B C : Blobs) (top : DigestValue) (above : List Name) (old mid pushed new : FlatValue) (n : Name) (d : DigestValue) (path : List Name) (rest : List (Name × NodeValue)) → Grows B C
     → Unfolds B top above old mid ((n, Dir d) ∷ rest) → path ≡ above ++ n ∷ [] → IsPath path → pushed ≡ mid ++ (path, a_directory) ∷ [] → Appends C d path pushed new → Unfolds C top above old new rest
-unfolds_folder B C top above old mid pushed new n d path rest g h is lawful at inside =
+unfolds_folder B C top above old mid pushed new n d path rest g h is valid at inside =
     let one : Tree NodeValue = folder n inside.tree empty in
     let same = beside_assoc h.done one (leaves rest) in
     let fs : FlatValue = (path, a_directory) ∷ prefixed path (listed inside.tree) in
@@ -185,7 +185,7 @@ unfolds_folder B C top above old mid pushed new n d path rest g h is lawful at i
       ordered = subst IsOrdered (sym same) (ordered_opened h.done n (Dir d) inside.tree (leaves rest) inside.ordered h.ordered);
       told = tells_beside C h.done one (tells_still B C h.done g h.told) ((subst (λ e. TellsDirectory C e (directory_of inside.tree)) (sym inside.told.root) inside.told.top, inside.told.below), tt);
       entries = more_entries above h.done one old mid new fs h.entries listing split;
-      paths = more_paths above h.done one h.paths (subst (λ l. AllByRecursion (λ e. IsPath e.0) l) listing (lawful, inside.paths));
+      paths = more_paths above h.done one h.paths (subst (λ l. AllByRecursion (λ e. IsPath e.0) l) listing (valid, inside.paths));
     }
 
 pub unfolds_end : (B : Blobs) (d : DigestValue) (above : List Name) (old new : FlatValue) → Unfolds B d above old new [] → Appends B d above old new

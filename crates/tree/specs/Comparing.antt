@@ -26,7 +26,7 @@ encodings_in own = items_of own.encodings.now
 -- they are encodings of Directories, and beside them stand their digests
 pub record AreOwn {A : Type 0} (own : OwnDirectories A) : Type 0 where
   pub digests : own.digests.now ≡ map digest_of (encodings_in own)
-  pub lawful : AllByRecursion IsEncoding (encodings_in own)
+  pub valid : AllByRecursion IsEncoding (encodings_in own)
 
 -- ---- two children of one name
 

@@ -38,7 +38,7 @@ pub record IsListOf (entries : FlatValue) (t : Tree NodeValue) : Type 0 where
   pub ordered : IsOrdered t
   pub listing : entries ≡ listed t
 
--- A flat tree: the list of some tree, with lawful paths.
+-- A flat tree: the list of some tree, with valid paths.
 pub record IsFlatTree (entries : FlatValue) : Type 0 where
   pub tree : Tree NodeValue
   pub list : IsListOf entries tree

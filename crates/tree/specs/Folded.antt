@@ -35,22 +35,22 @@ pub record IsFoldOf {A : Type 0} (t : Tree NodeValue) (f : Folded A) : Type 0 wh
   pub root : f.root ≡ root t
   pub directories : map (λ (v : Vec ℕ A). v.items) f.directories.items ≡ first_visits t
 
--- ---- trees whose Directories are lawful
+-- ---- trees whose Directories are valid
 
 abbrev pub IsNode : NodeValue → Type 0
 IsNode (File d executable) = IsDigest d
 IsNode (Link target) = IsTarget target
 IsNode (Dir d) = IsDigest d
 
--- every name is one, and every leaf is a lawful node
-abbrev pub AreLawful : Tree NodeValue → Type 0
-AreLawful empty = Unit {0}
-AreLawful (leaf n x rest) = (IsName n × IsNode x) × AreLawful rest
-AreLawful (folder n below rest) = (IsName n × AreLawful below) × AreLawful rest
+-- every name is one, and every leaf is a valid node
+abbrev pub AreValid : Tree NodeValue → Type 0
+AreValid empty = Unit {0}
+AreValid (leaf n x rest) = (IsName n × IsNode x) × AreValid rest
+AreValid (folder n below rest) = (IsName n × AreValid below) × AreValid rest
 
--- the fold of a tree whose Directories are lawful
-pub record IsFoldOfLawful {A : Type 0} (f : Folded A) : Type 0 where
+-- the fold of a tree whose Directories are valid
+pub record IsFoldOfValid {A : Type 0} (f : Folded A) : Type 0 where
   pub tree : Tree NodeValue
   pub ordered : IsOrdered tree
-  pub lawful : AreLawful tree
+  pub valid : AreValid tree
   pub fold : IsFoldOf tree f

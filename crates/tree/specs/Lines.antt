@@ -10,6 +10,6 @@ use Rattle.tree.specs.Folded.{IsNode}
 abbrev pub lines_of : {A : Type 0} → List (List Name × Node A) → List (List Name × NodeValue)
 lines_of lines = map (λ l. (l.0, node_value l.1)) lines
 
--- a lawful line
+-- a valid line
 abbrev pub IsGraftLine : List Name × NodeValue → Type 0
 IsGraftLine l = AllByRecursion IsName l.0 × IsNode l.1

@@ -45,11 +45,11 @@ abbrev pub IsVisitOfMerged : {A : Type 0} → Stage MergeFault (Tree NodeValue) 
 IsVisitOfMerged check v = (t : Tree NodeValue) × check.passes t × IsVisitOf t v
 
 -- a line whose names and node keep their rules
-abbrev pub IsLawfulLine : List Name × NodeWithin → Type 0
-IsLawfulLine l = IsGraftLine (l.0, l.1.node)
+abbrev pub IsValidLine : List Name × NodeWithin → Type 0
+IsValidLine l = IsGraftLine (l.0, l.1.node)
 
-abbrev pub AreLawfulLines : MergeLines → Type 0
-AreLawfulLines ls = AllByRecursion IsLawfulLine ls
+abbrev pub AreValidLines : MergeLines → Type 0
+AreValidLines ls = AllByRecursion IsValidLine ls
 
 -- the nodes that lines give at the path itself
 abbrev pub AreGivenBy : MergeLines → List NodeValue → Type 0

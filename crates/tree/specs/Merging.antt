@@ -129,7 +129,7 @@ abbrev pub FailsWithin : Blobs → WithinValue → DigestValue → Fault → Typ
 FailsWithin B in_source d f = FailsDirectory B d f
 FailsWithin B (in_tree t) d f = ⊥
 
--- a directory within a lawful Tree is its root or one of its children
+-- a directory within a valid Tree is its root or one of its children
 abbrev pub IsHeldIn : WithinValue → NodeValue → Type 0
 IsHeldIn (in_tree t) (Dir d) =
     IsTree t × Contains (digests_of (map directory_bytes (t.root ∷ t.children))) d

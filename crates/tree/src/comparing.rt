@@ -5,7 +5,7 @@ ghost use Rattle.blob_digest.specs.Digest.{digest_of};
 ghost use Rattle.tree.specs.Comparing.{encodings_in, AreOwn};
 ghost use Rattle.tree.specs.Difference.{ReadsDirectory, FailsToRead, LeavesOwn, Finds, FindsFirst};
 ghost use Rattle.tree.specs.Difference.{made_by, differing, ExplainsDifference};
-ghost use Rattle.tree.specs.Folded.{IsFoldOfLawful};
+ghost use Rattle.tree.specs.Folded.{IsFoldOfValid};
 ghost use Rattle.tree.specs.Lookup.{names_in};
 ghost use Rattle.blob_source.specs.Source.{Asks};
 ghost use Rattle.blob_source.specs.Called.{Calls};
@@ -152,7 +152,7 @@ pub fn first_difference_with<A: Allocator + Copy, S: BlobSource<A>>(
     memo: &mut Memo<A>,
     source: &mut S,
 ) -> Result<Option<Difference<A>>, TreeError<A>>
-    requires lawful { IsFoldOfLawful grafted.now }
+    requires valid { IsFoldOfValid grafted.now }
     requires known { IsKnownOf (known_by memo.old) (S.tells source.old) }
     ensures same { IfOk result (λ o. IsNone o ↔ (recorded.now ≡ grafted.now.root)) }
     ensures found { IfOk result (λ o. IfSome o (λ x. FindsFirst (made_by grafted.now)
@@ -191,7 +191,7 @@ pub fn first_difference<A: Allocator + Copy, S: BlobSource<A>>(
     recorded: &Digest,
     source: &mut S,
 ) -> Result<Option<Difference<A>>, TreeError<A>>
-    requires { IsFoldOfLawful grafted.now }
+    requires { IsFoldOfValid grafted.now }
     ensures same { IfOk result (λ o. IsNone o ↔ (recorded.now ≡ grafted.now.root)) }
     ensures found { IfOk result (λ o. IfSome o (λ x. FindsFirst (made_by grafted.now)
         (S.tells source.new).blobs grafted.now.root recorded.now (differing x))) }

@@ -56,7 +56,7 @@ impl<S> FailSink<S> {
         self.failures
     }
 
-    /// Counts a failure. One whose count is full is want of memory instead.
+    /// Counts a failure. One whose count is full is lack of memory instead.
     fn fail<T>(&mut self) -> Result<T, FetchError>
         ensures err { IsErr result }
         ensures failed { failures_of self.old < greatest_count → IsErrOf result FetchError.Failed }

@@ -104,7 +104,7 @@ fn grow<A: Allocator + Copy>(
     requires flat { IsFlatTree (flat_value entries.old.entries) }
     requires some { 0 < depth }
     requires within { depth ≤ length names.now }
-    requires lawful { IsPath names.now }
+    requires valid { IsPath names.now }
     requires parent { (depth ≡ 1)
         ⊎ (standing_in (flat_value entries.old.entries) (take (depth - 1) names.now)
         ≡ a_directory) }

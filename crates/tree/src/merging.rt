@@ -7,7 +7,7 @@ ghost use Rattle.tree.specs.Tree.{name_cmp};
 ghost use Rattle.blob_source.specs.Called.{Called};
 ghost use Rattle.messages.specs.Path.{IsPath};
 ghost use Rattle.messages.specs.declared.node.Node.TheVariants.{Dir};
-ghost use Rattle.tree.specs.Folded.{IsFoldOfLawful, IsNode};
+ghost use Rattle.tree.specs.Folded.{IsFoldOfValid, IsNode};
 ghost use Rattle.tree.specs.Form.{node_value};
 ghost use Rattle.tree.specs.Lookup.{names_in};
 ghost use Rattle.tree.specs.Memo.{IsKnownOf, WasRefused, Learns, known_by};
@@ -18,7 +18,7 @@ ghost use Rattle.tree.specs.Merging.{child_lines};
 ghost use Rattle.tree.specs.Merging.{WithinValue, in_source, in_tree};
 ghost use Rattle.tree.specs.MergeLooks.{MergeLooksAt, MergeLooksIn, NodeLooksAt, OpenedLooksAt};
 ghost use Rattle.tree.specs.MergeParts.{IsVisitOfMerged, found_parts, group_values, part_value, within_of};
-ghost use Rattle.tree.specs.MergeParts.{AreLawfulLines, CountsAfter, part_values};
+ghost use Rattle.tree.specs.MergeParts.{AreValidLines, CountsAfter, part_values};
 
 use crate::error::TreeError;
 use crate::folding::{Folded, each_once};
@@ -366,7 +366,7 @@ fn merge_below<A: Allocator + Copy, S: BlobSource<A>>(
 /// The same node, over memory of its own.
 fn copy_node<A: Allocator + Copy>(alloc: A, node: &Node<A>) -> Result<Node<A>, AllocError>
     ensures copy { IfOk result (λ copy. copy ≡ node.now) }
-    ensures lawful { IfOk result (λ copy. IsNode (node_value node.now)) }
+    ensures valid { IfOk result (λ copy. IsNode (node_value node.now)) }
 {
     Ok(match node {
         Node::File { digest, executable } => {
@@ -396,7 +396,7 @@ fn first_parts<A: Allocator + Copy>(
 ) -> Result<Vec<Part<A>, A>, AllocError>
     ensures parts { IfOk result
         (λ v. part_values (within_of lines.now) v.items ≡ merge_lines lines.now) }
-    ensures lawful { IfOk result (λ v. AreLawfulLines (merge_lines lines.now)) }
+    ensures valid { IfOk result (λ v. AreValidLines (merge_lines lines.now)) }
 {
     let mut parts = Vec::new(alloc);
     for (index, line) in lines.iter().enumerate() {
@@ -424,7 +424,7 @@ pub fn merge<A: Allocator + Copy, S: BlobSource<A>>(
     requires held { AreHeld (merge_lines lines.now) }
     ensures merged { IfOk result
         (IsFoldOfMerged (merged (S.tells source.new).blobs (merge_lines lines.now))) }
-    ensures lawful { IfOk result (λ folded. IsFoldOfLawful folded) }
+    ensures valid { IfOk result (λ folded. IsFoldOfValid folded) }
     ensures refused { IfErr result (ExplainsMerge
         (merged (S.tells source.new).blobs (merge_lines lines.now)).fails) }
     ensures called { Called (S.tells source.old) (S.tells source.new)

@@ -114,7 +114,7 @@ module _ {A : Type 0} where
         k.2,
       )) h
 
--- a refusal other than want of memory isn't told of what is read
+-- a refusal other than lack of memory isn't told of what is read
 pub not_read : {X : Type 0} (e : MessageError) (x : X) → (e ≡ Memory → ⊥) → FailsUnlessMemory {Y = X} e (Ok x) → ⊥
 not_read {X} e x other h = elim e as (λ d. (d ≡ Memory → ⊥) → FailsUnlessMemory {Y = X} d (Ok x) → ⊥) [ Memory ↦ λ k t. k refl | _ ↦ λ k t. cc ] other h
 

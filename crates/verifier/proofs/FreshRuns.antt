@@ -45,8 +45,8 @@ use Rattle.verifier.specs.AsRecorded.{IsPlanAsRecorded}
 use Rattle.verifier.specs.Build.{Meaning, ActionMeaning, action_digest, Outcome, output_at, StepFits, MeaningFits, Event, start, finish, lose, State, opening, outcome_of, job_of, origin_at, origins, graft_of, step_action, action_of, started, finished, lost, happens, IsTable, Obeys, IsRun, HasFinishedAll}
 use Rattle.verifier.specs.Headline.{IsDirectoryInTree, IsBlobOfEntry, IsBlobOfAction, IsBlobOfOutcome, IsBlobOfEvent, IsBlobOfEvents, IsBlobOfChosen, HasFinished, IsNotStuck, IsAsChosen}
 use Rattle.verifier.specs.Recorded.{Agrees, IsRecordedAs, RecordsAt}
-use Rattle.verifier.proofs.HeldOrigins.{IsLawfulTree, source_held, outcome_held}
-use Rattle.verifier.proofs.LinesTold.{lawful_tree, tree_blobs, IsRead, LinesTell, no_lines, one_more, told_graft}
+use Rattle.verifier.proofs.HeldOrigins.{IsValidTree, source_held, outcome_held}
+use Rattle.verifier.proofs.LinesTold.{valid_tree, tree_blobs, IsRead, LinesTell, no_lines, one_more, told_graft}
 use Rattle.verifier.proofs.OutputLookups.{HoldsTree, HoldsOutput, mapped_from, output_found, outputs_tell}
 use Rattle.verifier.proofs.RecordedSteps.{get_other, as_many, IsRecordedStep, step_at}
 use Rattle.verifier.proofs.Targets.{ArePaths, paths_of, step_paths, some_names, output_ordered}
@@ -111,7 +111,7 @@ module _ (S : List ℕ → Type 0) (apart : NoClash S) where
   module _ (B C : Blobs) (t : Tree Leaf) (chosen : List (ActionMeaning × Outcome)) (within : Within S B t chosen) where
     -- the Trees of a recorded outcome
     holds_told : (d : DigestValue) (u : TreeValue) → IsTold IsTree tree_bytes B d u → HoldsTree S apart u
-    holds_told d u told = record { lawful = told.lawful; held = λ m inside. within.directories (directory_bytes m) (u, told.lawful, by told.blob.held, m, inside, refl) }
+    holds_told d u told = record { valid = told.valid; held = λ m inside. within.directories (directory_bytes m) (u, told.valid, by told.blob.held, m, inside, refl) }
       where
         by : IsUnder B d (Some (tree_bytes u)) → IsValue B (tree_bytes u)
         by (inl h) = absurd (tree_bytes_some u (let both : ◌≡◌ {A = Option (List ℕ)} (Some (tree_bytes u)) (Some []) = h.1 in cc))
@@ -212,8 +212,8 @@ module _ (S : List ℕ → Type 0) (apart : NoClash S) where
           by None is = tt
           by (Some o) is =
               let e = found_one IsPublished j s.done o keeps.done is in
-              let lawful = (table.actions e.0.0 e.0.1 (pair_in_table j e.0 e.1)).1 in
-              subst (λ (z : Outcome). IsOrderedAt (output_at z.outputs p)) (sym e.2) (output_ordered e.0.1.outputs p lawful.outputs)
+              let valid = (table.actions e.0.0 e.0.1 (pair_in_table j e.0 e.1)).1 in
+              subst (λ (z : Outcome). IsOrderedAt (output_at z.outputs p)) (sym e.2) (output_ordered e.0.1.outputs p valid.outputs)
 
       -- ---- lines and their grafts
 
@@ -250,7 +250,7 @@ module _ (S : List ℕ → Type 0) (apart : NoClash S) where
           let holds : (e : List Name × OutputValue) → Contains v.outputs e → HoldsOutput S apart e.1 =
           subst (λ (o : OutcomeValue). (e : List Name × OutputValue) → Contains o.outputs e → HoldsOutput S apart e.1) same (holds_outputs told.recorded c.kept.outcome.outputs told.outputs) in
           record {
-            held = outcome_held v (subst IsOutcome same told.lawful) (λ e here. lawful_tree apart e.1 (holds e here)) p x k.node.2 lies;
+            held = outcome_held v (subst IsOutcome same told.valid) (λ e here. valid_tree apart e.1 (holds e here)) p x k.node.2 lies;
             blobs = λ b q. tree_blobs apart lies.0.1 (holds lies.0 lies.1) b (subst (λ w. IsBlobIn w b) lies.3 q);
           }
 
@@ -337,24 +337,24 @@ module _ (S : List ℕ → Type 0) (apart : NoClash S) where
       takes_chosen s keeps i a p c blobs =
           let A = c.pair.0 in
           let r = c.kept.step in
-          let lawful = (table.actions A c.pair.1 c.in_table).0 in
+          let valid = (table.actions A c.pair.1 c.in_table).0 in
           let picked : (b : List ℕ) → IsBlobOfAction A b → S b = λ b k. within.picked b (c.pair, holds_at chosen i c.pair c.pair_at, inl k) in
           -- the recorded Action is that of the chosen action
           let spelled = told_bytes B c.kept.digest (action_bytes r.action) (action_bytes (with_input A.frame (root (form A.input)))) within.values r.action_told.blob (picked _ (inl (inl refl))) c.digest in
-          let told = action_bytes_injective r.action (with_input A.frame (root (form A.input))) r.action_told.lawful (record { frame = lawful.frame; input = IsDigest-digest_of (top (form A.input)) }) spelled in
+          let told = action_bytes_injective r.action (with_input A.frame (root (form A.input))) r.action_told.valid (record { frame = valid.frame; input = IsDigest-digest_of (top (form A.input)) }) spelled in
           let told_frame : r.action.frame ≡ A.frame = ap (λ (x : ActionValue). x.frame) told in
           let told_input : r.action.input ≡ root (form A.input) = ap (λ (x : ActionValue). x.input) told in
           -- so the plan's frame is its frame
           let frames = apart (frame_bytes a.frame) (frame_bytes A.frame) (blobs _ (inl (inr refl))) (picked _ (inl (inr refl))) (p.fit.frame_digest ∙ sym r.frame ∙ ap (λ f. digest_of (frame_bytes f)) told_frame) in
-          let frame = frame_bytes_injective a.frame A.frame p.fit.frame_lawful lawful.frame frames in
+          let frame = frame_bytes_injective a.frame A.frame p.fit.frame_valid valid.frame frames in
           -- the command is its command
-          let commands = apart (command_bytes a.command) (command_bytes A.command) (blobs _ (inr (inl refl))) (picked _ (inr (inl refl))) (sym p.fit.command_digest ∙ ap (λ (f : FrameValue). f.command) frame ∙ lawful.named) in
-          let command = command_bytes_injective a.command A.command p.fit.command_lawful lawful.command commands in
+          let commands = apart (command_bytes a.command) (command_bytes A.command) (blobs _ (inr (inl refl))) (picked _ (inr (inl refl))) (sym p.fit.command_digest ∙ ap (λ (f : FrameValue). f.command) frame ∙ valid.named) in
+          let command = command_bytes_injective a.command A.command p.fit.command_valid valid.command commands in
           -- and the graft of the lines is its input
           let g = grafts s keeps p.step.lines (step_paths [] plan.steps rules.steps i p.step p.at) r.nodes r.resolved r.tree r.put_together (graft_finished s p.step.lines a.input p.grafted) in
           let same : g.0 ≡ a.input = one_answer (graft_of t s p.step.lines) g.0 a.input g.1 p.grafted in
           let roots : root (form a.input) ≡ root (form A.input) = ap (λ u. root (form u)) (sym same) ∙ g.2 ∙ r.input ∙ told_input in
-          let input = same_root S apart a.input A.input (subst IsOrdered same g.3) lawful.input (λ b q. blobs b (inr (inr q))) (λ b q. picked b (inr (inr q))) roots in
+          let input = same_root S apart a.input A.input (subst IsOrdered same g.3) valid.input (λ b q. blobs b (inr (inr q))) (λ b q. picked b (inr (inr q))) roots in
           λ i. record { frame = frame i; command = command i; input = input i }
 
       -- each event keeps it

@@ -20,11 +20,11 @@ use Rattle.tree.specs.Merging.{in_source, in_tree, NodeWithin, MergeLines, IsHel
 use Rattle.blob_source.specs.Source.{Blobs}
 use Rattle.verifier.specs.Accepted.{StandsAtOrigin, Resolves}
 
--- a Tree that is an output is lawful
-abbrev pub IsLawfulTree : OutputValue → Type 0
-IsLawfulTree (File digest executable) = Unit {0}
-IsLawfulTree (Link target) = Unit {0}
-IsLawfulTree (Tree t) = IsTree t
+-- a Tree that is an output is valid
+abbrev pub IsValidTree : OutputValue → Type 0
+IsValidTree (File digest executable) = Unit {0}
+IsValidTree (Link target) = Unit {0}
+IsValidTree (Tree t) = IsTree t
 
 pub source_held : (x : NodeValue) → IsHeldIn in_source x
 source_held (nodes.File d e) = tt
@@ -37,17 +37,17 @@ held_push (y ∷ xs) x h k = (h.0, held_push xs x h.1 k)
 
 -- ---- directories of a Tree
 
-module _ (t : TreeValue) (lawful : IsTree t) where
+module _ (t : TreeValue) (valid : IsTree t) where
   abbrev IsOwn : NodeValue → Type 0
   IsOwn x = (d : DigestValue) → x ≡ nodes.Dir d → Contains (digests_of (map directory_bytes (t.root ∷ t.children))) d
 
   own_held : (x : NodeValue) → IsOwn x → IsHeldIn (in_tree t) x
   own_held (nodes.File d e) own = tt
   own_held (nodes.Link l) own = tt
-  own_held (nodes.Dir d) own = (lawful, own d refl)
+  own_held (nodes.Dir d) own = (valid, own d refl)
 
   own_child : (m : DirectoryValue) → Contains (t.root ∷ t.children) m → (n : Name) (x : NodeValue) → child n m ≡ Some x → IsOwn x
-  own_child m here n x is = λ d e. behind (digest_of (directory_bytes t.root)) (child_digests t) d (child_named {A = Unit {0}} t m n x lawful here (sym is) d e)
+  own_child m here n x is = λ d e. behind (digest_of (directory_bytes t.root)) (child_digests t) d (child_named {A = Unit {0}} t m n x valid here (sym is) d e)
 
   found_is : {x y : NodeValue} → found x ≡ found y → x ≡ y
   found_is e = cc
@@ -61,26 +61,26 @@ module _ (t : TreeValue) (lawful : IsTree t) where
   looks_own (n ∷ p) (Some (nodes.Dir d)) x own (inr h) = elim h.1 [ ]
 
   pub tree_held : (names : List Name) (x : NodeValue) → LooksBelow (Tree t) names (found x) → IsHeldIn (in_tree t) x
-  tree_held [] x h = subst (IsHeldIn (in_tree t)) (sym (found_is h)) (lawful, (0, omega arith, refl))
+  tree_held [] x h = subst (IsHeldIn (in_tree t)) (sym (found_is h)) (valid, (0, omega arith, refl))
   tree_held (n ∷ names) x h = own_held x (looks_own names (child n t.root) x (own_child t.root (root_there t) n) h)
 
-below_held : (v : OutputValue) → IsLawfulTree v → (names : List Name) (x : NodeValue) → LooksBelow v names (found x) → IsHeldIn (within_output v) x
-below_held (File d e) lawful names x h = source_held x
-below_held (Link l) lawful names x h = source_held x
-below_held (Tree t) lawful names x h = tree_held t lawful names x h
+below_held : (v : OutputValue) → IsValidTree v → (names : List Name) (x : NodeValue) → LooksBelow v names (found x) → IsHeldIn (within_output v) x
+below_held (File d e) valid names x h = source_held x
+below_held (Link l) valid names x h = source_held x
+below_held (Tree t) valid names x h = tree_held t valid names x h
 
 -- ---- origins
 
-pub outcome_held : (o : OutcomeValue) → IsOutcome o → ((e : List Name × OutputValue) → Contains o.outputs e → IsLawfulTree e.1) → (p : List Name) (x : NodeWithin) → LooksIn o p (found x.node) → LiesWithin o p x.within → IsHeldIn x.within x.node
-outcome_held o lawful trees p x (inr h) within = absurd (let e = h.1 in cc)
-outcome_held o lawful trees p x (inl (e, here, names, path, look)) within =
-    let same = within_once o p (within_output e.1) x.within lawful (e, here, (names, path), refl) within in
+pub outcome_held : (o : OutcomeValue) → IsOutcome o → ((e : List Name × OutputValue) → Contains o.outputs e → IsValidTree e.1) → (p : List Name) (x : NodeWithin) → LooksIn o p (found x.node) → LiesWithin o p x.within → IsHeldIn x.within x.node
+outcome_held o valid trees p x (inr h) within = absurd (let e = h.1 in cc)
+outcome_held o valid trees p x (inl (e, here, names, path, look)) within =
+    let same = within_once o p (within_output e.1) x.within valid (e, here, (names, path), refl) within in
     subst (λ w. IsHeldIn w x.node) same (below_held e.1 (trees e here) names x.node look)
 
--- outcomes whose Trees are lawful
+-- outcomes whose Trees are valid
 pub record AreWithTrees (os : List OutcomeValue) : Type 0 where
-  pub lawful : (i : ℕ) (o : OutcomeValue) → slice_get os i ≡ Some o → IsOutcome o
-  pub trees : (i : ℕ) (o : OutcomeValue) → slice_get os i ≡ Some o → (e : List Name × OutputValue) → Contains o.outputs e → IsLawfulTree e.1
+  pub valid : (i : ℕ) (o : OutcomeValue) → slice_get os i ≡ Some o → IsOutcome o
+  pub trees : (i : ℕ) (o : OutcomeValue) → slice_get os i ≡ Some o → (e : List Name × OutputValue) → Contains o.outputs e → IsValidTree e.1
 
 module _ (B : Blobs) (sources : DigestValue) (os : List OutcomeValue) (all : AreWithTrees os) where
   one_there : (i : ℕ) (o v : OutcomeValue) → slice_get os i ≡ Some o → slice_get os i ≡ Some v → o ≡ v
@@ -90,7 +90,7 @@ module _ (B : Blobs) (sources : DigestValue) (os : List OutcomeValue) (all : Are
   origin_held (source p) x h = subst (λ w. IsHeldIn w x.node) (sym h.within) (source_held x.node)
   origin_held (output i p) x h =
       let v = h.node.0 in
-      outcome_held v (all.lawful i v h.node.1) (all.trees i v h.node.1) p x h.node.2 (subst (λ o. LiesWithin o p x.within) (one_there i h.within.0 v h.within.1 h.node.1) h.within.2)
+      outcome_held v (all.valid i v h.node.1) (all.trees i v h.node.1) p x h.node.2 (subst (λ o. LiesWithin o p x.within) (one_there i h.within.0 v h.within.1 h.node.1) h.within.2)
 
   pub resolves_held : (ls : List LineValue) (xs : MergeLines) → Resolves B sources os ls xs → AreHeld xs
   resolves_held [] xs h = subst AreHeld (sym h) tt

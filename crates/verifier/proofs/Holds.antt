@@ -17,7 +17,7 @@ use Rattle.verifier.specs.Verdict.{IsVerdict, IsYes}
 use Rattle.verifier.proofs.FreshRuns.{Within, runs_keep, end_tree, ends_in_claim, nothing_is_stuck, runs_as_chosen}
 use Rattle.verifier.proofs.Passing.{yes_recorded}
 
-module _ (B C : Blobs) (sources : DigestValue) (plan : PlanValue) (ds : List DigestValue) (claim : DigestValue) (lawful : IsPlan plan) (h : IsPlanAsRecorded B C sources plan ds claim) where
+module _ (B C : Blobs) (sources : DigestValue) (plan : PlanValue) (ds : List DigestValue) (claim : DigestValue) (valid : IsPlan plan) (h : IsPlanAsRecorded B C sources plan ds claim) where
   -- what is concerned in a run stands among the blobs concerned
   concerned : (t : Tree Leaf) (meaning : Meaning) (chosen : List (ActionMeaning × Outcome)) (es : List Event) → Within (IsConcerned B plan meaning t chosen es) B t chosen
   concerned t meaning chosen es = record {
@@ -32,8 +32,8 @@ module _ (B C : Blobs) (sources : DigestValue) (plan : PlanValue) (ds : List Dig
     of_run = λ t meaning X chosen es end ordered is fits table agrees apart run all.
         let S : List ℕ → Type 0 = IsConcerned B plan meaning t chosen es in
         let within = concerned t meaning chosen es in
-        let keeps = runs_keep S apart B C t chosen within sources plan ds claim meaning X ordered is fits table agrees lawful h end es (λ b q. inr (inr (inr q))) run in
-        ends_in_claim S apart B C t chosen within sources plan ds claim meaning X ordered is fits table agrees lawful h end keeps all;
+        let keeps = runs_keep S apart B C t chosen within sources plan ds claim meaning X ordered is fits table agrees valid h end es (λ b q. inr (inr (inr q))) run in
+        ends_in_claim S apart B C t chosen within sources plan ds claim meaning X ordered is fits table agrees valid h end keeps all;
   }
 
   -- the tree is in order, so that it may be the sources of another plan
@@ -44,16 +44,16 @@ module _ (B C : Blobs) (sources : DigestValue) (plan : PlanValue) (ds : List Dig
   recorded_tree t meaning X chosen es end ordered is fits table agrees apart run all =
       let S : List ℕ → Type 0 = IsConcerned B plan meaning t chosen es in
       let within = concerned t meaning chosen es in
-      let keeps = runs_keep S apart B C t chosen within sources plan ds claim meaning X ordered is fits table agrees lawful h end es (λ b q. inr (inr (inr q))) run in
-      end_tree S apart B C t chosen within sources plan ds claim meaning X ordered is fits table agrees lawful h end keeps all
+      let keeps = runs_keep S apart B C t chosen within sources plan ds claim meaning X ordered is fits table agrees valid h end es (λ b q. inr (inr (inr q))) run in
+      end_tree S apart B C t chosen within sources plan ds claim meaning X ordered is fits table agrees valid h end keeps all
 
   pub recorded_unstuck : NoRunIsStuck B C sources plan ds
   recorded_unstuck = record {
     of_run = λ t meaning X chosen es now ordered is fits table agrees apart run.
         let S : List ℕ → Type 0 = IsConcerned B plan meaning t chosen es in
         let within = concerned t meaning chosen es in
-        let keeps = runs_keep S apart B C t chosen within sources plan ds claim meaning X ordered is fits table agrees lawful h now es (λ b q. inr (inr (inr q))) run in
-        nothing_is_stuck S apart B C t chosen within sources plan ds claim meaning X ordered is fits table agrees lawful h now keeps;
+        let keeps = runs_keep S apart B C t chosen within sources plan ds claim meaning X ordered is fits table agrees valid h now es (λ b q. inr (inr (inr q))) run in
+        nothing_is_stuck S apart B C t chosen within sources plan ds claim meaning X ordered is fits table agrees valid h now keeps;
   }
 
   pub recorded_as_chosen : EveryRunIsAsChosen B C sources plan ds
@@ -61,16 +61,16 @@ module _ (B C : Blobs) (sources : DigestValue) (plan : PlanValue) (ds : List Dig
     of_run = λ t meaning X chosen es now ordered is fits table agrees apart run.
         let S : List ℕ → Type 0 = IsConcerned B plan meaning t chosen es in
         let within = concerned t meaning chosen es in
-        let keeps = runs_keep S apart B C t chosen within sources plan ds claim meaning X ordered is fits table agrees lawful h now es (λ b q. inr (inr (inr q))) run in
-        runs_as_chosen S apart B C t chosen within sources plan ds claim meaning X ordered is fits table agrees lawful h now keeps;
+        let keeps = runs_keep S apart B C t chosen within sources plan ds claim meaning X ordered is fits table agrees valid h now es (λ b q. inr (inr (inr q))) run in
+        runs_as_chosen S apart B C t chosen within sources plan ds claim meaning X ordered is fits table agrees valid h now keeps;
   }
 
 -- so a yes says both
-module _ {A E : Type 0} (t : Telling) (sources : DigestValue) (plan : PlanValue) (ds : List DigestValue) (claim : DigestValue) (lawful : IsPlan plan) where
+module _ {A E : Type 0} (t : Telling) (sources : DigestValue) (plan : PlanValue) (ds : List DigestValue) (claim : DigestValue) (valid : IsPlan plan) where
   pub answers_hold : (answer : Result (Verdict A) E) → IfOk answer (IsVerdict t sources plan ds claim) → IfOk answer (λ v. IsYes v → EveryRunEndsIn t.blobs t.results sources plan ds claim)
-  answers_hold (Ok v) h = λ yes. recorded_ends t.blobs t.results sources plan ds claim lawful (yes_recorded A t sources plan ds claim v h yes)
+  answers_hold (Ok v) h = λ yes. recorded_ends t.blobs t.results sources plan ds claim valid (yes_recorded A t sources plan ds claim v h yes)
   answers_hold (Err e) h = tt
 
   pub answers_unstuck : (answer : Result (Verdict A) E) → IfOk answer (IsVerdict t sources plan ds claim) → IfOk answer (λ v. IsYes v → NoRunIsStuck t.blobs t.results sources plan ds)
-  answers_unstuck (Ok v) h = λ yes. recorded_unstuck t.blobs t.results sources plan ds claim lawful (yes_recorded A t sources plan ds claim v h yes)
+  answers_unstuck (Ok v) h = λ yes. recorded_unstuck t.blobs t.results sources plan ds claim valid (yes_recorded A t sources plan ds claim v h yes)
   answers_unstuck (Err e) h = tt

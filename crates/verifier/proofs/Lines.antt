@@ -71,7 +71,7 @@ module _ {A : Type 0} where
       let split : drop i ls ≡ l ∷ drop (i + 1) ls = rw (add-one, drop-cons ls i l lt) (ap (λ k. k ∷ drop (suc i) ls) (sym is)) in
       goes.faults C grows c (subst (λ q. FirstFault C d os q c) (sym split) (inl h))
 
-pub lawful_line : (before : ℕ) (ls : List LineValue) (i : ℕ) (l : LineValue) → i < length ls → l ≡ get_or ls i l → AllByRecursion (IsLine before) ls → IsLine before l
-lawful_line before [] i l lt is h = absurd (omega arith)
-lawful_line before (k ∷ ls) zero l lt is h = subst (IsLine before) (sym is) h.0
-lawful_line before (k ∷ ls) (suc i) l lt is h = lawful_line before ls i l (omega arith) is h.1
+pub valid_line : (before : ℕ) (ls : List LineValue) (i : ℕ) (l : LineValue) → i < length ls → l ≡ get_or ls i l → AllByRecursion (IsLine before) ls → IsLine before l
+valid_line before [] i l lt is h = absurd (omega arith)
+valid_line before (k ∷ ls) zero l lt is h = subst (IsLine before) (sym is) h.0
+valid_line before (k ∷ ls) (suc i) l lt is h = valid_line before ls i l (omega arith) is h.1

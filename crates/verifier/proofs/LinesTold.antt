@@ -19,16 +19,16 @@ use Rattle.tree.proofs.MergeTold.{merges_tell}
 use Rattle.tree.proofs.MergeTotal.{tells_merge}
 use Rattle.tree.proofs.OrderLemmas.{IsOrderedAt}
 use Rattle.verifier.specs.Build.{State, origin_at, origins, graft_of}
-use Rattle.verifier.proofs.HeldOrigins.{IsLawfulTree}
+use Rattle.verifier.proofs.HeldOrigins.{IsValidTree}
 use Rattle.verifier.proofs.OutputLookups.{HoldsOutput, mapped_from}
 use Rattle.verifier.proofs.Targets.{some_names}
 
 -- ---- outputs whose blobs are concerned
 
-pub lawful_tree : {S : List ℕ → Type 0} (apart : NoClash S) (v : OutputValue) → HoldsOutput S apart v → IsLawfulTree v
-lawful_tree apart (outputs.File d executable) k = tt
-lawful_tree apart (outputs.Link target) k = tt
-lawful_tree apart (outputs.Tree u) k = k.lawful
+pub valid_tree : {S : List ℕ → Type 0} (apart : NoClash S) (v : OutputValue) → HoldsOutput S apart v → IsValidTree v
+valid_tree apart (outputs.File d executable) k = tt
+valid_tree apart (outputs.Link target) k = tt
+valid_tree apart (outputs.Tree u) k = k.valid
 
 pub tree_blobs : {S : List ℕ → Type 0} (apart : NoClash S) (v : OutputValue) → HoldsOutput S apart v → (b : List ℕ) → IsBlobIn (within_output v) b → S b
 tree_blobs apart (outputs.File d executable) k b q = absurd q

@@ -14,8 +14,8 @@ use Rattle.tree.specs.Stage.{◌and_then◌}
 use Rattle.verifier.specs.Verdict.{steps_check, IsVerdict}
 use Rattle.verifier.proofs.Passing.{root_fails, accepted_root, recorded_steps}
 use Rattle.verifier.proofs.StepLaws.{once_step, once_root, recorded_from, from_recorded}
-use Rattle.verifier.proofs.VerdictOnce.{one_more, step_lawful, steps_lawful}
-use Rattle.verifier.proofs.VerdictOnceLines.{AreLawful}
+use Rattle.verifier.proofs.VerdictOnce.{one_more, step_valid, steps_valid}
+use Rattle.verifier.proofs.VerdictOnceLines.{AreValid}
 
 module _ (A : Type 0) (t : Telling) (sources : DigestValue) where
   place_is : (m n : List ℕ) → ◌≡◌ {A = Place A} (Step m) (Step n) → m ≡ n
@@ -24,12 +24,12 @@ module _ (A : Type 0) (t : Telling) (sources : DigestValue) where
   no_root : (n : List ℕ) → ◌≡◌ {A = Place A} (Step n) Root → ⊥
   no_root n e = cc
 
-  first_unlike : (os : List OutcomeValue) → AreLawful os → (ss : List StepValue) (ds : List DigestValue) (name : List ℕ) (c : Cause A) → (steps_check t sources os ss ds).fails (Step name, c)
+  first_unlike : (os : List OutcomeValue) → AreValid os → (ss : List StepValue) (ds : List DigestValue) (name : List ℕ) (c : Cause A) → (steps_check t sources os ss ds).fails (Step name, c)
       → IsFirstUnlikeRecorded t.blobs t.results sources os ss ds name
   unfolding ◌and_then◌
-  first_unlike os lawful [] ds name c h = elim h [ ]
-  first_unlike os lawful (s ∷ ss) [] name c h = elim h [ ]
-  first_unlike os lawful (s ∷ ss) (d ∷ ds) name c (inl h) = record {
+  first_unlike os valid [] ds name c h = elim h [ ]
+  first_unlike os valid (s ∷ ss) [] name c h = elim h [ ]
+  first_unlike os valid (s ∷ ss) (d ∷ ds) name c (inl h) = record {
     index = 0;
     step = s;
     digest = d;
@@ -38,10 +38,10 @@ module _ (A : Type 0) (t : Telling) (sources : DigestValue) where
     digest_at = refl;
     named = place_is name s.name h.0;
     before = refl;
-    unlike = λ o like. (once_step {A = A} t sources os s d lawful).either o c (from_recorded A t sources os s d o like) h.1;
+    unlike = λ o like. (once_step {A = A} t sources os s d valid).either o c (from_recorded A t sources os s d o like) h.1;
   }
-  first_unlike os lawful (s ∷ ss) (d ∷ ds) name c (inr h) =
-      let rest = first_unlike (os ++ h.0 ∷ []) (one_more os h.0 lawful (step_lawful A t sources os s d h.0 h.1)) ss ds name c h.2 in
+  first_unlike os valid (s ∷ ss) (d ∷ ds) name c (inr h) =
+      let rest = first_unlike (os ++ h.0 ∷ []) (one_more os h.0 valid (step_valid A t sources os s d h.0 h.1)) ss ds name c h.2 in
       record {
         index = suc rest.index;
         step = rest.step;
@@ -69,5 +69,5 @@ module _ (A : Type 0) (t : Telling) (sources : DigestValue) where
         λ accepted. (once_root {A = A} t sources parts.0 plan.root_lines claim (steps_as_recorded parts.0 parts.1)).either tt c (accepted_root A t sources parts.0 plan.root_lines claim accepted) parts.2,
       )
     where
-      steps_as_recorded : (os : List OutcomeValue) → AreAsRecorded t.blobs t.results sources [] plan.steps recorded os → AreLawful os
-      steps_as_recorded os k = steps_lawful A t sources [] tt plan.steps recorded os (recorded_steps A t sources [] plan.steps recorded os k)
+      steps_as_recorded : (os : List OutcomeValue) → AreAsRecorded t.blobs t.results sources [] plan.steps recorded os → AreValid os
+      steps_as_recorded os k = steps_valid A t sources [] tt plan.steps recorded os (recorded_steps A t sources [] plan.steps recorded os k)

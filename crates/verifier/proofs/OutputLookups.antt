@@ -21,7 +21,7 @@ use Rattle.tree.specs.Graft.{IsApart, HaveApartTargets}
 use Rattle.tree.specs.Lookup.{found, LooksFrom}
 use Rattle.tree.proofs.Children.{child-directory_of}
 use Rattle.tree.proofs.DirectoryBytes.{directory_bytes_injective}
-use Rattle.tree.proofs.TreeDigests.{lawful_digests, tree_digests}
+use Rattle.tree.proofs.TreeDigests.{valid_digests, tree_digests}
 use Rattle.tree.proofs.OrderLemmas.{entry_ordered}
 use Rattle.tree.proofs.LookupLemmas.{ReadsTrees, looks_from, entry_blobs}
 use Rattle.verifier.specs.Build.{Outcome, IsTreeOutcome, below_path, output_from, output_at}
@@ -98,11 +98,11 @@ mapped_from f (x ∷ xs) y (suc k, lt, e) = let h = mapped_from f xs y (k, omega
 module _ (S : List ℕ → Type 0) (apart : NoClash S) where
   -- a Directory with a tree's digest is the tree's
   pub directory_is : (u : Tree Leaf) (m : DirectoryValue) → IsDirectory m → S (directory_bytes m) → S (top (form u)) → digest_of (directory_bytes m) ≡ root (form u) → m ≡ directory_of (form u)
-  directory_is u m lawful held own is = directory_bytes_injective m (directory_of (form u)) (lawful_digests m lawful) (tree_digests u) (apart (directory_bytes m) (top (form u)) held own is)
+  directory_is u m valid held own is = directory_bytes_injective m (directory_of (form u)) (valid_digests m valid) (tree_digests u) (apart (directory_bytes m) (top (form u)) held own is)
 
   -- the Directories of a Tree are among the blobs
   pub record HoldsTree (t : TreeValue) : Type 0 where
-    pub lawful : IsTree t
+    pub valid : IsTree t
     pub held : (m : DirectoryValue) → Contains (t.root ∷ t.children) m → S (directory_bytes m)
 
   abbrev pub HoldsOutput : OutputValue → Type 0
@@ -113,7 +113,7 @@ module _ (S : List ℕ → Type 0) (apart : NoClash S) where
   pub reads_tree : (t : TreeValue) → HoldsTree t → ReadsTrees S (IsFirstChild t)
   reads_tree t h u m own c =
       let inside : Contains t.children m = subst (λ l. Contains l m) (sym c.stands) (Contains-append_right c.before (m ∷ c.behind) m (0, omega arith, refl)) in
-      directory_is u m (all_at IsDirectory t.children m h.lawful.children inside) (h.held m (behind t.root t.children m inside)) own c.right
+      directory_is u m (all_at IsDirectory t.children m h.valid.children inside) (h.held m (behind t.root t.children m inside)) own c.right
 
   -- what stands below a recorded output stands below each output with its node
   below_tells : (x : OutputValue) (e : Entry Leaf) (q : List Name) (y : NodeValue) → IsOrderedEntry e → ((b : List ℕ) → IsBlobOfEntry e b → S b) → HoldsOutput x
@@ -127,7 +127,7 @@ module _ (S : List ℕ → Type 0) (apart : NoClash S) where
   below_tells (outputs.Tree t) (single (link target)) (n ∷ q) y ordered own h is look = absurd cc
   below_tells (outputs.Tree t) (whole u) (n ∷ q) y ordered own h is look =
       let digests : root (form u) ≡ digest_of (directory_bytes t.root) = cc in
-      let same = directory_is u t.root h.lawful.root (h.held t.root (0, omega arith, refl)) (own (top (form u)) (inl refl)) (sym digests) in
+      let same = directory_is u t.root h.valid.root (h.held t.root (0, omega arith, refl)) (own (top (form u)) (inl refl)) (sym digests) in
       let rest : LooksFrom (IsFirstChild t) NoFault q (option_map entry_node (entry_of n u)) (found y) = subst (λ o. LooksFrom (IsFirstChild t) NoFault q o (found y)) (ap (child n) same ∙ child-directory_of n u ordered) look in
       looks_from (IsFirstChild t) NoFault S (reads_tree t h) q (entry_of n u) (found y) (entry_ordered n u ordered) (λ b k. own b (inr (entry_blobs n u b k))) rest
 
@@ -135,11 +135,11 @@ module _ (S : List ℕ → Type 0) (apart : NoClash S) where
   pub outputs_tell : (o : Outcome) (v : OutcomeValue) → IsTreeOutcome o → ((b : List ℕ) → IsBlobOfOutcome o b → S b) → ((e : List Name × OutputValue) → Contains v.outputs e → HoldsOutput e.1)
       → ((p : List Name) (x : NodeValue) → Contains (recorded.outputs_form v.outputs) (p, x) → Contains (entries_form o.outputs) (p, x))
       → (p : List Name) (x : NodeValue) → LooksIn v p (found x) → option_map entry_node (output_at o.outputs p) ≡ Some x
-  outputs_tell o v lawful own held same p x (inr (all, none)) = absurd cc
-  outputs_tell o v lawful own held same p x (inl (e, inside, q, path, look)) =
+  outputs_tell o v valid own held same p x (inr (all, none)) = absurd cc
+  outputs_tell o v valid own held same p x (inl (e, inside, q, path, look)) =
       let there = mapped_from (λ (d : List Name × Entry Leaf). (d.0, entry_node d.1)) o.outputs (e.0, output_node e.1) (same e.0 (output_node e.1) (holds_mapped (λ (d : List Name × OutputValue). (d.0, output_node d.1)) v.outputs e inside)) in
       let paths : there.0.0 ≡ e.0 = ap (λ (d : List Name × NodeValue). d.0) there.2 in
       let nodes : entry_node there.0.1 ≡ output_node e.1 = ap (λ (d : List Name × NodeValue). d.1) there.2 in
-      let at : output_at o.outputs p ≡ below_entry q (Some there.0.1) = ap (output_at o.outputs) (path ∙ ap (λ r. r ++ q) (sym paths)) ∙ output_below o.outputs there.0 q lawful.apart there.1 in
+      let at : output_at o.outputs p ≡ below_entry q (Some there.0.1) = ap (output_at o.outputs) (path ∙ ap (λ r. r ++ q) (sym paths)) ∙ output_below o.outputs there.0 q valid.apart there.1 in
       ap (option_map entry_node) at
-      ∙ below_tells e.1 there.0.1 q x (all_at (λ (d : List Name × Entry Leaf). IsOrderedEntry d.1) o.outputs there.0 lawful.outputs there.1) (λ b k. own b (there.0, there.1, k)) (held e inside) nodes look
+      ∙ below_tells e.1 there.0.1 q x (all_at (λ (d : List Name × Entry Leaf). IsOrderedEntry d.1) o.outputs there.0 valid.outputs there.1) (λ b k. own b (there.0, there.1, k)) (held e inside) nodes look

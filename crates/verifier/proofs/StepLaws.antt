@@ -28,7 +28,7 @@ use Rattle.verifier.specs.Faults.{cause_of, cause_of_merge}
 use Rattle.verifier.specs.StepChecks.{difference_cause, OutputFault, message, resolved, put_together, grafted, held, read, step_check}
 use Rattle.verifier.specs.Verdict.{root_check}
 use Rattle.verifier.proofs.StepsOnce.{IsSpelledOnce, told_once, output_fault_is_one, fault_or_all, bytes_are, none_some}
-use Rattle.verifier.proofs.VerdictOnceLines.{AreLawful, resolves_once, first_once, first_resolves}
+use Rattle.verifier.proofs.VerdictOnceLines.{AreValid, resolves_once, first_once, first_resolves}
 
 -- ---- each check of a step
 
@@ -40,11 +40,11 @@ module _ {A : Type 0} where
     either = λ m c p q. told_or_fault keeps spells B d m q.0 p q.1;
   }
 
-  once_resolved : (B : Blobs) (sources : DigestValue) (outcomes : List OutcomeValue) (lines : List LineValue) → AreLawful outcomes → IsOnce (resolved {A = A} B sources outcomes lines)
-  once_resolved B sources outcomes lines lawful = record {
-    value = resolves_once B sources outcomes lawful lines;
-    why = first_once B sources outcomes lawful lines;
-    either = λ xs c p q. first_resolves B sources outcomes lawful lines c xs q p;
+  once_resolved : (B : Blobs) (sources : DigestValue) (outcomes : List OutcomeValue) (lines : List LineValue) → AreValid outcomes → IsOnce (resolved {A = A} B sources outcomes lines)
+  once_resolved B sources outcomes lines valid = record {
+    value = resolves_once B sources outcomes valid lines;
+    why = first_once B sources outcomes valid lines;
+    either = λ xs c p q. first_resolves B sources outcomes valid lines c xs q p;
   }
 
   once_put_together : (B : Blobs) (xs : MergeLines) → IsOnce (put_together {A = A} B xs)
@@ -90,21 +90,21 @@ module _ {A : Type 0} where
 
   -- ---- and all of them
 
-  pub once_step : (t : Telling) (sources : DigestValue) (outcomes : List OutcomeValue) (s : StepValue) (d : DigestValue) → AreLawful outcomes → IsOnce (step_check {A = A} t sources outcomes s d)
-  once_step t sources outcomes s d lawful =
+  pub once_step : (t : Telling) (sources : DigestValue) (outcomes : List OutcomeValue) (s : StepValue) (d : DigestValue) → AreValid outcomes → IsOnce (step_check {A = A} t sources outcomes s d)
+  once_step t sources outcomes s d valid =
       once_then _ _ (once_message IsAction action_bytes action_bytes_injective t.blobs d) (λ a _.
       once_then _ _ (once_demands _ _) (λ _ _.
       once_then _ _ (once_message IsCommand command_bytes command_bytes_injective t.blobs a.frame.command) (λ m _.
       once_then _ _ (once_demands _ _) (λ _ _.
-      once_then _ _ (once_resolved t.blobs sources outcomes s.lines lawful) (λ xs _.
+      once_then _ _ (once_resolved t.blobs sources outcomes s.lines valid) (λ xs _.
       once_then _ _ (once_put_together t.blobs xs) (λ made _.
       once_then _ _ (once_grafted t.blobs a made) (λ _ _.
       once_then _ _ (once_held t.results d) (λ r _.
       once_then _ _ (once_demands _ _) (λ _ _.
       once_read t.blobs m r)))))))))
 
-  pub once_root : (t : Telling) (sources : DigestValue) (outcomes : List OutcomeValue) (lines : List LineValue) (claim : DigestValue) → AreLawful outcomes → IsOnce (root_check {A = A} t sources outcomes lines claim)
-  once_root t sources outcomes lines claim lawful = once_then _ _ (once_resolved t.blobs sources outcomes lines lawful) (λ xs _. once_then _ _ (once_put_together t.blobs xs) (λ made _. once_demands _ _))
+  pub once_root : (t : Telling) (sources : DigestValue) (outcomes : List OutcomeValue) (lines : List LineValue) (claim : DigestValue) → AreValid outcomes → IsOnce (root_check {A = A} t sources outcomes lines claim)
+  once_root t sources outcomes lines claim valid = once_then _ _ (once_resolved t.blobs sources outcomes lines valid) (λ xs _. once_then _ _ (once_put_together t.blobs xs) (λ made _. once_demands _ _))
 
 -- ---- a step passes exactly where it is as recorded
 

@@ -33,7 +33,7 @@ IsSpelledOnce {M} keeps spells = (m n : M) → keeps m → keeps n → spells m 
 
 pub told_once : {M : Type 0} (keeps : M → Type 0) (spells : M → List ℕ) → IsSpelledOnce keeps spells → (B : Blobs) (d : DigestValue) (m n : M) → IsTold keeps spells B d m → IsTold keeps spells B d n → m ≡ n
 told_once keeps spells once B d m n h k =
-    once m n h.lawful k.lawful (bytes_are (spells m) (spells n) (under_once B d (Some (spells m)) (Some (spells n)) h.blob.held k.blob.held))
+    once m n h.valid k.valid (bytes_are (spells m) (spells n) (under_once B d (Some (spells m)) (Some (spells n)) h.blob.held k.blob.held))
 
 -- ---- outputs
 

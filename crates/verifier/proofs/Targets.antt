@@ -42,13 +42,13 @@ step_apart (x ∷ steps) h zero s e = let same : x ≡ s = cc in subst (λ y. pl
 step_apart (x ∷ steps) h (suc i) s e = step_apart steps h.1 i s e
 
 pub lines_paths : (plan : PlanValue) (ls : List LineValue) → IsPlan plan → AreLinesOf plan ls → ArePaths ls
-lines_paths plan ls lawful (inl is) = subst ArePaths (sym is) (paths_of (length plan.steps) plan.root_lines lawful.root_lines.each)
-lines_paths plan ls lawful (inr (i, s, at, is)) = subst ArePaths (sym is) (step_paths [] plan.steps lawful.steps i s at)
+lines_paths plan ls valid (inl is) = subst ArePaths (sym is) (paths_of (length plan.steps) plan.root_lines valid.root_lines.each)
+lines_paths plan ls valid (inr (i, s, at, is)) = subst ArePaths (sym is) (step_paths [] plan.steps valid.steps i s at)
 
 -- in version 1 none overlaps another
 pub lines_apart : (plan : PlanValue) (ls : List LineValue) → IsPlan plan → plan.version ≡ One → AreLinesOf plan ls → plans.HaveApartTargets ls
-lines_apart plan ls lawful one (inl is) = subst plans.HaveApartTargets (sym is) (lawful.root_apart one)
-lines_apart plan ls lawful one (inr (i, s, at, is)) = subst plans.HaveApartTargets (sym is) (step_apart plan.steps (subst (λ v. AllKeepApart v plan.steps) one lawful.apart) i s at)
+lines_apart plan ls valid one (inl is) = subst plans.HaveApartTargets (sym is) (valid.root_apart one)
+lines_apart plan ls valid one (inr (i, s, at, is)) = subst plans.HaveApartTargets (sym is) (step_apart plan.steps (subst (λ v. AllKeepApart v plan.steps) one valid.apart) i s at)
 
 -- ---- what has the lines' targets
 

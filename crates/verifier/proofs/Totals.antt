@@ -42,13 +42,13 @@ use Rattle.tree.proofs.StageLaws.{IsTotal}
 -- ---- look-ups in outcomes
 
 -- what stands in an outcome keeps its rules
-abbrev pub IsLawfulOutput : OutputValue → Type 0
-IsLawfulOutput (File digest executable) = IsDigest digest
-IsLawfulOutput (Link target) = IsTarget target
-IsLawfulOutput (Tree t) = IsTree t
+abbrev pub IsValidOutput : OutputValue → Type 0
+IsValidOutput (File digest executable) = IsDigest digest
+IsValidOutput (Link target) = IsTarget target
+IsValidOutput (Tree t) = IsTree t
 
-abbrev pub AreLawfulOutputs : OutcomeValue → Type 0
-AreLawfulOutputs o = IsOutcome o × AllByRecursion (λ (e : List Name × OutputValue). IsLawfulOutput e.1) o.outputs
+abbrev pub AreValidOutputs : OutcomeValue → Type 0
+AreValidOutputs o = IsOutcome o × AllByRecursion (λ (e : List Name × OutputValue). IsValidOutput e.1) o.outputs
 
 all_push : {X : Type 0} (P : X → Type 0) (xs : List X) (x : X) → AllByRecursion P xs → P x → AllByRecursion P (xs ++ x ∷ [])
 all_push P [] x h k = (k, tt)
@@ -64,12 +64,12 @@ first_child t d before (m ∷ ms) is none (suc i, lt, e) one =
     let joined : before ++ m ∷ ms ≡ (before ++ m ∷ []) ++ ms = sym (append_assoc before (m ∷ []) ms) in
     first_child t d (before ++ m ∷ []) ms (is ∙ joined) (all_push (λ k. digest_of (directory_bytes k) ≢ d) before m none other) (i, omega (arith, lt), e) one
 
-module _ (t : TreeValue) (lawful : IsTree t) where
+module _ (t : TreeValue) (valid : IsTree t) where
   abbrev IsFine : Option NodeValue → Type 0
   IsFine o = (d : DigestValue) → o ≡ Some (nodes.Dir d) → Contains (child_digests t) d
 
   fine_child : (m : DirectoryValue) → Contains (t.root ∷ t.children) m → (n : Name) → IsFine (child n m)
-  fine_child m here n = λ d is. child_named {A = Unit {0}} t m n (nodes.Dir d) lawful here (sym is) d refl
+  fine_child m here n = λ d is. child_named {A = Unit {0}} t m n (nodes.Dir d) valid here (sym is) d refl
 
   looks_in_tree : (names : List Name) → ((r : Looked) → LooksInTree t names r → ⊥) → ⊥
   looks_in_tree [] k = k (found (tree_node t)) refl
@@ -78,7 +78,7 @@ module _ (t : TreeValue) (lawful : IsTree t) where
       (λ d fine reads fails. first_child t d [] t.children refl tt (fine d refl) (λ m first. reads m first (fine_child m (first_there t d m first))))
       names (child n t.root) (fine_child t.root (root_there t) n) k
 
-looks_below : (x : OutputValue) → IsLawfulOutput x → (names : List Name) → ((r : Looked) → LooksBelow x names r → ⊥) → ⊥
+looks_below : (x : OutputValue) → IsValidOutput x → (names : List Name) → ((r : Looked) → LooksBelow x names r → ⊥) → ⊥
 looks_below (Tree t) h names k = looks_in_tree t h names k
 looks_below (File d b) h [] k = k (found (output_node (File d b))) refl
 looks_below (File d b) h (n ∷ names) k = k nothing refl
@@ -93,9 +93,9 @@ none_over path (e ∷ es) none = ((λ over. none e (0, omega arith, refl) over),
     later : {f : List Name × OutputValue} → Contains es f → Contains (e ∷ es) f
     later (i, lt, is) = (suc i, omega (arith, lt), is)
 
-looks_in : (o : OutcomeValue) → AreLawfulOutputs o → (path : List Name) → ((r : Looked) → LooksIn o path r → ⊥) → ⊥
-looks_in o lawful path k = k nothing (inr (
-  none_over path o.outputs (λ e c over. looks_below e.1 (all_at (λ (x : List Name × OutputValue). IsLawfulOutput x.1) o.outputs e lawful.1 c) over.0 (λ r h. k r (inl (e, c, over.0, over.1, h)))),
+looks_in : (o : OutcomeValue) → AreValidOutputs o → (path : List Name) → ((r : Looked) → LooksIn o path r → ⊥) → ⊥
+looks_in o valid path k = k nothing (inr (
+  none_over path o.outputs (λ e c over. looks_below e.1 (all_at (λ (x : List Name × OutputValue). IsValidOutput x.1) o.outputs e valid.1 c) over.0 (λ r h. k r (inl (e, c, over.0, over.1, h)))),
   refl,
 ))
 
@@ -106,17 +106,17 @@ outcome_there [] i lt = absurd (omega arith)
 outcome_there (o ∷ os) zero lt = (o, refl)
 outcome_there (o ∷ os) (suc i) lt = outcome_there os i (omega (arith, lt))
 
-lawful_outcome_there : (os : List OutcomeValue) (i : ℕ) (o : OutcomeValue) → AllByRecursion AreLawfulOutputs os → slice_get os i ≡ Some o → AreLawfulOutputs o
-lawful_outcome_there [] i o h e = absurd cc
-lawful_outcome_there (x ∷ os) zero o h e = let same : x ≡ o = cc in subst AreLawfulOutputs same h.0
-lawful_outcome_there (x ∷ os) (suc i) o h e = lawful_outcome_there os i o h.1 e
+valid_outcome_there : (os : List OutcomeValue) (i : ℕ) (o : OutcomeValue) → AllByRecursion AreValidOutputs os → slice_get os i ≡ Some o → AreValidOutputs o
+valid_outcome_there [] i o h e = absurd cc
+valid_outcome_there (x ∷ os) zero o h e = let same : x ≡ o = cc in subst AreValidOutputs same h.0
+valid_outcome_there (x ∷ os) (suc i) o h e = valid_outcome_there os i o h.1 e
 
-module _ (B : Blobs) (sources : DigestValue) (os : List OutcomeValue) (lawful : AllByRecursion AreLawfulOutputs os) where
+module _ (B : Blobs) (sources : DigestValue) (os : List OutcomeValue) (valid : AllByRecursion AreValidOutputs os) where
   looks_at : (o : OriginValue) → IsOrigin (length os) o → ((r : Looked) → LooksUpOrigin B sources os o r → ⊥) → ⊥
   looks_at (source p) is k = looks_total B sources p k
   looks_at (output i p) is k =
       let o = outcome_there os i is.0 in
-      looks_in o.0 (lawful_outcome_there os i o.0 lawful o.1) p (λ r h. k r (o.0, o.1, h))
+      looks_in o.0 (valid_outcome_there os i o.0 valid o.1) p (λ r h. k r (o.0, o.1, h))
 
 -- what is found lies somewhere
 lies_somewhere : (o : OutcomeValue) (p : List Name) (x : NodeValue) → LooksIn o p (found x) → (w : WithinValue) × LiesWithin o p w
@@ -127,7 +127,7 @@ stands_somewhere : (B : Blobs) (sources : DigestValue) (os : List OutcomeValue) 
 stands_somewhere B sources os (source p) x h = (in_source, refl)
 stands_somewhere B sources os (output i p) x h = let w = lies_somewhere h.0 p x h.2 in (w.0, (h.0, h.1, w.1))
 
-module _ {A : Type 0} (B : Blobs) (sources : DigestValue) (os : List OutcomeValue) (lawful : AllByRecursion AreLawfulOutputs os) where
+module _ {A : Type 0} (B : Blobs) (sources : DigestValue) (os : List OutcomeValue) (valid : AllByRecursion AreValidOutputs os) where
   line_total : (l : LineValue) (ls : List LineValue) → (((xs : MergeLines) → Resolves B sources os ls xs → ⊥) → ((c : Cause A) → FirstFault B sources os ls c → ⊥) → ⊥)
       → ((xs : MergeLines) → Resolves B sources os (l ∷ ls) xs → ⊥) → ((c : Cause A) → FirstFault B sources os (l ∷ ls) c → ⊥) → (r : Looked) → LooksUpOrigin B sources os l.origin r → ⊥
   line_total l ls rest passes fails (found x) h =
@@ -138,7 +138,7 @@ module _ {A : Type 0} (B : Blobs) (sources : DigestValue) (os : List OutcomeValu
 
   lines_total : (ls : List LineValue) → AllByRecursion (IsLine (length os)) ls → ((xs : MergeLines) → Resolves B sources os ls xs → ⊥) → ((c : Cause A) → FirstFault B sources os ls c → ⊥) → ⊥
   lines_total [] is passes fails = passes [] refl
-  lines_total (l ∷ ls) is passes fails = looks_at B sources os lawful l.origin is.0.origin (line_total l ls (λ p f. lines_total ls is.1 p f) passes fails)
+  lines_total (l ∷ ls) is passes fails = looks_at B sources os valid l.origin is.0.origin (line_total l ls (λ p f. lines_total ls is.1 p f) passes fails)
 
   pub total_resolved : (ls : List LineValue) → AllByRecursion (IsLine (length os)) ls → IsTotal (resolved {A = A} B sources os ls)
   total_resolved ls is = record { ends = lines_total ls is }
@@ -176,7 +176,7 @@ walk zero r xs fs ds ls le h = walk_step r xs fs ds ls h (λ ys gs es ms less k.
 walk (suc n) r xs fs ds ls le h = walk_step r xs fs ds ls h (λ ys gs es ms less k. walk n r ys gs es ms (omega arith) k)
 
 outputs_there : (r : ActionResultValue) → IsActionResult r → (xs : List RecordedValue) × AreOutputs r xs
-outputs_there r lawful = walk (Left r.files r.directories r.symlinks) r [] r.files r.directories r.symlinks (omega arith) (walks_begin r lawful)
+outputs_there r valid = walk (Left r.files r.directories r.symlinks) r [] r.files r.directories r.symlinks (omega arith) (walks_begin r valid)
 
 stands_or_faulty : (B : Blobs) (x : RecordedValue) → ((v : OutputValue) → StandsFor B x v → ⊥) → ((f : Fault) → IsOutputFault B x f → ⊥) → ⊥
 stands_or_faulty B (file f) stands fails = stands (File f.digest f.executable) refl
@@ -195,10 +195,10 @@ module _ {A : Type 0} (B : Blobs) (m : CommandValue) where
       )))
 
   pub total_read : (r : ActionResultValue) → IsActionResult r → IsTotal (read {A = A} B m r)
-  total_read r lawful =
-      let xs = outputs_there r lawful in
+  total_read r valid =
+      let xs = outputs_there r valid in
       record {
         ends = λ passes fails. outputs_total xs.0
-            (λ es all listed. passes (record { exit_code = r.exit_code; outputs = es }) (recorded_from B r xs.0 es lawful xs.1 all, listed))
+            (λ es all listed. passes (record { exit_code = r.exit_code; outputs = es }) (recorded_from B r xs.0 es valid xs.1 all, listed))
             (λ c q. fails c (xs.0, xs.1, q));
       }

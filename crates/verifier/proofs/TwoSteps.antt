@@ -1,4 +1,4 @@
--- The build of two steps is lawful.
+-- The build of two steps is valid.
 use Rattle.std.proofs.Common.{true, ◌≡◌, ℕ, zero, suc, [], ◌∷◌, Some, refl, ap, sym, ◌∙◌, subst, arith, false}
 use Rattle.std.specs.Prelude.{◌≢◌, slice_get, Contains, codes}
 use Rattle.std.proofs.lemmas.List.Sums.{AllPass-from_list_all}
@@ -85,26 +85,26 @@ out_path = one_name (codes "out") out_name
 pub res_path : IsPath (codes "res" ∷ [])
 res_path = one_name (codes "res") res_name
 
-pub gen_command_lawful : IsCommand two.gen.0.command
+pub gen_command_valid : IsCommand two.gen.0.command
 unfolding is_utf8 chars lib.Utf8.encode texts_checked lists_checked
-gen_command_lawful = command_made two.gen.0.command (refl, tt) tt tt (out_path, tt) refl refl
+gen_command_valid = command_made two.gen.0.command (refl, tt) tt tt (out_path, tt) refl refl
 
-pub use_command_lawful : IsCommand two.uses.0.command
+pub use_command_valid : IsCommand two.uses.0.command
 unfolding is_utf8 chars lib.Utf8.encode texts_checked lists_checked
-use_command_lawful = command_made two.uses.0.command (refl, tt) tt tt (res_path, tt) refl refl
+use_command_valid = command_made two.uses.0.command (refl, tt) tt tt (res_path, tt) refl refl
 
-pub gen_frame_lawful : IsFrame two.gen.0.frame
-gen_frame_lawful = record { command = subst IsDigest gen_command_named (IsDigest-digest_of (command_bytes two.gen.0.command)); platform = record { properties = tt; ascend = tt } }
+pub gen_frame_valid : IsFrame two.gen.0.frame
+gen_frame_valid = record { command = subst IsDigest gen_command_named (IsDigest-digest_of (command_bytes two.gen.0.command)); platform = record { properties = tt; ascend = tt } }
 
-pub use_frame_lawful : IsFrame two.uses.0.frame
-use_frame_lawful = record { command = subst IsDigest use_command_named (IsDigest-digest_of (command_bytes two.uses.0.command)); platform = record { properties = tt; ascend = tt } }
+pub use_frame_valid : IsFrame two.uses.0.frame
+use_frame_valid = record { command = subst IsDigest use_command_named (IsDigest-digest_of (command_bytes two.uses.0.command)); platform = record { properties = tt; ascend = tt } }
 
 a_name : IsName (codes "a")
 unfolding is_utf8 chars lib.Utf8.encode
 a_name = IsName-from (codes "a") refl
 
-pub gen_tree_lawful : IsTree two.gen_tree
-gen_tree_lawful = record {
+pub gen_tree_valid : IsTree two.gen_tree
+gen_tree_valid = record {
   root = record {
     files = (record { name = a_name; digest = IsDigest-digest_of (codes "123456789") }, tt);
     directories = tt;
@@ -126,22 +126,22 @@ fits = record { steps = by }
     by zero step at =
         let same : ◌≡◌ {A = StepValue} (record { name = codes "gen"; frame = two.gen_frame_digest; lines = [] }) step = cc in
         let frame = ap (λ (s : StepValue). s.frame) same in
-        (two.gen.0.frame, two.gen.0.command, refl, refl, record { frame_lawful = gen_frame_lawful; command_lawful = gen_command_lawful; frame_digest = gen_frame_named ∙ frame; command_digest = sym gen_command_named })
+        (two.gen.0.frame, two.gen.0.command, refl, refl, record { frame_valid = gen_frame_valid; command_valid = gen_command_valid; frame_digest = gen_frame_named ∙ frame; command_digest = sym gen_command_named })
     by (suc zero) step at =
         let same : ◌≡◌ {A = StepValue} (record { name = codes "use"; frame = two.use_frame_digest; lines = record { target = codes "data" ∷ codes "x" ∷ []; origin = output 0 (codes "out" ∷ codes "a" ∷ []) } ∷ [] }) step = cc in
         let frame = ap (λ (s : StepValue). s.frame) same in
-        (two.uses.0.frame, two.uses.0.command, refl, refl, record { frame_lawful = use_frame_lawful; command_lawful = use_command_lawful; frame_digest = use_frame_named ∙ frame; command_digest = sym use_command_named })
+        (two.uses.0.frame, two.uses.0.command, refl, refl, record { frame_valid = use_frame_valid; command_valid = use_command_valid; frame_digest = use_frame_named ∙ frame; command_digest = sym use_command_named })
     by (suc (suc i)) step at = absurd cc
 
-gen_lawful : IsActionMeaning two.gen.0 × IsTreeOutcome two.gen.1
-gen_lawful = (
-  record { frame = gen_frame_lawful; command = gen_command_lawful; named = sym gen_command_named; input = tt },
+gen_valid : IsActionMeaning two.gen.0 × IsTreeOutcome two.gen.1
+gen_valid = (
+  record { frame = gen_frame_valid; command = gen_command_valid; named = sym gen_command_named; input = tt },
   record { apart = ((λ e. absurd cc), tt, tt); outputs = ((tt, tt), tt) },
 )
 
-use_lawful : IsActionMeaning two.uses.0 × IsTreeOutcome two.uses.1
-use_lawful = (
-  record { frame = use_frame_lawful; command = use_command_lawful; named = sym use_command_named; input = (tt, (tt, tt), tt) },
+use_valid : IsActionMeaning two.uses.0 × IsTreeOutcome two.uses.1
+use_valid = (
+  record { frame = use_frame_valid; command = use_command_valid; named = sym use_command_named; input = (tt, (tt, tt), tt) },
   record { apart = ((λ e. absurd cc), tt, tt); outputs = (tt, tt) },
 )
 
@@ -149,8 +149,8 @@ use_lawful = (
 apart_actions : two.gen.0 ≡ two.uses.0 → ⊥
 apart_actions e = let inputs = ap (λ (a : ActionMeaning). a.input) e in absurd cc
 
-pub table_lawful : IsTable two.table
-table_lawful = record { same = same; actions = each }
+pub table_valid : IsTable two.table
+table_valid = record { same = same; actions = each }
   where
     same : (a : ActionMeaning) (o p : Outcome) → Contains two.table (a, o) → Contains two.table (a, p) → o ≡ p
     same a o p (zero, lt, e) (zero, mt, f) = sym (ap (λ (z : ActionMeaning × Outcome). z.1) e) ∙ ap (λ (z : ActionMeaning × Outcome). z.1) f
@@ -162,11 +162,11 @@ table_lawful = record { same = same; actions = each }
     same a o p (suc (suc j), lt, e) c = absurd (omega (arith, lt))
 
     each : (a : ActionMeaning) (o : Outcome) → Contains two.table (a, o) → IsActionMeaning a × IsTreeOutcome o
-    each a o (zero, lt, e) = subst (λ (z : ActionMeaning × Outcome). IsActionMeaning z.0 × IsTreeOutcome z.1) e gen_lawful
-    each a o (suc zero, lt, e) = subst (λ (z : ActionMeaning × Outcome). IsActionMeaning z.0 × IsTreeOutcome z.1) e use_lawful
+    each a o (zero, lt, e) = subst (λ (z : ActionMeaning × Outcome). IsActionMeaning z.0 × IsTreeOutcome z.1) e gen_valid
+    each a o (suc zero, lt, e) = subst (λ (z : ActionMeaning × Outcome). IsActionMeaning z.0 × IsTreeOutcome z.1) e use_valid
     each a o (suc (suc k), lt, e) = absurd (omega (arith, lt))
 
--- ---- the plan is lawful
+-- ---- the plan is valid
 
 data_name : IsName (codes "data")
 unfolding is_utf8 chars lib.Utf8.encode
@@ -183,8 +183,8 @@ result_name = IsName-from (codes "result") refl
 other_name : codes "gen" ≢ codes "use"
 other_name e = let same : false ≡ true = (bytes_eq-Decides (codes "gen") (codes "use")).1 e in cc
 
-pub plan_lawful : IsPlan two.plan
-plan_lawful = record {
+pub plan_valid : IsPlan two.plan
+plan_valid = record {
   few = omega arith;
   steps = (
     record {

@@ -27,7 +27,7 @@ use Rattle.tree.specs.Merge.{merge}
 use Rattle.verifier.specs.Build.{ActionMeaning, Outcome, Event, start, finish, lose, State, opening, action_of, happens}
 use Rattle.verifier.specs.Headline.{IsDirectoryInTree, IsBlobOfMeaning, IsBlobOfAction, IsBlobOfEntry, IsBlobOfOutcome, IsBlobOfEvent, IsBlobOfEvents, IsBlobOfChosen, IsConcerned}
 use Rattle.verifier.specs.TwoSteps as two
-use Rattle.verifier.proofs.TwoSteps.{sources_named, input_named, gen_tree_lawful}
+use Rattle.verifier.proofs.TwoSteps.{sources_named, input_named, gen_tree_valid}
 use Rattle.tree.proofs.WireRecords.{AreFixed, spelling_injective}
 use Rattle.hex.specs.Hex.{encode_lower}
 use Rattle.messages.specs.DigestMessage.{digest_bytes as digest_text}
@@ -234,7 +234,7 @@ made_blob : Contains all_blobs (top (form two.made))
 made_blob = (8, omega arith, refl)
 
 in_tree : (b : List ℕ) → IsDirectoryInTree two.blobs b → Contains all_blobs b
-in_tree b (t, lawful, v, m, inside, is) = by (keeping_one two.kept_blobs v.0 (tree_bytes t) v.1)
+in_tree b (t, valid, v, m, inside, is) = by (keeping_one two.kept_blobs v.0 (tree_bytes t) v.1)
   where
     by : Contains (map (λ (e : DigestValue × List ℕ). e.1) two.kept_blobs) (tree_bytes t) → Contains all_blobs b
     by (zero, lt, e) = absurd (gen_action_no_tree t e)
@@ -242,7 +242,7 @@ in_tree b (t, lawful, v, m, inside, is) = by (keeping_one two.kept_blobs v.0 (tr
     by (suc (suc zero), lt, e) = absurd (gen_command_no_tree t e)
     by (suc (suc (suc zero)), lt, e) = absurd (use_command_no_tree t e)
     by (suc (suc (suc (suc zero))), lt, e) =
-        let tree = tree_bytes_injective two.gen_tree t gen_tree_lawful lawful e in
+        let tree = tree_bytes_injective two.gen_tree t gen_tree_valid valid e in
         let one : Contains (two.gen_tree.root ∷ []) m = subst (λ (t : TreeValue). Contains (t.root ∷ t.children) m) (sym tree) inside in
         root_only one
       where

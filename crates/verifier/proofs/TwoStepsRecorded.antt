@@ -34,7 +34,7 @@ use Rattle.tree.specs.Merging.{in_source, in_tree, NodeWithin, MergeLines, nodes
 use Rattle.tree.proofs.MergeApart.{graft_passes, all_named, are_apart}
 use Rattle.verifier.specs.AsRecorded.{IsAsRecorded, IsPlanAsRecorded}
 use Rattle.verifier.specs.TwoSteps as two
-use Rattle.verifier.proofs.TwoSteps.{gen_action_named, gen_command_lawful, gen_command_named, gen_frame_lawful, gen_frame_named, gen_tree_lawful, input_named, newline_named, out_path, res_path, sources_named, tree_named, use_action_named, use_command_lawful, use_command_named, use_frame_lawful, use_frame_named}
+use Rattle.verifier.proofs.TwoSteps.{gen_action_named, gen_command_valid, gen_command_named, gen_frame_valid, gen_frame_named, gen_tree_valid, input_named, newline_named, out_path, res_path, sources_named, tree_named, use_action_named, use_command_valid, use_command_named, use_frame_valid, use_frame_named}
 
 -- ---- what the source has
 
@@ -72,39 +72,39 @@ unfolding digest_of
 sized d n is e = let size = ap (λ (x : DigestValue). x.size) e in absurd (omega (arith, size, is))
 
 stored : {M : Type 0} (keeps : M → Type 0) (spells : M → List ℕ) (d : DigestValue) (m : M) → keeps m → digest_of (spells m) ≡ d → (d ≡ digest_of [] → ⊥) → two.blobs d ≡ Some (spells m) → IsTold keeps spells two.blobs d m
-stored keeps spells d m lawful named some kept = record { lawful = lawful; blob = record { held = inr (some, sym kept); right = named } }
+stored keeps spells d m valid named some kept = record { valid = valid; blob = record { held = inr (some, sym kept); right = named } }
 
 pub gen_action_told : IsTold IsAction action_bytes two.blobs two.gen_action_digest (with_input two.gen.0.frame two.sources)
 unfolding two.gen_action_digest
 gen_action_told =
-    stored IsAction action_bytes two.gen_action_digest (with_input two.gen.0.frame two.sources) (record { frame = gen_frame_lawful; input = subst IsDigest sources_named (IsDigest-digest_of (top (form empty))) })
+    stored IsAction action_bytes two.gen_action_digest (with_input two.gen.0.frame two.sources) (record { frame = gen_frame_valid; input = subst IsDigest sources_named (IsDigest-digest_of (top (form empty))) })
     gen_action_named (sized two.gen_action_digest 137 refl) gen_action_kept
 
 pub use_action_told : IsTold IsAction action_bytes two.blobs two.use_action_digest (with_input two.uses.0.frame two.input_digest)
 unfolding two.use_action_digest
 use_action_told =
-    stored IsAction action_bytes two.use_action_digest (with_input two.uses.0.frame two.input_digest) (record { frame = use_frame_lawful; input = subst IsDigest input_named (IsDigest-digest_of (top (form two.data_input))) })
+    stored IsAction action_bytes two.use_action_digest (with_input two.uses.0.frame two.input_digest) (record { frame = use_frame_valid; input = subst IsDigest input_named (IsDigest-digest_of (top (form two.data_input))) })
     use_action_named (sized two.use_action_digest 139 refl) use_action_kept
 
 pub gen_command_told : IsTold IsCommand command_bytes two.blobs two.gen_command_digest two.gen.0.command
 unfolding two.gen_command_digest
-gen_command_told = stored IsCommand command_bytes two.gen_command_digest two.gen.0.command gen_command_lawful gen_command_named (sized two.gen_command_digest 15 refl) gen_command_kept
+gen_command_told = stored IsCommand command_bytes two.gen_command_digest two.gen.0.command gen_command_valid gen_command_named (sized two.gen_command_digest 15 refl) gen_command_kept
 
 pub use_command_told : IsTold IsCommand command_bytes two.blobs two.use_command_digest two.uses.0.command
 unfolding two.use_command_digest
-use_command_told = stored IsCommand command_bytes two.use_command_digest two.uses.0.command use_command_lawful use_command_named (sized two.use_command_digest 15 refl) use_command_kept
+use_command_told = stored IsCommand command_bytes two.use_command_digest two.uses.0.command use_command_valid use_command_named (sized two.use_command_digest 15 refl) use_command_kept
 
 pub tree_told : IsTold IsTree tree_bytes two.blobs two.tree_digest two.gen_tree
 unfolding two.tree_digest
-tree_told = stored IsTree tree_bytes two.tree_digest two.gen_tree gen_tree_lawful tree_named (sized two.tree_digest 76 refl) tree_kept
+tree_told = stored IsTree tree_bytes two.tree_digest two.gen_tree gen_tree_valid tree_named (sized two.tree_digest 76 refl) tree_kept
 
 -- ---- the results
 
 zero_fits : FitsSigned w32 (pos 0)
 zero_fits = omega arith
 
-gen_result_lawful : IsActionResult two.gen_result
-gen_result_lawful = record {
+gen_result_valid : IsActionResult two.gen_result
+gen_result_valid = record {
   files = tt;
   directories = (record { path = out_path; tree = subst IsDigest tree_named (IsDigest-digest_of (tree_bytes two.gen_tree)) }, tt);
   symlinks = tt;
@@ -114,8 +114,8 @@ gen_result_lawful = record {
   stderr = record { digest = tt };
 }
 
-use_result_lawful : IsActionResult two.use_result
-use_result_lawful = record {
+use_result_valid : IsActionResult two.use_result
+use_result_valid = record {
   files = (record { path = res_path; digest = subst IsDigest newline_named (IsDigest-digest_of (10 ∷ [])) }, tt);
   directories = tt;
   symlinks = tt;
@@ -149,10 +149,10 @@ unfolding action_result_bytes output_file_bytes varint groups two.newline_digest
 use_result_bytes = (lit< tt, bytes_fit (action_result_bytes two.use_result) refl)
 
 pub gen_result_held : HoldsResult two.results two.gen_action_digest two.gen_result
-gen_result_held = (action_result_bytes two.gen_result, gen_result_kept, canon_reads (action_result_bytes two.gen_result) two.gen_result gen_result_bytes gen_result_lawful refl)
+gen_result_held = (action_result_bytes two.gen_result, gen_result_kept, canon_reads (action_result_bytes two.gen_result) two.gen_result gen_result_bytes gen_result_valid refl)
 
 pub use_result_held : HoldsResult two.results two.use_action_digest two.use_result
-use_result_held = (action_result_bytes two.use_result, use_result_kept, canon_reads (action_result_bytes two.use_result) two.use_result use_result_bytes use_result_lawful refl)
+use_result_held = (action_result_bytes two.use_result, use_result_kept, canon_reads (action_result_bytes two.use_result) two.use_result use_result_bytes use_result_valid refl)
 
 -- what the results stand for
 abbrev gen_outcome : OutcomeValue
@@ -163,7 +163,7 @@ use_outcome = record { exit_code = pos 0; outputs = (codes "res" ∷ [], outputs
 
 pub gen_recorded : IsRecorded two.blobs two.gen_result gen_outcome
 gen_recorded = record {
-  lawful = record { paths = (out_path, tt); ascend = (tt, tt); apart = (tt, tt) };
+  valid = record { paths = (out_path, tt); ascend = (tt, tt); apart = (tt, tt) };
   exit_code = refl;
   recorded = directory (record { path = codes "out" ∷ []; tree = two.tree_digest }) ∷ [];
   ordered = record { ascend = (tt, tt); files = refl; directories = refl; symlinks = refl };
@@ -172,7 +172,7 @@ gen_recorded = record {
 
 pub use_recorded : IsRecorded two.blobs two.use_result use_outcome
 use_recorded = record {
-  lawful = record { paths = (res_path, tt); ascend = (tt, tt); apart = (tt, tt) };
+  valid = record { paths = (res_path, tt); ascend = (tt, tt); apart = (tt, tt) };
   exit_code = refl;
   recorded = file (record { path = codes "res" ∷ []; digest = two.newline_digest; executable = false }) ∷ [];
   ordered = record { ascend = (tt, tt); files = refl; directories = refl; symlinks = refl };

@@ -1,4 +1,4 @@
--- What a source and lawful outcomes tell determines what the lines of a directory come to.
+-- What a source and valid outcomes tell determines what the lines of a directory come to.
 use Rattle.std.proofs.Common.{◌≡◌, ℕ, zero, suc, List, [], ◌∷◌, sym, ◌∙◌, subst, inl, inr}
 use Rattle.std.specs.Prelude.{Option, Some, slice_get}
 use Rattle.std.specs.List.{AllByRecursion}
@@ -17,34 +17,34 @@ use Rattle.verifier.specs.declared.verdict.Cause.{Cause}
 use Rattle.verifier.specs.Accepted.{LooksUpOrigin, OriginWithin, StandsAtOrigin, Resolves}
 use Rattle.verifier.specs.Faults.{IsCauseOfLook, LineFault, FirstFault}
 
-abbrev pub AreLawful : List OutcomeValue → Type 0
-AreLawful outcomes = AllByRecursion IsOutcome outcomes
+abbrev pub AreValid : List OutcomeValue → Type 0
+AreValid outcomes = AllByRecursion IsOutcome outcomes
 
 found_is : (x y : NodeValue) → found x ≡ found y → x ≡ y
 found_is x y e = cc
 
--- one outcome stands at a place, and it is lawful
+-- one outcome stands at a place, and it is valid
 some_is : (o p : OutcomeValue) → ◌≡◌ {A = Option OutcomeValue} (Some o) (Some p) → o ≡ p
 some_is o p e = cc
 
 one_there : (os : List OutcomeValue) (step : ℕ) (o p : OutcomeValue) → slice_get os step ≡ Some o → slice_get os step ≡ Some p → o ≡ p
 one_there os step o p h k = some_is o p (sym h ∙ k)
 
-lawful_there : (os : List OutcomeValue) (step : ℕ) (o : OutcomeValue) → AreLawful os → slice_get os step ≡ Some o → IsOutcome o
-lawful_there [] step o h e = absurd cc
-lawful_there (x ∷ os) zero o h e = subst IsOutcome (some_is x o e) h.0
-lawful_there (x ∷ os) (suc step) o h e = lawful_there os step o h.1 e
+valid_there : (os : List OutcomeValue) (step : ℕ) (o : OutcomeValue) → AreValid os → slice_get os step ≡ Some o → IsOutcome o
+valid_there [] step o h e = absurd cc
+valid_there (x ∷ os) zero o h e = subst IsOutcome (some_is x o e) h.0
+valid_there (x ∷ os) (suc step) o h e = valid_there os step o h.1 e
 
-module _ (B : Blobs) (d : DigestValue) (os : List OutcomeValue) (lawful : AreLawful os) where
+module _ (B : Blobs) (d : DigestValue) (os : List OutcomeValue) (valid : AreValid os) where
   looks_at_once : (o : OriginValue) (r s : Looked) → LooksUpOrigin B d os o r → LooksUpOrigin B d os o s → r ≡ s
   looks_at_once (source p) r s h k = looks_once B d p r s h k
   looks_at_once (output step p) r s h k =
-      looked_once h.0 p r s (lawful_there os step h.0 lawful h.1) h.2 (subst (λ o. LooksIn o p s) (one_there os step k.0 h.0 k.1 h.1) k.2)
+      looked_once h.0 p r s (valid_there os step h.0 valid h.1) h.2 (subst (λ o. LooksIn o p s) (one_there os step k.0 h.0 k.1 h.1) k.2)
 
   within_at_once : (o : OriginValue) (v w : WithinValue) → OriginWithin os o v → OriginWithin os o w → v ≡ w
   within_at_once (source p) v w h k = h ∙ sym k
   within_at_once (output step p) v w h k =
-      within_once h.0 p v w (lawful_there os step h.0 lawful h.1) h.2 (subst (λ o. LiesWithin o p w) (one_there os step k.0 h.0 k.1 h.1) k.2)
+      within_once h.0 p v w (valid_there os step h.0 valid h.1) h.2 (subst (λ o. LiesWithin o p w) (one_there os step k.0 h.0 k.1 h.1) k.2)
 
   stands_once : (o : OriginValue) (x y : NodeWithin) → StandsAtOrigin B d os o x → StandsAtOrigin B d os o y → x ≡ y
   stands_once o x y h k =

@@ -67,8 +67,8 @@ output_at (o ∷ os) p = output_from (below_path o.0 p) o.1 (output_at os p)
 
 pub record StepFits (planned : DigestValue) (frame : FrameValue)
     (command : CommandValue) : Type 0 where
-  pub frame_lawful : IsFrame frame
-  pub command_lawful : IsCommand command
+  pub frame_valid : IsFrame frame
+  pub command_valid : IsCommand command
   pub frame_digest : digest_of (frame_bytes frame) ≡ planned
   pub command_digest : frame.command ≡ digest_of (command_bytes command)
 

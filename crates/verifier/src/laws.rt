@@ -37,7 +37,7 @@ ghost use Rattle.verifier.specs.Verdict.{IsVerdict, IsYes};
 
 use std::alloc::Allocator;
 
-/// Every complete run of a lawful plan that is as recorded ends in exactly the claimed root, no run
+/// Every complete run of a valid plan that is as recorded ends in exactly the claimed root, no run
 /// of it is stuck, and each runs the recorded actions and comes to the recorded outcomes. A law: it
 /// does nothing.
 pub fn recorded_plans_end_in_the_claim()
@@ -144,7 +144,7 @@ pub fn no_is_unlike_recorded<A: Allocator>()
         × (IsAccepted tells.blobs sources outcomes plan.root_lines claim → ⊥) }
 {}
 
-/// Every lawful plan with as many recorded digests has a verdict, whatever the source tells: it
+/// Every valid plan with as many recorded digests has a verdict, whatever the source tells: it
 /// can't be that none is one. A law: it does nothing.
 pub fn plans_have_verdicts<A: Allocator>()
     ensures { (tells : Telling) (sources : DigestValue) (plan : PlanValue)

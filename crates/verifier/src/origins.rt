@@ -1,7 +1,7 @@
 ghost use Rattle.std.specs.Prelude.{IfOk, IfErr, IsErrOf, length};
 ghost use Rattle.plan.specs.Values.{IsLine};
 ghost use Rattle.std.specs.List.{AllByRecursion};
-ghost use Rattle.tree.specs.Folded.{IsFoldOfLawful};
+ghost use Rattle.tree.specs.Folded.{IsFoldOfValid};
 ghost use Rattle.tree.specs.Form.{node_value};
 ghost use Rattle.tree.specs.Merging.{AreHeld, IsFoldOfMerged, IsHeldIn, merge_lines, merged};
 ghost use Rattle.tree.specs.Merging.{node_within, within_value};
@@ -98,7 +98,7 @@ pub(crate) fn merge_nodes<A: Allocator + Copy, S: BlobSource<A>>(
     requires known { IsKnownOf (known_by memo.old) (S.tells source.old) }
     ensures merged { IfOk result
         (IsFoldOfMerged (merged (S.tells source.new).blobs (merge_lines nodes.now))) }
-    ensures lawful { IfOk result (λ made. IsFoldOfLawful made) }
+    ensures valid { IfOk result (λ made. IsFoldOfValid made) }
     ensures refused { IfErr result (Explains
         (put_together (S.tells source.new).blobs (merge_lines nodes.now)).fails) }
     ensures called { Called (S.tells source.old) (S.tells source.new) (IsErrOf result Fault.Fetch) }

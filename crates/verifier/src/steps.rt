@@ -7,7 +7,7 @@ ghost use Rattle.action_messages.specs.Outputs.{recorded_value, recorded_values,
 ghost use Rattle.actions.specs.Recorded.{StandsFor, StandForAll};
 ghost use Rattle.plan.specs.Values.{IsLine};
 ghost use Rattle.tree.specs.Difference.{made_by};
-ghost use Rattle.tree.specs.Folded.{IsFoldOf, IsFoldOfLawful};
+ghost use Rattle.tree.specs.Folded.{IsFoldOf, IsFoldOfValid};
 ghost use Rattle.tree.specs.Form.{NodeValue};
 ghost use Rattle.tree.specs.Tree as trees;
 ghost use Rattle.verifier.specs.Answers.{IsDifference, IsDifferenceCause};
@@ -98,7 +98,7 @@ fn check_input<A: Allocator + Copy, S: BlobSource<A>>(
     memo: &mut Memo<A>,
     source: &mut S,
 ) -> Result<(), Fault<A>>
-    requires lawful { IsFoldOfLawful input.now }
+    requires valid { IsFoldOfValid input.now }
     requires known { IsKnownOf (known_by memo.old) (S.tells source.old) }
     ensures { (t : trees.Tree NodeValue) → IsFoldOf t input.now
         → Checks (λ tells. grafted tells.blobs action.now t)
@@ -120,7 +120,7 @@ fn explain_difference<A: Allocator + Copy, S: BlobSource<A>>(
     memo: &mut Memo<A>,
     source: &mut S,
 ) -> Fault<A>
-    requires lawful { IsFoldOfLawful grafted.now }
+    requires valid { IsFoldOfValid grafted.now }
     requires known { IsKnownOf (known_by memo.old) (S.tells source.old) }
     requires other { input.now ≢ grafted.now.root }
     ensures explained { Explains (IsDifference (made_by grafted.now) (S.tells source.new).blobs

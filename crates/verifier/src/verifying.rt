@@ -52,7 +52,7 @@ fn check_steps<A: Allocator + Copy, S: BlobSource<A>>(
     memo: &mut Memo<A>,
     source: &mut S,
 ) -> Result<Checked<A>, VerifyError>
-    requires lawful { AreSteps [] steps.now }
+    requires valid { AreSteps [] steps.now }
     requires each { length recorded.now ≡ length steps.now }
     requires known { IsKnownOf (known_by memo.old) (S.tells source.old) }
     ensures checked { IfOk result (IsChecked (S.tells source.new) sources.now steps.now
@@ -95,7 +95,7 @@ fn check_root<A: Allocator + Copy, S: BlobSource<A>>(
     memo: &mut Memo<A>,
     source: &mut S,
 ) -> Result<(), Fault<A>>
-    requires lawful { AllByRecursion (IsLine (length outcomes.now)) lines.now }
+    requires valid { AllByRecursion (IsLine (length outcomes.now)) lines.now }
     requires known { IsKnownOf (known_by memo.old) (S.tells source.old) }
     ensures { Checks (λ tells. root_check tells sources.now outcomes.now lines.now claim.now)
         (λ tells. RootLooksAt A tells sources.now outcomes.now lines.now)
@@ -123,7 +123,7 @@ fn decide<A: Allocator + Copy, S: BlobSource<A>>(
     requires known { IsKnownOf (known_by memo.old) (S.tells source.old) }
     ensures verdict { IfOk result (IsVerdict (S.tells source.new) sources.now plan.now
         recorded.now claim.now) }
-    ensures lawful { IsPlan plan.now }
+    ensures valid { IsPlan plan.now }
     ensures called { Called (S.tells source.old) (S.tells source.new)
         (IsErrOf result VerifyError.Fetch) }
     ensures learned { Learns (PlanLooksAt A (S.tells source.new) sources.now plan.now

@@ -9,7 +9,7 @@ use Rattle.runs.proofs.Places.{set_other}
 use Rattle.verifier.proofs.FreshRuns.{one_answer}
 use Rattle.worker.specs.declared.child.Child.{Child}
 use Rattle.worker.specs.declared.turns.Turn.TheVariants as turns
-use Rattle.worker.specs.Values.{ProducedValue}
+use Rattle.worker.specs.Values.{ProducedValue, Starts}
 use Rattle.worker.specs.Outcomes.{Yields}
 use Rattle.worker.specs.Calls.{WasStarted}
 use Rattle.worker.specs.Going.{IsJobOf, AreJobsOf, IsLaunched, IsBegun, EndsWell, HasEndedFirst, FinishesOnly, first_step, step_of}
@@ -163,8 +163,8 @@ only_then f g = record {
   still = λ some. g.still (f.still some);
 }
 
-module _ (A J : Type 0) (y : Yields) (may : J → ProducedValue → Type 0) (t u : Telling) (now new : EngineValue) where
-  begun_only : (i : ℕ) (cs ds : List (Child J)) → IsBegun A y may u i now new cs ds → FinishesOnly i now new
+module _ (A J : Type 0) (y : Yields) (may : J → ProducedValue → Type 0) (from to : Starts) (t u : Telling) (now new : EngineValue) where
+  begun_only : (i : ℕ) (cs ds : List (Child J)) → IsBegun A y may from to t u i now new cs ds → FinishesOnly i now new
   begun_only i cs ds b = only_then started (by b.goes)
     where
       w : WasStarted A u.blobs i b.id now b.mid
@@ -173,13 +173,13 @@ module _ (A J : Type 0) (y : Yields) (may : J → ProducedValue → Type 0) (t u
       started : FinishesOnly i now b.mid
       started = none_finishes i now b.mid (ap (λ (e : EngineValue). e.plan) (after w)) (ap (λ (e : EngineValue). e.finished) (after w))
 
-      by : IsLaunched y may u b.id b.job b.mid new cs ds → FinishesOnly i b.mid new
+      by : IsLaunched y may from to t u b.id b.job b.mid new cs ds → FinishesOnly i b.mid new
       by (inl (c, id, own, same, grown)) = none_finishes i b.mid new (ap (λ (e : EngineValue). e.plan) same) (ap (λ (e : EngineValue). e.finished) same)
-      by (inr (v, f, whole, same)) =
+      by (inr (v, f, whole, same, quiet)) =
           let of_job : f.job ≡ job_of w = one_answer (job_in b.id b.mid) f.job (job_of w) f.is (job_is w) in
           subst (λ n. FinishesOnly n b.mid new) (ap (λ (j : JobValue). j.step) of_job) (finishes_only f)
 
-  pub start_only : {T E : Type 0} (r : Result T E) (i : ℕ) (cs ds : List (Child J)) → OnOk r (IsBegun A y may u i now new cs ds) → OnOk r (FinishesOnly i now new)
+  pub start_only : {T E : Type 0} (r : Result T E) (i : ℕ) (cs ds : List (Child J)) → OnOk r (IsBegun A y may from to t u i now new cs ds) → OnOk r (FinishesOnly i now new)
   start_only (Ok x) i cs ds b = begun_only i cs ds b
   start_only (Err x) i cs ds b = tt
 

@@ -11,14 +11,15 @@ use Rattle.runs.specs.declared.starting.Job.{Job}
 use Rattle.runs.proofs.Places.{some_none}
 use Rattle.verifier.proofs.FreshRuns.{one_answer}
 use Rattle.worker.specs.declared.child.Child.{Child}
-use Rattle.worker.specs.Values.{ProducedValue}
-use Rattle.worker.specs.Stores.{IsKept, IsKeptBut}
-use Rattle.worker.specs.Outcomes.{Yields, YieldsNoMore, IsYielded}
-use Rattle.worker.specs.Calls.{running, Call, started, ran, taken, lost, HasRun, WasStarted, FinishedByChild, Does, Leads, IsLed, PutsOf, IsBuiltBy}
-use Rattle.worker.specs.Going.{IsJobOf, AreJobsOf, IsOwnJob, IsGoing, IsBegun, CameToNothing, IsLaunched, job_value, EndsWell, Ends}
+use Rattle.worker.specs.Layout.{IsLayoutOf}
+use Rattle.worker.specs.Values.{ProducedValue, StartValue, Starts, StartsOne, StartsAll, StartsNone}
+use Rattle.worker.specs.Stores.{IsKept, Stands, IsKeptBut}
+use Rattle.worker.specs.Outcomes.{Yields, YieldsNoMore, IsYielded, CanBeTaken, IsHeld, HasNoneToTake}
+use Rattle.worker.specs.Calls.{running, Call, started, launched, ran, taken, lost, CameTo, HasChild, children_of, IsResultFor, HasChildsResult, WasStarted, FinishedByChild, Does, Leads, IsLed, PutsOf, TakesRecorded, IsBuiltWith}
+use Rattle.worker.specs.Going.{IsJobOf, AreJobsOf, IsOwnJob, IsGoing, HasChildFor, IsBegun, CameToNothing, IsLaunched, job_value, EndsWell, Ends}
 use Rattle.std.specs.List.{AllByRecursion}
 use Rattle.worker.proofs.Keeping.{kept_none, right_trans, right_still, all_right_still}
-use Rattle.worker.proofs.Telling.{layout_still, recorded_still}
+use Rattle.worker.proofs.Telling.{layout_still, recorded_still, held_kept}
 use Rattle.worker.proofs.Jobs.{least_within, jobs_added, jobs_back, jobs_count, jobs_map}
 use Rattle.worker.proofs.Started.{job_of, after, least, job_is, one_more, was_started, started_value}
 
@@ -35,35 +36,52 @@ puts_none t u more k = record { put = []; are = k.puts ∙ sym (append-nil t.put
 moves_kept : (t u : Telling) (more : List Call) → IsKept t u → Moves t u more
 moves_kept t u more k = record { blobs = k.blobs; puts = puts_none t u more k }
 
-moves_ran : (t u : Telling) (id : ℕ) (d : DigestValue) (v : OutcomeValue) → IsKeptBut d t u → Moves t u (ran id d v ∷ [])
+moves_ran : (t u : Telling) (id : ℕ) (d : DigestValue) (v : OutcomeValue) → IsKeptBut d (IsResultFor v) t u → Moves t u (ran id d v ∷ [])
 moves_ran t u id d v k = record { blobs = k.blobs; puts = of k.puts }
   where
-    by : (e : DigestValue) (b : List ℕ) → (u.results e ≡ Some b) ⊎ (e ≡ d) → (u.results e ≡ Some b) ⊎ HasRun e (ran id d v ∷ [])
+    has : Stands (IsResultFor v) u.results d → HasChildsResult (ran id d v ∷ []) u.results d
+    has h = record { outcome = v; came = inl (refl, refl); bytes = h.0; held = h.1; is = h.2 }
+
+    by : (e : DigestValue) (b : List ℕ) → (u.results e ≡ Some b) ⊎ ((e ≡ d) × Stands (IsResultFor v) u.results d) → (u.results e ≡ Some b) ⊎ HasChildsResult (ran id d v ∷ []) u.results e
     by e b (inl at) = inl at
-    by e b (inr is) = inr (inl is)
+    by e b (inr h) = inr (subst (HasChildsResult (ran id d v ∷ []) u.results) (sym h.0) (has h.1))
 
-    of : (u.puts ≡ t.puts) ⊎ (u.puts ≡ t.puts ++ d ∷ []) → PutsOf (ran id d v ∷ []) t u
+    of : (u.puts ≡ t.puts) ⊎ ((u.puts ≡ t.puts ++ d ∷ []) × Stands (IsResultFor v) u.results d) → PutsOf (ran id d v ∷ []) t u
     of (inl same) = record { put = []; are = same ∙ sym (append-nil t.puts); each = tt; others = λ e b at. by e b (k.results e b at) }
-    of (inr more) = record { put = d ∷ []; are = more; each = (inl refl, tt); others = λ e b at. by e b (k.results e b at) }
+    of (inr h) = record { put = d ∷ []; are = h.0; each = (has h.1, tt); others = λ e b at. by e b (k.results e b at) }
 
-run_more : (d : DigestValue) (cs more : List Call) → HasRun d cs → HasRun d (cs ++ more)
-run_more d [] more h = absurd h
-run_more d (ran id e v ∷ cs) more (inl is) = inl is
-run_more d (ran id e v ∷ cs) more (inr h) = inr (run_more d cs more h)
-run_more d (started i id ∷ cs) more h = run_more d cs more h
-run_more d (taken id e v ∷ cs) more h = run_more d cs more h
-run_more d (lost id ∷ cs) more h = run_more d cs more h
+came_more : (d : DigestValue) (v : OutcomeValue) (cs more : List Call) → CameTo cs d v → CameTo (cs ++ more) d v
+came_more d v [] more h = absurd h
+came_more d v (ran id e w ∷ cs) more (inl is) = inl is
+came_more d v (ran id e w ∷ cs) more (inr h) = inr (came_more d v cs more h)
+came_more d v (started i id ∷ cs) more h = came_more d v cs more h
+came_more d v (launched id e x ∷ cs) more h = came_more d v cs more h
+came_more d v (taken id e w ∷ cs) more h = came_more d v cs more h
+came_more d v (lost id ∷ cs) more h = came_more d v cs more h
 
-run_behind : (d : DigestValue) (cs more : List Call) → HasRun d more → HasRun d (cs ++ more)
-run_behind d [] more h = h
-run_behind d (ran id e v ∷ cs) more h = inr (run_behind d cs more h)
-run_behind d (started i id ∷ cs) more h = run_behind d cs more h
-run_behind d (taken id e v ∷ cs) more h = run_behind d cs more h
-run_behind d (lost id ∷ cs) more h = run_behind d cs more h
+pub came_behind : (d : DigestValue) (v : OutcomeValue) (cs more : List Call) → CameTo more d v → CameTo (cs ++ more) d v
+came_behind d v [] more h = h
+came_behind d v (ran id e w ∷ cs) more h = inr (came_behind d v cs more h)
+came_behind d v (started i id ∷ cs) more h = came_behind d v cs more h
+came_behind d v (launched id e x ∷ cs) more h = came_behind d v cs more h
+came_behind d v (taken id e w ∷ cs) more h = came_behind d v cs more h
+came_behind d v (lost id ∷ cs) more h = came_behind d v cs more h
+
+childs_behind : (cs more : List Call) (C : Blobs) (d : DigestValue) → HasChildsResult more C d → HasChildsResult (cs ++ more) C d
+childs_behind cs more C d h = record { outcome = h.outcome; came = came_behind d h.outcome cs more h.came; bytes = h.bytes; held = h.held; is = h.is }
+
+-- it stays, or gives way to that of a later child
+childs_moved : (t u : Telling) (cs more : List Call) → PutsOf more t u → (d : DigestValue) → HasChildsResult cs t.results d → HasChildsResult (cs ++ more) u.results d
+childs_moved t u cs more m d h = by (m.others d h.bytes h.held)
+  where
+    by : (u.results d ≡ Some h.bytes) ⊎ HasChildsResult more u.results d → HasChildsResult (cs ++ more) u.results d
+    by (inl at) = record { outcome = h.outcome; came = came_more d h.outcome cs more h.came; bytes = h.bytes; held = at; is = h.is }
+    by (inr new) = childs_behind cs more u.results d new
 
 module _ (A : Type 0) (y : Yields) (t u : Telling) (more : List Call) (m : Moves t u more) where
   does_moved : (later : List Call) (c : Call) (old new : EngineValue) → Does A y t later c old new → Does A y u (later ++ more) c old new
   does_moved later (started i id) old new w = record { told = w.told; still = right_trans w.still m.blobs; job = w.job; number = w.number; is = w.is }
+  does_moved later (launched id d x) old new w = record { job = w.job; is = w.is; action = w.action; laid = layout_still m.blobs w.laid; command = w.command; same = w.same }
   does_moved later (ran id d v) old new w =
       let k = w.yielded in
       record {
@@ -91,13 +109,13 @@ module _ (A : Type 0) (y : Yields) (t u : Telling) (more : List Call) (m : Moves
     recorded = recorded_still m.blobs w.result v w.recorded;
   }
     where
-      by : (t.results d ≡ Some w.bytes) ⊎ HasRun d later → (u.results d ≡ Some w.bytes) ⊎ HasRun d (later ++ more)
-      by (inr h) = inr (run_more d later more h)
+      by : (t.results d ≡ Some w.bytes) ⊎ HasChildsResult later t.results d → (u.results d ≡ Some w.bytes) ⊎ HasChildsResult (later ++ more) u.results d
+      by (inr h) = inr (childs_moved t u later more m.puts d h)
       by (inl at) = next (m.puts.others d w.bytes at)
         where
-          next : (u.results d ≡ Some w.bytes) ⊎ HasRun d more → (u.results d ≡ Some w.bytes) ⊎ HasRun d (later ++ more)
+          next : (u.results d ≡ Some w.bytes) ⊎ HasChildsResult more u.results d → (u.results d ≡ Some w.bytes) ⊎ HasChildsResult (later ++ more) u.results d
           next (inl is) = inl is
-          next (inr h) = inr (run_behind d later more h)
+          next (inr h) = inr (childs_behind later more u.results d h)
   does_moved later (lost id) old new w = w
 
   leads_moved : (most : ℕ) (cs : List Call) (old mid new : EngineValue) → Leads A y t most cs old mid → Leads A y u most more mid new → Leads A y u most (cs ++ more) old new
@@ -109,32 +127,94 @@ module _ (A : Type 0) (y : Yields) (t u : Telling) (more : List Call) (m : Moves
 
 -- ---- results that are put
 
-all_run : (cs ds : List Call) → ((d : DigestValue) → HasRun d cs → HasRun d ds) → (put : List DigestValue) → AllByRecursion (λ d. HasRun d cs) put → AllByRecursion (λ d. HasRun d ds) put
-all_run cs ds to [] h = tt
-all_run cs ds to (d ∷ put) h = (to d h.0, all_run cs ds to put h.1)
+all_moved : (t u : Telling) (cs more : List Call) → PutsOf more t u → (put : List DigestValue) → AllByRecursion (HasChildsResult cs t.results) put → AllByRecursion (HasChildsResult (cs ++ more) u.results) put
+all_moved t u cs more m [] h = tt
+all_moved t u cs more m (d ∷ put) h = (childs_moved t u cs more m d h.0, all_moved t u cs more m put h.1)
 
-all_join : (cs : List Call) (xs ys : List DigestValue) → AllByRecursion (λ d. HasRun d cs) xs → AllByRecursion (λ d. HasRun d cs) ys → AllByRecursion (λ d. HasRun d cs) (xs ++ ys)
-all_join cs [] ys h k = k
-all_join cs (x ∷ xs) ys h k = (h.0, all_join cs xs ys h.1 k)
+all_behind : (cs more : List Call) (C : Blobs) (put : List DigestValue) → AllByRecursion (HasChildsResult more C) put → AllByRecursion (HasChildsResult (cs ++ more) C) put
+all_behind cs more C [] h = tt
+all_behind cs more C (d ∷ put) h = (childs_behind cs more C d h.0, all_behind cs more C put h.1)
 
-puts_moved : (s t u : Telling) (cs more : List Call) → PutsOf cs s t → PutsOf more t u → PutsOf (cs ++ more) s u
+all_join : (Is : DigestValue → Type 0) (xs ys : List DigestValue) → AllByRecursion Is xs → AllByRecursion Is ys → AllByRecursion Is (xs ++ ys)
+all_join Is [] ys h k = k
+all_join Is (x ∷ xs) ys h k = (h.0, all_join Is xs ys h.1 k)
+
+pub puts_moved : (s t u : Telling) (cs more : List Call) → PutsOf cs s t → PutsOf more t u → PutsOf (cs ++ more) s u
 puts_moved s t u cs more p m = record {
   put = p.put ++ m.put;
   are = m.are ∙ ap (λ ds. ds ++ m.put) p.are ∙ append_assoc s.puts p.put m.put;
-  each = all_join (cs ++ more) p.put m.put (all_run cs (cs ++ more) (λ d h. run_more d cs more h) p.put p.each) (all_run more (cs ++ more) (λ d h. run_behind d cs more h) m.put m.each);
+  each = all_join (HasChildsResult (cs ++ more) u.results) p.put m.put (all_moved t u cs more m p.put p.each) (all_behind cs more u.results m.put m.each);
   others = λ d b at. by d b (p.others d b at);
 }
   where
-    by : (d : DigestValue) (b : List ℕ) → (t.results d ≡ Some b) ⊎ HasRun d cs → (u.results d ≡ Some b) ⊎ HasRun d (cs ++ more)
-    by d b (inr h) = inr (run_more d cs more h)
+    by : (d : DigestValue) (b : List ℕ) → (t.results d ≡ Some b) ⊎ HasChildsResult cs t.results d → (u.results d ≡ Some b) ⊎ HasChildsResult (cs ++ more) u.results d
+    by d b (inr h) = inr (childs_moved t u cs more m d h)
     by d b (inl at) = next (m.others d b at)
       where
-        next : (u.results d ≡ Some b) ⊎ HasRun d more → (u.results d ≡ Some b) ⊎ HasRun d (cs ++ more)
+        next : (u.results d ≡ Some b) ⊎ HasChildsResult more u.results d → (u.results d ≡ Some b) ⊎ HasChildsResult (cs ++ more) u.results d
         next (inl is) = inl is
-        next (inr h) = inr (run_behind d cs more h)
+        next (inr h) = inr (childs_behind cs more u.results d h)
 
-built_moved : (A : Type 0) (y : Yields) (s t u : Telling) (more : List Call) → Moves t u more → (most : ℕ) (old mid new : EngineValue) → IsBuiltBy A y s t most old mid → Leads A y u most more mid new → IsBuiltBy A y s u most old new
-built_moved A y s t u more m most old mid new h rest = record { led = led_moved A y t u more m most old mid new h.led rest; puts = puts_moved s t u h.led.calls more h.puts m.puts }
+-- what a turn puts
+pub puts_kept : {t u : Telling} → IsKept t u → PutsOf [] t u
+puts_kept {t} {u} k = puts_none t u [] k
+
+pub puts_ended : {J : Type 0} (may : J → ProducedValue → Type 0) (t u : Telling) (c : Child J) (now new : EngineValue) → Ends may t u c now new → (more : List Call) × PutsOf more t u
+puts_ended may t u c now new (inl e) = (ran c.id c.action e.produced.outcome ∷ [], (moves_ran t u c.id c.action e.produced.outcome e.kept).puts)
+puts_ended may t u c now new (inr (l, k)) = ([], puts_none t u [] k)
+
+-- ---- children that are started
+
+children_join : (cs more : List Call) → children_of (cs ++ more) ≡ children_of cs ++ children_of more
+children_join [] more = refl
+children_join (launched id d x ∷ cs) more = ap (λ xs. x ∷ xs) (children_join cs more)
+children_join (started i id ∷ cs) more = children_join cs more
+children_join (ran id d v ∷ cs) more = children_join cs more
+children_join (taken id d v ∷ cs) more = children_join cs more
+children_join (lost id ∷ cs) more = children_join cs more
+
+child_either : (cs more : List Call) (d : DigestValue) (x : StartValue) → HasChild (cs ++ more) d x → HasChild cs d x ⊎ HasChild more d x
+child_either [] more d x h = inr h
+child_either (launched id e y ∷ cs) more d x (inl is) = inl (inl is)
+child_either (launched id e y ∷ cs) more d x (inr h) = by (child_either cs more d x h)
+  where
+    by : HasChild cs d x ⊎ HasChild more d x → HasChild (launched id e y ∷ cs) d x ⊎ HasChild more d x
+    by (inl here) = inl (inr here)
+    by (inr later) = inr later
+child_either (started i id ∷ cs) more d x h = child_either cs more d x h
+child_either (ran id e v ∷ cs) more d x h = child_either cs more d x h
+child_either (taken id e v ∷ cs) more d x h = child_either cs more d x h
+child_either (lost id ∷ cs) more d x h = child_either cs more d x h
+
+all_starts : (xs ys : List StartValue) (from mid to : Starts) → StartsAll xs from mid → StartsAll ys mid to → StartsAll (xs ++ ys) from to
+all_starts xs ys from mid to f g before h = subst to (append_assoc before xs ys) (g (before ++ xs) (f before h))
+
+none_starts : (from to : Starts) → StartsNone from to → StartsAll [] from to
+none_starts from to f before h = subst to (sym (append-nil before)) (f before h)
+
+-- the store had nothing to take for the children of these calls
+abbrev HadNone : Telling → List Call → Type 0
+HadNone t more = (d : DigestValue) (x : StartValue) → HasChild more d x → HasNoneToTake t d x.command
+
+takes_moved : (s t : Telling) (cs more : List Call) → KeepsRight s.blobs t.blobs → PutsOf cs s t → TakesRecorded cs s → HadNone t more → TakesRecorded (cs ++ more) s
+takes_moved s t cs more keeps p old new d x child v held fits = by (child_either cs more d x child)
+  where
+    by : HasChild cs d x ⊎ HasChild more d x → (w : OutcomeValue) × CameTo (cs ++ more) d w
+    by (inl h) = let was = old d x h v held fits in (was.0, came_more d was.0 cs more was.1)
+    by (inr h) = next (p.others d held.bytes held.held)
+      where
+        next : (t.results d ≡ Some held.bytes) ⊎ HasChildsResult cs t.results d → (w : OutcomeValue) × CameTo (cs ++ more) d w
+        next (inl at) = absurd (new d x h v (record { bytes = held.bytes; held = at; result = held.result; reads = held.reads; recorded = recorded_still keeps held.result v held.recorded }) fits)
+        next (inr was) = (was.outcome, came_more d was.outcome cs more was.came)
+
+built_moved : (A : Type 0) (y : Yields) (from mid to : Starts) (s t u : Telling) (more : List Call) → Moves t u more → StartsAll (children_of more) mid to → HadNone t more
+    → (most : ℕ) (old now new : EngineValue) → IsBuiltWith A y from mid s t most old now → Leads A y u most more now new → IsBuiltWith A y from to s u most old new
+built_moved A y from mid to s t u more m starts none most old now new h rest = record {
+  built = record { led = led_moved A y t u more m most old now new h.built.led rest; puts = puts_moved s t u h.built.led.calls more h.built.puts m.puts };
+  children = subst (λ xs. StartsAll xs from to) (sym (children_join h.built.led.calls more)) (all_starts (children_of h.built.led.calls) (children_of more) from mid to h.children starts);
+  blobs = right_trans h.blobs m.blobs;
+  takes = takes_moved s t h.built.led.calls more h.blobs h.built.puts h.takes none;
+}
 
 -- ---- what is owed
 
@@ -156,161 +236,183 @@ owed_still {J} {y} {z} {may} {B} {C} {old} {new} within keeps same c j h =
 
 -- ---- going on
 
-module _ (A J : Type 0) (y : Yields) (may : J → ProducedValue → Type 0) (s : Telling) (most : ℕ) (old : EngineValue) where
-  abbrev Goes : Telling → EngineValue → List (Child J) → Type 0
-  Goes t now cs = IsGoing A y may s t most old now cs
+module _ (A J : Type 0) (y : Yields) (may : J → ProducedValue → Type 0) (from : Starts) (s : Telling) (most : ℕ) (old : EngineValue) where
+  abbrev Goes : Starts → Telling → EngineValue → List (Child J) → Type 0
+  Goes to t now cs = IsGoing A y may from to s t most old now cs
 
-  pub going_none : running old.jobs ≡ 0 → Goes s old []
-  going_none idle = record { led = record { led = record { calls = []; leads = refl }; puts = puts_none s s [] kept_none }; jobs = idle; few = omega arith }
+  pub going_none : running old.jobs ≡ 0 → Goes from s old []
+  going_none idle = record {
+    led = record {
+      built = record { led = record { calls = []; leads = refl }; puts = puts_none s s [] kept_none };
+      children = none_starts from from (λ before h. h);
+      blobs = λ e b at right. at;
+      takes = λ d x child v held fits. absurd child;
+    };
+    jobs = idle;
+    few = omega arith;
+  }
 
-  -- only the store was called
-  pub going_kept : (t u : Telling) (now new : EngineValue) (cs : List (Child J)) → IsKept t u → new ≡ now → Goes t now cs → Goes u new cs
-  going_kept t u now new cs k same g = subst (λ e. Goes u e cs) (sym same) (record {
-    led = built_moved A y s t u [] (moves_kept t u [] k) most old now now g.led refl;
-    jobs = jobs_map (IsOwnJob y may t.blobs now) (IsOwnJob y may u.blobs now) (owed_still (λ l c p h. h) k.blobs refl) cs now.jobs g.jobs;
-    few = g.few;
-  })
+  module _ (a b : Starts) where
+    -- only the store was called
+    pub going_kept : (t u : Telling) (now new : EngineValue) (cs : List (Child J)) → IsKept t u → StartsNone a b → new ≡ now → Goes a t now cs → Goes b u new cs
+    going_kept t u now new cs k quiet same g = subst (λ e. Goes b u e cs) (sym same) (record {
+      led = built_moved A y from a b s t u [] (moves_kept t u [] k) (none_starts a b quiet) (λ d x child. absurd child) most old now now g.led refl;
+      jobs = jobs_map (IsOwnJob y may t.blobs now) (IsOwnJob y may u.blobs now) (owed_still (λ l c p h. h) k.blobs refl) cs now.jobs g.jobs;
+      few = g.few;
+    })
 
-  pub led_kept : (t u : Telling) (now : EngineValue) (cs : List (Child J)) → IsKept t u → Goes t now cs → IsLed A y u most old now
-  led_kept t u now cs k g = led_moved A y t u [] (moves_kept t u [] k) most old now now g.led.led refl
+    pub led_kept : (t u : Telling) (now : EngineValue) (cs : List (Child J)) → IsKept t u → Goes a t now cs → IsLed A y u most old now
+    led_kept t u now cs k g = led_moved A y t u [] (moves_kept t u [] k) most old now now g.led.built.led refl
 
-  -- the first child's job is gone
-  module _ (t u : Telling) (now new : EngineValue) (c : Child J) (cs : List (Child J)) (g : Goes t now (c ∷ cs)) where
-    fewer : length cs ≤ most
-    fewer = let few = g.few in omega (arith, few)
+    -- the first child's job is gone
+    module _ (t u : Telling) (now new : EngineValue) (c : Child J) (cs : List (Child J)) (quiet : StartsNone a b) (g : Goes a t now (c ∷ cs)) where
+      fewer : length cs ≤ most
+      fewer = let few = g.few in omega (arith, few)
 
-    gone : (more : List Call) → Moves t u more → new.jobs ≡ set now.jobs c.id None → new.commands ≡ now.commands → (running new.jobs ≤ most → Leads A y u most more now new) → Goes u new cs
-    gone more m jobs commands leads =
-        let rest : AreJobsOf (IsOwnJob y may t.blobs now) (set now.jobs c.id None) cs = g.jobs.3 in
-        let count = jobs_count (IsOwnJob y may t.blobs now) cs (set now.jobs c.id None) rest in
-        let le = fewer in
-        let few : running (set now.jobs c.id None) ≤ most = omega (arith, count, le) in
-        record {
-          led = built_moved A y s t u more m most old now new g.led (leads (subst (λ js. running js ≤ most) (sym jobs) few));
-          jobs = subst (λ js. AreJobsOf (IsOwnJob y may u.blobs new) js cs) (sym jobs)
-              (jobs_map (IsOwnJob y may t.blobs now) (IsOwnJob y may u.blobs new) (owed_still (λ l d p h. h) m.blobs commands) cs (set now.jobs c.id None) rest);
-          few = fewer;
-        }
+      gone : (more : List Call) → Moves t u more → StartsAll (children_of more) a b → HadNone t more → new.jobs ≡ set now.jobs c.id None → new.commands ≡ now.commands → (running new.jobs ≤ most → Leads A y u most more now new) → Goes b u new cs
+      gone more m starts none jobs commands leads =
+          let rest : AreJobsOf (IsOwnJob y may t.blobs now) (set now.jobs c.id None) cs = g.jobs.3 in
+          let count = jobs_count (IsOwnJob y may t.blobs now) cs (set now.jobs c.id None) rest in
+          let le = fewer in
+          let few : running (set now.jobs c.id None) ≤ most = omega (arith, count, le) in
+          record {
+            led = built_moved A y from a b s t u more m starts none most old now new g.led (leads (subst (λ js. running js ≤ most) (sym jobs) few));
+            jobs = subst (λ js. AreJobsOf (IsOwnJob y may u.blobs new) js cs) (sym jobs)
+                (jobs_map (IsOwnJob y may t.blobs now) (IsOwnJob y may u.blobs new) (owed_still (λ l d p h. h) m.blobs commands) cs (set now.jobs c.id None) rest);
+            few = fewer;
+          }
 
-    ran_child : (e : EndsWell may t u c now new) → FinishedByChild y u c.id c.action e.produced.outcome now new
-    ran_child e =
-        let same : e.finished.job ≡ g.jobs.0 = one_answer (job_in c.id now) e.finished.job g.jobs.0 e.finished.is g.jobs.1 in
-        let k = g.jobs.2.owed in
-        record {
-          finished = e.finished;
-          action = ap (λ (j : JobValue). j.action) same ∙ g.jobs.2.of_child.action;
-          yielded = subst (λ j. IsYielded y u.blobs now j e.produced.outcome) (sym same) (record {
-            layout = k.layout;
-            laid = layout_still e.kept.blobs k.laid;
-            command = k.command;
-            of_step = k.of_step;
-            produced = e.produced;
-            may = k.may_come e.produced e.came;
-            outcome = refl;
-            action = right_still e.kept.blobs k.action;
-            blobs = e.blobs;
-          });
-        }
+      ran_child : (e : EndsWell may t u c now new) → FinishedByChild y u c.id c.action e.produced.outcome now new
+      ran_child e =
+          let same : e.finished.job ≡ g.jobs.0 = one_answer (job_in c.id now) e.finished.job g.jobs.0 e.finished.is g.jobs.1 in
+          let k = g.jobs.2.owed in
+          record {
+            finished = e.finished;
+            action = ap (λ (j : JobValue). j.action) same ∙ g.jobs.2.of_child.action;
+            yielded = subst (λ j. IsYielded y u.blobs now j e.produced.outcome) (sym same) (record {
+              layout = k.layout;
+              laid = layout_still e.kept.blobs k.laid;
+              command = k.command;
+              of_step = k.of_step;
+              produced = e.produced;
+              may = k.may_come e.produced e.came;
+              outcome = refl;
+              action = right_still e.kept.blobs k.action;
+              blobs = e.blobs;
+            });
+          }
 
-    pub going_ended : Ends may t u c now new → Goes u new cs
-    going_ended (inl e) = gone (ran c.id c.action e.produced.outcome ∷ []) (moves_ran t u c.id c.action e.produced.outcome e.kept)
-        (ap (λ (e : EngineValue). e.jobs) e.finished.after) (ap (λ (e : EngineValue). e.commands) e.finished.after)
-        (λ few. (new, ran_child e, few, refl))
-    going_ended (inr ((j, at, after), k)) = gone (lost c.id ∷ []) (moves_kept t u (lost c.id ∷ []) k)
-        (ap (λ (e : EngineValue). e.jobs) after) (ap (λ (e : EngineValue). e.commands) after)
-        (λ few. (new, (j, at, after), few, refl))
+      pub going_ended : Ends may t u c now new → Goes b u new cs
+      going_ended (inl e) = gone (ran c.id c.action e.produced.outcome ∷ []) (moves_ran t u c.id c.action e.produced.outcome e.kept)
+          (none_starts a b quiet) (λ d x child. absurd child)
+          (ap (λ (e : EngineValue). e.jobs) e.finished.after) (ap (λ (e : EngineValue). e.commands) e.finished.after)
+          (λ few. (new, ran_child e, few, refl))
+      going_ended (inr ((j, at, after), k)) = gone (lost c.id ∷ []) (moves_kept t u (lost c.id ∷ []) k)
+          (none_starts a b quiet) (λ d x child. absurd child)
+          (ap (λ (e : EngineValue). e.jobs) after) (ap (λ (e : EngineValue). e.commands) after)
+          (λ few. (new, (j, at, after), few, refl))
 
-  -- a step was started
-  module _ (t u : Telling) (now mid : EngineValue) (cs : List (Child J)) (i id : ℕ) (k : IsKept t u) (g : Goes t now cs) (room : length cs < most) (w : WasStarted A u.blobs i id now mid) where
-    few_mid : running mid.jobs ≤ most
-    few_mid = let more = one_more w in let count = jobs_count (IsOwnJob y may t.blobs now) cs now.jobs g.jobs in omega (arith, more, count, room)
+    -- a step was started
+    module _ (t u : Telling) (now mid : EngineValue) (cs : List (Child J)) (i id : ℕ) (k : IsKept t u) (g : Goes a t now cs) (room : length cs < most) (w : WasStarted A u.blobs i id now mid) where
+      few_mid : running mid.jobs ≤ most
+      few_mid = let more = one_more w in let count = jobs_count (IsOwnJob y may t.blobs now) cs now.jobs g.jobs in omega (arith, more, count, room)
 
-    commands_mid : mid.commands ≡ now.commands
-    commands_mid = ap (λ (e : EngineValue). e.commands) (after w)
+      commands_mid : mid.commands ≡ now.commands
+      commands_mid = ap (λ (e : EngineValue). e.commands) (after w)
 
-    there : AreJobsOf (IsOwnJob y may u.blobs mid) now.jobs cs
-    there = jobs_map (IsOwnJob y may t.blobs now) (IsOwnJob y may u.blobs mid) (owed_still (λ l c p h. h) k.blobs commands_mid) cs now.jobs g.jobs
+      there : AreJobsOf (IsOwnJob y may u.blobs mid) now.jobs cs
+      there = jobs_map (IsOwnJob y may t.blobs now) (IsOwnJob y may u.blobs mid) (owed_still (λ l c p h. h) k.blobs commands_mid) cs now.jobs g.jobs
 
-    pub led_started : IsLed A y u most old mid
-    led_started = led_moved A y t u (started i id ∷ []) (moves_kept t u (started i id ∷ []) k) most old now mid g.led.led (mid, w, few_mid, refl)
+      pub led_started : IsLed A y u most old mid
+      led_started = led_moved A y t u (started i id ∷ []) (moves_kept t u (started i id ∷ []) k) most old now mid g.led.built.led (mid, w, few_mid, refl)
 
-    built_started : IsBuiltBy A y s u most old mid
-    built_started = built_moved A y s t u (started i id ∷ []) (moves_kept t u (started i id ∷ []) k) most old now mid g.led (mid, w, few_mid, refl)
+      pub going_started : (c : Child J) → c.id ≡ id → IsOwnJob y may u.blobs mid c (job_of w) → (x : StartValue) → IsLayoutOf u.blobs (job_of w).input x.layout → slice_get mid.commands i ≡ Some x.command
+          → StartsOne a b x → HasNoneToTake t (job_of w).action x.command → Goes b u mid (cs ++ c ∷ [])
+      going_started c same is x laid command starts none = record {
+        led = built_moved A y from a b s t u (started i id ∷ launched id (job_of w).action x ∷ []) (moves_kept t u (started i id ∷ launched id (job_of w).action x ∷ []) k) starts had
+            most old now mid g.led (mid, w, few_mid, (mid, record { job = job_of w; is = job_is w; action = refl; laid = laid; command = command; same = refl }, few_mid, refl));
+        jobs = subst (λ js. AreJobsOf (IsOwnJob y may u.blobs mid) js (cs ++ c ∷ [])) (sym (ap (λ (e : EngineValue). e.jobs) (after w)))
+            (jobs_added (IsOwnJob y may u.blobs mid) cs now.jobs id c (job_of w) (least_within now.jobs id (least w)) (least w).free same is there);
+        few = let n = length-append cs (c ∷ []) in omega (arith, n, room);
+      }
+        where
+          had : (d : DigestValue) (z : StartValue) → HasChild (started i id ∷ launched id (job_of w).action x ∷ []) d z → HasNoneToTake t d z.command
+          had d z (inl (of_action, of_child)) = subst (λ e. HasNoneToTake t e z.command) (sym of_action) (subst (λ (r : StartValue). HasNoneToTake t (job_of w).action r.command) (sym of_child) none)
+          had d z (inr h) = absurd h
 
-    pub going_started : (c : Child J) → c.id ≡ id → IsOwnJob y may u.blobs mid c (job_of w) → Goes u mid (cs ++ c ∷ [])
-    going_started c same is = record {
-      led = built_started;
-      jobs = subst (λ js. AreJobsOf (IsOwnJob y may u.blobs mid) js (cs ++ c ∷ [])) (sym (ap (λ (e : EngineValue). e.jobs) (after w)))
-          (jobs_added (IsOwnJob y may u.blobs mid) cs now.jobs id c (job_of w) (least_within now.jobs id (least w)) (least w).free same is there);
-      few = let n = length-append cs (c ∷ []) in omega (arith, n, room);
-    }
+      -- its job is gone again: nothing runs that didn't run before
+      pub going_back : (new : EngineValue) (call : Call) → StartsAll (children_of (call ∷ [])) a b → HadNone t (call ∷ []) → new.jobs ≡ set mid.jobs id None → new.commands ≡ mid.commands → Does A y u [] call mid new → Goes b u new cs
+      going_back new call starts none jobs commands does =
+          let back : AreJobsOf (IsOwnJob y may u.blobs mid) (set mid.jobs id None) cs
+          = subst (λ js. AreJobsOf (IsOwnJob y may u.blobs mid) (set js id None) cs) (sym (ap (λ (e : EngineValue). e.jobs) (after w)))
+          (jobs_back (IsOwnJob y may u.blobs mid) cs now.jobs id (job_of w) (least_within now.jobs id (least w)) (least w).free there) in
+          let count = jobs_count (IsOwnJob y may u.blobs mid) cs (set mid.jobs id None) back in
+          let few = g.few in
+          let few_new : running new.jobs ≤ most = subst (λ js. running js ≤ most) (sym jobs) (omega (arith, count, few)) in
+          record {
+            led = built_moved A y from a b s t u (started i id ∷ call ∷ []) (moves_kept t u (started i id ∷ call ∷ []) k) starts none most old now new g.led (mid, w, few_mid, (new, does, few_new, refl));
+            jobs = subst (λ js. AreJobsOf (IsOwnJob y may u.blobs new) js cs) (sym jobs)
+                (jobs_map (IsOwnJob y may u.blobs mid) (IsOwnJob y may u.blobs new) (owed_still (λ l c p h. h) (λ e b at right. at) commands) cs (set mid.jobs id None) back);
+            few = g.few;
+          }
 
-    -- its job is gone again: nothing runs that didn't run before
-    pub going_back : (new : EngineValue) (call : Call) → new.jobs ≡ set mid.jobs id None → new.commands ≡ mid.commands → Does A y u [] call mid new → Goes u new cs
-    going_back new call jobs commands does =
-        let back : AreJobsOf (IsOwnJob y may u.blobs mid) (set mid.jobs id None) cs
-        = subst (λ js. AreJobsOf (IsOwnJob y may u.blobs mid) (set js id None) cs) (sym (ap (λ (e : EngineValue). e.jobs) (after w)))
-        (jobs_back (IsOwnJob y may u.blobs mid) cs now.jobs id (job_of w) (least_within now.jobs id (least w)) (least w).free there) in
-        let count = jobs_count (IsOwnJob y may u.blobs mid) cs (set mid.jobs id None) back in
-        let few = g.few in
-        let few_new : running new.jobs ≤ most = subst (λ js. running js ≤ most) (sym jobs) (omega (arith, count, few)) in
-        record {
-          led = built_moved A y s t u (started i id ∷ call ∷ []) (moves_kept t u (started i id ∷ call ∷ []) k) most old now new g.led (mid, w, few_mid, (new, does, few_new, refl));
-          jobs = subst (λ js. AreJobsOf (IsOwnJob y may u.blobs new) js cs) (sym jobs)
-              (jobs_map (IsOwnJob y may u.blobs mid) (IsOwnJob y may u.blobs new) (owed_still (λ l c p h. h) (λ e b at right. at) commands) cs (set mid.jobs id None) back);
-          few = g.few;
-        }
+    module _ (z : Yields) (within : YieldsNoMore z y) where
+      pub going_begun : (t u : Telling) (now new : EngineValue) (i : ℕ) (cs ds : List (Child J)) → IsKept t u → Goes a t now cs → length cs < most → IsBegun A z may a b t u i now new cs ds → Goes b u new ds
+      going_begun t u now new i cs ds k g room begun = by begun.goes
+        where
+          w : WasStarted A u.blobs i begun.id now begun.mid
+          w = begun.started
 
-  module _ (z : Yields) (within : YieldsNoMore z y) where
-    pub going_begun : (t u : Telling) (now new : EngineValue) (i : ℕ) (cs ds : List (Child J)) → IsKept t u → Goes t now cs → length cs < most → IsBegun A z may u i now new cs ds → Goes u new ds
-    going_begun t u now new i cs ds k g room b = by b.goes
-      where
-        w : WasStarted A u.blobs i b.id now b.mid
-        w = b.started
+          one : begun.job ≡ job_of w
+          one = one_answer (job_in begun.id begun.mid) begun.job (job_of w) begun.is (job_is w)
 
-        one : b.job ≡ job_of w
-        one = one_answer (job_in b.id b.mid) b.job (job_of w) b.is (job_is w)
+          by : IsLaunched z may a b t u begun.id begun.job begun.mid new cs ds → Goes b u new ds
+          by (inl (c, id, child, same, grown)) =
+              let own : HasChildFor z may a b t u begun.mid (job_of w) c = subst (λ j. HasChildFor z may a b t u begun.mid j c) one child in
+              subst (λ (e : EngineValue). Goes b u e ds) (sym same)
+              (subst (Goes b u begun.mid) (sym grown) (going_started t u now begun.mid cs i begun.id k g room w c id
+              (owed_still within (λ e b at right. at) refl c (job_of w) own.own)
+              (record { layout = own.own.owed.layout; command = own.own.owed.command }) own.own.owed.laid own.own.owed.of_step own.started own.none))
+          by (inr (v, f, held, same, quiet)) =
+              let of_job : f.job ≡ begun.job = one_answer (job_in begun.id begun.mid) f.job begun.job f.is begun.is in
+              subst (Goes b u new) (sym same) (going_back t u now begun.mid cs i begun.id k g room w new (taken begun.id begun.job.action v)
+              (none_starts a b quiet) (λ d x child. absurd child)
+              (ap (λ (e : EngineValue). e.jobs) f.after) (ap (λ (e : EngineValue). e.commands) f.after)
+              (record {
+                finished = f;
+                action = ap (λ (j : JobValue). j.action) of_job;
+                bytes = held.held.bytes;
+                held = inl held.held.held;
+                result = held.held.result;
+                reads = held.held.reads;
+                recorded = held.held.recorded;
+              }))
 
-        by : IsLaunched z may u b.id b.job b.mid new cs ds → Goes u new ds
-        by (inl (c, id, own, same, grown)) =
-            subst (λ (e : EngineValue). Goes u e ds) (sym same)
-            (subst (Goes u b.mid) (sym grown) (going_started t u now b.mid cs i b.id k g room w c id
-            (subst (IsOwnJob y may u.blobs b.mid c) one (owed_still within (λ e b at right. at) refl c b.job own))))
-        by (inr (v, f, held, same)) =
-            let of_job : f.job ≡ b.job = one_answer (job_in b.id b.mid) f.job b.job f.is b.is in
-            subst (Goes u new) (sym same) (going_back t u now b.mid cs i b.id k g room w new (taken b.id b.job.action v)
-            (ap (λ (e : EngineValue). e.jobs) f.after) (ap (λ (e : EngineValue). e.commands) f.after)
-            (record {
-              finished = f;
-              action = ap (λ (j : JobValue). j.action) of_job;
-              bytes = held.held.bytes;
-              held = inl held.held.held;
-              result = held.held.result;
-              reads = held.held.reads;
-              recorded = held.held.recorded;
-            }))
-
-  pub going_refused : (t u : Telling) (now new : EngineValue) (i : ℕ) (cs : List (Child J)) → IsKept t u → Goes t now cs → length cs < most → CameToNothing A u.blobs i now new → Goes u new cs
-  going_refused t u now new i cs k g room (inl same) = going_kept t u now new cs k same g
-  going_refused t u now new i cs k g room (inr (id, mid, w, gone)) =
-      going_back t u now mid cs i id k g room w new (lost id) (ap (λ (e : EngineValue). e.jobs) gone) (ap (λ (e : EngineValue). e.commands) gone) (job_of w, job_is w, gone)
+    pub going_refused : (t u : Telling) (now new : EngineValue) (i : ℕ) (cs : List (Child J)) → IsKept t u → StartsNone a b → Goes a t now cs → length cs < most → CameToNothing A u.blobs i now new → Goes b u new cs
+    going_refused t u now new i cs k quiet g room (inl same) = going_kept t u now new cs k quiet same g
+    going_refused t u now new i cs k quiet g room (inr (id, mid, w, gone)) =
+        going_back t u now mid cs i id k g room w new (lost id) (none_starts a b quiet) (λ d x child. absurd child) (ap (λ (e : EngineValue). e.jobs) gone) (ap (λ (e : EngineValue). e.commands) gone) (job_of w, job_is w, gone)
 
 -- the children's jobs
-pub own_jobs : {J : Type 0} (A : Type 0) (y : Yields) (may : J → ProducedValue → Type 0) (s t : Telling) (most : ℕ) (old now : EngineValue) (cs : List (Child J)) → IsGoing A y may s t most old now cs → AreJobsOf IsJobOf now.jobs cs
-own_jobs A y may s t most old now cs g = jobs_map (IsOwnJob y may t.blobs now) IsJobOf (λ c j h. h.of_child) cs now.jobs g.jobs
+pub own_jobs : {J : Type 0} (A : Type 0) (y : Yields) (may : J → ProducedValue → Type 0) (from to : Starts) (s t : Telling) (most : ℕ) (old now : EngineValue) (cs : List (Child J)) → IsGoing A y may from to s t most old now cs → AreJobsOf IsJobOf now.jobs cs
+own_jobs A y may from to s t most old now cs g = jobs_map (IsOwnJob y may t.blobs now) IsJobOf (λ c j h. h.of_child) cs now.jobs g.jobs
 
 -- ---- a step that is started, or refused
 
-pub begun : {A J : Type 0} {y : Yields} {may : J → ProducedValue → Type 0} {B : Blobs} (u : Telling) {i : ℕ} {old mid new : EngineValue} {job : Job A} {before behind : List (Child J)} → IsStarted B i old mid job → KeepsRight B u.blobs
-    → IsLaunched y may u job.id (job_value job) mid new before behind → IsBegun A y may u i old new before behind
-begun {A} {J} {y} {may} {B} u {i} {old} {mid} {new} {job} s keeps launched = record {
+pub begun : {A J : Type 0} {y : Yields} {may : J → ProducedValue → Type 0} {from to : Starts} {B : Blobs} {s t : Telling} (u : Telling) {i : ℕ} {old mid new : EngineValue} {job : Job A} {before behind : List (Child J)} → IsStarted B i old mid job → KeepsRight B u.blobs → IsKept s t
+    → IsLaunched y may from to t u job.id (job_value job) mid new before behind → IsBegun A y may from to s u i old new before behind
+begun {A} {J} {y} {may} {from} {to} {B} {s} {t} u {i} {old} {mid} {new} {job} {before} {behind} is keeps kept went = record {
   id = job.id;
   mid = mid;
-  started = was_started s u.blobs keeps;
+  started = was_started is u.blobs keeps;
   job = job_value job;
-  is = started_value s;
-  goes = launched;
+  is = started_value is;
+  goes = by went;
 }
+  where
+    by : IsLaunched y may from to t u job.id (job_value job) mid new before behind → IsLaunched y may from to s u job.id (job_value job) mid new before behind
+    by (inl (c, id, child, same, grown)) = inl (c, id, record { own = child.own; started = child.started; none = λ v held fits. child.none v (held_kept kept held) fits }, same, grown)
+    by (inr taken_at_once) = inr taken_at_once
 
 pub lose_goes : {T E : Type 0} (r : Result T E) (id : ℕ) (old new : EngineValue) (j : JobValue) → IsErr r ↔ (job_in id old ≡ None) → OnOk r (new ≡ without_job id old) → job_in id old ≡ Some j → new ≡ without_job id old
 lose_goes (Ok x) id old new j none gone at = gone

@@ -1,9 +1,15 @@
 -- What a watcher is told.
-use Rattle.std.proofs.Common.{List, [], ◌∷◌, ◌++◌, append_assoc, append-nil, Option, Some, None, refl, ap, sym, ◌∙◌, inl, inr}
+use Rattle.std.proofs.Common.{ℕ, List, [], ◌∷◌, ◌++◌, append_assoc, append-nil, Option, Some, None, refl, ap, sym, ◌∙◌, inl, inr}
 use Rattle.std.specs.List.{AllByRecursion}
+use Rattle.blob_source.specs.Sink.{KeepsRight}
+use Rattle.blob_source.specs.Source.{Telling}
 use Rattle.runs.specs.Engine.{EngineValue}
 use Rattle.worker.specs.declared.watching.Progress.{Progress}
-use Rattle.worker.specs.Watching.{Hears, IsWatched, IsProgressOf, IsUpToDate}
+use Rattle.worker.specs.Calls.{Call, PutsOf}
+use Rattle.worker.specs.Outcomes.{Yields}
+use Rattle.worker.specs.Watching.{Hears, IsWatched, IsProgress, IsProgressOf, IsUpToDate}
+use Rattle.worker.proofs.Goes.{puts_moved}
+use Rattle.worker.proofs.Keeping.{right_trans}
 
 hears_none : (a : Option (List Progress)) → Hears a a []
 hears_none None = tt
@@ -35,3 +41,23 @@ up_more first now None b c p w heard is = tt
 up_more first now (Some xs) None c p w heard is = absurd w.heard
 up_more first now (Some xs) (Some ys) None p w heard is = absurd heard
 up_more first now (Some xs) (Some ys) (Some zs) p w heard is = inr (ys, p, heard, is)
+
+-- ---- as more is put
+
+all_so : (Is So : Progress → Type 0) → ((p : Progress) → Is p → So p) → (ps : List Progress) → AllByRecursion Is ps → AllByRecursion So ps
+all_so Is So follows [] h = tt
+all_so Is So follows (p ∷ ps) h = (follows p h.0, all_so Is So follows ps h.1)
+
+pub watched_so : {Is So : Progress → Type 0} {a b : Option (List Progress)} → ((p : Progress) → Is p → So p) → IsWatched Is a b → IsWatched So a b
+watched_so {Is} {So} {a} {b} follows w = record { told = w.told; heard = w.heard; each = all_so Is So follows w.told w.each }
+
+pub progress_moved : (A : Type 0) (y : Yields) (most : ℕ) (first : EngineValue) (t u : Telling) (more : List Call) → PutsOf more t u → KeepsRight t.blobs u.blobs → (p : Progress) → IsProgress A y t most first p → IsProgress A y u most first p
+progress_moved A y most first t u more m keeps p h = record {
+  told = h.told;
+  now = h.now;
+  led = h.led;
+  is = h.is;
+  later = h.later ++ more;
+  since = puts_moved h.told t u h.later more h.since m;
+  still = right_trans h.still keeps;
+}

@@ -13,7 +13,7 @@ use Rattle.blob_source.specs.declared.source.FetchError.{FetchError}
 use Rattle.blob_source.specs.declared.source.FetchError.TheVariants as fetching
 use Rattle.worker.specs.Refusals.{of_fetch}
 use Rattle.worker.specs.Stopped.{IsStoreFault}
-use Rattle.worker.specs.Stores.{IsKept, IsKeptBut}
+use Rattle.worker.specs.Stores.{IsKept, Stands, IsKeptBut}
 use Rattle.worker.specs.Outcomes.{HasAllRight}
 
 grown_same : (B C : Blobs) → C ≡ B → Grows B C
@@ -43,15 +43,30 @@ kept_blob {t} {u} {bytes} {F} p = record { blobs = p.asked.right; results = grow
 pub kept_result : {t u : Telling} {d : DigestValue} {F : Type 0} → Calls (AsksResult d) t u F → IsKept t u
 kept_result {t} {u} {d} {F} a = let k = a.asked.results.kept in record { blobs = right_same t.blobs u.blobs a.asked.blobs; results = λ e b at. k e b at; puts = a.asked.puts }
 
-pub kept_but : {t u : Telling} {d : DigestValue} → IsKept t u → IsKeptBut d t u
-kept_but {t} {u} {d} k = record { blobs = k.blobs; results = λ e b at. inl (k.results e b at); puts = inl k.puts }
+pub kept_but : {t u : Telling} {d : DigestValue} {Is : List ℕ → Type 0} → IsKept t u → IsKeptBut d Is t u
+kept_but {t} {u} {d} {Is} k = record { blobs = k.blobs; results = λ e b at. inl (k.results e b at); puts = inl k.puts }
 
-pub kept_then : {t u v : Telling} {d : DigestValue} → IsKept t u → IsKeptBut d u v → IsKeptBut d t v
-kept_then {t} {u} {v} {d} f g = record { blobs = λ e b at right. g.blobs e b (f.blobs e b at right) right; results = λ e b at. g.results e b (f.results e b at); puts = by g.puts }
+pub kept_then : {t u v : Telling} {d : DigestValue} {Is : List ℕ → Type 0} → IsKept t u → IsKeptBut d Is u v → IsKeptBut d Is t v
+kept_then {t} {u} {v} {d} {Is} f g = record { blobs = λ e b at right. g.blobs e b (f.blobs e b at right) right; results = λ e b at. g.results e b (f.results e b at); puts = by g.puts }
   where
-    by : (v.puts ≡ u.puts) ⊎ (v.puts ≡ u.puts ++ d ∷ []) → (v.puts ≡ t.puts) ⊎ (v.puts ≡ t.puts ++ d ∷ [])
+    by : (v.puts ≡ u.puts) ⊎ ((v.puts ≡ u.puts ++ d ∷ []) × Stands Is v.results d) → (v.puts ≡ t.puts) ⊎ ((v.puts ≡ t.puts ++ d ∷ []) × Stands Is v.results d)
     by (inl same) = inl (same ∙ f.puts)
-    by (inr more) = inr (more ∙ ap (λ ds. ds ++ d ∷ []) f.puts)
+    by (inr (more, stands)) = inr (more ∙ ap (λ ds. ds ++ d ∷ []) f.puts, stands)
+
+-- what is so of the bytes that were put
+pub kept_as : {t u : Telling} {d : DigestValue} {Is So : List ℕ → Type 0} → ((b : List ℕ) → Is b → So b) → IsKeptBut d Is t u → IsKeptBut d So t u
+kept_as {t} {u} {d} {Is} {So} to k = record { blobs = k.blobs; results = λ e b at. by e b (k.results e b at); puts = of k.puts }
+  where
+    stands : Stands Is u.results d → Stands So u.results d
+    stands h = (h.0, h.1, to h.0 h.2)
+
+    by : (e : DigestValue) (b : List ℕ) → (u.results e ≡ Some b) ⊎ ((e ≡ d) × Stands Is u.results d) → (u.results e ≡ Some b) ⊎ ((e ≡ d) × Stands So u.results d)
+    by e b (inl at) = inl at
+    by e b (inr h) = inr (h.0, stands h.1)
+
+    of : (u.puts ≡ t.puts) ⊎ ((u.puts ≡ t.puts ++ d ∷ []) × Stands Is u.results d) → (u.puts ≡ t.puts) ⊎ ((u.puts ≡ t.puts ++ d ∷ []) × Stands So u.results d)
+    of (inl same) = inl same
+    of (inr h) = inr (h.0, stands h.1)
 
 -- ---- right bytes
 
@@ -107,12 +122,17 @@ same_digest d e = by (same_bytes d.hash e.hash) (eqb_tells d.size e.size)
     by (inl h) (inr s) = let n = s.1 in inr (λ is. n (ap (λ (x : DigestValue). x.size) is))
 
 -- a result that is put, or may have been
-pub kept_put : {t u : Telling} {d : DigestValue} {bytes : List ℕ} {F : Type 0} → (u.puts ≡ t.puts) ⊎ (u.puts ≡ t.puts ++ d ∷ []) → Calls (PutsResult d bytes) t u F → IsKeptBut d t u
-kept_put {t} {u} {d} {bytes} {F} puts p = record { blobs = right_same t.blobs u.blobs p.asked.blobs; results = λ e b at. by e b at (same_digest e d); puts = puts }
+pub kept_put : {t u : Telling} {d : DigestValue} {bytes : List ℕ} {F : Type 0} → (u.puts ≡ t.puts) ⊎ ((u.puts ≡ t.puts ++ d ∷ []) × (u.results d ≡ Some bytes)) → Calls (PutsResult d bytes) t u F → IsKeptBut d (λ b. b ≡ bytes) t u
+kept_put {t} {u} {d} {bytes} {F} puts p = record { blobs = right_same t.blobs u.blobs p.asked.blobs; results = λ e b at. by e b at (same_digest e d) p.asked.results.there; puts = of puts }
   where
-    by : (e : DigestValue) (b : List ℕ) → t.results e ≡ Some b → (e ≡ d) ⊎ (e ≢ d) → (u.results e ≡ Some b) ⊎ (e ≡ d)
-    by e b at (inl is) = inr is
-    by e b at (inr n) = inl (p.asked.results.others e n ∙ at)
+    by : (e : DigestValue) (b : List ℕ) → t.results e ≡ Some b → (e ≡ d) ⊎ (e ≢ d) → (u.results d ≡ t.results d) ⊎ (u.results d ≡ Some bytes) → (u.results e ≡ Some b) ⊎ ((e ≡ d) × Stands (λ c. c ≡ bytes) u.results d)
+    by e b at (inl is) (inl same) = inl (ap u.results is ∙ same ∙ sym (ap t.results is) ∙ at)
+    by e b at (inl is) (inr there) = inr (is, (bytes, there, refl))
+    by e b at (inr n) there = inl (p.asked.results.others e n ∙ at)
+
+    of : (u.puts ≡ t.puts) ⊎ ((u.puts ≡ t.puts ++ d ∷ []) × (u.results d ≡ Some bytes)) → (u.puts ≡ t.puts) ⊎ ((u.puts ≡ t.puts ++ d ∷ []) × Stands (λ c. c ≡ bytes) u.results d)
+    of (inl same) = inl same
+    of (inr h) = inr (h.0, (bytes, h.1, refl))
 
 -- what a put or a look-up fails with
 pub fetch_fault : (A : Type 0) (e : FetchError) → IsStoreFault (of_fetch {A = A} e)

@@ -9,7 +9,7 @@ use Rattle.runs.specs.Calls.{IsFinished, first_kept, placed, runs_step, jobs_of,
 use Rattle.runs.proofs.Places.{set_same, set_other}
 use Rattle.verifier.proofs.FreshRuns.{one_answer}
 use Rattle.worker.specs.declared.child.Child.{Child}
-use Rattle.worker.specs.Values.{ProducedValue}
+use Rattle.worker.specs.Values.{ProducedValue, Starts}
 use Rattle.worker.specs.Outcomes.{Yields}
 use Rattle.worker.specs.Calls.{WasStarted, IsStartable}
 use Rattle.worker.specs.Going.{IsLaunched, IsBegun, EndsWell, HasEndedFirst, weight, waiting_among, turns_left}
@@ -110,9 +110,9 @@ finished_le e m w j v same lt others = (none, λ k. by k (eqb_tells k j.step))
 waits : (e : EngineValue) (i : ℕ) → IsStartable e i → at_step e i ≡ 1
 waits e i s = ap (λ o. weight o (jobs_of i e.jobs)) s.waiting.unfinished ∙ ap (weight None) s.waiting.idle
 
-module _ (A J : Type 0) (y : Yields) (may : J → ProducedValue → Type 0) (t u : Telling) (now new : EngineValue) (k : IsEngine now) where
+module _ (A J : Type 0) (y : Yields) (may : J → ProducedValue → Type 0) (from to : Starts) (t u : Telling) (now new : EngineValue) (k : IsEngine now) where
   -- a step was started
-  begun_less : (i : ℕ) (cs ds : List (Child J)) → i < length now.plan.steps → IsStartable now i → IsBegun A y may u i now new cs ds → turns_left new ds < turns_left now cs
+  begun_less : (i : ℕ) (cs ds : List (Child J)) → i < length now.plan.steps → IsStartable now i → IsBegun A y may from to t u i now new cs ds → turns_left new ds < turns_left now cs
   begun_less i cs ds lt s b = by b.goes
     where
       w : WasStarted A u.blobs i b.id now b.mid
@@ -134,7 +134,7 @@ module _ (A J : Type 0) (y : Yields) (may : J → ProducedValue → Type 0) (t u
       plan_mid : b.mid.plan ≡ now.plan
       plan_mid = ap (λ (e : EngineValue). e.plan) (started_after w)
 
-      by : IsLaunched y may u b.id b.job b.mid new cs ds → turns_left new ds < turns_left now cs
+      by : IsLaunched y may from to t u b.id b.job b.mid new cs ds → turns_left new ds < turns_left now cs
       by (inl (c, id, own, same, after)) =
           let here = mid_here in
           let was = one in
@@ -142,7 +142,7 @@ module _ (A J : Type 0) (y : Yields) (may : J → ProducedValue → Type 0) (t u
           let len = ap length after ∙ length-append cs (c ∷ []) in
           let whole : waiting_among (length new.plan.steps) new ≡ waiting_among (length now.plan.steps) b.mid = ap (λ (e : EngineValue). waiting_among (length e.plan.steps) e) same ∙ ap (λ p. waiting_among (length p.steps) b.mid) plan_mid in
           omega (arith, less, len, whole)
-      by (inr (v, f, held, after)) =
+      by (inr (v, f, held, after, quiet)) =
           let q : f.job ≡ (job_of w) = one_answer (job_in b.id b.mid) f.job (job_of w) f.is (job_is w) in
           let step : f.job.step ≡ i = ap (λ (r : JobValue). r.step) q in
           let same : b.mid.finished ≡ now.finished = ap (λ (e : EngineValue). e.finished) (started_after w) in
@@ -165,7 +165,7 @@ module _ (A J : Type 0) (y : Yields) (may : J → ProducedValue → Type 0) (t u
           = ap (λ (e : EngineValue). waiting_among (length e.plan.steps) e) f.after ∙ ap (λ p. waiting_among (length p.steps) (with_finished b.id f.job v b.mid)) plan_mid in
           omega (arith, less, len, whole)
 
-  pub start_less : {T E : Type 0} (r : Result T E) (i : ℕ) (cs ds : List (Child J)) → i < length now.plan.steps → IsStartable now i → OnOk r (IsBegun A y may u i now new cs ds) → OnOk r (turns_left new ds < turns_left now cs)
+  pub start_less : {T E : Type 0} (r : Result T E) (i : ℕ) (cs ds : List (Child J)) → i < length now.plan.steps → IsStartable now i → OnOk r (IsBegun A y may from to t u i now new cs ds) → OnOk r (turns_left new ds < turns_left now cs)
   start_less (Ok x) i cs ds lt s b = begun_less i cs ds lt s b
   start_less (Err x) i cs ds lt s b = tt
 

@@ -1,6 +1,7 @@
 pub mod Keeping
 pub mod Knowing
 pub mod Telling
+pub mod Untaken
 pub mod Sorting
 pub mod Gathering
 pub mod Startable
@@ -16,3 +17,4 @@ pub mod Listing
 pub mod Counts
 pub mod Heard
 pub mod Failures
+pub mod Steps

@@ -12,12 +12,12 @@ use Rattle.worker.specs.declared.error.BuildError.{BuildError}
 use Rattle.worker.specs.declared.child.Child.{Child}
 use Rattle.worker.specs.declared.turns.Turn.{Turn}
 use Rattle.worker.specs.declared.turns.Turn.TheVariants as turns
-use Rattle.worker.specs.Calls.{Call, started, ran, taken, lost, Does, Leads, IsLed, IsBuiltBy}
+use Rattle.worker.specs.Calls.{Call, started, launched, ran, taken, lost, Does, Leads, IsLed, IsBuiltBy}
 use Rattle.worker.specs.Going.{AreJobsOf, IsJobIn, job_value, IsOwnJob, IsGoing, IsTurn, Ends, HasEndedFirst}
 use Rattle.worker.specs.Outcomes.{Yields, YieldsNoMore, HasAllRight, IsYielded}
 use Rattle.worker.specs.Stores.{IsKept}
 use Rattle.worker.specs.Stopped.{ComesTo, StopsStep, IsRefusedBuild, IsStoreFault, StopsChild, StopsCollecting, StopsEnd, StopsSettling, StopsFirst, StopsBeginning}
-use Rattle.worker.specs.Values.{ProducedValue}
+use Rattle.worker.specs.Values.{ProducedValue, Starts, StartsNone}
 use Rattle.worker.proofs.Goes.{led_kept, led_started}
 use Rattle.worker.proofs.Started.{after}
 use Rattle.worker.proofs.Keeping.{right_still}
@@ -77,34 +77,34 @@ stops_within z y t e i refusals.Memory within h = tt
 
 -- ---- a turn that is refused
 
-module _ (A J : Type 0) (may : J → ProducedValue → Type 0) (t u : Telling) (now new : EngineValue) (cs ds : List (Child J)) where
-  begun_refused : (z y : Yields) (i : ℕ) (e : BuildError A) → (e.step ≡ i) × StopsBeginning z u now i e.refusal → IsKept t u → (s : Telling) (most : ℕ) (first : EngineValue) → YieldsNoMore z y → length cs < most → i < length now.plan.steps
-      → IsGoing A y may s t most first now cs → IsRefusedBuild A y u most first e.step e.refusal
-  begun_refused z y i e (same, inl stops) k s most first within room planned g = record {
+module _ (A J : Type 0) (may : J → ProducedValue → Type 0) (a b : Starts) (t u : Telling) (now new : EngineValue) (cs ds : List (Child J)) where
+  begun_refused : (z y : Yields) (i : ℕ) (e : BuildError A) → (e.step ≡ i) × StopsBeginning z u now i e.refusal → IsKept t u → (from : Starts) (s : Telling) (most : ℕ) (first : EngineValue) → YieldsNoMore z y → length cs < most → i < length now.plan.steps
+      → IsGoing A y may from a s t most first now cs → IsRefusedBuild A y u most first e.step e.refusal
+  begun_refused z y i e (same, inl stops) k from s most first within room planned g = record {
     at = now;
-    led = led_kept A J y may s most first t u now cs k g;
+    led = led_kept A J y may from s most first a a t u now cs k g;
     planned = subst (λ n. n < length now.plan.steps) (sym same) planned;
     stops = subst (λ n. StopsStep y u now n e.refusal) (sym same) (stops_within z y u now i e.refusal within stops);
   }
-  begun_refused z y i e (same, inr (id, mid, w, stops)) k s most first within room planned g = record {
+  begun_refused z y i e (same, inr (id, mid, w, stops)) k from s most first within room planned g = record {
     at = mid;
-    led = led_started A J y may s most first t u now mid cs i id k g room w;
+    led = led_started A J y may from s most first a a t u now mid cs i id k g room w;
     planned = subst (λ n. n < length mid.plan.steps) (sym same) (subst (λ (e : EngineValue). i < length e.plan.steps) (sym (after w)) planned);
     stops = subst (λ n. StopsStep y u mid n e.refusal) (sym same) (stops_within z y u mid i e.refusal within stops);
   }
 
-  pub start_refused : {T N : Type 0} (ys : N → Yields) (z : Yields) (i : ℕ) (turn : Turn) → turn ≡ turns.Start i → (r : Result T (BuildError A)) → IfErr r (λ e. (e.step ≡ i) × StopsBeginning z u now i e.refusal) → IsKept t u
-      → IfErr r (λ e. (entry : N) (s : Telling) (most : ℕ) (first : EngineValue) → YieldsNoMore z (ys entry) → IsTurn most now cs turn → IsGoing A (ys entry) may s t most first now cs → IsRefusedBuild A (ys entry) u most first e.step e.refusal)
-  start_refused ys z i turn is (Ok x) stops k = tt
-  start_refused ys z i turn is (Err e) stops k = λ entry s most first within can g. begun_refused z (ys entry) i e stops k s most first within (subst (IsTurn most now cs) is can).0 (subst (IsTurn most now cs) is can).1 g
+  pub start_refused : {T N : Type 0} (ys : N → Yields) (fs : N → Starts) (z : Yields) (i : ℕ) (turn : Turn) → turn ≡ turns.Start i → (r : Result T (BuildError A)) → IfErr r (λ e. (e.step ≡ i) × StopsBeginning z u now i e.refusal) → IsKept t u
+      → IfErr r (λ e. (entry : N) (s : Telling) (most : ℕ) (first : EngineValue) → YieldsNoMore z (ys entry) → IsTurn most now cs turn → IsGoing A (ys entry) may (fs entry) a s t most first now cs → IsRefusedBuild A (ys entry) u most first e.step e.refusal)
+  start_refused ys fs z i turn is (Ok x) stops k = tt
+  start_refused ys fs z i turn is (Err e) stops k = λ entry s most first within can g. begun_refused z (ys entry) i e stops k (fs entry) s most first within (subst (IsTurn most now cs) is can).0 (subst (IsTurn most now cs) is can).1 g
 
-  module _ (y : Yields) (s : Telling) (most : ℕ) (first : EngineValue) (g : IsGoing A y may s t most first now cs) (c : Child J) (is : cs ≡ c ∷ ds) where
+  module _ (y : Yields) (from : Starts) (s : Telling) (most : ℕ) (first : EngineValue) (g : IsGoing A y may from a s t most first now cs) (c : Child J) (is : cs ≡ c ∷ ds) where
     step_planned : IsEngine now → c.step < length now.plan.steps
-    step_planned lawful =
+    step_planned valid =
         let jobs = subst (AreJobsOf (IsOwnJob y may t.blobs now) now.jobs) is g.jobs in
-        subst (λ n. n < length now.plan.steps) jobs.2.of_child.step (lawful.running c.id jobs.0 jobs.1)
+        subst (λ n. n < length now.plan.steps) jobs.2.of_child.step (valid.running c.id jobs.0 jobs.1)
 
-  module _ (y : Yields) (s : Telling) (most : ℕ) (first : EngineValue) (g : IsGoing A y may s t most first now cs) (c : Child J) (is : cs ≡ c ∷ ds) (k : IsKept t u) where
+  module _ (y : Yields) (from : Starts) (s : Telling) (most : ℕ) (first : EngineValue) (g : IsGoing A y may from a s t most first now cs) (c : Child J) (is : cs ≡ c ∷ ds) (k : IsKept t u) where
     jobs : AreJobsOf (IsOwnJob y may t.blobs now) now.jobs (c ∷ ds)
     jobs = subst (AreJobsOf (IsOwnJob y may t.blobs now) now.jobs) is g.jobs
 
@@ -137,36 +137,37 @@ module _ (A J : Type 0) (may : J → ProducedValue → Type 0) (t u : Telling) (
   ends_plan c (inl e) = ap (λ (e : EngineValue). e.plan) e.finished.after
   ends_plan c (inr (l, k)) = ap (λ (e : EngineValue). e.plan) l.2
 
-  ended_refused : IsEngine now → (y : Yields) (s : Telling) (most : ℕ) (first : EngineValue) → IsGoing A y may s t most first now cs → IsGoing A y may s u most first new ds → (c : Child J) → cs ≡ c ∷ ds → Ends may t u c now new → (i : ℕ) (r : Refusal A) → i ≡ c.step → StopsSettling may t u c now r
+  ended_refused : IsEngine now → (y : Yields) (from : Starts) (s : Telling) (most : ℕ) (first : EngineValue) → IsGoing A y may from a s t most first now cs → IsGoing A y may from b s u most first new ds → (c : Child J) → cs ≡ c ∷ ds → Ends may t u c now new → (i : ℕ) (r : Refusal A) → i ≡ c.step → StopsSettling may t u c now r
       → IsRefusedBuild A y u most first i r
-  ended_refused lawful y s most first g went c is end i r same (inl store) = record {
+  ended_refused valid y from s most first g went c is end i r same (inl store) = record {
     at = new;
-    led = went.led.led;
-    planned = subst (λ n. n < length new.plan.steps) (sym same) (subst (λ (p : PlanValue). c.step < length p.steps) (sym (ends_plan c end)) (step_planned y s most first g c is lawful));
+    led = went.led.built.led;
+    planned = subst (λ n. n < length new.plan.steps) (sym same) (subst (λ (p : PlanValue). c.step < length p.steps) (sym (ends_plan c end)) (step_planned y from s most first g c is valid));
     stops = store_stops y u new i r store;
   }
-  ended_refused lawful y s most first g went c is end i r same (inr (k, stop)) = record {
+  ended_refused valid y from s most first g went c is end i r same (inr (k, stop)) = record {
     at = now;
-    led = led_kept A J y may s most first t u now cs k g;
-    planned = subst (λ n. n < length now.plan.steps) (sym same) (step_planned y s most first g c is lawful);
-    stops = subst (λ n. StopsStep y u now n r) (sym same) (end_stops y s most first g c is k r stop);
+    led = led_kept A J y may from s most first a a t u now cs k g;
+    planned = subst (λ n. n < length now.plan.steps) (sym same) (step_planned y from s most first g c is valid);
+    stops = subst (λ n. StopsStep y u now n r) (sym same) (end_stops y from s most first g c is k r stop);
   }
 
-  first_refused : IsEngine now → (y : Yields) (s : Telling) (most : ℕ) (first : EngineValue) (e : BuildError A) → StopsFirst may t u cs now e.step e.refusal → HasEndedFirst (Ends may t u) now new cs ds → IsGoing A y may s t most first now cs → IsRefusedBuild A y u most first e.step e.refusal
-  first_refused lawful y s most first e stops h g =
+  first_refused : IsEngine now → (y : Yields) (from : Starts) → StartsNone a b → (s : Telling) (most : ℕ) (first : EngineValue) (e : BuildError A) → StopsFirst may t u cs now e.step e.refusal → HasEndedFirst (Ends may t u) now new cs ds → IsGoing A y may from a s t most first now cs → IsRefusedBuild A y u most first e.step e.refusal
+  first_refused valid y from quiet s most first e stops h g =
       let stop : StopsFirst may t u (h.child ∷ ds) now e.step e.refusal = subst (λ xs. StopsFirst may t u xs now e.step e.refusal) h.is stops in
-      ended_refused lawful y s most first g (ended_goes A J y may s t u most first now new cs ds g h) h.child h.is h.end e.step e.refusal stop.0 stop.1
+      ended_refused valid y from s most first g (ended_goes A J y may from a b s t u most first now new cs ds g quiet h) h.child h.is h.end e.step e.refusal stop.0 stop.1
 
-  pub finish_refused : {T N : Type 0} → IsEngine now → (ys : N → Yields) (z : Yields) (turn : Turn) (r : Result T (BuildError A)) → IfErr r (λ e. StopsFirst may t u cs now e.step e.refusal) → OnErr r (HasEndedFirst (Ends may t u) now new cs ds)
-      → IfErr r (λ e. (entry : N) (s : Telling) (most : ℕ) (first : EngineValue) → YieldsNoMore z (ys entry) → IsTurn most now cs turn → IsGoing A (ys entry) may s t most first now cs → IsRefusedBuild A (ys entry) u most first e.step e.refusal)
-  finish_refused lawful ys z turn (Ok x) stops h = tt
-  finish_refused lawful ys z turn (Err e) stops h = λ entry s most first within can g. first_refused lawful (ys entry) s most first e stops h g
+  pub finish_refused : {T N : Type 0} → IsEngine now → StartsNone a b → (ys : N → Yields) (fs : N → Starts) (z : Yields) (turn : Turn) (r : Result T (BuildError A)) → IfErr r (λ e. StopsFirst may t u cs now e.step e.refusal) → OnErr r (HasEndedFirst (Ends may t u) now new cs ds)
+      → IfErr r (λ e. (entry : N) (s : Telling) (most : ℕ) (first : EngineValue) → YieldsNoMore z (ys entry) → IsTurn most now cs turn → IsGoing A (ys entry) may (fs entry) a s t most first now cs → IsRefusedBuild A (ys entry) u most first e.step e.refusal)
+  finish_refused valid quiet ys fs z turn (Ok x) stops h = tt
+  finish_refused valid quiet ys fs z turn (Err e) stops h = λ entry s most first within can g. first_refused valid (ys entry) (fs entry) quiet s most first e stops h g
 
 -- ---- a runner that yields more
 
 module _ (A : Type 0) (z y : Yields) (t : Telling) (within : YieldsNoMore z y) where
   does_within : (later : List Call) (c : Call) (old new : EngineValue) → Does A z t later c old new → Does A y t later c old new
   does_within later (started i id) old new d = d
+  does_within later (launched id d x) old new w = w
   does_within later (ran id d v) old new f =
       let h = f.yielded in
       record {

@@ -19,11 +19,13 @@ use Rattle.tree.specs.Tree.{Name}
 use Rattle.tree.specs.Form.{NodeValue}
 use Rattle.runs.specs.Calls.{IsFinished, HaveOneForm, Disagrees, first_kept}
 use Rattle.runs.specs.Engine.{FinishedValue, EngineValue, at_number, finished_in}
+use Rattle.runs.specs.Results.{result_of}
 use Rattle.runs.specs.Served.{Keeps, HoldsTrees, IsKeptOf}
 use Rattle.runs.proofs.Places.{set_other}
 use Rattle.verifier.proofs.FreshRuns.{one_answer}
-use Rattle.worker.specs.Stores.{IsKept, IsKeptBut}
-use Rattle.worker.specs.Stored.{directories_of, IsToldOrTree, IsStored, HasTree, HasTrees, HasResultOf, IsForForm, StoresStep, StoresSteps, IsHeldWhole}
+use Rattle.worker.specs.Stores.{IsKept, Stands, IsKeptBut}
+use Rattle.worker.specs.Calls.{IsResultFor}
+use Rattle.worker.specs.Stored.{directories_of, IsToldOrTree, IsStored, HasTree, HasTrees, HasResultOf, IsResultOfStep, IsForForm, StoresStep, StoresSteps, IsHeldWhole}
 use Rattle.worker.proofs.Keeping.{right_still, all_right_still, same_bytes, same_digest}
 use Rattle.worker.proofs.Telling.{recorded_still}
 
@@ -179,6 +181,10 @@ module _ {w : ℕ} {v : OutcomeValue} {old new : EngineValue} (h : IsFinished w 
       by (inl before) = agreed old.finished h.job.step h.job.action v h.agrees k f before why
       by (inr is) = subst (λ (g : FinishedValue). HaveOneForm g.outcome v) (sym is.1) (form_same v)
 
+  -- bytes that read as the result of its step
+  pub result_for : (i : ℕ) → i ≡ h.job.step → (b : List ℕ) → IsResultOfStep new i b → IsResultFor v b
+  result_for i is b (f, at, reads) = record { outcome = f.outcome; form = of_form i f at (inl is); reads = reads }
+
 -- ---- what stays
 
 pub trees_still : (B C : Blobs) (es : List (List Name × OutputValue)) → KeepsRight B C → AllByRecursion (HasTree B) es → AllByRecursion (HasTree C) es
@@ -250,9 +256,9 @@ steps_taken {t} {w} {v} {old} {new} h whole all i f at = by (which h i f at)
     })
 
 -- a job finished with what its child came to, and its result was put
-pub steps_ran : {s t : Telling} {w : ℕ} {v : OutcomeValue} {old new : EngineValue} → (h : IsFinished w v old new) → IsKeptBut h.job.action s t → HasRight t.blobs h.job.action → HasTrees t.blobs v
+pub steps_ran : {s t : Telling} {w : ℕ} {v : OutcomeValue} {old new : EngineValue} {Is : List ℕ → Type 0} → (h : IsFinished w v old new) → IsKeptBut h.job.action Is s t → HasRight t.blobs h.job.action → HasTrees t.blobs v
     → HasResultOf t new h.job.step h.job.action → StoresSteps s old → StoresSteps t new
-steps_ran {s} {t} {w} {v} {old} {new} h kept action trees put all i f at = by (which h i f at)
+steps_ran {s} {t} {w} {v} {old} {new} {Is} h kept action trees put all i f at = by (which h i f at)
   where
     -- a step of the same action has what was put
     stands : (f : FinishedValue) → HaveOneForm f.outcome v → IsForForm t.blobs new put.result f.outcome
@@ -273,9 +279,9 @@ steps_ran {s} {t} {w} {v} {old} {new} h kept action trees put all i f at = by (w
         step : StoresStep s old f
         step = all i f before
 
-        next : (t.results f.action ≡ Some step.bytes) ⊎ (f.action ≡ h.job.action) → StoresStep t new f
+        next : (t.results f.action ≡ Some step.bytes) ⊎ ((f.action ≡ h.job.action) × Stands Is t.results h.job.action) → StoresStep t new f
         next (inl there) = step_later {old = old} {new = new} (grows h) s t f kept.blobs step there
-        next (inr same) = record {
+        next (inr (same, stands_there)) = record {
           action = right_still kept.blobs step.action;
           trees = trees_still s.blobs t.blobs f.outcome.outputs kept.blobs step.trees;
           bytes = put.bytes;
@@ -346,3 +352,8 @@ pub put_result_of : {T E : Type 0} (t : Telling) (answer : Result T E) (e : Engi
     → OnOk answer (t.results d ≡ Some bytes) → Reads r bytes → IsKeptOf e i r → OnOk answer (HasResultOf t e i d)
 put_result_of t (Ok x) e i d bytes r step held reads kept = record { step = step.0; at = step.1; bytes = bytes; held = held; result = r; reads = reads; kept = kept }
 put_result_of t (Err x) e i d bytes r step held reads kept = tt
+
+-- what was put reads as the result of its step
+pub result_of_step : (e : EngineValue) (i : ℕ) (bytes : List ℕ) (r : ActionResultValue) → Reads r bytes → (f : FinishedValue) × (finished_in i e ≡ Some f) → ((f : FinishedValue) → finished_in i e ≡ Some f → r ≡ result_of f.outcome)
+    → (b : List ℕ) → b ≡ bytes → IsResultOfStep e i b
+result_of_step e i bytes r reads step value b is = (step.0, step.1, subst (Reads (result_of step.0.outcome)) (sym is) (subst (λ q. Reads q bytes) (value step.0 step.1) reads))

@@ -1,33 +1,35 @@
 -- A turn that is taken goes on.
-use Rattle.std.proofs.Common.{◌≡◌, ℕ, ◌+◌, ◌-◌, ◌<◌, List, ◌∷◌, length, None, ap, sym, ◌∙◌, subst, arith, inl, inr}
+use Rattle.std.proofs.Common.{◌≡◌, ℕ, ◌+◌, ◌-◌, ◌<◌, List, ◌∷◌, length, Some, None, ap, sym, ◌∙◌, subst, arith, inl, inr}
 use Rattle.std.specs.Prelude.{◌↔◌, Result, Ok, Err, IsErr, OnOk, OnErr}
 use Rattle.blob_source.specs.Source.{Telling}
 use Rattle.blob_source.specs.Sink.{HasRight, KeepsRight}
 use Rattle.runs.specs.Engine.{JobValue, EngineValue, job_in}
 use Rattle.runs.specs.Calls.{without_job}
 use Rattle.worker.specs.declared.child.Child.{Child}
-use Rattle.worker.specs.Values.{ProducedValue}
+use Rattle.worker.specs.Values.{ProducedValue, Starts, StartsNone}
 use Rattle.worker.specs.Stores.{IsKept, IsKeptBut}
 use Rattle.worker.specs.Outcomes.{Yields, YieldsNoMore}
-use Rattle.worker.specs.Stored.{HasResultOf, StoresSteps, IsHeldWhole}
+use Rattle.worker.specs.Calls.{Call, IsResultFor, PutsOf}
+use Rattle.worker.specs.Stored.{HasResultOf, IsResultOfStep, StoresSteps, IsHeldWhole}
 use Rattle.worker.specs.Going.{IsJobOf, AreJobsOf, IsOwnJob, IsGoing, IsBegun, IsLaunched, CameToNothing, EndsWell, Ends, HasEndedFirst, HasResultOfFirst}
 use Rattle.verifier.proofs.FreshRuns.{one_answer}
 use Rattle.worker.proofs.Started.{after}
-use Rattle.worker.proofs.Keeping.{kept_none, kept_then, right_still, all_right_still}
-use Rattle.worker.proofs.Storing.{trees_still, steps_kept, steps_taken, steps_ran}
-use Rattle.worker.proofs.Goes.{going_begun, going_refused, going_ended, lose_goes}
+use Rattle.worker.proofs.Keeping.{kept_none, kept_as, kept_then, right_still, all_right_still}
+use Rattle.worker.proofs.Storing.{result_for, trees_still, steps_kept, steps_taken, steps_ran}
+use Rattle.worker.proofs.Goes.{going_begun, going_refused, going_ended, lose_goes, puts_ended}
 
-module _ (A J : Type 0) (y : Yields) (may : J → ProducedValue → Type 0) (s t u : Telling) (most : ℕ) (first now new : EngineValue) (cs ds : List (Child J)) (g : IsGoing A y may s t most first now cs) where
-  pub start_goes : {T E : Type 0} (r : Result T E) (z : Yields) (i : ℕ) → YieldsNoMore z y → IsKept t u → length cs < most → OnOk r (IsBegun A z may u i now new cs ds) → OnErr r (CameToNothing A u.blobs i now new) → OnErr r (ds ≡ cs) → IsGoing A y may s u most first new ds
-  start_goes (Ok x) z i within k room begun refused same = going_begun A J y may s most first z within t u now new i cs ds k g room begun
-  start_goes (Err x) z i within k room begun refused same = subst (IsGoing A y may s u most first new) (sym same) (going_refused A J y may s most first t u now new i cs k g room refused)
+module _ (A J : Type 0) (y : Yields) (may : J → ProducedValue → Type 0) (from a b : Starts) (s t u : Telling) (most : ℕ) (first now new : EngineValue) (cs ds : List (Child J)) (g : IsGoing A y may from a s t most first now cs) where
+  pub start_goes : {T E : Type 0} (r : Result T E) (z : Yields) (i : ℕ) → YieldsNoMore z y → IsKept t u → OnErr r (StartsNone a b) → length cs < most → OnOk r (IsBegun A z may a b t u i now new cs ds) → OnErr r (CameToNothing A u.blobs i now new) → OnErr r (ds ≡ cs)
+      → IsGoing A y may from b s u most first new ds
+  start_goes (Ok x) z i within k quiet room begun refused same = going_begun A J y may from s most first a b z within t u now new i cs ds k g room begun
+  start_goes (Err x) z i within k quiet room begun refused same = subst (IsGoing A y may from b s u most first new) (sym same) (going_refused A J y may from s most first a b t u now new i cs k quiet g room refused)
 
-  pub ended_goes : HasEndedFirst (Ends may t u) now new cs ds → IsGoing A y may s u most first new ds
-  ended_goes h = going_ended A J y may s most first t u now new h.child ds (subst (IsGoing A y may s t most first now) h.is g) h.end
+  pub ended_goes : StartsNone a b → HasEndedFirst (Ends may t u) now new cs ds → IsGoing A y may from b s u most first new ds
+  ended_goes quiet h = going_ended A J y may from s most first a b t u now new h.child ds quiet (subst (IsGoing A y may from a s t most first now) h.is g) h.end
 
-  pub finish_goes : {T E : Type 0} (r : Result T E) → OnOk r (HasEndedFirst (EndsWell may t u) now new cs ds) → OnErr r (HasEndedFirst (Ends may t u) now new cs ds) → IsGoing A y may s u most first new ds
-  finish_goes (Ok x) well ended = ended_goes (record { child = well.child; is = well.is; end = inl well.end })
-  finish_goes (Err x) well ended = ended_goes ended
+  pub finish_goes : {T E : Type 0} (r : Result T E) → StartsNone a b → OnOk r (HasEndedFirst (EndsWell may t u) now new cs ds) → OnErr r (HasEndedFirst (Ends may t u) now new cs ds) → IsGoing A y may from b s u most first new ds
+  finish_goes (Ok x) quiet well ended = ended_goes quiet (record { child = well.child; is = well.is; end = inl well.end })
+  finish_goes (Err x) quiet well ended = ended_goes quiet ended
 
 ends_right : {J : Type 0} (may : J → ProducedValue → Type 0) (t u : Telling) (c : Child J) (now new : EngineValue) → Ends may t u c now new → KeepsRight t.blobs u.blobs
 ends_right may t u c now new (inl e) = e.kept.blobs
@@ -36,6 +38,10 @@ ends_right may t u c now new (inr (l, k)) = k.blobs
 pub finish_right : {J T E : Type 0} (may : J → ProducedValue → Type 0) (t u : Telling) (now new : EngineValue) (cs ds : List (Child J)) (r : Result T E) → OnOk r (HasEndedFirst (EndsWell may t u) now new cs ds) → OnErr r (HasEndedFirst (Ends may t u) now new cs ds) → KeepsRight t.blobs u.blobs
 finish_right may t u now new cs ds (Ok x) well ended = well.end.kept.blobs
 finish_right may t u now new cs ds (Err x) well ended = ends_right may t u ended.child now new ended.end
+
+pub finish_puts : {J T E : Type 0} (may : J → ProducedValue → Type 0) (t u : Telling) (now new : EngineValue) (cs ds : List (Child J)) (r : Result T E) → OnOk r (HasEndedFirst (EndsWell may t u) now new cs ds) → OnErr r (HasEndedFirst (Ends may t u) now new cs ds) → (more : List Call) × PutsOf more t u
+finish_puts may t u now new cs ds (Ok x) well ended = puts_ended may t u well.child now new (inl well.end)
+finish_puts may t u now new cs ds (Err x) well ended = puts_ended may t u ended.child now new ended.end
 
 -- a child is waited for and its job is lost
 module _ {J : Type 0} (now new : EngineValue) (c : Child J) (cs ds : List (Child J)) (is : cs ≡ c ∷ ds) (jobs : AreJobsOf IsJobOf now.jobs cs) where
@@ -48,22 +54,26 @@ module _ {J : Type 0} (now new : EngineValue) (c : Child J) (cs ds : List (Child
   pub lost_jobs : new ≡ without_job c.id now → AreJobsOf IsJobOf new.jobs ds
   lost_jobs lost = subst (λ (e : EngineValue). AreJobsOf IsJobOf e.jobs ds) (sym lost) jobs_now.3
 
-  pub lost_goes : (A : Type 0) (y : Yields) (may : J → ProducedValue → Type 0) → new ≡ without_job c.id now → (s t : Telling) (most : ℕ) (first : EngineValue) → IsGoing A y may s t most first now cs → IsGoing A y may s t most first new ds
-  lost_goes A y may lost s t most first g = going_ended A J y may s most first t t now new c ds (subst (IsGoing A y may s t most first now) is g) (inr ((jobs_now.0, jobs_now.1, lost), kept_none))
+  pub lost_goes : (A : Type 0) (y : Yields) (may : J → ProducedValue → Type 0) → new ≡ without_job c.id now → (from a b : Starts) → StartsNone a b → (s t : Telling) (most : ℕ) (first : EngineValue) → IsGoing A y may from a s t most first now cs → IsGoing A y may from b s t most first new ds
+  lost_goes A y may lost from a b quiet s t most first g = going_ended A J y may from s most first a b t t now new c ds quiet (subst (IsGoing A y may from a s t most first now) is g) (inr ((jobs_now.0, jobs_now.1, lost), kept_none))
 
 pub lost_count : {J : Type 0} (c : Child J) (cs ds : List (Child J)) → cs ≡ c ∷ ds → (n old after : ℕ) → old ≡ n + length cs → after ≡ old - 1 → after ≡ n + length ds
 lost_count c cs ds is n old after all one = let len = ap length is in omega (arith, all, one, len)
 
 -- a result was put
-pub ends_put : {J : Type 0} (may : J → ProducedValue → Type 0) (s t u : Telling) (c : Child J) (old new : EngineValue) → IsKept s t → EndsWell may s t c old new → IsKeptBut c.action t u → EndsWell may s u c old new
-ends_put may s t u c old new none e k = record {
-  produced = e.produced;
-  came = e.came;
-  finished = e.finished;
-  blobs = all_right_still t.blobs u.blobs e.produced.blobs k.blobs e.blobs;
-  trees = trees_still t.blobs u.blobs e.produced.outcome.outputs k.blobs e.trees;
-  kept = kept_then none k;
-}
+pub ends_put : {J : Type 0} (may : J → ProducedValue → Type 0) (s t u : Telling) (c : Child J) (old new : EngineValue) (j : JobValue) → job_in c.id old ≡ Some j → IsJobOf c j → IsKept s t → EndsWell may s t c old new → IsKeptBut c.action (IsResultOfStep new c.step) t u
+    → EndsWell may s u c old new
+ends_put may s t u c old new j at of none e k =
+    let same : e.finished.job ≡ j = one_answer (job_in c.id old) e.finished.job j e.finished.is at in
+    let step : c.step ≡ e.finished.job.step = sym (ap (λ (i : JobValue). i.step) same ∙ of.step) in
+    record {
+      produced = e.produced;
+      came = e.came;
+      finished = e.finished;
+      blobs = all_right_still t.blobs u.blobs e.produced.blobs k.blobs e.blobs;
+      trees = trees_still t.blobs u.blobs e.produced.outcome.outputs k.blobs e.trees;
+      kept = kept_then none (kept_as (result_for e.finished c.step step) k);
+    }
 
 pub on_ok : {T E : Type 0} {X : Type 0} (r : Result T E) → X → OnOk r X
 on_ok (Ok y) x = x
@@ -75,26 +85,26 @@ on_err (Err y) x = x
 
 -- ---- what the store has
 
-module _ (A J : Type 0) (y : Yields) (may : J → ProducedValue → Type 0) (t u : Telling) (now new : EngineValue) (cs ds : List (Child J)) where
-  begun_stored : (i : ℕ) → IsKept t u → IsBegun A y may u i now new cs ds → StoresSteps t now → StoresSteps u new
-  begun_stored i k b h = by b.goes
+module _ (A J : Type 0) (y : Yields) (may : J → ProducedValue → Type 0) (a b : Starts) (t u : Telling) (now new : EngineValue) (cs ds : List (Child J)) where
+  begun_stored : (i : ℕ) → IsKept t u → IsBegun A y may a b t u i now new cs ds → StoresSteps t now → StoresSteps u new
+  begun_stored i k begun h = by begun.goes
     where
-      mid : StoresSteps u b.mid
-      mid = steps_kept k (ap (λ (e : EngineValue). e.finished) (after b.started)) h
+      mid : StoresSteps u begun.mid
+      mid = steps_kept k (ap (λ (e : EngineValue). e.finished) (after begun.started)) h
 
-      by : IsLaunched y may u b.id b.job b.mid new cs ds → StoresSteps u new
+      by : IsLaunched y may a b t u begun.id begun.job begun.mid new cs ds → StoresSteps u new
       by (inl (c, id, own, same, grown)) = subst (StoresSteps u) (sym same) mid
-      by (inr (v, f, whole, same)) =
-          let of_job : f.job ≡ b.job = one_answer (job_in b.id b.mid) f.job b.job f.is b.is in
+      by (inr (v, f, whole, same, quiet)) =
+          let of_job : f.job ≡ begun.job = one_answer (job_in begun.id begun.mid) f.job begun.job f.is begun.is in
           steps_taken f (subst (λ (j : JobValue). IsHeldWhole u j.action v) (sym of_job) whole) mid
 
-  pub start_stored : {T E N : Type 0} (ys : N → Yields) (r : Result T E) (i : ℕ) → IsKept t u → OnOk r (IsBegun A y may u i now new cs ds)
-      → OnOk r ((entry : N) (s : Telling) (most : ℕ) (first : EngineValue) → IsGoing A (ys entry) may s t most first now cs → StoresSteps t now → StoresSteps u new)
-  start_stored ys (Ok x) i k begun = λ entry s most first going. begun_stored i k begun
-  start_stored ys (Err x) i k begun = tt
+  pub start_stored : {T E N : Type 0} (ys : N → Yields) (fs : N → Starts) (r : Result T E) (i : ℕ) → IsKept t u → OnOk r (IsBegun A y may a b t u i now new cs ds)
+      → OnOk r ((entry : N) (s : Telling) (most : ℕ) (first : EngineValue) → IsGoing A (ys entry) may (fs entry) a s t most first now cs → StoresSteps t now → StoresSteps u new)
+  start_stored ys fs (Ok x) i k begun = λ entry s most first going. begun_stored i k begun
+  start_stored ys fs (Err x) i k begun = tt
 
-  ended_stored : HasEndedFirst (EndsWell may t u) now new cs ds → HasResultOfFirst u new cs → (z : Yields) (s : Telling) (most : ℕ) (first : EngineValue) → IsGoing A z may s t most first now cs → StoresSteps t now → StoresSteps u new
-  ended_stored e put z s most first going h =
+  ended_stored : HasEndedFirst (EndsWell may t u) now new cs ds → HasResultOfFirst u new cs → (z : Yields) (from : Starts) (s : Telling) (most : ℕ) (first : EngineValue) → IsGoing A z may from a s t most first now cs → StoresSteps t now → StoresSteps u new
+  ended_stored e put z from s most first going h =
       let jobs : AreJobsOf (IsOwnJob z may t.blobs now) now.jobs (e.child ∷ ds) = subst (AreJobsOf (IsOwnJob z may t.blobs now) now.jobs) e.is going.jobs in
       let f = e.end.finished in
       let same : f.job ≡ jobs.0 = one_answer (job_in e.child.id now) f.job jobs.0 f.is jobs.1 in
@@ -102,10 +112,10 @@ module _ (A J : Type 0) (y : Yields) (may : J → ProducedValue → Type 0) (t u
       let action : f.job.action ≡ e.child.action = ap (λ (j : JobValue). j.action) same ∙ jobs.2.of_child.action in
       let held : HasRight u.blobs f.job.action = subst (λ (j : JobValue). HasRight u.blobs j.action) (sym same) (right_still e.end.kept.blobs jobs.2.owed.action) in
       let result : HasResultOf u new e.child.step e.child.action = subst (HasResultOfFirst u new) e.is put in
-      steps_ran f (subst (λ d. IsKeptBut d t u) (sym action) e.end.kept) held e.end.trees
+      steps_ran f (subst (λ d. IsKeptBut d (IsResultFor e.end.produced.outcome) t u) (sym action) e.end.kept) held e.end.trees
       (subst (λ i. HasResultOf u new i f.job.action) (sym step) (subst (HasResultOf u new e.child.step) (sym action) result)) h
 
-  pub finish_stored : {T E N : Type 0} (ys : N → Yields) (r : Result T E) → OnOk r (HasEndedFirst (EndsWell may t u) now new cs ds) → OnOk r (HasResultOfFirst u new cs)
-      → OnOk r ((entry : N) (s : Telling) (most : ℕ) (first : EngineValue) → IsGoing A (ys entry) may s t most first now cs → StoresSteps t now → StoresSteps u new)
-  finish_stored ys (Ok x) ended put = λ entry. ended_stored ended put (ys entry)
-  finish_stored ys (Err x) ended put = tt
+  pub finish_stored : {T E N : Type 0} (ys : N → Yields) (fs : N → Starts) (r : Result T E) → OnOk r (HasEndedFirst (EndsWell may t u) now new cs ds) → OnOk r (HasResultOfFirst u new cs)
+      → OnOk r ((entry : N) (s : Telling) (most : ℕ) (first : EngineValue) → IsGoing A (ys entry) may (fs entry) a s t most first now cs → StoresSteps t now → StoresSteps u new)
+  finish_stored ys fs (Ok x) ended put = λ entry. ended_stored ended put (ys entry) (fs entry)
+  finish_stored ys fs (Err x) ended put = tt

@@ -27,7 +27,7 @@ module _ {B C : Blobs} (keeps : KeepsRight B C) where
       by (inr (n, at)) = inr (n, sym (keeps d b (sym at) h.right))
 
   pub told_still : {M : Type 0} {rules : M → Type 0} {spells : M → List ℕ} {d : DigestValue} {m : M} → IsTold rules spells B d m → IsTold rules spells C d m
-  told_still t = record { lawful = t.lawful; blob = blob_still t.blob }
+  told_still t = record { valid = t.valid; blob = blob_still t.blob }
 
   below_still : (t : Tree NodeValue) → TellsBelow B t → TellsBelow C t
   below_still empty h = tt
@@ -72,7 +72,7 @@ module _ {B C : Blobs} (keeps : KeepsRight B C) where
   stand_still (x ∷ xs) (e ∷ es) h = (h.0, stands_still x e.1 h.1, stand_still xs es h.2)
 
   pub recorded_still : (r : ActionResultValue) (o : OutcomeValue) → IsRecorded B r o → IsRecorded C r o
-  recorded_still r o h = record { lawful = h.lawful; exit_code = h.exit_code; recorded = h.recorded; ordered = h.ordered; outputs = stand_still h.recorded o.outputs h.outputs }
+  recorded_still r o h = record { valid = h.valid; exit_code = h.exit_code; recorded = h.recorded; ordered = h.ordered; outputs = stand_still h.recorded o.outputs h.outputs }
 
 pub held_kept : {t u : Telling} {d : DigestValue} {v : OutcomeValue} → IsKept t u → IsHeld t d v → IsHeld u d v
 held_kept {t} {u} {d} {v} k h = record {

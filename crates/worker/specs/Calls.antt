@@ -1,5 +1,6 @@
 -- The calls of an engine that lead from one to another.
 use Rattle.std.specs.Prelude.{suc, ◌≡◌, ◌⊎◌, ◌≤◌, ℕ, List, [], ◌∷◌, ◌++◌, Option, Some, None}
+use Rattle.std.specs.Prelude.{slice_get}
 use Rattle.std.specs.List.{AllByRecursion}
 use Rattle.blob_digest.specs.Digest.{DigestValue}
 use Rattle.action_messages.specs.ActionResult.{ActionResultValue}
@@ -9,9 +10,12 @@ use Rattle.actions.specs.Recorded.{IsRecorded}
 use Rattle.blob_source.specs.Source.{Blobs, Telling}
 use Rattle.blob_source.specs.Sink.{KeepsRight}
 use Rattle.runs.specs.Engine.{JobValue, EngineValue, finished_in, job_in}
-use Rattle.runs.specs.Calls.{IsStarted, IsFinished, IsReady, without_job, jobs_of}
+use Rattle.runs.specs.Calls.{HaveOneForm, IsStarted, IsFinished, IsReady, without_job, jobs_of}
+use Rattle.runs.specs.Results.{result_of}
 use Rattle.runs.specs.declared.starting.Job.{Job}
-use Rattle.worker.specs.Outcomes.{Yields, IsYielded}
+use Rattle.worker.specs.Layout.{IsLayoutOf}
+use Rattle.worker.specs.Outcomes.{Yields, IsYielded, IsHeld, CanBeTaken}
+use Rattle.worker.specs.Values.{StartValue, Starts, StartsAll}
 
 -- how many jobs run
 abbrev pub running : List (Option JobValue) → ℕ
@@ -19,20 +23,47 @@ running [] = 0
 running (None ∷ js) = running js
 running (Some j ∷ js) = suc (running js)
 
--- A step is started as a job; a job finishes with what its child came to, or with what the store
--- has for its action; a job is lost. A job of an action whose child came to something has its
--- result put under the action.
+-- A step is started as a job; a child is started for a job; a job finishes with what its child came
+-- to, or with what the store has for its action; a job is lost. A job of an action whose child came
+-- to something has its result put under the action.
 pub data Call : Type 0 where
   started : (step id : ℕ) → Call
+  launched : (id : ℕ) (action : DigestValue) (child : StartValue) → Call
   ran : (id : ℕ) (action : DigestValue) (v : OutcomeValue) → Call
   taken : (id : ℕ) (action : DigestValue) (v : OutcomeValue) → Call
   lost : (id : ℕ) → Call
 
--- among the calls a child of the action came to something
-abbrev pub HasRun : DigestValue → List Call → Type 0
-HasRun d [] = ⊥
-HasRun d (ran id e v ∷ cs) = (d ≡ e) ⊎ HasRun d cs
-HasRun d (c ∷ cs) = HasRun d cs
+-- among the calls a child of the action came to the outcome
+abbrev pub CameTo : List Call → DigestValue → OutcomeValue → Type 0
+CameTo [] d v = ⊥
+CameTo (ran id e w ∷ cs) d v = ((d ≡ e) × (v ≡ w)) ⊎ CameTo cs d v
+CameTo (c ∷ cs) d v = CameTo cs d v
+
+-- among the calls a child of the action was started
+abbrev pub HasChild : List Call → DigestValue → StartValue → Type 0
+HasChild [] d s = ⊥
+HasChild (launched id e r ∷ cs) d s = ((d ≡ e) × (s ≡ r)) ⊎ HasChild cs d s
+HasChild (c ∷ cs) d s = HasChild cs d s
+
+-- the children that were started, the latest last
+abbrev pub children_of : List Call → List StartValue
+children_of [] = []
+children_of (launched id d s ∷ cs) = s ∷ children_of cs
+children_of (c ∷ cs) = children_of cs
+
+-- the bytes read as the result of an outcome of this form
+pub record IsResultFor (v : OutcomeValue) (b : List ℕ) : Type 0 where
+  pub outcome : OutcomeValue
+  pub form : HaveOneForm outcome v
+  pub reads : Reads (result_of outcome) b
+
+-- under the action's digest stands the result of what a child of it came to among the calls
+pub record HasChildsResult (calls : List Call) (C : Blobs) (d : DigestValue) : Type 0 where
+  pub outcome : OutcomeValue
+  pub came : CameTo calls d outcome
+  pub bytes : List ℕ
+  pub held : C d ≡ Some bytes
+  pub is : IsResultFor outcome bytes
 
 -- A step was started as a job, by blobs of which those that have their digests are told at the end.
 pub record WasStarted (A : Type 0) (B : Blobs) (i id : ℕ) (old new : EngineValue) : Type 0 where
@@ -42,6 +73,17 @@ pub record WasStarted (A : Type 0) (B : Blobs) (i id : ℕ) (old new : EngineVal
   pub number : job.id ≡ id
   pub is : IsStarted told i old new job
 
+-- A child was started for a job, in the layout that is told under the root of its input, with the
+-- command of its step.
+pub record WasLaunched (B : Blobs) (id : ℕ) (d : DigestValue) (s : StartValue)
+    (old new : EngineValue) : Type 0 where
+  pub job : JobValue
+  pub is : job_in id old ≡ Some job
+  pub action : job.action ≡ d
+  pub laid : IsLayoutOf B job.input s.layout
+  pub command : slice_get old.commands job.step ≡ Some s.command
+  pub same : new ≡ old
+
 -- a job finished with what its child came to
 pub record FinishedByChild (yields : Yields) (t : Telling) (id : ℕ) (d : DigestValue)
     (v : OutcomeValue) (old new : EngineValue) : Type 0 where
@@ -49,14 +91,14 @@ pub record FinishedByChild (yields : Yields) (t : Telling) (id : ℕ) (d : Diges
   pub action : finished.job.action ≡ d
   pub yielded : IsYielded yields t.blobs old finished.job v
 
--- A job finished with what the store had recorded for its action. It has it at the end, unless a
--- child of the same action came to something later.
+-- A job finished with what the store had recorded for its action. It has it at the end, or the
+-- result of what a child of the same action came to later.
 pub record FinishedAsRecorded (t : Telling) (later : List Call) (id : ℕ) (d : DigestValue)
     (v : OutcomeValue) (old new : EngineValue) : Type 0 where
   pub finished : IsFinished id v old new
   pub action : finished.job.action ≡ d
   pub bytes : List ℕ
-  pub held : (t.results d ≡ Some bytes) ⊎ HasRun d later
+  pub held : (t.results d ≡ Some bytes) ⊎ HasChildsResult later t.results d
   pub result : ActionResultValue
   pub reads : Reads result bytes
   pub recorded : IsRecorded t.blobs result v
@@ -70,6 +112,7 @@ IsLost id old new = (j : JobValue) × (job_in id old ≡ Some j) × (new ≡ wit
 abbrev pub Does : (A : Type 0) → Yields → Telling → List Call → Call → EngineValue → EngineValue
     → Type 0
 Does A yields t later (started i id) old new = WasStarted A t.blobs i id old new
+Does A yields t later (launched id d s) old new = WasLaunched t.blobs id d s old new
 Does A yields t later (ran id d v) old new = FinishedByChild yields t id d v old new
 Does A yields t later (taken id d v) old new = FinishedAsRecorded t later id d v old new
 Does A yields t later (lost id) old new = IsLost id old new
@@ -89,20 +132,37 @@ pub record IsLed (A : Type 0) (yields : Yields) (t : Telling) (most : ℕ)
   pub calls : List Call
   pub leads : Leads A yields t most calls old new
 
--- What was put, and what stays: a result is put under the action of a child that came to something
--- among the calls, and results under other digests stay.
+-- What was put, and what stays: under each digest that was put stands the result of what a child of
+-- that action came to among the calls, and what stood under a digest gives way to such a result
+-- alone.
 pub record PutsOf (calls : List Call) (old new : Telling) : Type 0 where
   pub put : List DigestValue
   pub are : new.puts ≡ old.puts ++ put
-  pub each : AllByRecursion (λ d. HasRun d calls) put
+  pub each : AllByRecursion (HasChildsResult calls new.results) put
   pub others : (d : DigestValue) (b : List ℕ) → old.results d ≡ Some b
-      → (new.results d ≡ Some b) ⊎ HasRun d calls
+      → (new.results d ≡ Some b) ⊎ HasChildsResult calls new.results d
 
 -- Some calls lead from the one engine to the other, and results are put as they say.
 pub record IsBuiltBy (A : Type 0) (yields : Yields) (before t : Telling) (most : ℕ)
     (old new : EngineValue) : Type 0 where
   pub led : IsLed A yields t most old new
   pub puts : PutsOf led.calls before t
+
+-- A child of an action is started only where the store had no result to take for it before, unless
+-- a child of the same action came to something.
+abbrev pub TakesRecorded : List Call → Telling → Type 0
+TakesRecorded calls before = (d : DigestValue) (s : StartValue) → HasChild calls d s
+    → (v : OutcomeValue) → IsHeld before d v → CanBeTaken s.command v
+    → (w : OutcomeValue) × CameTo calls d w
+
+-- The children that the runner started are those of the calls, right bytes stay, and what the store
+-- had recorded was taken.
+pub record IsBuiltWith (A : Type 0) (yields : Yields) (from to : Starts) (before t : Telling)
+    (most : ℕ) (old new : EngineValue) : Type 0 where
+  pub built : IsBuiltBy A yields before t most old new
+  pub children : StartsAll (children_of built.led.calls) from to
+  pub blobs : KeepsRight before.blobs t.blobs
+  pub takes : TakesRecorded built.led.calls before
 
 -- ---- which step is started
 

@@ -11,11 +11,11 @@ use Rattle.runs.specs.declared.starting.Job.{Job}
 use Rattle.worker.specs.declared.child.Child.{Child}
 use Rattle.worker.specs.declared.turns.Turn.{Turn}
 use Rattle.worker.specs.declared.turns.Turn.TheVariants as turns
-use Rattle.worker.specs.Values.{ProducedValue}
+use Rattle.worker.specs.Values.{ProducedValue, Starts, StartsOne, StartsNone}
 use Rattle.worker.specs.Stores.{IsKept, IsKeptBut}
-use Rattle.worker.specs.Outcomes.{Yields, IsOwed, HasAllRight}
+use Rattle.worker.specs.Outcomes.{Yields, IsOwed, HasAllRight, HasNoneToTake}
 use Rattle.worker.specs.Stored.{HasTrees, HasResultOf, IsHeldWhole}
-use Rattle.worker.specs.Calls.{running, WasStarted, IsLost, IsBuiltBy, IsStartable}
+use Rattle.worker.specs.Calls.{running, WasStarted, IsLost, IsBuiltWith, IsResultFor, IsStartable}
 
 -- the job is the child's
 pub record IsJobOf {J : Type 0} (c : Child J) (j : JobValue) : Type 0 where
@@ -38,9 +38,9 @@ pub record IsOwnJob {J : Type 0} (yields : Yields) (may : J → ProducedValue �
 
 -- Calls led to the engine and put results, the children have its jobs, and they are few.
 pub record IsGoing (A : Type 0) {J : Type 0} (yields : Yields) (may : J → ProducedValue → Type 0)
-    (before t : Telling) (most : ℕ) (old new : EngineValue) (children : List (Child J))
-    : Type 0 where
-  pub led : IsBuiltBy A yields before t most old new
+    (from to : Starts) (before t : Telling) (most : ℕ) (old new : EngineValue)
+    (children : List (Child J)) : Type 0 where
+  pub led : IsBuiltWith A yields from to before t most old new
   pub jobs : AreJobsOf (IsOwnJob yields may t.blobs new) new.jobs children
   pub few : length children ≤ most
 
@@ -54,23 +54,35 @@ pub record IsJobIn {A : Type 0} (e : EngineValue) (job : Job A) : Type 0 where
   pub command : slice_get e.commands job.step ≡ Some job.command
   pub digest : job.digest ≡ digest_of (action_bytes job.action)
 
+-- A child runs for a job, for which the store had no result to take.
+pub record HasChildFor {J : Type 0} (yields : Yields) (may : J → ProducedValue → Type 0)
+    (from to : Starts) (s t : Telling) (e : EngineValue) (j : JobValue) (c : Child J)
+    : Type 0 where
+  pub own : IsOwnJob yields may t.blobs e c j
+  pub started : StartsOne from to
+      (record { layout = own.owed.layout; command = own.owed.command })
+  pub none : HasNoneToTake s j.action own.owed.command
+
 -- A job goes on: a child runs for it, or it finished at once as the store had recorded.
-abbrev pub IsLaunched : {J : Type 0} → Yields → (J → ProducedValue → Type 0) → Telling → ℕ
-    → JobValue → EngineValue → EngineValue → List (Child J) → List (Child J) → Type 0
-IsLaunched yields may t id j old new before after =
-    ((c : Child _) × (c.id ≡ id) × IsOwnJob yields may t.blobs old c j × (new ≡ old)
+abbrev pub IsLaunched : {J : Type 0} → Yields → (J → ProducedValue → Type 0) → Starts → Starts
+    → Telling → Telling → ℕ → JobValue → EngineValue → EngineValue → List (Child J)
+    → List (Child J) → Type 0
+IsLaunched yields may from to s t id j old new before after =
+    ((c : Child _) × (c.id ≡ id) × HasChildFor yields may from to s t old j c × (new ≡ old)
     × (after ≡ before ++ c ∷ []))
-    ⊎ ((v : OutcomeValue) × IsFinished id v old new × IsHeldWhole t j.action v × (after ≡ before))
+    ⊎ ((v : OutcomeValue) × IsFinished id v old new × IsHeldWhole t j.action v × (after ≡ before)
+    × StartsNone from to)
 
 -- A step was started: a child runs for it, or its job finished at once.
 pub record IsBegun (A : Type 0) {J : Type 0} (yields : Yields) (may : J → ProducedValue → Type 0)
-    (t : Telling) (i : ℕ) (old new : EngineValue) (before after : List (Child J)) : Type 0 where
+    (from to : Starts) (s t : Telling) (i : ℕ) (old new : EngineValue)
+    (before after : List (Child J)) : Type 0 where
   pub id : ℕ
   pub mid : EngineValue
   pub started : WasStarted A t.blobs i id old mid
   pub job : JobValue
   pub is : job_in id mid ≡ Some job
-  pub goes : IsLaunched yields may t id job mid new before after
+  pub goes : IsLaunched yields may from to s t id job mid new before after
 
 -- A step was refused: it wasn't started, or its job was lost.
 abbrev pub CameToNothing : (A : Type 0) → Blobs → ℕ → EngineValue → EngineValue → Type 0
@@ -86,7 +98,7 @@ pub record EndsWell {J : Type 0} (may : J → ProducedValue → Type 0) (s t : T
   pub finished : IsFinished c.id produced.outcome old new
   pub blobs : HasAllRight t.blobs produced.blobs
   pub trees : HasTrees t.blobs produced.outcome
-  pub kept : IsKeptBut c.action s t
+  pub kept : IsKeptBut c.action (IsResultFor produced.outcome) s t
 
 -- A child's job ended, well or lost.
 abbrev pub Ends : {J : Type 0} → (J → ProducedValue → Type 0) → Telling → Telling → Child J

@@ -10,3 +10,4 @@ pub mod Stopped
 pub mod Watching
 pub mod Counted
 pub mod FailRunner
+pub mod Steps

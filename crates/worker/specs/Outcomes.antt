@@ -65,6 +65,10 @@ pub record IsHeld (t : Telling) (d : DigestValue) (v : OutcomeValue) : Type 0 wh
   pub reads : Reads result bytes
   pub recorded : IsRecorded t.blobs result v
 
+-- the store has no result to take for the action and the command
+abbrev pub HasNoneToTake : Telling → DigestValue → CommandValue → Type 0
+HasNoneToTake t d c = (v : OutcomeValue) → IsHeld t d v → CanBeTaken c v → ⊥
+
 -- A job came to an outcome that the store has recorded for its action, and that a build takes for
 -- the command of its step.
 pub record CanBeTakenFor (t : Telling) (e : EngineValue) (j : JobValue) (v : OutcomeValue)

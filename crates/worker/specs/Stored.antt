@@ -14,6 +14,7 @@ use Rattle.blob_source.specs.Sink.{HasRight}
 use Rattle.tree.specs.Tree.{Name}
 use Rattle.runs.specs.Calls.{HaveOneForm}
 use Rattle.runs.specs.Engine.{FinishedValue, EngineValue, finished_in}
+use Rattle.runs.specs.Results.{result_of}
 use Rattle.runs.specs.Served.{Keeps, IsKeptOf}
 use Rattle.worker.specs.Outcomes.{HasAllRight, IsHeld}
 
@@ -68,6 +69,11 @@ pub record HasResultOf (t : Telling) (e : EngineValue) (i : ℕ) (d : DigestValu
   pub result : ActionResultValue
   pub reads : Reads result bytes
   pub kept : IsKeptOf e i result
+
+-- bytes read as the result of a step that has finished
+abbrev pub IsResultOfStep : EngineValue → ℕ → List ℕ → Type 0
+IsResultOfStep e i b =
+    (f : FinishedValue) × (finished_in i e ≡ Some f) × Reads (result_of f.outcome) b
 
 -- a result is for an outcome of this form, or it is that of a step which came to one
 abbrev pub IsForForm : Blobs → EngineValue → ActionResultValue → OutcomeValue → Type 0

@@ -27,6 +27,10 @@ Starts = List StartValue → Type 0
 abbrev pub StartsOne : Starts → Starts → StartValue → Type 0
 StartsOne old new s = (before : List StartValue) → old before → new (before ++ s ∷ [])
 
+-- these were started, one after another
+abbrev pub StartsAll : List StartValue → Starts → Starts → Type 0
+StartsAll more old new = (before : List StartValue) → old before → new (before ++ more)
+
 -- none was
 abbrev pub StartsNone : Starts → Starts → Type 0
 StartsNone old new = (before : List StartValue) → old before → new before

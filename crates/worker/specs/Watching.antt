@@ -1,11 +1,12 @@
 -- How far a build is, and what its watcher is told.
 use Rattle.std.specs.Prelude.{suc, ◌≡◌, ◌⊎◌, ◌++◌, ◌<◌, ◌≤◌, ℕ, List, [], ◌∷◌, length, Option, Some, None}
 use Rattle.std.specs.List.{AllByRecursion}
+use Rattle.blob_source.specs.Sink.{KeepsRight}
 use Rattle.blob_source.specs.Source.{Telling}
 use Rattle.runs.specs.Calls.{jobs_of}
 use Rattle.runs.specs.Engine.{FinishedValue, EngineValue}
 use Rattle.worker.specs.declared.watching.Progress.{Progress}
-use Rattle.worker.specs.Calls.{running, IsLed}
+use Rattle.worker.specs.Calls.{running, Call, IsLed, PutsOf}
 use Rattle.worker.specs.Outcomes.{Yields}
 
 -- ---- what a watcher is told
@@ -43,13 +44,17 @@ pub record IsProgressOf (e : EngineValue) (p : Progress) : Type 0 where
   pub jobs : p.running ≡ running e.jobs
   pub first : IsOneThatRuns e p.longest
 
--- the numbers are those of an engine to which calls led, by what the store told then
-pub record IsProgress (A : Type 0) (yields : Yields) (most : ℕ) (first : EngineValue)
-    (p : Progress) : Type 0 where
+-- The numbers are those of an engine to which calls led, by what the store told then; and what it
+-- tells at the end differs from that by what calls put.
+pub record IsProgress (A : Type 0) (yields : Yields) (t : Telling) (most : ℕ)
+    (first : EngineValue) (p : Progress) : Type 0 where
   pub told : Telling
   pub now : EngineValue
   pub led : IsLed A yields told most first now
   pub is : IsProgressOf now p
+  pub later : List Call
+  pub since : PutsOf later told t
+  pub still : KeepsRight told.blobs t.blobs
 
 -- What was told last is of the engine to which the calls led; nothing was, where there were none.
 abbrev pub IsUpToDate : EngineValue → EngineValue → Option (List Progress)

@@ -6,7 +6,7 @@ ghost use Rattle.worker.specs.Counted.{Counts, IsDevice, IsFetch};
 ghost use Rattle.worker.specs.Stores.{IsKept, KnowsBlobs};
 ghost use Rattle.worker.specs.Calls.{IsStartable};
 ghost use Rattle.worker.specs.Outcomes.{YieldsNoMore};
-ghost use Rattle.worker.specs.Values.{LayoutValue, ProducedValue};
+ghost use Rattle.worker.specs.Values.{LayoutValue, ProducedValue, StartsNone, StartsOne};
 ghost use Rattle.worker.specs.Going.{IsJobIn, job_value, IsBegun, CameToNothing, IsLaunched};
 ghost use Rattle.worker.specs.Stopped.{StopsChild, StopsStep, StopsBeginning};
 
@@ -31,7 +31,10 @@ fn start_child<A: Allocator + Copy, S: BlobSink<A>, N: Runner<A>>(
     ensures kept { IsKept (S.tells sink.old) (S.tells sink.new) }
     ensures owed { IfOk result (λ child. (l : LayoutValue)
         × IsLayoutOf (S.tells sink.new).blobs job.now.action.input l
-        × ((p : ProducedValue) → N.may_give child p → N.yields runner.old l job.now.command p)) }
+        × ((p : ProducedValue) → N.may_give child p → N.yields runner.old l job.now.command p)
+        × StartsOne (N.starts runner.old) (N.starts runner.new)
+        (record { layout = l; command = job.now.command })) }
+    ensures unlisted { OnErr result (StartsNone (N.starts runner.old) (N.starts runner.new)) }
     ensures refused { IfErr result (StopsChild (S.tells sink.new).blobs
         job.now.action.input job.now.command) }
     ensures same { YieldsNoMore (N.yields runner.new) (N.yields runner.old) }
@@ -58,9 +61,11 @@ fn launch<A: Allocator + Copy, S: BlobSink<A>, N: Runner<A>>(
 ) -> Result<(), Refusal<A>>
     requires { IsJobIn engine.old job.now }
     ensures kept { IsKept (S.tells sink.old) (S.tells sink.new) }
-    ensures launched { OnOk result (IsLaunched (N.yields runner.old) N.may_give (S.tells sink.new)
-        job.now.id
-        (job_value job.now) engine.old engine.new children.old.items children.new.items) }
+    ensures launched { OnOk result (IsLaunched (N.yields runner.old) N.may_give
+        (N.starts runner.old) (N.starts runner.new) (S.tells sink.old) (S.tells sink.new)
+        job.now.id (job_value job.now) engine.old engine.new children.old.items
+        children.new.items) }
+    ensures unlisted { OnErr result (StartsNone (N.starts runner.old) (N.starts runner.new)) }
     ensures refused { IfErr result
         (StopsStep (N.yields runner.old) (S.tells sink.new) engine.old job.now.step) }
     ensures unchanged { OnErr result (engine.new ≡ engine.old) }
@@ -105,8 +110,10 @@ pub(crate) fn begin<A: Allocator + Copy, S: BlobSink<A>, N: Runner<A>>(
     requires knows { KnowsBlobs (known_by memo.old) (S.tells sink.old).blobs }
     ensures knows { KnowsBlobs (known_by memo.new) (S.tells sink.new).blobs }
     ensures kept { IsKept (S.tells sink.old) (S.tells sink.new) }
-    ensures begun { OnOk result (IsBegun A (N.yields runner.old) N.may_give (S.tells sink.new) step
+    ensures begun { OnOk result (IsBegun A (N.yields runner.old) N.may_give
+        (N.starts runner.old) (N.starts runner.new) (S.tells sink.old) (S.tells sink.new) step
         engine.old engine.new children.old.items children.new.items) }
+    ensures unlisted { OnErr result (StartsNone (N.starts runner.old) (N.starts runner.new)) }
     ensures refused { OnErr result
         (CameToNothing A (S.tells sink.new).blobs step engine.old engine.new) }
     ensures stopped { IfErr result (λ e. (e.step ≡ step) × StopsBeginning (N.yields runner.old)

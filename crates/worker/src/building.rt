@@ -7,7 +7,7 @@ ghost use Rattle.tree.specs.Memo.{known_by};
 ghost use Rattle.std.specs.Result.{IsErrAnd};
 ghost use Rattle.worker.specs.Counted.{Counts, IsDevice, IsFetch};
 ghost use Rattle.worker.specs.Stores.{KnowsBlobs};
-ghost use Rattle.worker.specs.Calls.{running, IsBuiltBy};
+ghost use Rattle.worker.specs.Calls.{running, IsBuiltWith};
 ghost use Rattle.worker.specs.Going.{AreJobsOf, IsJobOf, IsGoing};
 ghost use Rattle.worker.specs.Stopped.{IsRefusedBuild};
 ghost use Rattle.worker.specs.Stored.{HasNoneFinished, IsStored, StoresSteps};
@@ -33,8 +33,10 @@ fn end_all<A: Allocator + Copy, N: Runner<A>>(
 )
     requires there { AreJobsOf IsJobOf engine.old.jobs children.items }
     ensures led { (entry : N) (before t : Telling) (most : ℕ) (first : EngineValue)
-        → IsGoing A (N.yields entry) N.may_give before t most first engine.old children.items
-        → IsBuiltBy A (N.yields entry) before t most first engine.new }
+        → IsGoing A (N.yields entry) N.may_give (N.starts entry) (N.starts runner.old) before t
+        most first engine.old children.items
+        → IsBuiltWith A (N.yields entry) (N.starts entry) (N.starts runner.new) before t most first
+        engine.new }
     ensures idle { running engine.new.jobs ≡ 0 }
     ensures alive { (count : ℕ) → N.alive runner.old ≡ count + length children.items
         → N.alive runner.new ≡ count }
@@ -63,8 +65,9 @@ fn take_turns<A: Allocator + Copy, S: BlobSink<A>, N: Runner<A>, W: Watcher>(
     requires knows { KnowsBlobs (known_by memo.old) (S.tells sink.old).blobs }
     requires idle { running engine.old.jobs ≡ 0 }
     requires none { children.old.items ≡ [] }
-    ensures going { IsGoing A (N.yields runner.old) N.may_give (S.tells sink.old)
-        (S.tells sink.new) jobs engine.old engine.new children.new.items }
+    ensures going { IsGoing A (N.yields runner.old) N.may_give (N.starts runner.old)
+        (N.starts runner.new) (S.tells sink.old) (S.tells sink.new) jobs engine.old engine.new
+        children.new.items }
     ensures done { OnOk result (HaveAllFinished engine.new) }
     ensures ended { OnOk result (children.new.items ≡ []) }
     ensures stopped { IfErr result (λ e. IsRefusedBuild A (N.yields runner.old) (S.tells sink.new)
@@ -73,7 +76,8 @@ fn take_turns<A: Allocator + Copy, S: BlobSink<A>, N: Runner<A>, W: Watcher>(
         → StoresSteps (S.tells sink.new) engine.new) }
     ensures right { KeepsRight (S.tells sink.old).blobs (S.tells sink.new).blobs }
     ensures alive { N.alive runner.new ≡ N.alive runner.old + length children.new.items }
-    ensures watched { IsWatched (IsProgress A (N.yields runner.old) jobs engine.old)
+    ensures watched { IsWatched
+        (IsProgress A (N.yields runner.old) (S.tells sink.new) jobs engine.old)
         (W.told watcher.old) (W.told watcher.new) }
     ensures up_to_date { OnOk result
         (IsUpToDate engine.old engine.new (W.told watcher.old) (W.told watcher.new)) }
@@ -110,10 +114,10 @@ pub fn build<A: Allocator + Copy, S: BlobSink<A>, N: Runner<A>, W: Watcher>(
     requires some { 0 < jobs }
     requires idle { running engine.old.jobs ≡ 0 }
     // Calls lead to the engine, and at most `jobs` jobs run after each. What a job finishes with is
-    // from the runner or from the store. A result is put under the action of a job that finished
-    // with what its child came to, and those under other digests stay.
-    ensures led { IsBuiltBy A (N.yields runner.old) (S.tells sink.old) (S.tells sink.new) jobs
-        engine.old engine.new }
+    // from the runner or from the store. The children that were started are of these jobs, and the
+    // results that were put are of what they came to; those under other digests stay.
+    ensures led { IsBuiltWith A (N.yields runner.old) (N.starts runner.old) (N.starts runner.new)
+        (S.tells sink.old) (S.tells sink.new) jobs engine.old engine.new }
     ensures done { OnOk result (HaveAllFinished engine.new) }
     // Where it is refused, calls led to an engine in which the refusal of that step stands.
     ensures stopped { IfErr result (λ e. IsRefusedBuild A (N.yields runner.old) (S.tells sink.new)
@@ -126,7 +130,8 @@ pub fn build<A: Allocator + Copy, S: BlobSink<A>, N: Runner<A>, W: Watcher>(
     ensures alive { N.alive runner.new ≡ N.alive runner.old }
     ensures right { KeepsRight (S.tells sink.old).blobs (S.tells sink.new).blobs }
     // Each number that the watcher is told is that of an engine to which calls led,
-    ensures watched { IsWatched (IsProgress A (N.yields runner.old) jobs engine.old)
+    ensures watched { IsWatched
+        (IsProgress A (N.yields runner.old) (S.tells sink.new) jobs engine.old)
         (W.told watcher.old) (W.told watcher.new) }
     // and the last is that of the engine as it is then.
     ensures up_to_date { OnOk result

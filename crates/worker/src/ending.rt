@@ -4,7 +4,7 @@ ghost use Rattle.std.specs.Result.{IsErrAnd};
 ghost use Rattle.worker.specs.Counted.{Counts, IsDevice, IsFetch};
 ghost use Rattle.worker.specs.Stores.{IsKept};
 ghost use Rattle.worker.specs.Outcomes.{YieldsNoMore, HasAllRight};
-ghost use Rattle.worker.specs.Values.{ProducedValue};
+ghost use Rattle.worker.specs.Values.{ProducedValue, StartsNone};
 ghost use Rattle.worker.specs.Going.{AreJobsOf, IsJobOf, HasEndedFirst, EndsWell, Ends};
 ghost use Rattle.worker.specs.Going.{HasResultOfFirst};
 ghost use Rattle.worker.specs.Stopped.{StopsCollecting, StopsEnd, StopsSettling, StopsFirst};
@@ -33,6 +33,7 @@ fn collect<A: Allocator + Copy, S: BlobSink<A>, N: Runner<A>>(
     ensures trees { IfOk result (HasTrees (S.tells sink.new).blobs) }
     ensures refused { IfErr result StopsCollecting }
     ensures within { YieldsNoMore (N.yields runner.new) (N.yields runner.old) }
+    ensures unlisted { StartsNone (N.starts runner.old) (N.starts runner.new) }
     ensures closed { N.alive runner.new ≡ N.alive runner.old - 1 }
     ensures fetched { Counts (S.tells sink.old).failures (S.tells sink.new).failures
         (IsErrAnd result IsFetch) }
@@ -60,6 +61,7 @@ fn take<A: Allocator + Copy, S: BlobSink<A>, N: Runner<A>>(
         (StopsEnd N.may_give (S.tells sink.new).blobs child engine.old) }
     ensures unchanged { OnErr result (engine.new ≡ engine.old) }
     ensures within { YieldsNoMore (N.yields runner.new) (N.yields runner.old) }
+    ensures unlisted { StartsNone (N.starts runner.old) (N.starts runner.new) }
     ensures closed { N.alive runner.new ≡ N.alive runner.old - 1 }
     ensures fetched { Counts (S.tells sink.old).failures (S.tells sink.new).failures
         (IsErrAnd result IsFetch) }
@@ -90,6 +92,7 @@ fn settle<A: Allocator + Copy, S: BlobSink<A>, N: Runner<A>>(
     ensures stopped { IfErr result (StopsSettling N.may_give
         (S.tells sink.old) (S.tells sink.new) child engine.old) }
     ensures within { YieldsNoMore (N.yields runner.new) (N.yields runner.old) }
+    ensures unlisted { StartsNone (N.starts runner.old) (N.starts runner.new) }
     ensures closed { N.alive runner.new ≡ N.alive runner.old - 1 }
     ensures fetched { Counts (S.tells sink.old).failures (S.tells sink.new).failures
         (IsErrAnd result IsFetch) }
@@ -130,6 +133,7 @@ pub(crate) fn finish_first<A: Allocator + Copy, S: BlobSink<A>, N: Runner<A>>(
     ensures stopped { IfErr result (λ e. StopsFirst N.may_give (S.tells sink.old)
         (S.tells sink.new) children.old.items engine.old e.step e.refusal) }
     ensures within { YieldsNoMore (N.yields runner.new) (N.yields runner.old) }
+    ensures unlisted { StartsNone (N.starts runner.old) (N.starts runner.new) }
     ensures closed { N.alive runner.new ≡ N.alive runner.old - 1 }
     ensures fetched { Counts (S.tells sink.old).failures (S.tells sink.new).failures
         (IsErrAnd result (λ e. IsFetch e.refusal)) }

@@ -55,7 +55,7 @@ impl<N> FailRunner<N> {
         self.failures
     }
 
-    /// Counts a failure. One whose count is full is want of memory instead.
+    /// Counts a failure. One whose count is full is lack of memory instead.
     fn fail<T, A: Allocator>(&mut self) -> Result<T, RunError<A>>
         ensures failed { failures_of self.old < greatest_count → IsErrOf result RunError.Device }
         ensures counted { CountsRun (failures_of self.old) (failures_of self.new) result }

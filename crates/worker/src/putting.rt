@@ -10,7 +10,7 @@ ghost use Rattle.worker.specs.Outcomes.{HasAllRight};
 ghost use Rattle.worker.specs.Counted.{Counts, IsFetch};
 ghost use Rattle.worker.specs.Values.{blobs_of};
 ghost use Rattle.worker.specs.Stopped.{IsStoreFault};
-ghost use Rattle.worker.specs.Stored.{directories_of, HasTrees, HasResultOf};
+ghost use Rattle.worker.specs.Stored.{directories_of, HasTrees, HasResultOf, IsResultOfStep};
 
 use crate::error::Refusal;
 use actions::{Outcome, Output};
@@ -20,9 +20,9 @@ use runs::{Engine, Job};
 use std::alloc::Allocator;
 use tree::BlobSink;
 
-/// Puts blobs.
+/// Puts blobs, each under its digest. Refusals: `Fetch` and `Memory`; those before it are put.
 #[tactic(auto, using(crate::proofs::Keeping::kept_none, crate::proofs::Keeping::kept_trans, crate::proofs::Keeping::kept_blob))]
-pub(crate) fn put_all<A: Allocator + Copy, S: BlobSink<A>>(
+pub fn put_all<A: Allocator + Copy, S: BlobSink<A>>(
     alloc: A,
     sink: &mut S,
     blobs: &[Vec<u8, A>],
@@ -110,7 +110,7 @@ fn put_encoded<A: Allocator + Copy, S: BlobSink<A>>(
     action: &Digest,
     bytes: &[u8],
 ) -> Result<(), Refusal<A>>
-    ensures kept { IsKeptBut action.now (S.tells sink.old) (S.tells sink.new) }
+    ensures kept { IsKeptBut action.now (λ b. b ≡ bytes.now) (S.tells sink.old) (S.tells sink.new) }
     ensures held { OnOk result ((S.tells sink.new).results action.now ≡ Some bytes.now) }
     // For the prover: what is in a slice are bytes.
     ensures bytes { IsBytes bytes.now }
@@ -131,7 +131,9 @@ pub(crate) fn put_outcome<A: Allocator + Copy, S: BlobSink<A>>(
     action: &Digest,
 ) -> Result<(), Refusal<A>>
     requires { IsSome (finished_in step engine.now) }
-    ensures kept { IsKeptBut action.now (S.tells sink.old) (S.tells sink.new) }
+    // What is put, or may have been, reads as the step's result.
+    ensures kept { IsKeptBut action.now (IsResultOfStep engine.now step)
+        (S.tells sink.old) (S.tells sink.new) }
     ensures put { OnOk result (HasResultOf (S.tells sink.new) engine.now step action.now) }
     ensures failed { IfErr result IsStoreFault }
     ensures fetched { Counts (S.tells sink.old).failures (S.tells sink.new).failures

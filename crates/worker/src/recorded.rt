@@ -3,7 +3,7 @@ ghost use Rattle.std.specs.Prelude.{IfOk, Contains};
 ghost use Rattle.std.specs.Result.{IsErrAnd};
 ghost use Rattle.worker.specs.Counted.{Counts, IsFetch};
 ghost use Rattle.worker.specs.Stores.{IsKept};
-ghost use Rattle.worker.specs.Outcomes.{IsHeld, CanBeTaken};
+ghost use Rattle.worker.specs.Outcomes.{IsHeld, CanBeTaken, HasNoneToTake};
 ghost use Rattle.worker.specs.Stopped.{IsStoreFault};
 ghost use Rattle.std.specs.List.{AllByRecursion};
 ghost use Rattle.actions.specs.Outcome.{outputs_in, output_paths};
@@ -48,6 +48,9 @@ pub(crate) fn recorded_outcome<A: Allocator + Copy, S: BlobSink<A>>(
     ensures held { IfOk result (λ found.
         IfSome found (IsHeld (S.tells sink.new) job.now.digest)) }
     ensures fits { IfOk result (λ found. IfSome found (CanBeTaken job.now.command)) }
+    // There is none only where the store has none that can be taken.
+    ensures none { IfOk result (λ found. found ≡ None
+        → HasNoneToTake (S.tells sink.new) job.now.digest job.now.command) }
     ensures failed { IfErr result IsStoreFault }
     ensures fetched { Counts (S.tells sink.old).failures (S.tells sink.new).failures
         (IsErrAnd result IsFetch) }
@@ -57,8 +60,12 @@ pub(crate) fn recorded_outcome<A: Allocator + Copy, S: BlobSink<A>>(
     };
     let made = match ActionResult::decode(alloc, &bytes) {
         Ok(made) => made,
-        Err(MessageError::Memory) => return Err(Refusal::Memory),
-        Err(_) => return Ok(None),
+        Err(error) => {
+            return match error {
+                MessageError::Memory => Err(Refusal::Memory),
+                _ => Ok(None),
+            };
+        }
     };
     match recorded(alloc, &made, sink) {
         Ok(outcome) => {
@@ -67,8 +74,10 @@ pub(crate) fn recorded_outcome<A: Allocator + Copy, S: BlobSink<A>>(
             }
             Ok(None)
         }
-        Err(TreeError::Fetch) => Err(Refusal::Fetch),
-        Err(TreeError::Memory) => Err(Refusal::Memory),
-        Err(_) => Ok(None),
+        Err(error) => match error {
+            TreeError::Fetch => Err(Refusal::Fetch),
+            TreeError::Memory => Err(Refusal::Memory),
+            _ => Ok(None),
+        },
     }
 }

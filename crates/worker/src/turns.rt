@@ -1,5 +1,5 @@
 ghost use Rattle.std.specs.Prelude.{◌≡◌, ◌↔◌, ◌+◌, ◌-◌, ◌<◌, ◌≤◌, ℕ, [], Some, None, IsTrue};
-ghost use Rattle.std.specs.Prelude.{IfSome, IfErr, OnOk, length};
+ghost use Rattle.std.specs.Prelude.{List, IfSome, IfErr, OnOk, length};
 ghost use Rattle.blob_source.specs.Sink.{KeepsRight};
 ghost use Rattle.blob_source.specs.Source.{Telling};
 ghost use Rattle.plan.specs.Plan.{IsPlan};
@@ -9,7 +9,7 @@ ghost use Rattle.std.specs.Result.{IsErrAnd};
 ghost use Rattle.worker.specs.Counted.{Counts, IsDevice, IsFetch};
 ghost use Rattle.worker.specs.Stores.{KnowsBlobs};
 ghost use Rattle.worker.specs.Outcomes.{YieldsNoMore};
-ghost use Rattle.worker.specs.Calls.{IsStartable};
+ghost use Rattle.worker.specs.Calls.{Call, IsStartable, PutsOf};
 ghost use Rattle.worker.specs.Going.{AreJobsOf, IsJobOf, IsTurn, IsNextTurn, IsGoing, turns_left};
 ghost use Rattle.worker.specs.Going.{FinishesOnly, step_of};
 ghost use Rattle.worker.specs.Stopped.{IsRefusedBuild};
@@ -77,7 +77,7 @@ pub(crate) fn next_turn<A: Allocator + Copy, J>(
     ensures none_starts { result ≡ None
         → (k : ℕ) → k < length engine.now.plan.steps → IsStartable engine.now k → ⊥ }
     ensures planned { IsPlan engine.now.plan }
-    ensures lawful { IsEngine engine.now }
+    ensures valid { IsEngine engine.now }
 {
     let _ = engine.plan().steps();
     if children.len() < jobs {
@@ -108,26 +108,31 @@ pub(crate) fn take_turn<A: Allocator + Copy, S: BlobSink<A>, N: Runner<A>>(
     ensures going { (entry : N) (before : Telling) (most : ℕ) (first : EngineValue)
         → YieldsNoMore (N.yields runner.old) (N.yields entry)
         → IsTurn most engine.old children.old.items turn
-        → IsGoing A (N.yields entry) N.may_give before (S.tells sink.old) most first
+        → IsGoing A (N.yields entry) N.may_give (N.starts entry) (N.starts runner.old)
+        before (S.tells sink.old) most first
         engine.old children.old.items
-        → IsGoing A (N.yields entry) N.may_give before (S.tells sink.new) most first
+        → IsGoing A (N.yields entry) N.may_give (N.starts entry) (N.starts runner.new)
+        before (S.tells sink.new) most first
         engine.new children.new.items }
     // Where the turn is refused, the refusal stands.
     ensures stopped { IfErr result (λ e. (entry : N) (before : Telling) (most : ℕ)
         (first : EngineValue)
         → YieldsNoMore (N.yields runner.old) (N.yields entry)
         → IsTurn most engine.old children.old.items turn
-        → IsGoing A (N.yields entry) N.may_give before (S.tells sink.old) most first
+        → IsGoing A (N.yields entry) N.may_give (N.starts entry) (N.starts runner.old)
+        before (S.tells sink.old) most first
         engine.old children.old.items
         → IsRefusedBuild A (N.yields entry) (S.tells sink.new) most first e.step e.refusal) }
     // What the store has of what has finished, it has of what finishes in this turn too.
     ensures stored { OnOk result ((entry : N) (before : Telling) (most : ℕ) (first : EngineValue)
-        → IsGoing A (N.yields entry) N.may_give before (S.tells sink.old) most first
+        → IsGoing A (N.yields entry) N.may_give (N.starts entry) (N.starts runner.old)
+        before (S.tells sink.old) most first
         engine.old children.old.items
         → StoresSteps (S.tells sink.old) engine.old
         → StoresSteps (S.tells sink.new) engine.new) }
     ensures only { OnOk result
         (FinishesOnly (step_of turn children.old.items) engine.old engine.new) }
+    ensures puts { (more : List Call) × PutsOf more (S.tells sink.old) (S.tells sink.new) }
     ensures knows { KnowsBlobs (known_by memo.new) (S.tells sink.new).blobs }
     ensures fewer { OnOk result
         (turns_left engine.new children.new.items < turns_left engine.old children.old.items) }

@@ -13,7 +13,7 @@ told_by bytes files (Ok t) fits e told = let found = tree_codec.found bytes t fi
 told_by bytes files (Err d) fits e told = absurd cc
 
 pub returns-clause-read : goal.returns-clause-read
-returns-clause-read c = λ t bytes fits lawful is. ap files_told (tree_codec.only bytes t fits lawful is)
+returns-clause-read c = λ t bytes fits valid is. ap files_told (tree_codec.only bytes t fits valid is)
 
 pub returns-clause-only : goal.returns-clause-only
 returns-clause-only c = λ bytes files fits told. told_by bytes files (decoded_tree bytes) fits refl told

@@ -6,6 +6,6 @@ use Rattle.action_messages.proofs.command.are_variables.Given as goal
 
 abbrev pub invariant-loop-variable : goal.invariant-loop-variable
 invariant-loop-variable g l = record {
-  lawful : list_all is_variable (drop l.variable-index l.environment) ≡ list_all is_variable l.environment;
+  valid : list_all is_variable (drop l.variable-index l.environment) ≡ list_all is_variable l.environment;
   kept : AllByRecursion IsSetting (drop l.variable-index l.environment) → AllByRecursion IsSetting l.environment;
 }

@@ -14,5 +14,5 @@ loop-name-preserved g c =
     let stands = sym c.in-Some-2.is ∙ (c.in_ok-next.ensures {u = tt}).exact ∙ ap (λ n. child n c.in-Some.directory.now) c.as_bytes.ensures.value in
     record {
       goes = descends_child c.args.tree.now _ c.args.names.now c.loop-name.name-index c.name-item.result c.loop-name.node c.in-Dir.digest c.in-Some.directory.now (Some c.in-Some-2.next) c.loop-name-test.true c.name-item.is c.in-Dir.is c.loop-name.invariant.goes c.in-Some.ensures.found stands;
-      named = child_named c.args.tree.now c.in-Some.directory.now c.name-item.result c.in-Some-2.next c.first_child.ensures.lawful (first_there c.args.tree.now c.in-Dir.digest c.in-Some.directory.now c.in-Some.ensures.found) stands;
+      named = child_named c.args.tree.now c.in-Some.directory.now c.name-item.result c.in-Some-2.next c.first_child.ensures.valid (first_there c.args.tree.now c.in-Dir.digest c.in-Some.directory.now c.in-Some.ensures.found) stands;
     }

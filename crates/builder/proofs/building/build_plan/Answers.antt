@@ -1,5 +1,6 @@
 use Rattle.std.proofs.Common.{◌∙◌, inl, inr}
 use Rattle.std.proofs.lemmas.Result.{IfErr-weaker, IfOk-weaker, err_from_is_err_and}
+use Rattle.blob_source.proofs.Asking.{asks_none}
 use Rattle.builder.proofs.Refusing.{root_refused}
 use Rattle.blob_source.proofs.Puts.{right_grows, right_then}
 use Rattle.worker.specs.Stored.{IsStored}
@@ -42,14 +43,61 @@ returns-clause-built g c =
       ending = ending;
       still = c.run.ensures.right;
       last = c.run.new.engine;
-      led = c.run.ensures.led;
-      of_plan = led_plan c.run.ensures.led.led ∙ opened.plan;
-      of_sources = led_sources c.run.ensures.led.led ∙ opened.sources;
+      led = c.run.ensures.led.built;
+      of_plan = led_plan c.run.ensures.led.built.led ∙ opened.plan;
+      of_sources = led_sources c.run.ensures.led.built.led ∙ opened.sources;
       asked = c.end.ensures.asked;
       stored = stored;
       end = h;
-      answered = answered g.row.A.Denot (g.N.Runner.yields c.args.runner.now) c.args.jobs c.args.plan c.args.sources opening ending told c.in_ok-engine.engine c.run.new.engine built opened c.run.ensures.right c.run.ensures.led.led (right_grows asks.blobs) c.plan.ensures.lawful stored h;
+      answered = answered g.row.A.Denot (g.N.Runner.yields c.args.runner.now) c.args.jobs c.args.plan c.args.sources opening ending told c.in_ok-engine.engine c.run.new.engine built opened c.run.ensures.right c.run.ensures.led.built.led (right_grows asks.blobs) c.plan.ensures.valid stored h;
     }) c.end.ensures.ended
+
+pub returns-in_err-engine-clause-ran : goal.returns-in_err-engine-clause-ran
+returns-in_err-engine-clause-ran g c = inr (c.open.ensures.asked, λ before h. h)
+
+pub returns-in_err-run-clause-ran : goal.returns-in_err-run-clause-ran
+returns-in_err-run-clause-ran g c = inl (
+  c.run.new.engine,
+  record {
+    opening = g.S.BlobSource.tells c.open.new.sink;
+    asked = c.open.ensures.asked;
+    first = c.in_ok-engine.engine;
+    opened = c.in_ok-engine.ensures.opened;
+    ending = g.S.BlobSource.tells c.run.new.sink;
+    led = c.run.ensures.led;
+    later = record { most = 0; asks = asks_none (g.S.BlobSource.tells c.run.new.sink) };
+  },
+)
+
+pub returns-clause-ran : goal.returns-clause-ran
+returns-clause-ran g c = inl (
+  c.run.new.engine,
+  record {
+    opening = g.S.BlobSource.tells c.open.new.sink;
+    asked = c.open.ensures.asked;
+    first = c.in_ok-engine.engine;
+    opened = c.in_ok-engine.ensures.opened;
+    ending = g.S.BlobSource.tells c.run.new.sink;
+    led = c.run.ensures.led;
+    later = c.end.ensures.asked;
+  },
+)
+
+pub returns-clause-root : goal.returns-clause-root
+returns-clause-root g c = IfOk-weaker c.end.result _ _
+    (λ built h. (
+      c.run.new.engine,
+      record {
+        opening = g.S.BlobSource.tells c.open.new.sink;
+        asked = c.open.ensures.asked;
+        first = c.in_ok-engine.engine;
+        opened = c.in_ok-engine.ensures.opened;
+        ending = g.S.BlobSource.tells c.run.new.sink;
+        led = c.run.ensures.led;
+        later = c.end.ensures.asked;
+      },
+      h,
+    )) c.end.ensures.ended
 
 pub returns-in_err-engine-clause-refused : goal.returns-in_err-engine-clause-refused
 returns-in_err-engine-clause-refused g c =
@@ -76,7 +124,7 @@ returns-clause-refused g c = IfErr-weaker c.end.result _ _
       ending = g.S.BlobSource.tells c.run.new.sink;
       still = c.run.ensures.right;
       last = c.run.new.engine;
-      led = c.run.ensures.led.led;
+      led = c.run.ensures.led.built.led;
       complete = c.in_ok-run.ensures.done;
       asked = c.end.ensures.asked;
       stands = root;
@@ -86,15 +134,18 @@ pub returns-in_err-engine-clause-watched : goal.returns-in_err-engine-clause-wat
 returns-in_err-engine-clause-watched g c = watched_none (g.W.Watcher.told c.args.watcher.now)
 
 pub returns-in_err-run-clause-watched : goal.returns-in_err-run-clause-watched
-returns-in_err-run-clause-watched g c = watched_of_plan (g.S.BlobSource.tells c.open.new.sink) c.in_ok-engine.engine c.in_ok-engine.ensures.opened c.run.ensures.watched
+returns-in_err-run-clause-watched g c =
+    let end = g.S.BlobSource.tells c.run.new.sink in
+    watched_of_plan (g.S.BlobSource.tells c.args.sink.now) (g.S.BlobSource.tells c.open.new.sink) end end c.in_ok-engine.engine c.open.ensures.asked c.in_ok-engine.ensures.opened (record { most = 0; asks = asks_none end }) c.run.ensures.watched
 
 pub returns-clause-watched : goal.returns-clause-watched
-returns-clause-watched g c = watched_of_plan (g.S.BlobSource.tells c.open.new.sink) c.in_ok-engine.engine c.in_ok-engine.ensures.opened c.run.ensures.watched
+returns-clause-watched g c =
+    watched_of_plan (g.S.BlobSource.tells c.args.sink.now) (g.S.BlobSource.tells c.open.new.sink) (g.S.BlobSource.tells c.run.new.sink) (g.S.BlobSource.tells c.end.new.sink) c.in_ok-engine.engine c.open.ensures.asked c.in_ok-engine.ensures.opened c.end.ensures.asked c.run.ensures.watched
 
 pub returns-clause-whole : goal.returns-clause-whole
 returns-clause-whole g c =
     let opened = c.in_ok-engine.ensures.opened in
-    on_ok c.end.result (whole_of c.args.plan c.in_ok-engine.engine c.run.new.engine opened c.plan.ensures.lawful c.in_ok-run.ensures.done (led_plan c.run.ensures.led.led ∙ opened.plan)
+    on_ok c.end.result (whole_of c.args.plan c.in_ok-engine.engine c.run.new.engine opened c.plan.ensures.valid c.in_ok-run.ensures.done (led_plan c.run.ensures.led.built.led ∙ opened.plan)
     (g.W.Watcher.told c.args.watcher.now) (g.W.Watcher.told c.run.new.watcher) c.in_ok-run.ensures.up_to_date)
 
 pub returns-in_err-engine-clause-fetched : goal.returns-in_err-engine-clause-fetched

@@ -7,8 +7,8 @@ use Rattle.worker.specs.declared.error.Refusal.TheVariants as refusals
 use Rattle.builder.proofs.Failing.{counts_refusal}
 use Rattle.builder.proofs.building.end.Goals as goal
 
-pub root-requires : goal.root-requires
-root-requires g c = known_nothing c.new-memo.ensures
+pub root_tree-requires : goal.root_tree-requires
+root_tree-requires g c = known_nothing c.new-memo.ensures
 
 pub unreachable-requires : goal.unreachable-requires
 unreachable-requires g c = none_recorded c.args.engine.now c.requires.done (sym c.in-Ok-None.field-0-is ∙ c.in-Ok-None.ensures.value)

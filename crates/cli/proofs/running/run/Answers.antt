@@ -1,40 +1,75 @@
-use Rattle.std.proofs.Common.{◌≡◌, ◌∙◌, rules, inl, inr, map, string_bytes, codes, subst, sym}
-use Rattle.clap.specs.Words.{IsAmong, kind_of, subcommand_of, subcommand_rows_of}
-use Rattle.clap.specs.declared.error.kind.ErrorKind.TheVariants.{OutOfMemory}
-use Rattle.command_lines.specs.CommandLine.{CallsCommand, options_of, program_line}
+use Rattle.std.proofs.Common.{rules, inl, map, string_bytes, codes}
+use Rattle.clap.specs.Words.{subcommand_of, subcommand_rows_of}
+use Rattle.command_lines.specs.CommandLine.{CallsCommand, program_line}
 use Rattle.commands.proofs.Exits.{exit_by}
 use Rattle.commands.proofs.Writing.{no_line_of_same, where_err}
-use Rattle.commands.specs.Refusal.{FailsVerify}
-use Rattle.cli.proofs.CommandLines.{failed, options_found, yes_printed, no_printed}
+use Rattle.cli.proofs.CommandLines.{build_fails, no_help, no_told, no_version, options_found, verify_fails, yes_done}
+use Rattle.cli.specs.Ended.{Fails}
+use Rattle.cli.specs.Ended.Fails.{in_get, in_put, in_serve, in_words}
+use Rattle.cli.specs.Ended.IsDone.{shown}
 use Rattle.cli.proofs.running.run.Goals as goal
 
-pub returns-then-branch-clause-done : goal.returns-then-branch-clause-done
-returns-then-branch-clause-done g c =
+pub returns-in-Err-clause-done : goal.returns-in-Err-clause-done
+returns-in-Err-clause-done g c = λ _. shown c.in_ok-show-in-Err.ensures.shown
+
+pub returns-in_err-show-in-Err-clause-refused : goal.returns-in_err-show-in-Err-clause-refused
+returns-in_err-show-in-Err-clause-refused g c =
+    exit_by (Fails g.W.World.sees (map string_bytes c.args.words.now)) _ c.from_residual.ensures.1 (in_words c.in_err-show-in-Err.ensures.fault)
+
+pub returns-in_err-show-in-Err-clause-unended : goal.returns-in_err-show-in-Err-clause-unended
+returns-in_err-show-in-Err-clause-unended g c =
+    let words = map string_bytes c.args.words.now in
+    where_err c.from_residual.result (λ called. no_line_of_same _ _ (c.in_err-show-in-Err.ensures.silent (no_help words called.faultless) (no_version words called.faultless)))
+
+pub returns-in_err-show-in-Err-clause-begun : goal.returns-in_err-show-in-Err-clause-begun
+returns-in_err-show-in-Err-clause-begun g c =
+    let words = map string_bytes c.args.words.now in
+    where_err c.from_residual.result (λ called. inl (c.in_err-show-in-Err.ensures.silent (no_help words called.faultless) (no_version words called.faultless)))
+
+pub returns-in_ok-run_verify-in-Some-verify-default-clause-done : goal.returns-in_ok-run_verify-in-Some-verify-default-clause-done
+returns-in_ok-run_verify-in-Some-verify-default-clause-done g c =
     let words = map string_bytes c.args.words.now in
     let called : CallsCommand words (codes "verify") = record { faultless = c.in-Ok.ensures.fails; command_is = search rules } in
     let rows = options_found (subcommand_rows_of c.in-Ok.matches) (subcommand_of program_line words) _ c.in-Ok.ensures.called c.in-Some-verify-default.ensures.rows in
-    λ _. inl (yes_printed words called rows c.in_ok-run_verify-in-Some-verify-default.ensures.printed c.if-branch.true)
+    λ done. yes_done words rows called c.in_ok-run_verify-in-Some-verify-default.ensures.printed (c.as_answer.ensures.done done)
 
-pub returns-in-Some-verify-default-clause-no : goal.returns-in-Some-verify-default-clause-no
-returns-in-Some-verify-default-clause-no g c =
+pub returns-in_ok-run_verify-in-Some-verify-default-clause-no : goal.returns-in_ok-run_verify-in-Some-verify-default-clause-no
+returns-in_ok-run_verify-in-Some-verify-default-clause-no g c =
     let words = map string_bytes c.args.words.now in
     let called : CallsCommand words (codes "verify") = record { faultless = c.in-Ok.ensures.fails; command_is = search rules } in
     let rows = options_found (subcommand_rows_of c.in-Ok.matches) (subcommand_of program_line words) _ c.in-Ok.ensures.called c.in-Some-verify-default.ensures.rows in
-    λ _. inl (no_printed words called rows c.in_ok-run_verify-in-Some-verify-default.ensures.printed c.if-branch.false)
-
-pub returns-in-Err-clause-unended : goal.returns-in-Err-clause-unended
-returns-in-Err-clause-unended g c = where_err c.shown.result (λ called.
-    let kind = kind_of c.in-Err.error in
-    let memory : kind ≡ OutOfMemory = elim c.in-Err.ensures.fails [
-      | inl e ↦ e
-      | inr among ↦ absurd (subst (IsAmong kind) called.faultless among)
-    ] in
-    let same = c.shown.ensures.kept (λ help. cc (sym memory ∙ help)) (λ version. cc (sym memory ∙ version)) in
-    no_line_of_same (g.O.Write.contents c.args.out.now) (g.O.Write.contents c.shown.new.out) same)
+    λ not. no_told words rows called c.in_ok-run_verify-in-Some-verify-default.ensures.printed (c.as_answer.ensures.no not)
 
 pub returns-in_err-run_verify-in-Some-verify-default-clause-refused : goal.returns-in_err-run_verify-in-Some-verify-default-clause-refused
 returns-in_err-run_verify-in-Some-verify-default-clause-refused g c =
     let words = map string_bytes c.args.words.now in
+    let called : CallsCommand words (codes "verify") = record { faultless = c.in-Ok.ensures.fails; command_is = search rules } in
     let rows = options_found (subcommand_rows_of c.in-Ok.matches) (subcommand_of program_line words) _ c.in-Ok.ensures.called c.in-Some-verify-default.ensures.rows in
-    exit_by (λ fault. CallsCommand words (codes "verify") → FailsVerify g.W.World.sees (options_of words) fault) _ c.from_residual.ensures.1
-    (λ _. failed words rows c.in_err-run_verify-in-Some-verify-default.ensures.refused)
+    exit_by (Fails g.W.World.sees words) _ c.from_residual-in_err-run_verify-in-Some-verify-default.ensures.1
+    (verify_fails words rows _ called c.in_err-run_verify-in-Some-verify-default.ensures.refused)
+
+pub returns-in_err-run_build-in-Some-build-default-clause-refused : goal.returns-in_err-run_build-in-Some-build-default-clause-refused
+returns-in_err-run_build-in-Some-build-default-clause-refused g c =
+    let words = map string_bytes c.args.words.now in
+    let called : CallsCommand words (codes "build") = record { faultless = c.in-Ok.ensures.fails; command_is = search rules } in
+    let rows = options_found (subcommand_rows_of c.in-Ok.matches) (subcommand_of program_line words) _ c.in-Ok.ensures.called c.in-Some-build-default.ensures.rows in
+    exit_by (Fails g.W.World.sees words) _ c.from_residual-in_err-run_build-in-Some-build-default.ensures.1
+    (build_fails words rows _ called c.in_err-run_build-in-Some-build-default.ensures.refused)
+
+pub returns-in_err-run_put-in-Some-put-default-clause-refused : goal.returns-in_err-run_put-in-Some-put-default-clause-refused
+returns-in_err-run_put-in-Some-put-default-clause-refused g c =
+    let words = map string_bytes c.args.words.now in
+    let called : CallsCommand words (codes "put") = record { faultless = c.in-Ok.ensures.fails; command_is = search rules } in
+    exit_by (Fails g.W.World.sees words) _ c.from_residual-in_err-run_put-in-Some-put-default.ensures.1 (in_put called)
+
+pub returns-in_err-run_get-in-Some-get-default-clause-refused : goal.returns-in_err-run_get-in-Some-get-default-clause-refused
+returns-in_err-run_get-in-Some-get-default-clause-refused g c =
+    let words = map string_bytes c.args.words.now in
+    let called : CallsCommand words (codes "get") = record { faultless = c.in-Ok.ensures.fails; command_is = search rules } in
+    exit_by (Fails g.W.World.sees words) _ c.from_residual-in_err-run_get-in-Some-get-default.ensures.1 (in_get called)
+
+pub returns-in_err-run_serve-in-Some-serve-default-clause-refused : goal.returns-in_err-run_serve-in-Some-serve-default-clause-refused
+returns-in_err-run_serve-in-Some-serve-default-clause-refused g c =
+    let words = map string_bytes c.args.words.now in
+    let called : CallsCommand words (codes "serve") = record { faultless = c.in-Ok.ensures.fails; command_is = search rules } in
+    exit_by (Fails g.W.World.sees words) _ c.from_residual-in_err-run_serve-in-Some-serve-default.ensures.1 (in_serve called)

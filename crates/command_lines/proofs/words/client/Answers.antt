@@ -1,12 +1,10 @@
-use Rattle.std.proofs.Common.{ap, ap₂, ◌∙◌, ◌≡◌}
+use Rattle.std.proofs.Common.{ap₂, ◌∙◌}
 use Rattle.std.proofs.lemmas.Result.{IfOk-weaker}
-use Rattle.clap.specs.Simple.{app_of_fields}
-use Rattle.clap.specs.Words.{app_of, new_app, with_rule}
+use Rattle.clap.specs.Words.{with_rule}
 use Rattle.command_lines.proofs.words.client.Goals as goal
 
 pub returns : goal.returns
 returns c =
-    let begun : app_of c.about.result ≡ new_app c.args.name.now = ap app_of_fields c.about.ensures ∙ c.new.ensures.app in
-    let with_1 = c.in_ok-arg.ensures.shape c.required.ensures.local ∙ ap₂ with_rule begun c.required.ensures.rule in
+    let with_1 = c.in_ok-arg.ensures.shape c.required.ensures.local ∙ ap₂ with_rule c.new.ensures.app c.required.ensures.rule in
     let with_2 = c.in_ok-arg-2.ensures.shape c.optional.ensures.local ∙ ap₂ with_rule with_1 c.optional.ensures.rule in
     IfOk-weaker c.arg-3.result _ _ (λ r h. h.shape c.optional-2.ensures.local ∙ ap₂ with_rule with_2 c.optional-2.ensures.rule) c.arg-3.ensures

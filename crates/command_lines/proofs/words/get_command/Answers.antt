@@ -5,4 +5,5 @@ use Rattle.command_lines.proofs.words.get_command.Goals as goal
 
 pub returns : goal.returns
 returns c =
-    IfOk-weaker c.arg.result _ _ (λ r h. h.shape c.word.ensures.local ∙ ap₂ with_rule c.in_ok-client.ensures c.word.ensures.rule) c.arg.ensures
+    let with_1 = c.in_ok-arg.ensures.shape c.word.ensures.local ∙ ap₂ with_rule c.in_ok-client.ensures c.word.ensures.rule in
+    IfOk-weaker c.arg-2.result _ _ (λ r h. h.shape c.optional.ensures.local ∙ ap₂ with_rule with_1 c.optional.ensures.rule) c.arg-2.ensures

@@ -1,14 +1,11 @@
-use Rattle.std.proofs.Common.{ap, ap₂, ◌∙◌, ◌≡◌}
+use Rattle.std.proofs.Common.{ap₂, ◌∙◌}
 use Rattle.std.proofs.lemmas.Result.{IfOk-weaker}
-use Rattle.clap.specs.Simple.{app_of_fields}
-use Rattle.clap.specs.Words.{app_of, new_app, with_rule}
-use Rattle.std.specs.Prelude.{codes}
+use Rattle.clap.specs.Words.{with_rule}
 use Rattle.command_lines.proofs.words.serve_command.Goals as goal
 
 pub returns : goal.returns
 returns c =
-    let begun : app_of c.about.result ≡ new_app (codes "serve") = ap app_of_fields c.about.ensures ∙ c.new.ensures.app in
-    let with_1 = c.in_ok-arg.ensures.shape c.required.ensures.local ∙ ap₂ with_rule begun c.required.ensures.rule in
+    let with_1 = c.in_ok-arg.ensures.shape c.required.ensures.local ∙ ap₂ with_rule c.new.ensures.app c.required.ensures.rule in
     let with_2 = c.in_ok-arg-2.ensures.shape c.required-2.ensures.local ∙ ap₂ with_rule with_1 c.required-2.ensures.rule in
     let with_3 = c.in_ok-arg-3.ensures.shape c.required-3.ensures.local ∙ ap₂ with_rule with_2 c.required-3.ensures.rule in
     let with_4 = c.in_ok-arg-4.ensures.shape c.required-4.ensures.local ∙ ap₂ with_rule with_3 c.required-4.ensures.rule in

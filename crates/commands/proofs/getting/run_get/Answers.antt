@@ -1,38 +1,37 @@
-use Rattle.std.proofs.Common.{◌≡◌, List, IfSome, inr, subst, ℕ}
-use Rattle.std.specs.Io.KnownBytes.{Appends}
-use Rattle.std.proofs.KnownBytes.{Appends-kept}
-use Rattle.std.specs.declared.alloc.Global.{Global}
-use Rattle.std.specs.declared.vec.Vec.{Vec}
-use Rattle.blob_digest.specs.Digest.{digest_of}
-use Rattle.commands.proofs.Writing.{beginning_of_all, where_err}
+use Rattle.std.proofs.Common.{rules, ◌≡◌, ◌∙◌, Some, refl, sym, subst, inr}
+use Rattle.std.specs.Prelude.{IsSome, codes}
+use Rattle.std.proofs.lemmas.Result.{IfOk-weaker}
+use Rattle.clap.specs.Words.{first_of, found_of, rows_of}
+use Rattle.commands.specs.Places.{IsToldOver}
+use Rattle.commands.specs.Printed.{GetsAsked}
+use Rattle.commands.specs.Trees.{IsTreeGot}
+use Rattle.remote.specs.Remote.{connection_of}
+use Rattle.commands.proofs.Gotten.{on_err}
+use Rattle.commands.proofs.Placed.{opened_to}
 use Rattle.commands.proofs.getting.run_get.Goals as goal
 
-pub returns-in_err-map_err-clause-begun : goal.returns-in_err-map_err-clause-begun
-returns-in_err-map_err-clause-begun g c =
+pub returns-in-Some-clause-answered : goal.returns-in-Some-clause-answered
+returns-in-Some-clause-answered g c =
+    let sees = g.W.World.sees in
+    let rows = rows_of (found_of c.args.matches.now) in
     let old = g.O.Write.contents c.args.out.now in
-    let mid = g.O.Write.contents c.write_bytes.new.out in
-    let new = g.O.Write.contents c.flush.new.self in
-    let bytes = c.in-Some.bytes.items in
-    let digest = c.in_ok-digest.digest in
-    let right : digest_of bytes ≡ digest = subst (λ o. IfSome o (λ (b : Vec ℕ Global). digest_of b.items ≡ digest)) c.in-Some.is c.in_ok-bytes.ensures.right in
-    let written : Appends old mid bytes = subst (Appends old mid) c.deref.ensures.value c.in_ok-write_bytes.ensures.written in
-    where_err c.from_residual-in_err-map_err.result (inr (
-      digest,
-      c.in_ok-digest.ensures.found,
-      record { bytes = bytes; right = right; begun = beginning_of_all old new bytes (Appends-kept old mid new bytes written c.flush.ensures.bytes) },
-    ))
-
-pub returns-clause-answered : goal.returns-clause-answered
-returns-clause-answered g c =
-    let old = g.O.Write.contents c.args.out.now in
-    let mid = g.O.Write.contents c.write_bytes.new.out in
-    let new = g.O.Write.contents c.flush.new.self in
-    let bytes = c.in-Some.bytes.items in
-    let digest = c.in_ok-digest.digest in
-    let right : digest_of bytes ≡ digest = subst (λ o. IfSome o (λ (b : Vec ℕ Global). digest_of b.items ≡ digest)) c.in-Some.is c.in_ok-bytes.ensures.right in
-    let written : Appends old mid bytes = subst (Appends old mid) c.deref.ensures.value c.in_ok-write_bytes.ensures.written in
-    record {
-      digest = digest;
+    let new = g.O.Write.contents c.get_tree.new.out in
+    let start = connection_of g.W.Link.Stream.flow c.in_ok-remote.remote in
+    let into : first_of (codes "into") rows ≡ Some c.in-Some.folder.now = search rules in
+    IfOk-weaker c.get_tree.result (IsTreeGot sees (IsToldOver start) c.in_ok-digest.digest c.in-Some.folder.now old new) (GetsAsked sees rows old new)
+    (λ found got. inr (record {
+      folder = c.in-Some.folder.now;
+      into = into;
+      digest = c.in_ok-digest.digest;
       spelled = c.in_ok-digest.ensures.found;
-      writes = record { bytes = bytes; right = right; printed = Appends-kept old mid new bytes written c.flush.ensures.bytes };
-    }
+      start = start;
+      connected = opened_to sees rows c.in_ok-server.server start
+          (c.in_ok-server.ensures.address ∙ c.text_of.ensures) (c.in_ok-server.ensures.host ∙ c.text_of.ensures) c.in_ok-server.ensures.prefix c.in_ok-remote.ensures.opened;
+      got = got;
+    })) c.get_tree.ensures.got
+
+pub returns-in-Some-clause-begun : goal.returns-in-Some-clause-begun
+returns-in-Some-clause-begun g c =
+    let rows = rows_of (found_of c.args.matches.now) in
+    let into : first_of (codes "into") rows ≡ Some c.in-Some.folder.now = search rules in
+    on_err c.get_tree.result c.get_tree.ensures.begun (λ begins. inr (inr (subst IsSome (sym into) refl, begins)))

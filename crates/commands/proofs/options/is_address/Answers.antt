@@ -1,6 +1,6 @@
 use Rattle.std.proofs.Common.{◌<◌, length, rules}
 use Rattle.commands.proofs.Addresses.{AreAddress, address_of_parts, no_address, parts_of_address}
-use Rattle.commands.specs.Options.{IsAddress, IsNumber, number_of}
+use Rattle.commands.specs.Options.{IsNumber, number_of}
 use Rattle.commands.proofs.options.is_address.Goals as goal
 
 pub returns-in_default : goal.returns-in_default

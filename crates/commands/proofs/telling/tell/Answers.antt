@@ -14,7 +14,7 @@ returns g c =
     let mid = g.E.Write.contents c.match-error_line.err in
     let new = g.E.Write.contents c.flush.new.self in
     elim c.match-error_line.branch [
-      | in-Ok w ↦ tells_by c.args.error.now old mid new w.in-Ok.line.items w.in-Ok.ensures.lawful (λ is. absurd (w.in-Ok.ensures.other is))
+      | in-Ok w ↦ tells_by c.args.error.now old mid new w.in-Ok.line.items w.in-Ok.ensures.valid (λ is. absurd (w.in-Ok.ensures.other is))
           (subst (λ e. AppendsBeginning old (g.E.Write.contents e) w.in-Ok.line.items) (sym w.err-is)
           (subst (AppendsBeginning old (g.E.Write.contents w.write_bytes.new.out)) w.deref.ensures.value (beginning_of old (g.E.Write.contents w.write_bytes.new.out) _ w.write_bytes.result w.write_bytes.ensures.written w.write_bytes.ensures.part)))
           c.flush.ensures.bytes

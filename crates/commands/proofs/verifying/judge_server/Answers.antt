@@ -1,8 +1,8 @@
-use Rattle.std.proofs.Common.{inl, inr, subst, string_bytes}
+use Rattle.std.proofs.Common.{inr, subst, string_bytes}
 use Rattle.std.proofs.Math.Logic.{∥∥₁_map}
 use Rattle.std.proofs.lemmas.Result.{IfErr-weaker, IfOk-weaker}
 use Rattle.remote.specs.Remote.{connection_of}
-use Rattle.commands.specs.Places.{FailsOver, IsOfServer, IsOpened, IsTold, IsToldOver}
+use Rattle.commands.specs.Places.{FailsOver, IsOfServer, IsConnected, IsAnsweredBy, IsToldOver}
 use Rattle.commands.specs.Refusal.{FailsServer}
 use Rattle.commands.proofs.verifying.judge_server.Goals as goal
 
@@ -12,8 +12,8 @@ returns-clause-answered g c =
     let server = c.args.server.now in
     let address = string_bytes server.address in
     let start = connection_of g.W.Link.Stream.flow c.in_ok-remote.remote in
-    let opened = subst (λ h. IsOpened sees address h server.prefix start) c.requires c.in_ok-remote.ensures.opened in
-    IfOk-weaker c.judge_over.result (IsTold (IsToldOver start) c.args.case.now) (IsTold (IsOfServer sees address server.prefix) c.args.case.now)
+    let opened = subst (λ h. IsConnected sees address h server.prefix start) c.requires c.in_ok-remote.ensures.opened in
+    IfOk-weaker c.judge_over.result (IsAnsweredBy (IsToldOver start) c.args.case.now) (IsAnsweredBy (IsOfServer sees address server.prefix) c.args.case.now)
     (λ answer is. (is.0, ∥∥₁_map is.1 (λ over. record { start = start; opened = opened; over = over }), is.2)) c.judge_over.ensures.answered
 
 pub returns-clause-fault : goal.returns-clause-fault
@@ -22,6 +22,6 @@ returns-clause-fault g c =
     let server = c.args.server.now in
     let address = string_bytes server.address in
     let start = connection_of g.W.Link.Stream.flow c.in_ok-remote.remote in
-    let opened = subst (λ h. IsOpened sees address h server.prefix start) c.requires c.in_ok-remote.ensures.opened in
+    let opened = subst (λ h. IsConnected sees address h server.prefix start) c.requires c.in_ok-remote.ensures.opened in
     IfErr-weaker c.judge_over.result (λ e. ∥ FailsOver start e ∥₁) (λ e. ∥ FailsServer sees address server.prefix e ∥₁)
     (λ e is. ∥∥₁_map is (λ fails. inr (start, opened, fails))) c.judge_over.ensures.fault

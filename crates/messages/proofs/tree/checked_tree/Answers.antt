@@ -14,8 +14,8 @@ invariant_of-result g c =
     let there = children_there (named_in t) (child_digests t) exact in
     (record { root = c.in_ok-named.ensures.root; children = rw c.deref.ensures.value at c.in_ok-named.ensures.children; held = there.0; named = there.1 }, c.requires)
 
-pub returns-clause-lawful : goal.returns-clause-lawful
-returns-clause-lawful g c =
+pub returns-clause-valid : goal.returns-clause-valid
+returns-clause-valid g c =
     let t : TreeValue = record { root = c.args.root; children = c.args.children.items } in
     let named : c.deref-2.result.now ≡ named_in t = c.deref-2.ensures.value ∙ c.in_ok-named.ensures.named ∙ ap (λ (l : List DirectoryValue). named_by (c.args.root ∷ l)) c.deref.ensures.value in
     let held : c.deref-3.result.now ≡ child_digests t = c.deref-3.ensures.value ∙ c.requires in

@@ -6,7 +6,7 @@ use Rattle.plan.proofs.plan.read_lines.Given as goal
 abbrev pub invariant-loop-alloc : goal.invariant-loop-alloc
 invariant-loop-alloc g l = record {
   text : l.text ≡ lines_text l.steps l.lines.items ++ l.rest;
-  lawful : AreLines (length l.steps) l.lines.items;
+  valid : AreLines (length l.steps) l.lines.items;
   apart : KeepApart l.version l.lines.items;
   targets : AreTargetsIn l.version l.targets l.lines.items;
 }

@@ -10,7 +10,7 @@ pub returns-in-Err-clause-fault : goal.returns-in-Err-clause-fault
 returns-in-Err-clause-fault g c =
     let name : c.as_bytes.result.now ≡ c.step-item.result.name = c.as_bytes.ensures.value ∙ ap (λ (s : StepValue). s.name) c.step.view_is in
     step_entry_fault c.args.steps.now c.loop-step.step-index c.args.text.now c.loop-step.rest.now c.loop-step.digests.items c.step-item.result (c.len.result + 2) c.in-Err.fault c.at.result
-    c.requires.lawful c.loop-step.invariant c.loop-step-test.true c.step-item.is (λ more. subst (λ (n : List ℕ). IsNextEntryFault (n ∷ more) c.loop-step.rest.now c.in-Err.fault) name (c.in-Err.ensures more))
+    c.requires.valid c.loop-step.invariant c.loop-step-test.true c.step-item.is (λ more. subst (λ (n : List ℕ). IsNextEntryFault (n ∷ more) c.loop-step.rest.now c.in-Err.fault) name (c.in-Err.ensures more))
     (omega (arith, c.len.ensures, c.loop-step.digests.ok)) c.at.ensures
 
 pub loop-step-preserved : goal.loop-step-preserved
@@ -23,9 +23,9 @@ loop-step-preserved g c =
 pub returns-then-is_empty-clause-found : goal.returns-then-is_empty-clause-found
 returns-then-is_empty-clause-found g c =
     let none = nothing_left c.loop-step.rest.now (sym c.is_empty.ensures ∙ c.if-is_empty.true) in
-    whole_record c.args.steps.now c.loop-step.step-index c.args.text.now c.loop-step.rest.now c.loop-step.digests.items c.requires.lawful c.loop-step-test.false c.loop-step.invariant none
+    whole_record c.args.steps.now c.loop-step.step-index c.args.text.now c.loop-step.rest.now c.loop-step.digests.items c.requires.valid c.loop-step-test.false c.loop-step.invariant none
 
 pub returns-clause-fault : goal.returns-clause-fault
 returns-clause-fault g c =
-    end_entry_fault c.args.steps.now c.loop-step.step-index c.args.text.now c.loop-step.rest.now c.loop-step.digests.items (c.len-2.result + 2) c.end_fault.result c.at-2.result c.requires.lawful c.loop-step-test.false c.loop-step.invariant c.end_fault.ensures
+    end_entry_fault c.args.steps.now c.loop-step.step-index c.args.text.now c.loop-step.rest.now c.loop-step.digests.items (c.len-2.result + 2) c.end_fault.result c.at-2.result c.requires.valid c.loop-step-test.false c.loop-step.invariant c.end_fault.ensures
     (omega (arith, c.len-2.ensures, c.loop-step.digests.ok)) c.at-2.ensures

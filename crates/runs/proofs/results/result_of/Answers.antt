@@ -22,7 +22,7 @@ unreachable-requires g c =
     let r : ActionResultValue = record { files = c.in_ok-files_of.field-0.items; directories = c.in_ok-directories_of.field-0.items; symlinks = c.in_ok-symlinks_of.field-0.items; exit_code = to_z w32 (of_z w32 c.exit_code.result); stdout = c.new-2.result; stderr = c.new-4.result } in
     let same : r ≡ result_of c.args.outcome.now = collected c.args.outcome.now (outputs_in c.outputs-outputs.result.now) c.in_ok-files_of.field-0.items c.in_ok-directories_of.field-0.items c.in_ok-symlinks_of.field-0.items (to_z w32 (of_z w32 c.exit_code.result)) c.new-2.result c.new-4.result c.outputs-outputs.ensures.value
     c.in_ok-files_of.ensures c.in_ok-directories_of.ensures c.in_ok-symlinks_of.ensures (to_z-of_z w32 c.exit_code.result (fits_by_size c.exit_code.result c.exit_code.type_inv) ∙ c.exit_code.ensures.value) (nothing c.new-2.result c.new.result.items c.new-2.ensures c.new.ensures.items) (nothing c.new-4.result c.new-3.result.items c.new-4.ensures c.new-3.ensures.items) in
-    let checked = result_checked c.args.outcome.now c.outputs-outputs.ensures.lawful r same in
+    let checked = result_checked c.args.outcome.now c.outputs-outputs.ensures.valid r same in
     let both : ◌≡◌ {A = Result ActionResultValue MessageError} (Ok r) (Err c.in-Err.field-0) = sym checked ∙ (c.in-Err.ensures {u = tt}).exact in
     cc
 

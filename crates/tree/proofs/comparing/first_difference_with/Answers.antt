@@ -6,7 +6,7 @@ use Rattle.blob_digest.specs.Digest.{digest_of}
 use Rattle.tree.specs.Visiting.{items_of}
 use Rattle.tree.specs.Difference.{differing, FindsFirst, ExplainsDifference, LeavesOwn}
 use Rattle.tree.specs.Comparing.{IsEncoding}
-use Rattle.tree.proofs.LawfulTrees.{lawful_own}
+use Rattle.tree.proofs.ValidTrees.{valid_own}
 use Rattle.tree.proofs.OwnDirectories.{digests_beside}
 use Rattle.tree.specs.LooksAt.{Compares}
 use Rattle.tree.proofs.Learning.{learns_more, learns_refused, refused_exit}
@@ -15,7 +15,7 @@ use Rattle.tree.proofs.comparing.first_difference_with.Goals as goal
 pub difference_below-requires-clause-own : goal.difference_below-requires-clause-own
 difference_below-requires-clause-own g c = record {
   digests = c.deref-3.ensures.value ∙ c.in_ok-digests.ensures {u = tt} ∙ ap (map (λ e. digest_of e.items)) (c.deref.ensures.value ∙ sym c.deref-2.ensures.value) ∙ digests_beside c.deref-2.result.now;
-  lawful = subst (AllByRecursion IsEncoding) (sym (ap items_of c.deref-2.ensures.value)) (lawful_own c.args.grafted.now c.requires.lawful);
+  valid = subst (AllByRecursion IsEncoding) (sym (ap items_of c.deref-2.ensures.value)) (valid_own c.args.grafted.now c.requires.valid);
 }
 
 pub returns-in_err-first-clause-refused : goal.returns-in_err-first-clause-refused

@@ -25,9 +25,9 @@ returns-in_default-clause-faulty g c =
 pub unreachable-requires : goal.unreachable-requires
 unreachable-requires g c =
     let own = c.args.own.now in
-    let lawful = encoding_at own.encodings.now own.digests.now c.in-Some.place c.index-own-place.result c.requires.own.digests c.in-Some.ensures.0 c.requires.own.lawful c.index-own-place.is in
-    let bytes = c.deref.ensures.value ∙ ap (λ v. v.items) (sym c.index-own-place.is) ∙ lawful.2 in
-    no_refusal c.in-Err.error lawful.0 c.in_default-error.not-Memory ((c.in-Err.ensures {u = tt}).only lawful.0 lawful.1 bytes)
+    let valid = encoding_at own.encodings.now own.digests.now c.in-Some.place c.index-own-place.result c.requires.own.digests c.in-Some.ensures.0 c.requires.own.valid c.index-own-place.is in
+    let bytes = c.deref.ensures.value ∙ ap (λ v. v.items) (sym c.index-own-place.is) ∙ valid.2 in
+    no_refusal c.in-Err.error valid.0 c.in_default-error.not-Memory ((c.in-Err.ensures {u = tt}).only valid.0 valid.1 bytes)
 
 pub returns-in-Ok-clause-told : goal.returns-in-Ok-clause-told
 returns-in-Ok-clause-told g c =

@@ -13,7 +13,7 @@ returns-then-depth-names-clause-flat g t c =
     let es = flat_value c.args.entries.now.entries in
     let after = flat_after c.args.entries.now.entries c.insert.new.self.entries c.in_ok-key.key c.args.entry (take c.args.depth c.args.names.now) (c.in_ok-key.ensures {u = tt}) (c.in_ok-insert.ensures {u = tt}).entries in
     subst IsFlatTree (sym after)
-    (planted_at es c.args.names.now c.args.depth (entry_value c.args.entry) c.requires.flat c.requires.lawful c.requires.some c.requires.within (is_value c.args.entry) c.requires.parent
+    (planted_at es c.args.names.now c.args.depth (entry_value c.args.entry) c.requires.flat c.requires.valid c.requires.some c.requires.within (is_value c.args.entry) c.requires.parent
     (c.requires.free c.args.depth (omega arith) c.requires.within))
 
 pub returns-then-depth-names-clause-added : goal.returns-then-depth-names-clause-added
@@ -30,7 +30,7 @@ grow-requires g t c κs within =
     let d = c.args.depth in
     let lt : d < length names = omega (arith, c.if-depth-names.false, c.requires.within) in
     let after = flat_after c.args.entries.now.entries c.insert-2.new.self.entries c.in_ok-key.key _ (take d names) (c.in_ok-key.ensures {u = tt}) (c.in_ok-insert-2.ensures {u = tt}).entries in
-    let flat = planted_at es names d a_directory c.requires.flat c.requires.lawful c.requires.some c.requires.within (λ e. cc) c.requires.parent (c.requires.free d (omega arith) c.requires.within) in
+    let flat = planted_at es names d a_directory c.requires.flat c.requires.valid c.requires.some c.requires.within (λ e. cc) c.requires.parent (c.requires.free d (omega arith) c.requires.within) in
     let back : d + 1 - 1 ≡ d = omega arith in (
       omega (arith, c.decreases, lt),
       (
@@ -42,7 +42,7 @@ grow-requires g t c κs within =
             (
               omega (arith, lt),
               (
-                c.requires.lawful,
+                c.requires.valid,
                 (
                   inr (ap (λ fs. standing_in fs (take (d + 1 - 1) names)) after ∙ ap (λ i. standing_in (insert_entry path_cmp es (take d names) a_directory) (take i names)) back ∙ at_inserted es (take d names) a_directory),
                   λ k more le. ap (λ fs. standing_in fs (take k names)) after ∙ still_free es names d k more le (c.requires.free k (omega arith) le),

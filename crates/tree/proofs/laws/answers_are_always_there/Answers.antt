@@ -6,4 +6,4 @@ pub returns-clause-looked : goal.returns-clause-looked
 returns-clause-looked c = λ blobs d p none. looks_total blobs d p none
 
 pub returns-clause-differs : goal.returns-clause-differs
-returns-clause-differs c = λ own blobs g r lawful other none. finds_first_total own blobs lawful g r other none
+returns-clause-differs c = λ own blobs g r valid other none. finds_first_total own blobs valid g r other none

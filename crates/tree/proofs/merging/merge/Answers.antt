@@ -7,7 +7,7 @@ use Rattle.tree.specs.Folded.{unseen}
 use Rattle.tree.specs.Merging.{AreHeld, merged, merged_in, merge_lines}
 use Rattle.tree.proofs.Learning.{learns_more, learns_refused, refused_exit}
 use Rattle.tree.proofs.MergeBelow.{root_passes, root_fails, root_looks}
-use Rattle.tree.proofs.MergeLawful.{merged_lawful}
+use Rattle.tree.proofs.MergeValid.{merged_valid}
 use Rattle.tree.proofs.MergeOpens.{merge_explained}
 use Rattle.tree.proofs.merging.merge.Goals as goal
 
@@ -26,16 +26,16 @@ returns-clause-merged g c =
       },
     )
 
-pub returns-clause-lawful : goal.returns-clause-lawful
-returns-clause-lawful g c =
+pub returns-clause-valid : goal.returns-clause-valid
+returns-clause-valid g c =
     let B = (g.S.BlobSource.tells c.merge_below.new.source).blobs in
     let parts = c.in_ok-parts.ensures {u = tt} in
     let visit = (c.in_ok-visited.ensures {u = tt}).merged in
-    let good = merged_lawful B 64 [] (merge_lines c.args.lines.now) parts.lawful c.requires.held visit.0 (subst (λ ls. (merged_in B 64 [] ls).passes visit.0) parts.parts visit.1) in
+    let good = merged_valid B 64 [] (merge_lines c.args.lines.now) parts.valid c.requires.held visit.0 (subst (λ ls. (merged_in B 64 [] ls).passes visit.0) parts.parts visit.1) in
     record {
       tree = visit.0;
       ordered = good.1;
-      lawful = good.0;
+      valid = good.0;
       fold = record { root = visit.2.root; directories = c.in_ok-each_once.ensures {u = tt} ∙ ap (unseen []) visit.2.encodings };
     }
 

@@ -38,7 +38,7 @@ returns-in_err-path-clause-refused g t c =
 
 pub unfold_below-requires : goal.unfold_below-requires
 unfold_below-requires g t c κs within =
-    let few = (c.in_ok-names.ensures {u = tt}).lawful.few in
+    let few = (c.in_ok-names.ensures {u = tt}).valid.few in
     let path = c.in_ok-path.ensures.path ∙ ap (λ o. names_in o ++ c.in-Some.name ∷ []) c.as_ref.ensures.value in
     let longer = ap length path ∙ length-append (names_in c.args.above.now) (c.in-Some.name ∷ []) in
     (omega (arith, few, longer, c.decreases), within)
@@ -83,7 +83,7 @@ loop-name-preserved g t c =
             finite = tt;
             called = c.loop-name.invariant.called;
             few = omega (arith, c.loop-name.invariant.few, counts_leaf _ _ c.in_ok-path.path _ pushed);
-            unfolds = unfolds_leaf _ _ c.args.digest.now (names_in c.args.above.now) _ _ _ c.in-Some.name _ c.in_ok-path.path (child_values c.next.new.self) (λ e b h. h) (subst before w.in-File.is unfolds) path names.lawful pushed;
+            unfolds = unfolds_leaf _ _ c.args.digest.now (names_in c.args.above.now) _ _ _ c.in-Some.name _ c.in_ok-path.path (child_values c.next.new.self) (λ e b h. h) (subst before w.in-File.is unfolds) path names.valid pushed;
           })
       | in-Link+in_ok-push-in-Link w ↦
           let pushed = flat_pushed c.loop-name.entries.items w.push-in-Link.new.self.items c.in_ok-names.names _ c.in_ok-path.path names.value (w.in_ok-push-in-Link.ensures {u = tt}).items in
@@ -92,7 +92,7 @@ loop-name-preserved g t c =
             finite = tt;
             called = c.loop-name.invariant.called;
             few = omega (arith, c.loop-name.invariant.few, counts_leaf _ _ c.in_ok-path.path _ pushed);
-            unfolds = unfolds_leaf _ _ c.args.digest.now (names_in c.args.above.now) _ _ _ c.in-Some.name _ c.in_ok-path.path (child_values c.next.new.self) (λ e b h. h) (subst before w.in-Link.is unfolds) path names.lawful pushed;
+            unfolds = unfolds_leaf _ _ c.args.digest.now (names_in c.args.above.now) _ _ _ c.in-Some.name _ c.in_ok-path.path (child_values c.next.new.self) (λ e b h. h) (subst before w.in-Link.is unfolds) path names.valid pushed;
           })
       | in-Dir+in_ok-push-in-Dir+in_ok-unfold_below-in-Dir+in-Some-1 w ↦
           let pushed = flat_pushed c.loop-name.entries.items w.push-in-Dir.new.self.items c.in_ok-names.names _ c.in_ok-path.path names.value (w.in_ok-push-in-Dir.ensures {u = tt}).items in
@@ -101,7 +101,7 @@ loop-name-preserved g t c =
             finite = tt;
             called = called_on c.loop-name.invariant.called (called_no ok_no_error (λ n. n) (w.in_ok-unfold_below-in-Dir.ensures {u = tt}).called);
             few = omega (arith, c.loop-name.invariant.few, counts_folder _ _ c.in_ok-path.path pushed, (w.in_ok-unfold_below-in-Dir.ensures {u = tt}).few);
-            unfolds = unfolds_folder _ _ c.args.digest.now (names_in c.args.above.now) _ _ _ _ c.in-Some.name w.in-Dir.digest c.in_ok-path.path (child_values c.next.new.self) w.unfold_below.ensures.called.asked.asks.blobs (subst before w.in-Dir.is unfolds) path names.lawful pushed (w.in_ok-unfold_below-in-Dir.ensures {u = tt}).told;
+            unfolds = unfolds_folder _ _ c.args.digest.now (names_in c.args.above.now) _ _ _ _ c.in-Some.name w.in-Dir.digest c.in_ok-path.path (child_values c.next.new.self) w.unfold_below.ensures.called.asked.asks.blobs (subst before w.in-Dir.is unfolds) path names.valid pushed (w.in_ok-unfold_below-in-Dir.ensures {u = tt}).told;
           })
       | in-Dir+in_ok-push-in-Dir+in_ok-unfold_below-in-Dir+in-None-1 w ↦
           let pushed = flat_pushed c.loop-name.entries.items w.push-in-Dir.new.self.items c.in_ok-names.names _ c.in_ok-path.path names.value (w.in_ok-push-in-Dir.ensures {u = tt}).items in
@@ -110,7 +110,7 @@ loop-name-preserved g t c =
             finite = tt;
             called = called_on c.loop-name.invariant.called (called_no ok_no_error (λ n. n) (w.in_ok-unfold_below-in-Dir.ensures {u = tt}).called);
             few = omega (arith, c.loop-name.invariant.few, counts_folder _ _ c.in_ok-path.path pushed, (w.in_ok-unfold_below-in-Dir.ensures {u = tt}).few);
-            unfolds = unfolds_folder _ _ c.args.digest.now (names_in c.args.above.now) _ _ _ _ c.in-Some.name w.in-Dir.digest c.in_ok-path.path (child_values c.next.new.self) w.unfold_below.ensures.called.asked.asks.blobs (subst before w.in-Dir.is unfolds) path names.lawful pushed (w.in_ok-unfold_below-in-Dir.ensures {u = tt}).told;
+            unfolds = unfolds_folder _ _ c.args.digest.now (names_in c.args.above.now) _ _ _ _ c.in-Some.name w.in-Dir.digest c.in_ok-path.path (child_values c.next.new.self) w.unfold_below.ensures.called.asked.asks.blobs (subst before w.in-Dir.is unfolds) path names.valid pushed (w.in_ok-unfold_below-in-Dir.ensures {u = tt}).told;
           })
     ]
 

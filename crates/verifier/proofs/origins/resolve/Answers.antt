@@ -9,13 +9,13 @@ use Rattle.blob_source.proofs.Asking.{ok_no_error}
 use Rattle.blob_source.proofs.Calling.{called_none, called_no, called_on, called_exit}
 use Rattle.verifier.proofs.Explained.{explains_map}
 use Rattle.verifier.proofs.HeldOrigins.{held_push}
-use Rattle.verifier.proofs.Lines.{LinesGoOn, lines_first, lines_next, lines_end, lines_fault, lawful_line}
+use Rattle.verifier.proofs.Lines.{LinesGoOn, lines_first, lines_next, lines_end, lines_fault, valid_line}
 use Rattle.tree.proofs.Learning.{learns_none, learns_then, learns_refused, refused_exit}
 use Rattle.verifier.proofs.Looking.{lines_look_first, lines_look_here, lines_look_next, lines_look_still}
 use Rattle.verifier.proofs.origins.resolve.Goals as goal
 
 pub find_origin-requires-clause-line : goal.find_origin-requires-clause-line
-find_origin-requires-clause-line g c = lawful_line _ c.args.lines.now c.loop-line.line-index c.line-item.result c.loop-line-test.true c.line-item.is c.requires.lines
+find_origin-requires-clause-line g c = valid_line _ c.args.lines.now c.loop-line.line-index c.line-item.result c.loop-line-test.true c.line-item.is c.requires.lines
 
 pub find_origin-requires-clause-known : goal.find_origin-requires-clause-known
 find_origin-requires-clause-known g c = c.loop-line.invariant.learned.known

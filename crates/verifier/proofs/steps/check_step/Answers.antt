@@ -123,8 +123,8 @@ resolve-requires-clause-known g c = c.in_ok-command.ensures.learned.known
 pub merge_nodes-requires-clause-known : goal.merge_nodes-requires-clause-known
 merge_nodes-requires-clause-known g c = c.in_ok-nodes.ensures.learned.known
 
-pub check_input-requires-clause-lawful : goal.check_input-requires-clause-lawful
-check_input-requires-clause-lawful g c = c.in_ok-input.ensures.lawful
+pub check_input-requires-clause-valid : goal.check_input-requires-clause-valid
+check_input-requires-clause-valid g c = c.in_ok-input.ensures.valid
 
 pub check_input-requires-clause-known : goal.check_input-requires-clause-known
 check_input-requires-clause-known g c = c.in_ok-input.ensures.learned.known

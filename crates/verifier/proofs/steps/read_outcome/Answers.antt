@@ -4,7 +4,7 @@ use Rattle.std.specs.Int.{w32}
 use Rattle.std.proofs.lemmas.Int.{to_z-of_z}
 use Rattle.action_messages.specs.Outputs.{recorded_values}
 use Rattle.actions.specs.Outcome.{outputs_in}
-use Rattle.actions.proofs.Outcomes.{lawful_outcome, recorded_outcome}
+use Rattle.actions.proofs.Outcomes.{valid_outcome, recorded_outcome}
 use Rattle.blob_source.proofs.Asking.{ok_no_error}
 use Rattle.tree.proofs.Learning.{learns_more, learns_none, learns_refused, refused_exit}
 use Rattle.verifier.specs.StepChecks.{AreListed}
@@ -13,14 +13,14 @@ use Rattle.verifier.proofs.steps.read_outcome.Goals as goal
 
 pub from_outputs-requires : goal.from_outputs-requires
 from_outputs-requires g c =
-    lawful_outcome _ c.args.made.now (recorded_values c.deref.result.now) (outputs_in c.in_ok-outputs.outputs.items) _ c.exit_code.ensures.lawful (rw c.deref.ensures.value (c.in_ok-recorded.ensures {u = tt})) c.in_ok-outputs.ensures.read
+    valid_outcome _ c.args.made.now (recorded_values c.deref.result.now) (outputs_in c.in_ok-outputs.outputs.items) _ c.exit_code.ensures.valid (rw c.deref.ensures.value (c.in_ok-recorded.ensures {u = tt})) c.in_ok-outputs.ensures.read
 
 pub returns-clause-checked : goal.returns-clause-checked
 returns-clause-checked g c =
-    let fits = subst (FitsSigned w32) (sym c.exit_code.ensures.value) c.exit_code.ensures.lawful.exit_code in
+    let fits = subst (FitsSigned w32) (sym c.exit_code.ensures.value) c.exit_code.ensures.valid.exit_code in
     let code = to_z-of_z w32 c.exit_code.result fits ∙ c.exit_code.ensures.value in
     let recorded = recorded_outcome _ c.args.made.now (recorded_values c.deref.result.now) (outputs_in c.in_ok-outputs.outputs.items) _ c.from_outputs.result
-    c.exit_code.ensures.lawful (rw c.deref.ensures.value (c.in_ok-recorded.ensures {u = tt})) c.in_ok-outputs.ensures.read code c.from_outputs.ensures in
+    c.exit_code.ensures.valid (rw c.deref.ensures.value (c.in_ok-recorded.ensures {u = tt})) c.in_ok-outputs.ensures.read code c.from_outputs.ensures in
     (recorded, subst (AreListed c.args.command.now) (sym c.from_outputs.ensures) c.in_ok-outputs.ensures.listed)
 
 pub returns-clause-called : goal.returns-clause-called

@@ -18,7 +18,7 @@ use Rattle.verifier.proofs.verifying.check_steps.Goals as goal
 
 pub check_step-requires-clause-lines : goal.check_step-requires-clause-lines
 check_step-requires-clause-lines g c =
-    let lines = numbered_lines c.args.steps.now c.loop-index.index c.index-steps-index.result c.loop-index-test.true c.index-steps-index.is c.requires.lawful in
+    let lines = numbered_lines c.args.steps.now c.loop-index.index c.index-steps-index.result c.loop-index-test.true c.index-steps-index.is c.requires.valid in
     let count : c.loop-index.index ≡ length c.deref.result.now = sym c.loop-index.invariant.count ∙ ap length (sym c.deref.ensures.value) in
     subst (λ n. AllByRecursion (IsLine n) c.index-steps-index.result.lines) count lines.each
 

@@ -24,8 +24,8 @@ returns-in-First-clause-verdict g c =
     steps_decide g.row.A.Denot told c.args.sources.now c.args.plan.now c.args.recorded.now c.args.claim.now c.in-First.name c.in-First.cause
     (subst (λ steps. (steps_check told c.args.sources.now [] steps c.args.recorded.now).fails (Step c.in-First.name, c.in-First.cause)) c.steps.ensures.value checked)
 
-pub check_root-requires-clause-lawful : goal.check_root-requires-clause-lawful
-check_root-requires-clause-lawful g c =
+pub check_root-requires-clause-valid : goal.check_root-requires-clause-valid
+check_root-requires-clause-valid g c =
     let told = g.S.BlobSource.tells c.check_steps.new.source in
     let checked = subst (IsChecked told c.args.sources.now c.steps.result.now c.args.recorded.now) c.in-Outcomes.is (c.in_ok-name.ensures {u = tt}).checked in
     let count : length c.args.plan.now.steps ≡ length c.deref.result.now =
@@ -33,7 +33,7 @@ check_root-requires-clause-lawful g c =
     let steps = ap length c.steps.ensures.value in
     let items = ap length c.deref.ensures.value in
     omega (arith, all, steps, items)) in
-    subst (λ lines. AllByRecursion (IsLine (length c.deref.result.now)) lines) (sym c.root.ensures.value) (subst (λ n. AllByRecursion (IsLine n) c.args.plan.now.root_lines) count c.root.ensures.lawful.root_lines.each)
+    subst (λ lines. AllByRecursion (IsLine (length c.deref.result.now)) lines) (sym c.root.ensures.value) (subst (λ n. AllByRecursion (IsLine n) c.args.plan.now.root_lines) count c.root.ensures.valid.root_lines.each)
 
 pub returns-in-Err-clause-verdict : goal.returns-in-Err-clause-verdict
 returns-in-Err-clause-verdict g c =

@@ -11,13 +11,13 @@ pub returns-clause-holds : goal.returns-clause-holds
 returns-clause-holds g c =
     let tells = g.S.BlobSource.tells c.decide.new.source in
     let verdict = subst (λ digests. IfOk c.decide.result (IsVerdict tells c.args.sources.now c.args.plan.now digests c.args.claim.now)) c.digests.ensures.value c.decide.ensures.verdict in
-    answers_hold tells c.args.sources.now c.args.plan.now c.args.record.now.digests c.args.claim.now c.decide.ensures.lawful c.decide.result verdict
+    answers_hold tells c.args.sources.now c.args.plan.now c.args.record.now.digests c.args.claim.now c.decide.ensures.valid c.decide.result verdict
 
 pub returns-clause-unstuck : goal.returns-clause-unstuck
 returns-clause-unstuck g c =
     let tells = g.S.BlobSource.tells c.decide.new.source in
     let verdict = subst (λ digests. IfOk c.decide.result (IsVerdict tells c.args.sources.now c.args.plan.now digests c.args.claim.now)) c.digests.ensures.value c.decide.ensures.verdict in
-    answers_unstuck tells c.args.sources.now c.args.plan.now c.args.record.now.digests c.args.claim.now c.decide.ensures.lawful c.decide.result verdict
+    answers_unstuck tells c.args.sources.now c.args.plan.now c.args.record.now.digests c.args.claim.now c.decide.ensures.valid c.decide.result verdict
 
 pub decide-requires-clause-known : goal.decide-requires-clause-known
 decide-requires-clause-known g c = known_nothing c.new-memo.ensures

@@ -15,7 +15,7 @@ pub returns-in-Ok-launch-clause-kept : goal.returns-in-Ok-launch-clause-kept
 returns-in-Ok-launch-clause-kept g c = kept_trans (kept_some c.start.ensures.called) c.launch.ensures.kept
 
 pub returns-in-Ok-launch-clause-begun : goal.returns-in-Ok-launch-clause-begun
-returns-in-Ok-launch-clause-begun g c = begun (g.S.BlobSource.tells c.launch.new.sink) c.in-Ok.ensures.started c.launch.ensures.kept.blobs c.in-Ok-launch.ensures.launched
+returns-in-Ok-launch-clause-begun g c = begun (g.S.BlobSource.tells c.launch.new.sink) c.in-Ok.ensures.started c.launch.ensures.kept.blobs (kept_some c.start.ensures.called) c.in-Ok-launch.ensures.launched
 
 pub returns-clause-kept : goal.returns-clause-kept
 returns-clause-kept g c = kept_trans (kept_some c.start.ensures.called) c.launch.ensures.kept

@@ -35,6 +35,7 @@ returns-in-Some-clause-launched g c =
         trees = c.in_ok-put_trees.ensures.held;
       },
       refl,
+      λ before h. h,
     )
 
 pub returns-in_err-child-clause-kept : goal.returns-in_err-child-clause-kept
@@ -52,15 +53,19 @@ returns-clause-launched g c =
       child,
       refl,
       record {
-        of_child = record { step = refl; action = refl };
-        owed = record {
-          layout = owed.0;
-          laid = owed.1;
-          command = c.args.job.now.command;
-          of_step = c.requires.command;
-          may_come = λ p m. owed.2 p m;
-          action = subst (HasRight B) (sym c.requires.digest) (right_still (kept_trans c.recorded_outcome.ensures.kept c.start_child.ensures.kept).blobs c.in_ok-put_input.ensures.held);
+        own = record {
+          of_child = record { step = refl; action = refl };
+          owed = record {
+            layout = owed.0;
+            laid = owed.1;
+            command = c.args.job.now.command;
+            of_step = c.requires.command;
+            may_come = λ p m. owed.2 p m;
+            action = subst (HasRight B) (sym c.requires.digest) (right_still (kept_trans c.recorded_outcome.ensures.kept c.start_child.ensures.kept).blobs c.in_ok-put_input.ensures.held);
+          };
         };
+        started = owed.3;
+        none = λ v held fits. c.in_ok-outcome.ensures.none c.in_default.is v (held_kept (kept_trans c.put_input.ensures.kept c.recorded_outcome.ensures.kept) held) fits;
       },
       refl,
       c.push_back_reserved.ensures.items ∙ ap (λ xs. xs ++ child ∷ []) c.reserve.ensures.items,

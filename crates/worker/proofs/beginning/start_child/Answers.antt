@@ -17,6 +17,7 @@ returns-clause-owed g c = (
   c.in_ok-laid.laid,
   subst (λ d. IsLayoutOf (g.S.BlobSource.tells c.layout.new.source).blobs d c.in_ok-laid.laid) c.input_root_digest-root.ensures.value c.in_ok-laid.ensures.told,
   λ p m. c.start.ensures.same c.in_ok-laid.laid c.args.job.now.command p (c.in_ok-start.ensures.gives p m),
+  c.in_ok-start.ensures.listed,
 )
 
 pub returns-in_err-laid-clause-fetched : goal.returns-in_err-laid-clause-fetched

@@ -6,7 +6,7 @@ use Rattle.worker.proofs.building.build.Goals as goal
 
 pub end_all-requires : goal.end_all-requires
 end_all-requires g c = record {
-  there = own_jobs g.row.A.Denot (g.N.Runner.yields c.args.runner.now) g.N.Runner.may_give (g.S.BlobSource.tells c.args.sink.now) (g.S.BlobSource.tells c.take_turns.new.sink) c.args.jobs c.args.engine.now c.take_turns.new.engine c.take_turns.new.children.items c.take_turns.ensures.going;
+  there = own_jobs g.row.A.Denot (g.N.Runner.yields c.args.runner.now) g.N.Runner.may_give (g.N.Runner.starts c.args.runner.now) (g.N.Runner.starts c.take_turns.new.runner) (g.S.BlobSource.tells c.args.sink.now) (g.S.BlobSource.tells c.take_turns.new.sink) c.args.jobs c.args.engine.now c.take_turns.new.engine c.take_turns.new.children.items c.take_turns.ensures.going;
 }
 
 pub returns-clause-led : goal.returns-clause-led

@@ -8,10 +8,11 @@ abbrev pub invariant-loop-child : goal.invariant-loop-child
 invariant-loop-child g l =
     let yields = g.N.Runner.yields in
     let may = g.N.Runner.may_give in
+    let starts = g.N.Runner.starts in
     record {
       device : g.N.Runner.failures l.fn.runner ≤ g.N.Runner.failures l.runner;
       there : AreJobsOf IsJobOf l.engine.jobs l.rest.items;
-      going : (entry : g.row.N.Denot) (s t : Telling) (most : ℕ) (first : EngineValue) → IsGoing g.row.A.Denot (yields entry) may s t most first l.fn.engine l.fn.children.items → IsGoing g.row.A.Denot (yields entry) may s t most first l.engine l.rest.items;
+      going : (entry : g.row.N.Denot) (s t : Telling) (most : ℕ) (first : EngineValue) → IsGoing g.row.A.Denot (yields entry) may (starts entry) (starts l.fn.runner) s t most first l.fn.engine l.fn.children.items → IsGoing g.row.A.Denot (yields entry) may (starts entry) (starts l.runner) s t most first l.engine l.rest.items;
       alive : (count : ℕ) → g.N.Runner.alive l.fn.runner ≡ count + length l.fn.children.items → g.N.Runner.alive l.runner ≡ count + length l.rest.items;
     }
 

@@ -1,11 +1,11 @@
-use Rattle.std.proofs.Common.{arith, refl, subst, sym, ap, ◌∙◌, length}
+use Rattle.std.proofs.Common.{[], arith, refl, subst, sym, ap, ◌∙◌, length}
 use Rattle.std.proofs.lemmas.Result.{err_from_is_err_and}
 use Rattle.worker.specs.Going.{AreJobsOf, FinishesOnly, IsJobOf, IsGoing}
 use Rattle.worker.specs.Watching.{IsProgressOf}
-use Rattle.worker.proofs.Keeping.{right_trans}
+use Rattle.worker.proofs.Keeping.{kept_none, right_trans}
 use Rattle.worker.proofs.Complete.{all_finished}
-use Rattle.worker.proofs.Goes.{going_none, own_jobs}
-use Rattle.worker.proofs.Heard.{watched_none, watched_more, up_none, up_more}
+use Rattle.worker.proofs.Goes.{going_none, own_jobs, puts_kept}
+use Rattle.worker.proofs.Heard.{watched_none, watched_more, watched_so, progress_moved, up_none, up_more}
 use Rattle.worker.specs.Counted.{IsDevice, IsFetch}
 use Rattle.worker.proofs.Failures.{counts_same, counts_from, counts_exit}
 use Rattle.worker.proofs.building.take_turns.Goals as goal
@@ -14,8 +14,8 @@ pub loop-turn-init : goal.loop-turn-init
 loop-turn-init g c =
     let t = g.S.BlobSource.tells c.args.sink.now in
     record {
-      going = subst (IsGoing g.row.A.Denot (g.N.Runner.yields c.args.runner.now) g.N.Runner.may_give t t c.args.jobs c.args.engine.now c.args.engine.now) (sym c.requires.none)
-          (going_none g.row.A.Denot g.row.N-Job.Denot (g.N.Runner.yields c.args.runner.now) g.N.Runner.may_give t c.args.jobs c.args.engine.now c.requires.idle);
+      going = subst (IsGoing g.row.A.Denot (g.N.Runner.yields c.args.runner.now) g.N.Runner.may_give (g.N.Runner.starts c.args.runner.now) (g.N.Runner.starts c.args.runner.now) t t c.args.jobs c.args.engine.now c.args.engine.now) (sym c.requires.none)
+          (going_none g.row.A.Denot g.row.N-Job.Denot (g.N.Runner.yields c.args.runner.now) g.N.Runner.may_give (g.N.Runner.starts c.args.runner.now) t c.args.jobs c.args.engine.now c.requires.idle);
       within = λ l d p h. h;
       right = λ e b at right. at;
       stored = λ h. h;
@@ -31,17 +31,17 @@ loop-turn-init g c =
 pub take_turn-requires : goal.take_turn-requires
 take_turn-requires g c = record {
   can = (c.args.jobs, c.in-Some.ensures.turn);
-  there = own_jobs g.row.A.Denot (g.N.Runner.yields c.args.runner.now) g.N.Runner.may_give (g.S.BlobSource.tells c.args.sink.now) (g.S.BlobSource.tells c.loop-turn.sink) c.args.jobs c.args.engine.now c.loop-turn.engine c.loop-turn.children.items c.loop-turn.invariant.going;
+  there = own_jobs g.row.A.Denot (g.N.Runner.yields c.args.runner.now) g.N.Runner.may_give (g.N.Runner.starts c.args.runner.now) (g.N.Runner.starts c.loop-turn.runner) (g.S.BlobSource.tells c.args.sink.now) (g.S.BlobSource.tells c.loop-turn.sink) c.args.jobs c.args.engine.now c.loop-turn.engine c.loop-turn.children.items c.loop-turn.invariant.going;
   knows = c.loop-turn.invariant.knows;
   alive = let all = c.loop-turn.invariant.alive in omega (arith, all);
 }
 
 pub before_turn-before-requires-clause-there : goal.before_turn-before-requires-clause-there
-before_turn-before-requires-clause-there g c = own_jobs g.row.A.Denot (g.N.Runner.yields c.args.runner.now) g.N.Runner.may_give (g.S.BlobSource.tells c.args.sink.now) (g.S.BlobSource.tells c.loop-turn.sink) c.args.jobs c.args.engine.now c.loop-turn.engine c.loop-turn.children.items c.loop-turn.invariant.going
+before_turn-before-requires-clause-there g c = own_jobs g.row.A.Denot (g.N.Runner.yields c.args.runner.now) g.N.Runner.may_give (g.N.Runner.starts c.args.runner.now) (g.N.Runner.starts c.loop-turn.runner) (g.S.BlobSource.tells c.args.sink.now) (g.S.BlobSource.tells c.loop-turn.sink) c.args.jobs c.args.engine.now c.loop-turn.engine c.loop-turn.children.items c.loop-turn.invariant.going
 
 pub progress_after-progress-requires-clause-there : goal.progress_after-progress-requires-clause-there
 progress_after-progress-requires-clause-there g c =
-    own_jobs g.row.A.Denot (g.N.Runner.yields c.args.runner.now) g.N.Runner.may_give (g.S.BlobSource.tells c.args.sink.now) (g.S.BlobSource.tells c.take_turn.new.sink) c.args.jobs c.args.engine.now c.take_turn.new.engine c.take_turn.new.children.items
+    own_jobs g.row.A.Denot (g.N.Runner.yields c.args.runner.now) g.N.Runner.may_give (g.N.Runner.starts c.args.runner.now) (g.N.Runner.starts c.take_turn.new.runner) (g.S.BlobSource.tells c.args.sink.now) (g.S.BlobSource.tells c.take_turn.new.sink) c.args.jobs c.args.engine.now c.take_turn.new.engine c.take_turn.new.children.items
     (c.take_turn.ensures.going c.args.runner.now (g.S.BlobSource.tells c.args.sink.now) c.args.jobs c.args.engine.now c.loop-turn.invariant.within c.in-Some.ensures.turn c.loop-turn.invariant.going)
 
 pub loop-turn-preserved : goal.loop-turn-preserved
@@ -61,12 +61,16 @@ loop-turn-preserved g c =
       knows = c.take_turn.ensures.knows;
       alive = let now = c.take_turn.ensures.alive in let was = c.loop-turn.invariant.alive in omega (arith, now, was);
       progress = is;
-      watched = watched_more c.progress_after-progress.result c.loop-turn.invariant.watched c.watch.ensures (record { told = g.S.BlobSource.tells c.take_turn.new.sink; now = new; led = going.led.led; is = is });
+      watched = watched_more c.progress_after-progress.result (watched_so (progress_moved g.row.A.Denot (g.N.Runner.yields c.args.runner.now) c.args.jobs c.args.engine.now (g.S.BlobSource.tells c.loop-turn.sink) (g.S.BlobSource.tells c.take_turn.new.sink) c.take_turn.ensures.puts.0 c.take_turn.ensures.puts.1 c.take_turn.ensures.right) c.loop-turn.invariant.watched) c.watch.ensures
+          (record { told = g.S.BlobSource.tells c.take_turn.new.sink; now = new; led = going.led.built.led; is = is; later = []; since = puts_kept kept_none; still = λ e b at right. at });
       up_to_date = up_more c.args.engine.now new (told c.args.watcher.now) (told c.loop-turn.watcher) (told c.watch.new.self) c.progress_after-progress.result c.loop-turn.invariant.watched c.watch.ensures is;
     }
 
 pub returns-in_err-take_turn-clause-going : goal.returns-in_err-take_turn-clause-going
 returns-in_err-take_turn-clause-going g c = c.take_turn.ensures.going c.args.runner.now (g.S.BlobSource.tells c.args.sink.now) c.args.jobs c.args.engine.now c.loop-turn.invariant.within c.in-Some.ensures.turn c.loop-turn.invariant.going
+
+pub returns-in_err-take_turn-clause-watched : goal.returns-in_err-take_turn-clause-watched
+returns-in_err-take_turn-clause-watched g c = watched_so (progress_moved g.row.A.Denot (g.N.Runner.yields c.args.runner.now) c.args.jobs c.args.engine.now (g.S.BlobSource.tells c.loop-turn.sink) (g.S.BlobSource.tells c.take_turn.new.sink) c.take_turn.ensures.puts.0 c.take_turn.ensures.puts.1 c.take_turn.ensures.right) c.loop-turn.invariant.watched
 
 pub returns-in_err-take_turn-clause-right : goal.returns-in_err-take_turn-clause-right
 returns-in_err-take_turn-clause-right g c = right_trans c.loop-turn.invariant.right c.take_turn.ensures.right
@@ -74,8 +78,8 @@ returns-in_err-take_turn-clause-right g c = right_trans c.loop-turn.invariant.ri
 pub returns-clause-done : goal.returns-clause-done
 returns-clause-done g c =
     let empty = c.next_turn.ensures.none_runs c.in_default.is in
-    let jobs = own_jobs g.row.A.Denot (g.N.Runner.yields c.args.runner.now) g.N.Runner.may_give (g.S.BlobSource.tells c.args.sink.now) (g.S.BlobSource.tells c.loop-turn.sink) c.args.jobs c.args.engine.now c.loop-turn.engine c.loop-turn.children.items c.loop-turn.invariant.going in
-    all_finished c.loop-turn.engine c.next_turn.ensures.planned c.next_turn.ensures.lawful (subst (AreJobsOf IsJobOf c.loop-turn.engine.jobs) empty jobs) (c.next_turn.ensures.none_starts c.in_default.is)
+    let jobs = own_jobs g.row.A.Denot (g.N.Runner.yields c.args.runner.now) g.N.Runner.may_give (g.N.Runner.starts c.args.runner.now) (g.N.Runner.starts c.loop-turn.runner) (g.S.BlobSource.tells c.args.sink.now) (g.S.BlobSource.tells c.loop-turn.sink) c.args.jobs c.args.engine.now c.loop-turn.engine c.loop-turn.children.items c.loop-turn.invariant.going in
+    all_finished c.loop-turn.engine c.next_turn.ensures.planned c.next_turn.ensures.valid (subst (AreJobsOf IsJobOf c.loop-turn.engine.jobs) empty jobs) (c.next_turn.ensures.none_starts c.in_default.is)
 
 pub returns-in_err-take_turn-clause-stopped : goal.returns-in_err-take_turn-clause-stopped
 returns-in_err-take_turn-clause-stopped g c =

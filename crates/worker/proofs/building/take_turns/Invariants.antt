@@ -14,7 +14,7 @@ invariant-loop-turn g l =
     let yields = g.N.Runner.yields in
     let told = g.W.Watcher.told in
     record {
-      going : IsGoing g.row.A.Denot (yields l.fn.runner) g.N.Runner.may_give (tells l.fn.sink) (tells l.sink) l.jobs l.fn.engine l.engine l.children.items;
+      going : IsGoing g.row.A.Denot (yields l.fn.runner) g.N.Runner.may_give (g.N.Runner.starts l.fn.runner) (g.N.Runner.starts l.runner) (tells l.fn.sink) (tells l.sink) l.jobs l.fn.engine l.engine l.children.items;
       within : YieldsNoMore (yields l.runner) (yields l.fn.runner);
       right : KeepsRight (tells l.fn.sink).blobs (tells l.sink).blobs;
       stored : StoresSteps (tells l.fn.sink) l.fn.engine → StoresSteps (tells l.sink) l.engine;
@@ -23,7 +23,7 @@ invariant-loop-turn g l =
       knows : KnowsBlobs (known_by l.memo) (tells l.sink).blobs;
       alive : g.N.Runner.alive l.runner ≡ g.N.Runner.alive l.fn.runner + length l.children.items;
       progress : IsProgressOf l.engine l.progress;
-      watched : IsWatched (IsProgress g.row.A.Denot (yields l.fn.runner) l.jobs l.fn.engine) (told l.fn.watcher) (told l.watcher);
+      watched : IsWatched (IsProgress g.row.A.Denot (yields l.fn.runner) (tells l.sink) l.jobs l.fn.engine) (told l.fn.watcher) (told l.watcher);
       up_to_date : IsUpToDate l.fn.engine l.engine (told l.fn.watcher) (told l.watcher);
     }
 

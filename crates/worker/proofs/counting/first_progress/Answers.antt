@@ -13,7 +13,7 @@ loop-step-preserved g c =
     let by : ((c.finished.result ≡ true) × (c.if-finished.finished ≡ c.loop-step.finished + 1)) ⊎ ((c.finished.result ≡ false) × (c.if-finished.finished ≡ c.loop-step.finished)) =
     elim c.if-finished.branch [ then-finished w ↦ inl (w.if-finished.true, w.finished-is) | else-finished w ↦ inr (w.if-finished.false, w.finished-is) ] in
     let steps = ap length c.steps-steps.ensures.value ∙ ap (λ (p : PlanValue). length p.steps) c.plan.ensures.value in
-    let count = c.plan.ensures.lawful.count in
+    let count = c.plan.ensures.valid.count in
     let lt = c.loop-step-test.true in
     let le = next_le c.loop-step.finished c.if-finished.finished c.finished.result by in
     let few = c.loop-step.invariant.few in
@@ -26,7 +26,7 @@ pub returns : goal.returns
 returns g c =
     let e = c.args.engine.now in
     let steps = ap length c.steps-steps.ensures.value ∙ ap (λ (p : PlanValue). length p.steps) c.plan.ensures.value in
-    let count = c.plan.ensures.lawful.count in
+    let count = c.plan.ensures.valid.count in
     let end = c.loop-step-test.false in
     let whole = ap finished_count (take_all c.loop-step.step e.finished (omega (arith, steps, count, end))) in
     record {

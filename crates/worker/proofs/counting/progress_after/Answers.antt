@@ -17,10 +17,10 @@ returns g c old is had only =
     let follows : c.if-comes.is_taken ≡ true → comes ≡ true =
     λ t. elim c.if-comes.branch [ then-comes w ↦ w.if-comes.true | else-comes w ↦ sym w.is_taken-is ∙ t ] in
     let both = comes_of c.finished.result c.args.turn.had_finished comes c.finished.ensures.value had by in
-    let k = c.plan.ensures.lawful in
+    let k = c.plan.ensures.valid in
     let count = k.count in
     let steps = ap length c.steps.ensures.value ∙ ap (λ (p : PlanValue). length p.steps) c.plan.ensures.value in
-    let few : length c.steps.result.now ≤ 4096 = subst (λ n. n ≤ 4096) (sym (ap length c.steps.ensures.value)) c.steps.ensures.lawful.few in
+    let few : length c.steps.result.now ≤ 4096 = subst (λ n. n ≤ 4096) (sym (ap length c.steps.ensures.value)) c.steps.ensures.valid.few in
     let within = c.requires.within in
     let len = only.count in
     let next = count_next old.finished new.finished c.args.turn.step (omega (arith, within, count, len)) len only.others comes both.0 both.1 only.still in

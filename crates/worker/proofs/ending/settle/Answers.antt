@@ -8,15 +8,15 @@ use Rattle.worker.proofs.ending.settle.Goals as goal
 pub put_outcome-requires : goal.put_outcome-requires
 put_outcome-requires g c =
     let e = c.in-Ok.ensures.ended in
-    finished_there c.args.engine.now c.take.new.engine c.args.child.id c.args.child.step e.produced.outcome c.requires.there.0 c.plan.ensures.lawful e.finished c.requires.there.1 c.requires.there.2.step
+    finished_there c.args.engine.now c.take.new.engine c.args.child.id c.args.child.step e.produced.outcome c.requires.there.0 c.plan.ensures.valid e.finished c.requires.there.1 c.requires.there.2.step
 
 pub returns-in-Ok-clause-ended : goal.returns-in-Ok-clause-ended
 returns-in-Ok-clause-ended g c =
-    on_ok c.put_outcome.result (ends_put g.N.Runner.may_give (g.S.BlobSource.tells c.args.sink.now) (g.S.BlobSource.tells c.take.new.sink) (g.S.BlobSource.tells c.put_outcome.new.sink) c.args.child c.args.engine.now c.take.new.engine c.take.ensures.kept c.in-Ok.ensures.ended c.put_outcome.ensures.kept)
+    on_ok c.put_outcome.result (ends_put g.N.Runner.may_give (g.S.BlobSource.tells c.args.sink.now) (g.S.BlobSource.tells c.take.new.sink) (g.S.BlobSource.tells c.put_outcome.new.sink) c.args.child c.args.engine.now c.take.new.engine c.requires.there.0 c.requires.there.1 c.requires.there.2 c.take.ensures.kept c.in-Ok.ensures.ended c.put_outcome.ensures.kept)
 
 pub returns-in-Ok-clause-refused : goal.returns-in-Ok-clause-refused
 returns-in-Ok-clause-refused g c =
-    on_err c.put_outcome.result (inl (ends_put g.N.Runner.may_give (g.S.BlobSource.tells c.args.sink.now) (g.S.BlobSource.tells c.take.new.sink) (g.S.BlobSource.tells c.put_outcome.new.sink) c.args.child c.args.engine.now c.take.new.engine c.take.ensures.kept c.in-Ok.ensures.ended c.put_outcome.ensures.kept))
+    on_err c.put_outcome.result (inl (ends_put g.N.Runner.may_give (g.S.BlobSource.tells c.args.sink.now) (g.S.BlobSource.tells c.take.new.sink) (g.S.BlobSource.tells c.put_outcome.new.sink) c.args.child c.args.engine.now c.take.new.engine c.requires.there.0 c.requires.there.1 c.requires.there.2 c.take.ensures.kept c.in-Ok.ensures.ended c.put_outcome.ensures.kept))
 
 pub returns-in-Ok-clause-stopped : goal.returns-in-Ok-clause-stopped
 returns-in-Ok-clause-stopped g c = IfErr-weaker c.put_outcome.result _ _ (λ r h. inl h) c.put_outcome.ensures.failed

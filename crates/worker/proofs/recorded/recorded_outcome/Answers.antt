@@ -1,10 +1,13 @@
-use Rattle.std.proofs.Common.{ap, sym, ◌∙◌, subst}
+use Rattle.std.proofs.Common.{◌≡◌, true, false, ap, sym, ◌∙◌, subst}
 use Rattle.action_messages.specs.Reads.{Reads}
 use Rattle.blob_source.specs.Source.{bytes_of}
 use Rattle.worker.proofs.Keeping.{kept_trans, kept_asks, kept_result}
 use Rattle.std.specs.Prelude.{Err}
 use Rattle.blob_source.proofs.Asking.{ok_no_error}
 use Rattle.worker.proofs.Failures.{counts_as, counts_no, counts_from, counts_calls}
+use Rattle.worker.specs.Outcomes.{HasNoneToTake}
+use Rattle.worker.proofs.Untaken.{unread, none_reads, none_fits, none_explained, if_ok, if_err}
+use Rattle.worker.proofs.recorded.recorded_outcome.Goals.{in-Memory, in_default-error}
 use Rattle.worker.proofs.recorded.recorded_outcome.Goals as goal
 
 pub returns-then-fits-clause-kept : goal.returns-then-fits-clause-kept
@@ -25,17 +28,42 @@ returns-then-fits-clause-held g c =
 pub returns-in-Ok-recorded-clause-kept : goal.returns-in-Ok-recorded-clause-kept
 returns-in-Ok-recorded-clause-kept g c = kept_trans (kept_result c.result.ensures.called) (kept_asks c.recorded.ensures.called)
 
-pub returns-in-Err-Fetch-clause-kept : goal.returns-in-Err-Fetch-clause-kept
-returns-in-Err-Fetch-clause-kept g c = kept_trans (kept_result c.result.ensures.called) (kept_asks c.recorded.ensures.called)
+pub returns-in-Fetch-clause-kept : goal.returns-in-Fetch-clause-kept
+returns-in-Fetch-clause-kept g c = kept_trans (kept_result c.result.ensures.called) (kept_asks c.recorded.ensures.called)
 
-pub returns-in-Err-Memory-recorded-clause-kept : goal.returns-in-Err-Memory-recorded-clause-kept
-returns-in-Err-Memory-recorded-clause-kept g c = kept_trans (kept_result c.result.ensures.called) (kept_asks c.recorded.ensures.called)
+pub returns-in-Memory-error-clause-kept : goal.returns-in-Memory-error-clause-kept
+returns-in-Memory-error-clause-kept g c = kept_trans (kept_result c.result.ensures.called) (kept_asks c.recorded.ensures.called)
 
 pub returns-clause-kept : goal.returns-clause-kept
 returns-clause-kept g c = kept_trans (kept_result c.result.ensures.called) (kept_asks c.recorded.ensures.called)
 
-pub returns-in-Err-Fetch-clause-fetched : goal.returns-in-Err-Fetch-clause-fetched
-returns-in-Err-Fetch-clause-fetched g c = counts_from (c.in_ok-bytes.ensures.called.unfailed ok_no_error) (counts_as (λ f. ap Err c.in-Err-Fetch.field-0-is) (λ e. tt) (counts_calls c.in-Err-Fetch.ensures.called))
+pub returns-in-Fetch-clause-fetched : goal.returns-in-Fetch-clause-fetched
+returns-in-Fetch-clause-fetched g c = counts_from (c.in_ok-bytes.ensures.called.unfailed ok_no_error) (counts_as (λ f. ap Err c.in-Fetch.is) (λ e. tt) (counts_calls c.in-Err-recorded.ensures.called))
 
-pub returns-in-Err-Memory-recorded-clause-fetched : goal.returns-in-Err-Memory-recorded-clause-fetched
-returns-in-Err-Memory-recorded-clause-fetched g c = counts_from (c.in_ok-bytes.ensures.called.unfailed ok_no_error) (counts_no (λ e. let is = c.in-Err-Memory-recorded.field-0-is in cc) (λ f. f) (counts_calls c.in-Err-Memory-recorded.ensures.called))
+pub returns-in-Memory-error-clause-fetched : goal.returns-in-Memory-error-clause-fetched
+returns-in-Memory-error-clause-fetched g c = counts_from (c.in_ok-bytes.ensures.called.unfailed ok_no_error) (counts_no (λ e. let is = c.in-Memory-error.is in cc) (λ f. f) (counts_calls c.in-Err-recorded.ensures.called))
+
+pub returns-in-Err-clause-none : goal.returns-in-Err-clause-none
+returns-in-Err-clause-none g c =
+    let t = g.S.BlobSource.tells c.result.new.self in
+    let bytes = c.in-Some.bytes.items in
+    elim c.match-error.branch [
+      | in-Memory w ↦ if_err (HasNoneToTake t c.args.job.now.digest c.args.job.now.command) c.match-error.result _ w.result-is
+      | in_default-error w ↦ if_ok c.match-error.result (none_reads t c.args.job.now.digest c.args.job.now.command bytes (sym c.in_ok-bytes.ensures.told ∙ ap bytes_of c.in-Some.is)
+          (λ r reads. unread c.in-Err.error r w.in_default-error.not-Memory ((c.in-Err.ensures {u = tt}).only r (subst (Reads r) (sym c.deref.ensures.value) reads))))
+    ]
+
+pub returns-in-Ok-recorded-clause-none : goal.returns-in-Ok-recorded-clause-none
+returns-in-Ok-recorded-clause-none g c same =
+    let t = g.S.BlobSource.tells c.recorded.new.source in
+    let bytes = c.in-Some.bytes.items in
+    none_fits t c.args.job.now.digest c.args.job.now.command bytes (c.recorded.ensures.called.asked.results c.args.job.now.digest bytes (sym c.in_ok-bytes.ensures.told ∙ ap bytes_of c.in-Some.is))
+    c.in-Ok.made (subst (λ bs. Reads c.in-Ok.made bs) c.deref.ensures.value c.in-Ok.ensures.found) c.in-Ok-recorded.outcome c.in-Ok-recorded.ensures.found
+    (λ h. let yes = c.fits.ensures.1 h in let no = c.if-fits.false in let both : true ≡ false = sym yes ∙ no in cc)
+
+pub returns-clause-none : goal.returns-clause-none
+returns-clause-none g c same =
+    let t = g.S.BlobSource.tells c.recorded.new.source in
+    let bytes = c.in-Some.bytes.items in
+    none_explained t c.args.job.now.digest c.args.job.now.command bytes (c.recorded.ensures.called.asked.results c.args.job.now.digest bytes (sym c.in_ok-bytes.ensures.told ∙ ap bytes_of c.in-Some.is))
+    c.in-Ok.made (subst (λ bs. Reads c.in-Ok.made bs) c.deref.ensures.value c.in-Ok.ensures.found) c.in-Err-recorded.error c.in-Err-recorded.ensures.faulty c.in_default-error-2.not-Fetch c.in_default-error-2.not-Memory

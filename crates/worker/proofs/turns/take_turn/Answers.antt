@@ -1,7 +1,8 @@
-use Rattle.std.proofs.Common.{subst, sym}
+use Rattle.std.proofs.Common.{[], subst, sym}
 use Rattle.std.specs.Prelude.{OnOk}
 use Rattle.worker.specs.Going.{FinishesOnly, IsTurn, step_of}
-use Rattle.worker.proofs.Taking.{start_goes, finish_goes, finish_right, start_stored, finish_stored}
+use Rattle.worker.proofs.Goes.{puts_kept}
+use Rattle.worker.proofs.Taking.{start_goes, finish_goes, finish_puts, finish_right, start_stored, finish_stored}
 use Rattle.worker.proofs.Stopping.{start_refused, finish_refused}
 use Rattle.worker.proofs.Lefts.{start_less, finish_less}
 use Rattle.worker.proofs.Counts.{start_only, finish_only}
@@ -10,23 +11,31 @@ use Rattle.worker.proofs.turns.take_turn.Goals as goal
 
 pub returns-in-Start-clause-going : goal.returns-in-Start-clause-going
 returns-in-Start-clause-going g c entry s most first within turn going =
-    start_goes g.row.A.Denot g.row.N-Job.Denot (g.N.Runner.yields entry) g.N.Runner.may_give s (g.S.BlobSource.tells c.args.sink.now) (g.S.BlobSource.tells c.begin.new.sink) most first c.args.engine.now c.begin.new.engine c.args.children.now.items c.begin.new.children.items going
-    c.begin.result (g.N.Runner.yields c.args.runner.now) c.in-Start.step within c.begin.ensures.kept (subst (IsTurn most c.args.engine.now c.args.children.now.items) c.in-Start.is turn).0 c.begin.ensures.begun c.begin.ensures.refused c.begin.ensures.same
+    start_goes g.row.A.Denot g.row.N-Job.Denot (g.N.Runner.yields entry) g.N.Runner.may_give (g.N.Runner.starts entry) (g.N.Runner.starts c.args.runner.now) (g.N.Runner.starts c.begin.new.runner) s (g.S.BlobSource.tells c.args.sink.now) (g.S.BlobSource.tells c.begin.new.sink) most first c.args.engine.now c.begin.new.engine c.args.children.now.items c.begin.new.children.items going
+    c.begin.result (g.N.Runner.yields c.args.runner.now) c.in-Start.step within c.begin.ensures.kept c.begin.ensures.unlisted (subst (IsTurn most c.args.engine.now c.args.children.now.items) c.in-Start.is turn).0 c.begin.ensures.begun c.begin.ensures.refused c.begin.ensures.same
+
+pub returns-in-Start-clause-puts : goal.returns-in-Start-clause-puts
+returns-in-Start-clause-puts g c = ([], puts_kept c.begin.ensures.kept)
+
+pub returns-in-Finish-clause-puts : goal.returns-in-Finish-clause-puts
+returns-in-Finish-clause-puts g c =
+    finish_puts g.N.Runner.may_give (g.S.BlobSource.tells c.args.sink.now) (g.S.BlobSource.tells c.finish_first.new.sink) c.args.engine.now c.finish_first.new.engine c.args.children.now.items c.finish_first.new.children.items
+    c.finish_first.result c.finish_first.ensures.ended c.finish_first.ensures.refused
 
 pub returns-in-Start-clause-fewer : goal.returns-in-Start-clause-fewer
 returns-in-Start-clause-fewer g c =
     let turn = subst (IsTurn c.requires.can.0 c.args.engine.now c.args.children.now.items) c.in-Start.is c.requires.can.1 in
-    start_less g.row.A.Denot g.row.N-Job.Denot (g.N.Runner.yields c.args.runner.now) g.N.Runner.may_give (g.S.BlobSource.tells c.args.sink.now) (g.S.BlobSource.tells c.begin.new.sink) c.args.engine.now c.begin.new.engine c.plan.ensures.lawful
+    start_less g.row.A.Denot g.row.N-Job.Denot (g.N.Runner.yields c.args.runner.now) g.N.Runner.may_give (g.N.Runner.starts c.args.runner.now) (g.N.Runner.starts c.begin.new.runner) (g.S.BlobSource.tells c.args.sink.now) (g.S.BlobSource.tells c.begin.new.sink) c.args.engine.now c.begin.new.engine c.plan.ensures.valid
     c.begin.result c.in-Start.step c.args.children.now.items c.begin.new.children.items turn.1 turn.2 c.begin.ensures.begun
 
 pub returns-in-Finish-clause-going : goal.returns-in-Finish-clause-going
 returns-in-Finish-clause-going g c entry s most first within turn going =
-    finish_goes g.row.A.Denot g.row.N-Job.Denot (g.N.Runner.yields entry) g.N.Runner.may_give s (g.S.BlobSource.tells c.args.sink.now) (g.S.BlobSource.tells c.finish_first.new.sink) most first c.args.engine.now c.finish_first.new.engine c.args.children.now.items c.finish_first.new.children.items going
-    c.finish_first.result c.finish_first.ensures.ended c.finish_first.ensures.refused
+    finish_goes g.row.A.Denot g.row.N-Job.Denot (g.N.Runner.yields entry) g.N.Runner.may_give (g.N.Runner.starts entry) (g.N.Runner.starts c.args.runner.now) (g.N.Runner.starts c.finish_first.new.runner) s (g.S.BlobSource.tells c.args.sink.now) (g.S.BlobSource.tells c.finish_first.new.sink) most first c.args.engine.now c.finish_first.new.engine c.args.children.now.items c.finish_first.new.children.items going
+    c.finish_first.result c.finish_first.ensures.unlisted c.finish_first.ensures.ended c.finish_first.ensures.refused
 
 pub returns-in-Finish-clause-fewer : goal.returns-in-Finish-clause-fewer
 returns-in-Finish-clause-fewer g c =
-    finish_less g.row.A.Denot g.row.N-Job.Denot (g.N.Runner.yields c.args.runner.now) g.N.Runner.may_give (g.S.BlobSource.tells c.args.sink.now) (g.S.BlobSource.tells c.finish_first.new.sink) c.args.engine.now c.finish_first.new.engine c.plan.ensures.lawful
+    finish_less g.row.A.Denot g.row.N-Job.Denot (g.N.Runner.yields c.args.runner.now) g.N.Runner.may_give (g.N.Runner.starts c.args.runner.now) (g.N.Runner.starts c.finish_first.new.runner) (g.S.BlobSource.tells c.args.sink.now) (g.S.BlobSource.tells c.finish_first.new.sink) c.args.engine.now c.finish_first.new.engine c.plan.ensures.valid
     c.finish_first.result c.args.children.now.items c.finish_first.new.children.items c.finish_first.ensures.ended
 
 pub returns-in-Finish-clause-right : goal.returns-in-Finish-clause-right
@@ -39,32 +48,32 @@ returns-in-Finish-clause-knows g c = knows_still (returns-in-Finish-clause-right
 
 pub returns-in-Start-clause-stored : goal.returns-in-Start-clause-stored
 returns-in-Start-clause-stored g c =
-    start_stored g.row.A.Denot g.row.N-Job.Denot (g.N.Runner.yields c.args.runner.now) g.N.Runner.may_give (g.S.BlobSource.tells c.args.sink.now) (g.S.BlobSource.tells c.begin.new.sink) c.args.engine.now c.begin.new.engine c.args.children.now.items c.begin.new.children.items
-    g.N.Runner.yields c.begin.result c.in-Start.step c.begin.ensures.kept c.begin.ensures.begun
+    start_stored g.row.A.Denot g.row.N-Job.Denot (g.N.Runner.yields c.args.runner.now) g.N.Runner.may_give (g.N.Runner.starts c.args.runner.now) (g.N.Runner.starts c.begin.new.runner) (g.S.BlobSource.tells c.args.sink.now) (g.S.BlobSource.tells c.begin.new.sink) c.args.engine.now c.begin.new.engine c.args.children.now.items c.begin.new.children.items
+    g.N.Runner.yields g.N.Runner.starts c.begin.result c.in-Start.step c.begin.ensures.kept c.begin.ensures.begun
 
 pub returns-in-Finish-clause-stored : goal.returns-in-Finish-clause-stored
 returns-in-Finish-clause-stored g c =
-    finish_stored g.row.A.Denot g.row.N-Job.Denot (g.N.Runner.yields c.args.runner.now) g.N.Runner.may_give (g.S.BlobSource.tells c.args.sink.now) (g.S.BlobSource.tells c.finish_first.new.sink) c.args.engine.now c.finish_first.new.engine c.args.children.now.items c.finish_first.new.children.items
-    g.N.Runner.yields c.finish_first.result c.finish_first.ensures.ended c.finish_first.ensures.put
+    finish_stored g.row.A.Denot g.row.N-Job.Denot (g.N.Runner.yields c.args.runner.now) g.N.Runner.may_give (g.N.Runner.starts c.args.runner.now) (g.N.Runner.starts c.finish_first.new.runner) (g.S.BlobSource.tells c.args.sink.now) (g.S.BlobSource.tells c.finish_first.new.sink) c.args.engine.now c.finish_first.new.engine c.args.children.now.items c.finish_first.new.children.items
+    g.N.Runner.yields g.N.Runner.starts c.finish_first.result c.finish_first.ensures.ended c.finish_first.ensures.put
 
 pub returns-in-Start-clause-stopped : goal.returns-in-Start-clause-stopped
 returns-in-Start-clause-stopped g c =
-    start_refused g.row.A.Denot g.row.N-Job.Denot g.N.Runner.may_give (g.S.BlobSource.tells c.args.sink.now) (g.S.BlobSource.tells c.begin.new.sink) c.args.engine.now c.begin.new.engine c.args.children.now.items c.begin.new.children.items
-    g.N.Runner.yields (g.N.Runner.yields c.args.runner.now) c.in-Start.step c.args.turn c.in-Start.is c.begin.result c.begin.ensures.stopped c.begin.ensures.kept
+    start_refused g.row.A.Denot g.row.N-Job.Denot g.N.Runner.may_give (g.N.Runner.starts c.args.runner.now) (g.N.Runner.starts c.begin.new.runner) (g.S.BlobSource.tells c.args.sink.now) (g.S.BlobSource.tells c.begin.new.sink) c.args.engine.now c.begin.new.engine c.args.children.now.items c.begin.new.children.items
+    g.N.Runner.yields g.N.Runner.starts (g.N.Runner.yields c.args.runner.now) c.in-Start.step c.args.turn c.in-Start.is c.begin.result c.begin.ensures.stopped c.begin.ensures.kept
 
 pub returns-in-Finish-clause-stopped : goal.returns-in-Finish-clause-stopped
 returns-in-Finish-clause-stopped g c =
-    finish_refused g.row.A.Denot g.row.N-Job.Denot g.N.Runner.may_give (g.S.BlobSource.tells c.args.sink.now) (g.S.BlobSource.tells c.finish_first.new.sink) c.args.engine.now c.finish_first.new.engine c.args.children.now.items c.finish_first.new.children.items
-    c.plan.ensures.lawful g.N.Runner.yields (g.N.Runner.yields c.args.runner.now) c.args.turn c.finish_first.result c.finish_first.ensures.stopped c.finish_first.ensures.refused
+    finish_refused g.row.A.Denot g.row.N-Job.Denot g.N.Runner.may_give (g.N.Runner.starts c.args.runner.now) (g.N.Runner.starts c.finish_first.new.runner) (g.S.BlobSource.tells c.args.sink.now) (g.S.BlobSource.tells c.finish_first.new.sink) c.args.engine.now c.finish_first.new.engine c.args.children.now.items c.finish_first.new.children.items
+    c.plan.ensures.valid c.finish_first.ensures.unlisted g.N.Runner.yields g.N.Runner.starts (g.N.Runner.yields c.args.runner.now) c.args.turn c.finish_first.result c.finish_first.ensures.stopped c.finish_first.ensures.refused
 
 pub returns-in-Start-clause-only : goal.returns-in-Start-clause-only
 returns-in-Start-clause-only g c =
-    subst (λ t. OnOk c.begin.result (FinishesOnly (step_of t c.args.children.now.items) c.args.engine.now c.begin.new.engine)) (sym c.in-Start.is) (start_only g.row.A.Denot g.row.N-Job.Denot (g.N.Runner.yields c.args.runner.now) g.N.Runner.may_give (g.S.BlobSource.tells c.args.sink.now) (g.S.BlobSource.tells c.begin.new.sink) c.args.engine.now c.begin.new.engine
+    subst (λ t. OnOk c.begin.result (FinishesOnly (step_of t c.args.children.now.items) c.args.engine.now c.begin.new.engine)) (sym c.in-Start.is) (start_only g.row.A.Denot g.row.N-Job.Denot (g.N.Runner.yields c.args.runner.now) g.N.Runner.may_give (g.N.Runner.starts c.args.runner.now) (g.N.Runner.starts c.begin.new.runner) (g.S.BlobSource.tells c.args.sink.now) (g.S.BlobSource.tells c.begin.new.sink) c.args.engine.now c.begin.new.engine
     c.begin.result c.in-Start.step c.args.children.now.items c.begin.new.children.items c.begin.ensures.begun)
 
 pub returns-in-Finish-clause-only : goal.returns-in-Finish-clause-only
 returns-in-Finish-clause-only g c =
-    subst (λ t. OnOk c.finish_first.result (FinishesOnly (step_of t c.args.children.now.items) c.args.engine.now c.finish_first.new.engine)) (sym c.in-Finish.is) (finish_only g.row.A.Denot g.row.N-Job.Denot (g.N.Runner.yields c.args.runner.now) g.N.Runner.may_give (g.S.BlobSource.tells c.args.sink.now) (g.S.BlobSource.tells c.finish_first.new.sink) c.args.engine.now c.finish_first.new.engine
+    subst (λ t. OnOk c.finish_first.result (FinishesOnly (step_of t c.args.children.now.items) c.args.engine.now c.finish_first.new.engine)) (sym c.in-Finish.is) (finish_only g.row.A.Denot g.row.N-Job.Denot (g.N.Runner.yields c.args.runner.now) g.N.Runner.may_give (g.N.Runner.starts c.args.runner.now) (g.N.Runner.starts c.finish_first.new.runner) (g.S.BlobSource.tells c.args.sink.now) (g.S.BlobSource.tells c.finish_first.new.sink) c.args.engine.now c.finish_first.new.engine
     c.finish_first.result c.args.children.now.items c.finish_first.new.children.items c.requires.there c.finish_first.ensures.ended)
 
 pub returns-in-Start-clause-fetched : goal.returns-in-Start-clause-fetched

@@ -2,7 +2,7 @@ use Rattle.std.specs.Prelude.{IsSomeAnd}
 use Rattle.std.proofs.Common.{◌≡◌, ◌<◌, ◌&&◌, arith, ℕ, List, subst, sym, ap, ◌∙◌, ◌∷◌, [], Some, true, false, bytes_eq, is_some, is_none, Err, IfErr}
 use Rattle.std.specs.Map.{lookup}
 use Rattle.eviction.specs.Kept.{Held, total_cost}
-use Rattle.eviction.specs.Pinning.{is_among, pinned_all, pins_of, all_held}
+use Rattle.eviction.specs.Pinning.{is_among, pinned_all, pins_of, all_stored}
 use Rattle.blob_store.specs.declared.error.BlobError.TheVariants as blob
 use Rattle.blob_store.specs.Blobs.{hashes_of}
 use Rattle.action_cache.specs.Survey.{Surveys}
@@ -15,7 +15,7 @@ use Rattle.action_cache.specs.CacheError.{IsRefused}
 use Rattle.action_cache.specs.declared.error.CacheError.TheVariants.{NotHeld, Incomplete}
 use Rattle.action_cache.proofs.Unpinning.{find_entry, pinned_entry, pins_found, one_distinct, settled, unmarked, was_complete}
 use Rattle.std.specs.List.{IsDistinct}
-use Rattle.blob_store.specs.Blobs.{all_held as all_blobs_held}
+use Rattle.blob_store.specs.Blobs.{all_held}
 use Rattle.action_cache.specs.CacheError.{of_blob}
 use Rattle.action_cache.proofs.Mirrors.{told as told_as}
 use Rattle.action_cache.proofs.Once.{all_held_of}
@@ -30,7 +30,7 @@ returns-in-None-clause-refused g c =
     let h = c.args.hash.now in
     let B = i.blobs.entries in
     let R = i.results.entries in
-    let d = c.held_bytes-held.ensures.lawful.distinct in
+    let d = c.held_bytes-held.ensures.valid.distinct in
     let tied = c.self.invariant.0 in
     subst (λ (w : CacheState). IsRefused w (put_on reader w h) NotHeld) c.self.view_is
     ((none_pinned reader i.blobs.limit i.results.limit B R d tied h (no_entry (lookup (bytes_eq h) R) c.in-None.ensures)))
@@ -42,7 +42,7 @@ returns-in-None-survey-clause-refused g c =
     let h = c.args.hash.now in
     let B = i.blobs.entries in
     let R = i.results.entries in
-    let d = c.held_bytes-held.ensures.lawful.distinct in
+    let d = c.held_bytes-held.ensures.valid.distinct in
     let tied = c.self.invariant.0 in
     let b = c.in-Some.bytes.now in
     let f = find_entry (lookup (bytes_eq h) R) b c.in-Some.ensures in
@@ -60,7 +60,7 @@ returns-in-Some-fault-clause-refused g c =
     let h = c.args.hash.now in
     let B = i.blobs.entries in
     let R = i.results.entries in
-    let d = c.held_bytes-held.ensures.lawful.distinct in
+    let d = c.held_bytes-held.ensures.valid.distinct in
     let tied = c.self.invariant.0 in
     let b = c.in-Some.bytes.now in
     let f = find_entry (lookup (bytes_eq h) R) b c.in-Some.ensures in
@@ -78,7 +78,7 @@ returns-then-pins-gt0-clause-ok g c =
     let h = c.args.hash.now in
     let B = i.blobs.entries in
     let R = i.results.entries in
-    let d = c.held_bytes-held.ensures.lawful.distinct in
+    let d = c.held_bytes-held.ensures.valid.distinct in
     let tied = c.self.invariant.0 in
     let told = c.pins.ensures in
     let some = c.if-pins-gt0.true in
@@ -94,7 +94,7 @@ pin_all-requires-clause-counts g c = λ k at.
     let h = c.args.hash.now in
     let B = i.blobs.entries in
     let R = i.results.entries in
-    let d = c.held_bytes-held.ensures.lawful.distinct in
+    let d = c.held_bytes-held.ensures.valid.distinct in
     let tied = c.self.invariant.0 in
     let t = tied.counts k in
     let most = few (λ bytes. refers (found_in B) reader bytes k) R in
@@ -113,7 +113,7 @@ invariant_of-self-2 g c =
     let h = c.args.hash.now in
     let B = i.blobs.entries in
     let R = i.results.entries in
-    let d = c.held_bytes-held.ensures.lawful.distinct in
+    let d = c.held_bytes-held.ensures.valid.distinct in
     let tied = c.self.invariant.0 in
     let b = c.in-Some.bytes.now in
     let f = find_entry (lookup (bytes_eq h) R) b c.in-Some.ensures in
@@ -127,7 +127,7 @@ invariant_of-self-2 g c =
     let ks = hashes_of c.deref.result.now in
     let names : (x : List ℕ) → is_among bytes_eq ks x ≡ refers (found_in B) reader v.bytes x = λ x. ap (λ l. is_among bytes_eq (hashes_of l) x) c.deref.ensures.value ∙ survey.once.named x ∙ ap (λ y. refers (found_in B) reader y x) (sym f.2) in
     let blobs : c.pin_all.new.self ≡ pinned_all bytes_eq i.blobs ks = c.in_ok-pin_all.ensures.ok in
-    let results : c.pin_all-pinned.new.self ≡ pinned_all bytes_eq i.results (h ∷ []) = settled c.pin_all-pinned.result (c.pin_all-pinned.new.self ≡ pinned_all bytes_eq i.results (h ∷ [])) (all_held bytes_eq R (h ∷ [])) c.pin_all-pinned.ensures.ok c.pin_all-pinned.ensures.not_held (result_held reader i.blobs.limit i.results.limit B R d tied h v held whole zero_pins ks names) in
+    let results : c.pin_all-pinned.new.self ≡ pinned_all bytes_eq i.results (h ∷ []) = settled c.pin_all-pinned.result (c.pin_all-pinned.new.self ≡ pinned_all bytes_eq i.results (h ∷ [])) (all_stored bytes_eq R (h ∷ [])) c.pin_all-pinned.ensures.ok c.pin_all-pinned.ensures.not_held (result_held reader i.blobs.limit i.results.limit B R d tied h v held whole zero_pins ks names) in
     rw (blobs, results) (still_tied reader i.blobs.limit i.results.limit B R d tied h v held whole zero_pins ks names, c.self.invariant.1, c.self.invariant.2)
 
 pub returns-clause-ok : goal.returns-clause-ok
@@ -137,7 +137,7 @@ returns-clause-ok g c =
     let h = c.args.hash.now in
     let B = i.blobs.entries in
     let R = i.results.entries in
-    let d = c.held_bytes-held.ensures.lawful.distinct in
+    let d = c.held_bytes-held.ensures.valid.distinct in
     let tied = c.self.invariant.0 in
     let b = c.in-Some.bytes.now in
     let f = find_entry (lookup (bytes_eq h) R) b c.in-Some.ensures in
@@ -151,7 +151,7 @@ returns-clause-ok g c =
     let ks = hashes_of c.deref.result.now in
     let names : (x : List ℕ) → is_among bytes_eq ks x ≡ refers (found_in B) reader v.bytes x = λ x. ap (λ l. is_among bytes_eq (hashes_of l) x) c.deref.ensures.value ∙ survey.once.named x ∙ ap (λ y. refers (found_in B) reader y x) (sym f.2) in
     let blobs : c.pin_all.new.self ≡ pinned_all bytes_eq i.blobs ks = c.in_ok-pin_all.ensures.ok in
-    let results : c.pin_all-pinned.new.self ≡ pinned_all bytes_eq i.results (h ∷ []) = settled c.pin_all-pinned.result (c.pin_all-pinned.new.self ≡ pinned_all bytes_eq i.results (h ∷ [])) (all_held bytes_eq R (h ∷ [])) c.pin_all-pinned.ensures.ok c.pin_all-pinned.ensures.not_held (result_held reader i.blobs.limit i.results.limit B R d tied h v held whole zero_pins ks names) in
+    let results : c.pin_all-pinned.new.self ≡ pinned_all bytes_eq i.results (h ∷ []) = settled c.pin_all-pinned.result (c.pin_all-pinned.new.self ≡ pinned_all bytes_eq i.results (h ∷ [])) (all_stored bytes_eq R (h ∷ [])) c.pin_all-pinned.ensures.ok c.pin_all-pinned.ensures.not_held (result_held reader i.blobs.limit i.results.limit B R d tied h v held whole zero_pins ks names) in
     subst (λ (w : CacheState). put_on reader w h ≡ (done, state_of c.pin_all.new.self.limit c.pin_all-pinned.new.self.limit c.pin_all.new.self.entries c.pin_all-pinned.new.self.entries)) c.self.view_is
     (rw (blobs, results) (pinned reader i.blobs.limit i.results.limit B R d tied h v held whole zero_pins ks names))
 
@@ -170,7 +170,7 @@ returns-in_err-pin_all-clause-refused g c =
     let st = state_of i.blobs.limit i.results.limit B i.results.entries in
     let e = c.in_err-pin_all.field-0.0 in
     let survey : Surveys by_messages (found_in B) b c.in-Some-survey.survey = rw c.in-Some-survey.is at c.in_ok-survey-in-Some.ensures in
-    let all : all_blobs_held (found_in B) c.deref.result.now ≡ true = ap (all_blobs_held (found_in B)) c.deref.ensures.value ∙ survey.once.held (found_in B) (all_held_of (found_in B) by_messages (outputs_of by_messages b) (sym survey.fault ∙ c.in-None-fault.is)) in
+    let all : all_held (found_in B) c.deref.result.now ≡ true = ap (all_held (found_in B)) c.deref.ensures.value ∙ survey.once.held (found_in B) (all_held_of (found_in B) by_messages (outputs_of by_messages b) (sym survey.fault ∙ c.in-None-fault.is)) in
     subst (λ (w : CacheState). IfErr c.from_residual-in_err-pin_all.result (IsRefused w (put_on by_messages w h))) c.self.view_is
     (told_as c.from_residual-in_err-pin_all.result (of_blob e) (IsRefused st (put_on by_messages st h)) c.from_residual-in_err-pin_all.ensures.1
     (only_memory st (put_on by_messages st h) e blob.NotHeld c.in_err-pin_all.ensures.errors (λ same. let no = c.in_err-pin_all.ensures.not_held.0 (ap Err same) in let both : true ≡ false = sym all ∙ no in cc)))

@@ -13,14 +13,14 @@ returns-in_err-put-clause-refused g c =
     let i = c.self.inside in
     let reader = by_messages in
     let b = c.args.bytes.items in
-    let refused = put_refused reader i.blobs i.results.limit i.results.entries c.self.invariant.1 c.held_bytes-held.ensures.lawful.distinct c.self.invariant.0 c.args.hash b c.in_err-put.field-0.0 c.in_err-put.ensures.refused in
+    let refused = put_refused reader i.blobs i.results.limit i.results.entries c.self.invariant.1 c.held_bytes-held.ensures.valid.distinct c.self.invariant.0 c.args.hash b c.in_err-put.field-0.0 c.in_err-put.ensures.refused in
     subst (λ (w : CacheState). IfErr c.from_residual.result (IsRefused w (blob_put reader w c.args.hash b))) c.self.view_is
     (told c.from_residual.result (of_blob c.in_err-put.field-0.0) (IsRefused (state_of i.blobs.limit i.results.limit i.blobs.entries i.results.entries) (blob_put reader (state_of i.blobs.limit i.results.limit i.blobs.entries i.results.entries) c.args.hash b)) c.from_residual.ensures.1 refused)
 
 pub invariant_of-self-2 : goal.invariant_of-self-2
 invariant_of-self-2 g c =
     let i = c.self.inside in
-    let p = put_ok by_messages i.blobs i.results.limit i.results.entries c.self.invariant.1 c.held_bytes-held.ensures.lawful.distinct c.self.invariant.0 c.args.hash c.args.bytes.items c.put.new.self c.in_ok-put.ensures.ok c.in_ok-put.ensures.passed in
+    let p = put_ok by_messages i.blobs i.results.limit i.results.entries c.self.invariant.1 c.held_bytes-held.ensures.valid.distinct c.self.invariant.0 c.args.hash c.args.bytes.items c.put.new.self c.in_ok-put.ensures.ok c.in_ok-put.ensures.passed in
     (p.still, p.flat_still, c.self.invariant.2)
 
 pub returns-clause-ok : goal.returns-clause-ok
@@ -28,7 +28,7 @@ returns-clause-ok g c =
     let i = c.self.inside in
     let reader = by_messages in
     let b = c.args.bytes.items in
-    let p = put_ok reader i.blobs i.results.limit i.results.entries c.self.invariant.1 c.held_bytes-held.ensures.lawful.distinct c.self.invariant.0 c.args.hash b c.put.new.self c.in_ok-put.ensures.ok c.in_ok-put.ensures.passed in
+    let p = put_ok reader i.blobs i.results.limit i.results.entries c.self.invariant.1 c.held_bytes-held.ensures.valid.distinct c.self.invariant.0 c.args.hash b c.put.new.self c.in_ok-put.ensures.ok c.in_ok-put.ensures.passed in
     subst (λ (w : CacheState). blob_put reader w c.args.hash b ≡ (done, state_of c.put.new.self.limit i.results.limit c.put.new.self.entries i.results.entries)) c.self.view_is p.out_is
 
 pub returns-in_err-put-clause-memory : goal.returns-in_err-put-clause-memory
@@ -38,4 +38,4 @@ returns-in_err-put-clause-memory g c is =
     let e = c.in_err-put.field-0.0 in
     let memory = memory_of e (told_is c.from_residual.result (of_blob e) Memory c.from_residual.ensures.1 is) in
     subst (λ (w : CacheState). (blob_put by_messages w c.args.hash b).0 ≡ done) c.self.view_is
-    (put_wanting by_messages i.blobs i.results.limit i.results.entries c.self.invariant.1 c.held_bytes-held.ensures.lawful.distinct c.self.invariant.0 c.args.hash b e c.in_err-put.ensures.refused memory)
+    (put_wanting by_messages i.blobs i.results.limit i.results.entries c.self.invariant.1 c.held_bytes-held.ensures.valid.distinct c.self.invariant.0 c.args.hash b e c.in_err-put.ensures.refused memory)

@@ -26,7 +26,7 @@ returns-then-differs-clause-refused g c =
     let s = i.results in
     let B = i.blobs.entries in
     let flat = c.self.invariant.2 in
-    let d = c.held_bytes-held.ensures.lawful.distinct in
+    let d = c.held_bytes-held.ensures.valid.distinct in
     let reads : is_some (reader.outputs b) ≡ true = c.requires in
     let other : differs_pinned reader (state_of i.blobs.limit s.limit B s.entries) b (under h (marks s.entries)) ≡ true =
     sym (other_is reader i.blobs.limit B s flat d h b) ∙ ap (λ l. is_other l (bytes_under bytes_eq s.entries h) (pins_of bytes_eq s.entries h)) (sym c.deref.ensures.value) ∙ sym c.differs.ensures ∙ c.if-differs.true in
@@ -41,7 +41,7 @@ invariant_of-self-2 g c =
     let s = i.results in
     let B = i.blobs.entries in
     let flat = c.self.invariant.2 in
-    let d = c.held_bytes-held.ensures.lawful.distinct in
+    let d = c.held_bytes-held.ensures.valid.distinct in
     let reads : is_some (reader.outputs b) ≡ true = c.requires in
     let other : differs_pinned reader (state_of i.blobs.limit s.limit B s.entries) b (under h (marks s.entries)) ≡ false =
     sym (other_is reader i.blobs.limit B s flat d h b) ∙ ap (λ l. is_other l (bytes_under bytes_eq s.entries h) (pins_of bytes_eq s.entries h)) (sym c.deref.ensures.value) ∙ sym c.differs.ensures ∙ c.if-differs.false in
@@ -56,7 +56,7 @@ returns-clause-ok g c =
     let s = i.results in
     let B = i.blobs.entries in
     let flat = c.self.invariant.2 in
-    let d = c.held_bytes-held.ensures.lawful.distinct in
+    let d = c.held_bytes-held.ensures.valid.distinct in
     let reads : is_some (reader.outputs b) ≡ true = c.requires in
     let other : differs_pinned reader (state_of i.blobs.limit s.limit B s.entries) b (under h (marks s.entries)) ≡ false =
     sym (other_is reader i.blobs.limit B s flat d h b) ∙ ap (λ l. is_other l (bytes_under bytes_eq s.entries h) (pins_of bytes_eq s.entries h)) (sym c.deref.ensures.value) ∙ sym c.differs.ensures ∙ c.if-differs.false in
@@ -76,7 +76,7 @@ returns-in_err-put-clause-refused g c =
     let s = i.results in
     let B = i.blobs.entries in
     let flat = c.self.invariant.2 in
-    let d = c.held_bytes-held.ensures.lawful.distinct in
+    let d = c.held_bytes-held.ensures.valid.distinct in
     let reads : is_some (reader.outputs b) ≡ true = c.requires in
     let other : differs_pinned reader (state_of i.blobs.limit s.limit B s.entries) b (under h (marks s.entries)) ≡ false =
     sym (other_is reader i.blobs.limit B s flat d h b) ∙ ap (λ l. is_other l (bytes_under bytes_eq s.entries h) (pins_of bytes_eq s.entries h)) (sym c.deref.ensures.value) ∙ sym c.differs.ensures ∙ c.if-differs.false in
@@ -115,7 +115,7 @@ returns-in_err-put-clause-memory g c is =
     let s = i.results in
     let B = i.blobs.entries in
     let flat = c.self.invariant.2 in
-    let d = c.held_bytes-held.ensures.lawful.distinct in
+    let d = c.held_bytes-held.ensures.valid.distinct in
     let reads : is_some (reader.outputs b) ≡ true = c.requires in
     let other : differs_pinned reader (state_of i.blobs.limit s.limit B s.entries) b (under h (marks s.entries)) ≡ false =
     sym (other_is reader i.blobs.limit B s flat d h b) ∙ ap (λ l. is_other l (bytes_under bytes_eq s.entries h) (pins_of bytes_eq s.entries h)) (sym c.deref.ensures.value) ∙ sym c.differs.ensures ∙ c.if-differs.false in

@@ -3,7 +3,7 @@ use Rattle.std.specs.Prelude.{FitsSigned}
 use Rattle.std.specs.Int.{w32}
 use Rattle.std.proofs.lemmas.Int.{to_z-of_z}
 use Rattle.action_messages.specs.ActionResult.{file_paths, directory_paths, symlink_paths, paths_checked}
-use Rattle.action_messages.proofs.Results.{paths_found, file_paths_lawful, directory_paths_lawful, symlink_paths_lawful}
+use Rattle.action_messages.proofs.Results.{paths_found, file_paths_valid, directory_paths_valid, symlink_paths_valid}
 use Rattle.action_messages.proofs.action_result.ActionResult.checked.Goals as goal
 
 pub invariant_of-made : goal.invariant_of-made
@@ -21,7 +21,7 @@ invariant_of-made g c =
       directories = directories;
       symlinks = symlinks;
       exit_code = subst (FitsSigned w32) (sym same) c.ranges.exit_code;
-      stdout = c.digest.ensures.lawful;
-      stderr = c.digest-2.ensures.lawful;
-      paths = paths_found (file_paths f) (directory_paths d) (symlink_paths l) (file_paths_lawful f files) (directory_paths_lawful d directories) (symlink_paths_lawful l symlinks) given;
+      stdout = c.digest.ensures.valid;
+      stderr = c.digest-2.ensures.valid;
+      paths = paths_found (file_paths f) (directory_paths d) (symlink_paths l) (file_paths_valid f files) (directory_paths_valid d directories) (symlink_paths_valid l symlinks) given;
     }

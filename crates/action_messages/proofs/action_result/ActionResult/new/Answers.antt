@@ -13,4 +13,4 @@ returns-clause-some g c =
       exit_code = c.args.exit_code;
       stdout = c.args.stdout;
       stderr = c.args.stderr;
-    }) c.checked.result (rw same at c.checked.ensures.exact) c.checked.ensures.lawful
+    }) c.checked.result (rw same at c.checked.ensures.exact) c.checked.ensures.valid

@@ -7,7 +7,7 @@ use Rattle.action_messages.proofs.action_result.ActionResult.outputs.Goals as go
 pub loop-output-init : goal.loop-output-init
 loop-output-init g c =
     walks_alike c.args.self.now [] _ _ _ _ _ _ _ (ap recorded_values c.new-outputs.ensures.items) c.files-files.ensures.value c.directories-directories.ensures.value c.symlinks-symlinks.ensures.value
-    (walks_begin c.args.self.now c.files-files.ensures.lawful)
+    (walks_begin c.args.self.now c.files-files.ensures.valid)
 
 pub loop-output-preserved-in-File : goal.loop-output-preserved-in-File
 loop-output-preserved-in-File g c =

@@ -2,8 +2,8 @@ use Rattle.std.proofs.Common.{◌≡◌, Some, None, refl, ap, subst}
 use Rattle.std.specs.List.{insert}
 use Rattle.action_messages.specs.Overlaps.{ArePathsApart}
 use Rattle.actions.specs.Outcome.{OutcomeValue, HasRoom, outputs_in}
-use Rattle.actions.proofs.OutcomeLookups.{paths_in, ascending, lawful, paths_of}
-use Rattle.actions.proofs.Added.{lawful_added, is_added, full}
+use Rattle.actions.proofs.OutcomeLookups.{paths_in, ascending, valid, paths_of}
+use Rattle.actions.proofs.Added.{valid_added, is_added, full}
 use Rattle.actions.proofs.outcome.Outcome.add.Goals as goal
 
 pub room_for-requires-clause-ascend : goal.room_for-requires-clause-ascend
@@ -11,10 +11,10 @@ room_for-requires-clause-ascend g c =
     let o : OutcomeValue = record { exit_code = c.self.inside.exit_code; outputs = outputs_in c.self.inside.outputs.items } in
     rw c.deref.ensures.value (ascending o c.self.inside.outputs.items refl c.self.invariant)
 
-pub room_for-requires-clause-lawful : goal.room_for-requires-clause-lawful
-room_for-requires-clause-lawful g c =
+pub room_for-requires-clause-valid : goal.room_for-requires-clause-valid
+room_for-requires-clause-valid g c =
     let o : OutcomeValue = record { exit_code = c.self.inside.exit_code; outputs = outputs_in c.self.inside.outputs.items } in
-    rw c.deref.ensures.value (lawful o c.self.inside.outputs.items refl c.self.invariant)
+    rw c.deref.ensures.value (valid o c.self.inside.outputs.items refl c.self.invariant)
 
 pub room_for-requires-clause-apart : goal.room_for-requires-clause-apart
 room_for-requires-clause-apart g c =
@@ -26,7 +26,7 @@ invariant_of-self-in-Some g c =
     let items = c.self.inside.outputs.items in
     let room : HasRoom (paths_in items) c.args.path (Some c.in-Some.place) = subst (λ l. HasRoom (paths_in l) c.args.path (Some c.in-Some.place)) c.deref.ensures.value (subst (HasRoom (paths_in c.deref.result.now) c.args.path) c.in-Some.is (c.in_ok-place.ensures {u = tt})) in
     let after : c.insert.new.self.items ≡ insert items c.in-Some.place (c.args.path, c.args.output) = (c.in_ok-insert-in-Some.ensures {u = tt}).items in
-    rw after (lawful_added items c.in-Some.place (c.args.path, c.args.output) c.self.inside.exit_code room)
+    rw after (valid_added items c.in-Some.place (c.args.path, c.args.output) c.self.inside.exit_code room)
 
 pub returns-in_ok-insert-in-Some-clause-added : goal.returns-in_ok-insert-in-Some-clause-added
 returns-in_ok-insert-in-Some-clause-added g c =

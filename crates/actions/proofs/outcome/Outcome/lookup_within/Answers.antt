@@ -5,14 +5,14 @@ use Rattle.tree.specs.Lookup.{nothing, found, looked}
 use Rattle.tree.specs.Merging.{within_value}
 use Rattle.actions.specs.Outcome.{output_value}
 use Rattle.actions.specs.OutcomeLookup.{LooksBelow}
-use Rattle.actions.proofs.OutcomeLookups.{ascending, lawful, within, none_over, looks_over, lies_over}
+use Rattle.actions.proofs.OutcomeLookups.{ascending, valid, within, none_over, looks_over, lies_over}
 use Rattle.actions.proofs.outcome.Outcome.lookup_within.Goals as goal
 
 pub find_over-requires-clause-ascend : goal.find_over-requires-clause-ascend
-find_over-requires-clause-ascend g c = ascending c.args.self.now c.outputs-outputs.result.now c.outputs-outputs.ensures.value c.outputs-outputs.ensures.lawful
+find_over-requires-clause-ascend g c = ascending c.args.self.now c.outputs-outputs.result.now c.outputs-outputs.ensures.value c.outputs-outputs.ensures.valid
 
-pub find_over-requires-clause-lawful : goal.find_over-requires-clause-lawful
-find_over-requires-clause-lawful g c = lawful c.args.self.now c.outputs-outputs.result.now c.outputs-outputs.ensures.value c.outputs-outputs.ensures.lawful
+pub find_over-requires-clause-valid : goal.find_over-requires-clause-valid
+find_over-requires-clause-valid g c = valid c.args.self.now c.outputs-outputs.result.now c.outputs-outputs.ensures.value c.outputs-outputs.ensures.valid
 
 pub offset_bounds-outputs-over : goal.offset_bounds-outputs-over
 offset_bounds-outputs-over g c = omega (arith, within c.outputs-outputs.result.now c.in-Some.over.place c.in-Some.ensures.0 c.in-Some.ensures.1)

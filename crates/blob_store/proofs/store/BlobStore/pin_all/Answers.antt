@@ -1,6 +1,6 @@
 use Rattle.std.proofs.Common.{◌≡◌, ◌+◌, ◌<◌, ◌^◌, ℕ, List, true, subst, sym, ap, ◌∙◌, bytes_eq}
 use Rattle.eviction.specs.Kept.{Kept}
-use Rattle.eviction.specs.Pinning.{one_more, is_among, pins_of, all_held as all_stored}
+use Rattle.eviction.specs.Pinning.{one_more, is_among, pins_of, all_stored}
 use Rattle.blob_store.specs.Blobs.{hashes_of, found_in, all_held}
 use Rattle.blob_store.proofs.BlobLemmas.{repinned_blobs, held_stored}
 use Rattle.blob_store.proofs.store.BlobStore.pin_all.Goals as goal

@@ -1,5 +1,5 @@
-use Rattle.std.proofs.Common.{◌≡◌, ℕ, List, ap, sym, ◌∙◌}
-use Rattle.http_core.specs.Event.{EventValue, Asked, Refused, ask_of, event_of}
+use Rattle.std.proofs.Common.{ℕ, List, ap, sym, ◌∙◌}
+use Rattle.http_core.specs.Event.{Refused, event_of}
 use Rattle.http_core.specs.Reply.{ReplyValue, bare, reply_text}
 use Rattle.cache_server.specs.Answering.{answered}
 use Rattle.cache_server.specs.Cache.{CacheValue}

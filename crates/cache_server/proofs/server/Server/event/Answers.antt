@@ -1,6 +1,6 @@
-use Rattle.std.proofs.Common.{◌≡◌, ◌+◌, Bool, true, false, Some, [], ◌++◌, take, drop, length, refl, sym, ap, ◌∙◌, subst, arith, Result, Ok, Err, OnOk}
+use Rattle.std.proofs.Common.{◌≡◌, ◌+◌, Bool, true, false, [], ◌++◌, take, drop, refl, sym, ◌∙◌, subst, arith, Result, Ok, Err, OnOk}
 use Rattle.std.specs.Prelude.{option_map, unwrap_or, is_err}
-use Rattle.std.proofs.lemmas.List.{append-nil, take-append-drop, take_all}
+use Rattle.std.proofs.lemmas.List.{take-append-drop, take_all}
 use Rattle.cache_server.specs.Answer.{text_of}
 use Rattle.cache_server.proofs.Serving.{on_err}
 use Rattle.cache_server.proofs.Standing.{HasFed, stands_closed}
@@ -35,35 +35,7 @@ loop-at-preserved g c =
     let bytes = taken_more c.args.piece.now at taken (at + taken) rest c.split_at.ensures.back refl in
     record {
       within = omega (arith, turn.feeds.feeds.within, c.split_at.ensures.back_len);
-      fed = subst (λ z. HasFed c.open.new.self c.args.connection z c.loop-at.text.items c.turn.new.self) bytes (subst (λ z. HasFed c.open.new.self c.args.connection (take at c.args.piece.now ++ take taken rest) z c.turn.new.self) (ap (λ o. c.loop-at.text.items ++ unwrap_or (option_map text_of o) []) c.in_default.is ∙ append-nil c.loop-at.text.items) fed);
-    }
-
-pub loop-at-preserved-else-is_err : goal.loop-at-preserved-else-is_err
-loop-at-preserved-else-is_err g c =
-    let turn = c.in_ok-taken.ensures.ok in
-    let at = c.loop-at.at in
-    let rest = c.split_at.result.1.now in
-    let taken = c.in_ok-taken.taken in
-    let fed = fed_join c.open.new.self c.loop-at.self c.turn.new.self c.args.connection (take at c.args.piece.now) (take taken rest) c.loop-at.text.items (unwrap_or (option_map text_of c.in_ok-taken.answer) []) c.loop-at.invariant.fed
-    (fed_turn c.loop-at.self c.args.connection rest taken (option_map text_of c.in_ok-taken.answer) c.turn.new.self turn) in
-    let bytes = taken_more c.args.piece.now at taken (at + taken) rest c.split_at.ensures.back refl in
-    record {
-      within = omega (arith, turn.feeds.feeds.within, c.split_at.ensures.back_len);
-      fed = subst (λ z. HasFed c.open.new.self c.args.connection z c.push_text.new.text.items c.turn.new.self) bytes (subst (λ z. HasFed c.open.new.self c.args.connection (take at c.args.piece.now ++ take taken rest) z c.turn.new.self) (ap (λ o. c.loop-at.text.items ++ unwrap_or (option_map text_of o) []) c.in-Some.is ∙ sym (was_pushed c.push_text.result c.is_err.result _ c.push_text.ensures c.is_err.ensures.value c.if-is_err.false)) fed);
-    }
-
-pub loop-at-preserved-else-is_err-2 : goal.loop-at-preserved-else-is_err-2
-loop-at-preserved-else-is_err-2 g c =
-    let turn = c.in_ok-taken.ensures.ok in
-    let at = c.loop-at.at in
-    let rest = c.split_at.result.1.now in
-    let taken = c.in_ok-taken.taken in
-    let fed = fed_join c.open.new.self c.loop-at.self c.turn.new.self c.args.connection (take at c.args.piece.now) (take taken rest) c.loop-at.text.items (unwrap_or (option_map text_of c.in_ok-taken.answer) []) c.loop-at.invariant.fed
-    (fed_turn c.loop-at.self c.args.connection rest taken (option_map text_of c.in_ok-taken.answer) c.turn.new.self turn) in
-    let bytes = taken_more c.args.piece.now at taken (at + taken) rest c.split_at.ensures.back refl in
-    record {
-      within = omega (arith, turn.feeds.feeds.within, c.split_at.ensures.back_len);
-      fed = subst (λ z. HasFed c.open.new.self c.args.connection z c.push_text.new.text.items c.turn.new.self) bytes (subst (λ z. HasFed c.open.new.self c.args.connection (take at c.args.piece.now ++ take taken rest) z c.turn.new.self) (ap (λ o. c.loop-at.text.items ++ unwrap_or (option_map text_of o) []) c.in-Some.is ∙ sym (was_pushed c.push_text.result c.is_err.result _ c.push_text.ensures c.is_err.ensures.value c.if-is_err.false)) fed);
+      fed = subst (λ z. HasFed c.open.new.self c.args.connection z c.push_text.new.text.items c.turn.new.self) bytes (subst (λ z. HasFed c.open.new.self c.args.connection (take at c.args.piece.now ++ take taken rest) z c.turn.new.self) (sym (was_pushed c.push_text.result c.is_err.result _ c.push_text.ensures c.is_err.ensures.value c.if-is_err.false)) fed);
     }
 
 pub returns-in_err-taken-clause-err : goal.returns-in_err-taken-clause-err

@@ -1,4 +1,4 @@
-use Rattle.std.proofs.Common.{ℕ, ◌-◌, ◌≤◌, take, length}
+use Rattle.std.proofs.Common.{◌-◌, ◌≤◌, take, length}
 use Rattle.cache_server.proofs.Standing.{HasFed}
 use Rattle.cache_server.proofs.server.Server.event.Given as goal
 

@@ -1,4 +1,4 @@
-use Rattle.std.proofs.Common.{◌≡◌, ℕ, true, Option, Some, None, List, ap, sym, ◌∙◌, subst, refl}
+use Rattle.std.proofs.Common.{◌≡◌, ℕ, true, Option, Some, None, ap, sym, ◌∙◌, subst, refl}
 use Rattle.std.specs.Option.{is_some}
 use Rattle.http_core.specs.Session.{SessionValue}
 use Rattle.cache_server.specs.Server.{ServerValue, session_at}

@@ -1,10 +1,7 @@
-use Rattle.std.proofs.Common.{◌≡◌, Some, None, refl, sym, ap, ◌∙◌, subst, take}
+use Rattle.std.proofs.Common.{Some, None, refl, sym, subst}
 use Rattle.http_core.specs.Event.{event_of, option_event}
-use Rattle.cache_server.specs.Answer.{text_of}
-use Rattle.cache_server.specs.Cache.{CacheValue}
 use Rattle.cache_server.specs.Server.{ServerValue}
-use Rattle.cache_server.specs.Sessions.{ClosesAt, FeedsFirstAt}
-use Rattle.cache_server.proofs.Serving.{on_err}
+use Rattle.cache_server.specs.Sessions.{FeedsFirstAt}
 use Rattle.cache_server.proofs.Turning.{closes_fed}
 use Rattle.cache_server.proofs.server.Server.turn.Goals as goal
 

@@ -1,8 +1,7 @@
 use Rattle.std.proofs.Common.{subst, sym}
 use Rattle.std.proofs.Math.Logic.{∥∥₁_map}
-use Rattle.blob_digest.specs.Digest.{digest_of}
 use Rattle.http_core.specs.declared.event.Area.TheVariants.{Ac, Cas}
-use Rattle.remote.specs.Remote.{blobs_of, connection_of, results_of}
+use Rattle.remote.specs.Remote.{connection_of, results_of}
 use Rattle.remote.specs.Table.{told_by}
 use Rattle.commands.specs.Places.{CameAllOver}
 use Rattle.commands.proofs.Tellings.{came_by_put, comes_by_put}

@@ -1,7 +1,7 @@
-use Rattle.std.proofs.Common.{subst, sym, ap}
+use Rattle.std.proofs.Common.{subst, sym}
 use Rattle.std.proofs.Math.Logic.{∥∥₁_map}
 use Rattle.http_core.specs.declared.event.Area.TheVariants.{Ac, Cas}
-use Rattle.remote.specs.Remote.{blobs_of, connection_of, results_of}
+use Rattle.remote.specs.Remote.{blobs_of, connection_of}
 use Rattle.remote.specs.Table.{told_by}
 use Rattle.commands.specs.Places.{CameAllOver}
 use Rattle.commands.proofs.Tellings.{came_on, comes_on}

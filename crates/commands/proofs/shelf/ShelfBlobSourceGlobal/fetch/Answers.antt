@@ -1,9 +1,9 @@
 use Rattle.std.proofs.Common.{◌∙◌, subst, sym}
 use Rattle.std.proofs.Math.Logic.{∥∥₁_map}
 use Rattle.std.specs.Prelude.{codes}
-use Rattle.remote.specs.Folder.{LooksInFolder, blobs_of, entry_path, error_of, place_of, results_of}
+use Rattle.remote.specs.Folder.{LooksInFolder, blobs_of, entry_path, error_of}
 use Rattle.remote.specs.Table.{told_by}
-use Rattle.commands.specs.Places.{AreRead}
+use Rattle.commands.specs.Places.{WereRead}
 use Rattle.commands.proofs.Tellings.{failed_on, read_on}
 use Rattle.commands.proofs.shelf.ShelfBlobSourceGlobal.fetch.Goals as goal
 
@@ -22,7 +22,7 @@ invariant_of-self g c =
         told_is = record {
           blobs = read_on sees.reads sees.fails (λ e. entry_path folder (codes "cas") e) d (error_of old) (error_of new) (blobs_of old) (blobs_of new) c.fetch.result looks
               c.fetch.ensures.told c.fetch.ensures.called.asked.blobs is.told_is.blobs;
-          results = subst (λ t. AreRead sees folder (codes "ac") (told_by t)) (sym c.fetch.ensures.untouched) is.told_is.results;
+          results = subst (λ t. WereRead sees folder (codes "ac") (told_by t)) (sym c.fetch.ensures.untouched) is.told_is.results;
         };
         failed = failed_on sees folder (codes "cas") d (error_of old) (error_of new) (blobs_of old) (blobs_of new) c.fetch.result looks is.failed;
       });

@@ -1,9 +1,9 @@
 use Rattle.std.proofs.Common.{◌∙◌, subst, sym}
 use Rattle.std.proofs.Math.Logic.{∥∥₁_map}
 use Rattle.std.specs.Prelude.{codes}
-use Rattle.remote.specs.Folder.{LooksInFolder, blobs_of, entry_path, error_of, place_of, results_of}
+use Rattle.remote.specs.Folder.{LooksInFolder, entry_path, error_of, results_of}
 use Rattle.remote.specs.Table.{told_by}
-use Rattle.commands.specs.Places.{AreRead}
+use Rattle.commands.specs.Places.{WereRead}
 use Rattle.commands.proofs.Tellings.{failed_on, read_on}
 use Rattle.commands.proofs.shelf.ShelfBlobSourceGlobal.result.Goals as goal
 
@@ -22,7 +22,7 @@ invariant_of-self g c =
         told_is = record {
           results = read_on sees.reads sees.fails (λ e. entry_path folder (codes "ac") e) d (error_of old) (error_of new) (results_of old) (results_of new) c.result.result looks
               c.result.ensures.told c.result.ensures.called.asked.results is.told_is.results;
-          blobs = subst (λ t. AreRead sees folder (codes "cas") (told_by t)) (sym c.result.ensures.untouched) is.told_is.blobs;
+          blobs = subst (λ t. WereRead sees folder (codes "cas") (told_by t)) (sym c.result.ensures.untouched) is.told_is.blobs;
         };
         failed = failed_on sees folder (codes "ac") d (error_of old) (error_of new) (results_of old) (results_of new) c.result.result looks is.failed;
       });

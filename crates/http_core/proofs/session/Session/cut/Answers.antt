@@ -1,7 +1,7 @@
 use Rattle.std.proofs.Common.{◌≡◌, ap, ◌∙◌, subst, Some, None, arith, ◌++◌, ◌∷◌, List, [], take, ◌+◌}
 use Rattle.http_core.specs.Event.{EventValue, event_of, events_of, option_event}
 use Rattle.http_core.specs.Session.{Stands, Feeds, if_any}
-use Rattle.http_core.proofs.Pieces.{piece_fed, piece_done, lawful_more, events_pushed, nothing_more}
+use Rattle.http_core.proofs.Pieces.{piece_fed, piece_done, valid_more, events_pushed, nothing_more}
 use Rattle.http_core.proofs.session.Session.cut.Goals as goal
 
 some_is_none : {X : Type 0} (x : EventValue) → x ∷ [] ≡ [] → X
@@ -14,7 +14,7 @@ loop-at-preserved-in-Continue-branch-2 g c =
       within = omega (arith, c.in_ok-taken.ensures.ok.within, c.split_at.ensures.back_len);
       prefix = c.in_ok-taken.ensures.prefix ∙ c.loop-at.invariant.prefix;
       closed = λ shut. some_is_none (event_of c.in-Some.event) (fed.closed (c.loop-at.invariant.closed shut).0).1;
-      lawful = lawful_more c.loop-at.events.items c.push.new.self.items c.in-Some.event c.in_ok-push.ensures.items c.loop-at.invariant.lawful fed.lawful.0;
+      valid = valid_more c.loop-at.events.items c.push.new.self.items c.in-Some.event c.in_ok-push.ensures.items c.loop-at.invariant.valid fed.valid.0;
       stands = λ stream before h. subst (λ z. Stands c.take_first.new.self (stream ++ take (c.loop-at.at + c.in_ok-taken.taken) c.args.piece.now) (before ++ z)) (events_pushed c.loop-at.events.items c.push.new.self.items c.in-Some.event c.in_ok-push.ensures.items)
           (piece_fed c.loop-at.self c.take_first.new.self stream c.args.piece.now c.split_at.result.1.now c.loop-at.at c.in_ok-taken.taken before (events_of c.loop-at.events.items) (event_of c.in-Some.event ∷ []) c.split_at.ensures.back fed (c.loop-at.invariant.stands stream before h));
     }
@@ -26,14 +26,14 @@ loop-at-preserved g c =
       within = omega (arith, c.in_ok-taken.ensures.ok.within, c.split_at.ensures.back_len);
       prefix = c.in_ok-taken.ensures.prefix ∙ c.loop-at.invariant.prefix;
       closed = λ shut. ((fed.closed (c.loop-at.invariant.closed shut).0).0, (c.loop-at.invariant.closed shut).1);
-      lawful = c.loop-at.invariant.lawful;
+      valid = c.loop-at.invariant.valid;
       stands = λ stream before h. subst (λ z. Stands c.take_first.new.self (stream ++ take (c.loop-at.at + c.in_ok-taken.taken) c.args.piece.now) (before ++ z)) (nothing_more c.loop-at.events.items)
           (piece_fed c.loop-at.self c.take_first.new.self stream c.args.piece.now c.split_at.result.1.now c.loop-at.at c.in_ok-taken.taken before (events_of c.loop-at.events.items) [] c.split_at.ensures.back fed (c.loop-at.invariant.stands stream before h));
     }
 
 pub returns-clause-ok : goal.returns-clause-ok
 returns-clause-ok g c = record {
-  lawful = c.loop-at.invariant.lawful;
+  valid = c.loop-at.invariant.valid;
   stands = λ stream before h. piece_done c.loop-at.self stream c.args.piece.now c.loop-at.at (before ++ events_of c.loop-at.events.items) (omega (arith, c.loop-at-test.false)) (c.loop-at.invariant.stands stream before h);
   closed = λ shut. let k = c.loop-at.invariant.closed shut in (k.0, ap (λ es. events_of es) k.1);
   prefix = c.loop-at.invariant.prefix;

@@ -21,7 +21,7 @@ returns-then-ends_block-clause-takes g c =
     record {
       some = line_some c.first_line-line.result.now line.line;
       within = line.within;
-      lawful = c.follow.ensures.lawful;
+      valid = c.follow.ensures.valid;
       moves = reads_line old.prefix old.state c.follow.new.self.state inside.stage inside.block.items inside.body c.first_line-line.result.now read c.args.piece.now c.saturating_sub.result (option_event c.follow.result) is c.requires.reading line.line c.in_ok-extend_from_slice.ensures.items line.most room line.front
           (λ front last e none few. at_block old.prefix front read last c.judge-judgement.result (option_event c.follow.result) c.follow.new.self.state e ends judged c.follow.ensures.follows none few);
     }
@@ -40,7 +40,7 @@ returns-then-len-lt-MAX_BLOCK-clause-takes g c =
     record {
       some = line_some c.first_line-line.result.now line.line;
       within = line.within;
-      lawful = tt;
+      valid = tt;
       moves = reads_line old.prefix old.state (state_of inside.stage read inside.body) inside.stage inside.block.items inside.body c.first_line-line.result.now read c.args.piece.now c.saturating_sub.result None is c.requires.reading line.line c.in_ok-extend_from_slice.ensures.items line.most room line.front
           (λ front last e none small. within_block old.prefix front read last (state_of inside.stage read inside.body) e not_ends reading few none small);
     }
@@ -58,7 +58,7 @@ returns-clause-takes g c =
     record {
       some = line_some c.first_line-line.result.now line.line;
       within = line.within;
-      lawful = (tt, tt);
+      valid = (tt, tt);
       moves = reads_line old.prefix old.state c.end.new.self.state inside.stage inside.block.items inside.body c.first_line-line.result.now read c.args.piece.now c.saturating_sub.result (Some (Refused 431 true)) is c.requires.reading line.line c.in_ok-extend_from_slice.ensures.items line.most room line.front
           (λ front last e none few. past_block old.prefix front read last c.end.new.self.state e not_ends c.end.ensures.state many none few);
     }

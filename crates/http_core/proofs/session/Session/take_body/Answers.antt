@@ -9,7 +9,7 @@ returns-then-piece-missing-clause-takes g c =
     let inside = c.self.inside in
     let is : state_of inside.stage inside.block.items inside.body ≡ c.args.self.now.state = ap (λ (z : SessionValue). z.state) c.self.view_is in
     let few : length c.args.piece.now < c.in-Body.length - length inside.body = omega (arith, c.len.ensures, c.if-piece-missing.true) in
-    record { some = c.requires.some; within = omega arith; lawful = tt; moves = takes_some c.args.self.now.prefix c.args.self.now.state (state_of inside.stage inside.block.items c.push.new.self) inside.stage inside.block.items inside.body c.args.piece.now c.push.new.self c.in-Body.area c.in-Body.hash c.in-Body.length c.in-Body.close is c.in-Body.is few c.in_ok-push.ensures.ok refl }
+    record { some = c.requires.some; within = omega arith; valid = tt; moves = takes_some c.args.self.now.prefix c.args.self.now.state (state_of inside.stage inside.block.items c.push.new.self) inside.stage inside.block.items inside.body c.args.piece.now c.push.new.self c.in-Body.area c.in-Body.hash c.in-Body.length c.in-Body.close is c.in-Body.is few c.in_ok-push.ensures.ok refl }
 
 pub returns-clause-takes : goal.returns-clause-takes
 returns-clause-takes g c =
@@ -21,4 +21,4 @@ returns-clause-takes g c =
     let most : c.in-Body.length ≤ greatest_blob = search rules in
     let short : length inside.body < c.in-Body.length = search rules in
     let many : length c.seal-body.result ≡ length inside.body + length taken = ap length more ∙ length-append inside.body taken in
-    record { lawful = (omega arith, tt); some = omega (arith, c.len.ensures); within = omega (arith, c.if-piece-missing.false); moves = λ rest h. (takes_all c.args.self.now.prefix c.args.self.now.state inside.stage inside.block.items inside.body taken c.seal-body.result c.in-Body.area c.in-Body.hash c.in-Body.length c.in-Body.close is c.in-Body.is few more rest h, c.end.ensures.state) }
+    record { valid = (omega arith, tt); some = omega (arith, c.len.ensures); within = omega (arith, c.if-piece-missing.false); moves = λ rest h. (takes_all c.args.self.now.prefix c.args.self.now.state inside.stage inside.block.items inside.body taken c.seal-body.result c.in-Body.area c.in-Body.hash c.in-Body.length c.in-Body.close is c.in-Body.is few more rest h, c.end.ensures.state) }

@@ -1,6 +1,6 @@
 use Rattle.std.proofs.Common.{◌≡◌, ◌≢◌, ℕ, ◌<◌, ◌≤◌, subst, true, Some, None, rules, arith, refl, ◌∙◌, ◌++◌, ◌∷◌, List, [], take, length, sym, ap}
 use Rattle.std.proofs.lemmas.List.{append-nil, take_all}
-use Rattle.http_core.specs.Event.{EventValue, event_of, IsLawful, option_event}
+use Rattle.http_core.specs.Event.{EventValue, event_of, IsValid, option_event}
 use Rattle.std.specs.List.{AllByRecursion}
 use Rattle.http_core.specs.Session.{SessionValue, Stands, Closed, if_any}
 use Rattle.http_core.proofs.Standing.{Moves}
@@ -24,7 +24,7 @@ returns-in-Some-clause-ok g c =
       feeds = record {
         stands = λ stream before h. first_event_at c.loop-at.self c.advance.new.self stream c.args.piece.now c.split_at.result.1.now c.loop-at.at c.in_ok-taken.taken before (event_of c.in-Some.event) c.in_ok-taken.ensures.prefix open_ c.split_at.ensures.back moves (c.loop-at.invariant.stands stream before h);
         closed = λ shut. absurd (open_ (c.loop-at.invariant.closed shut));
-        lawful = subst (λ z. AllByRecursion IsLawful (if_any (option_event z))) c.in-Some.is c.in_ok-taken.ensures.takes.lawful;
+        valid = subst (λ z. AllByRecursion IsValid (if_any (option_event z))) c.in-Some.is c.in_ok-taken.ensures.takes.valid;
         prefix = c.in_ok-taken.ensures.prefix ∙ c.loop-at.invariant.prefix;
       };
       stops = λ stream before h. first_event_stops c.loop-at.self c.advance.new.self stream c.args.piece.now c.split_at.result.1.now c.loop-at.at c.in_ok-taken.taken before (event_of c.in-Some.event) open_ moves (c.loop-at.invariant.stands stream before h);
@@ -50,7 +50,7 @@ returns-clause-ok g c = record {
       | else-loop-at-test w ↦ piece_done c.loop-at.self stream c.args.piece.now c.loop-at.at before (omega (arith, w.loop-at-test.false)) (c.loop-at.invariant.stands stream before h)
     ]);
     closed = λ shut. (c.loop-at.invariant.closed shut, refl);
-    lawful = tt;
+    valid = tt;
     prefix = c.loop-at.invariant.prefix;
   };
   stops = λ stream before h. tt;

@@ -13,8 +13,8 @@ invariant_of-result g c =
     let room : length path ≢ 64 = λ e. c.if-part_count-eq64.false (c.part_count.ensures ∙ ap length c.as_str.ensures.parts ∙ e) in
     let slash : string_bytes c.push.new.self ≡ text ++ 47 ∷ [] = c.in_ok-push.ensures.bytes ∙ ap (λ (l : List ℕ). l ++ 47 ∷ []) c.in_ok-text.ensures.ok in
     let whole : string_bytes c.push_str.new.self ≡ text ++ 47 ∷ name = c.in_ok-push_str.ensures.bytes ∙ rw (slash, c.as_str-3.ensures.value) (append_assoc text (47 ∷ []) name) in
-    let parts : parts_of (string_bytes c.push_str.new.self) ≡ path ++ name ∷ [] = ap parts_of whole ∙ parts_below path text name c.as_str-2.ensures.parts c.as_str-3.ensures.lawful in
-    subst IsPath (sym parts) (one_more path name c.as_str-2.ensures.lawful c.as_str-3.ensures.lawful room)
+    let parts : parts_of (string_bytes c.push_str.new.self) ≡ path ++ name ∷ [] = ap parts_of whole ∙ parts_below path text name c.as_str-2.ensures.parts c.as_str-3.ensures.valid in
+    subst IsPath (sym parts) (one_more path name c.as_str-2.ensures.valid c.as_str-3.ensures.valid room)
 
 pub returns-clause-exact : goal.returns-clause-exact
 unfolding lib.Utf8.encode
@@ -25,5 +25,5 @@ returns-clause-exact g c =
     let room : length path ≢ 64 = λ e. c.if-part_count-eq64.false (c.part_count.ensures ∙ ap length c.as_str.ensures.parts ∙ e) in
     let slash : string_bytes c.push.new.self ≡ text ++ 47 ∷ [] = c.in_ok-push.ensures.bytes ∙ ap (λ (l : List ℕ). l ++ 47 ∷ []) c.in_ok-text.ensures.ok in
     let whole : string_bytes c.push_str.new.self ≡ text ++ 47 ∷ name = c.in_ok-push_str.ensures.bytes ∙ rw (slash, c.as_str-3.ensures.value) (append_assoc text (47 ∷ []) name) in
-    let parts : parts_of (string_bytes c.push_str.new.self) ≡ path ++ name ∷ [] = ap parts_of whole ∙ parts_below path text name c.as_str-2.ensures.parts c.as_str-3.ensures.lawful in
+    let parts : parts_of (string_bytes c.push_str.new.self) ≡ path ++ name ∷ [] = ap parts_of whole ∙ parts_below path text name c.as_str-2.ensures.parts c.as_str-3.ensures.valid in
     below_given path name room ∙ ap Ok (sym parts)

@@ -10,8 +10,8 @@ pub of_part-requires : goal.of_part-requires
 of_part-requires g c =
     let parts = YieldsList-from_str_split {s = c.into_iter-name-iterator.result} 47 c.as_str-text.result.now (lit< tt) (search rules) (search rules) (search rules) in
     let t = YieldsList-turn parts c.loop-name.yielded _ c.loop-name.yielded_by _ _ c.in-Some.name c.in-Some.is c.next.ensures.steps in
-    let lawful : IsPath (parts_of c.as_str-text.result.now) = subst IsPath (sym c.as_str-text.ensures.parts) c.as_str-text.ensures.lawful in
-    subst IsName (sym t.1) (part_of IsName (parts_of c.as_str-text.result.now) _ c.in-Some.name.now lawful.each t.0)
+    let valid : IsPath (parts_of c.as_str-text.result.now) = subst IsPath (sym c.as_str-text.ensures.parts) c.as_str-text.ensures.valid in
+    subst IsName (sym t.1) (part_of IsName (parts_of c.as_str-text.result.now) _ c.in-Some.name.now valid.each t.0)
 
 pub returns-clause-value : goal.returns-clause-value
 returns-clause-value g c =

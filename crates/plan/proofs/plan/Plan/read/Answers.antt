@@ -67,7 +67,7 @@ invariant_of-result g c =
     let found = (c.in_ok-root.ensures {u = tt}).found in
     let is : IsPlan (plan_with c.in-Some.version c.in_ok-front.front.steps c.in_ok-root.root.items) = record {
       few = c.in_ok-front.ensures.found.few;
-      steps = c.in_ok-front.ensures.found.lawful;
+      steps = c.in_ok-front.ensures.found.valid;
       root_lines = found.0;
       apart = c.in_ok-front.ensures.found.apart;
       root_apart = (c.in_ok-root.ensures {u = tt}).apart;

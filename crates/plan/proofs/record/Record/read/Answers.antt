@@ -11,8 +11,8 @@ use Rattle.plan.proofs.record.Record.read.Goals as goal
 pub returns-in_default-clause-only : goal.returns-in_default-clause-only
 returns-in_default-clause-only g c = λ r is fits e. absurd (c.in_default.ensures (_, e))
 
-pub read_entries-requires-clause-lawful : goal.read_entries-requires-clause-lawful
-read_entries-requires-clause-lawful g c = subst AreNamed (sym c.steps.ensures.value) (named [] c.args.plan.now.steps c.steps.ensures.lawful.steps)
+pub read_entries-requires-clause-valid : goal.read_entries-requires-clause-valid
+read_entries-requires-clause-valid g c = subst AreNamed (sym c.steps.ensures.value) (named [] c.args.plan.now.steps c.steps.ensures.valid.steps)
 
 pub returns-in_err-digests-clause-fault : goal.returns-in_err-digests-clause-fault
 returns-in_err-digests-clause-fault g c =

@@ -47,7 +47,7 @@ pub returns-then-branch-clause-foreign : goal.returns-then-branch-clause-foreign
 returns-then-branch-clause-foreign g c = λ _.
     let at : at_number c.self.inside.jobs.items c.args.id ≡ Some (record { step = c.job.inside.step; action = c.job.inside.action; input = c.job.inside.input }) = ap (λ js. at_number js c.args.id) (sym c.deref.ensures.value) ∙ sym (c.in-Some.ensures {u = tt}) ∙ ap Some (sym c.job.view_is) in
     subst (λ e. IsForeign e c.args.id c.args.outcome) c.self.view_is
-    (foreign_outcome (record { plan = c.self.inside.plan; sources = c.self.inside.sources; frames = c.self.inside.frames.items; commands = c.self.inside.commands.items; finished = c.self.inside.finished.items; jobs = c.self.inside.jobs.items }) c.args.id (record { step = c.job.inside.step; action = c.job.inside.action; input = c.job.inside.input }) c.args.outcome c.self.invariant at (c.in_ok-check_outcome.ensures {u = tt}).taken.lawful
+    (foreign_outcome (record { plan = c.self.inside.plan; sources = c.self.inside.sources; frames = c.self.inside.frames.items; commands = c.self.inside.commands.items; finished = c.self.inside.finished.items; jobs = c.self.inside.jobs.items }) c.args.id (record { step = c.job.inside.step; action = c.job.inside.action; input = c.job.inside.input }) c.args.outcome c.self.invariant at (c.in_ok-check_outcome.ensures {u = tt}).taken.valid
     (subst (λ fs. Disagrees fs c.job.inside.step c.job.inside.action c.args.outcome) c.deref-2.ensures.value ((c.in_ok-disagrees.ensures {u = tt}).0 c.if-branch.true)))
 
 pub keep_first-requires : goal.keep_first-requires

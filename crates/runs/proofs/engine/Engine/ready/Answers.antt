@@ -12,7 +12,7 @@ use Rattle.runs.proofs.engine.Engine.ready.Goals as goal
 pub are_there-requires : goal.are_there-requires
 are_there-requires g c =
     let lt = subst (λ (e : EngineValue). c.args.step < length e.plan.steps) (sym c.self.view_is) c.requires in
-    ready_lines c.steps-steps.result.now c.self.inside.plan.steps c.args.step c.index-steps-step.result _ c.self.inside.finished.items c.deref.result.now c.deref-2.result.now c.steps-steps.ensures.value c.steps-steps.ensures.lawful.steps lt c.index-steps-step.is c.step.view_is c.deref-2.ensures.value
+    ready_lines c.steps-steps.result.now c.self.inside.plan.steps c.args.step c.index-steps-step.result _ c.self.inside.finished.items c.deref.result.now c.deref-2.result.now c.steps-steps.ensures.value c.steps-steps.ensures.valid.steps lt c.index-steps-step.is c.step.view_is c.deref-2.ensures.value
     c.deref.ensures.value c.self.invariant.count
 
 pub returns-clause-value : goal.returns-clause-value

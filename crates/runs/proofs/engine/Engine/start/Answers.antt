@@ -54,7 +54,7 @@ returns-in_err-job-clause-conflict g c = λ s at.
     let p = err_from_is_err_and c.from_residual.result c.from_residual.ensures.1 in
     let tells = g.S.BlobSource.tells c.prepare.new.source in
     let engine : IsEngine c.args.self.now = subst IsEngine c.self.view_is c.self.invariant in
-    let plan : IsPlan c.args.self.now.plan = subst (λ (e : EngineValue). IsPlan e.plan) c.self.view_is c.steps.ensures.lawful in
+    let plan : IsPlan c.args.self.now.plan = subst (λ (e : EngineValue). IsPlan e.plan) c.self.view_is c.steps.ensures.valid in
     rw (p.1, p.2) (tells_conflict g.row.A.Denot tells.blobs c.args.self.now engine s.lines (step_paths [] c.args.self.now.plan.steps plan.steps c.args.step s at) c.in_err-job.field-0.0 (c.in_err-job.ensures.faulty s at))
 
 pub returns-in_err-place-clause-conflict : goal.returns-in_err-place-clause-conflict
@@ -98,7 +98,7 @@ pub returns-clause-event : goal.returns-clause-event
 returns-clause-event g c =
     let tells = g.S.BlobSource.tells c.prepare.new.source in
     let started = subst (λ e. IsStarted tells.blobs c.args.step e (record { plan = c.self.inside.plan; sources = c.self.inside.sources; frames = c.self.inside.frames.items; commands = c.self.inside.commands.items; finished = c.self.inside.finished.items; jobs = c.place.new.jobs.items }) c.in_ok-job.job) (sym c.self.view_is) (returns-clause-started g c) in
-    subst (λ e. IsStart tells.blobs e c.args.step c.in_ok-job.job.id c.in_ok-job.job.digest (record { plan = c.self.inside.plan; sources = c.self.inside.sources; frames = c.self.inside.frames.items; commands = c.self.inside.commands.items; finished = c.self.inside.finished.items; jobs = c.place.new.jobs.items })) c.self.view_is (started_event tells.blobs c.args.step (record { plan = c.self.inside.plan; sources = c.self.inside.sources; frames = c.self.inside.frames.items; commands = c.self.inside.commands.items; finished = c.self.inside.finished.items; jobs = c.self.inside.jobs.items }) (record { plan = c.self.inside.plan; sources = c.self.inside.sources; frames = c.self.inside.frames.items; commands = c.self.inside.commands.items; finished = c.self.inside.finished.items; jobs = c.place.new.jobs.items }) c.in_ok-job.job c.steps.ensures.lawful c.self.invariant started)
+    subst (λ e. IsStart tells.blobs e c.args.step c.in_ok-job.job.id c.in_ok-job.job.digest (record { plan = c.self.inside.plan; sources = c.self.inside.sources; frames = c.self.inside.frames.items; commands = c.self.inside.commands.items; finished = c.self.inside.finished.items; jobs = c.place.new.jobs.items })) c.self.view_is (started_event tells.blobs c.args.step (record { plan = c.self.inside.plan; sources = c.self.inside.sources; frames = c.self.inside.frames.items; commands = c.self.inside.commands.items; finished = c.self.inside.finished.items; jobs = c.self.inside.jobs.items }) (record { plan = c.self.inside.plan; sources = c.self.inside.sources; frames = c.self.inside.frames.items; commands = c.self.inside.commands.items; finished = c.self.inside.finished.items; jobs = c.place.new.jobs.items }) c.in_ok-job.job c.steps.ensures.valid c.self.invariant started)
 
 pub returns-in_err-job-clause-stands : goal.returns-in_err-job-clause-stands
 returns-in_err-job-clause-stands g c =

@@ -10,7 +10,7 @@ use Rattle.tree.proofs.memo.Memo.learn_directory.Goals as goal
 pub returns-then-has_directory-clause-told : goal.returns-then-has_directory-clause-told
 returns-then-has_directory-clause-told g c =
     let there = c.has_directory.ensures c.if-has_directory.true in
-    (there.0, record { lawful = there.1; blob = c.requires.blobs c.args.digest.now (directory_bytes there.0) (ap (option_map kept_bytes) there.2) }, there.2)
+    (there.0, record { valid = there.1; blob = c.requires.blobs c.args.digest.now (directory_bytes there.0) (ap (option_map kept_bytes) there.2) }, there.2)
 
 pub returns-in_err-directory-clause-learned : goal.returns-in_err-directory-clause-learned
 returns-in_err-directory-clause-learned g c =

@@ -1,0 +1,99 @@
+-- What is written, entry by entry.
+use Rattle.std.proofs.Common.{◌≡◌, ℕ, suc, List, [], ◌∷◌, ◌++◌, refl, sym, ◌∙◌, subst, append_assoc, append-nil, arith, length}
+use Rattle.std.specs.Prelude.{Contains, Result, Ok, Err, OnOk, IfOk}
+use Rattle.messages.specs.Path.{path_text}
+use Rattle.messages.specs.declared.node.Node.TheVariants.{File, Link, Dir}
+use Rattle.blob_source.specs.Source.{Blobs, Grows}
+use Rattle.tree.specs.Tree.{Name, Standing, nothing, a_leaf, a_directory}
+use Rattle.tree.specs.Form.{NodeValue}
+use Rattle.tree.specs.FlatTree.{FlatValue}
+use Rattle.tree.proofs.Descent.{under_still}
+use Rattle.checkout.specs.Folder.{Works, Written, with_written}
+use Rattle.checkout.specs.Folder.Written.{a_folder, a_file, a_link}
+use Rattle.checkout.specs.Written.{place_below, IsWrittenFor, AreWritten, MakesEntry, MakesEntries}
+
+-- what was told stays told
+pub written_still : {B C : Blobs} → Grows B C → (s : Standing NodeValue) (w : Written) → IsWrittenFor B s w → IsWrittenFor C s w
+written_still grows a_directory a_folder h = h
+written_still grows (a_leaf (File d x)) (a_file b y) h = (record { held = under_still grows h.0.held; right = h.0.right }, h.1)
+written_still grows (a_leaf (Link t)) (a_link u) h = h
+written_still grows nothing w h = absurd h
+written_still grows a_directory (a_file b y) h = absurd h
+written_still grows a_directory (a_link u) h = absurd h
+written_still grows (a_leaf (File d x)) a_folder h = absurd h
+written_still grows (a_leaf (File d x)) (a_link u) h = absurd h
+written_still grows (a_leaf (Link t)) a_folder h = absurd h
+written_still grows (a_leaf (Link t)) (a_file b y) h = absurd h
+written_still grows (a_leaf (Dir d)) w h = absurd h
+
+pub all_still : {B C : Blobs} → Grows B C → (folder : List ℕ) (es : FlatValue) (ws : List (List ℕ × Written)) → AreWritten B folder es ws → AreWritten C folder es ws
+all_still grows folder [] ws h = h
+all_still grows folder (e ∷ es) [] h = absurd h
+all_still grows folder (e ∷ es) (w ∷ ws) h = (h.0, written_still grows e.1 w.1 h.1, all_still grows folder es ws h.2)
+
+-- one more
+pub one_more : (B : Blobs) (folder : List ℕ) (es : FlatValue) (ws : List (List ℕ × Written)) (p : List Name) (s : Standing NodeValue) (w : Written)
+    → AreWritten B folder es ws → IsWrittenFor B s w → AreWritten B folder (es ++ (p, s) ∷ []) (ws ++ (place_below folder (path_text p), w) ∷ [])
+one_more B folder [] ws p s w h of = subst (λ vs. AreWritten B folder ((p, s) ∷ []) (vs ++ (place_below folder (path_text p), w) ∷ [])) (sym h) (refl, of, refl)
+one_more B folder (e ∷ es) [] p s w h of = absurd h
+one_more B folder (e ∷ es) (v ∷ vs) p s w h of = (h.0, h.1, one_more B folder es vs p s w h.2 of)
+
+-- the entries before those that are left are written
+pub record SoFar {F : Type 0} (works : Works F) (B : Blobs) (old now : F) (folder : List ℕ) (all left : FlatValue) : Type 0 where
+  pub done : FlatValue
+  pub split : all ≡ done ++ left
+  pub made : MakesEntries works B old now folder done
+
+module _ {F : Type 0} (works : Works F) (folder : List ℕ) (all : FlatValue) where
+  pub none_yet : (B : Blobs) (old : F) → SoFar works B old old folder all all
+  none_yet B old = record {
+    done = [];
+    split = refl;
+    made = record {
+      written = [];
+      of_entries = refl;
+      gains = λ v h. subst (λ ws. works.has old (record v { written = ws })) (sym (append-nil v.written)) h;
+    };
+  }
+
+  pub next_one : {B C : Blobs} (old mid new : F) (p : List Name) (s : Standing NodeValue) (left : FlatValue) (place : List ℕ) → Grows B C
+      → place ≡ place_below folder (path_text p) → SoFar works B old mid folder all ((p, s) ∷ left) → MakesEntry works C mid new place s
+      → SoFar works C old new folder all left
+  next_one {B} {C} old mid new p s left place grows at so_far one =
+      let ws = so_far.made.written in
+      record {
+        done = so_far.done ++ (p, s) ∷ [];
+        split = so_far.split ∙ sym (append_assoc so_far.done ((p, s) ∷ []) left);
+        made = record {
+          written = ws ++ (place_below folder (path_text p), one.written) ∷ [];
+          of_entries = one_more C folder so_far.done ws p s one.written (all_still grows folder so_far.done ws so_far.made.of_entries) one.of_entry;
+          gains = λ v h.
+              subst (λ q. works.has new (record v { written = v.written ++ (ws ++ (q, one.written) ∷ []) })) at
+              (subst (λ vs. works.has new (record v { written = vs })) (append_assoc v.written ws ((place, one.written) ∷ []))
+              (one.gains (with_written ws v) (so_far.made.gains v h)));
+        };
+      }
+
+  inside : (done : FlatValue) (e : List Name × Standing NodeValue) (left : FlatValue) → Contains (done ++ e ∷ left) e
+  inside [] e left = (0, omega arith, refl)
+  inside (d ∷ done) e left = let h = inside done e left in (suc h.0, let lt = h.1 in omega (arith, lt), h.2)
+
+  -- the next one is among all
+  pub is_among : {B : Blobs} (old mid : F) (p : List Name) (s : Standing NodeValue) (left : FlatValue) → SoFar works B old mid folder all ((p, s) ∷ left) → Contains all (p, s)
+  is_among old mid p s left so_far = subst (λ es. Contains es (p, s)) (sym so_far.split) (inside so_far.done (p, s) left)
+
+  pub all_done : {B : Blobs} (old now : F) → SoFar works B old now folder all [] → MakesEntries works B old now folder all
+  all_done {B} old now so_far = subst (MakesEntries works B old now folder) (sym (so_far.split ∙ append-nil so_far.done)) so_far.made
+
+-- what was made, where the call that made it came to a value
+pub where_ok : {T E F : Type 0} {P Q : Type 0} (r : Result T E) (made : Result T F) → IfOk r (λ value. made ≡ Ok value) → OnOk made P → (P → Q) → OnOk r Q
+where_ok (Ok value) (Ok w) same h by = by h
+where_ok (Ok value) (Err e) same h by = absurd (err_is_no_ok e value same)
+  where
+    err_is_no_ok : {T F : Type 0} (e : F) (value : T) → ◌≡◌ {A = Result T F} (Err e) (Ok value) → ⊥
+    err_is_no_ok e value same = cc
+where_ok (Err e) made same h by = tt
+
+pub none_left : {X : Type 0} (xs : List X) → length xs ≡ 0 → xs ≡ []
+none_left [] h = refl
+none_left (x ∷ xs) h = absurd (omega (arith, h))

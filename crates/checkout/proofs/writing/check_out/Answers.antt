@@ -1,0 +1,41 @@
+-- A tree that is told, and its entries.
+use Rattle.std.proofs.Common.{subst, inr}
+use Rattle.std.specs.Prelude.{IfOk}
+use Rattle.std.proofs.lemmas.Result.{err_from_is_err_and}
+use Rattle.blob_source.proofs.Calling.{called_ok, called_no, called_exit}
+use Rattle.blob_source.proofs.Asking.{ok_no_error}
+use Rattle.checkout.specs.Folder.{empty_folder}
+use Rattle.checkout.specs.Refused.{FailsEntries}
+use Rattle.checkout.specs.Written.{AreWritten}
+use Rattle.checkout.proofs.Telling.{unfolded_still}
+use Rattle.checkout.proofs.writing.check_out.Goals as goal
+
+pub returns-in_err-write_entries-clause-refused : goal.returns-in_err-write_entries-clause-refused
+returns-in_err-write_entries-clause-refused g c =
+    let p = err_from_is_err_and c.from_residual-in_err-write_entries.result c.from_residual-in_err-write_entries.ensures.1 in
+    let blobs = (g.S.BlobSource.tells c.write_entries.new.source).blobs in
+    rw (p.1, p.2) (inr (inr (
+      c.in_ok-tree.tree,
+      unfolded_still c.write_entries.ensures.called.asked.asks.blobs c.in_ok-tree.ensures.told,
+      subst (λ es. FailsEntries g.W.FolderWriter.works.refuses blobs c.args.path.now es c.in_err-write_entries.field-0.0) c.in_ok-entries.ensures.value c.in_err-write_entries.ensures.refused,
+    )))
+
+pub returns-in_err-write_entries-clause-called : goal.returns-in_err-write_entries-clause-called
+returns-in_err-write_entries-clause-called g c =
+    called_ok c.in_ok-tree.ensures.called (called_exit c.from_residual-in_err-write_entries.ensures.1 c.in_err-write_entries.ensures.called)
+
+pub returns-clause-written : goal.returns-clause-written
+returns-clause-written g c =
+    let blobs = (g.S.BlobSource.tells c.write_entries.new.source).blobs in
+    let made = c.in_ok-write_entries.ensures.made in
+    let taken = subst (λ r. IfOk r (λ folder. g.W.FolderWriter.works.has folder (empty_folder c.args.path.now))) c.in_ok-folder.ensures.same c.take.ensures.taken in
+    record {
+      entries = c.in_ok-tree.tree;
+      unfolded = unfolded_still c.write_entries.ensures.called.asked.asks.blobs c.in_ok-tree.ensures.told;
+      written = made.written;
+      of_entries = subst (λ es. AreWritten blobs c.args.path.now es made.written) c.in_ok-entries.ensures.value made.of_entries;
+      holds = made.gains (empty_folder c.args.path.now) taken;
+    }
+
+pub returns-clause-called : goal.returns-clause-called
+returns-clause-called g c = called_ok c.in_ok-tree.ensures.called (called_no ok_no_error ok_no_error c.in_ok-write_entries.ensures.called)

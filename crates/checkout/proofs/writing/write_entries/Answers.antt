@@ -1,0 +1,85 @@
+-- The entries so far, and the next one.
+use Rattle.std.proofs.Common.{rules, arith, ◌≡◌, [], ◌∷◌, ap, subst, ◌∙◌}
+use Rattle.std.proofs.lemmas.Result.{err_from_is_err_and}
+use Rattle.blob_source.proofs.Asking.{ok_no_error}
+use Rattle.blob_source.proofs.Calling.{called_none, called_no, called_on, called_exit}
+use Rattle.tree.specs.FlatTree.{entry_value, path_values}
+use Rattle.checkout.specs.Refused.{FailsEntry}
+use Rattle.checkout.specs.Written.{place_below}
+use Rattle.checkout.proofs.Entries.{SoFar, none_yet, next_one, is_among, all_done, none_left}
+use Rattle.checkout.proofs.Telling.{memory_fails}
+use Rattle.checkout.proofs.writing.write_entries.Goals as goal
+
+pub loop-below-init : goal.loop-below-init
+loop-below-init g c =
+    let tells = g.S.BlobSource.tells c.args.source.now in
+    let works = g.W.FolderWriter.works in
+    let all = path_values c.args.entries.items in
+    let folder = c.args.folder.now in
+    record {
+      called = called_none (λ n. n);
+      so_far = subst (λ es. SoFar works tells.blobs folder folder c.args.path.now all (path_values es)) (search rules) (none_yet works c.args.path.now all tells.blobs folder);
+    }
+
+pub returns-in_err-place-clause-refused : goal.returns-in_err-place-clause-refused
+returns-in_err-place-clause-refused g c =
+    let blobs = (g.S.BlobSource.tells c.loop-below.source).blobs in
+    let works = g.W.FolderWriter.works in
+    let all = path_values c.args.entries.items in
+    let left = c.next.new.self.rest.items in
+    let steps : c.loop-below.below-iterator.rest.items ≡ (c.in-Some.below, c.in-Some.entry) ∷ left = search rules in
+    let so_far = subst (λ es. SoFar works blobs c.args.folder.now c.loop-below.folder c.args.path.now all (path_values es)) steps c.loop-below.invariant.so_far in
+    memory_fails c.from_residual.result works.refuses blobs c.args.path.now all c.in-Some.below (entry_value c.in-Some.entry)
+    (is_among works c.args.path.now all c.args.folder.now c.loop-below.folder c.in-Some.below (entry_value c.in-Some.entry) (path_values left) so_far) c.from_residual.ensures.1
+
+pub returns-in_err-place-clause-called : goal.returns-in_err-place-clause-called
+returns-in_err-place-clause-called g c = called_no (λ n. n) (search rules) c.loop-below.invariant.called
+
+pub returns-in_err-write_entry-clause-refused : goal.returns-in_err-write_entry-clause-refused
+returns-in_err-write_entry-clause-refused g c =
+    let p = err_from_is_err_and c.from_residual-in_err-write_entry.result c.from_residual-in_err-write_entry.ensures.1 in
+    let blobs = (g.S.BlobSource.tells c.loop-below.source).blobs in
+    let after = (g.S.BlobSource.tells c.write_entry.new.source).blobs in
+    let works = g.W.FolderWriter.works in
+    let all = path_values c.args.entries.items in
+    let left = c.next.new.self.rest.items in
+    let steps : c.loop-below.below-iterator.rest.items ≡ (c.in-Some.below, c.in-Some.entry) ∷ left = search rules in
+    let so_far = subst (λ es. SoFar works blobs c.args.folder.now c.loop-below.folder c.args.path.now all (path_values es)) steps c.loop-below.invariant.so_far in
+    let at = c.as_str-in-loop-below.ensures.value ∙ c.in_ok-place.ensures ∙ ap (λ t. place_below c.args.path.now t) c.as_str.ensures.value in
+    rw (p.1, p.2) (
+      c.in-Some.below,
+      entry_value c.in-Some.entry,
+      is_among works c.args.path.now all c.args.folder.now c.loop-below.folder c.in-Some.below (entry_value c.in-Some.entry) (path_values left) so_far,
+      subst (λ q. FailsEntry works.refuses after q (entry_value c.in-Some.entry) c.in_err-write_entry.field-0.0) at c.in_err-write_entry.ensures.refused,
+    )
+
+pub returns-in_err-write_entry-clause-called : goal.returns-in_err-write_entry-clause-called
+returns-in_err-write_entry-clause-called g c =
+    called_on c.loop-below.invariant.called (called_exit c.from_residual-in_err-write_entry.ensures.1 c.in_err-write_entry.ensures.called)
+
+pub loop-below-preserved : goal.loop-below-preserved
+loop-below-preserved g c =
+    let blobs = (g.S.BlobSource.tells c.loop-below.source).blobs in
+    let works = g.W.FolderWriter.works in
+    let all = path_values c.args.entries.items in
+    let left = c.next.new.self.rest.items in
+    let steps : c.loop-below.below-iterator.rest.items ≡ (c.in-Some.below, c.in-Some.entry) ∷ left = search rules in
+    let so_far = subst (λ es. SoFar works blobs c.args.folder.now c.loop-below.folder c.args.path.now all (path_values es)) steps c.loop-below.invariant.so_far in
+    let at = c.as_str-in-loop-below.ensures.value ∙ c.in_ok-place.ensures ∙ ap (λ t. place_below c.args.path.now t) c.as_str.ensures.value in
+    record {
+      called = called_on c.loop-below.invariant.called (called_no ok_no_error (λ n. n) c.in_ok-write_entry.ensures.called);
+      so_far = next_one works c.args.path.now all c.args.folder.now c.loop-below.folder c.write_entry.new.folder c.in-Some.below (entry_value c.in-Some.entry) (path_values left)
+          c.as_str-in-loop-below.result.now c.write_entry.ensures.called.asked.asks.blobs at so_far c.in_ok-write_entry.ensures.made;
+    }
+
+pub returns-clause-made : goal.returns-clause-made
+returns-clause-made g c =
+    let blobs = (g.S.BlobSource.tells c.loop-below.source).blobs in
+    let works = g.W.FolderWriter.works in
+    let all = path_values c.args.entries.items in
+    let none : c.loop-below.below-iterator.rest.items ≡ [] = none_left c.loop-below.below-iterator.rest.items (let len = c.in-None.ensures.steps.0 in let ok = c.loop-below.below-iterator.rest.ok in omega (arith, len, ok)) in
+    all_done works c.args.path.now all c.args.folder.now c.loop-below.folder
+    (subst (λ es. SoFar works blobs c.args.folder.now c.loop-below.folder c.args.path.now all (path_values es)) none c.loop-below.invariant.so_far)
+
+pub returns-clause-called : goal.returns-clause-called
+returns-clause-called g c = called_no (λ n. n) ok_no_error c.loop-below.invariant.called

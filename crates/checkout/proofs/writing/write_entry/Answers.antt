@@ -1,0 +1,29 @@
+use Rattle.std.proofs.Common.{sym, subst, refl}
+use Rattle.tree.specs.FlatTree.{entry_value}
+use Rattle.checkout.specs.Folder.{Gains}
+use Rattle.checkout.specs.Folder.Written.{a_file, a_link}
+use Rattle.checkout.specs.Written.{MakesEntry}
+use Rattle.checkout.proofs.Entries.{where_ok}
+use Rattle.checkout.proofs.writing.write_entry.Goals as goal
+
+pub returns-in-Link-clause-made : goal.returns-in-Link-clause-made
+returns-in-Link-clause-made g c =
+    let works = g.W.FolderWriter.works in
+    let B = (g.S.BlobSource.tells c.args.source.now).blobs in
+    where_ok c.made_at-in-Link.result c.make_link-made.result c.made_at-in-Link.ensures.same c.make_link-made.ensures.made
+    (λ gains. subst (λ e. MakesEntry works B c.args.folder.now c.make_link-made.new.folder c.args.place.now (entry_value e)) (sym c.in-Link.is)
+    (record { written = a_link c.as_str.result.now; of_entry = c.as_str.ensures.value; gains = gains }))
+
+pub returns-in_ok-content-in-File-clause-made : goal.returns-in_ok-content-in-File-clause-made
+returns-in_ok-content-in-File-clause-made g c =
+    let works = g.W.FolderWriter.works in
+    let B = (g.S.BlobSource.tells c.fetch_content.new.source).blobs in
+    let old = c.args.folder.now in
+    let new = c.write_file-made.new.folder in
+    where_ok c.made_at-in-File.result c.write_file-made.result c.made_at-in-File.ensures.same c.write_file-made.ensures.made
+    (λ gains. subst (λ e. MakesEntry works B old new c.args.place.now (entry_value e)) (sym c.in-File.is)
+    (record {
+      written = a_file c.in_ok-content-in-File.content.items c.in-File.executable;
+      of_entry = (c.in_ok-content-in-File.ensures.told, refl);
+      gains = subst (λ b. Gains works old new c.args.place.now (a_file b c.in-File.executable)) c.deref.ensures.value gains;
+    }))

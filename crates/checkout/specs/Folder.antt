@@ -1,0 +1,38 @@
+-- A folder that was empty, and what was written into it since.
+use Rattle.std.specs.Prelude.{ℕ, List, [], ◌∷◌, ◌++◌, Bool}
+use Rattle.std.specs.declared.io.Error.{Error}
+
+-- what was written at a path: a folder, a file with its bytes and whether it is a program, or a link
+-- with its target
+pub data Written : Type 0 where
+  a_folder : Written
+  a_file : List ℕ → Bool → Written
+  a_link : List ℕ → Written
+
+-- The folder at a path had nothing in it, and then this was written, in this order, and nothing else.
+pub record FolderValue : Type 0 where
+  pub path : List ℕ
+  pub written : List (List ℕ × Written)
+
+abbrev pub empty_folder : List ℕ → FolderValue
+empty_folder path = record { path = path; written = [] }
+
+-- the folder with more in it
+abbrev pub with_written : List (List ℕ × Written) → FolderValue → FolderValue
+with_written more v = record v { written = v.written ++ more }
+
+-- What was done, and what was told. Only the calls that did it and were told it say so.
+pub record Works (Folder : Type 0) : Type 1 where
+  -- the folder has this and nothing else
+  pub has : Folder → FolderValue → Type 0
+  -- nothing could be made at the path, for this
+  pub refuses : List ℕ → Error → Type 0
+
+-- what the folder has becomes this and one thing more
+abbrev pub Gains : {F : Type 0} → Works F → F → F → List ℕ → Written → Type 0
+Gains works old new path w =
+    (v : FolderValue) → works.has old v → works.has new (with_written ((path, w) ∷ []) v)
+
+-- nothing is known of what was done and told
+abbrev pub nothing_known : {F : Type 0} → Works F
+nothing_known = record { has = λ _ _. Unit {0}; refuses = λ _ _. Unit {0} }

@@ -1,0 +1,81 @@
+-- Why a tree isn't written.
+use Rattle.std.specs.Prelude.{◌≡◌, ◌⊎◌, ℕ, Bool, List, [], Contains, Result, Err, string_bytes}
+use Rattle.std.specs.declared.io.Error.{Error}
+use Rattle.blob_digest.specs.Digest.{DigestValue}
+use Rattle.messages.specs.Path.{path_text}
+use Rattle.messages.specs.declared.node.Node.TheVariants.{File}
+use Rattle.blob_source.specs.Source.{Blobs, IsMissing, IsWrong}
+use Rattle.blob_source.specs.Told.{missing, wrong, malformed}
+use Rattle.tree.specs.declared.error.TreeError.{TreeError}
+use Rattle.tree.specs.declared.error.TreeError.TheVariants as trees
+use Rattle.tree.specs.Tree.{Name, Standing, a_leaf}
+use Rattle.tree.specs.Form.{NodeValue}
+use Rattle.tree.specs.FlatTree.{FlatValue}
+use Rattle.tree.specs.Unfolded.{IsUnfolded, IsDeep, IsFaultBelow}
+use Rattle.checkout.specs.Written.{place_below}
+use Rattle.checkout.specs.declared.error.CheckoutError.{CheckoutError}
+use Rattle.checkout.specs.declared.error.CheckoutError.TheVariants.{Missing, Wrong, Malformed}
+use Rattle.checkout.specs.declared.error.CheckoutError.TheVariants.{TooDeep, Fetch, Place, Memory}
+
+-- what the system refused at a path, with its error
+abbrev pub Refuses : Type 1
+Refuses = List ℕ → Error → Type 0
+
+-- why nothing was made at a path: the system's error is told, unless memory ran out
+abbrev pub FailsAt : {A T : Type 0} → List ℕ → Result T Error → CheckoutError A → Type 0
+FailsAt path made (Place p fault) = (string_bytes p ≡ path) × (made ≡ Err fault)
+FailsAt path made Memory = Unit {0}
+FailsAt path made e = ⊥
+
+-- why a content isn't had: nothing or other bytes are told under its digest, unless the source
+-- failed or memory ran out
+abbrev pub FailsContent : {A : Type 0} → Blobs → DigestValue → CheckoutError A → Type 0
+FailsContent B d (Missing e) = (e ≡ d) × IsMissing B d
+FailsContent B d (Wrong e) = (e ≡ d) × IsWrong B d
+FailsContent B d Fetch = Unit {0}
+FailsContent B d Memory = Unit {0}
+FailsContent B d e = ⊥
+
+-- why a tree isn't had: a Directory of it isn't told, or it is too deep, unless the source failed or
+-- memory ran out
+abbrev pub FailsTree : {A : Type 0} → Blobs → DigestValue → CheckoutError A → Type 0
+FailsTree B d (Missing e) = IsFaultBelow B d e (missing e)
+FailsTree B d (Wrong e) = IsFaultBelow B d e (wrong e)
+FailsTree B d (Malformed e) = IsFaultBelow B d e (malformed e)
+FailsTree B d (TooDeep path) = IsDeep B d [] path
+FailsTree B d Fetch = Unit {0}
+FailsTree B d Memory = Unit {0}
+FailsTree B d (Place p fault) = ⊥
+
+-- the errors that unfolding a tree may come to
+abbrev pub StopsUnfold : {A : Type 0} → TreeError A → Type 0
+StopsUnfold (trees.Absent path) = ⊥
+StopsUnfold (trees.Conflict path) = ⊥
+StopsUnfold e = Unit {0}
+
+-- why the system made nothing at a path
+abbrev pub FailsPlace : {A : Type 0} → Refuses → List ℕ → CheckoutError A → Type 0
+FailsPlace refuses place (Place p fault) = (string_bytes p ≡ place) × refuses place fault
+FailsPlace refuses place Memory = Unit {0}
+FailsPlace refuses place e = ⊥
+
+-- Why an entry isn't written: it is a file whose content isn't had, or the system refuses it there.
+abbrev pub FailsEntry : {A : Type 0} → Refuses → Blobs → List ℕ → Standing NodeValue
+    → CheckoutError A → Type 0
+FailsEntry refuses B place s e = FailsPlace refuses place e
+    ⊎ ((d : DigestValue) × (x : Bool) × (s ≡ a_leaf (File d x)) × FailsContent B d e)
+
+-- Why entries aren't written: one of them isn't.
+abbrev pub FailsEntries : {A : Type 0} → Refuses → Blobs → List ℕ → FlatValue → CheckoutError A
+    → Type 0
+FailsEntries refuses B folder entries e = (p : List Name) × (s : Standing NodeValue)
+    × Contains entries (p, s)
+    × FailsEntry refuses B (place_below folder (path_text p)) s e
+
+-- Why the tree under a digest isn't written: it isn't had, the folder isn't taken, or one of the
+-- tree's entries isn't written.
+abbrev pub FailsCheckout : {A : Type 0} → Refuses → Blobs → DigestValue → List ℕ → CheckoutError A
+    → Type 0
+FailsCheckout refuses B d folder e = FailsTree B d e ⊎ (FailsPlace refuses folder e
+    ⊎ ((entries : FlatValue) × IsUnfolded B d entries
+    × FailsEntries refuses B folder entries e))

@@ -1,0 +1,57 @@
+-- What is written of the tree that a source tells.
+use Rattle.std.specs.Prelude.{◌≡◌, ℕ, List, [], ◌∷◌, ◌++◌}
+use Rattle.blob_digest.specs.Digest.{DigestValue}
+use Rattle.messages.specs.Path.{path_text}
+use Rattle.messages.specs.declared.node.Node.TheVariants.{File, Link}
+use Rattle.blob_source.specs.Source.{Blobs, IsBlobUnder}
+use Rattle.tree.specs.Tree.{Standing, a_leaf, a_directory}
+use Rattle.tree.specs.Form.{NodeValue}
+use Rattle.tree.specs.FlatTree.{FlatValue}
+use Rattle.tree.specs.Unfolded.{IsUnfolded}
+use Rattle.checkout.specs.Folder.{Works, Written, FolderValue, with_written}
+use Rattle.checkout.specs.Folder.Written.{a_folder, a_file, a_link}
+
+-- the text of a path below a folder
+abbrev pub place_below : List ℕ → List ℕ → List ℕ
+place_below folder path = folder ++ 47 ∷ path
+
+-- What is written for an entry: for a directory a folder, for a file the content that is told under
+-- its digest and whether it is a program, for a link a link with its target.
+abbrev pub IsWrittenFor : Blobs → Standing NodeValue → Written → Type 0
+IsWrittenFor B a_directory a_folder = Unit {0}
+IsWrittenFor B (a_leaf (File d x)) (a_file b y) = IsBlobUnder B d b × (y ≡ x)
+IsWrittenFor B (a_leaf (Link t)) (a_link u) = u ≡ t
+IsWrittenFor B s w = ⊥
+
+-- each entry is written at its path below a folder, in order, and nothing else is
+abbrev pub AreWritten : Blobs → List ℕ → FlatValue → List (List ℕ × Written) → Type 0
+AreWritten B folder [] ws = ws ≡ []
+AreWritten B folder (e ∷ es) [] = ⊥
+AreWritten B folder (e ∷ es) (w ∷ ws) = (w.0 ≡ place_below folder (path_text e.0))
+    × IsWrittenFor B e.1 w.1 × AreWritten B folder es ws
+
+-- The folder has the entries of the tree that is told under a digest, and nothing else.
+pub record HoldsTree (has : FolderValue → Type 0) (B : Blobs) (d : DigestValue)
+    (folder : List ℕ) : Type 0 where
+  pub entries : FlatValue
+  pub unfolded : IsUnfolded B d entries
+  pub written : List (List ℕ × Written)
+  pub of_entries : AreWritten B folder entries written
+  pub holds : has (record { path = folder; written = written })
+
+-- ---- entry by entry
+
+-- one entry was written
+pub record MakesEntry {F : Type 0} (works : Works F) (B : Blobs) (old new : F) (place : List ℕ)
+    (s : Standing NodeValue) : Type 0 where
+  pub written : Written
+  pub of_entry : IsWrittenFor B s written
+  pub gains : (v : FolderValue) → works.has old v
+      → works.has new (with_written ((place, written) ∷ []) v)
+
+-- entries were
+pub record MakesEntries {F : Type 0} (works : Works F) (B : Blobs) (old new : F)
+    (folder : List ℕ) (entries : FlatValue) : Type 0 where
+  pub written : List (List ℕ × Written)
+  pub of_entries : AreWritten B folder entries written
+  pub gains : (v : FolderValue) → works.has old v → works.has new (with_written written v)

@@ -1,0 +1,72 @@
+use crate::writer::FolderWriter;
+use std::fs::OpenOptions;
+use std::io::{ErrorKind, Write};
+use std::os::unix::fs::{OpenOptionsExt, symlink};
+use std::rt::Files;
+use std::{fs, io};
+
+/// The permission bits of a file that is a program, before the process's mask.
+const PROGRAM: u32 = 0o777;
+
+/// The permission bits of another file.
+const PLAIN: u32 = 0o666;
+
+/// Folders of the system, as the program's handle reaches them.
+#[derive(Drop)]
+pub struct SystemWriter<'r, R>(pub &'r R);
+
+/// A folder of the system that was empty.
+#[derive(Drop)]
+pub struct SystemFolder;
+
+/// Whether a folder has no entry.
+fn is_empty<R: Files + Alloc>(rt: &R, path: &str) -> io::Result<bool> {
+    match fs::read_dir(&rt, path)?.next() {
+        None => Ok(true),
+        Some(Ok(_entry)) => Ok(false),
+        Some(Err(fault)) => Err(fault),
+    }
+}
+
+impl<'r, R: Files + Alloc> FolderWriter for SystemWriter<'r, R> {
+    type Folder = SystemFolder;
+
+    ghost use Rattle.checkout.specs.Folder.{nothing_known};
+
+    ghost works = { nothing_known };
+
+    fn take(&self, path: &str) -> io::Result<SystemFolder> {
+        match fs::create_dir(self.0, path) {
+            Ok(()) => Ok(SystemFolder),
+            Err(fault) if fault.kind() == ErrorKind::AlreadyExists => {
+                if is_empty(self.0, path)? {
+                    return Ok(SystemFolder);
+                }
+                Err(io::Error::from(ErrorKind::DirectoryNotEmpty))
+            }
+            Err(fault) => Err(fault),
+        }
+    }
+
+    fn make_folder(&self, _folder: &mut SystemFolder, path: &str) -> io::Result<()> {
+        fs::create_dir(self.0, path)
+    }
+
+    fn write_file(
+        &self,
+        _folder: &mut SystemFolder,
+        path: &str,
+        bytes: &[u8],
+        executable: bool,
+    ) -> io::Result<()> {
+        let mut options = OpenOptions::new();
+        options.write(true).create_new(true);
+        options.mode(if executable { PROGRAM } else { PLAIN });
+        let mut file = options.open(self.0, path)?;
+        file.write_all(bytes)
+    }
+
+    fn make_link(&self, _folder: &mut SystemFolder, path: &str, target: &str) -> io::Result<()> {
+        symlink(self.0, target, path)
+    }
+}

@@ -1,0 +1,43 @@
+ghost use Rattle.std.specs.Prelude.{IfErr, IfOk, OnOk};
+
+use std::io;
+
+/// What writes folders, files and links below a folder.
+pub trait FolderWriter {
+    /// A folder that was empty, and all that was written into it since.
+    type Folder: Drop;
+
+    ghost use Rattle.checkout.specs.Folder.{Works, Gains, empty_folder};
+    ghost use Rattle.checkout.specs.Folder.Written.{a_file, a_folder, a_link};
+
+    /// What may be said of what it did and told.
+    ghost works: { Works Self.Folder };
+
+    /// Takes a folder in which nothing stands. Where nothing stands at the path, it is made.
+    fn take(&self, path: &str) -> io::Result<Self::Folder>
+        ensures taken { IfOk result (λ folder. works.has folder (empty_folder path.now)) }
+        ensures refused { IfErr result (works.refuses path.now) };
+
+    /// Makes a folder where nothing stands.
+    fn make_folder(&self, folder: &mut Self::Folder, path: &str) -> io::Result<()>
+        ensures made { OnOk result (Gains works folder.old folder.new path.now a_folder) }
+        ensures refused { IfErr result (works.refuses path.now) };
+
+    /// Writes a file where nothing stands.
+    fn write_file(
+        &self,
+        folder: &mut Self::Folder,
+        path: &str,
+        bytes: &[u8],
+        executable: bool,
+    ) -> io::Result<()>
+        ensures made { OnOk result
+            (Gains works folder.old folder.new path.now (a_file bytes.now executable)) }
+        ensures refused { IfErr result (works.refuses path.now) };
+
+    /// Makes a symbolic link where nothing stands.
+    fn make_link(&self, folder: &mut Self::Folder, path: &str, target: &str) -> io::Result<()>
+        ensures made { OnOk result
+            (Gains works folder.old folder.new path.now (a_link target.now)) }
+        ensures refused { IfErr result (works.refuses path.now) };
+}

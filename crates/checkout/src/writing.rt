@@ -1,0 +1,180 @@
+ghost use Rattle.std.specs.Prelude.{◌≡◌, ◌↔◌, [], IfErr, IfOk, IsErrOf, OnOk, string_bytes};
+ghost use Rattle.blob_digest.specs.Digest.{DigestValue};
+ghost use Rattle.blob_source.specs.Called.{Called, Calls};
+ghost use Rattle.blob_source.specs.Source.{Asks, Blobs, IsBlobUnder};
+ghost use Rattle.tree.specs.FlatTree.{entry_value, path_values};
+ghost use Rattle.tree.specs.Unfolded.{ExplainsUnfold, IsUnfolded};
+ghost use Rattle.checkout.specs.Folder.{empty_folder};
+ghost use Rattle.checkout.specs.Written.{HoldsTree, MakesEntry, MakesEntries, place_below};
+ghost use Rattle.checkout.specs.Refused.{FailsAt, FailsContent, FailsEntry, FailsEntries};
+ghost use Rattle.checkout.specs.Refused.{FailsTree, FailsCheckout, StopsUnfold};
+
+use crate::error::CheckoutError;
+use crate::writer::FolderWriter;
+use blob_digest::Digest;
+use messages::Path;
+use std::alloc::{AllocError, Allocator};
+use std::io;
+use std::io::ErrorKind;
+use tree::{BlobSource, FetchError, Fetched, FlatEntry, FlatTree, TreeError, fetch_blob, unfold};
+
+/// What was made at a path, or why nothing was.
+fn made_at<A: Allocator, T: Drop>(
+    alloc: A,
+    path: &str,
+    made: io::Result<T>,
+) -> Result<T, CheckoutError<A>>
+    ensures same { IfOk result (λ value. made ≡ Ok value) }
+    ensures refused { IfErr result (FailsAt path.now made) }
+{
+    match made {
+        Ok(value) => Ok(value),
+        Err(fault) if fault.kind() == ErrorKind::OutOfMemory => Err(CheckoutError::Memory),
+        Err(fault) => Err(CheckoutError::Place {
+            path: String::from_str(alloc, path)?,
+            fault,
+        }),
+    }
+}
+
+/// The content with a digest. Refusals: `Missing` and `Wrong`.
+fn fetch_content<A: Allocator + Copy, S: BlobSource<A>>(
+    alloc: A,
+    digest: &Digest,
+    source: &mut S,
+) -> Result<Vec<u8, A>, CheckoutError<A>>
+    ensures told { IfOk result
+        (λ content. IsBlobUnder (S.tells source.new).blobs digest.now content.items) }
+    ensures refused { IfErr result (FailsContent (S.tells source.new).blobs digest.now) }
+    ensures called { Calls (Asks 1) (S.tells source.old) (S.tells source.new)
+        (IsErrOf result CheckoutError.Fetch) }
+{
+    match fetch_blob(alloc, source, digest) {
+        Ok(Fetched::Missing) => Err(CheckoutError::Missing(*digest)),
+        Ok(Fetched::Wrong) => Err(CheckoutError::Wrong(*digest)),
+        Ok(Fetched::Right(content)) => Ok(content),
+        Err(FetchError::Failed) => Err(CheckoutError::Fetch),
+        Err(FetchError::Memory) => Err(CheckoutError::Memory),
+    }
+}
+
+/// The error that one of unfolding a tree is.
+fn error_of<A: Allocator>(error: TreeError<A>) -> CheckoutError<A>
+    requires { StopsUnfold error }
+    ensures fails { (B : Blobs) (d : DigestValue)
+        → ExplainsUnfold B d [] error → FailsTree B d result }
+    ensures fetch { (result ≡ CheckoutError.Fetch) ↔ (error ≡ TreeError.Fetch) }
+{
+    match error {
+        TreeError::BlobMissing(digest) => CheckoutError::Missing(digest),
+        TreeError::BlobWrong(digest) => CheckoutError::Wrong(digest),
+        TreeError::BlobMalformed(digest) => CheckoutError::Malformed(digest),
+        TreeError::TooDeep(path) => CheckoutError::TooDeep(path),
+        TreeError::Fetch => CheckoutError::Fetch,
+        TreeError::Memory => CheckoutError::Memory,
+        TreeError::Absent(_) | TreeError::Conflict(_) => unreachable!(),
+    }
+}
+
+/// The tree with a digest. Refusals: `Missing`, `Wrong`, `Malformed` and `TooDeep`.
+fn read_tree<A: Allocator + Copy, S: BlobSource<A>>(
+    alloc: A,
+    root: &Digest,
+    source: &mut S,
+) -> Result<FlatTree<A>, CheckoutError<A>>
+    ensures told { IfOk result (IsUnfolded (S.tells source.new).blobs root.now) }
+    ensures refused { IfErr result (FailsTree (S.tells source.new).blobs root.now) }
+    ensures called { Called (S.tells source.old) (S.tells source.new)
+        (IsErrOf result CheckoutError.Fetch) }
+{
+    match unfold(alloc, root, source) {
+        Ok(tree) => Ok(tree),
+        Err(error) => Err(error_of(error)),
+    }
+}
+
+/// The place of a path below a folder.
+fn place_below<A: Allocator>(alloc: A, folder: &str, path: &str) -> Result<String<A>, AllocError>
+    ensures { IfOk result (λ place. string_bytes place ≡ place_below folder.now path.now) }
+{
+    format!(in alloc; "{folder}/{path}")
+}
+
+/// Writes what stands at a path of a tree.
+fn write_entry<A: Allocator + Copy, S: BlobSource<A>, W: FolderWriter>(
+    alloc: A,
+    writer: &W,
+    folder: &mut W::Folder,
+    place: &str,
+    entry: &FlatEntry<A>,
+    source: &mut S,
+) -> Result<(), CheckoutError<A>>
+    ensures made { OnOk result (MakesEntry W.works (S.tells source.new).blobs folder.old
+        folder.new place.now (entry_value entry.now)) }
+    ensures refused { IfErr result (FailsEntry W.works.refuses (S.tells source.new).blobs
+        place.now (entry_value entry.now)) }
+    ensures called { Called (S.tells source.old) (S.tells source.new)
+        (IsErrOf result CheckoutError.Fetch) }
+{
+    match entry {
+        FlatEntry::Dir => made_at(alloc, place, writer.make_folder(folder, place)),
+        FlatEntry::Link { target } => {
+            let made = writer.make_link(folder, place, target.as_str());
+            made_at(alloc, place, made)
+        }
+        FlatEntry::File { digest, executable } => {
+            let content = fetch_content(alloc, digest, source)?;
+            let made = writer.write_file(folder, place, &content, *executable);
+            made_at(alloc, place, made)
+        }
+    }
+}
+
+/// Writes the entries of a tree below a folder, each directory before what is in it.
+fn write_entries<A: Allocator + Copy, S: BlobSource<A>, W: FolderWriter>(
+    alloc: A,
+    writer: &W,
+    folder: &mut W::Folder,
+    path: &str,
+    entries: Vec<(Path<A>, FlatEntry<A>), A>,
+    source: &mut S,
+) -> Result<(), CheckoutError<A>>
+    ensures made { OnOk result (MakesEntries W.works (S.tells source.new).blobs folder.old
+        folder.new path.now (path_values entries.items)) }
+    ensures refused { IfErr result (FailsEntries W.works.refuses (S.tells source.new).blobs
+        path.now (path_values entries.items)) }
+    ensures called { Called (S.tells source.old) (S.tells source.new)
+        (IsErrOf result CheckoutError.Fetch) }
+{
+    for (below, entry) in entries {
+        let place = place_below(alloc, path, below.as_str())?;
+        write_entry(alloc, writer, folder, place.as_str(), &entry, source)?;
+    }
+    Ok(())
+}
+
+/// Writes the tree with a digest into a folder that isn't there or is empty: each directory, each
+/// file with its content and whether it is a program, each symbolic link, and nothing else. A file's
+/// content is fetched when its turn comes: what was written before a refusal stays. Refusals:
+/// `Missing`, `Wrong`, `Malformed` and `TooDeep` of the tree, and `Place` where the folder isn't
+/// empty or something can't be written.
+pub fn check_out<A: Allocator + Copy, S: BlobSource<A>, W: FolderWriter>(
+    alloc: A,
+    writer: &W,
+    path: &str,
+    root: &Digest,
+    source: &mut S,
+) -> Result<W::Folder, CheckoutError<A>>
+    ensures written { IfOk result (λ folder.
+        HoldsTree (W.works.has folder) (S.tells source.new).blobs root.now path.now) }
+    ensures refused { IfErr result
+        (FailsCheckout W.works.refuses (S.tells source.new).blobs root.now path.now) }
+    ensures called { Called (S.tells source.old) (S.tells source.new)
+        (IsErrOf result CheckoutError.Fetch) }
+{
+    let tree = read_tree(alloc, root, source)?;
+    let entries = tree.into_entries(alloc)?;
+    let mut folder = made_at(alloc, path, writer.take(path))?;
+    write_entries(alloc, writer, &mut folder, path, entries, source)?;
+    Ok(folder)
+}

@@ -1,0 +1,101 @@
+-- Why `build` ends without its line: the first fault, in the order jobs, server, digest, plan,
+-- connection, folder and work. Of a file, that it can't be read comes before what is wrong in its
+-- text.
+use Rattle.std.specs.Prelude.{◌≡◌, ◌⊎◌, ◌<◌, ℕ, true, List, length, codes, string_bytes}
+use Rattle.std.specs.declared.alloc.Global.{Global}
+use Rattle.std.specs.declared.string.String.{String}
+use Rattle.blob_digest.specs.Digest.{DigestValue}
+use Rattle.blob_source.specs.Source.{Telling}
+use Rattle.builder.specs.Lines.{place_text}
+use Rattle.builder.specs.Refused.{IsBuildFault}
+use Rattle.builder.specs.declared.fault.Fault.TheVariants.{Device}
+use Rattle.builder.specs.declared.fault.Place.{Place}
+use Rattle.builder.specs.declared.telling.Told.{Told}
+use Rattle.clap.specs.Words.{Row}
+use Rattle.command_lines.specs.CommandLine.{option_text}
+use Rattle.commands.specs.Faults.{IsDigestFault, IsFileFault, IsUnlikeWanted, error_of_file}
+use Rattle.commands.specs.Options.{IsValidServer}
+use Rattle.commands.specs.Places.{FailsOver, IsToldOver}
+use Rattle.commands.specs.Printed.{IsOfOptions, IsConnectedTo}
+use Rattle.commands.specs.Refusal.{FailsPlan, FailsServer, IsCommandFault, IsPrintFault}
+use Rattle.commands.specs.World.{Sight}
+use Rattle.commands.specs.declared.error.CommandError.{CommandError}
+use Rattle.commands.specs.declared.error.CommandError.TheVariants.{Memory, Process}
+use Rattle.plan.specs.Values.{PlanValue}
+use Rattle.remote.specs.Line.{ConnectionValue}
+use Rattle.remote.specs.declared.files.FileError.{FileError}
+use Rattle.text_verifier.specs.Refused.{IsSpelled}
+use Rattle.cli.specs.Built.{AsksBuild, IsNoted, NamesBuild, NamesJobs, StartsBuild, TellsAsked}
+use Rattle.cli.specs.Built.{any_yields, is_whole, jobs_of}
+
+-- the words name no number of jobs
+pub record FailsJobs (options : List Row) (e : CommandError) : Type 0 where
+  pub none : ¬ NamesJobs options
+  pub told : IsUnlikeWanted (codes "jobs") (codes "a number from 1 to 64")
+      (option_text options (codes "jobs")) e
+
+-- what they say of a server isn't valid
+pub record FailsServerWords (options : List Row) (e : CommandError) : Type 0 where
+  pub none : ¬ IsValidServer options (option_text options (codes "server"))
+  pub told : IsCommandFault e
+
+-- the folder at this path has something in it
+pub record HasEntries (sees : Sight) (path : List ℕ) (e : CommandError) : Type 0 where
+  pub names : List (List ℕ)
+  pub some : 0 < length names
+  pub listed : sees.lists path names
+  pub told : IsFileFault path e
+
+-- so it is, or it couldn't be read, or memory ran out
+abbrev pub FailsFolder : Sight → List ℕ → CommandError → Type 0
+FailsFolder sees path e = (e ≡ Memory) ⊎ (HasEntries sees path e
+    ⊎ ((f : FileError Global) × sees.fails path f × (e ≡ error_of_file f)))
+
+-- By what such a source told, a build of the plan ended at a step of which a process couldn't be run,
+-- or was ended by a signal. The error tells the step.
+pub record StopsAtProcess (source : Telling → Type 0) (most : ℕ) (plan : PlanValue)
+    (sources : DigestValue) (e : CommandError) : Type 0 where
+  pub told : Telling
+  pub source_is : ∥ source told ∥₁
+  pub place : Place
+  pub ended : IsBuildFault Global any_yields most plan sources told (Device place)
+  pub text : String Global
+  pub text_is : string_bytes text ≡ place_text plan.steps place
+  pub is : e ≡ Process text
+
+-- memory ran out, or a process was at fault, or the connection that stood so at first
+abbrev pub FailsTelling : ConnectionValue → ℕ → PlanValue → DigestValue → CommandError → Type 0
+FailsTelling start most plan sources e =
+    (e ≡ Memory) ⊎ (StopsAtProcess (IsToldOver start) most plan sources e ⊎ ∥ FailsOver start e ∥₁)
+
+-- what is asked for can be built, and a connection to the server was opened
+pub record ReachesServer (sees : Sight) (options : List Row) : Type 0 where
+  pub plan : PlanValue
+  pub sources : DigestValue
+  pub asks : AsksBuild sees options plan sources
+  pub start : ConnectionValue
+  pub opened : IsConnectedTo sees options start
+
+-- The first fault: what comes before it has none. That memory is wanting may come anywhere, and is
+-- told as that.
+pub data FailsBuild (sees : Sight) (options : List Row) (e : CommandError) : Type 0 where
+  in_memory : e ≡ Memory → FailsBuild sees options e
+  in_jobs : FailsJobs options e → FailsBuild sees options e
+  in_words : NamesJobs options → FailsServerWords options e → FailsBuild sees options e
+  in_digest : NamesBuild options
+      → IsDigestFault (codes "sources") (option_text options (codes "sources")) e
+      → FailsBuild sees options e
+  in_plan : NamesBuild options → IsSpelled (option_text options (codes "sources"))
+      → FailsPlan sees options e → FailsBuild sees options e
+  in_server : (plan : PlanValue) (sources : DigestValue) → AsksBuild sees options plan sources
+      → ∥ FailsServer sees (option_text options (codes "server"))
+      (option_text options (codes "prefix")) e ∥₁ → FailsBuild sees options e
+  in_folder : ReachesServer sees options → FailsFolder sees (option_text options (codes "work")) e
+      → FailsBuild sees options e
+  in_process : (plan : PlanValue) (sources : DigestValue) → StartsBuild sees options plan sources
+      → StopsAtProcess (IsOfOptions sees options) (jobs_of options) plan sources e
+      → FailsBuild sees options e
+  in_record : (told : Told Global) → TellsAsked sees options told → is_whole told ≡ true
+      → IsFileFault (option_text options (codes "record")) e → FailsBuild sees options e
+  in_output : (told : Told Global) → TellsAsked sees options told → IsNoted sees options told
+      → IsPrintFault e → FailsBuild sees options e

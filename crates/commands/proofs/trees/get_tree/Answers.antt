@@ -1,0 +1,14 @@
+use Rattle.std.proofs.Common.{subst}
+use Rattle.std.specs.Prelude.{IfOk}
+use Rattle.remote.specs.Remote.{connection_of}
+use Rattle.commands.specs.Places.{IsToldOver}
+use Rattle.commands.specs.Trees.{IsTreeGot}
+use Rattle.commands.proofs.trees.get_tree.Goals as goal
+
+pub returns-clause-got : goal.returns-clause-got
+returns-clause-got g c =
+    let sees = g.W.World.sees in
+    let old = g.O.Write.contents c.args.out.now in
+    let new = g.O.Write.contents c.get_over.new.out in
+    let source = IsToldOver (connection_of g.W.Link.Stream.flow c.args.remote) in
+    subst (λ f. IfOk c.get_over.result (IsTreeGot sees source c.args.digest.now f old new)) c.in_ok-folder.ensures.ok c.get_over.ensures.got

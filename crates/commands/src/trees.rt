@@ -1,0 +1,113 @@
+ghost use Rattle.std.specs.Prelude.{◌≡◌, IfErr, IfOk, OnErr, OnOk, string_bytes};
+ghost use Rattle.commands.specs.Places.{IsFresh, IsToldOver};
+ghost use Rattle.commands.specs.Status.{status_of};
+ghost use Rattle.commands.specs.Trees.{BeginsMissing, IsTreeGot, PrintsLack, missing_line};
+ghost use Rattle.remote.specs.Remote.{connection_of, telling_of};
+
+use crate::client::{Client, Origin};
+use crate::connecting::ServerOptions;
+use crate::error::CommandError;
+use crate::telling::write_bytes;
+use crate::world::World;
+use blob_digest::Digest;
+use checkout::CheckoutError;
+use remote::{Remote, Stream};
+use std::alloc::{AllocError, Global};
+use std::io::Write;
+use std::marker::Brand;
+use tree::FetchError;
+
+/// The line of a blob that a server lacks.
+fn missing_line(alloc: Global, digest: &Digest) -> Result<String, AllocError>
+    ensures { IfOk result (λ line. string_bytes line ≡ missing_line digest.now) }
+{
+    let text = digest.write_text(alloc)?;
+    format!(in alloc; "missing {text}\n")
+}
+
+/// Prints the line of a blob that the server lacks, where that is why a tree wasn't written; else
+/// the error says why.
+fn print_lack<S: Stream + Drop, K: Origin, O: Write>(
+    alloc: Global,
+    server: &ServerOptions,
+    client: &Client<S, K>,
+    error: CheckoutError<Global>,
+    out: &mut O,
+) -> Result<(), CommandError>
+    ensures printed { OnOk result
+        (PrintsLack error (O.contents out.old) (O.contents out.new)) }
+    ensures begun { OnErr result (BeginsMissing (O.contents out.old) (O.contents out.new)) }
+    ensures fault { IfErr result (λ e. status_of e ≡ 3) }
+{
+    match error {
+        CheckoutError::Missing(lacked) => {
+            let line = missing_line(alloc, &lacked)?;
+            write_bytes(out, line.as_bytes())?;
+            out.flush().map_err(CommandError::Output)
+        }
+        CheckoutError::Place { path, fault } => Err(CommandError::File { path, fault }),
+        CheckoutError::Fetch => Err(client.error(alloc, server, FetchError::Failed)?),
+        CheckoutError::Wrong(digest) => Err(CommandError::WrongBytes {
+            server: String::from_str(alloc, server.address.as_str())?,
+            digest: digest.write_text(alloc)?,
+        }),
+        CheckoutError::Malformed(digest) => Err(CommandError::Entry {
+            path: digest.write_text(alloc)?,
+            fault: "not a Directory",
+        }),
+        CheckoutError::TooDeep(path) => Err(CommandError::Entry {
+            path: String::from_str(alloc, path.as_str())?,
+            fault: "a path of more than 64 names",
+        }),
+        CheckoutError::Memory => Err(CommandError::Memory),
+    }
+}
+
+/// Writes a tree that comes over the marked connection.
+fn get_over<W: World, S: Stream + Drop, K: Origin, O: Write>(
+    alloc: Global,
+    world: &W,
+    server: &ServerOptions,
+    remote: Remote<S, Global>,
+    digest: &Digest,
+    folder: String,
+    out: &mut O,
+) -> Result<bool, CommandError>
+    requires start { K.start ≡ connection_of S.flow remote }
+    requires fresh { IsFresh (telling_of remote) }
+    ensures got { IfOk result (IsTreeGot W.sees (IsToldOver K.start) digest.now (string_bytes folder)
+        (O.contents out.old) (O.contents out.new)) }
+    ensures begun { OnErr result (BeginsMissing (O.contents out.old) (O.contents out.new)) }
+    ensures fault { IfErr result (λ e. status_of e ≡ 3) }
+{
+    let mut client: Client<S, K> = Client::new(remote);
+    match world.check_out(alloc, folder.as_str(), digest, &mut client) {
+        Ok(()) => Ok(true),
+        Err(error) => {
+            print_lack(alloc, server, &client, error, out)?;
+            Ok(false)
+        }
+    }
+}
+
+/// Writes the tree with the digest into a folder that isn't there or is empty, and answers whether
+/// the server has all of it. The line of a blob that it lacks is printed, and what was written
+/// before stays.
+pub(crate) fn get_tree<W: World, O: Write>(
+    alloc: Global,
+    world: &W,
+    server: &ServerOptions,
+    remote: Remote<W::Link, Global>,
+    digest: &Digest,
+    folder: &str,
+    out: &mut O,
+) -> Result<bool, CommandError>
+    requires fresh { IsFresh (telling_of remote) }
+    ensures got { IfOk result (IsTreeGot W.sees (IsToldOver (connection_of W.Link.flow remote))
+        digest.now folder.now (O.contents out.old) (O.contents out.new)) }
+    ensures begun { OnErr result (BeginsMissing (O.contents out.old) (O.contents out.new)) }
+    ensures fault { IfErr result (λ e. status_of e ≡ 3) }
+{
+    let folder = String::from_str(alloc, folder)?;
+    get_over::<W, W::Link, Brand, O>(alloc, world, server, remote, digest, folder, out)
+}

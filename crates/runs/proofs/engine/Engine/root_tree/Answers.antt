@@ -1,0 +1,62 @@
+use Rattle.std.proofs.Common.{sym, subst, length, IsSome}
+use Rattle.std.specs.List.{AllByRecursion}
+use Rattle.runs.specs.Engine.{EngineValue, IsEngine}
+use Rattle.runs.specs.Looking.{AreThere}
+use Rattle.plan.specs.Plan.{IsPlan}
+use Rattle.runs.proofs.Answered.{served_yes}
+use Rattle.runs.specs.Calls.{HaveAllFinished}
+use Rattle.runs.proofs.Standing.{stands_in}
+use Rattle.runs.proofs.Missing.{tells_missing, tells_conflict}
+use Rattle.verifier.proofs.Targets.{paths_of}
+use Rattle.runs.proofs.Ended.{lines_there, grafted_root, ok_map, err_map}
+use Rattle.tree.proofs.Learning.{learns_more}
+use Rattle.runs.proofs.engine.Engine.root_tree.Goals as goal
+
+pub graft_root-requires-clause-there : goal.graft_root-requires-clause-there
+graft_root-requires-clause-there g c =
+    let all = subst (AllByRecursion IsSome) c.deref.ensures.value (c.have_all_finished.ensures.0 c.if-not-have_all_finished.false) in
+    subst (λ (e : EngineValue). AreThere e e.plan.root_lines) c.self.view_is
+    (lines_there c.self.inside.finished.items (length c.self.inside.plan.steps) c.self.inside.plan.root_lines all (sym c.self.invariant.count) c.root.ensures.valid.root_lines.each)
+
+pub returns-clause-state : goal.returns-clause-state
+returns-clause-state g c =
+    let plan : IsPlan c.args.self.now.plan = subst (λ (e : EngineValue). IsPlan e.plan) c.self.view_is c.root.ensures.valid in
+    ok_map c.graft_root.result (λ f h. grafted_root (g.S.BlobSource.tells c.graft_root.new.source).blobs c.args.self.now f.root plan (subst IsEngine c.self.view_is c.self.invariant) (record { tree = h.0; together = h.1; same = h.2.root })) c.graft_root.ensures.told
+
+pub returns-clause-served : goal.returns-clause-served
+returns-clause-served g c =
+    let engine : IsEngine c.args.self.now = subst IsEngine c.self.view_is c.self.invariant in
+    let plan : IsPlan c.args.self.now.plan = subst (λ (e : EngineValue). IsPlan e.plan) c.self.view_is c.root.ensures.valid in
+    let told = (g.S.BlobSource.tells c.graft_root.new.source).blobs in
+    ok_map c.graft_root.result (λ f h. served_yes g.row.A.Denot told c.args.self.now f.root plan engine (grafted_root told c.args.self.now f.root plan engine (record { tree = h.0; together = h.1; same = h.2.root }))) c.graft_root.ensures.told
+
+pub returns-clause-missing : goal.returns-clause-missing
+returns-clause-missing g c =
+    let engine : IsEngine c.args.self.now = subst IsEngine c.self.view_is c.self.invariant in
+    let told = (g.S.BlobSource.tells c.graft_root.new.source).blobs in
+    err_map c.graft_root.result (λ why h. tells_missing g.row.A.Denot told c.args.self.now engine c.args.self.now.plan.root_lines why h) c.graft_root.ensures.faulty
+
+pub returns-clause-conflict : goal.returns-clause-conflict
+returns-clause-conflict g c =
+    let engine : IsEngine c.args.self.now = subst IsEngine c.self.view_is c.self.invariant in
+    let plan : IsPlan c.args.self.now.plan = subst (λ (e : EngineValue). IsPlan e.plan) c.self.view_is c.root.ensures.valid in
+    let told = (g.S.BlobSource.tells c.graft_root.new.source).blobs in
+    let paths = paths_of (length c.args.self.now.plan.steps) c.args.self.now.plan.root_lines plan.root_lines.each in
+    err_map c.graft_root.result (λ why h. tells_conflict g.row.A.Denot told c.args.self.now engine c.args.self.now.plan.root_lines paths why h) c.graft_root.ensures.faulty
+
+pub returns-clause-stands : goal.returns-clause-stands
+returns-clause-stands g c =
+    let told = (g.S.BlobSource.tells c.graft_root.new.source).blobs in
+    err_map c.graft_root.result (λ why h. stands_in g.row.A.Denot told c.args.self.now c.args.self.now.plan.root_lines why h) c.graft_root.ensures.faulty
+
+pub returns-clause-complete : goal.returns-clause-complete
+returns-clause-complete g c =
+    let all = subst (AllByRecursion IsSome) c.deref.ensures.value (c.have_all_finished.ensures.0 c.if-not-have_all_finished.false) in
+    let complete : HaveAllFinished c.args.self.now = subst HaveAllFinished c.self.view_is all in
+    ok_map c.graft_root.result (λ d h. complete) c.graft_root.ensures.told
+
+pub returns-clause-learned : goal.returns-clause-learned
+returns-clause-learned g c =
+    let all = subst (AllByRecursion IsSome) c.deref.ensures.value (c.have_all_finished.ensures.0 c.if-not-have_all_finished.false) in
+    let complete : HaveAllFinished c.args.self.now = subst HaveAllFinished c.self.view_is all in
+    learns_more (λ a h. (complete, h)) (λ n. n) c.graft_root.ensures.learned

@@ -1,0 +1,108 @@
+ghost use Rattle.std.specs.Prelude.{◌≡◌, ◌<◌, ◌≤◌, IsSome, None, Some, is_some};
+
+use std::io::{IsTerminal, Stderr, Write};
+
+/// How many milliseconds the line stands at least.
+const STANDS: u64 = 1000;
+
+/// A handle that may write to standard error.
+pub trait ErrorTerminal {
+    /// Standard error, if it is a terminal.
+    fn error_terminal(&self) -> Option<Stderr>;
+}
+
+impl ErrorTerminal for HostRuntime {
+    fn error_terminal(&self) -> Option<Stderr> {
+        let stderr = self.stderr();
+        stderr.is_terminal().then(|| stderr)
+    }
+}
+
+/// How many connections are open, and how many look-ups were hits so far.
+#[derive(Clone, Copy, PartialEq, Eq)]
+pub(crate) struct Status {
+    pub(crate) open: usize,
+    pub(crate) hits: u64,
+}
+
+/// The status in a line on a terminal, which is written over at most once a second. Without a
+/// terminal nothing is written. A terminal that can't be written is no fault.
+#[derive(Drop)]
+pub(crate) struct StatusLine {
+    terminal: Option<Stderr>,
+    // What stands in the line.
+    shown: Option<Status>,
+    // When another may be written, in milliseconds.
+    next: u64,
+    // When another is to be written; `u64::MAX` where the line says what is so.
+    due: u64,
+}
+
+impl StatusLine {
+    /// A line without a text.
+    pub(crate) fn new(terminal: Option<Stderr>) -> StatusLine
+        ensures terminal { result.terminal ≡ terminal }
+        ensures unwritten { result.shown ≡ None }
+    {
+        StatusLine {
+            terminal,
+            shown: None,
+            next: 0,
+            due: u64::MAX,
+        }
+    }
+
+    /// Whether there is a terminal.
+    pub(crate) fn has_terminal(&self) -> bool
+        ensures { result ≡ is_some self.now.terminal }
+    {
+        self.terminal.is_some()
+    }
+
+    /// When the line has to be written again.
+    pub(crate) fn due(&self) -> u64
+        ensures { result ≡ self.now.due }
+    {
+        self.due
+    }
+
+    /// Writes the status in place of the line's, unless it says that, or was written within the
+    /// second before.
+    pub(crate) fn show(&mut self, status: Status, now: u64)
+        ensures silent { self.old.terminal ≡ None → self.new ≡ self.old }
+        ensures rare { now < self.old.next → self.new.shown ≡ self.old.shown }
+        ensures shown { IsSome self.old.terminal → self.old.next ≤ now
+            → self.new.shown ≡ Some status }
+    {
+        let Some(terminal) = &mut self.terminal else {
+            return;
+        };
+        if self.shown == Some(status) {
+            self.due = u64::MAX;
+            return;
+        }
+        if now < self.next {
+            self.due = self.next;
+            return;
+        }
+        let Status { open, hits } = status;
+        let _ = write!(terminal, "\r{open} open, {hits} hits\x1b[K");
+        self.shown = Some(status);
+        self.next = now.saturating_add(STANDS);
+        self.due = u64::MAX;
+    }
+
+    /// Takes the line away, for what else is told there.
+    pub(crate) fn clear(&mut self)
+        ensures cleared { self.new.shown ≡ None }
+        ensures silent { self.old.terminal ≡ None → self.new.terminal ≡ None }
+    {
+        if self.shown.is_none() {
+            return;
+        }
+        if let Some(terminal) = &mut self.terminal {
+            let _ = write!(terminal, "\r\x1b[K");
+        }
+        self.shown = None;
+    }
+}
