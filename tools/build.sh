@@ -92,6 +92,24 @@ for it in "${order[@]}"; do
   fi
 done
 
+# About how long a crate's proof takes beside the others': the bytes of its text.
+declare -A size=()
+left=0
+for it in "${order[@]}"; do
+  size[$it]=$(find "$top/crates/$it" -path '*/out' -prune -o -type f -exec cat {} + | wc -c)
+  [ -n "${built[$it]+set}" ] || left=$((left + size[$it]))
+done
+# (the program's own crate is compiled with all that it stands on, which takes a tenth of the whole)
+left=$((left + left / 10))
+proved=0
+began=$SECONDS
+
+# `, about N minutes left`, once a minute shows how fast it goes.
+time_left() {
+  local passed=$((SECONDS - began))
+  [ "$passed" -lt 60 ] || [ "$proved" -eq 0 ] || echo ", about $((passed * left / proved / 60 + 1)) minutes left"
+}
+
 # Whether all that a crate stands on is built.
 is_ready() {
   local it
@@ -112,7 +130,7 @@ while [ "${#built[@]}" -lt "${#order[@]}" ]; do
     jobs=$(((lanes + 1) / 2))
     [ "$it" != "$first" ] || jobs=$lanes
     count=$((count + 1))
-    echo "buildcache: proving crate $count of $total: $it" >&2
+    echo "buildcache: proving crate $count of $total: $it$(time_left)" >&2
     where=in-room
     if [ -z "$place" ]; then
       where=in-place
@@ -132,13 +150,15 @@ while [ "${#built[@]}" -lt "${#order[@]}" ]; do
   for it in "${!running[@]}"; do
     if [ "${running[$it]}" = "$ended" ]; then
       built[$it]=1
+      proved=$((proved + size[$it]))
+      left=$((left - size[$it]))
       unset "running[$it]"
       [ "$place" != "$it" ] || place=''
     fi
   done
 done
 
-echo "buildcache: proving crate $total of $total: buildcache, and compiling it" >&2
+echo "buildcache: proving crate $total of $total: buildcache, and compiling it$(time_left)" >&2
 (cd "$top/crates/buildcache" && rt run --jobs "$lanes" -- --version) >"$log/program" 2>&1 || {
   cat "$log/program" >&2
   exit 1

@@ -4,8 +4,9 @@
 Steps that make a file, end with a code, name their program badly, make what is no output, read an input, are ended by
 a signal, and wait for each other; links and folders of folders at an output path, and what a step writes beside its
 files; lines whose directories merge, and that don't; trees that are fetched into a folder; the second build of a plan,
-which runs nothing; the `verify` of each record; folders that can't be those of the jobs; and builds over a server that
-cuts each reply in turn, or changes a byte of it. It prints a line for each row, and ends with status 1 where one failed.
+which runs nothing; the `verify` of each record; folders that can't be those of the jobs; what stands at the record's path;
+what is told of a text that can't be read; and builds over a server that cuts each reply in turn, or changes a byte of it.
+It prints a line for each row, and ends with status 1 where one failed.
 Nothing outside this machine is asked.
 """
 
@@ -66,7 +67,7 @@ class Builds:
     def one_step(self, words, reads=()):
         return self.plan([("mk", words, ["out"], reads)], ["a out mk out"])
 
-    def build(self, plan, sources=EMPTY.text(), jobs=1, spoil=lambda work: None, address=None, more=()):
+    def build(self, plan, sources=EMPTY.text(), jobs=1, spoil=lambda work: None, address=None, more=(), record="record"):
         """Builds a plan; the run, and the folder of its plan and its record. The folder of the jobs is spoilt first."""
         self.count += 1
         place = f"{self.work}/{self.count}"
@@ -74,14 +75,13 @@ class Builds:
         spoil(f"{place}/work")
         stores.write_file(f"{place}/plan", plan.encode())
         done = self.run("build", "--server", address or self.address, "--sources", sources, "--plan", f"{place}/plan",
-                        "--record", f"{place}/record", "--work", f"{place}/work", "--jobs", str(jobs), *more)
+                        "--record", f"{place}/{record}", "--work", f"{place}/work", "--jobs", str(jobs), *more)
         return done, place
 
     def expect(self, name, done, place, out, status):
         right = done.stdout == out.encode() and done.returncode == status
         right = right and os.path.exists(f"{place}/record") == (status == 0)
-        right = right and (harness.is_error(done.stderr) if status > 1 else done.stderr == b"")
-        self.rows.tell(name, right, done)
+        self.rows.tell(name, right and harness.is_told(done.stderr, status), done)
 
     def expect_built(self, name, done, place, root, steps=1, sources=EMPTY.text()):
         """That a plan was built, and that `verify` says yes to its record."""
@@ -101,7 +101,11 @@ class Builds:
 
 
 def record_of(place):
-    with open(f"{place}/record", "rb") as it:
+    return read(f"{place}/record")
+
+
+def read(path):
+    with open(path, "rb") as it:
         return it.read()
 
 
@@ -258,6 +262,58 @@ def rows_of_the_folder(builds):
     builds.expect("a folder that is gone once the first job has ended", done, place, "", 3)
 
 
+def rows_of_the_record(builds):
+    """What stands at the record's path: a file is replaced, through links, which stay; what is no file is told before a step
+    runs, and stays."""
+    plan = builds.one_step([*SHELL, "printf %s 123456789 > out"])
+    done, first = builds.build(plan)
+    builds.expect_built("nothing at the record's path", done, first, MADE)
+    for name, link in [("a file at the record's path", None), ("a link to a file", "kept"), ("a link to a link to a file", "two")]:
+
+        def lay(work, link=link):
+            place = os.path.dirname(work)
+            stores.write_file(f"{place}/{'kept' if link else 'record'}", b"old")
+            stores.write_file(f"{place}/{'kept' if link else 'record'}.new0", b"another's")
+            os.symlink("kept", f"{place}/two")
+            if link:
+                os.symlink(link, f"{place}/record")
+
+        done, place = builds.build(plan, spoil=lay)
+        builds.expect_built(name, done, place, MADE)
+        builds.rows.tell("and the record is the same", record_of(place) == record_of(first), record_of(place))
+        left = os.readlink(f"{place}/record") if os.path.islink(f"{place}/record") else None
+        builds.rows.tell("and a link stays", left == link, left)
+        kept = "kept" if link else "record"
+        beside = sorted(it for it in os.listdir(place) if it.startswith(kept))
+        builds.rows.tell("and nothing new beside it", beside == [kept, f"{kept}.new0"], beside)
+        builds.rows.tell("and what was beside it stays", read(f"{place}/{kept}.new0") == b"another's")
+    rows_of_no_record(builds)
+
+
+def rows_of_no_record(builds):
+    """Where no record can be written, that is told before a step runs."""
+    plan = builds.one_step([*SHELL, "exit 0"])
+    for name, make in [
+        ("a fifo at the record's path", os.mkfifo),
+        ("a folder at the record's path", os.mkdir),
+        ("a link to a device at the record's path", lambda path: os.symlink("/dev/null", path)),
+        ("a link that leads nowhere at the record's path", lambda path: os.symlink("nowhere", path)),
+    ]:
+        done, place = builds.build(plan, spoil=lambda work, make=make: make(f"{os.path.dirname(work)}/record"))
+        expect_no_record(builds, name, done, place, "record")
+        builds.rows.tell("and it stays", sorted(os.listdir(place)) == ["plan", "record", "work"], os.listdir(place))
+        builds.rows.tell("as it was", not os.path.isfile(f"{place}/record"))
+    done, place = builds.build(plan, record="none/record")
+    expect_no_record(builds, "a record in a folder that isn't there", done, place, "none/record")
+    builds.rows.tell("and the folder isn't made", not os.path.exists(f"{place}/none"))
+
+
+def expect_no_record(builds, name, done, place, record):
+    right = (done.stdout, done.returncode) == (b"", 3) and harness.is_error(done.stderr)
+    builds.rows.tell(name, right and f'"{place}/{record}"'.encode() in done.stderr, done)
+    builds.ran_nothing(place)
+
+
 def rows_of_replies(builds):
     """Two steps, one of the other's output, over a server that holds nothing of them: each reply is cut in turn, and a byte
     of each body changed. No build comes to another root, and none that didn't come to its root has a record."""
@@ -303,6 +359,40 @@ def rows_of_its_verify(builds, place):
         end = f" cause blob-wrong {name}/{len(body)}\n" if part == "cas" else "\n"
         right = told.returncode == 1 and told.stdout.startswith(b"no ") and told.stdout.endswith(end.encode())
         builds.rows.tell(f"a byte of its reply {number + 1} is changed: no", right, told)
+
+
+HINTS = [
+    ("a line that ends with CR LF", "buildplan 1\r\nroot\r\n", "line 1: ", "the line ends with CR LF"),
+    ("a blank at the end of a line", "buildplan 1\nroot \n", "line 2: ", "a blank ends the line"),
+    ("no newline at the end", "buildplan 1\nroot\nin a src b", "line 3: ", "the text has no newline at its end"),
+    ("a text that ends before its root", "buildplan 1\n", "line 2: ", "the text ends before it"),
+    ("a byte that isn't escaped", "buildplan 1\nroot\nin a src b+c\n", "line 3: ", "is escaped, a space as %20"),
+    ("a space that isn't escaped", "buildplan 1\nroot\nin a b src c\n", "line 3: ", "is escaped, a space as %20"),
+    ("an escape in lower case", "buildplan 1\nroot\nin a src %c3%a9\n", "line 3: ", "is escaped, a space as %20"),
+    ("a step that comes later", f"buildplan 1\nstep a {MADE}\nin b out c d\nstep c {MADE}\nroot\n", "line 3: ", "a later step has it"),
+    ("the step itself", f"buildplan 1\nstep a {MADE}\nin b out a d\nroot\n", "line 3: ", "the step itself has it"),
+    ("no step", f"buildplan 1\nstep a {MADE}\nin b out c d\nroot\n", "line 3: ", "no step has it"),
+]
+
+
+def rows_of_hints(builds):
+    """What is told of a plan that can't be read, or of a record: its line, and what may be wrong with it."""
+    for name, plan, line, hint in HINTS:
+        done, place = builds.build(plan)
+        builds.expect(name, done, place, "", 2)
+        told = f'"{place}/plan": {line}'.encode() in done.stderr and done.stderr.endswith(f"{hint}\n".encode())
+        builds.rows.tell("and the line is told, and what is wrong with it", told, done.stderr)
+    done, place = builds.build("buildplan 1\nroot\n")
+    stores.write_file(f"{place}/record", b"buildrecord 1\r\n")
+    words = ["--sources", EMPTY.text(), "--plan", f"{place}/plan", "--record", f"{place}/record", "--claim", EMPTY.text()]
+    told = builds.run("verify", "--server", builds.address, *words)
+    builds.rows.tell("a record that ends with CR LF", told.returncode == 2 and told.stderr.endswith(b"; the line ends with CR LF\n"), told)
+    stores.write_file(f"{place}/record", b"buildrecord 1\n")
+    told = builds.run("verify", "--store", f"{place}/none", *words[:-1], MADE)
+    note = f'note: "{place}/none": there is no such folder\n'.encode()
+    builds.rows.tell("a no over a store folder that isn't there is noted", (told.returncode, told.stderr) == (1, note), told)
+    told = builds.run("verify", "--store", f"{place}/work", *words[:-1], MADE)
+    builds.rows.tell("and over one that is there it isn't", (told.returncode, told.stderr) == (1, b""), told)
 
 
 def standing_at(folder):
@@ -380,6 +470,8 @@ def try_all(rows, program):
             rows_of_two_steps(builds)
             rows_of_merges(builds)
             rows_of_the_folder(builds)
+            rows_of_the_record(builds)
+            rows_of_hints(builds)
             rows_of_trees(builds)
             rows_of_replies(builds)
         finally:

@@ -88,8 +88,8 @@ def wrong_of(done, out, status, failed=None):
     """What is wrong with a run that has this output and this status where nothing fails, or None. (A line of an error is
     missing only where that is what couldn't be written.)"""
     if (done.stdout, done.returncode) == (out, status):
-        is_silent = status < 2 or failed in WRITES
-        return None if status > 1 and harness.is_error(done.stderr) or is_silent and done.stderr == b"" else done
+        is_unsaid = failed in WRITES and done.stderr == b""
+        return None if harness.is_told(done.stderr, status) or is_unsaid else done
     is_part = out.startswith(done.stdout) and (done.stdout != out or not out)
     return None if done.returncode == 3 and is_part and harness.is_error(done.stderr) else done
 

@@ -95,6 +95,12 @@ def is_error(told):
     return told.startswith(b"error: ") and told.endswith(b"\n") and told.count(b"\n") == 1
 
 
+def is_told(told, status):
+    """Whether standard error is what the status asks for: nothing with 0, at most a line of a note with 1, and else an error."""
+    is_note = told.startswith(b"note: ") and told.endswith(b"\n") and told.count(b"\n") == 1
+    return is_error(told) if status > 1 else told == b"" or status == 1 and is_note
+
+
 class Server:
     """The program's own server on a free port, with its errors where they are to go. At the end it is awaited where it serves so
     many connections, or else ended."""

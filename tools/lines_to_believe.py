@@ -15,6 +15,7 @@ ASIDE = {
     "commands": ["Children"],
     "eviction": ["Victims", "View"],
     "plan": ["Parts"],
+    "processes": ["Walking"],
     "runs": ["TwoSteps"],
     "tree": ["Comparing", "MergeParts", "Unfolding", "Visiting"],
     "verifier": ["Answers", "TwoSteps"],

@@ -351,7 +351,9 @@ def commands(folder, address):
 def try_commands(rows, program, folder, address, name):
     for words, output, status in commands(folder, address):
         told = harness.run(program, *words)
-        rows.tell(f"{words[0]} over {name}: status {status}", (told.stdout, told.returncode) == (output, status), told)
+        note = f"note: {address} has no blob {words[-1]}\n".encode() if status == 1 else b""
+        right = (told.stdout, told.returncode, told.stderr) == (output, status, note)
+        rows.tell(f"{words[0]} over {name}: status {status}", right, told)
 
 
 def try_clients(rows, program, folder):

@@ -15,6 +15,7 @@ first. The last line is 'N passed, M failed', and the status 1 where one failed.
 """
 
 import concurrent.futures
+import contextlib
 import os
 import re
 import subprocess
@@ -26,8 +27,30 @@ import mistakes
 from harness import words_of
 from prover import Workspace
 
-# What one check is taken to need of memory, in bytes.
+# What one check is taken to need of memory, in bytes; and those of the crates that were seen to take more.
 ROOM = 4_500_000_000
+ROOMS = {"commands": 6_500_000_000, "builder": 6_500_000_000}
+
+
+class Memory:
+    """Memory that checks side by side share: each begins once there is room for it."""
+
+    def __init__(self, size):
+        self.size = self.free = size
+        self.given_back = threading.Condition()
+
+    @contextlib.contextmanager
+    def taken(self, need):
+        need = min(need, self.size)
+        with self.given_back:
+            self.given_back.wait_for(lambda: self.free >= need)
+            self.free -= need
+        try:
+            yield
+        finally:
+            with self.given_back:
+                self.free += need
+                self.given_back.notify_all()
 
 
 class Judge:
@@ -247,13 +270,16 @@ def changed(top):
     return {it.split("/")[1] for it in ran.stdout.splitlines() if it.startswith("crates/")}
 
 
+def free_memory():
+    with open("/proc/meminfo", encoding="ascii") as it:
+        return next(int(line.split()[1]) * 1024 for line in it if line.startswith("MemAvailable:"))
+
+
 def lanes():
     fixed = os.environ.get("RT_JOBS", "")
     if fixed.isdigit() and int(fixed):
         return int(fixed)
-    with open("/proc/meminfo", encoding="ascii") as it:
-        free = next(int(line.split()[1]) * 1024 for line in it if line.startswith("MemAvailable:"))
-    return max(1, min(len(os.sched_getaffinity(0)), free // ROOM))
+    return max(1, min(len(os.sched_getaffinity(0)), free_memory() // ROOM))
 
 
 def in_order(workspace, crates):
@@ -267,15 +293,16 @@ def in_order(workspace, crates):
 
 def judge_all(judges, last):
     """Judges crates side by side, and none that isn't begun by then; those that were judged."""
-    telling, done = threading.Lock(), []
+    telling, done, memory = threading.Lock(), [], Memory(free_memory())
 
     def one(judge):
-        if time.time() > last:
-            return
-        try:
-            judge.run()
-        except Exception as fault:  # (whatever it is, the other crates are judged)
-            judge.fail_all(f"not tried: {type(fault).__name__}: {fault}")
+        with memory.taken(ROOMS.get(judge.crate, ROOM)):
+            if time.time() > last:
+                return
+            try:
+                judge.run()
+            except Exception as fault:  # (whatever it is, the other crates are judged)
+                judge.fail_all(f"not tried: {type(fault).__name__}: {fault}")
         with telling:
             done.append((judge, judge.tell()))
 

@@ -10,6 +10,7 @@ import os
 import signal
 import sys
 import tempfile
+import threading
 import unittest
 import unittest.mock
 
@@ -263,6 +264,23 @@ only=1 holes=0"""
 
     def test_a_function_of_which_nothing_is_told_fails(self):
         self.assertEqual(self.judge(pairs(HALF), "logic=not-proved"), {"half_of_nothing": "no line of the check tells of sizes::half"})
+
+    def test_checks_that_share_memory_wait_for_it(self):
+        memory, has_room = try_edits.Memory(10), threading.Event()
+
+        def take():
+            with memory.taken(6):
+                has_room.set()
+
+        with memory.taken(6):
+            waits = threading.Thread(target=take)
+            waits.start()
+            self.assertFalse(has_room.wait(0.1))
+        self.assertTrue(has_room.wait(5))
+        waits.join()
+        self.assertEqual(memory.free, 10)
+        with try_edits.Memory(10).taken(11):  # (what is more than all there is has all of it)
+            pass
 
     def test_no_crate_is_begun_once_the_time_is_up(self):
         self.keep("crates/small/mistakes/mistakes.edit", pairs(HALF))

@@ -28,6 +28,7 @@ of_message message.BadTree = cache.BadResult message.BadTree
 of_message (message.BadDigest e) = cache.BadResult (message.BadDigest e)
 of_message (message.BadText n) = cache.BadResult (message.BadText n)
 
+-- how a refusal by the blobs is told
 abbrev pub of_blob : BlobError → CacheError
 of_blob blob.HashDiffers = cache.HashDiffers
 of_blob blob.TooLarge = cache.TooLarge
@@ -36,6 +37,7 @@ of_blob blob.NotHeld = cache.NotHeld
 of_blob blob.NotPinned = cache.NotPinned
 of_blob blob.Memory = cache.Memory
 
+-- how a refusal by the results is told
 abbrev pub of_bounded : BoundedError → CacheError
 of_bounded bounded.Full = cache.Full
 of_bounded bounded.NotHeld = cache.NotHeld

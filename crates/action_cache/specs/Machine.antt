@@ -53,9 +53,11 @@ pub data Answer : Type 0 where
   refused : Refusal → Answer
 
 module _ {X : Type 0} where
+  -- what stands under the hash
   abbrev pub under : List ℕ → List (List ℕ × X) → Option X
   under h es = lookup (bytes_eq h) es
 
+  -- the entries under other hashes
   abbrev pub others_than : List ℕ → List (List ℕ × X) → List (List ℕ × X)
   others_than h es = filter (λ e. not (bytes_eq h e.0)) es
 
@@ -64,6 +66,7 @@ module _ {X : Type 0} where
   fronted h es = filter (λ e. bytes_eq h e.0) es ++ others_than h es
 
 module _ (reader : Reader) (s : CacheState) where
+  -- the bytes that are stored under a hash
   abbrev pub found : List ℕ → Option (List ℕ)
   found h = under h s.blobs
 
@@ -72,6 +75,7 @@ module _ (reader : Reader) (s : CacheState) where
   blob_is_pinned b =
       list_any (λ r. r.1.pinned && refers found reader r.1.bytes b.0) s.results
 
+  -- the state with these blobs
   abbrev pub with_blobs : List (List ℕ × List ℕ) → CacheState
   with_blobs bs = record {
     blobs = bs;
@@ -80,6 +84,7 @@ module _ (reader : Reader) (s : CacheState) where
     result_limit = s.result_limit;
   }
 
+  -- the state with these results
   abbrev pub with_results : List (List ℕ × Marked) → CacheState
   with_results rs = record {
     blobs = s.blobs;
@@ -88,6 +93,7 @@ module _ (reader : Reader) (s : CacheState) where
     result_limit = s.result_limit;
   }
 
+  -- the blobs when a new one has entered, if it can: it costs its length
   abbrev pub blobs_entered : List ℕ → List ℕ → Option (List (List ℕ × List ℕ))
   blobs_entered h bytes =
       enter blob_is_pinned (λ b. length b.1) s.limit (h, bytes) (others_than h s.blobs)
@@ -121,6 +127,7 @@ module _ (reader : Reader) (s : CacheState) where
       if nat_lt greatest_blob (length bytes) then (refused too_large, s)
       else (if bytes_eq (sha256 bytes) h then blob_stored h bytes else (refused hash_differs, s))
 
+  -- the look-up of what was found, which moves to the front
   abbrev pub got_blob : List ℕ → Option (List ℕ) → Answer × CacheState
   got_blob h None = (nothing, s)
   got_blob h (Some b) = (given b, with_blobs (fronted h s.blobs))
@@ -140,6 +147,7 @@ module _ (reader : Reader) (s : CacheState) where
     result_limit = s.result_limit;
   }
 
+  -- the look-up of what was found: it is used if it is complete, else left as it is
   abbrev pub got_result : List ℕ → Option Marked → Answer × CacheState
   got_result h None = (nothing, s)
   got_result h (Some r) =
@@ -150,6 +158,7 @@ module _ (reader : Reader) (s : CacheState) where
   abbrev pub get_result : List ℕ → Answer × CacheState
   get_result h = got_result h (under h s.results)
 
+  -- a pinned result has other bytes
   abbrev pub differs_pinned : List ℕ → Option Marked → Bool
   differs_pinned bytes None = false
   differs_pinned bytes (Some r) = r.pinned && not (bytes_eq r.bytes bytes)
@@ -177,6 +186,7 @@ module _ (reader : Reader) (s : CacheState) where
   why_incomplete bytes =
       option_map_or incomplete (first_fault found reader (outputs_of reader bytes)) not_held
 
+  -- what was found is pinned, if it is complete
   abbrev pub pinned_now : List ℕ → Option Marked → Answer × CacheState
   pinned_now h None = (refused not_held, s)
   pinned_now h (Some r) =
@@ -187,6 +197,7 @@ module _ (reader : Reader) (s : CacheState) where
   abbrev pub pin : List ℕ → Answer × CacheState
   pin h = pinned_now h (under h s.results)
 
+  -- what was found is unpinned, if it is pinned
   abbrev pub unpinned_now : List ℕ → Option Marked → Answer × CacheState
   unpinned_now h None = (refused not_pinned, s)
   unpinned_now h (Some r) =

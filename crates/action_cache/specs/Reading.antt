@@ -43,12 +43,15 @@ in_order u = record {
 unfoldable pub said_result : List ℕ → Result ActionResultValue MessageError
 said_result bytes = unordered bytes >>= λ u. action_result_of (in_order u)
 
+-- an output file, by the digest of its blob
 abbrev pub to_file : OutputFileValue → Reference
 to_file f = record { digest = f.digest; is_tree = false }
 
+-- an output directory, by the digest of its Tree
 abbrev pub to_tree : OutputDirectoryValue → Reference
 to_tree d = record { digest = d.tree; is_tree = true }
 
+-- a stream, if a blob holds it
 abbrev pub to_stream : Option DigestValue → List Reference
 to_stream None = []
 to_stream (Some d) = record { digest = d; is_tree = false } ∷ []
@@ -60,6 +63,7 @@ referred_to r =
     map to_file r.files ++ map to_tree r.directories ++ to_stream r.stdout.digest ++
     to_stream r.stderr.digest
 
+-- what a result refers to, if it is one
 abbrev pub referred_in : Result ActionResultValue MessageError → Option (List Reference)
 referred_in (Ok r) = Some (referred_to r)
 referred_in (Err e) = None
@@ -70,9 +74,11 @@ references_in bytes = referred_in (said_result bytes)
 
 -- ---- a Tree
 
+-- the digests of the blobs of these files
 abbrev pub digests_of_files : List FileNodeValue → List DigestValue
 digests_of_files files = map (λ f. f.digest) files
 
+-- those of the files in all these directories, in order
 abbrev pub files_below : List DirectoryValue → List DigestValue
 files_below [] = []
 files_below (d ∷ ds) = digests_of_files d.files ++ files_below ds
@@ -81,6 +87,7 @@ files_below (d ∷ ds) = digests_of_files d.files ++ files_below ds
 abbrev pub files_in_tree : TreeValue → List DigestValue
 files_in_tree t = files_below (t.root ∷ t.children)
 
+-- those of a Tree, if it is one
 abbrev pub files_told : Result TreeValue MessageError → Option (List DigestValue)
 files_told (Ok t) = Some (files_in_tree t)
 files_told (Err e) = None

@@ -17,6 +17,7 @@ pub record Reader : Type 0 where
   pub outputs : List ℕ → Option (List Reference)
   pub files : List ℕ → Option (List DigestValue)
 
+-- the first digest, or else the second
 abbrev pub first_given : Option DigestValue → Option DigestValue → Option DigestValue
 first_given None o = o
 first_given (Some d) o = Some d
@@ -25,6 +26,7 @@ first_given (Some d) o = Some d
 abbrev pub names_hash : List ℕ → DigestValue → Bool
 names_hash h d = not (is_empty d) && bytes_eq d.hash h
 
+-- what a result refers to; nothing where the bytes are none
 abbrev pub outputs_of : Reader → List ℕ → List Reference
 outputs_of reader bytes = unwrap_or (reader.outputs bytes) []
 
@@ -34,6 +36,7 @@ module _ (files : DigestValue → Option (List DigestValue)) where
   abbrev pub digests_by : Reference → List DigestValue
   digests_by r = r.digest ∷ (if r.is_tree then unwrap_or (files r.digest) [] else [])
 
+  -- the same of each reference, in order
   abbrev pub references_by : List Reference → List DigestValue
   references_by [] = []
   references_by (r ∷ rs) = digests_by r ++ references_by rs
@@ -46,20 +49,24 @@ module _ (found : List ℕ → Option (List ℕ)) where
   fault_in_tree d (Some fs) = find (λ f. not (is_held found f)) fs
 
   module _ (files : DigestValue → Option (List DigestValue)) where
+    -- what is wrong with a reference: the digest that is not held, or the Tree that does not decode
     abbrev pub fault_by : Reference → Option DigestValue
     fault_by r =
         if is_held found r.digest
         then (if r.is_tree then fault_in_tree r.digest (files r.digest) else None)
         else Some r.digest
 
+    -- the first such fault
     abbrev pub first_fault_by : List Reference → Option DigestValue
     first_fault_by [] = None
     first_fault_by (r ∷ rs) = first_given (fault_by r) (first_fault_by rs)
 
   module _ (reader : Reader) where
+    -- the digests of the files of a Tree, if it is held and decodes
     abbrev pub files_of : DigestValue → Option (List DigestValue)
     files_of d = option_and_then reader.files (blob_of found d)
 
+    -- what a reference stands for, by the blobs that are found
     abbrev pub digests_of : Reference → List DigestValue
     digests_of r = digests_by files_of r
 
@@ -67,6 +74,7 @@ module _ (found : List ℕ → Option (List ℕ)) where
     abbrev pub references : List Reference → List DigestValue
     references rs = references_by files_of rs
 
+    -- what is wrong with a reference, by the blobs that are found
     abbrev pub fault_of : Reference → Option DigestValue
     fault_of r = fault_by files_of r
 

@@ -20,6 +20,7 @@ state_of limit result_limit blobs results =
 abbrev pub moved_each : List DigestValue → List (List ℕ × Held) → List (List ℕ × Held)
 moved_each ds es = fold (λ l (d : DigestValue). moved_to_front bytes_eq d.hash l) es ds
 
+-- the store, each of the digests used in turn
 abbrev pub touched_each : Kept (List ℕ) → List DigestValue → Kept (List ℕ)
 touched_each s ds =
     record { entries = moved_each ds s.entries; limit = s.limit; overhead = s.overhead }

@@ -43,6 +43,7 @@ abbrev pub listed : {A : Type 0} → Option (Vec DigestValue A) → Option (List
 listed files = option_map (λ v. v.items) files
 
 module _ {A : Type 0} (trees : BTreeMap DigestValue (Option (Vec DigestValue A))) where
+  -- the Tree with the digest was read
   abbrev pub is_read : DigestValue → Bool
   is_read d = is_some (get digest_cmp trees d)
 

@@ -15,7 +15,7 @@ use Rattle.eviction.specs.Pinning.{repinned, is_stored, pins_of, all_pinned, all
 use Rattle.eviction.proofs.Entered.{entered_is}
 use Rattle.std.specs.Prelude.{◌==◌, ◌&&◌, ◌||◌, nat_lt, is_some}
 use Rattle.blob_digest.specs.Digest.{DigestValue, digest_of, empty_digest}
-use Rattle.blob_store.specs.Blobs.{AreBlobs, HasHash, found_in, held_under, all_held, hashes_of, is_empty, of_size, is_kept, is_held}
+use Rattle.blob_store.specs.Blobs.{AreBlobs, HasHash, found_in, held_under, all_held, hashes_of, is_empty, of_size, can_unpin, is_held}
 use Rattle.blob_store.specs.Storing.{used}
 use Rattle.eviction.proofs.Looks.{lookup_moved}
 use Rattle.std.specs.Cmp.Lexicographic.{nat_list_eq_equiv}
@@ -218,10 +218,10 @@ held_stored es (d ∷ ds) a = (elim (is_empty d) as (λ b. is_empty d ≡ b → 
     stored t h = sym (present (lookup (bytes_eq d.hash) es)) ∙ ap is_some (sym (found_is d.hash es)) ∙ held_is_found (found_in es) d t h
 
 -- each of the digests is pinned, but that of no bytes
-pub each_kept : (es : List (List ℕ × Held)) (ds : List DigestValue) → list_all (is_kept es) ds ≡ all_pinned bytes_eq es (hashes_of ds)
-unfolding is_kept
-each_kept es [] = refl
-each_kept es (d ∷ ds) = elim (is_empty d) as (λ b. ((b || nat_lt 0 (pins_of bytes_eq es d.hash)) && list_all (is_kept es) ds) ≡ all_pinned bytes_eq es (map (λ (x : DigestValue). x.hash) (cond (not b) (d ∷ filter (λ x. not (is_empty x)) ds) (filter (λ x. not (is_empty x)) ds)))) [
-  | true ↦ each_kept es ds
-  | false ↦ ap (λ y. nat_lt 0 (pins_of bytes_eq es d.hash) && y) (each_kept es ds)
+pub each_pinned : (es : List (List ℕ × Held)) (ds : List DigestValue) → list_all (can_unpin es) ds ≡ all_pinned bytes_eq es (hashes_of ds)
+unfolding can_unpin
+each_pinned es [] = refl
+each_pinned es (d ∷ ds) = elim (is_empty d) as (λ b. ((b || nat_lt 0 (pins_of bytes_eq es d.hash)) && list_all (can_unpin es) ds) ≡ all_pinned bytes_eq es (map (λ (x : DigestValue). x.hash) (cond (not b) (d ∷ filter (λ x. not (is_empty x)) ds) (filter (λ x. not (is_empty x)) ds)))) [
+  | true ↦ each_pinned es ds
+  | false ↦ ap (λ y. nat_lt 0 (pins_of bytes_eq es d.hash) && y) (each_pinned es ds)
 ]

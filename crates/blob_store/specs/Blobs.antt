@@ -16,6 +16,7 @@ is_empty d = (d.size == 0) && bytes_eq d.hash (sha256 [])
 abbrev pub hashes_of : List DigestValue → List (List ℕ)
 hashes_of ds = map (λ d. d.hash) (filter (λ d. not (is_empty d)) ds)
 
+-- the bytes, if there are any and they are so many
 abbrev pub of_size : ℕ → Option (List ℕ) → Option (List ℕ)
 of_size n None = None
 of_size n (Some b) = if length b == n then Some b else None
@@ -30,9 +31,11 @@ module _ (found : List ℕ → Option (List ℕ)) where
   abbrev pub blob_of : DigestValue → Option (List ℕ)
   blob_of d = of_size d.size (held_under d.hash)
 
+  -- the blob that a digest names is held
   abbrev pub is_held : DigestValue → Bool
   is_held d = is_some (blob_of d)
 
+  -- the blobs that the digests name are held
   abbrev pub all_held : List DigestValue → Bool
   all_held ds = list_all is_held ds
 
@@ -40,6 +43,7 @@ module _ (found : List ℕ → Option (List ℕ)) where
 abbrev pub plain : List (List ℕ × Held) → List (List ℕ × List ℕ)
 plain es = map (λ e. (e.0, e.1.bytes)) es
 
+-- the bytes that stand under a hash
 abbrev pub found_in : List (List ℕ × Held) → List ℕ → Option (List ℕ)
 found_in es h = lookup (bytes_eq h) (plain es)
 
@@ -54,5 +58,5 @@ HasHash None h = ⊤
 HasHash (Some b) h = sha256 b ≡ h
 
 -- the blob that a digest names is pinned, or has no bytes
-unfoldable pub is_kept : List (List ℕ × Held) → DigestValue → Bool
-is_kept es d = is_empty d || nat_lt 0 (pins_of bytes_eq es d.hash)
+unfoldable pub can_unpin : List (List ℕ × Held) → DigestValue → Bool
+can_unpin es d = is_empty d || nat_lt 0 (pins_of bytes_eq es d.hash)

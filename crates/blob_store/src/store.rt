@@ -7,7 +7,7 @@ ghost use Rattle.eviction.specs.Kept.{IsKept, total_cost, touched};
 ghost use Rattle.eviction.specs.Pinning.{CanPinMore, pins_of, is_stored, all_pinned};
 ghost use Rattle.eviction.specs.Pinning.{pinned_all, unpinned_all};
 ghost use Rattle.blob_store.specs.Blobs.{is_empty, is_held, all_held, held_under, hashes_of};
-ghost use Rattle.blob_store.specs.Blobs.{found_in, is_kept, AreBlobs, HasHash};
+ghost use Rattle.blob_store.specs.Blobs.{found_in, can_unpin, AreBlobs, HasHash};
 ghost use Rattle.blob_store.specs.Storing.{blob_put, used, refused_put, IsRefusal};
 ghost use Rattle.sha2.specs.Sha256.{sha256};
 
@@ -255,18 +255,18 @@ impl<A: Allocator + Copy> BlobStore<A> {
     }
 
     /// Whether the blob with the digest is pinned, or has no bytes.
-    #[tactic(auto, unfolding(crate::specs::Blobs::is_kept))]
-    fn is_kept(&self, digest: &Digest) -> bool
-        ensures { result ≡ is_kept self.now.entries digest.now }
+    #[tactic(auto, unfolding(crate::specs::Blobs::can_unpin))]
+    fn can_unpin(&self, digest: &Digest) -> bool
+        ensures { result ≡ can_unpin self.now.entries digest.now }
     {
         is_empty(digest, &self.no_bytes) || self.pins(&digest.hash()) > 0
     }
 
     /// Whether the blobs with the digests are all pinned. The digest of no bytes is left out.
     fn pins_all(&self, digests: &[Digest]) -> bool
-        ensures { result ≡ list_all (is_kept self.now.entries) digests.now }
+        ensures { result ≡ list_all (can_unpin self.now.entries) digests.now }
     {
-        digests.iter().all(|digest| self.is_kept(digest))
+        digests.iter().all(|digest| self.can_unpin(digest))
     }
 
     /// Pins each of the blobs, whose hashes are distinct, once less. The digest of no bytes is left

@@ -1,13 +1,15 @@
 -- What is said of a build by one runner is said of it by a runner that yields more.
-use Rattle.std.proofs.Common.{ℕ, inl, inr}
+use Rattle.std.proofs.Common.{ℕ}
 use Rattle.blob_digest.specs.Digest.{DigestValue}
 use Rattle.blob_source.specs.Source.{Telling}
 use Rattle.plan.specs.Values.{PlanValue}
 use Rattle.worker.specs.Outcomes.{Yields, YieldsNoMore}
 use Rattle.worker.proofs.Stopping.{built_by_within, led_within, refused_within}
 use Rattle.builder.specs.Built.{BuiltValue, IsBuilt}
-use Rattle.builder.specs.Refused.{IsBuildFault}
+use Rattle.builder.specs.Refused.{IsBuildError, IsBuildFault}
 use Rattle.builder.specs.Telling.{IsBuildTold}
+use Rattle.builder.specs.declared.error.BuildPlanError.{BuildPlanError}
+use Rattle.builder.specs.declared.error.BuildPlanError.TheVariants.{Opening, Step, Root}
 use Rattle.builder.specs.declared.fault.Fault.{Fault}
 use Rattle.builder.specs.declared.telling.Told.{Told}
 use Rattle.builder.specs.declared.telling.Told.TheVariants.{Built, Failed}
@@ -30,17 +32,16 @@ module _ (A : Type 0) (z y : Yields) (most : ℕ) (plan : PlanValue) (sources : 
     answered = h.answered;
   }
 
-  pub fault_within : (fault : Fault) → IsBuildFault A z most plan sources told fault → IsBuildFault A y most plan sources told fault
-  fault_within fault (inl h) = inl h
-  fault_within fault (inr (inl h)) = inr (inl h)
-  fault_within fault (inr (inr (inl h))) = inr (inr (inl (record {
+  error_within : (e : BuildPlanError A) → IsBuildError z most plan sources told e → IsBuildError y most plan sources told e
+  error_within (Opening e) h = h
+  error_within (Step e) h = record {
     opening = h.opening;
     first = h.first;
     opened = h.opened;
     still = h.still;
-    stands = (h.stands.0, h.stands.1, refused_within A z y told within h.stands.2, h.stands.3);
-  })))
-  fault_within fault (inr (inr (inr h))) = inr (inr (inr (record {
+    stands = refused_within A z y told within h.stands;
+  }
+  error_within (Root e) h = record {
     opening = h.opening;
     first = h.first;
     opened = h.opened;
@@ -51,8 +52,19 @@ module _ (A : Type 0) (z y : Yields) (most : ℕ) (plan : PlanValue) (sources : 
     complete = h.complete;
     asked = h.asked;
     stands = h.stands;
-  })))
+  }
+
+  pub fault_within : (fault : Fault) → IsBuildFault A z most plan sources told fault → IsBuildFault A y most plan sources told fault
+  fault_within fault h = record { error = h.error; stands = error_within h.error h.stands; is = h.is }
 
   pub told_within : (r : Told A) → IsBuildTold z most plan sources told r → IsBuildTold y most plan sources told r
   told_within (Built line noted directories) h = record { build = h.build; is = built_within h.build h.is; line_is = h.line_is; noted_is = h.noted_is; directories_are = h.directories_are }
-  told_within (Failed line) h = record { place = h.place; number = h.number; stands = fault_within _ h.stands; line_is = h.line_is }
+  told_within (Failed line why) h = record {
+    error = h.error;
+    stands = error_within h.error h.stands;
+    place = h.place;
+    number = h.number;
+    numbered = h.numbered;
+    line_is = h.line_is;
+    why_is = h.why_is;
+  }

@@ -12,10 +12,12 @@ use Rattle.worker.specs.declared.laid.LayoutError.{LayoutError}
 use Rattle.worker.specs.declared.laid.LayoutError.TheVariants as layouts
 use Rattle.worker.specs.declared.runner.RunError.{RunError}
 use Rattle.worker.specs.declared.runner.RunError.TheVariants as children
+use Rattle.builder.specs.declared.error.BuildPlanError.{BuildPlanError}
+use Rattle.builder.specs.declared.error.BuildPlanError.TheVariants as errors
 use Rattle.builder.specs.declared.fault.Fault.{Fault}
 use Rattle.builder.specs.declared.fault.Fault.TheVariants.{Refused, Fetch, Device, Memory}
 use Rattle.builder.specs.declared.fault.Place.{Place}
-use Rattle.builder.specs.declared.fault.Place.TheVariants.{Step}
+use Rattle.builder.specs.declared.fault.Place.TheVariants.{Step, Root}
 
 -- whatever is wrong with a message that is fetched has one number
 abbrev pub of_source : {A : Type 0} → Place → TreeError A → Fault
@@ -69,6 +71,12 @@ of_refusal place (refusals.Layout e) = of_layout place e
 of_refusal place (refusals.Run e) = of_run place e
 of_refusal place refusals.Fetch = Fetch place
 of_refusal place refusals.Memory = Memory
+
+-- of a build
+abbrev pub fault_of : {A : Type 0} → BuildPlanError A → Fault
+fault_of (errors.Opening error) = of_opening error
+fault_of (errors.Step error) = of_refusal (Step error.step) error.refusal
+fault_of (errors.Root error) = of_runs Root error
 
 -- it is no refusal with a number: the store or the runner failed, or memory ran out
 abbrev pub HasNoNumber : Fault → Type 0

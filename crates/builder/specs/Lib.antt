@@ -1,6 +1,7 @@
 pub mod Built
 pub mod Faults
 pub mod Lines
+pub mod Why
 pub mod Telling
 pub mod Refused
 pub mod Watched

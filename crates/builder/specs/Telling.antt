@@ -6,13 +6,16 @@ use Rattle.plan.specs.Record.{record_text}
 use Rattle.plan.specs.Values.{PlanValue}
 use Rattle.worker.specs.Outcomes.{Yields}
 use Rattle.worker.specs.Values.{blobs_of}
+use Rattle.builder.specs.declared.error.BuildPlanError.{BuildPlanError}
 use Rattle.builder.specs.declared.fault.Fault.TheVariants.{Refused}
 use Rattle.builder.specs.declared.fault.Place.{Place}
 use Rattle.builder.specs.declared.telling.Told.{Told}
 use Rattle.builder.specs.declared.telling.Told.TheVariants.{Built, Failed}
 use Rattle.builder.specs.Built.{BuiltValue, IsBuilt}
+use Rattle.builder.specs.Faults.{fault_of}
 use Rattle.builder.specs.Lines.{built_text, failed_text}
-use Rattle.builder.specs.Refused.{IsBuildFault}
+use Rattle.builder.specs.Refused.{IsBuildError}
+use Rattle.builder.specs.Why.{why_text}
 
 -- the line of a build that came to its root, its record's text, and the Directories that were made
 pub record TellsBuilt (A : Type 0) (yields : Yields) (most : ℕ) (plan : PlanValue)
@@ -24,18 +27,21 @@ pub record TellsBuilt (A : Type 0) (yields : Yields) (most : ℕ) (plan : PlanVa
   pub noted_is : noted ≡ record_text build.noted
   pub directories_are : directories ≡ build.directories
 
--- the line of the refusal that ended a build
+-- the line of the refusal that ended a build, and why, in words
 pub record TellsFailed (A : Type 0) (yields : Yields) (most : ℕ) (plan : PlanValue)
-    (sources : DigestValue) (told : Telling) (line : List ℕ) : Type 0 where
+    (sources : DigestValue) (told : Telling) (line why : List ℕ) : Type 0 where
+  pub error : BuildPlanError A
+  pub stands : IsBuildError yields most plan sources told error
   pub place : Place
   pub number : ℕ
-  pub stands : IsBuildFault A yields most plan sources told (Refused place number)
+  pub numbered : fault_of error ≡ Refused place number
   pub line_is : line ≡ failed_text plan.steps place number
+  pub why_is : why ≡ why_text plan.steps place error
 
 abbrev pub IsBuildTold : {A : Type 0} → Yields → ℕ → PlanValue → DigestValue → Telling → Told A
     → Type 0
 IsBuildTold {A} yields most plan sources told (Built line noted directories) =
     TellsBuilt A yields most plan sources told (string_bytes line) noted.items
     (blobs_of directories.items)
-IsBuildTold {A} yields most plan sources told (Failed line) =
-    TellsFailed A yields most plan sources told (string_bytes line)
+IsBuildTold {A} yields most plan sources told (Failed line why) =
+    TellsFailed A yields most plan sources told (string_bytes line) (string_bytes why)

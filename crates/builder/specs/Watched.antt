@@ -33,4 +33,4 @@ IsToldWhole steps (Some before) (Some after) = ((after ≡ before) × (steps ≡
 abbrev pub IsToldWholeOf : {A : Type 0} → Told A → ℕ → Option (List Progress)
     → Option (List Progress) → Type 0
 IsToldWholeOf (Built line noted directories) steps before after = IsToldWhole steps before after
-IsToldWholeOf (Failed line) steps before after = Unit {0}
+IsToldWholeOf (Failed line why) steps before after = Unit {0}

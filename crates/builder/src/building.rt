@@ -1,25 +1,22 @@
-ghost use Rattle.std.specs.Prelude.{◌≡◌, ◌⊎◌, ◌<◌, [], IfErr, IfOk, OnOk, length};
+ghost use Rattle.std.specs.Prelude.{◌≡◌, ◌<◌, IfErr, IfOk, IsErrOf, OnOk, length};
 ghost use Rattle.std.specs.Result.{IsErrAnd};
-ghost use Rattle.worker.specs.Counted.{Counts};
+ghost use Rattle.blob_source.specs.Called.{Called};
 ghost use Rattle.blob_source.specs.Sink.{KeepsRight};
-ghost use Rattle.blob_source.specs.Source.{AsksSome};
-ghost use Rattle.builder.specs.Faults.{IsRunnerFailure, IsStoreFailure};
 ghost use Rattle.builder.specs.Built.{IsBuilt, IsEnd, RanOrAsked, RanTo};
-ghost use Rattle.builder.specs.Refused.{FailsOpening, RefusesStep, RefusesRoot, IsBuildFault};
+ghost use Rattle.builder.specs.Faults.{IsRunnerFailure, IsStoreFailure, fault_of};
+ghost use Rattle.builder.specs.Refused.{IsBuildError};
 ghost use Rattle.builder.specs.Watched.{IsProgressOfPlan, IsToldWhole};
-ghost use Rattle.builder.specs.declared.fault.Fault.TheVariants as faults;
-ghost use Rattle.runs.specs.Calls.{HaveAllFinished, IsOpened};
-ghost use Rattle.worker.specs.Calls.{IsBuiltWith, running};
-ghost use Rattle.worker.specs.Stored.{HasNoneFinished, IsStored};
-ghost use Rattle.worker.specs.Watching.{IsProgress, IsUpToDate, IsWatched};
+ghost use Rattle.runs.specs.Calls.{HaveAllFinished, IsRootFault};
+ghost use Rattle.worker.specs.Counted.{Counts};
+ghost use Rattle.worker.specs.Watching.{IsWatched};
 
-use crate::fault::{Fault, Place, of_opening, of_refusal, of_runs};
+use crate::error::BuildPlanError;
 use blob_digest::Digest;
 use plan::{Plan, Record};
-use runs::Engine;
+use runs::{Engine, RunsError};
 use std::alloc::Allocator;
 use std::marker::Model;
-use tree::{BlobSink, Folded, Memo};
+use tree::{BlobSink, Folded, Memo, TreeError};
 use worker::{Runner, Watcher, build};
 
 /// What a build came to.
@@ -46,89 +43,27 @@ impl<A: Allocator> Model for Built<A> {
     } };
 }
 
-/// Opens an engine of the plan.
-fn open<A: Allocator + Copy, S: BlobSink<A>>(
-    alloc: A,
-    sources: Digest,
-    plan: Plan<A>,
-    sink: &mut S,
-) -> Result<Engine<A>, Fault>
-    ensures opened { IfOk result (IsOpened (S.tells sink.new).blobs plan sources) }
-    ensures refused { IfErr result (FailsOpening A plan (S.tells sink.new)) }
-    ensures asked { AsksSome (S.tells sink.old) (S.tells sink.new) }
-    ensures fetched { Counts (S.tells sink.old).failures (S.tells sink.new).failures
-        (IsErrAnd result IsStoreFailure) }
-{
-    match Engine::new(alloc, plan, sources, sink) {
-        Ok(engine) => Ok(engine),
-        Err(error) => Err(of_opening(&error)),
-    }
-}
-
-/// Builds by the engine.
-fn run<A: Allocator + Copy, S: BlobSink<A>, N: Runner<A>, W: Watcher>(
-    alloc: A,
-    engine: &mut Engine<A>,
-    sink: &mut S,
-    runner: &mut N,
-    watcher: &mut W,
-    jobs: usize,
-) -> Result<(), Fault>
-    requires some { 0 < jobs }
-    requires idle { running engine.old.jobs ≡ 0 }
-    ensures led { IsBuiltWith A (N.yields runner.old) (N.starts runner.old) (N.starts runner.new)
-        (S.tells sink.old) (S.tells sink.new) jobs engine.old engine.new }
-    ensures done { OnOk result (HaveAllFinished engine.new) }
-    ensures refused { IfErr result
-        (RefusesStep A (N.yields runner.old) jobs engine.old (S.tells sink.new)) }
-    ensures stored { OnOk result
-        (HasNoneFinished engine.old → IsStored (S.tells sink.new) engine.new) }
-    ensures alive { N.alive runner.new ≡ N.alive runner.old }
-    ensures right { KeepsRight (S.tells sink.old).blobs (S.tells sink.new).blobs }
-    ensures watched { IsWatched
-        (IsProgress A (N.yields runner.old) (S.tells sink.new) jobs engine.old)
-        (W.told watcher.old) (W.told watcher.new) }
-    ensures up_to_date { OnOk result
-        (IsUpToDate engine.old engine.new (W.told watcher.old) (W.told watcher.new)) }
-    ensures fetched { Counts (S.tells sink.old).failures (S.tells sink.new).failures
-        (IsErrAnd result IsStoreFailure) }
-    ensures device { IsErrAnd result IsRunnerFailure
-        → N.failures runner.old < N.failures runner.new }
-    ensures unfailed { OnOk result (N.failures runner.new ≡ N.failures runner.old) }
-{
-    match build(alloc, engine, sink, runner, watcher, jobs) {
-        Ok(()) => Ok(()),
-        Err(error) => Err(of_refusal(Place::Step(error.step), &error.refusal)),
-    }
-}
-
 /// The root and the record of an engine in which each step has finished.
 fn end<A: Allocator + Copy, S: BlobSink<A>>(
     alloc: A,
     engine: &Engine<A>,
     sink: &mut S,
-) -> Result<Built<A>, Fault>
+) -> Result<Built<A>, RunsError<A>>
     requires done { HaveAllFinished engine.now }
     ensures ended { IfOk result (IsEnd A engine.now (S.tells sink.new)) }
-    ensures refused { IfErr result (λ fault. (fault ≡ faults.Memory)
-        ⊎ RefusesRoot A engine.now (S.tells sink.new) fault) }
-    ensures asked { AsksSome (S.tells sink.old) (S.tells sink.new) }
-    ensures fetched { Counts (S.tells sink.old).failures (S.tells sink.new).failures
-        (IsErrAnd result IsStoreFailure) }
+    ensures refused { IfErr result (IsRootFault (S.tells sink.new).blobs engine.now) }
+    ensures called { Called (S.tells sink.old) (S.tells sink.new)
+        (IsErrOf result (RunsError.Source TreeError.Fetch)) }
 {
     let mut memo = Memo::new(alloc);
-    let Folded { root, directories } = match engine.root_tree(alloc, &mut memo, sink) {
-        Ok(tree) => tree,
-        Err(error) => return Err(of_runs(Place::Root, &error)),
-    };
-    match engine.record(alloc) {
-        Ok(Some(noted)) => Ok(Built {
+    let Folded { root, directories } = engine.root_tree(alloc, &mut memo, sink)?;
+    match engine.record(alloc)? {
+        Some(noted) => Ok(Built {
             root,
             directories,
             noted,
         }),
-        Ok(None) => unreachable!(),
-        Err(_e) => Err(Fault::Memory),
+        None => unreachable!(),
     }
 }
 
@@ -143,7 +78,7 @@ pub fn build_plan<A: Allocator + Copy, S: BlobSink<A>, N: Runner<A>, W: Watcher>
     runner: &mut N,
     watcher: &mut W,
     jobs: usize,
-) -> Result<Built<A>, Fault>
+) -> Result<Built<A>, BuildPlanError<A>>
     requires some { 0 < jobs }
     // Whatever it answers: the children that were started and the results that were put are those of
     // a build of the plan, from what the store told before. The root and the record are of that
@@ -157,9 +92,9 @@ pub fn build_plan<A: Allocator + Copy, S: BlobSink<A>, N: Runner<A>, W: Watcher>
     // on them is yes.
     ensures built { IfOk result
         (IsBuilt A (N.yields runner.old) jobs plan sources (S.tells sink.new)) }
-    // The fault is that of the plan, of a step or of the root, where that is refused.
+    // The error is that of the plan, of a step or of the root, where that is refused.
     ensures refused { IfErr result
-        (IsBuildFault A (N.yields runner.old) jobs plan sources (S.tells sink.new)) }
+        (IsBuildError (N.yields runner.old) jobs plan sources (S.tells sink.new)) }
     // Each child that was started was waited for.
     ensures alive { N.alive runner.new ≡ N.alive runner.old }
     ensures right { KeepsRight (S.tells sink.old).blobs (S.tells sink.new).blobs }
@@ -170,13 +105,14 @@ pub fn build_plan<A: Allocator + Copy, S: BlobSink<A>, N: Runner<A>, W: Watcher>
         (IsToldWhole (length plan.steps) (W.told watcher.old) (W.told watcher.new)) }
     // The store failed exactly where that is told, and the runner at least there.
     ensures fetched { Counts (S.tells sink.old).failures (S.tells sink.new).failures
-        (IsErrAnd result IsStoreFailure) }
-    ensures device { IsErrAnd result IsRunnerFailure
+        (IsErrAnd result (λ e. IsStoreFailure (fault_of e))) }
+    ensures device { IsErrAnd result (λ e. IsRunnerFailure (fault_of e))
         → N.failures runner.old < N.failures runner.new }
 {
-    let mut engine = open(alloc, sources, plan, sink)?;
-    run(alloc, &mut engine, sink, runner, watcher, jobs)?;
+    let mut engine = Engine::new(alloc, plan, sources, sink)?;
+    build(alloc, &mut engine, sink, runner, watcher, jobs)?;
     // A read for the prover: an engine is valid.
     let _ = engine.plan();
-    end(alloc, &engine, sink)
+    let built = end(alloc, &engine, sink)?;
+    Ok(built)
 }

@@ -1,8 +1,9 @@
 ghost use Rattle.std.specs.Prelude.{◌≡◌};
-ghost use Rattle.builder.specs.Faults.{of_layout, of_opening, of_refusal, of_run, of_runs, of_source};
-ghost use Rattle.builder.specs.Faults.{of_told};
+ghost use Rattle.builder.specs.Faults.{fault_of, of_layout, of_opening, of_refusal, of_run};
+ghost use Rattle.builder.specs.Faults.{of_runs, of_source, of_told};
 ghost use Rattle.builder.specs.declared.fault.Fault.TheVariants as faults;
 
+use crate::error::BuildPlanError;
 use runs::{OpenError, RunsError};
 use std::alloc::{AllocError, AllocFailed, Allocator};
 use thiserror::Error;
@@ -17,7 +18,7 @@ pub enum Place {
     Root,
 }
 
-/// Why a build has no root.
+/// Why a build has no root: the number of a refusal, or what has none.
 #[derive(Clone, Copy, Debug, PartialEq, Eq, Error)]
 pub enum Fault {
     /// The refusal with this number (docs/FORMATS.md).
@@ -51,7 +52,7 @@ impl<T: Drop> From<AllocFailed<T>> for Fault {
 }
 
 /// The fault of a Directory, a frame or a command that can't be read.
-pub(crate) fn of_source<A: Allocator>(place: Place, error: &TreeError<A>) -> Fault
+fn of_source<A: Allocator>(place: Place, error: &TreeError<A>) -> Fault
     ensures { result ≡ of_source place error.now }
 {
     match error {
@@ -62,7 +63,7 @@ pub(crate) fn of_source<A: Allocator>(place: Place, error: &TreeError<A>) -> Fau
 }
 
 /// The fault of an engine that isn't made.
-pub(crate) fn of_opening<A: Allocator>(error: &OpenError<A>) -> Fault
+fn of_opening<A: Allocator>(error: &OpenError<A>) -> Fault
     ensures { result ≡ of_opening error.now }
 {
     match error {
@@ -73,7 +74,7 @@ pub(crate) fn of_opening<A: Allocator>(error: &OpenError<A>) -> Fault
 }
 
 /// The fault of a call of the engine.
-pub(crate) fn of_runs<A: Allocator>(place: Place, error: &RunsError<A>) -> Fault
+fn of_runs<A: Allocator>(place: Place, error: &RunsError<A>) -> Fault
     ensures { result ≡ of_runs place error.now }
 {
     match error {
@@ -130,7 +131,7 @@ fn of_run<A: Allocator>(place: Place, error: &RunError<A>) -> Fault
 }
 
 /// The fault of a step.
-pub(crate) fn of_refusal<A: Allocator>(place: Place, refusal: &Refusal<A>) -> Fault
+fn of_refusal<A: Allocator>(place: Place, refusal: &Refusal<A>) -> Fault
     ensures { result ≡ of_refusal place refusal.now }
 {
     match refusal {
@@ -139,5 +140,16 @@ pub(crate) fn of_refusal<A: Allocator>(place: Place, refusal: &Refusal<A>) -> Fa
         Refusal::Run(error) => of_run(place, error),
         Refusal::Fetch => Fault::Fetch(place),
         Refusal::Memory => Fault::Memory,
+    }
+}
+
+/// The fault of a build.
+pub fn fault_of<A: Allocator>(error: &BuildPlanError<A>) -> Fault
+    ensures { result ≡ fault_of error.now }
+{
+    match error {
+        BuildPlanError::Opening(error) => of_opening(error),
+        BuildPlanError::Step(error) => of_refusal(Place::Step(error.step), &error.refusal),
+        BuildPlanError::Root(error) => of_runs(Place::Root, error),
     }
 }

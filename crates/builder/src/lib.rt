@@ -3,13 +3,16 @@
 #![tactic(auto)]
 
 mod building;
+mod error;
 mod fault;
 mod laws;
 mod line;
 mod telling;
+mod why;
 
 pub use building::{Built, build_plan};
-pub use fault::{Fault, Place};
+pub use error::BuildPlanError;
+pub use fault::{Fault, Place, fault_of};
 pub use laws::a_build_is_a_run;
 pub use line::{built_line, failed_line, place_text};
 pub use telling::{Told, tell_build};

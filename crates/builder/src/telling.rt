@@ -10,8 +10,9 @@ ghost use Rattle.builder.specs.Watched.{IsProgressOfPlan, IsToldWholeOf};
 ghost use Rattle.worker.specs.Watching.{IsWatched};
 
 use crate::building::{Built, build_plan};
-use crate::fault::Fault;
+use crate::fault::{Fault, fault_of};
 use crate::line::{built_line, failed_line};
+use crate::why::why_text;
 use blob_digest::Digest;
 use plan::{Plan, ReadError};
 use std::alloc::{AllocError, Allocator};
@@ -33,6 +34,8 @@ pub enum Told<A: Allocator> {
     /// A step or the root was refused.
     Failed {
         line: String<A>,
+        /// What was refused there, in words.
+        why: String<A>,
     },
 }
 
@@ -48,8 +51,9 @@ fn copy_of<A: Allocator + Copy>(alloc: A, plan: &Plan<A>) -> Result<Plan<A>, All
     }
 }
 
+#[tactic(auto, using(crate::proofs::Refusing::memory_told, crate::proofs::Refusing::ran_same))]
 /// Builds a plan, as `build_plan` does, and tells what it came to in a line; and in the text of the
-/// record, where it came to its root.
+/// record, where it came to its root, or in words, why it was refused.
 pub fn tell_build<A: Allocator + Copy, S: BlobSink<A>, N: Runner<A>, W: Watcher>(
     alloc: A,
     sources: &Digest,
@@ -64,7 +68,7 @@ pub fn tell_build<A: Allocator + Copy, S: BlobSink<A>, N: Runner<A>, W: Watcher>
     // a build of the plan, from what the store told before.
     ensures ran { RanOrAsked A (N.yields runner.old) jobs plan.now sources.now
         (N.starts runner.old) (N.starts runner.new) (S.tells sink.old) (S.tells sink.new) }
-    // The line and the record are those of such a build, or the line tells its refusal.
+    // The line and the record are those of such a build; or line and words tell its refusal.
     ensures told { IfOk result
         (IsBuildTold (N.yields runner.old) jobs plan.now sources.now (S.tells sink.new)) }
     // It fails where the store or the runner does, or memory runs out.
@@ -98,9 +102,12 @@ pub fn tell_build<A: Allocator + Copy, S: BlobSink<A>, N: Runner<A>, W: Watcher>
             noted: noted.write(alloc)?,
             directories,
         }),
-        Err(Fault::Refused(place, number)) => Ok(Told::Failed {
-            line: failed_line(alloc, plan, place, number)?,
-        }),
-        Err(fault) => Err(fault),
+        Err(error) => match fault_of(&error) {
+            Fault::Refused(place, number) => Ok(Told::Failed {
+                line: failed_line(alloc, plan, place, number)?,
+                why: why_text(alloc, plan, place, &error)?,
+            }),
+            fault => Err(fault),
+        },
     }
 }

@@ -10,12 +10,12 @@ use Rattle.action_cache.specs.Machine.{CacheState, Answer, given, opened, found,
 use Rattle.action_cache.specs.Reading.{by_messages}
 use Rattle.action_cache.proofs.Leading.{IsSound, leads_ask}
 use Rattle.action_cache.proofs.Asked.{sound_opened, hash_answered}
-use Rattle.cache_server.specs.Cache.{CacheValue, applied, step, reply_to}
+use Rattle.cache_server.specs.Cache.{CacheValue, step, reply_to}
 use Rattle.cache_server.specs.History.{HistoryEntry, CacheAfter}
 use Rattle.cache_server.specs.Laws.{AnswersItsHash}
 use Rattle.cache_server.specs.Answering.{answered, answered_all}
 use Rattle.cache_server.specs.Counts.{no_counts}
-use Rattle.cache_server.proofs.Serving.{ServesAll, cache_is}
+use Rattle.cache_server.proofs.Serving.{cache_is}
 
 sound_step : (s : CacheState) → IsSound by_messages s → (ask : AskValue) → IsSound by_messages (step s ask).1
 unfolding step

@@ -1,5 +1,5 @@
 -- A history is answered in one way.
-use Rattle.std.proofs.Common.{◌≡◌, ℕ, Bool, List, [], ◌∷◌, ◌++◌, refl, sym, ◌∙◌, ap, subst}
+use Rattle.std.proofs.Common.{◌≡◌, ℕ, List, [], ◌∷◌, ◌++◌, refl, sym, ◌∙◌, ap}
 use Rattle.std.proofs.lemmas.List.{append_cancel_left}
 use Rattle.http_core.specs.Event.{EventValue}
 use Rattle.http_core.proofs.Cutting.{cut_once}

@@ -1,13 +1,13 @@
 -- One request at a time.
 use Rattle.std.proofs.Common.{◌≡◌, ℕ, ◌+◌, ◌⊎◌, inl, inr, true, false, Option, Some, None, List, [], ◌∷◌, ◌++◌, take, drop, refl, sym, ◌∙◌, ap, subst, append_assoc, IsSome, Result, Ok, Err, OnErr, IfOk}
-use Rattle.std.specs.Prelude.{unwrap_or}
+use Rattle.std.specs.Prelude.{unwrap_or, option_to_list}
 use Rattle.std.specs.List.{AllByRecursion}
 use Rattle.std.proofs.lemmas.List.{append-nil}
 use Rattle.std.proofs.Math.Dec.{eqb}
 use Rattle.std.proofs.Math.Seq.{take-add}
 use Rattle.std.proofs.lemmas.Bool.Decides.{eqb_tells}
 use Rattle.http_core.specs.Event.{EventValue, IsValid}
-use Rattle.http_core.specs.Session.{SessionValue, IsClosed, if_any}
+use Rattle.http_core.specs.Session.{SessionValue, IsClosed}
 use Rattle.http_core.specs.Session as sessions
 use Rattle.cache_server.specs.Cache.{CacheValue}
 use Rattle.cache_server.specs.History.{HistoryEntry, Piece, Fail, stream_of, CacheAfter, Brings, AnswersTo}
@@ -76,7 +76,7 @@ fed_join a b c k x y t u f g = record {
   others = λ j n. g.others j n ∙ f.others j n;
 }
 
-answers_if_any : (old new : CacheValue) (event : Option EventValue) (text : Option (List ℕ)) → AnswersIfAny old event text new → ServesAll old (if_any event) (unwrap_or text []) new
+answers_if_any : (old new : CacheValue) (event : Option EventValue) (text : Option (List ℕ)) → AnswersIfAny old event text new → ServesAll old (option_to_list event) (unwrap_or text []) new
 answers_if_any old new None None e = subst (ServesAll old [] []) (sym e) (serves_none old)
 answers_if_any old new None (Some text) e = absurd e
 answers_if_any old new (Some event) None e = absurd e
@@ -88,11 +88,11 @@ fed_turn old k piece taken text new t =
     record {
       before = t.feeds.before;
       after = t.feeds.after;
-      events = if_any t.event;
+      events = option_to_list t.event;
       held = t.feeds.held;
       feeds = t.feeds.feeds.feeds;
       at = same k ∙ t.feeds.at;
-      answers = subst (λ z. ServesAll z (if_any t.event) (unwrap_or text []) new.cache) t.feeds.kept.cache (answers_if_any t.mid.cache new.cache t.event text t.answered);
+      answers = subst (λ z. ServesAll z (option_to_list t.event) (unwrap_or text []) new.cache) t.feeds.kept.cache (answers_if_any t.mid.cache new.cache t.event text t.answered);
       prefix = t.prefix ∙ t.feeds.kept.prefix;
       others = λ j n. same j ∙ t.feeds.kept.others j n;
     }
@@ -134,7 +134,7 @@ module _ (opening : CacheValue) (old mid new : ServerValue) (k : ℕ) (history :
   opened_answer piece taken text t =
       let f : HasFed mid k (take taken piece) (unwrap_or text []) new = fed_turn mid k piece taken text new t in
       let s : ServerStands opening mid history = stands_opened opening old mid k history opens stands in
-      let brings : Brings mid.prefix history (Piece k (take taken piece)) (if_any t.event) = (is_fed opening mid new k history (take taken piece) (unwrap_or text []) f s).gains in
+      let brings : Brings mid.prefix history (Piece k (take taken piece)) (option_to_list t.event) = (is_fed opening mid new k history (take taken piece) (unwrap_or text []) f s).gains in
       subst (λ p. IsOneAnswerTo p opening history (Piece k (take taken piece)) (unwrap_or text [])) opens.kept.prefix (t.event, mid.cache, new.cache, s.cache, brings, f.answers)
 
   pub opened_answers : (bytes text : List ℕ) → HasFed mid k bytes text new → AnswersTo old.prefix opening history (Piece k bytes) text

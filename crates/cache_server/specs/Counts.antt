@@ -1,9 +1,10 @@
 -- How many requests were answered, and how many look-ups found what they asked for.
-use Rattle.std.specs.Prelude.{ℕ, ◌+◌, ◌-◌, ◌==◌, ◌&&◌, not, min, Bool, true, false}
+use Rattle.std.specs.Prelude.{ℕ, ◌+◌, ◌-◌, ◌==◌, not, min, Bool, true, false}
 use Rattle.std.specs.Prelude.{if◌then◌else◌}
 use Rattle.http_core.specs.Event.{AskValue, Get, Put}
 use Rattle.cache_server.specs.declared.counts.Counts.{Counts}
 
+-- of a new cache
 abbrev pub no_counts : Counts
 no_counts = record { requests = 0; hits = 0; misses = 0 }
 
@@ -23,14 +24,10 @@ count_one hit miss c = record {
   misses = next_if miss c.misses;
 }
 
-abbrev pub is_look_up : AskValue → Bool
-is_look_up (Get area hash) = true
-is_look_up (Put area hash body) = false
-
 -- a request that was answered with this status: of a look-up 200 is a hit, and all else a miss
 abbrev pub count_ask : AskValue → ℕ → Counts → Counts
-count_ask ask status c =
-    count_one (is_look_up ask && status == 200) (is_look_up ask && not (status == 200)) c
+count_ask (Get area hash) status c = count_one (status == 200) (not (status == 200)) c
+count_ask (Put area hash body) status c = count_one false false c
 
 -- with what was counted from the earlier counts to the later
 abbrev pub with_later : Counts → Counts → Counts → Counts

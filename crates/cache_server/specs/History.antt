@@ -13,20 +13,20 @@ pub data HistoryEntry : Type 0 where
   Fail : ℕ → HistoryEntry
   End : ℕ → HistoryEntry
 
+-- the connection ends
 abbrev pub is_end : ℕ → HistoryEntry → Bool
-is_end k (Piece j bytes) = false
-is_end k (Fail j) = false
 is_end k (End j) = k == j
+is_end k other = false
 
+-- memory was lacking for the connection
 abbrev pub is_fail : ℕ → HistoryEntry → Bool
-is_fail k (Piece j bytes) = false
 is_fail k (Fail j) = k == j
-is_fail k (End j) = false
+is_fail k other = false
 
+-- what came over the connection
 abbrev pub bytes_over : ℕ → HistoryEntry → List ℕ
 bytes_over k (Piece j bytes) = if k == j then bytes else []
-bytes_over k (Fail j) = []
-bytes_over k (End j) = []
+bytes_over k other = []
 
 -- what comes after the last end of the connection
 unfoldable pub since_end : ℕ → List HistoryEntry → List HistoryEntry

@@ -17,6 +17,7 @@ pub record ServerValue : Type 0 where
   pub prefix : List ℕ
   pub sessions : List (ℕ × SessionValue)
 
+-- the session of the connection, if it has one
 abbrev pub session_at : ServerValue → ℕ → Option SessionValue
 session_at s k = lookup (is_at (nat_cmp k)) s.sessions
 

@@ -16,10 +16,12 @@ pub record IsNewSession (prefix : List ℕ) (session : SessionValue) : Type 0 wh
   pub prefixed : session.prefix ≡ prefix
   pub stands : sessions.Stands session [] []
 
+-- it is the held session, or a new one
 abbrev pub IsSessionFor : List ℕ → Option SessionValue → SessionValue → Type 0
 IsSessionFor prefix None session = IsNewSession prefix session
 IsSessionFor prefix (Some held) session = session ≡ held
 
+-- what was held is closed
 abbrev pub IsClosedAt : Option SessionValue → Option SessionValue → Type 0
 IsClosedAt None now = now ≡ None
 IsClosedAt (Some held) now =

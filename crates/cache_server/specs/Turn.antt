@@ -1,7 +1,7 @@
 -- One request at a time.
 use Rattle.std.specs.Prelude.{◌≡◌, ℕ, ◌<◌, ◌≤◌, List, length, Option, Some, None}
+use Rattle.std.specs.Prelude.{option_to_list}
 use Rattle.http_core.specs.Event.{EventValue}
-use Rattle.http_core.specs.Session.{if_any}
 use Rattle.cache_server.specs.Answering.{answered, answered_all}
 use Rattle.cache_server.specs.Cache.{CacheValue}
 use Rattle.cache_server.specs.History.{HistoryEntry, CacheAfter, Brings}
@@ -21,8 +21,8 @@ abbrev pub IsOneAnswerTo :
     List ℕ → CacheValue → List HistoryEntry → HistoryEntry → List ℕ → Type 0
 IsOneAnswerTo prefix opening history entry text =
     (event : Option EventValue) × (before : CacheValue) × (cache : CacheValue)
-    × CacheAfter prefix opening history before × Brings prefix history entry (if_any event)
-    × (answered_all before (if_any event) ≡ (text, cache))
+    × CacheAfter prefix opening history before × Brings prefix history entry (option_to_list event)
+    × (answered_all before (option_to_list event) ≡ (text, cache))
 
 -- Of a piece that isn't empty some bytes were taken, and all where there is no answer. An answer is
 -- one reply: a head, and a body at most.

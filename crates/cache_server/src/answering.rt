@@ -1,5 +1,5 @@
-ghost use Rattle.std.specs.Prelude.{IfErr, OnOk, []};
-ghost use Rattle.http_core.specs.Event.{events_of};
+ghost use Rattle.std.specs.Prelude.{IfErr, OnOk, [], map};
+ghost use Rattle.http_core.specs.Event.{event_of};
 ghost use Rattle.cache_server.specs.Writing.{StopsTelling, TellsBut};
 
 use crate::cache::Cache;
@@ -17,9 +17,9 @@ fn answer_all<A: Allocator + Copy, W: Write>(
     events: Vec<Event<A>, A>,
     writer: &mut W,
 ) -> Result<(), ConnError>
-    ensures ok { OnOk result (TellsBut cache.old (events_of events.items)
+    ensures ok { OnOk result (TellsBut cache.old (map event_of events.items)
         (W.contents writer.old) (W.contents writer.new) cache.new [] []) }
-    ensures err { IfErr result (StopsTelling cache.old (events_of events.items)
+    ensures err { IfErr result (StopsTelling cache.old (map event_of events.items)
         (W.contents writer.old) (W.contents writer.new) cache.new) }
 {
     for event in events {
@@ -37,9 +37,9 @@ pub(crate) fn answer_and_flush<A: Allocator + Copy, W: Write>(
     events: Vec<Event<A>, A>,
     writer: &mut W,
 ) -> Result<(), ConnError>
-    ensures ok { OnOk result (TellsBut cache.old (events_of events.items)
+    ensures ok { OnOk result (TellsBut cache.old (map event_of events.items)
         (W.contents writer.old) (W.contents writer.new) cache.new [] []) }
-    ensures err { IfErr result (StopsTelling cache.old (events_of events.items)
+    ensures err { IfErr result (StopsTelling cache.old (map event_of events.items)
         (W.contents writer.old) (W.contents writer.new) cache.new) }
 {
     match answer_all(alloc, cache, events, writer) {

@@ -1,6 +1,6 @@
 ghost use Rattle.std.specs.Prelude.{◌≡◌, ◌↔◌, List, ◌∷◌, ◌++◌, [], take, IfOk, OnErr, OnOk, None};
 ghost use Rattle.std.specs.Prelude.{IsSome, IsTrue, Some, option_map, unwrap_or};
-ghost use Rattle.http_core.specs.Event.{option_event};
+ghost use Rattle.http_core.specs.Event.{event_of};
 ghost use Rattle.cache_server.specs.Answer.{text_of};
 ghost use Rattle.cache_server.specs.Cache.{CacheValue};
 ghost use Rattle.cache_server.specs.History.{HistoryEntry, Piece, End, AnswersTo};
@@ -202,7 +202,7 @@ impl<A: Allocator + Copy> Server<A> {
     ) -> Result<(usize, Option<Event<A>>), AllocError>
         requires { IsSome (session_at self.old connection) }
         ensures ok { IfOk result (λ x.
-            FeedsFirstAt self.old connection piece.now x.0 (option_event x.1) self.new) }
+            FeedsFirstAt self.old connection piece.now x.0 (option_map event_of x.1) self.new) }
         ensures err { OnErr result (ClosesAt self.old connection self.new) }
     {
         if let Some(session) = self.sessions.get_mut(&connection) {

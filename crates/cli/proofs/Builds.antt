@@ -4,13 +4,14 @@ use Rattle.std.specs.Prelude.{codes}
 use Rattle.std.specs.Io.KnownBytes.{Appends}
 use Rattle.clap.specs.Words.{Row}
 use Rattle.command_lines.specs.CommandLine.{option_text}
-use Rattle.commands.specs.Places.{FailsOver, FailsToConnect, IsConnected}
+use Rattle.commands.specs.Places.{FailsOver, FailsToConnect, IsConnected, IsToldOver}
+use Rattle.commands.specs.Ended.{is_done}
+use Rattle.commands.specs.declared.ended.Ended.{Ended}
 use Rattle.commands.proofs.Placed.{of_options}
 use Rattle.commands.specs.Options.{IsValidServer}
-use Rattle.commands.specs.Printed.{IsConnectedTo}
+use Rattle.commands.specs.Printed.{IsConnectedTo, IsOfOptions}
 use Rattle.commands.specs.Refusal.{IsCommandFault, IsPrintFault}
 use Rattle.commands.specs.World.{Sight}
-use Rattle.commands.specs.declared.connecting.ServerOptions.{ServerOptions}
 use Rattle.commands.specs.declared.error.CommandError.{CommandError}
 use Rattle.commands.specs.declared.error.CommandError.TheVariants.{Words, Digest, Number, Text, Unlike, File}
 use Rattle.commands.specs.declared.error.CommandError.TheVariants.{NotAFile, TooLarge, Entry, Connection}
@@ -33,14 +34,15 @@ use Rattle.builder.specs.declared.telling.Told.TheVariants.{Built, Failed}
 use Rattle.plan.specs.Values.{PlanValue}
 use Rattle.remote.specs.Line.{ConnectionValue}
 use Rattle.worker.specs.Outcomes.{Yields}
-use Rattle.cli.specs.Built.{AsksBuild, HoldsRoot, IsNoted, IsToldOf, NamesJobs, PrintsBuild, TellsAsked, any_yields, is_whole, jobs_of, line_of}
+use Rattle.cli.specs.Built.{HoldsRoot, IsNoted, IsReadOf, IsToldOf, NamesJobs, PrintsBuild, StartsBuild, TellsAsked, any_yields, is_whole, jobs_of, line_of}
+use Rattle.cli.specs.declared.building.Asked.{Asked}
 use Rattle.cli.specs.Refused.{FailsBuild, FailsJobs, FailsTelling, ReachesServer, StopsAtProcess}
 use Rattle.cli.specs.Refused.FailsBuild.{in_jobs, in_memory, in_output, in_process, in_server, in_words}
 
 module _ (source : Telling → Type 0) (plan : PlanValue) (sources : DigestValue) (most : ℕ) (told : Telling) where
   of_any : (r : Told Global) → ∥ source told ∥₁ → IsBuildTold any_yields most plan sources told r → HoldsRoot source r → IsToldOf source most plan sources r
   of_any (Built line noted directories) by h root = (told, by, h, root)
-  of_any (Failed line) by h root = (told, by, h)
+  of_any (Failed line why) by h root = (told, by, h)
 
   pub told_of : (z : Yields) (r : Told Global) → ∥ source told ∥₁ → IsBuildTold z most plan sources told r → HoldsRoot source r → IsToldOf source most plan sources r
   told_of z r by h root = of_any r by (told_within Global z any_yields most plan sources told (λ l c p may. tt) r h) root
@@ -60,17 +62,12 @@ module _ (source : Telling → Type 0) (plan : PlanValue) (sources : DigestValue
 -- by what another kind of source told
 root_by : {P Q : Telling → Type 0} → ((told : Telling) → P told → Q told) → (r : Told Global) → HoldsRoot P r → HoldsRoot Q r
 root_by f (Built line noted directories) h = (h.0, ∥∥₁_map h.1 (f h.0), h.2)
-root_by f (Failed line) h = h
+root_by f (Failed line why) h = h
 
 pub told_by : {P Q : Telling → Type 0} → ((told : Telling) → P told → Q told) → (most : ℕ) (plan : PlanValue) (sources : DigestValue)
     → (r : Told Global) → IsToldOf P most plan sources r → IsToldOf Q most plan sources r
 told_by f most plan sources (Built line noted directories) h = (h.0, ∥∥₁_map h.1 (f h.0), h.2, root_by f (Built line noted directories) h.3)
-told_by f most plan sources (Failed line) h = (h.0, ∥∥₁_map h.1 (f h.0), h.2)
-
--- and as many jobs at once, by another name
-pub tells_by : {P Q : Telling → Type 0} → ((told : Telling) → P told → Q told) → (most jobs : ℕ) → most ≡ jobs → (plan : PlanValue) (sources : DigestValue)
-    → (r : Told Global) → IsToldOf P most plan sources r → IsToldOf Q jobs plan sources r
-tells_by {P} {Q} f most jobs is plan sources r h = subst (λ (n : ℕ). IsToldOf Q n plan sources r) is (told_by f most plan sources r h)
+told_by f most plan sources (Failed line why) h = (h.0, ∥∥₁_map h.1 (f h.0), h.2)
 
 stops_by : {P Q : Telling → Type 0} → ((told : Telling) → P told → Q told) → (most jobs : ℕ) → most ≡ jobs → (plan : PlanValue) (sources : DigestValue)
     → (e : CommandError) → StopsAtProcess P most plan sources e → StopsAtProcess Q jobs plan sources e
@@ -103,7 +100,7 @@ module _ (sees : Sight) (options : List Row) where
   words_fail (Unlike option wanted text) jobs is none = in_words jobs (record { none = none (λ h. cc); told = tt })
   words_fail Memory jobs is none = in_memory refl
   words_fail (Digest option text fault) jobs is none = absurd is
-  words_fail (Text path fault) jobs is none = absurd is
+  words_fail (Text path fault hint) jobs is none = absurd is
   words_fail (File path fault) jobs is none = absurd is
   words_fail (NotAFile path) jobs is none = absurd is
   words_fail (TooLarge path) jobs is none = absurd is
@@ -117,36 +114,38 @@ module _ (sees : Sight) (options : List Row) where
   words_fail (Random fault) jobs is none = absurd is
   words_fail (Output fault) jobs is none = absurd is
 
-  -- what was printed of a build, and whether it came to its root
-  pub printed_by : (old new : Option (List ℕ)) (result : Result Bool CommandError) (told : Told Global) → TellsAsked sees options told → IsNoted sees options told
-      → OnOk result (Appends old new (line_of told)) → IfOk result (λ whole. is_whole told ≡ whole) → IfOk result (λ whole. PrintsBuild sees options whole old new)
-  printed_by old new (Ok whole) told tells noted printed is = record { told = told; tells = tells; noted = noted; is = is; printed = printed }
-  printed_by old new (Err e) told tells noted printed is = tt
-
-  -- or that nothing could be printed
-  pub output_fails : (result : Result Bool CommandError) (told : Told Global) → TellsAsked sees options told → IsNoted sees options told
-      → IfErr result IsPrintFault → IfErr result (FailsBuild sees options)
-  output_fails (Ok whole) told tells noted fails = tt
-  output_fails (Err e) told tells noted fails = in_output told tells noted fails
-
-  module _ (plan : PlanValue) (sources : DigestValue) (asks : AsksBuild sees options plan sources) (server : ServerOptions) (address : string_bytes server.address ≡ option_text options (codes "server")) where
+  module _ (asked : Asked) (read : IsReadOf sees options asked) where
     -- the server couldn't be reached
-    pub connect_fails : (e : CommandError) → FailsToConnect sees (string_bytes server.address) e → FailsBuild sees options e
-    connect_fails e fails = in_server plan sources asks ∣ inl (subst (λ a. FailsToConnect sees a e) address fails) ∣₁
+    pub connect_fails : (e : CommandError) → FailsToConnect sees (string_bytes asked.server.address) e → FailsBuild sees options e
+    connect_fails e fails = in_server asked.plan asked.sources read.asks ∣ inl (subst (λ a. FailsToConnect sees a e) read.address fails) ∣₁
 
-    module _ (start : ConnectionValue) (host : server.host ≡ option_text options (codes "server")) (prefix : server.prefix ≡ option_text options (codes "prefix"))
-        (opened : IsConnected sees (string_bytes server.address) server.host server.prefix start) where
+    module _ (start : ConnectionValue) (opened : IsConnected sees (string_bytes asked.server.address) asked.server.host asked.server.prefix start) where
       opened_to : IsConnectedTo sees options start
-      opened_to = subst (λ (a : List ℕ). IsConnected sees a (option_text options (codes "server")) (option_text options (codes "prefix")) start) address
-          (subst (λ (h : List ℕ). IsConnected sees (string_bytes server.address) h (option_text options (codes "prefix")) start) host
-          (subst (λ (p : List ℕ). IsConnected sees (string_bytes server.address) server.host p start) prefix opened))
+      opened_to = subst (λ (a : List ℕ). IsConnected sees a (option_text options (codes "server")) (option_text options (codes "prefix")) start) read.address
+          (subst (λ (h : List ℕ). IsConnected sees (string_bytes asked.server.address) h (option_text options (codes "prefix")) start) read.host
+          (subst (λ (p : List ℕ). IsConnected sees (string_bytes asked.server.address) asked.server.host p start) read.prefix opened))
 
       pub reaches : ReachesServer sees options
-      reaches = record { plan = plan; sources = sources; asks = asks; start = start; opened = opened_to }
+      reaches = record { plan = asked.plan; sources = asked.sources; asks = read.asks; start = start; opened = opened_to }
 
-      -- or while the build was told there was a fault
-      pub telling_fails : (most : ℕ) → most ≡ jobs_of options → sees.lists (option_text options (codes "work")) [] → (e : CommandError) → FailsTelling start most plan sources e → FailsBuild sees options e
-      telling_fails most is empty e (inl memory) = in_memory memory
-      telling_fails most is empty e (inr (inl process)) =
-          in_process plan sources (record { asks = asks; empty = empty }) (stops_by (of_options sees options server start address host prefix opened) most (jobs_of options) is plan sources e process)
-      telling_fails most is empty e (inr (inr over)) = in_server plan sources asks (∥∥₁_map over (λ fails. inr (start, opened_to, fails)))
+      module _ (empty : sees.lists (option_text options (codes "work")) []) (fits : sees.takes (option_text options (codes "record"))) where
+        starts : StartsBuild sees options asked.plan asked.sources
+        starts = record { asks = read.asks; empty = empty; record_fits = fits }
+
+        by : (told : Telling) → IsToldOver start told → IsOfOptions sees options told
+        by = of_options sees options asked.server start read.address read.host read.prefix opened
+
+        -- what was told is of a build of what was asked for
+        pub tells_of : (told : Told Global) → IsToldOf (IsToldOver start) asked.jobs asked.plan asked.sources told → TellsAsked sees options told
+        tells_of told is = record {
+          plan = asked.plan;
+          sources = asked.sources;
+          starts = starts;
+          tells = subst (λ (n : ℕ). IsToldOf (IsOfOptions sees options) n asked.plan asked.sources told) read.jobs (told_by by asked.jobs asked.plan asked.sources told is);
+        }
+
+        -- or while the build was told there was a fault
+        pub telling_fails : (e : CommandError) → FailsTelling start asked.jobs asked.plan asked.sources e → FailsBuild sees options e
+        telling_fails e (inl memory) = in_memory memory
+        telling_fails e (inr (inl process)) = in_process asked.plan asked.sources starts (stops_by by asked.jobs (jobs_of options) read.jobs asked.plan asked.sources e process)
+        telling_fails e (inr (inr over)) = in_server asked.plan asked.sources read.asks (∥∥₁_map over (λ fails. inr (start, opened_to, fails)))

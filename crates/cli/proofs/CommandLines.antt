@@ -1,5 +1,5 @@
 -- What a command came to, said of the words.
-use Rattle.std.proofs.Common.{◌≡◌, ◌∙◌, ◌⊎◌, ◌<◌, ◌+◌, ap, arith, subst, sym, inl, inr, refl, Bool, true, false, ℕ, List, []}
+use Rattle.std.proofs.Common.{◌≡◌, ◌∙◌, ◌⊎◌, ◌<◌, ◌≤◌, ◌+◌, ap, arith, subst, sym, inl, inr, refl, Bool, true, false, ℕ, List, []}
 use Rattle.std.specs.Prelude.{codes, ◌↔◌, IsTrue, Option, Some, None, option_map, unwrap_or}
 use Rattle.std.specs.Option.{option_map_or}
 use Rattle.std.proofs.lemmas.Bool.{iff_false}
@@ -8,12 +8,17 @@ use Rattle.verifier.specs.Verdict.{IsYes}
 use Rattle.command_lines.specs.CommandLine.{CallsCommand, options_of, program_line}
 use Rattle.cli.specs.Refused.{FailsBuild}
 use Rattle.cli.specs.Ended.{Fails, IsDone, IsNo, WantsHelp, WantsVersion}
-use Rattle.cli.specs.Ended.Fails.{in_build, in_verify}
+use Rattle.cli.specs.Ended.Fails.{in_build, in_get, in_put, in_serve, in_verify}
 use Rattle.cli.specs.Ended.IsDone.{yes}
 use Rattle.cli.specs.Ended.IsNo.{no}
 use Rattle.commands.specs.Printed.{PrintsVerdict}
 use Rattle.commands.specs.Refusal.{FailsVerify}
 use Rattle.commands.specs.World.{Sight}
+use Rattle.commands.specs.Ended.{is_done}
+use Rattle.commands.specs.GetRefused.{FailsGet}
+use Rattle.commands.specs.PutRefused.{FailsPut}
+use Rattle.commands.specs.ServeRefused.{FailsServe}
+use Rattle.commands.specs.declared.ended.Ended.{Ended}
 use Rattle.clap.specs.declared.error.kind.ErrorKind.TheVariants.{DisplayHelp, DisplayVersion}
 use Rattle.commands.specs.Status.{status_of}
 use Rattle.commands.specs.declared.error.CommandError.{CommandError}
@@ -31,24 +36,33 @@ options_found None called rows is e = absurd (never e)
 options_found (Some p) called rows is e = ap (λ (o : Option (List Row)). unwrap_or o []) e ∙ ap (λ (o : Option (Text × List Row)). option_map_or (λ q. q.1) o []) is
 
 -- what was printed for some options, and whether it is yes
-abbrev pub IsAnswer : Sight → List Row → Option (List ℕ) → Option (List ℕ) → Bool → Type 0
-IsAnswer sees rows old new positive = (prints : PrintsVerdict sees rows old new) × (IsTrue positive ↔ IsYes prints.verdict)
+abbrev pub IsAnswer : Sight → List Row → Option (List ℕ) → Option (List ℕ) → Ended → Type 0
+IsAnswer sees rows old new ended = (prints : PrintsVerdict sees rows old new) × (IsTrue (is_done ended) ↔ IsYes prints.verdict)
 
-said : {sees : Sight} (words : List Text) {rows : List Row} {old new : Option (List ℕ)} {positive : Bool} → rows ≡ options_of words → IsAnswer sees rows old new positive → IsAnswer sees (options_of words) old new positive
-said {sees} words {rows} {old} {new} {positive} is h = subst (λ (options : List Row). IsAnswer sees options old new positive) is h
+said : {sees : Sight} (words : List Text) {rows : List Row} {old new : Option (List ℕ)} (ended : Ended) → rows ≡ options_of words → IsAnswer sees rows old new ended → IsAnswer sees (options_of words) old new ended
+said {sees} words {rows} {old} {new} ended is h = subst (λ (options : List Row). IsAnswer sees options old new ended) is h
 
 module _ {sees : Sight} (words : List Text) {rows : List Row} (is : rows ≡ options_of words) where
-  pub yes_done : {old new : Option (List ℕ)} {b : Bool} → CallsCommand words (codes "verify") → IsAnswer sees rows old new b → b ≡ true → IsDone sees words old new
-  yes_done called h true_is = let s = said words is h in yes called s.0 (s.1.0 true_is)
+  pub yes_done : {old new : Option (List ℕ)} (ended : Ended) → CallsCommand words (codes "verify") → IsAnswer sees rows old new ended → is_done ended ≡ true → IsDone sees words old new
+  yes_done ended called h true_is = let s = said words ended is h in yes called s.0 (s.1.0 true_is)
 
-  pub no_told : {old new : Option (List ℕ)} {b : Bool} → CallsCommand words (codes "verify") → IsAnswer sees rows old new b → b ≡ false → IsNo sees words old new
-  no_told called h false_is = let s = said words is h in no called s.0 (iff_false s.1 false_is)
+  pub no_told : {old new : Option (List ℕ)} (ended : Ended) → CallsCommand words (codes "verify") → IsAnswer sees rows old new ended → is_done ended ≡ false → IsNo sees words old new
+  no_told ended called h false_is = let s = said words ended is h in no called s.0 (iff_false s.1 false_is)
 
   pub verify_fails : (e : CommandError) → CallsCommand words (codes "verify") → FailsVerify sees rows e → Fails sees words e
   verify_fails e called h = in_verify called (subst (λ (o : List Row). FailsVerify sees o e) is h)
 
   pub build_fails : (e : CommandError) → CallsCommand words (codes "build") → FailsBuild sees rows e → Fails sees words e
   build_fails e called h = in_build called (subst (λ (o : List Row). FailsBuild sees o e) is h)
+
+  pub put_fails : (e : CommandError) → CallsCommand words (codes "put") → FailsPut sees rows e → Fails sees words e
+  put_fails e called h = in_put called (subst (λ (o : List Row). FailsPut sees o e) is h)
+
+  pub get_fails : (e : CommandError) → CallsCommand words (codes "get") → FailsGet sees rows e → Fails sees words e
+  get_fails e called h = in_get called (subst (λ (o : List Row). FailsGet sees o e) is h)
+
+  pub serve_fails : (e : CommandError) → CallsCommand words (codes "serve") → FailsServe sees rows e → Fails sees words e
+  serve_fails e called h = in_serve called (subst (λ (o : List Row). FailsServe sees o e) is h)
 
 -- words that call a command ask for no help
 pub no_help : (words : List Text) → fault_of program_line words ≡ [] → WantsHelp words → ⊥
@@ -65,7 +79,7 @@ status_is : (e : CommandError) → (status_of e ≡ 2) ⊎ (status_of e ≡ 3)
 status_is (Words text) = inl refl
 status_is (Digest option text fault) = inl refl
 status_is (Number option greatest text) = inl refl
-status_is (TextFault path fault) = inl refl
+status_is (TextFault path fault hint) = inl refl
 status_is (Unlike option wanted text) = inl refl
 status_is (File path fault) = inr refl
 status_is (NotAFile path) = inr refl
@@ -94,3 +108,11 @@ no_answer s e is lt = go (status_is e)
     go : (status_of e ≡ 2) ⊎ (status_of e ≡ 3) → ⊥
     go (inl two) = absurd (not_less 0 (subst (λ n. n < 2) (is ∙ two) lt))
     go (inr three) = absurd (not_less 1 (subst (λ n. n < 2) (is ∙ three) lt))
+
+-- the status of an answer is less than that of a refusal
+pub answer_status : (b : Bool) (s : ℕ) → ((s ≡ 0) ↔ (b ≡ true)) → ((s ≡ 1) ↔ (b ≡ false)) → s < 2
+answer_status true s zero one = subst (λ n. n < 2) (sym (zero.1 refl)) (omega arith)
+answer_status false s zero one = subst (λ n. n < 2) (sym (one.1 refl)) (omega arith)
+
+pub not_refused : (s : ℕ) → s < 2 → 2 ≤ s → ⊥
+not_refused s few many = omega arith

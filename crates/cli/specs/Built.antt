@@ -6,6 +6,7 @@ use Rattle.std.specs.declared.alloc.Global.{Global}
 use Rattle.blob_digest.specs.Digest.{DigestValue}
 use Rattle.blob_source.specs.Source.{Telling}
 use Rattle.builder.specs.Telling.{TellsBuilt, TellsFailed}
+use Rattle.cli.specs.declared.building.Asked.{Asked}
 use Rattle.builder.specs.declared.telling.Told.{Told}
 use Rattle.builder.specs.declared.telling.Told.TheVariants.{Built, Failed}
 use Rattle.clap.specs.Words.{Row}
@@ -27,7 +28,7 @@ any_yields l c p = Unit {0}
 abbrev pub HoldsRoot : (Telling → Type 0) → Told Global → Type 0
 HoldsRoot source (Built line noted directories) = (told : Telling) × (∥ source told ∥₁)
     × HasAllRight told.blobs (blobs_of directories.items)
-HoldsRoot source (Failed line) = Unit {0}
+HoldsRoot source (Failed line why) = Unit {0}
 
 -- By what such a source told: the line and the record of a build that came to its root, where calls
 -- led from an engine of the plan to one in which each step has finished, at most so many jobs running
@@ -37,23 +38,23 @@ abbrev pub IsToldOf : (Telling → Type 0) → ℕ → PlanValue → DigestValue
 IsToldOf source most plan sources (Built line noted directories) = (told : Telling) × (∥ source told ∥₁)
     × TellsBuilt Global any_yields most plan sources told (string_bytes line) noted.items
     (blobs_of directories.items) × HoldsRoot source (Built line noted directories)
-IsToldOf source most plan sources (Failed line) = (told : Telling) × (∥ source told ∥₁)
-    × TellsFailed Global any_yields most plan sources told (string_bytes line)
+IsToldOf source most plan sources (Failed line why) = (told : Telling) × (∥ source told ∥₁)
+    × TellsFailed Global any_yields most plan sources told (string_bytes line) (string_bytes why)
 
 -- whether it came to its root
 abbrev pub is_whole : Told Global → Bool
 is_whole (Built line noted directories) = true
-is_whole (Failed line) = false
+is_whole (Failed line why) = false
 
 abbrev pub line_of : Told Global → List ℕ
 line_of (Built line noted directories) = string_bytes line
-line_of (Failed line) = string_bytes line
+line_of (Failed line why) = string_bytes line
 
 -- the record of a build that came to its root was written to the file that the options name
 abbrev pub IsNoted : Sight → List Row → Told Global → Type 0
 IsNoted sees options (Built line noted directories) =
     sees.wrote (option_text options (codes "record")) noted.items
-IsNoted sees options (Failed line) = Unit {0}
+IsNoted sees options (Failed line why) = Unit {0}
 
 -- ---- what the options ask for
 
@@ -78,11 +79,20 @@ pub record AsksBuild (sees : Sight) (options : List Row) (plan : PlanValue) (sou
   pub spelled : IsDigestText (option_text options (codes "sources")) sources
   pub plan_is : HasPlanRead sees options plan
 
--- The folder of the jobs was read, and had nothing in it.
+-- what was read of the options is what they ask for
+pub record IsReadOf (sees : Sight) (options : List Row) (asked : Asked) : Type 0 where
+  pub asks : AsksBuild sees options asked.plan asked.sources
+  pub jobs : asked.jobs ≡ jobs_of options
+  pub address : string_bytes asked.server.address ≡ option_text options (codes "server")
+  pub host : asked.server.host ≡ option_text options (codes "server")
+  pub prefix : asked.server.prefix ≡ option_text options (codes "prefix")
+
+-- The folder of the jobs was read, and had nothing in it; and the record's file could be written.
 pub record StartsBuild (sees : Sight) (options : List Row) (plan : PlanValue)
     (sources : DigestValue) : Type 0 where
   pub asks : AsksBuild sees options plan sources
   pub empty : sees.lists (option_text options (codes "work")) []
+  pub record_fits : sees.takes (option_text options (codes "record"))
 
 -- What was told is of a build of that, with as many jobs at once as the options say, by what their
 -- server told.

@@ -10,7 +10,10 @@ use Rattle.cli.specs.Built.{PrintsBuild}
 use Rattle.cli.specs.Help.{help_asked, version_line}
 use Rattle.cli.specs.Refused.{FailsBuild}
 use Rattle.commands.specs.Printed.{GetsAsked, PrintsDigest, PrintsVerdict, ServesAsked}
+use Rattle.commands.specs.GetRefused.{FailsGet}
+use Rattle.commands.specs.PutRefused.{FailsPut}
 use Rattle.commands.specs.Refusal.{FailsVerify, IsPrintFault}
+use Rattle.commands.specs.ServeRefused.{FailsServe}
 use Rattle.commands.specs.Status.{status_of}
 use Rattle.commands.specs.Told.{TellsOf}
 use Rattle.commands.specs.World.{Sight}
@@ -83,17 +86,19 @@ pub data FailsInWords (words : List Text) (e : CommandError) : Type 0 where
   in_help : WantsHelp words → IsPrintFault e → FailsInWords words e
   in_version : WantsVersion words → IsPrintFault e → FailsInWords words e
 
--- The words are at fault, or the command that they call has a fault, which of `verify` and `build`
--- is the first. What `put`, `get` and `serve` are refused for isn't said.
+-- The words are at fault, or else the command that they call has this as its first fault.
 pub data Fails (sees : Sight) (words : List Text) (e : CommandError) : Type 0 where
   in_words : FailsInWords words e → Fails sees words e
   in_verify : CallsCommand words (codes "verify") → FailsVerify sees (options_of words) e
       → Fails sees words e
   in_build : CallsCommand words (codes "build") → FailsBuild sees (options_of words) e
       → Fails sees words e
-  in_put : CallsCommand words (codes "put") → Fails sees words e
-  in_get : CallsCommand words (codes "get") → Fails sees words e
-  in_serve : CallsCommand words (codes "serve") → Fails sees words e
+  in_put : CallsCommand words (codes "put") → FailsPut sees (options_of words) e
+      → Fails sees words e
+  in_get : CallsCommand words (codes "get") → FailsGet sees (options_of words) e
+      → Fails sees words e
+  in_serve : CallsCommand words (codes "serve") → FailsServe sees (options_of words) e
+      → Fails sees words e
 
 -- an error with this status is why, and its line was told
 pub record EndsRefused (sees : Sight) (words : List Text) (status : ℕ) (old new : Option (List ℕ))

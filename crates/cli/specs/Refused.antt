@@ -1,7 +1,7 @@
 -- Why `build` ends without its line: the first fault, in the order jobs, server, digest, plan,
--- connection, folder and work. Of a file, that it can't be read comes before what is wrong in its
--- text.
-use Rattle.std.specs.Prelude.{◌≡◌, ◌⊎◌, ◌<◌, ℕ, true, List, length, codes, string_bytes}
+-- connection, folder, record and work. Of a file, that it can't be read comes before what is wrong
+-- in its text.
+use Rattle.std.specs.Prelude.{◌≡◌, ◌⊎◌, ◌<◌, ℕ, true, List, [], length, codes, string_bytes}
 use Rattle.std.specs.declared.alloc.Global.{Global}
 use Rattle.std.specs.declared.string.String.{String}
 use Rattle.blob_digest.specs.Digest.{DigestValue}
@@ -46,10 +46,13 @@ pub record HasEntries (sees : Sight) (path : List ℕ) (e : CommandError) : Type
   pub listed : sees.lists path names
   pub told : IsFileFault path e
 
--- so it is, or it couldn't be read, or memory ran out
+-- what stands at this path can't be read, or can't be written
+abbrev pub FailsAtPath : Sight → List ℕ → CommandError → Type 0
+FailsAtPath sees path e = (f : FileError Global) × sees.fails path f × (e ≡ error_of_file f)
+
+-- it is a folder that can't be read or isn't empty, or memory ran out
 abbrev pub FailsFolder : Sight → List ℕ → CommandError → Type 0
-FailsFolder sees path e = (e ≡ Memory) ⊎ (HasEntries sees path e
-    ⊎ ((f : FileError Global) × sees.fails path f × (e ≡ error_of_file f)))
+FailsFolder sees path e = (e ≡ Memory) ⊎ (HasEntries sees path e ⊎ FailsAtPath sees path e)
 
 -- By what such a source told, a build of the plan ended at a step of which a process couldn't be run,
 -- or was ended by a signal. The error tells the step.
@@ -92,6 +95,8 @@ pub data FailsBuild (sees : Sight) (options : List Row) (e : CommandError) : Typ
       (option_text options (codes "prefix")) e ∥₁ → FailsBuild sees options e
   in_folder : ReachesServer sees options → FailsFolder sees (option_text options (codes "work")) e
       → FailsBuild sees options e
+  in_place : ReachesServer sees options → sees.lists (option_text options (codes "work")) []
+      → FailsAtPath sees (option_text options (codes "record")) e → FailsBuild sees options e
   in_process : (plan : PlanValue) (sources : DigestValue) → StartsBuild sees options plan sources
       → StopsAtProcess (IsOfOptions sees options) (jobs_of options) plan sources e
       → FailsBuild sees options e

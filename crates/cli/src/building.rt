@@ -2,15 +2,16 @@ ghost use Rattle.std.specs.Prelude.{◌≡◌, ◌⊎◌, ◌<◌, ◌↔◌, []
 ghost use Rattle.std.specs.Prelude.{OnErr, OnOk, codes, string_bytes, true};
 ghost use Rattle.std.specs.Io.KnownBytes.{Appends};
 ghost use Rattle.clap.specs.Words.{found_of, rows_of};
-ghost use Rattle.cli.specs.Built.{AsksBuild, HoldsRoot, IsNoted, IsToldOf, NamesJobs};
-ghost use Rattle.cli.specs.Built.{PrintsBuild, is_whole, jobs_of, line_of};
+ghost use Rattle.cli.specs.Built.{HoldsRoot, IsNoted, IsReadOf, IsToldOf, NamesJobs, PrintsBuild};
+ghost use Rattle.cli.specs.Built.{TellsAsked, is_whole, jobs_of, line_of};
 ghost use Rattle.cli.specs.Refused.{FailsBuild, FailsFolder, FailsJobs, FailsTelling};
+ghost use Rattle.commands.specs.Ended.{is_done};
 ghost use Rattle.commands.specs.Faults.{IsFileFault};
 ghost use Rattle.commands.specs.Places.{FailsOver, IsFresh, IsToldOver};
 ghost use Rattle.commands.specs.Refusal.{IsPrintFault};
 ghost use Rattle.commands.specs.Status.{status_of};
 ghost use Rattle.command_lines.specs.CommandLine.{IsSet, option_text};
-ghost use Rattle.remote.specs.Remote.{connection_of, telling_of};
+ghost use Rattle.remote.specs.Remote.{connection_of};
 
 use crate::build_progress::BuildProgress;
 use blob_digest::Digest;
@@ -18,8 +19,8 @@ use builder::{Fault, Told, place_text, tell_build};
 use clap::ArgMatches;
 use command_lines::{is_set, text_of};
 use commands::{
-    Client, CommandError, Origin, ServerOptions, World, number_in, open, plan_in_file, read_digest,
-    read_server, unlike,
+    Client, CommandError, Ended, Note, Origin, ServerOptions, World, number_in, open, plan_in_file,
+    read_digest, read_server, unlike,
 };
 use plan::Plan;
 use processes::{ChildErrors, Disk, ProcessRunner};
@@ -64,16 +65,7 @@ fn read_asked<W: World>(
     world: &W,
     matches: &ArgMatches<'_>,
 ) -> Result<Asked, CommandError>
-    ensures asks { IfOk result
-        (λ asked. AsksBuild W.sees (rows_of (found_of matches.now)) asked.plan asked.sources) }
-    ensures jobs { IfOk result (λ asked. asked.jobs ≡ jobs_of (rows_of (found_of matches.now))) }
-    ensures some { IfOk result (λ asked. 0 < asked.jobs) }
-    ensures address { IfOk result (λ asked. string_bytes asked.server.address
-        ≡ option_text (rows_of (found_of matches.now)) (codes "server")) }
-    ensures host { IfOk result (λ asked. asked.server.host
-        ≡ option_text (rows_of (found_of matches.now)) (codes "server")) }
-    ensures prefix { IfOk result (λ asked. asked.server.prefix
-        ≡ option_text (rows_of (found_of matches.now)) (codes "prefix")) }
+    ensures read { IfOk result (IsReadOf W.sees (rows_of (found_of matches.now))) }
     ensures refused { IfErr result (FailsBuild W.sees (rows_of (found_of matches.now))) }
 {
     let jobs = read_jobs(alloc, matches)?;
@@ -134,7 +126,7 @@ where
     R: AllocGlobal + Files + Processes + Clone + Drop,
     requires some { 0 < asked.now.jobs }
     requires start { K.start ≡ connection_of S.flow remote }
-    requires fresh { IsFresh (telling_of remote) }
+    requires fresh { IsFresh remote }
     ensures told { IfOk result
         (IsToldOf (IsToldOver K.start) asked.now.jobs asked.now.plan asked.now.sources) }
     ensures fault { IfErr result
@@ -209,48 +201,26 @@ fn write_record<W: World>(
     }
 }
 
-/// Prints the line of a build, and answers whether that came to its root.
-fn print_told<O: Write>(told: &Told<Global>, out: &mut O) -> Result<bool, CommandError>
-    ensures printed { OnOk result
-        (Appends (O.contents out.old) (O.contents out.new) (line_of told.now)) }
-    ensures whole { IfOk result (λ whole. is_whole told.now ≡ whole) }
-    ensures fault { IfErr result IsPrintFault }
-    ensures status { IfErr result (λ e. status_of e ≡ 3) }
-{
-    let (line, whole) = match told {
-        Told::Built { line, .. } => (line, true),
-        Told::Failed { line } => (line, false),
-    };
-    out.write_all(line.as_bytes())
-        .map_err(CommandError::Output)?;
-    out.flush().map_err(CommandError::Output)?;
-    Ok(whole)
-}
-
-/// Builds the plan that the words name, and prints the line of what it came to. Where it came to
-/// its root, the record is written first. It answers whether it did. On a terminal it tells how far
-/// the build is, until that ends.
-pub(crate) fn run_build<R, W: World, O: Write, T: Write + Drop>(
+/// Builds what the words ask for. On a terminal it tells how far the build is, until that ends.
+fn build_asked<R, W: World, T: Write + Drop>(
     rt: &R,
     world: &W,
     matches: &ArgMatches<'_>,
-    out: &mut O,
+    asked: &Asked,
     terminal: Option<T>,
-) -> Result<bool, CommandError>
+) -> Result<Told<Global>, CommandError>
 where
     R: AllocGlobal + Files + Processes + Clone + Drop,
-    ensures printed { IfOk result (λ whole. PrintsBuild W.sees (rows_of (found_of matches.now))
-        whole (O.contents out.old) (O.contents out.new)) }
-    // A refusal is for the first fault: what comes before it has none.
+    requires read { IsReadOf W.sees (rows_of (found_of matches.now)) asked.now }
+    ensures tells { IfOk result (TellsAsked W.sees (rows_of (found_of matches.now))) }
     ensures refused { IfErr result (FailsBuild W.sees (rows_of (found_of matches.now))) }
-    ensures unprinted { IfErr result
-        (λ fault. status_of fault ≡ 2 → O.contents out.new ≡ O.contents out.old) }
+    ensures status { IfErr result (λ e. status_of e ≡ 3) }
 {
     let alloc = rt.alloc();
-    let asked = read_asked(alloc, world, matches)?;
     let remote = open(alloc, world, &asked.server)?;
     let work = text_of(matches, "work");
     check_work(alloc, world, work)?;
+    world.check_writable(alloc, text_of(matches, "record"))?;
     let work = String::from_str(alloc, work)?;
     let errors = errors_of(matches, &terminal);
     let mut progress = BuildProgress::new(alloc, &asked.plan, terminal);
@@ -258,12 +228,61 @@ where
         rt,
         work,
         errors,
-        &asked,
+        asked,
         remote,
         &mut progress,
     );
     progress.clear();
-    let told = told?;
+    told
+}
+
+/// Prints the line of a build.
+fn print_told<O: Write>(told: &Told<Global>, out: &mut O) -> Result<(), CommandError>
+    ensures printed { OnOk result
+        (Appends (O.contents out.old) (O.contents out.new) (line_of told.now)) }
+    ensures fault { IfErr result IsPrintFault }
+    ensures status { IfErr result (λ e. status_of e ≡ 3) }
+{
+    let line = match told {
+        Told::Built { line, .. } | Told::Failed { line, .. } => line,
+    };
+    out.write_all(line.as_bytes())
+        .map_err(CommandError::Output)?;
+    out.flush().map_err(CommandError::Output)
+}
+
+/// What a build came to, with a note why it was refused.
+fn ended_of(told: Told<Global>) -> Ended
+    ensures { is_whole told ≡ is_done result }
+{
+    match told {
+        Told::Built { .. } => Ended::Done,
+        Told::Failed { line: _line, why } => Ended::No(Some(Note::Refused(why))),
+    }
+}
+
+/// Builds the plan that the words name, and prints the line of what it came to. Where it came to
+/// its root, the record is written first.
+pub(crate) fn run_build<R, W: World, O: Write, T: Write + Drop>(
+    rt: &R,
+    world: &W,
+    matches: &ArgMatches<'_>,
+    out: &mut O,
+    terminal: Option<T>,
+) -> Result<Ended, CommandError>
+where
+    R: AllocGlobal + Files + Processes + Clone + Drop,
+    ensures printed { IfOk result (λ ended. PrintsBuild W.sees (rows_of (found_of matches.now))
+        (is_done ended) (O.contents out.old) (O.contents out.new)) }
+    // A refusal is for the first fault: what comes before it has none.
+    ensures refused { IfErr result (FailsBuild W.sees (rows_of (found_of matches.now))) }
+    ensures unprinted { IfErr result
+        (λ fault. status_of fault ≡ 2 → O.contents out.new ≡ O.contents out.old) }
+{
+    let alloc = rt.alloc();
+    let asked = read_asked(alloc, world, matches)?;
+    let told = build_asked(rt, world, matches, &asked, terminal)?;
     write_record(alloc, world, matches, &told)?;
-    print_told(&told, out)
+    print_told(&told, out)?;
+    Ok(ended_of(told))
 }

@@ -1,33 +1,23 @@
-ghost use Rattle.std.specs.Prelude.{◌≡◌, ◌<◌, ◌≤◌, IfErr, IfOk, OnErr, codes, false, map};
+ghost use Rattle.std.specs.Prelude.{◌≡◌, ◌<◌, ◌≤◌, ◌↔◌, IfErr, IfOk, OnErr, codes, false, map};
 ghost use Rattle.std.specs.Prelude.{string_bytes, true};
 ghost use Rattle.cli.specs.Ended.{AreFaulty, EndsRefused, Fails, IsDone, IsNo};
+ghost use Rattle.commands.specs.Ended.{is_done};
 ghost use Rattle.commands.specs.Printed.{GetsPart};
 ghost use Rattle.commands.specs.Status.{status_of};
-ghost use Rattle.commands.specs.Told.{PrintsNoLine};
+ghost use Rattle.commands.specs.Told.{PrintsNoLine, TellsNote};
 ghost use Rattle.command_lines.specs.CommandLine.{CallsCommand, options_of};
 
 use crate::building::run_build;
 use crate::showing::show;
 use command_lines::parse;
-use commands::{CommandError, World, run_get, run_put, run_serve, run_verify, tell};
+use commands::{
+    CommandError, Ended, World, run_get, run_put, run_serve, run_verify, tell, tell_note,
+};
+use std::alloc::Global;
 use std::io::Write;
 use std::random::RandomSource;
 use std::rt::{Files, Processes};
 use std::time::Clock;
-
-/// What a command came to.
-enum Ended {
-    Done,
-    No,
-}
-
-/// Done, or else no.
-fn as_answer(is_done: bool) -> Ended
-    ensures done { result ≡ Ended.Done → is_done ≡ true }
-    ensures no { result ≡ Ended.No → is_done ≡ false }
-{
-    if is_done { Ended::Done } else { Ended::No }
-}
 
 /// Runs the program on these words. Its answers go to `out`, and for statuses 2 and 3 one line
 /// beginning `error: ` goes to `err`. The status: 0 done or yes, 1 no, 2 where the words or the
@@ -55,9 +45,11 @@ where
     // `error: `, or by a beginning of it.
     ensures refused { 2 ≤ result → EndsRefused W.sees (map string_bytes words.now) result
         (E.contents err.old) (E.contents err.new) }
-    // With an answer, standard error stays as it was,
-    ensures quiet { result < 2 → E.contents err.new ≡ E.contents err.old }
-    // and with status 2 standard output; so it does where the words are at fault.
+    // With status 0 standard error stays as it was. With 1 it grew at most by one line that begins
+    // `note: `.
+    ensures quiet { result ≡ 0 → E.contents err.new ≡ E.contents err.old }
+    ensures noted { result ≡ 1 → TellsNote (E.contents err.old) (E.contents err.new) }
+    // With status 2 standard output stays as it was; so it does where the words are at fault.
     ensures unprinted { result ≡ 2 → O.contents out.new ≡ O.contents out.old }
     ensures silent { AreFaulty (map string_bytes words.now)
         → O.contents out.new ≡ O.contents out.old }
@@ -70,11 +62,27 @@ where
         (O.contents out.old) (O.contents out.new) }
 {
     match run(rt, world, words, out, terminal) {
-        Ok(Ended::Done) => 0,
-        Ok(Ended::No) => 1,
+        Ok(ended) => tell_ended(rt.alloc(), &ended, err),
         Err(error) => {
             tell(rt.alloc(), &error, err);
             error.status()
+        }
+    }
+}
+
+/// The status of an answer. What a no doesn't say is told in a note.
+fn tell_ended<E: Write>(alloc: Global, ended: &Ended, err: &mut E) -> u8
+    ensures done { result ≡ 0 ↔ (is_done ended.now ≡ true) }
+    ensures no { result ≡ 1 ↔ (is_done ended.now ≡ false) }
+    ensures quiet { is_done ended.now ≡ true → E.contents err.new ≡ E.contents err.old }
+    ensures noted { TellsNote (E.contents err.old) (E.contents err.new) }
+{
+    match ended {
+        Ended::Done => 0,
+        Ended::No(None) => 1,
+        Ended::No(Some(note)) => {
+            tell_note(alloc, note, err);
+            1
         }
     }
 }
@@ -89,10 +97,10 @@ fn run<R, W: World, O: Write, T: Write + Drop>(
 where
     R: AllocGlobal + Clock + Files + Processes + RandomSource + Clone + Drop,
     ensures done { IfOk result
-        (λ ended. ended ≡ Ended.Done
+        (λ ended. is_done ended ≡ true
         → IsDone W.sees (map string_bytes words.now) (O.contents out.old) (O.contents out.new)) }
     ensures no { IfOk result
-        (λ ended. ended ≡ Ended.No
+        (λ ended. is_done ended ≡ false
         → IsNo W.sees (map string_bytes words.now) (O.contents out.old) (O.contents out.new)) }
     ensures refused { IfErr result (Fails W.sees (map string_bytes words.now)) }
     ensures unprinted { IfErr result
@@ -113,17 +121,17 @@ where
         }
     };
     match matches.subcommand() {
-        Some(("verify", inner)) => Ok(as_answer(run_verify(rt.alloc(), world, inner, out)?)),
+        Some(("verify", inner)) => Ok(run_verify(rt.alloc(), world, inner, out)?),
         Some(("put", inner)) => {
             run_put(rt, world, inner, out, terminal)?;
             Ok(Ended::Done)
         }
-        Some(("get", inner)) => Ok(as_answer(run_get(rt.alloc(), world, inner, out)?)),
+        Some(("get", inner)) => Ok(run_get(rt.alloc(), world, inner, out)?),
         Some(("serve", inner)) => {
             run_serve(rt, world, inner, out)?;
             Ok(Ended::Done)
         }
-        Some(("build", inner)) => Ok(as_answer(run_build(rt, world, inner, out, terminal)?)),
+        Some(("build", inner)) => Ok(run_build(rt, world, inner, out, terminal)?),
         // Not reached: words that aren't at fault call one of these.
         _ => Err(CommandError::Memory),
     }

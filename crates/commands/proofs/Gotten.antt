@@ -1,21 +1,73 @@
--- What a get wrote, over the connection that was opened.
-use Rattle.std.proofs.Common.{◌≡◌, ℕ, List, Bool, true, false, sym, subst, Ok, Err, OnErr}
-use Rattle.std.specs.Prelude.{Option, Result}
+-- What a get wrote, over the connection that was opened, or why nothing was written.
+use Rattle.std.proofs.Common.{◌≡◌, ◌∙◌, ◌⊎◌, ℕ, List, inl, inr, subst, sym, Ok, Err, IfErr, IfOk, OnErr, string_bytes}
+use Rattle.std.specs.Prelude.{Option, Result, codes}
+use Rattle.std.specs.declared.alloc.Global.{Global}
 use Rattle.blob_digest.specs.Digest.{DigestValue}
+use Rattle.blob_source.specs.Source.{Telling}
+use Rattle.checkout.specs.Refused.{FailsCheckout}
+use Rattle.checkout.specs.declared.error.CheckoutError.{CheckoutError}
+use Rattle.clap.specs.Words.{Row, first_of}
+use Rattle.command_lines.specs.CommandLine.{option_text}
 use Rattle.remote.specs.Line.{ConnectionValue}
-use Rattle.commands.specs.Got.{Writes}
+use Rattle.text_verifier.specs.Texts.{IsDigestText}
+use Rattle.commands.specs.Ended.{is_done}
+use Rattle.commands.specs.GetRefused.{FailsGet, FailsGot, FailsGetTree, TellsTree}
+use Rattle.commands.specs.GetRefused.FailsGet.{in_work}
+use Rattle.commands.specs.GetRefused.FailsGetTree.{in_memory, in_tree}
+use Rattle.commands.specs.Options.{IsValidServer}
+use Rattle.commands.specs.Places.{IsConnected, IsToldOver}
+use Rattle.commands.specs.Printed.{GetsAsked, IsGot, StartsGet}
+use Rattle.commands.specs.World.{Sight}
+use Rattle.commands.specs.declared.connecting.ServerOptions.{ServerOptions}
+use Rattle.commands.specs.declared.ended.Ended.{Ended}
+use Rattle.commands.specs.declared.error.CommandError.{CommandError}
+use Rattle.commands.specs.declared.error.CommandError.TheVariants.{Memory}
+use Rattle.commands.proofs.Placed.{opened_to}
 
 pub on_err : {T E : Type 0} {P Q : Type 0} (r : Result T E) → OnErr r P → (P → Q) → OnErr r Q
 on_err (Ok x) h by = h
 on_err (Err e) h by = by h
 
-pub writes_over : (opened : ConnectionValue → Type 0) (start : ConnectionValue) → opened start → (digest : DigestValue) (old new : Option (List ℕ)) (found : Bool)
-    → Writes (λ c. c ≡ start) digest old new found → Writes opened digest old new found
-writes_over opened start is digest old new true h = h
-writes_over opened start is digest old new false h = record {
-  start = h.start;
-  opened_is = subst opened (sym h.opened_is) is;
-  now = h.now;
-  none = h.none;
-  unprinted = h.unprinted;
-}
+pub tree_fails : (sees : Sight) (start : ConnectionValue) (address : List ℕ) (digest : DigestValue) (folder : List ℕ) (told : Telling)
+    (error : CheckoutError Global) (e : CommandError) → ∥ IsToldOver start told ∥₁ → FailsCheckout sees.unwritten told.blobs digest folder error
+    → (e ≡ Memory) ⊎ TellsTree start address error e → FailsGetTree sees start address digest folder e
+tree_fails sees start address digest folder told error e over fails (inl memory) = in_memory memory
+tree_fails sees start address digest folder told error e over fails (inr tells) = in_tree told error over fails tells
+
+-- ---- by the options
+
+module _ (sees : Sight) (options : List Row) (start : ConnectionValue) (digest : DigestValue) where
+  pub starts_get : (server : ServerOptions) (asked : List ℕ) → asked ≡ option_text options (codes "server")
+      → string_bytes server.address ≡ asked → server.host ≡ asked → server.prefix ≡ option_text options (codes "prefix")
+      → IsValidServer options asked → IsDigestText (option_text options (codes "digest")) digest
+      → IsConnected sees (string_bytes server.address) server.host server.prefix start → StartsGet sees options digest start
+  starts_get server asked is address host prefix valid spelled opened = record {
+    server = subst (IsValidServer options) is valid;
+    spelled = spelled;
+    opened = opened_to sees options server start (address ∙ is) (host ∙ is) prefix opened;
+  }
+
+  module _ (starts : StartsGet sees options digest start) (into : Option (List ℕ)) (is : first_of (codes "into") options ≡ into)
+      (result : Result Ended CommandError) where
+    pub asked_by : (old new : Option (List ℕ)) → IfOk result (λ ended. IsGot sees into start digest old new (is_done ended))
+        → IfOk result (λ ended. GetsAsked sees options old new (is_done ended))
+    asked_by old new got = by result got
+      where
+        by : (r : Result Ended CommandError) → IfOk r (λ ended. IsGot sees into start digest old new (is_done ended))
+            → IfOk r (λ ended. GetsAsked sees options old new (is_done ended))
+        by (Ok ended) h = record {
+          digest = digest;
+          start = start;
+          starts = starts;
+          got = subst (λ o. IsGot sees o start digest old new (is_done ended)) (sym is) h;
+        }
+        by (Err e) h = tt
+
+    pub refused_by : (address : List ℕ) → address ≡ option_text options (codes "server") → IfErr result (FailsGot sees into start address digest)
+        → IfErr result (FailsGet sees options)
+    refused_by address same fails = by result fails
+      where
+        by : (r : Result Ended CommandError) → IfErr r (FailsGot sees into start address digest) → IfErr r (FailsGet sees options)
+        by (Ok ended) h = tt
+        by (Err e) h = in_work digest start starts
+            (subst (λ o. FailsGot sees o start (option_text options (codes "server")) digest e) (sym is) (subst (λ a. FailsGot sees into start a digest e) same h))

@@ -1,5 +1,6 @@
 pub mod Addresses
 pub mod Checked
+pub mod Checking
 pub mod Exits
 pub mod Unread
 pub mod Writing
@@ -8,3 +9,5 @@ pub mod Tellings
 pub mod Placed
 pub mod SoFar
 pub mod Gotten
+pub mod Order
+pub mod Refused

@@ -4,15 +4,18 @@ use Rattle.std.proofs.Math.Logic.{∥∥₁_map}
 use Rattle.std.proofs.lemmas.Result.{IfErr-weaker, IfOk-weaker}
 use Rattle.std.specs.declared.alloc.Global.{Global}
 use Rattle.std.specs.declared.string.String.{String}
-use Rattle.std.specs.Prelude.{codes}
+use Rattle.std.specs.Prelude.{IfSome, None, Option, Some, codes, ⊤}
 use Rattle.blob_source.specs.Source.{Telling}
 use Rattle.clap.specs.Words.{Row}
 use Rattle.command_lines.specs.CommandLine.{option_text}
+use Rattle.text_verifier.specs.Lacking.{lack_of}
 use Rattle.text_verifier.specs.Texts.{Question}
+use Rattle.verifier.specs.declared.verdict.Verdict.{Verdict}
 use Rattle.text_verifier.specs.declared.answering.Answer.{Answer}
+use Rattle.text_verifier.specs.declared.lack.Lack.{Lack}
 use Rattle.remote.specs.Line.{ConnectionValue}
-use Rattle.commands.specs.Places.{FailsInFolder, IsOfFolder, IsOfServer, IsConnected, IsAnsweredBy, IsToldOver}
-use Rattle.commands.specs.Printed.{IsConnectedTo, IsOfOptions, IsOfPlace, IsNamedPlace, NamesPlace}
+use Rattle.commands.specs.Places.{FailsInFolder, IsOfFolder, IsOfServer, IsConnected, IsAnsweredBy, IsToldOver, LacksAtServer}
+use Rattle.commands.specs.Printed.{IsConnectedTo, IsOfOptions, IsOfPlace, IsNamedPlace, LacksAtPlace, NamesPlace}
 use Rattle.commands.specs.Refusal.{FailsPlace, FailsServer}
 use Rattle.commands.specs.World.{Sight}
 use Rattle.commands.specs.declared.connecting.ServerOptions.{ServerOptions}
@@ -24,13 +27,42 @@ pub names_place : (options : List Row) (build : Build) → IsNamedPlace options 
 names_place options (Folder folder) place = inl place.0
 names_place options (Server server) place = inr place.0
 
+-- ---- what is missing
+
+pub if_some_all : {X : Type 0} (o : Option X) (P : X → Type 0) → ((x : X) → P x) → IfSome o P
+if_some_all None P all = tt
+if_some_all (Some x) P all = all x
+
+pub if_some_weaker : {X : Type 0} (o : Option X) (P Q : X → Type 0) → ((x : X) → P x → Q x) → IfSome o P → IfSome o Q
+if_some_weaker None P Q by h = tt
+if_some_weaker (Some x) P Q by h = by x h
+
+-- the answer by what a place told
+pub place_weaker : (question : Question) (result : Result (Answer Global) CommandError) (told other : Telling → Type 0) (lacks less : Lack → Type 0)
+    → ((t : Telling) → told t → other t) → ((l : Lack) → lacks l → less l)
+    → IfOk result (IsAnsweredBy told lacks question) → IfOk result (IsAnsweredBy other less question)
+place_weaker question result told other lacks less by by_lack h =
+    IfOk-weaker result (IsAnsweredBy told lacks question) (IsAnsweredBy other less question)
+    (λ answer is. (
+      is.0,
+      ∥∥₁_map is.1 (by is.0),
+      is.2,
+      if_some_weaker answer.lack (λ l. ∥ lacks l ∥₁) (λ l. ∥ less l ∥₁) (λ l h. ∥∥₁_map h (by_lack l)) is.3,
+    )) h
+
+-- what the answer says is missing is what is so by the verdict
+pub lacked_by : (sees : Sight) (options : List Row) (question : Question) (verdict : Verdict Global) (lack : Option Lack) → lack ≡ lack_of question verdict
+    → IfSome lack (λ l. ∥ LacksAtPlace sees options l ∥₁) → IfSome (lack_of question verdict) (λ l. ∥ LacksAtPlace sees options l ∥₁)
+lacked_by sees options question verdict lack is h = subst (λ o. IfSome o (λ l. ∥ LacksAtPlace sees options l ∥₁)) is h
+
 module _ (sees : Sight) (options : List Row) where
   module _ (folder : String Global) where
     pub in_folder : (question : Question) (result : Result (Answer Global) CommandError) → IsNamedPlace options (Folder folder)
-        → IfOk result (IsAnsweredBy (IsOfFolder sees (string_bytes folder)) question) → IfOk result (IsAnsweredBy (IsOfPlace sees options) question)
+        → IfOk result (IsAnsweredBy (IsOfFolder sees (string_bytes folder)) (λ _. ⊤) question)
+        → IfOk result (IsAnsweredBy (IsOfPlace sees options) (LacksAtPlace sees options) question)
     in_folder question result place h =
-        IfOk-weaker result (IsAnsweredBy (IsOfFolder sees (string_bytes folder)) question) (IsAnsweredBy (IsOfPlace sees options) question)
-        (λ answer is. (is.0, ∥∥₁_map is.1 (λ told. inl (place.0, subst (λ f. IsOfFolder sees f is.0) place.1 told)), is.2)) h
+        place_weaker question result (IsOfFolder sees (string_bytes folder)) (IsOfPlace sees options) (λ _. ⊤) (LacksAtPlace sees options)
+        (λ t told. inl (place.0, subst (λ f. IsOfFolder sees f t) place.1 told)) (λ l _. inl place.0) h
 
     pub in_folder_fails : (result : Result (Answer Global) CommandError) → IsNamedPlace options (Folder folder)
         → IfErr result (λ e. ∥ FailsInFolder sees (string_bytes folder) e ∥₁) → IfErr result (λ e. ∥ FailsPlace sees options e ∥₁)
@@ -40,18 +72,18 @@ module _ (sees : Sight) (options : List Row) where
 
   module _ (server : ServerOptions) where
     pub on_server : (question : Question) (result : Result (Answer Global) CommandError) → IsNamedPlace options (Server server)
-        → IfOk result (IsAnsweredBy (IsOfServer sees (string_bytes server.address) server.prefix) question) → IfOk result (IsAnsweredBy (IsOfPlace sees options) question)
+        → IfOk result (IsAnsweredBy (IsOfServer sees (string_bytes server.address) server.prefix) (LacksAtServer sees (string_bytes server.address) server.prefix) question)
+        → IfOk result (IsAnsweredBy (IsOfPlace sees options) (LacksAtPlace sees options) question)
     on_server question result place h =
-        IfOk-weaker result (IsAnsweredBy (IsOfServer sees (string_bytes server.address) server.prefix) question) (IsAnsweredBy (IsOfPlace sees options) question)
-        (λ answer is. (
-          is.0,
-          ∥∥₁_map is.1 (λ told. inr (
-            place.0,
-            subst (λ a. IsOfServer sees a (option_text options (codes "prefix")) is.0) place.1
-                (subst (λ p. IsOfServer sees (string_bytes server.address) p is.0) place.3 told),
-          )),
-          is.2,
-        )) h
+        place_weaker question result (IsOfServer sees (string_bytes server.address) server.prefix) (IsOfPlace sees options)
+        (LacksAtServer sees (string_bytes server.address) server.prefix) (LacksAtPlace sees options)
+        (λ t told. inr (
+          place.0,
+          subst (λ a. IsOfServer sees a (option_text options (codes "prefix")) t) place.1
+              (subst (λ p. IsOfServer sees (string_bytes server.address) p t) place.3 told),
+        ))
+        (λ l lacks. inr (subst (λ a. LacksAtServer sees a (option_text options (codes "prefix")) l) place.1
+        (subst (λ p. LacksAtServer sees (string_bytes server.address) p l) place.3 lacks))) h
 
     pub on_server_fails : (result : Result (Answer Global) CommandError) → IsNamedPlace options (Server server)
         → IfErr result (λ e. ∥ FailsServer sees (string_bytes server.address) server.prefix e ∥₁) → IfErr result (λ e. ∥ FailsPlace sees options e ∥₁)

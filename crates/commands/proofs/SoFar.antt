@@ -13,19 +13,21 @@ use Rattle.messages.specs.declared.node.Node.TheVariants.{Dir, File, Link}
 use Rattle.blob_digest.specs.Digest.{DigestValue, digest_of}
 use Rattle.remote.specs.Line.{ConnectionValue}
 use Rattle.tree.specs.Form.{NodeValue, no_children, node_value}
-use Rattle.commands.specs.Children.{HasOneMore}
+use Rattle.commands.specs.Children.{AddsName, HasOneMore}
 use Rattle.commands.specs.Put.{IsPutAt, StandsAs, TakesBlob}
 use Rattle.commands.specs.Put.IsPutAt.{folder_put, link_put}
 use Rattle.commands.specs.World.{Sight, a_link, what_stands}
 use Rattle.commands.specs.declared.error.CommandError.{CommandError}
 use Rattle.commands.specs.declared.world.Found.{Found}
 use Rattle.commands.specs.declared.world.Found.TheVariants as found
+use Rattle.commands.proofs.Order.{Follows, follows_on, nothing_follows}
 
 -- each name that was read has a child, and each child was read at its place
 pub record IsPutSoFar (sees : Sight) (start : ConnectionValue) (place : List ℕ) (names : List (List ℕ)) (d : DirectoryValue) : Type 0 where
   pub all : (n : List ℕ) → Contains names n → (x : NodeValue) × IsChild n d (Some x)
   pub stand : (n : List ℕ) (x : NodeValue) → IsChild n d (Some x) → StandsAs sees (place ++ 47 ∷ n) x
   pub are_put : (n : List ℕ) (x : NodeValue) → IsChild n d (Some x) → IsPutAt sees start (place ++ 47 ∷ n) x
+  pub follows : Follows names d
 
 nothing_in : {X : Type 0} (x : X) → Contains [] x → ⊥
 nothing_in x has = omega (arith, has.1)
@@ -41,12 +43,13 @@ module _ (sees : Sight) (start : ConnectionValue) (place : List ℕ) where
     all = λ n has. absurd (nothing_in n has);
     stand = λ n x is. absurd (no_child n x is);
     are_put = λ n x is. absurd (no_child n x is);
+    follows = nothing_follows;
   }
 
   pub one_more_put : (names : List (List ℕ)) (n : List ℕ) (x : NodeValue) (old new : DirectoryValue) → IsPutSoFar sees start place names old
-      → HasOneMore n x old new → StandsAs sees (place ++ 47 ∷ n) x → IsPutAt sees start (place ++ 47 ∷ n) x
+      → HasOneMore n x old new → AddsName n old new → StandsAs sees (place ++ 47 ∷ n) x → IsPutAt sees start (place ++ 47 ∷ n) x
       → IsPutSoFar sees start place (names ++ n ∷ []) new
-  one_more_put names n x old new so_far more stands is_put = record {
+  one_more_put names n x old new so_far more named stands is_put = record {
     all = λ m has. elim (Contains-push_cases names n m has) [
       | inl before ↦ let is = so_far.all m before in (is.0, more.kept m is.0 is.1)
       | inr one ↦ (x, subst (λ k. IsChild k new (Some x)) one more.added)
@@ -59,6 +62,7 @@ module _ (sees : Sight) (start : ConnectionValue) (place : List ℕ) where
       | inl before ↦ so_far.are_put m y before
       | inr same ↦ subst (λ k. IsPutAt sees start (place ++ 47 ∷ k) y) (sym same.0) (subst (IsPutAt sees start (place ++ 47 ∷ n)) (sym same.1) is_put)
     ];
+    follows = follows_on names n old new so_far.follows named;
   }
 
   pub all_put : (names : List (List ℕ)) (d : DirectoryValue) → IsDirectory d → sees.lists place names → IsPutSoFar sees start place names d
@@ -69,14 +73,14 @@ module _ (sees : Sight) (start : ConnectionValue) (place : List ℕ) where
   pub next_put : (names : List (String Global)) (i : ℕ) (item : String Global) (n : List ℕ) (x : NodeValue) (old new : DirectoryValue)
       → i < length names → item ≡ get_or names i item → n ≡ string_bytes item
       → IsPutSoFar sees start place (take i (map string_bytes names)) old
-      → HasOneMore n x old new → StandsAs sees (place ++ 47 ∷ n) x → IsPutAt sees start (place ++ 47 ∷ n) x
+      → HasOneMore n x old new → AddsName n old new → StandsAs sees (place ++ 47 ∷ n) x → IsPutAt sees start (place ++ 47 ∷ n) x
       → IsPutSoFar sees start place (take (i + 1) (map string_bytes names)) new
-  next_put names i item n x old new less is named so_far more stands is_put =
+  next_put names i item n x old new less is named so_far more adds stands is_put =
       let long : i < length (map string_bytes names) = subst (λ k. i < k) (sym (length-map names string_bytes)) less in
       let next = take_more (map string_bytes names) i n long in
       let same : get_or (map string_bytes names) i n ≡ n = get_or-map string_bytes names i item n less ∙ ap string_bytes (sym is) ∙ sym named in
       subst (λ l. IsPutSoFar sees start place l new) (sym (next ∙ ap (λ m. take i (map string_bytes names) ++ m ∷ []) same))
-      (one_more_put (take i (map string_bytes names)) n x old new so_far more stands is_put)
+      (one_more_put (take i (map string_bytes names)) n x old new so_far more adds stands is_put)
 
   pub all_names_put : (names : List (String Global)) (i : ℕ) (d : DirectoryValue) → length names ≤ i
       → IsPutSoFar sees start place (take i (map string_bytes names)) d → IsPutSoFar sees start place (map string_bytes names) d

@@ -1,6 +1,7 @@
 -- What a client and a store keep is what their calls brought.
 use Rattle.std.proofs.Common.{◌≡◌, ◌≢◌, ◌⊎◌, ◌∙◌, ℕ, List, Option, Some, None, Result, Ok, Err, IfOk, inl, inr, refl, sym, ap, subst, Ordering}
-use Rattle.std.specs.Prelude.{IsSomeAnd}
+use Rattle.std.specs.Prelude.{IfNone, IsSomeAnd, OnOk}
+use Rattle.std.proofs.Math.Logic.{∥∥₁_map₂}
 use Rattle.std.specs.Ordering.{nat_cmp, ordering_reverse, ordering_then}
 use Rattle.std.specs.Cmp.Lexicographic.{slice_cmp}
 use Rattle.std.specs.declared.alloc.Global.{Global}
@@ -8,20 +9,20 @@ use Rattle.std.specs.declared.cmp.Ordering.TheVariants.{Less, Equal, Greater}
 use Rattle.std.specs.declared.vec.Vec.{Vec}
 use Rattle.std.proofs.lemmas.Cmp.{nat_cmp_total, nat_list_cmp_total}
 use Rattle.std.proofs.lemmas.Map.Lookups.{exact_bytes, exact_pairs, exact_unsigned}
-use Rattle.blob_digest.specs.Digest.{DigestValue, digest_cmp}
-use Rattle.blob_source.specs.Source.{GrowsAt, bytes_of}
-use Rattle.blob_source.specs.Sink.{PutsAt}
+use Rattle.blob_digest.specs.Digest.{DigestValue, digest_cmp, digest_of}
+use Rattle.blob_source.specs.Source.{Blobs, GrowsAt, bytes_of}
+use Rattle.blob_source.specs.Sink.{IsPut, PutsAt}
 use Rattle.blob_source.specs.declared.source.FetchError.{FetchError}
 use Rattle.http_core.specs.declared.event.Area.{Area}
 use Rattle.remote.specs.Folder.{FailsAt, IsReadAt, LooksInFolder, entry_path}
 use Rattle.blob_source.specs.declared.source.FetchError.TheVariants.{Failed, Memory}
 use Rattle.remote.specs.Line.{ConnectionValue, Gets, Puts, get, put}
 use Rattle.remote.specs.Remote.{LooksUp, Stores}
-use Rattle.remote.specs.Table.{answers, bytes_kept, told_by}
+use Rattle.remote.specs.Table.{HasAnswer, answers, bytes_kept, told_by}
 use Rattle.remote.specs.declared.files.FileError.{FileError}
 use Rattle.remote.specs.declared.table.Table.{Table}
-use Rattle.commands.specs.Places.{CameAllOver, CameOver, Comes, FailsInStore}
-use Rattle.commands.specs.Places.Comes.{got, taken, refused}
+use Rattle.commands.specs.Places.{CameAllOver, CameOver, Comes, FailsInStore, LacksAllOver, LacksOver}
+use Rattle.commands.specs.Places.Comes.{fresh, got, taken, refused}
 use Rattle.commands.specs.World.{Sight}
 
 -- ---- digests
@@ -128,6 +129,79 @@ module _ {A T : Type 0} (start : ConnectionValue) (area : Area) (d : DigestValue
       }
     ]
   ]
+
+-- ---- what a server lacks
+
+-- nothing is kept where nothing was asked
+pub none_unasked : {A : Type 0} (t : Table A) (d : DigestValue) (b : List ℕ) → (HasAnswer t d → ⊥) → told_by t d ≡ Some b → ⊥
+none_unasked t d b not is = by (answers t d) not is
+  where
+    by : {X : Type 0} (o : Option (Option (Vec ℕ X))) → (o ≢ None → ⊥) → bytes_kept o ≡ Some b → ⊥
+    by None none e = some_not_none (sym e)
+    by (Some answer) none e = none some_not_none
+
+-- under a digest the same is kept as before
+lacks_as_before : {A : Type 0} (P : Type 0) (before after : Table A) (e : DigestValue) → answers after e ≡ answers before e
+    → (HasAnswer before e → told_by before e ≡ None → P) → HasAnswer after e → told_by after e ≡ None → P
+lacks_as_before P before after e same held has none = held (subst (λ o. o ≢ None) same has) (sym (ap bytes_kept same) ∙ none)
+
+module _ {A : Type 0} (start : ConnectionValue) (area : Area) (d : DigestValue) (old new : ConnectionValue) (before after : Table A) where
+  -- a look-up that answers none had that as a reply, now or before
+  pub lacks_here : (answer : Option (Vec ℕ A)) → LooksUp area d old new before after (Ok answer) → Comes start old
+      → bytes_of answer ≡ told_by after d → LacksAllOver start area before → told_by after d ≡ None → LacksOver start area d.hash
+  lacks_here answer looks came told held none = elim (there_or_not (answers before d)) [
+    | inl not ↦ record { old = old; new = new; before = came; is = subst (Gets old new area d.hash) (told ∙ none) (looks.answered not) }
+    | inr has ↦ held d has (ap bytes_kept (sym ((looks.same has).same d)) ∙ none)
+  ]
+
+  pub lacks_on : (result : Result (Option (Vec ℕ A)) FetchError) → LooksUp area d old new before after result → Comes start old
+      → IfOk result (λ answer. bytes_of answer ≡ told_by after d) → LacksAllOver start area before → LacksAllOver start area after
+  lacks_on (Err f) looks came told held e has none = lacks_as_before (LacksOver start area e.hash) before after e (looks.unheld.same e) (held e) has none
+  lacks_on (Ok answer) looks came told held e has none = elim (same_or_other d e) [
+    | inr other ↦ lacks_as_before (LacksOver start area e.hash) before after e (looks.others e other) (held e) has none
+    | inl same ↦ subst (λ x. LacksOver start area x.hash) (sym same)
+        (lacks_here answer looks came told held (subst (λ x. told_by after x ≡ None) same none))
+  ]
+
+  pub lacks_now : (result : Result (Option (Vec ℕ A)) FetchError) → LooksUp area d old new before after result → ∥ Comes start old ∥₁
+      → IfOk result (λ answer. bytes_of answer ≡ told_by after d) → ∥ LacksAllOver start area before ∥₁
+      → IfOk result (λ answer. IfNone answer (∥ LacksOver start area d.hash ∥₁))
+  lacks_now (Err f) looks came told held = tt
+  lacks_now (Ok (Some v)) looks came told held = tt
+  lacks_now (Ok None) looks came told held = ∥∥₁_map₂ came held (λ comes lacks. lacks_here None looks comes told lacks (sym told))
+
+-- a look-up over a connection that was asked nothing brought bytes
+pub got_bytes : {A : Type 0} (area : Area) (d : DigestValue) (old new : ConnectionValue) (before after : Table A)
+    (result : Result (Option (Vec ℕ A)) FetchError) (bytes : Vec ℕ A) → LooksUp area d old new before after result → (HasAnswer before d → ⊥)
+    → result ≡ Ok (Some bytes) → CameOver old area d.hash bytes.items
+got_bytes area d old new before after result bytes looks not is = record {
+  old = old;
+  new = new;
+  before = fresh;
+  is = inl (subst (λ r. IfOk r (λ answer. Gets old new area d.hash (bytes_of answer))) is (looks.answered not));
+}
+
+-- what was put is there
+pub blob_there : {T : Type 0} (bytes : List ℕ) (old new : Blobs) (result : Result T FetchError) → OnOk result (IsPut bytes old new)
+    → OnOk result (new (digest_of bytes) ≡ None → ⊥)
+blob_there bytes old new (Err f) put = tt
+blob_there bytes old new (Ok x) (inl right) = λ none. some_not_none (sym right.0.1 ∙ sym right.1 ∙ none)
+blob_there bytes old new (Ok x) (inr put) = λ none. some_not_none (sym put.1 ∙ none)
+
+pub result_there : {T : Type 0} (d : DigestValue) (bytes : List ℕ) (new : Blobs) (result : Result T FetchError) → OnOk result (new d ≡ Some bytes)
+    → OnOk result (new d ≡ None → ⊥)
+result_there d bytes new (Err f) is = tt
+result_there d bytes new (Ok x) is = λ none. some_not_none (sym is ∙ none)
+
+pub lacks_by_put : {A T : Type 0} (start : ConnectionValue) (area : Area) (d : DigestValue) (bytes : List ℕ) (old new : ConnectionValue)
+    (before after : Table A) (result : Result T FetchError) → Stores area d bytes old new before after result
+    → OnOk result (told_by after d ≡ None → ⊥) → LacksAllOver start area before → LacksAllOver start area after
+lacks_by_put start area d bytes old new before after (Err f) stores there held e has none =
+    lacks_as_before (LacksOver start area e.hash) before after e (stores.unheld.same e) (held e) has none
+lacks_by_put start area d bytes old new before after (Ok x) stores there held e has none = elim (same_or_other d e) [
+  | inr other ↦ lacks_as_before (LacksOver start area e.hash) before after e (stores.others e other) (held e) has none
+  | inl same ↦ absurd (there (subst (λ x. told_by after x ≡ None) same none))
+]
 
 -- ---- a store folder
 

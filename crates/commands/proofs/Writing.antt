@@ -8,7 +8,7 @@ use Rattle.std.proofs.Math.Seq.{drop-append_seam, take-append_seam, take-length}
 use Rattle.std.specs.Prelude.{Option}
 use Rattle.std.specs.Io.KnownBytes.{Appends, Keeps}
 use Rattle.std.proofs.KnownBytes.{Appends-nil, Appends-trans, Appends-kept}
-use Rattle.commands.specs.Told.{AppendsBeginning, AppendsPart, AppendsUpTo, IsErrorLine, PrintsNoLine, TellsOf}
+use Rattle.commands.specs.Told.{AppendsBeginning, AppendsPart, AppendsUpTo, IsLineOf, PrintsNoLine, TellsLine, TellsOf}
 use Rattle.commands.specs.declared.error.CommandError.{CommandError}
 use Rattle.commands.specs.declared.error.CommandError.TheVariants.{Memory}
 use Rattle.std.specs.Prelude.{codes}
@@ -84,11 +84,30 @@ no_line_of_newline old mid new text none h part =
 pub beginning_kept : (old mid new : Option (List ℕ)) (text : List ℕ) → AppendsBeginning old mid text → Keeps mid new → AppendsBeginning old new text
 beginning_kept old mid new text h same = record { rest = h.rest; up_to = up_to_kept old mid new text h.rest h.up_to same }
 
+none_in_nothing : HasNoNewline []
+none_in_nothing (k, lt, e) = omega arith
+
 -- a line was told up to here, and what is written stays
-pub tells_by : (error : CommandError) (old mid new : Option (List ℕ)) (line : List ℕ) → IsErrorLine line
+pub line_by : (head : List ℕ) (old mid new : Option (List ℕ)) (line : List ℕ) → IsLineOf head line → AppendsBeginning old mid line
+    → Keeps mid new → TellsLine head old new
+line_by head old mid new line valid begun same =
+    record { line = line; valid = valid; appended = beginning_kept old mid new line begun same }
+
+pub tells_by : (error : CommandError) (old mid new : Option (List ℕ)) (line : List ℕ) → IsLineOf (codes "error: ") line
     → (error ≡ Memory → line ≡ codes "error: out of memory\n") → AppendsBeginning old mid line → Keeps mid new → TellsOf error old new
+unfolding line_by
 tells_by error old mid new line valid memory begun same =
-    record { line = line; valid = valid; memory = memory; appended = beginning_kept old mid new line begun same }
+    record { tells = line_by (codes "error: ") old mid new line valid begun same; memory = memory }
+
+-- nothing is told of any line
+pub no_line_by : (head : List ℕ) (a : Option (List ℕ)) → TellsLine head a a
+no_line_by head a =
+    let line = head ++ 10 ∷ [] in
+    record {
+      line = line;
+      valid = record { told = []; one = none_in_nothing; line_is = refl };
+      appended = record { rest = line; up_to = up_to_nothing a line };
+    }
 
 -- the two parts of a line: its text, and the newline
 pub front_of_line : (text line : List ℕ) (n : ℕ) → line ≡ text ++ 10 ∷ [] → n ≡ length line - 1 → take n line ≡ text
@@ -117,9 +136,6 @@ pub line_at_end : {T E : Type 0} (result : Result T E) (old mid new : Option (Li
     → Appends old mid text → OnOk result (Appends mid new (10 ∷ [])) → OnOk result (Appends old new line)
 line_at_end (Ok x) old mid new text line e h all = subst (Appends old new) (sym e) (Appends-trans old mid new text (10 ∷ []) h all)
 line_at_end (Err x) old mid new text line e h all = tt
-
-none_in_nothing : HasNoNewline []
-none_in_nothing (k, lt, e) = omega arith
 
 pub no_line_of_same : (old new : Option (List ℕ)) → new ≡ old → PrintsNoLine old new
 no_line_of_same old new same = record {

@@ -1,5 +1,5 @@
 -- What the errors of a command tell.
-use Rattle.std.specs.Prelude.{◌≡◌, ◌↔◌, ℕ, List, Option, Some, None, string_bytes}
+use Rattle.std.specs.Prelude.{◌≡◌, ◌↔◌, ◌⊎◌, ℕ, List, Option, Some, None, string_bytes}
 use Rattle.blob_digest.specs.Digest.{DigestValue, IsDigest}
 use Rattle.blob_digest.specs.Text.{digest_text, BeginsWithHash}
 use Rattle.blob_digest.specs.declared.error.DigestError.TheVariants.{BadHex}
@@ -10,8 +10,8 @@ use Rattle.remote.specs.declared.files.FileError.{FileError}
 use Rattle.remote.specs.declared.files.FileError.TheVariants as files
 use Rattle.std.specs.declared.alloc.Global.{Global}
 use Rattle.commands.specs.declared.error.CommandError.{CommandError}
-use Rattle.commands.specs.declared.error.CommandError.TheVariants.{Digest, File, NotAFile, TooLarge}
-use Rattle.commands.specs.declared.error.CommandError.TheVariants.{Memory, Server, Unlike}
+use Rattle.commands.specs.declared.error.CommandError.TheVariants.{Digest, Entry, File, NotAFile}
+use Rattle.commands.specs.declared.error.CommandError.TheVariants.{Memory, Server, TooLarge, Unlike}
 
 -- the text of an option spells no digest, or memory ran out
 abbrev pub IsDigestFault : List ℕ → List ℕ → CommandError → Type 0
@@ -56,3 +56,12 @@ abbrev pub TellsRefusal : List ℕ → List ℕ → DigestValue → Option Fault
 TellsRefusal address asked d (Some fault) refusals.Failed e = IsServerFault address asked d fault e
 TellsRefusal address asked d (Some fault) refusals.Memory e = e ≡ Memory
 TellsRefusal address asked d None refusal e = e ≡ Memory
+
+-- the error tells this of what stands at the place, or under the digest
+abbrev pub IsEntryFault : List ℕ → List ℕ → CommandError → Type 0
+IsEntryFault place words (Entry p fault) = (string_bytes p ≡ place) × (fault.now ≡ words)
+IsEntryFault place words _ = ⊥
+
+-- so it is, or memory ran out
+abbrev pub OrMemory : (CommandError → Type 0) → CommandError → Type 0
+OrMemory fails e = (e ≡ Memory) ⊎ fails e

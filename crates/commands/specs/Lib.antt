@@ -1,11 +1,15 @@
 pub mod Children
+pub mod Ended
 pub mod Faults
+pub mod GetRefused
 pub mod Got
 pub mod Options
 pub mod Places
 pub mod Printed
 pub mod Put
+pub mod PutRefused
 pub mod Refusal
+pub mod ServeRefused
 pub mod Status
 pub mod Told
 pub mod Trees

@@ -1,6 +1,6 @@
 -- What a source over a place outside tells: a store folder, or a server.
 use Rattle.std.specs.Prelude.{◌≡◌, ◌⊎◌, ℕ, false, List, [], Option, Some, None, codes}
-use Rattle.std.specs.Prelude.{string_bytes}
+use Rattle.std.specs.Prelude.{IfSome, string_bytes}
 use Rattle.std.specs.declared.alloc.Global.{Global}
 use Rattle.blob_digest.specs.Digest.{DigestValue}
 use Rattle.blob_source.specs.Source.{Blobs, Telling}
@@ -10,25 +10,32 @@ use Rattle.http_core.specs.declared.event.Area.TheVariants.{Ac, Cas}
 use Rattle.remote.specs.Flow.{unknown}
 use Rattle.remote.specs.Folder.{FailsAt, entry_path}
 use Rattle.remote.specs.Line.{ConnectionValue, Gets, Puts, RefusesRequest, Request}
+use Rattle.remote.specs.Remote.{blobs_of, results_of}
+use Rattle.remote.specs.Table.{HasAnswer, told_by}
 use Rattle.remote.specs.declared.fault.Fault.{Fault}
 use Rattle.remote.specs.declared.files.FileError.{FileError}
+use Rattle.remote.specs.declared.remote.Remote.{Remote}
+use Rattle.remote.specs.declared.table.Table.{Table}
 use Rattle.text_verifier.specs.Answered.{IsAnswer}
 use Rattle.text_verifier.specs.Texts.{Question}
 use Rattle.text_verifier.specs.declared.answering.Answer.{Answer}
+use Rattle.text_verifier.specs.declared.lack.Lack.{Lack}
+use Rattle.text_verifier.specs.declared.lack.Lack.TheVariants.{Blob, ActionResult}
 use Rattle.commands.specs.Faults.{error_of_file}
 use Rattle.commands.specs.World.{Sight}
 use Rattle.commands.specs.declared.error.CommandError.{CommandError}
 use Rattle.commands.specs.declared.error.CommandError.TheVariants.{Connection, Memory, Server}
 
--- nothing is told so far
-pub record IsFresh (told : Telling) : Type 0 where
-  pub blobs : (d : DigestValue) → told.blobs d ≡ None
-  pub results : (d : DigestValue) → told.results d ≡ None
+-- nothing was asked so far
+pub record IsFresh {S A : Type 0} (r : Remote S A) : Type 0 where
+  pub blobs : (d : DigestValue) → HasAnswer (blobs_of r) d → ⊥
+  pub results : (d : DigestValue) → HasAnswer (results_of r) d → ⊥
 
--- the answer to the question by what such a source told
-abbrev pub IsAnsweredBy : (Telling → Type 0) → Question → Answer Global → Type 0
-IsAnsweredBy source question answer =
+-- the answer to the question by what such a source told, where what is missing by it is so lacked
+abbrev pub IsAnsweredBy : (Telling → Type 0) → (Lack → Type 0) → Question → Answer Global → Type 0
+IsAnsweredBy source lacks question answer =
     (told : Telling) × (∥ source told ∥₁) × IsAnswer told question answer
+    × IfSome answer.lack (λ lack. ∥ lacks lack ∥₁)
 
 -- ---- a store folder
 
@@ -98,6 +105,29 @@ abbrev pub CameAllOver : ConnectionValue → Area → Blobs → Type 0
 CameAllOver start area told =
     (d : DigestValue) (b : List ℕ) → told d ≡ Some b → CameOver start area d.hash b
 
+-- the reply came over the connection that there is nothing under the hash
+pub record LacksOver (start : ConnectionValue) (area : Area) (hash : List ℕ) : Type 0 where
+  pub old : ConnectionValue
+  pub new : ConnectionValue
+  pub before : Comes start old
+  pub is : Gets old new area hash None
+
+-- and that is the blob or the result
+abbrev pub LacksIt : ConnectionValue → Lack → Type 0
+LacksIt start (Blob d) = LacksOver start Cas d.hash
+LacksIt start (ActionResult d) = LacksOver start Ac d.hash
+
+-- so it is with what was asked, and is told as nothing
+abbrev pub LacksAllOver : {A : Type 0} → ConnectionValue → Area → Table A → Type 0
+LacksAllOver start area kept =
+    (d : DigestValue) → HasAnswer kept d → told_by kept d ≡ None → LacksOver start area d.hash
+
+-- of blobs and of results
+pub record AreLackedOver {A : Type 0} (start : ConnectionValue) (kept_blobs kept_results : Table A)
+    : Type 0 where
+  pub blobs : LacksAllOver start Cas kept_blobs
+  pub results : LacksAllOver start Ac kept_results
+
 -- a client over the connection told this, which now stands so
 pub record IsClientOver (start now : ConnectionValue) (told : Telling) : Type 0 where
   pub came : Comes start now
@@ -122,6 +152,12 @@ pub record IsOfServer (sees : Sight) (address prefix : List ℕ) (told : Telling
   pub start : ConnectionValue
   pub opened : IsConnected sees address address prefix start
   pub over : IsToldOver start told
+
+-- the server at this address, under this prefix, replied that it has no such blob or result
+pub record LacksAtServer (sees : Sight) (address prefix : List ℕ) (lack : Lack) : Type 0 where
+  pub start : ConnectionValue
+  pub opened : IsConnected sees address address prefix start
+  pub lacks : LacksIt start lack
 
 -- for a marker that names no connection
 abbrev pub no_connection : ConnectionValue

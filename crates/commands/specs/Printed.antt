@@ -1,6 +1,6 @@
 -- What a command prints, by its options.
-use Rattle.std.specs.Prelude.{◌≡◌, ◌⊎◌, ℕ, Bool, List, [], ◌∷◌, ◌++◌, Option, None, Some}
-use Rattle.std.specs.Prelude.{IsSome, codes, string_bytes}
+use Rattle.std.specs.Prelude.{◌≡◌, ◌⊎◌, ℕ, Bool, false, List, [], ◌∷◌, ◌++◌, Option, None, Some}
+use Rattle.std.specs.Prelude.{IsSome, codes, string_bytes, IfSome}
 use Rattle.std.specs.Io.KnownBytes.{Appends}
 use Rattle.std.specs.Net.Text.{socket_text}
 use Rattle.std.specs.declared.alloc.Global.{Global}
@@ -10,17 +10,24 @@ use Rattle.blob_digest.specs.Text.{digest_text}
 use Rattle.clap.specs.Words.{Row, first_of}
 use Rattle.report.specs.Line.{report_line}
 use Rattle.cache_server.specs.Cache.{empty_cache}
+use Rattle.remote.specs.Folder.{IsNotThere}
 use Rattle.remote.specs.Line.{ConnectionValue}
+use Rattle.remote.specs.declared.files.FileError.{FileError}
 use Rattle.blob_source.specs.Source.{Telling}
 use Rattle.verifier.specs.declared.verdict.Verdict.{Verdict}
 use Rattle.text_verifier.specs.Answered.{IsJudged}
+use Rattle.text_verifier.specs.Lacking.{lack_of}
 use Rattle.text_verifier.specs.Texts.{HasTexts, Question, IsDigestText}
+use Rattle.text_verifier.specs.declared.lack.Lack.{Lack}
 use Rattle.commands.specs.Got.{Writes, WritesPart}
 use Rattle.commands.specs.Options.{IsValidServer, number_of, number_or}
-use Rattle.commands.specs.Places.{IsOfFolder, IsOfServer, IsConnected, IsToldOver}
+use Rattle.commands.specs.Places.{IsOfFolder, IsOfServer, IsConnected, LacksAtServer}
 use Rattle.commands.specs.Put.{PutsPath}
 use Rattle.commands.specs.Trees.{BeginsMissing, IsTreeGot}
 use Rattle.commands.specs.World.{Serving, Sight}
+use Rattle.commands.specs.declared.ended.Ended.{Ended}
+use Rattle.commands.specs.declared.ended.Ended.TheVariants.{Done, No}
+use Rattle.commands.specs.declared.ended.Note.TheVariants.{NoStore}
 use Rattle.commands.specs.declared.serving.Asked.{Asked}
 use Rattle.commands.specs.declared.verifying.Build.{Build}
 use Rattle.commands.specs.declared.verifying.Build.TheVariants.{Folder, Server}
@@ -65,6 +72,12 @@ IsOfPlace sees options told =
     (NamesStore options × IsOfFolder sees (option_text options (codes "store")) told)
     ⊎ (NamesServer options × IsOfOptions sees options told)
 
+-- A server that they name replied that it has no such blob or result. Of a store nothing is said.
+abbrev pub LacksAtPlace : Sight → List Row → Lack → Type 0
+LacksAtPlace sees options lack = NamesStore options
+    ⊎ LacksAtServer sees (option_text options (codes "server"))
+    (option_text options (codes "prefix")) lack
+
 -- The digests in the words, and the files that they name, as they were read, ask this question.
 pub record AsksQuestion (sees : Sight) (options : List Row) (question : Question) : Type 0 where
   pub plan_bytes : List ℕ
@@ -74,7 +87,8 @@ pub record AsksQuestion (sees : Sight) (options : List Row) (question : Question
   pub texts : HasTexts (option_text options (codes "sources")) (option_text options (codes "claim"))
       plan_bytes noted_bytes question
 
--- The verdict is the one on that question, by what a source over the place that they name told.
+-- The verdict is the one on that question, by what a source over the place that they name told,
+-- and what is missing by the verdict is lacked there.
 pub record JudgesAsked (sees : Sight) (options : List Row) (verdict : Verdict Global)
     : Type 0 where
   pub question : Question
@@ -82,6 +96,7 @@ pub record JudgesAsked (sees : Sight) (options : List Row) (verdict : Verdict Gl
   pub told : Telling
   pub source : ∥ IsOfPlace sees options told ∥₁
   pub judged : IsJudged told question verdict
+  pub lacks : IfSome (lack_of question verdict) (λ lack. ∥ LacksAtPlace sees options lack ∥₁)
 
 -- the line of that verdict was printed
 pub record PrintsVerdict (sees : Sight) (options : List Row) (old new : Option (List ℕ))
@@ -89,6 +104,20 @@ pub record PrintsVerdict (sees : Sight) (options : List Row) (old new : Option (
   pub verdict : Verdict Global
   pub judged : JudgesAsked sees options verdict
   pub printed : Appends old new (report_line verdict)
+
+-- the world told that no folder is at the path
+abbrev pub LacksFolder : Sight → List ℕ → Type 0
+LacksFolder sees path = sees.leads path false
+    ⊎ ((f : FileError Global) × sees.fails path f × IsNotThere f)
+
+-- A note of it says that the options name a store folder, and that none is there.
+abbrev pub NotesStore : Sight → List Row → Ended → Type 0
+NotesStore sees options (No (Some (NoStore path))) =
+    (first_of (codes "store") options ≡ Some (string_bytes path))
+    × LacksFolder sees (string_bytes path)
+NotesStore sees options (No (Some _)) = ⊥
+NotesStore sees options (No None) = Unit {0}
+NotesStore sees options Done = Unit {0}
 
 -- ---- the others
 
@@ -98,30 +127,26 @@ IsConnectedTo sees options =
     IsConnected sees (option_text options (codes "server")) (option_text options (codes "server"))
     (option_text options (codes "prefix"))
 
--- Without words of a folder, the blob was written whose digest the options spell, or the server
--- that they name replied that there is none.
-pub record GetsBlob (sees : Sight) (options : List Row) (old new : Option (List ℕ)) (found : Bool)
-    : Type 0 where
-  pub alone : first_of (codes "into") options ≡ None
-  pub digest : DigestValue
+-- the options spell this digest, and a connection to the server that they name was opened
+pub record StartsGet (sees : Sight) (options : List Row) (digest : DigestValue)
+    (start : ConnectionValue) : Type 0 where
+  pub server : IsValidServer options (option_text options (codes "server"))
   pub spelled : IsDigestText (option_text options (codes "digest")) digest
-  pub writes : Writes (IsConnectedTo sees options) digest old new found
+  pub opened : IsConnectedTo sees options start
 
--- The tree whose digest the options spell, as the server that they name told it, was written into
--- the folder that they name; or that server lacks a blob of it.
-pub record GetsTree (sees : Sight) (options : List Row) (old new : Option (List ℕ)) (found : Bool)
+-- the blob was written, or with words of a folder the tree into that; or the server lacks it
+abbrev pub IsGot : Sight → Option (List ℕ) → ConnectionValue → DigestValue → Option (List ℕ)
+    → Option (List ℕ) → Bool → Type 0
+IsGot sees None start digest old new found = Writes start digest old new found
+IsGot sees (Some folder) start digest old new found =
+    IsTreeGot sees start digest folder old new found
+
+pub record GetsAsked (sees : Sight) (options : List Row) (old new : Option (List ℕ)) (found : Bool)
     : Type 0 where
-  pub folder : List ℕ
-  pub into : first_of (codes "into") options ≡ Some folder
   pub digest : DigestValue
-  pub spelled : IsDigestText (option_text options (codes "digest")) digest
   pub start : ConnectionValue
-  pub connected : IsConnectedTo sees options start
-  pub got : IsTreeGot sees (IsToldOver start) digest folder old new found
-
-abbrev pub GetsAsked : Sight → List Row → Option (List ℕ) → Option (List ℕ) → Bool → Type 0
-GetsAsked sees options old new found =
-    GetsBlob sees options old new found ⊎ GetsTree sees options old new found
+  pub starts : StartsGet sees options digest start
+  pub got : IsGot sees (first_of (codes "into") options) start digest old new found
 
 -- Nothing was written, or a beginning of a blob whose digest the options spell; or where they name a
 -- folder, a beginning of the line of a blob that the server lacks.

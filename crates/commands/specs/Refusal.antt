@@ -69,7 +69,7 @@ FailsDigests options _ = ⊥
 
 -- a file can't be read, or the text that was read of it is at fault, or memory ran out
 abbrev pub FailsText : Sight → List ℕ → (List ℕ → PlanError → Type 0) → CommandError → Type 0
-FailsText sees path faulty (Text p fault) =
+FailsText sees path faulty (Text p fault hint) =
     (string_bytes p ≡ path) × ((bytes : List ℕ) × sees.reads path bytes × faulty bytes fault)
 FailsText sees path faulty e =
     (e ≡ Memory) ⊎ ((f : FileError Global) × sees.fails path f × (e ≡ error_of_file f))

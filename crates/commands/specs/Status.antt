@@ -13,7 +13,7 @@ abbrev pub status_of : CommandError → ℕ
 status_of (Words text) = 2
 status_of (Digest option text fault) = 2
 status_of (Number option greatest text) = 2
-status_of (Text path fault) = 2
+status_of (Text path fault hint) = 2
 status_of (Unlike option wanted text) = 2
 status_of (File path fault) = 3
 status_of (NotAFile path) = 3

@@ -28,15 +28,23 @@ pub record PrintsNoLine (old new : Option (List ℕ)) : Type 0 where
   pub unbroken : HasNoNewline text
   pub printed : Appends old new text
 
--- one line, which begins `error: `
-pub record IsErrorLine (line : List ℕ) : Type 0 where
+-- one line, which begins with this head
+pub record IsLineOf (head line : List ℕ) : Type 0 where
   pub told : List ℕ
   pub one : HasNoNewline told
-  pub line_is : line ≡ codes "error: " ++ (told ++ 10 ∷ [])
+  pub line_is : line ≡ head ++ (told ++ 10 ∷ [])
 
--- the line of an error was appended, or a beginning of it: lack of memory is told as that
-pub record TellsOf (error : CommandError) (old new : Option (List ℕ)) : Type 0 where
+-- such a line was appended, or a beginning of it
+pub record TellsLine (head : List ℕ) (old new : Option (List ℕ)) : Type 0 where
   pub line : List ℕ
-  pub valid : IsErrorLine line
-  pub memory : error ≡ Memory → line ≡ codes "error: out of memory\n"
+  pub valid : IsLineOf head line
   pub appended : AppendsBeginning old new line
+
+-- that of an error: lack of memory is told as that
+pub record TellsOf (error : CommandError) (old new : Option (List ℕ)) : Type 0 where
+  pub tells : TellsLine (codes "error: ") old new
+  pub memory : error ≡ Memory → tells.line ≡ codes "error: out of memory\n"
+
+-- that of a note
+abbrev pub TellsNote : Option (List ℕ) → Option (List ℕ) → Type 0
+TellsNote = TellsLine (codes "note: ")

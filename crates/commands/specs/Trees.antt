@@ -9,6 +9,9 @@ use Rattle.checkout.specs.Refused.{FailsCheckout}
 use Rattle.checkout.specs.Written.{HoldsTree}
 use Rattle.checkout.specs.declared.error.CheckoutError.{CheckoutError}
 use Rattle.checkout.specs.declared.error.CheckoutError.TheVariants.{Missing}
+use Rattle.http_core.specs.declared.event.Area.TheVariants.{Cas}
+use Rattle.remote.specs.Line.{ConnectionValue}
+use Rattle.commands.specs.Places.{IsToldOver, LacksOver}
 use Rattle.commands.specs.Told.{AppendsBeginning}
 use Rattle.commands.specs.World.{Sight}
 
@@ -16,33 +19,36 @@ use Rattle.commands.specs.World.{Sight}
 abbrev pub missing_line : DigestValue → List ℕ
 missing_line digest = codes "missing " ++ digest_text digest ++ codes "\n"
 
--- The tree that such a source told was written into the folder, and nothing was printed.
-pub record WritesTree (sees : Sight) (source : Telling → Type 0) (digest : DigestValue)
+-- The tree that was told over the connection was written into the folder, and nothing was printed.
+pub record WritesTree (sees : Sight) (start : ConnectionValue) (digest : DigestValue)
     (folder : List ℕ) (old new : Option (List ℕ)) : Type 0 where
   pub told : Telling
-  pub of_source : ∥ source told ∥₁
+  pub over : ∥ IsToldOver start told ∥₁
   pub holds : HoldsTree sees.holds told.blobs digest folder
   pub unprinted : new ≡ old
 
--- Such a source lacks a blob of the tree, and the line of that was printed.
-pub record LacksTree (sees : Sight) (source : Telling → Type 0) (digest : DigestValue)
-    (folder : List ℕ) (old new : Option (List ℕ)) : Type 0 where
-  pub told : Telling
-  pub of_source : ∥ source told ∥₁
-  pub lacked : DigestValue
-  pub lacks : FailsCheckout {A = Global} sees.unwritten told.blobs digest folder (Missing lacked)
-  pub printed : Appends old new (missing_line lacked)
-
-abbrev pub IsTreeGot : Sight → (Telling → Type 0) → DigestValue → List ℕ → Option (List ℕ)
-    → Option (List ℕ) → Bool → Type 0
-IsTreeGot sees source digest folder old new true = WritesTree sees source digest folder old new
-IsTreeGot sees source digest folder old new false = LacksTree sees source digest folder old new
-
--- the tree wasn't written since a blob of it is missing, and the line of that was printed
-pub record PrintsLack (error : CheckoutError Global) (old new : Option (List ℕ)) : Type 0 where
+-- The tree wasn't written since a blob of it is missing: the reply over the connection was that
+-- there is none, and the line of that was printed.
+pub record PrintsLack (start : ConnectionValue) (error : CheckoutError Global)
+    (old new : Option (List ℕ)) : Type 0 where
   pub lacked : DigestValue
   pub is : error ≡ Missing lacked
+  pub replied : ∥ LacksOver start Cas lacked.hash ∥₁
   pub printed : Appends old new (missing_line lacked)
+
+-- so it is with the tree that was told over the connection
+pub record LacksTree (sees : Sight) (start : ConnectionValue) (digest : DigestValue)
+    (folder : List ℕ) (old new : Option (List ℕ)) : Type 0 where
+  pub told : Telling
+  pub over : ∥ IsToldOver start told ∥₁
+  pub error : CheckoutError Global
+  pub fails : FailsCheckout sees.unwritten told.blobs digest folder error
+  pub lacks : PrintsLack start error old new
+
+abbrev pub IsTreeGot : Sight → ConnectionValue → DigestValue → List ℕ → Option (List ℕ)
+    → Option (List ℕ) → Bool → Type 0
+IsTreeGot sees start digest folder old new true = WritesTree sees start digest folder old new
+IsTreeGot sees start digest folder old new false = LacksTree sees start digest folder old new
 
 -- nothing was printed, or a beginning of the line of a blob
 abbrev pub BeginsMissing : Option (List ℕ) → Option (List ℕ) → Type 0

@@ -1,5 +1,5 @@
 -- What may be said of what a command reaches outside, by what was told of it.
-use Rattle.std.specs.Prelude.{ℕ, List, string_bytes}
+use Rattle.std.specs.Prelude.{ℕ, Bool, List, string_bytes}
 use Rattle.std.specs.declared.alloc.Global.{Global}
 use Rattle.std.specs.declared.io.Error.{Error}
 use Rattle.std.specs.declared.net.socket_addr.SocketAddr.{SocketAddr}
@@ -7,6 +7,7 @@ use Rattle.cache_server.specs.Cache.{CacheValue}
 use Rattle.checkout.specs.Folder.{FolderValue}
 use Rattle.remote.specs.Flow.{Flow}
 use Rattle.remote.specs.declared.files.FileError.{FileError}
+use Rattle.service.specs.declared.error.NotAccepted.{NotAccepted}
 use Rattle.commands.specs.declared.world.Found.{Found}
 use Rattle.commands.specs.declared.world.Found.TheVariants.{File, Folder, Link}
 use Rattle.commands.specs.declared.world.Listening.{Listening}
@@ -36,12 +37,16 @@ pub record Sight : Type 1 where
   pub lists : List ℕ → List (List ℕ) → Type 0
   -- this stands at the path, where a link isn't followed
   pub stands : List ℕ → FoundValue → Type 0
+  -- a folder stands at the path, where links are followed, or none does
+  pub leads : List ℕ → Bool → Type 0
   -- what stands at the path couldn't be read, for this
   pub fails : List ℕ → FileError Global → Type 0
   -- a stream was opened to the server at this address, and stood so
   pub connects : List ℕ → Flow → Type 0
   -- none could be opened, for this
   pub refuses : List ℕ → Error → Type 0
+  -- a file or nothing stands at the path, where links are followed, and its folder takes a new file
+  pub takes : List ℕ → Type 0
   -- the bytes were written to the file at the path
   pub wrote : List ℕ → List ℕ → Type 0
   -- the folder had nothing in it, then this was written into it, and nothing else
@@ -50,8 +55,12 @@ pub record Sight : Type 1 where
   pub unwritten : List ℕ → Error → Type 0
   -- a socket listens at this place, at this address
   pub listens : List ℕ → SocketAddr → Type 0
+  -- none could be bound there, for this
+  pub unbound : List ℕ → Error → Type 0
   -- these connections were served
   pub serves : Serving → Type 0
+  -- they weren't all served, for this
+  pub unserved : Serving → NotAccepted → Type 0
 
 -- nothing is known of it
 abbrev pub nothing_known : Sight
@@ -59,14 +68,18 @@ nothing_known = record {
   reads = λ _ _. Unit {0};
   lists = λ _ _. Unit {0};
   stands = λ _ _. Unit {0};
+  leads = λ _ _. Unit {0};
   fails = λ _ _. Unit {0};
   connects = λ _ _. Unit {0};
   refuses = λ _ _. Unit {0};
+  takes = λ _. Unit {0};
   wrote = λ _ _. Unit {0};
   holds = λ _. Unit {0};
   unwritten = λ _ _. Unit {0};
   listens = λ _ _. Unit {0};
+  unbound = λ _ _. Unit {0};
   serves = λ _. Unit {0};
+  unserved = λ _ _. Unit {0};
 }
 
 -- what was found at a path

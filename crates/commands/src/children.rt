@@ -1,5 +1,6 @@
-ghost use Rattle.std.specs.Prelude.{◌≡◌, IfOk, OnOk};
-ghost use Rattle.commands.specs.Children.{HasOneMore, children_of};
+ghost use Rattle.std.specs.Prelude.{◌≡◌, IfErr, IfOk, OnOk, codes};
+ghost use Rattle.commands.specs.Children.{AddsName, AreNamed, HasOneMore, children_of};
+ghost use Rattle.commands.specs.Faults.{IsEntryFault, OrMemory};
 ghost use Rattle.messages.specs.DirectoryRules.{IsDirectory};
 ghost use Rattle.tree.specs.Form.{no_children, node_value};
 
@@ -29,8 +30,9 @@ impl Children {
 
     /// One more child, after the others of its kind.
     pub(crate) fn push(&mut self, name: Name<Global>, node: Node<Global>) -> Result<(), AllocError>
-        ensures { OnOk result (HasOneMore name (node_value node) (children_of self.old)
+        ensures child { OnOk result (HasOneMore name (node_value node) (children_of self.old)
             (children_of self.new)) }
+        ensures named { OnOk result (AddsName name (children_of self.old) (children_of self.new)) }
     {
         match node {
             Node::File { digest, executable } => self.files.push(FileNode {
@@ -52,6 +54,9 @@ impl Children {
     ) -> Result<Directory<Global>, CommandError>
         ensures value { IfOk result (λ d. d ≡ children_of self) }
         ensures valid { IfOk result IsDirectory }
+        ensures refused { IfErr result (OrMemory
+            (λ e. ¬ AreNamed (children_of self)
+            × IsEntryFault place.now (codes "two entries of one name") e)) }
     {
         match Directory::new(self.files, self.directories, self.symlinks) {
             Ok(directory) => Ok(directory),

@@ -1,14 +1,17 @@
-ghost use Rattle.std.specs.Prelude.{◌≡◌, IfErr, IfOk, IsErrOf, OnOk, string_bytes};
-ghost use Rattle.blob_digest.specs.Digest.{DigestValue, digest_of};
+ghost use Rattle.std.specs.Prelude.{◌≡◌, IfErr, IfNone, IfOk, IsErrOf, OnOk, string_bytes};
+ghost use Rattle.blob_digest.specs.Digest.{digest_of};
 ghost use Rattle.blob_source.specs.Called.{Calls};
 ghost use Rattle.blob_source.specs.Sink.{IsPut, PutsBlob};
+ghost use Rattle.blob_source.specs.Source.{AsksBlob, AsksResult, bytes_of};
 ghost use Rattle.commands.specs.Faults.{TellsRefusal};
-ghost use Rattle.commands.specs.Places.{FailsOver, FailsToConnect, IsClientOver, IsConnected};
-ghost use Rattle.commands.specs.Places.{IsFresh, TellsOfFault};
+ghost use Rattle.commands.specs.Places.{AreLackedOver, FailsOver, FailsToConnect, IsClientOver};
+ghost use Rattle.commands.specs.Places.{IsConnected, IsFresh, LacksIt, LacksOver, TellsOfFault};
 ghost use Rattle.commands.specs.Put.{TakesBlob};
+ghost use Rattle.commands.specs.PutRefused.{RefusesPut};
+ghost use Rattle.commands.specs.Faults.{OrMemory};
 ghost use Rattle.commands.specs.Status.{status_of};
-ghost use Rattle.remote.specs.Remote.{blobs_of, connection_of, telling_of};
-ghost use Rattle.remote.specs.Table.{HasAnswer};
+ghost use Rattle.http_core.specs.declared.event.Area.TheVariants.{Ac, Cas};
+ghost use Rattle.remote.specs.Remote.{blobs_of, connection_of, results_of, telling_of};
 
 use crate::connecting::ServerOptions;
 use crate::error::CommandError;
@@ -19,6 +22,7 @@ use remote::{Fault, Remote, Stream};
 use std::alloc::{AllocError, Global};
 use std::io::ErrorKind;
 use std::marker::{Brand, PhantomData};
+use text_verifier::Lack;
 
 /// Marks a client by its connection, as that stood when it was opened.
 pub trait Origin {
@@ -41,13 +45,14 @@ pub struct Client<S: Stream + Drop, K: Origin> {
     digest: Digest,
     of: PhantomData<K>,
     ghost over: { ∥ IsClientOver K.start (connection_of S.flow remote) (telling_of remote) ∥₁ },
+    ghost lacked: { ∥ AreLackedOver K.start (blobs_of remote) (results_of remote) ∥₁ },
 }
 
 impl<S: Stream + Drop, K: Origin> Client<S, K> {
     /// A client over this connection.
     pub fn new(remote: Remote<S, Global>) -> Client<S, K>
         requires start { K.start ≡ connection_of S.flow remote }
-        requires fresh { IsFresh (telling_of remote) }
+        requires fresh { IsFresh remote }
         ensures { result.remote ≡ remote }
     {
         Client {
@@ -58,7 +63,7 @@ impl<S: Stream + Drop, K: Origin> Client<S, K> {
         }
     }
 
-    /// Puts a blob.
+    /// Puts a blob that isn't asked for again.
     pub(crate) fn put(
         &mut self,
         alloc: Global,
@@ -67,11 +72,48 @@ impl<S: Stream + Drop, K: Origin> Client<S, K> {
     ) -> Result<Digest, CommandError>
         ensures named { IfOk result (λ digest. digest ≡ digest_of bytes.now) }
         ensures taken { OnOk result (∥ TakesBlob K.start bytes.now ∥₁) }
+        ensures refused { IfErr result (OrMemory
+            (λ e. ∥ RefusesPut K.start (string_bytes server.now.address) bytes.now e ∥₁)) }
     {
-        match self.put_blob(alloc, bytes) {
+        self.asked = "put of blob";
+        match self.remote.send_blob(alloc, bytes) {
             Ok(digest) => Ok(digest),
-            Err(refusal) => Err(self.error(alloc, server, refusal)?),
+            Err(refusal) => {
+                self.digest = Digest::of(bytes);
+                Err(self.error(alloc, server, refusal)?)
+            }
         }
+    }
+
+    /// Looks again for what was told as missing.
+    fn look_again(&mut self, alloc: Global, lack: &Lack) -> Result<Option<Vec<u8>>, FetchError>
+        ensures lacked { IfOk result
+            (λ found. IfNone found (∥ LacksIt K.start lack.now ∥₁)) }
+    {
+        match lack {
+            Lack::Blob(digest) => self.fetch(alloc, digest),
+            Lack::ActionResult(digest) => self.result(alloc, digest),
+        }
+    }
+
+    /// Confirms that the server lacks what was told as missing: what was answered is answered
+    /// again, without a request.
+    pub(crate) fn confirm(
+        &mut self,
+        alloc: Global,
+        server: &ServerOptions,
+        lack: &Lack,
+    ) -> Result<(), CommandError>
+        ensures lacked { OnOk result (∥ LacksIt K.start lack.now ∥₁) }
+        ensures fault { IfErr result (λ e. ∥ FailsOver K.start e ∥₁) }
+        ensures status { IfErr result (λ e. status_of e ≡ 3) }
+    {
+        let refusal = match self.look_again(alloc, lack) {
+            Ok(None) => return Ok(()),
+            Ok(Some(_)) => FetchError::Failed,
+            Err(refusal) => refusal,
+        };
+        Err(self.error(alloc, server, refusal)?)
     }
 
     /// The error of the last call, which was refused.
@@ -97,13 +139,28 @@ impl<S: Stream + Drop, K: Origin> BlobSource<Global> for Client<S, K> {
 
     ghost tells = { λ c. telling_of c.remote };
 
-    fn fetch(&mut self, alloc: Global, digest: &Digest) -> Result<Option<Vec<u8>>, FetchError> {
+    fn fetch(&mut self, alloc: Global, digest: &Digest) -> Result<Option<Vec<u8>>, FetchError>
+        ensures told { IfOk result
+            (λ answer. bytes_of answer ≡ (telling_of self.new.remote).blobs digest.now) }
+        ensures called { Calls (AsksBlob digest.now) (telling_of self.old.remote)
+            (telling_of self.new.remote) (IsErrOf result FetchError.Failed) }
+        // Where there is none, the server has replied so.
+        ensures lacked { IfOk result
+            (λ answer. IfNone answer (∥ LacksOver K.start Cas digest.now.hash ∥₁)) }
+    {
         self.asked = "get of blob";
         self.digest = *digest;
         self.remote.fetch(alloc, digest)
     }
 
-    fn result(&mut self, alloc: Global, digest: &Digest) -> Result<Option<Vec<u8>>, FetchError> {
+    fn result(&mut self, alloc: Global, digest: &Digest) -> Result<Option<Vec<u8>>, FetchError>
+        ensures told { IfOk result
+            (λ answer. bytes_of answer ≡ (telling_of self.new.remote).results digest.now) }
+        ensures called { Calls (AsksResult digest.now) (telling_of self.old.remote)
+            (telling_of self.new.remote) (IsErrOf result FetchError.Failed) }
+        ensures lacked { IfOk result
+            (λ answer. IfNone answer (∥ LacksOver K.start Ac digest.now.hash ∥₁)) }
+    {
         self.asked = "get of result";
         self.digest = *digest;
         self.remote.result(alloc, digest)
@@ -120,8 +177,16 @@ impl<S: Stream + Drop, K: Origin> BlobSink<Global> for Client<S, K> {
         ensures taken { OnOk result (∥ TakesBlob K.start bytes.now ∥₁) }
     {
         self.asked = "put of blob";
-        self.digest = Digest::of(bytes);
-        self.remote.put_blob(alloc, bytes)
+        match self.remote.put_blob(alloc, bytes) {
+            Ok(digest) => {
+                self.digest = digest;
+                Ok(digest)
+            }
+            Err(refusal) => {
+                self.digest = Digest::of(bytes);
+                Err(refusal)
+            }
+        }
     }
 
     fn put_result(
@@ -169,9 +234,7 @@ pub fn open<W: World>(
 ) -> Result<Remote<W::Link, Global>, CommandError>
     ensures opened { IfOk result (λ remote. IsConnected W.sees (string_bytes server.now.address)
         server.now.host server.now.prefix (connection_of W.Link.flow remote)) }
-    ensures fresh { IfOk result (λ remote. IsFresh (telling_of remote)) }
-    ensures unasked { IfOk result (λ remote.
-        (d : DigestValue) → HasAnswer (blobs_of remote) d → ⊥) }
+    ensures fresh { IfOk result (λ remote. IsFresh remote) }
     ensures fault { IfErr result (FailsToConnect W.sees (string_bytes server.now.address)) }
 {
     match world.connect(alloc, server) {

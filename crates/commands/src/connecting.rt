@@ -1,11 +1,12 @@
-ghost use Rattle.std.specs.Prelude.{◌≡◌, ◌≢◌, [], IfErr, IfOk, IsTrue, OnOk, codes, string_bytes};
-ghost use Rattle.std.specs.Prelude.{true};
+ghost use Rattle.std.specs.Prelude.{◌≡◌, ◌≢◌, ◌∷◌, [], IfErr, IfOk, IsTrue, OnOk, codes};
+ghost use Rattle.std.specs.Prelude.{string_bytes, true};
 ghost use Rattle.std.specs.Io.{ReadsAtMost, WritesAtMost};
 ghost use Rattle.std.specs.Io.Buffered.{reader_buffer, reader_inner};
 ghost use Rattle.clap.specs.Words.{first_of, found_of, rows_of};
 ghost use Rattle.command_lines.specs.CommandLine.{option_text};
 ghost use Rattle.commands.specs.Options.{IsAddress, IsValidServer, IsTimeout};
 ghost use Rattle.commands.specs.Refusal.{IsCommandFault};
+ghost use Rattle.commands.specs.ServeRefused.{Checks, has_prefix};
 ghost use Rattle.http_core.specs.Host.{is_host};
 ghost use Rattle.http_core.specs.Prefix.{is_prefix};
 
@@ -77,6 +78,7 @@ pub(crate) fn read_prefix(
     ensures fault { IfErr result IsCommandFault }
     ensures invalid { IfErr result (λ e. e ≢ CommandError.Memory
         → ¬ IsTrue (is_prefix (option_text (rows_of (found_of matches.now)) (codes "prefix")))) }
+    ensures checked { Checks (has_prefix (rows_of (found_of matches.now)) ∷ []) result }
 {
     let text = text_of(matches, "prefix");
     match Prefix::read(alloc, text.as_bytes())? {

@@ -1,6 +1,8 @@
 ghost use Rattle.std.specs.Prelude.{◌≡◌};
+ghost use Rattle.commands.specs.Faults.{IsEntryFault, OrMemory};
 ghost use Rattle.commands.specs.Status.{status_of};
 
+use crate::hint::{Hint, hint_text};
 use blob_digest::DigestError;
 use plan::PlanError;
 use remote::Fault;
@@ -26,10 +28,11 @@ pub enum CommandError {
         greatest: u64,
         text: String,
     },
-    #[error("{path:?}: {fault}")]
+    #[error("{path:?}: {fault}{}", hint_text(.hint))]
     Text {
         path: String,
         fault: PlanError,
+        hint: Option<Hint>,
     },
     #[error("{path:?}: {fault}")]
     File {
@@ -142,7 +145,9 @@ impl<T: Drop> From<AllocFailed<T>> for CommandError {
 }
 
 /// The error of what stands at a place and can't be put.
-pub(crate) fn entry_error(alloc: Global, place: &str, fault: &'static str) -> CommandError {
+pub(crate) fn entry_error(alloc: Global, place: &str, fault: &'static str) -> CommandError
+    ensures { OrMemory (IsEntryFault place.now fault.now) result }
+{
     match String::from_str(alloc, place) {
         Ok(path) => CommandError::Entry { path, fault },
         Err(_) => CommandError::Memory,

@@ -1,19 +1,23 @@
 ghost use Rattle.std.specs.Prelude.{◌≡◌, ◌⊎◌, None, IfErr, IfNone, IfOk, IfSome, OnErr};
-ghost use Rattle.blob_digest.specs.Digest.{DigestValue, digest_of};
+ghost use Rattle.std.specs.Prelude.{◌↔◌, IsTrue, string_bytes};
+ghost use Rattle.blob_digest.specs.Digest.{digest_of};
 ghost use Rattle.clap.specs.Words.{found_of, rows_of};
-ghost use Rattle.commands.specs.Got.{Writes, WritesPart};
+ghost use Rattle.commands.specs.Ended.{is_done};
+ghost use Rattle.commands.specs.GetRefused.{FailsGetBlob, FailsGet};
+ghost use Rattle.commands.specs.Got.{IsBlobOver, Writes, WritesPart};
+ghost use Rattle.commands.specs.Places.{IsFresh};
 ghost use Rattle.commands.specs.Printed.{GetsAsked, GetsPart};
 ghost use Rattle.commands.specs.Status.{status_of};
 ghost use Rattle.http_core.specs.declared.event.Area.TheVariants.{Cas};
 ghost use Rattle.remote.specs.Line.{Gets};
-ghost use Rattle.remote.specs.Remote.{blobs_of, connection_of};
-ghost use Rattle.remote.specs.Table.{HasAnswer};
+ghost use Rattle.remote.specs.Remote.{connection_of};
 
 use crate::client::{open, server_error};
 use crate::connecting::{ServerOptions, read_server};
+use crate::ended::{Ended, Note};
 use crate::error::CommandError;
 use crate::options::read_digest;
-use crate::telling::write_bytes;
+use crate::printing::print_all;
 use crate::trees::get_tree;
 use crate::world::World;
 use blob_digest::Digest;
@@ -21,8 +25,15 @@ use blob_source::BlobSource;
 use clap::ArgMatches;
 use command_lines::{option_of, text_of};
 use remote::{Remote, Stream};
-use std::alloc::Global;
+use std::alloc::{AllocError, Global};
 use std::io::Write;
+
+/// Whether the bytes have the digest.
+fn has_digest(bytes: &[u8], digest: &Digest) -> bool
+    ensures { IsTrue result ↔ (digest_of bytes.now ≡ digest.now) }
+{
+    Digest::of(bytes) == *digest
+}
 
 /// The bytes of the blob of the digest, where the server at the other end of the connection has it.
 /// Nothing is asked for the empty one.
@@ -32,12 +43,14 @@ fn get_blob<S: Stream + Drop>(
     remote: &mut Remote<S, Global>,
     digest: &Digest,
 ) -> Result<Option<Vec<u8>>, CommandError>
-    requires { (d : DigestValue) → HasAnswer (blobs_of remote.old) d → ⊥ }
-    ensures right { IfOk result (λ found.
-        IfSome found (λ bytes. digest_of bytes.items ≡ digest.now)) }
+    requires { IsFresh remote.old }
+    ensures right { IfOk result (λ found. IfSome found (λ bytes.
+        IsBlobOver (connection_of S.flow remote.old) digest.now bytes.items)) }
     ensures none { IfOk result (λ found. IfNone found (Gets (connection_of S.flow remote.old)
         (connection_of S.flow remote.new) Cas digest.now.hash None)) }
-    ensures fault { IfErr result (λ e. status_of e ≡ 3) }
+    ensures status { IfErr result (λ e. status_of e ≡ 3) }
+    ensures fault { IfErr result (FailsGetBlob (connection_of S.flow remote.old)
+        (string_bytes server.now.address) digest.now) }
 {
     if *digest == Digest::empty() {
         return Ok(Some(Vec::new(alloc)));
@@ -45,7 +58,7 @@ fn get_blob<S: Stream + Drop>(
     match remote.fetch(alloc, digest) {
         Ok(None) => Ok(None),
         Ok(Some(bytes)) => {
-            if Digest::of(&bytes) == *digest {
+            if has_digest(&bytes, digest) {
                 return Ok(Some(bytes));
             }
             Err(CommandError::WrongBytes {
@@ -60,46 +73,57 @@ fn get_blob<S: Stream + Drop>(
     }
 }
 
-/// Prints the bytes of the blob of the digest, and answers whether the server at the other end of
-/// the connection has it.
+/// The note that the server has no such blob.
+fn no_blob(alloc: Global, server: &ServerOptions, digest: &Digest) -> Result<Note, AllocError> {
+    Ok(Note::NoBlob {
+        server: String::from_str(alloc, server.address.as_str())?,
+        digest: digest.write_text(alloc)?,
+    })
+}
+
+/// Prints the bytes of the blob of the digest, where the server at the other end of the connection
+/// has it.
 fn print_blob<S: Stream + Drop, O: Write>(
     alloc: Global,
     server: &ServerOptions,
     remote: Remote<S, Global>,
     digest: &Digest,
     out: &mut O,
-) -> Result<bool, CommandError>
-    requires { (d : DigestValue) → HasAnswer (blobs_of remote) d → ⊥ }
-    ensures printed { IfOk result (Writes (λ c. c ≡ connection_of S.flow remote) digest.now
-        (O.contents out.old) (O.contents out.new)) }
+) -> Result<Ended, CommandError>
+    requires { IsFresh remote }
+    ensures printed { IfOk result (λ ended. Writes (connection_of S.flow remote) digest.now
+        (O.contents out.old) (O.contents out.new) (is_done ended)) }
     ensures begun { OnErr result ((O.contents out.new ≡ O.contents out.old)
         ⊎ WritesPart digest.now (O.contents out.old) (O.contents out.new)) }
-    ensures fault { IfErr result (λ e. status_of e ≡ 3) }
+    ensures status { IfErr result (λ e. status_of e ≡ 3) }
+    ensures fault { IfErr result (FailsGetBlob (connection_of S.flow remote)
+        (string_bytes server.now.address) digest.now) }
 {
     let mut remote = remote;
     let Some(bytes) = get_blob(alloc, server, &mut remote, digest)? else {
-        return Ok(false);
+        return Ok(Ended::No(Some(no_blob(alloc, server, digest)?)));
     };
-    write_bytes(out, &bytes)?;
-    out.flush().map_err(CommandError::Output)?;
-    Ok(true)
+    print_all(out, &bytes)?;
+    Ok(Ended::Done)
 }
 
 /// Writes the bytes of the blob whose digest the words spell, or its tree into the folder that they
-/// name, and answers whether the server has all of it.
+/// name, where the server has all of it.
 pub fn run_get<W: World, O: Write>(
     alloc: Global,
     world: &W,
     matches: &ArgMatches<'_>,
     out: &mut O,
-) -> Result<bool, CommandError>
-    ensures answered { IfOk result (GetsAsked W.sees (rows_of (found_of matches.now))
-        (O.contents out.old) (O.contents out.new)) }
+) -> Result<Ended, CommandError>
+    ensures answered { IfOk result (λ ended. GetsAsked W.sees (rows_of (found_of matches.now))
+        (O.contents out.old) (O.contents out.new) (is_done ended)) }
     // A refusal leaves no byte that isn't the blob's, or of the line of one that the server lacks.
     ensures begun { OnErr result
         (GetsPart (rows_of (found_of matches.now)) (O.contents out.old) (O.contents out.new)) }
     ensures unprinted { IfErr result
         (λ fault. status_of fault ≡ 2 → O.contents out.new ≡ O.contents out.old) }
+    // It is for the first fault: what comes before it has none.
+    ensures refused { IfErr result (FailsGet W.sees (rows_of (found_of matches.now))) }
 {
     let server = read_server(alloc, matches, text_of(matches, "server"))?;
     let digest = read_digest(alloc, matches, "digest")?;

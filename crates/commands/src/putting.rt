@@ -6,9 +6,13 @@ ghost use Rattle.clap.specs.Words.{found_of, rows_of};
 ghost use Rattle.commands.specs.Places.{IsFresh};
 ghost use Rattle.commands.specs.Printed.{PrintsDigest};
 ghost use Rattle.commands.specs.Put.{IsPutAt, PutsPath};
+ghost use Rattle.commands.specs.PutRefused.{FailsBelow, FailsHere, FailsPut, HasNoName};
+ghost use Rattle.commands.specs.PutRefused.{LinksToNoText};
+ghost use Rattle.commands.specs.Faults.{OrMemory};
+ghost use Rattle.commands.specs.Refusal.{IsPrintFault};
 ghost use Rattle.commands.specs.Status.{status_of};
 ghost use Rattle.messages.specs.declared.node.Node.TheVariants as nodes;
-ghost use Rattle.remote.specs.Remote.{connection_of, telling_of};
+ghost use Rattle.remote.specs.Remote.{connection_of};
 
 use crate::children::Children;
 use crate::client::{Client, Origin, open};
@@ -32,6 +36,7 @@ const GREATEST_DEPTH: u32 = 64;
 /// The name of what stands at a place.
 fn name_at(alloc: Global, place: &str, name: &str) -> Result<Name<Global>, CommandError>
     ensures name { IfOk result (λ n. n ≡ name.now) }
+    ensures refused { IfErr result (OrMemory (HasNoName place.now name.now)) }
 {
     match Name::new(alloc, name.as_bytes()) {
         Ok(name) => Ok(name),
@@ -43,6 +48,7 @@ fn name_at(alloc: Global, place: &str, name: &str) -> Result<Name<Global>, Comma
 /// The target of a link that stands at a place.
 fn target_at(alloc: Global, place: &str, target: &str) -> Result<Target<Global>, CommandError>
     ensures target { IfOk result (λ t. t ≡ target.now) }
+    ensures refused { IfErr result (OrMemory (LinksToNoText place.now target.now)) }
 {
     match Target::new(alloc, target.as_bytes()) {
         Ok(target) => Ok(target),
@@ -62,6 +68,8 @@ fn put_file<R: AllocGlobal + Clock, W: World, S: Stream + Drop, K: Origin, T: Wr
 ) -> Result<Digest, CommandError>
     ensures put { IfOk result (λ digest.
         IsPutAt W.sees K.start place.now (nodes.File digest false)) }
+    ensures refused { IfErr result
+        (FailsHere W.sees K.start (string_bytes server.now.address) place.now) }
 {
     let bytes = world.read(rt.alloc(), place)?;
     let digest = client.put(rt.alloc(), server, &bytes)?;
@@ -81,6 +89,8 @@ fn put_folder<R: AllocGlobal + Clock, W: World, S: Stream + Drop, K: Origin, T: 
     left: u32,
 ) -> Result<Digest, CommandError>
     ensures put { IfOk result (λ digest. IsPutAt W.sees K.start place.now (nodes.Dir digest)) }
+    ensures refused { IfErr result
+        (λ e. FailsBelow W.sees K.start (string_bytes server.now.address) e left place.now) }
 {
     let alloc = rt.alloc();
     let names = world.list(alloc, place)?;
@@ -129,8 +139,10 @@ fn put_over<R, W: World, S: Stream + Drop, K: Origin, T: Write + Drop>(
 where
     R: AllocGlobal + Clock,
     requires start { K.start ≡ connection_of S.flow remote }
-    requires fresh { IsFresh (telling_of remote) }
+    requires fresh { IsFresh remote }
     ensures put { IfOk result (PutsPath W.sees K.start (string_bytes place)) }
+    ensures refused { IfErr result (λ e. FailsBelow W.sees K.start
+        (string_bytes server.now.address) e 64 (string_bytes place)) }
 {
     let mut client: Client<S, K> = Client::new(remote);
     let place = place.as_str();
@@ -153,7 +165,7 @@ where
 fn print_digest<O: Write>(alloc: Global, digest: &Digest, out: &mut O) -> Result<(), CommandError>
     ensures printed { OnOk result
         (Appends (O.contents out.old) (O.contents out.new) (digest_text digest.now ++ 10 ∷ [])) }
-    ensures fault { IfErr result (λ e. status_of e ≡ 3) }
+    ensures fault { IfErr result (OrMemory IsPrintFault) }
 {
     let mut line = digest.write_text(alloc)?;
     line.push('\n')?;
@@ -179,6 +191,8 @@ where
         (O.contents out.old) (O.contents out.new)) }
     ensures unprinted { IfErr result
         (λ fault. status_of fault ≡ 2 → O.contents out.new ≡ O.contents out.old) }
+    // A refusal is for the first fault: what comes before it has none.
+    ensures refused { IfErr result (FailsPut W.sees (rows_of (found_of matches.now))) }
 {
     let alloc = rt.alloc();
     let server = read_server(alloc, matches, text_of(matches, "server"))?;

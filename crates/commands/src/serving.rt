@@ -1,10 +1,13 @@
-ghost use Rattle.std.specs.Prelude.{◌≡◌, ◌≤◌, ◌<◌, ◌^◌, IfErr, IfOk, OnOk, codes};
+ghost use Rattle.std.specs.Prelude.{◌≡◌, ◌≤◌, ◌<◌, ◌^◌, ◌∷◌, [], IfErr, IfOk, OnOk, codes};
 ghost use Rattle.std.specs.Io.KnownBytes.{Appends};
 ghost use Rattle.clap.specs.Words.{found_of, rows_of};
 ghost use Rattle.command_lines.specs.CommandLine.{option_text};
 ghost use Rattle.commands.specs.Options.{IsNumber, number_of, number_or};
 ghost use Rattle.commands.specs.Printed.{IsAsked, ServesAsked, listening_line};
-ghost use Rattle.commands.specs.Refusal.{IsCommandFault};
+ghost use Rattle.commands.specs.Faults.{OrMemory};
+ghost use Rattle.commands.specs.Refusal.{IsPrintFault};
+ghost use Rattle.commands.specs.ServeRefused.{Checks, FailsServe, FailsToListen, is_at_once};
+ghost use Rattle.commands.specs.ServeRefused.{is_idle, is_number, listens_at, serve_words};
 ghost use Rattle.commands.specs.Status.{status_of};
 
 use crate::connecting::read_prefix;
@@ -53,6 +56,8 @@ fn read_number(
     ensures number { IfOk result (λ number.
         IsNumber (option_text (rows_of (found_of matches.now)) option.now)
         × (number ≡ number_of (option_text (rows_of (found_of matches.now)) option.now))) }
+    ensures checked { Checks
+        (is_number (rows_of (found_of matches.now)) option.now greatest ∷ []) result }
 {
     let text = text_of(matches, option);
     match number_in(text) {
@@ -69,7 +74,7 @@ fn read_number(
 fn read_address<'a>(alloc: Global, matches: &ArgMatches<'a>) -> Result<&'a str, CommandError>
     ensures address { IfOk result (λ address.
         address.now ≡ option_text (rows_of (found_of matches.now)) (codes "listen")) }
-    ensures fault { IfErr result IsCommandFault }
+    ensures checked { Checks (listens_at (rows_of (found_of matches.now)) ∷ []) result }
 {
     let text = text_of(matches, "listen");
     if is_address(text) {
@@ -81,8 +86,9 @@ fn read_address<'a>(alloc: Global, matches: &ArgMatches<'a>) -> Result<&'a str, 
 
 /// The number of seconds of `--idle`.
 fn read_idle(alloc: Global, matches: &ArgMatches<'_>) -> Result<u64, CommandError>
-    ensures { IfOk result (λ idle.
+    ensures idle { IfOk result (λ idle.
         idle ≡ number_or 60 (rows_of (found_of matches.now)) (codes "idle")) }
+    ensures checked { Checks (is_idle (rows_of (found_of matches.now)) ∷ []) result }
 {
     match option_of(matches, "idle") {
         Some(_) => read_number(alloc, matches, "idle", GREATEST_LIMIT),
@@ -92,8 +98,9 @@ fn read_idle(alloc: Global, matches: &ArgMatches<'_>) -> Result<u64, CommandErro
 
 /// The number of `--at-once`, at least 1.
 fn read_at_once(alloc: Global, matches: &ArgMatches<'_>) -> Result<usize, CommandError>
-    ensures { IfOk result (λ at_once.
+    ensures at_once { IfOk result (λ at_once.
         at_once ≡ number_or 1 (rows_of (found_of matches.now)) (codes "at-once")) }
+    ensures checked { Checks (is_at_once (rows_of (found_of matches.now))) result }
 {
     if option_of(matches, "at-once").is_none() {
         return Ok(1);
@@ -114,6 +121,7 @@ fn read_asked<'a>(alloc: Global, matches: &ArgMatches<'a>) -> Result<Asked<'a>, 
     ensures few { IfOk result
         (λ asked. (asked.limit < 2 ^ 63) × (asked.result_limit < 2 ^ 63)) }
     ensures asked { IfOk result (IsAsked (rows_of (found_of matches.now))) }
+    ensures checked { Checks (serve_words (rows_of (found_of matches.now))) result }
 {
     let address = read_address(alloc, matches)?;
     let connections = read_number(alloc, matches, "connections", u64::MAX)?;
@@ -135,7 +143,8 @@ fn read_asked<'a>(alloc: Global, matches: &ArgMatches<'a>) -> Result<Asked<'a>, 
 
 /// Listens at the address.
 fn listen<W: World>(alloc: Global, world: &W, address: &str) -> Result<Listening, CommandError>
-    ensures { IfOk result (λ l. W.sees.listens address.now l.address) }
+    ensures listens { IfOk result (λ l. W.sees.listens address.now l.address) }
+    ensures fault { IfErr result (OrMemory (FailsToListen W.sees address.now)) }
 {
     match world.listen(address) {
         Ok(listening) => Ok(listening),
@@ -154,7 +163,7 @@ fn print_address<O: Write>(
 ) -> Result<(), CommandError>
     ensures printed { OnOk result
         (Appends (O.contents out.old) (O.contents out.new) (listening_line address.now)) }
-    ensures fault { IfErr result (λ e. status_of e ≡ 3) }
+    ensures fault { IfErr result (OrMemory IsPrintFault) }
 {
     let address = address.to_string(alloc)?;
     let mut line = String::from_str(alloc, "listening ")?;
@@ -177,6 +186,8 @@ pub fn run_serve<R: AllocGlobal + RandomSource, W: World, O: Write>(
         (O.contents out.old) (O.contents out.new)) }
     ensures unprinted { IfErr result (λ fault. status_of fault ≡ 2
         → O.contents out.new ≡ O.contents out.old) }
+    // A refusal is for the first fault: what comes before it has none.
+    ensures refused { IfErr result (FailsServe W.sees (rows_of (found_of matches.now))) }
 {
     let alloc = rt.alloc();
     let asked = read_asked(alloc, matches)?;
@@ -191,7 +202,8 @@ pub fn run_serve<R: AllocGlobal + RandomSource, W: World, O: Write>(
         at_once: asked.at_once,
         idle: asked.idle,
     };
-    world
-        .serve(listening, service)
-        .map_err(CommandError::Accept)
+    match world.serve(listening, service) {
+        Ok(()) => Ok(()),
+        Err(fault) => Err(CommandError::Accept(fault)),
+    }
 }

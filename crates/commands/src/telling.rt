@@ -1,10 +1,11 @@
-ghost use Rattle.std.specs.Prelude.{◌≡◌, ◌≢◌, IfOk, IfErr, OnOk, OnErr};
+ghost use Rattle.std.specs.Prelude.{◌≡◌, ◌≢◌, IfOk, IfErr, OnOk, OnErr, codes};
 ghost use Rattle.std.specs.Io.KnownBytes.{Appends};
 ghost use Rattle.commands.specs.Refusal.{IsPrintFault};
 ghost use Rattle.commands.specs.Status.{status_of};
-ghost use Rattle.commands.specs.Told.{AppendsPart, IsErrorLine, TellsOf};
+ghost use Rattle.commands.specs.Told.{AppendsPart, IsLineOf, TellsNote, TellsOf};
 ghost use Rattle.report.specs.Line.{HasNoNewline};
 
+use crate::ended::Note;
 use crate::error::CommandError;
 use std::alloc::{AllocError, Global};
 use std::io::{ErrorKind, Write};
@@ -50,21 +51,28 @@ fn in_one_line(alloc: Global, text: &[u8]) -> Result<Vec<u8>, AllocError>
     Ok(line)
 }
 
+/// The line of a text after its head: a space stands for each newline of the text.
+fn line_of(alloc: Global, head: &str, text: &str) -> Result<Vec<u8>, AllocError>
+    ensures { IfOk result (λ line. IsLineOf head.now line.items) }
+{
+    let told = in_one_line(alloc, text.as_bytes())?;
+    let mut line = Vec::new(alloc);
+    line.extend_from_slice(head.as_bytes())?;
+    line.extend_from_slice(&told)?;
+    line.push(b'\n')?;
+    Ok(line)
+}
+
 /// The error's line. That memory is wanting is told without any.
 fn error_line(alloc: Global, error: &CommandError) -> Result<Vec<u8>, AllocError>
-    ensures valid { IfOk result (λ line. IsErrorLine line.items) }
+    ensures valid { IfOk result (λ line. IsLineOf (codes "error: ") line.items) }
     ensures other { IfOk result (λ _. error.now ≢ CommandError.Memory) }
 {
     if matches!(error, CommandError::Memory) {
         return Err(AllocError);
     }
     let text = error.to_string(alloc)?;
-    let told = in_one_line(alloc, text.as_bytes())?;
-    let mut line = Vec::new(alloc);
-    line.extend_from_slice(b"error: ")?;
-    line.extend_from_slice(&told)?;
-    line.push(b'\n')?;
-    Ok(line)
+    line_of(alloc, "error: ", text.as_str())
 }
 
 /// Tells the error in one line. Where no memory is left for that, the line tells `out of memory`.
@@ -75,5 +83,24 @@ pub fn tell<E: Write>(alloc: Global, error: &CommandError, err: &mut E)
         Ok(line) => write_bytes(err, &line),
         Err(_e) => write_bytes(err, b"error: out of memory\n"),
     };
+    let _ = err.flush();
+}
+
+/// The note's line.
+fn note_line(alloc: Global, note: &Note) -> Result<Vec<u8>, AllocError>
+    ensures { IfOk result (λ line. IsLineOf (codes "note: ") line.items) }
+{
+    let text = note.to_string(alloc)?;
+    line_of(alloc, "note: ", text.as_str())
+}
+
+/// Tells the note in one line. Where no memory is left for that, nothing is told.
+pub fn tell_note<E: Write>(alloc: Global, note: &Note, err: &mut E)
+    ensures { TellsNote (E.contents err.old) (E.contents err.new) }
+{
+    let Ok(line) = note_line(alloc, note) else {
+        return;
+    };
+    let _ = write_bytes(err, &line);
     let _ = err.flush();
 }

@@ -1,13 +1,18 @@
-ghost use Rattle.std.specs.Prelude.{◌≡◌, IfErr, IfOk, OnErr, OnOk, string_bytes};
-ghost use Rattle.commands.specs.Places.{IsFresh, IsToldOver};
+ghost use Rattle.std.specs.Prelude.{◌≡◌, ◌⊎◌, IfErr, IfOk, OnErr, OnOk, string_bytes};
+ghost use Rattle.std.specs.Io.KnownBytes.{Appends};
+ghost use Rattle.commands.specs.Ended.{is_done};
+ghost use Rattle.commands.specs.GetRefused.{FailsGetTree, TellsTree};
+ghost use Rattle.commands.specs.Places.{IsFresh};
+ghost use Rattle.commands.specs.Refusal.{IsPrintFault};
 ghost use Rattle.commands.specs.Status.{status_of};
 ghost use Rattle.commands.specs.Trees.{BeginsMissing, IsTreeGot, PrintsLack, missing_line};
-ghost use Rattle.remote.specs.Remote.{connection_of, telling_of};
+ghost use Rattle.remote.specs.Remote.{connection_of};
 
 use crate::client::{Client, Origin};
 use crate::connecting::ServerOptions;
+use crate::ended::Ended;
 use crate::error::CommandError;
-use crate::telling::write_bytes;
+use crate::printing::print_all;
 use crate::world::World;
 use blob_digest::Digest;
 use checkout::CheckoutError;
@@ -15,6 +20,7 @@ use remote::{Remote, Stream};
 use std::alloc::{AllocError, Global};
 use std::io::Write;
 use std::marker::Brand;
+use text_verifier::Lack;
 use tree::FetchError;
 
 /// The line of a blob that a server lacks.
@@ -25,25 +31,38 @@ fn missing_line(alloc: Global, digest: &Digest) -> Result<String, AllocError>
     format!(in alloc; "missing {text}\n")
 }
 
+/// Prints the line of a blob that a server lacks.
+fn print_missing<O: Write>(alloc: Global, digest: &Digest, out: &mut O) -> Result<(), CommandError>
+    ensures printed { OnOk result
+        (Appends (O.contents out.old) (O.contents out.new) (missing_line digest.now)) }
+    ensures begun { OnErr result (BeginsMissing (O.contents out.old) (O.contents out.new)) }
+    ensures fault { IfErr result (λ e. (e ≡ CommandError.Memory) ⊎ IsPrintFault e) }
+    ensures status { IfErr result (λ e. status_of e ≡ 3) }
+{
+    let line = missing_line(alloc, digest)?;
+    print_all(out, line.as_bytes())
+}
+
 /// Prints the line of a blob that the server lacks, where that is why a tree wasn't written; else
 /// the error says why.
 fn print_lack<S: Stream + Drop, K: Origin, O: Write>(
     alloc: Global,
     server: &ServerOptions,
-    client: &Client<S, K>,
+    client: &mut Client<S, K>,
     error: CheckoutError<Global>,
     out: &mut O,
 ) -> Result<(), CommandError>
     ensures printed { OnOk result
-        (PrintsLack error (O.contents out.old) (O.contents out.new)) }
+        (PrintsLack K.start error (O.contents out.old) (O.contents out.new)) }
     ensures begun { OnErr result (BeginsMissing (O.contents out.old) (O.contents out.new)) }
-    ensures fault { IfErr result (λ e. status_of e ≡ 3) }
+    ensures fault { IfErr result (λ e. (e ≡ CommandError.Memory)
+        ⊎ TellsTree K.start (string_bytes server.now.address) error e) }
+    ensures status { IfErr result (λ e. status_of e ≡ 3) }
 {
     match error {
         CheckoutError::Missing(lacked) => {
-            let line = missing_line(alloc, &lacked)?;
-            write_bytes(out, line.as_bytes())?;
-            out.flush().map_err(CommandError::Output)
+            client.confirm(alloc, server, &Lack::Blob(lacked))?;
+            print_missing(alloc, &lacked, out)
         }
         CheckoutError::Place { path, fault } => Err(CommandError::File { path, fault }),
         CheckoutError::Fetch => Err(client.error(alloc, server, FetchError::Failed)?),
@@ -72,27 +91,28 @@ fn get_over<W: World, S: Stream + Drop, K: Origin, O: Write>(
     digest: &Digest,
     folder: String,
     out: &mut O,
-) -> Result<bool, CommandError>
+) -> Result<Ended, CommandError>
     requires start { K.start ≡ connection_of S.flow remote }
-    requires fresh { IsFresh (telling_of remote) }
-    ensures got { IfOk result (IsTreeGot W.sees (IsToldOver K.start) digest.now (string_bytes folder)
-        (O.contents out.old) (O.contents out.new)) }
+    requires fresh { IsFresh remote }
+    ensures got { IfOk result (λ ended. IsTreeGot W.sees K.start digest.now (string_bytes folder)
+        (O.contents out.old) (O.contents out.new) (is_done ended)) }
     ensures begun { OnErr result (BeginsMissing (O.contents out.old) (O.contents out.new)) }
-    ensures fault { IfErr result (λ e. status_of e ≡ 3) }
+    ensures fault { IfErr result (FailsGetTree W.sees K.start (string_bytes server.now.address)
+        digest.now (string_bytes folder)) }
+    ensures status { IfErr result (λ e. status_of e ≡ 3) }
 {
     let mut client: Client<S, K> = Client::new(remote);
     match world.check_out(alloc, folder.as_str(), digest, &mut client) {
-        Ok(()) => Ok(true),
+        Ok(()) => Ok(Ended::Done),
         Err(error) => {
-            print_lack(alloc, server, &client, error, out)?;
-            Ok(false)
+            print_lack(alloc, server, &mut client, error, out)?;
+            Ok(Ended::No(None))
         }
     }
 }
 
-/// Writes the tree with the digest into a folder that isn't there or is empty, and answers whether
-/// the server has all of it. The line of a blob that it lacks is printed, and what was written
-/// before stays.
+/// Writes the tree with the digest into a folder that isn't there or is empty, where the server has
+/// all of it. The line of a blob that it lacks is printed, and what was written before stays.
 pub(crate) fn get_tree<W: World, O: Write>(
     alloc: Global,
     world: &W,
@@ -101,12 +121,14 @@ pub(crate) fn get_tree<W: World, O: Write>(
     digest: &Digest,
     folder: &str,
     out: &mut O,
-) -> Result<bool, CommandError>
-    requires fresh { IsFresh (telling_of remote) }
-    ensures got { IfOk result (IsTreeGot W.sees (IsToldOver (connection_of W.Link.flow remote))
-        digest.now folder.now (O.contents out.old) (O.contents out.new)) }
+) -> Result<Ended, CommandError>
+    requires fresh { IsFresh remote }
+    ensures got { IfOk result (λ ended. IsTreeGot W.sees (connection_of W.Link.flow remote)
+        digest.now folder.now (O.contents out.old) (O.contents out.new) (is_done ended)) }
     ensures begun { OnErr result (BeginsMissing (O.contents out.old) (O.contents out.new)) }
-    ensures fault { IfErr result (λ e. status_of e ≡ 3) }
+    ensures fault { IfErr result (FailsGetTree W.sees (connection_of W.Link.flow remote)
+        (string_bytes server.now.address) digest.now folder.now) }
+    ensures status { IfErr result (λ e. status_of e ≡ 3) }
 {
     let folder = String::from_str(alloc, folder)?;
     get_over::<W, W::Link, Brand, O>(alloc, world, server, remote, digest, folder, out)

@@ -1,19 +1,22 @@
 ghost use Rattle.std.specs.Prelude.{◌≡◌, ◌≢◌, ◌↔◌, IfErr, IfNone, IfOk, IfSome, IsTrue, None};
-ghost use Rattle.std.specs.Prelude.{OnErr, OnOk, codes, string_bytes};
+ghost use Rattle.std.specs.Prelude.{OnErr, OnOk, codes, string_bytes, ⊤};
 ghost use Rattle.std.specs.Io.KnownBytes.{Appends};
 ghost use Rattle.blob_source.specs.Source.{Telling};
 ghost use Rattle.clap.specs.Words.{found_of, first_of, rows_of};
 ghost use Rattle.command_lines.specs.CommandLine.{option_text};
+ghost use Rattle.commands.specs.Ended.{is_done};
 ghost use Rattle.commands.specs.Places.{FailsInFolder, FailsOver, IsFresh, IsOfFolder};
-ghost use Rattle.commands.specs.Places.{IsOfServer, IsAnsweredBy, IsToldOver};
+ghost use Rattle.commands.specs.Places.{IsOfServer, IsAnsweredBy, IsToldOver, LacksAtServer};
+ghost use Rattle.commands.specs.Places.{LacksIt};
 ghost use Rattle.commands.specs.Printed.{AsksQuestion, IsNamedPlace, IsOfPlace, NamesPlace};
-ghost use Rattle.commands.specs.Printed.{NamesStore, PrintsVerdict};
+ghost use Rattle.commands.specs.Printed.{LacksFolder, NamesStore, NotesStore, PrintsVerdict};
+ghost use Rattle.commands.specs.Printed.{LacksAtPlace};
 ghost use Rattle.commands.specs.Refusal.{FailsDigests, FailsPlace, FailsPlan, FailsRecord};
 ghost use Rattle.commands.specs.Refusal.{FailsServer, FailsVerify, HasPlanRead, IsCommandFault};
 ghost use Rattle.commands.specs.Refusal.{IsPrintFault};
 ghost use Rattle.commands.specs.Status.{status_of};
 ghost use Rattle.commands.specs.Told.{PrintsNoLine};
-ghost use Rattle.remote.specs.Remote.{connection_of, telling_of};
+ghost use Rattle.remote.specs.Remote.{connection_of};
 ghost use Rattle.report.specs.Line.{IsOneLine};
 ghost use Rattle.text_verifier.specs.Answered.{IsAnswer};
 ghost use Rattle.text_verifier.specs.Texts.{IsDigestText};
@@ -21,18 +24,22 @@ ghost use Rattle.verifier.specs.Verdict.{IsYes};
 
 use crate::client::{Client, Origin, open};
 use crate::connecting::{ServerOptions, read_server};
+use crate::ended::{Ended, Note};
 use crate::error::CommandError;
+use crate::hint::Hint;
 use crate::shelf::{Place, Shelf};
 use crate::telling::write_bytes;
 use crate::world::{FilesOf, World};
 use clap::ArgMatches;
 use command_lines::{option_of, text_of};
 use plan::Plan;
-use remote::{Remote, Stream};
+use remote::{FileError, Remote, Stream};
 use std::alloc::Global;
-use std::io::Write;
+use std::io::{ErrorKind, Write};
 use std::marker::Brand;
-use text_verifier::{Answer, Case, Digests, TextError, answer_question, read_digests, read_plan};
+use text_verifier::{
+    Answer, Case, Digests, Lack, TextError, answer_question, read_digests, read_plan,
+};
 use tree::FetchError;
 
 /// Where the recorded build is.
@@ -89,6 +96,7 @@ pub fn plan_in_file<W: World>(
         Err(TextError::Plan(fault)) => Err(CommandError::Text {
             path: String::from_str(alloc, path)?,
             fault,
+            hint: Hint::of(&bytes, &fault),
         }),
         Err(_e) => Err(CommandError::Memory),
     }
@@ -121,6 +129,7 @@ fn read_case<W: World>(
         Err(TextError::Record(fault)) => Err(CommandError::Text {
             path: String::from_str(alloc, path)?,
             fault,
+            hint: Hint::of(&bytes, &fault),
         }),
         Err(_e) => Err(CommandError::Memory),
     }
@@ -169,7 +178,7 @@ fn judge_folder<W: World, K: Place>(
     case: &Case<Global>,
 ) -> Result<Answer<Global>, CommandError>
     requires { K.place ≡ string_bytes folder }
-    ensures answered { IfOk result (IsAnsweredBy (IsOfFolder W.sees K.place) case.now) }
+    ensures answered { IfOk result (IsAnsweredBy (IsOfFolder W.sees K.place) (λ _. ⊤) case.now) }
     ensures fault { IfErr result (λ e. ∥ FailsInFolder W.sees K.place e ∥₁) }
 {
     let files = FilesOf(world);
@@ -181,6 +190,22 @@ fn judge_folder<W: World, K: Place>(
     }
 }
 
+/// Confirms that the server lacks what is missing.
+fn confirm_lack<S: Stream + Drop, K: Origin>(
+    alloc: Global,
+    server: &ServerOptions,
+    client: &mut Client<S, K>,
+    lack: &Option<Lack>,
+) -> Result<(), CommandError>
+    ensures lacked { OnOk result (IfSome lack.now (λ lack. ∥ LacksIt K.start lack ∥₁)) }
+    ensures fault { IfErr result (λ e. ∥ FailsOver K.start e ∥₁) }
+{
+    match lack {
+        Some(lack) => client.confirm(alloc, server, lack),
+        None => Ok(()),
+    }
+}
+
 /// The answer over the marked connection.
 fn judge_over<S: Stream + Drop, K: Origin>(
     alloc: Global,
@@ -189,13 +214,17 @@ fn judge_over<S: Stream + Drop, K: Origin>(
     case: &Case<Global>,
 ) -> Result<Answer<Global>, CommandError>
     requires start { K.start ≡ connection_of S.flow remote }
-    requires fresh { IsFresh (telling_of remote) }
-    ensures answered { IfOk result (IsAnsweredBy (IsToldOver K.start) case.now) }
+    requires fresh { IsFresh remote }
+    ensures answered { IfOk result
+        (IsAnsweredBy (IsToldOver K.start) (LacksIt K.start) case.now) }
     ensures fault { IfErr result (λ e. ∥ FailsOver K.start e ∥₁) }
 {
     let mut client: Client<S, K> = Client::new(remote);
     match answer_question(alloc, case, &mut client) {
-        Ok(answer) => Ok(answer),
+        Ok(answer) => {
+            confirm_lack(alloc, server, &mut client, &answer.lack)?;
+            Ok(answer)
+        }
         Err(TextError::Fetch) => Err(client.error(alloc, server, FetchError::Failed)?),
         Err(_e) => Err(CommandError::Memory),
     }
@@ -210,7 +239,8 @@ fn judge_server<W: World>(
 ) -> Result<Answer<Global>, CommandError>
     requires { server.now.host ≡ string_bytes server.now.address }
     ensures answered { IfOk result (IsAnsweredBy
-        (IsOfServer W.sees (string_bytes server.now.address) server.now.prefix) case.now) }
+        (IsOfServer W.sees (string_bytes server.now.address) server.now.prefix)
+        (LacksAtServer W.sees (string_bytes server.now.address) server.now.prefix) case.now) }
     ensures fault { IfErr result (λ e. ∥ FailsServer W.sees (string_bytes server.now.address)
         server.now.prefix e ∥₁) }
 {
@@ -228,7 +258,8 @@ fn judge<W: World>(
 ) -> Result<Answer<Global>, CommandError>
     requires { IsNamedPlace (rows_of (found_of matches.now)) build }
     ensures answered { IfOk result
-        (IsAnsweredBy (IsOfPlace W.sees (rows_of (found_of matches.now))) case.now) }
+        (IsAnsweredBy (IsOfPlace W.sees (rows_of (found_of matches.now)))
+        (LacksAtPlace W.sees (rows_of (found_of matches.now))) case.now) }
     ensures fault { IfErr result
         (λ e. ∥ FailsPlace W.sees (rows_of (found_of matches.now)) e ∥₁) }
 {
@@ -254,18 +285,56 @@ fn print_line<O: Write>(answer: &Answer<Global>, out: &mut O) -> Result<(), Comm
     write_bytes(out, newline)
 }
 
-/// Prints the verdict's line, and answers whether it is yes. The words are read first, then the
+/// Whether the world tells that no folder is at a path.
+fn lacks_folder<W: World>(alloc: Global, world: &W, path: &str) -> bool
+    ensures { IsTrue result → LacksFolder W.sees path.now }
+{
+    match world.is_folder(alloc, path) {
+        Ok(leads) => !leads,
+        Err(FileError::Io { fault, .. }) => fault.kind() == ErrorKind::NotFound,
+        Err(_) => false,
+    }
+}
+
+/// What a no doesn't say: that the words name a store folder that isn't there. Where that can't be
+/// told there is no note.
+fn note_on_store<W: World>(alloc: Global, world: &W, matches: &ArgMatches<'_>) -> Option<Note>
+    ensures { NotesStore W.sees (rows_of (found_of matches.now)) (Ended.No result) }
+{
+    let folder = option_of(matches, "store")?;
+    if !lacks_folder(alloc, world, folder) {
+        return None;
+    }
+    match String::from_str(alloc, folder) {
+        Ok(path) => Some(Note::NoStore { path }),
+        Err(_) => None,
+    }
+}
+
+/// What a verdict comes to. After a no the folder of the store is looked for.
+fn ended_of<W: World>(alloc: Global, world: &W, matches: &ArgMatches<'_>, is_yes: bool) -> Ended
+    ensures done { is_done result ≡ is_yes }
+    ensures noted { NotesStore W.sees (rows_of (found_of matches.now)) result }
+{
+    if is_yes {
+        return Ended::Done;
+    }
+    Ended::No(note_on_store(alloc, world, matches))
+}
+
+/// Prints the verdict's line, and answers done where it is yes. The words are read first, then the
 /// plan's file and its text, then the record's; then the store or the server is asked.
 pub fn run_verify<W: World, O: Write>(
     alloc: Global,
     world: &W,
     matches: &ArgMatches<'_>,
     out: &mut O,
-) -> Result<bool, CommandError>
-    ensures printed { IfOk result (λ positive.
+) -> Result<Ended, CommandError>
+    ensures printed { IfOk result (λ ended.
         (prints : PrintsVerdict W.sees (rows_of (found_of matches.now)) (O.contents out.old)
         (O.contents out.new))
-        × (IsTrue positive ↔ IsYes prints.verdict)) }
+        × (IsTrue (is_done ended) ↔ IsYes prints.verdict)) }
+    ensures noted { IfOk result (NotesStore W.sees (rows_of (found_of matches.now))) }
     ensures unprinted { IfErr result
         (λ fault. status_of fault ≡ 2 → O.contents out.new ≡ O.contents out.old) }
     ensures unended { OnErr result (PrintsNoLine (O.contents out.old) (O.contents out.new)) }
@@ -278,5 +347,5 @@ pub fn run_verify<W: World, O: Write>(
     let case = read_case(alloc, world, matches, digests, plan)?;
     let answer = judge(alloc, world, matches, build, &case)?;
     print_line(&answer, out)?;
-    Ok(answer.is_yes)
+    Ok(ended_of(alloc, world, matches, answer.is_yes))
 }

@@ -6,6 +6,7 @@ ghost use Rattle.remote.specs.Folder.{IsErrorOf};
 
 use crate::connecting::{Connection, ServerOptions};
 use crate::files::unread;
+use crate::replacing::{check_replaceable, replace_file};
 use blob_digest::Digest;
 use blob_source::BlobSource;
 use cache_server::{Cache, Server};
@@ -79,6 +80,7 @@ pub trait World {
 
     /// Whether a folder stands at a path. Links are followed.
     fn is_folder(&self, alloc: Global, path: &str) -> Result<bool, FileError<Global>>
+        ensures leads { IfOk result (sees.leads path.now) }
         ensures error { IfErr result (IsErrorOf path.now) }
         ensures fault { IfErr result (sees.fails path.now) };
 
@@ -88,7 +90,15 @@ pub trait World {
             sees.connects (string_bytes server.now.address) (Self.Link.flow link)) }
         ensures fault { IfErr result (sees.refuses (string_bytes server.now.address)) };
 
-    /// Writes a file: a new one beside it, which then takes its place.
+    /// A file or nothing stands at a path, where links are followed, and its folder takes a new
+    /// file. Nothing is changed.
+    fn check_writable(&self, alloc: Global, path: &str) -> Result<(), FileError<Global>>
+        ensures takes { OnOk result (sees.takes path.now) }
+        ensures error { IfErr result (IsErrorOf path.now) }
+        ensures fault { IfErr result (sees.fails path.now) };
+
+    /// Writes a file: a new one beside it, which then takes its place. A link is followed, and what
+    /// is no file stays.
     fn write(&self, alloc: Global, path: &str, bytes: &[u8]) -> io::Result<()>
         ensures { OnOk result (sees.wrote path.now bytes.now) };
 
@@ -110,11 +120,13 @@ pub trait World {
 
     /// Listens at an address.
     fn listen(&self, address: &str) -> io::Result<Listening>
-        ensures { IfOk result (λ l. sees.listens address.now l.address) };
+        ensures listens { IfOk result (λ l. sees.listens address.now l.address) }
+        ensures fault { IfErr result (sees.unbound address.now) };
 
     /// Serves connections.
     fn serve(&self, listening: Listening, service: Service) -> Result<(), NotAccepted>
-        ensures { OnOk result (sees.serves (serving listening service)) };
+        ensures served { OnOk result (sees.serves (serving listening service)) }
+        ensures fault { IfErr result (sees.unserved (serving listening service)) };
 }
 
 /// The files and sockets of the system, as the program's handle reaches them.
@@ -184,10 +196,15 @@ where
         Connection::open(alloc, self.0, server)
     }
 
+    fn check_writable(&self, alloc: Global, path: &str) -> Result<(), FileError<Global>> {
+        match check_replaceable(self.0, alloc, path) {
+            Ok(()) => Ok(()),
+            Err(fault) => Err(unread(alloc, path, fault)),
+        }
+    }
+
     fn write(&self, alloc: Global, path: &str, bytes: &[u8]) -> io::Result<()> {
-        let fresh = format!(in alloc; "{path}.new")?;
-        fs::write(self.0, fresh.as_str(), bytes)?;
-        fs::rename(self.0, fresh.as_str(), path)
+        replace_file(self.0, alloc, path, bytes)
     }
 
     fn check_out<S: BlobSource<Global>>(

@@ -43,9 +43,11 @@ module _ {E : Type 0} (pinned : E → Bool) where
         if has_room then Some (new ∷ spared_last (evicted_for most) others) else None
 
 module _ {K : Type 0} where
+  -- the entries without the first m that are not pinned
   abbrev pub without_first : ℕ → List (K × Held) → List (K × Held)
   without_first m es = spared is_pinned m es
 
+  -- the entries without the last m that are not pinned
   abbrev pub without_last : ℕ → List (K × Held) → List (K × Held)
   without_last m es = spared_last is_pinned m es
 
@@ -64,9 +66,11 @@ module _ {K : Type 0} where
     new_entry =
         (stored_key eq s.entries k, record { bytes = bytes; pins = pins_of eq s.entries k })
 
+    -- the entries under other keys
     abbrev pub rest_of : List (K × Held)
     rest_of = others eq k s.entries
 
+    -- whether the new entry and the pinned others fit the limit
     abbrev pub can_enter : Bool
     can_enter = has_room is_pinned (cost_of s.overhead) s.limit new_entry rest_of
 
@@ -75,10 +79,12 @@ module _ {K : Type 0} where
     evicted =
         evicted_for is_pinned (cost_of s.overhead) s.limit new_entry rest_of (length s.entries)
 
+    -- the entries when the new one has entered, if it can
     abbrev pub entries_entered : Option (List (K × Held))
     entries_entered =
         enter is_pinned (cost_of s.overhead) s.limit new_entry rest_of (length s.entries)
 
+    -- the store with these entries
     abbrev pub with_entries : List (K × Held) → Kept K
     with_entries es = record { entries = es; limit = s.limit; overhead = s.overhead }
 

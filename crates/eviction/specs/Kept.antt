@@ -22,6 +22,7 @@ total cost [] = 0
 total cost (e ∷ es) = cost e + total cost es
 
 module _ {K : Type 0} where
+  -- an entry is pinned once or more often
   abbrev pub is_pinned : K × Held → Bool
   is_pinned e = nat_lt 0 e.1.pins
 
@@ -29,6 +30,7 @@ module _ {K : Type 0} where
   abbrev pub cost_of : ℕ → K × Held → ℕ
   cost_of overhead e = length e.1.bytes + overhead
 
+  -- what the entries cost together
   abbrev pub total_cost : ℕ → List (K × Held) → ℕ
   total_cost overhead es = total (cost_of overhead) es
 

@@ -8,6 +8,7 @@ use Rattle.eviction.specs.Kept.{Kept}
 use Rattle.eviction.specs.contracts.bounded.Bounded.{the_row}
 
 module _ (K A : RattleType) (key : HashMembers K.Denot) (heap : alloc.Ghosts A.Denot) where
+  -- the store as what is lent speaks of it
   abbrev pub store_row : RattleType
   store_row =
       the_row K A (record {}) (record { eq = key.eq }) (record { hash_input = key.hash_input }) heap

@@ -17,6 +17,7 @@ module _ {K : Type 0} where
     abbrev pub is_among : List K → K → Bool
     is_among ks k = list_any (λ x. eq x k) ks
 
+    -- an entry stands under the key
     abbrev pub is_stored : List (K × Held) → K → Bool
     is_stored es k = is_some (lookup (eq k) es)
 
@@ -24,9 +25,11 @@ module _ {K : Type 0} where
     abbrev pub pins_of : List (K × Held) → K → ℕ
     pins_of es k = option_map_or (λ h. h.pins) (lookup (eq k) es) 0
 
+    -- an entry stands under each of the keys
     abbrev pub all_stored : List (K × Held) → List K → Bool
     all_stored es ks = list_all (is_stored es) ks
 
+    -- each of the keys is pinned
     abbrev pub all_pinned : List (K × Held) → List K → Bool
     all_pinned es ks = list_all (λ k. nat_lt 0 (pins_of es k)) ks
 
@@ -34,9 +37,11 @@ module _ {K : Type 0} where
     abbrev pub CanPinMore : List (K × Held) → List K → Type 0
     CanPinMore es ks = (k : K) → is_among ks k ≡ true → pins_of es k + 1 < 2 ^ 64
 
+    -- a count of the key, one more if it is among the keys
     abbrev pub one_more : List K → K → ℕ → ℕ
     one_more ks k n = if is_among ks k then n + 1 else n
 
+    -- a count of the key, one less if it is among the keys
     abbrev pub one_less : List K → K → ℕ → ℕ
     one_less ks k n = if is_among ks k then n - 1 else n
 

@@ -5,9 +5,11 @@ use Rattle.std.specs.Option.{option_map_or}
 use Rattle.eviction.specs.declared.entry.Entry.{Entry}
 use Rattle.eviction.specs.Kept.{Held}
 
+-- an entry as contracts see it
 abbrev pub held : {A : Type 0} → Entry A → Held
 held e = record { bytes = e.bytes; pins = e.pins }
 
+-- each entry so, under its key
 abbrev pub held_all : {K A : Type 0} → List (K × Entry A) → List (K × Held)
 held_all es = map (λ e. (e.0, held e.1)) es
 

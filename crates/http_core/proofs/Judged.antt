@@ -1,6 +1,8 @@
 -- A block has one judgement.
-use Rattle.std.proofs.Common.{◌≡◌, ℕ, ◌==◌, ◌<◌, ◌≤◌, inl, inr, Bool, false, Option, Some, None, List, [], ◌∷◌, ◌++◌, Result, Ok, refl, sym, ◌∙◌, ap, subst, arith}
+use Rattle.std.proofs.Common.{◌≡◌, ℕ, ◌==◌, ◌<◌, ◌≤◌, inl, inr, Bool, true, false, Option, Some, None, List, [], ◌∷◌, ◌++◌, map, Result, Ok, refl, sym, ◌∙◌, ap, subst, arith}
 use Rattle.std.proofs.lemmas.List.{append_cancel_left}
+use Rattle.std.specs.Prelude.{MatchOption}
+use Rattle.httparse.specs.Spans.{name_and_value}
 use Rattle.httparse.proofs.GrammarLemmas.{request_unique}
 use Rattle.hex.specs.Hex.{encode_lower, decode_sized}
 use Rattle.hex.specs.declared.error.FromHexError.{FromHexError}
@@ -9,10 +11,10 @@ use Rattle.blob_digest.proofs.HexTexts.{hash_given}
 use Rattle.http_core.specs.declared.event.Area.{Area}
 use Rattle.http_core.specs.declared.event.Area.TheVariants.{Ac, Cas, Pin, Unpin}
 use Rattle.http_core.specs.declared.judging.Judgement.{Judgement}
-use Rattle.http_core.specs.Head.{Parts, head_parts}
+use Rattle.http_core.specs.declared.judging.Judgement.TheVariants as judgements
 use Rattle.http_core.specs.Connection.{closes_of}
 use Rattle.http_core.specs.Judging.{Judges, pairs}
-use Rattle.http_core.specs.Rules.{area_text, Names, asked, Targets, Judged, JudgesParts, refused_status, is_put, size_of, length_of}
+use Rattle.http_core.specs.Rules.{area_text, Names, asked, Targets, JudgesHead, refused_status, is_put, size_of, length_of}
 
 ok_is : (a b : List ℕ) → ◌≡◌ {A = Result (List ℕ) FromHexError} (Ok a) (Ok b) → a ≡ b
 ok_is a b e = cc
@@ -67,9 +69,11 @@ targets_once prefix put close target size i j (inl (a, x, m, e)) (inr (none, f))
 targets_once prefix put close target size i j (inr (none, e)) (inl (b, y, n, f)) = absurd (none b y n)
 targets_once prefix put close target size i j (inr (none, e)) (inr (other, f)) = e ∙ sym f
 
-judged_once : (prefix : List ℕ) (p : Parts) (status : Option ℕ) (i j : Judgement) → Judged prefix p status i → Judged prefix p status j → i ≡ j
-judged_once prefix p (Some status) i j x y = x ∙ sym y
-judged_once prefix p None i j x y = targets_once prefix (is_put p.method) (closes_of p.fields) p.target (size_of (length_of p.fields)) i j x y
+judged_once : (prefix target : List ℕ) (put close : Bool) (size : ℕ) (status : Option ℕ) (i j : Judgement)
+    → MatchOption status (Targets prefix put close target size i) (λ s. i ≡ judgements.Refuse s true)
+    → MatchOption status (Targets prefix put close target size j) (λ s. j ≡ judgements.Refuse s true) → i ≡ j
+judged_once prefix target put close size (Some status) i j x y = x ∙ sym y
+judged_once prefix target put close size None i j x y = targets_once prefix put close target size i j x y
 
 few_many : (n : ℕ) → n ≤ 66 → 66 < n → ⊥
 few_many n h k = omega arith
@@ -86,6 +90,5 @@ judges_once prefix block i j (inr (inr x)) (inl y) = absurd (few_many (pairs blo
 judges_once prefix block i j (inr (inr x)) (inr (inl y)) = absurd (y.1 x.1 x.2)
 judges_once prefix block i j (inr (inr x)) (inr (inr y)) =
     let same : x.1 ≡ y.1 = (request_unique block x.1 y.1 [] [] x.2.0 y.2.0).0 in
-    let p : Parts = head_parts y.1 in
-    let z : JudgesParts prefix p i = subst (λ h. JudgesParts prefix (head_parts h) i) same x.3 in
-    judged_once prefix p (refused_status p.minor p.method p.fields) i j z y.3
+    let fields = map name_and_value y.1.fields in
+    judged_once prefix y.1.target (is_put y.1.method) (closes_of fields) (size_of (length_of fields)) (refused_status y.1.minor y.1.method fields) i j (subst (λ h. JudgesHead prefix h i) same x.3) y.3

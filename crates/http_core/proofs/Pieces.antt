@@ -1,9 +1,9 @@
 -- A session within a piece.
-use Rattle.std.proofs.Common.{◌≡◌, ◌≢◌, ℕ, ◌≤◌, ◌+◌, Some, None, List, [], ◌∷◌, ◌++◌, length, take, drop, refl, sym, ◌∙◌, ap, subst, append_assoc}
+use Rattle.std.proofs.Common.{◌≡◌, ◌≢◌, ℕ, ◌≤◌, ◌+◌, Some, None, List, [], ◌∷◌, ◌++◌, length, map, take, drop, refl, sym, ◌∙◌, ap, subst, append_assoc}
 use Rattle.std.proofs.Math.Seq.{take-add}
 use Rattle.std.proofs.lemmas.List.{append-nil, map-append, take_all, take-append-drop}
 use Rattle.http_core.specs.declared.event.Event.{Event}
-use Rattle.http_core.specs.Event.{EventValue, closes, event_of, events_of, IsValid}
+use Rattle.http_core.specs.Event.{EventValue, closes, event_of, IsValid}
 use Rattle.http_core.specs.Session.{SessionState, Reading, Taking, Closed, SessionValue, Stands, Feeds, ended}
 use Rattle.std.specs.List.{AllByRecursion}
 use Rattle.http_core.proofs.Fitting.{valid_with}
@@ -33,11 +33,11 @@ pub piece_fed : (now new : SessionValue) (stream piece rest : List ℕ) (at take
 piece_fed now new stream piece rest at taken before earlier more back fed s =
     subst (Stands new (stream ++ take (at + taken) piece)) (append_assoc before earlier more) (subst (λ z. Stands new z ((before ++ earlier) ++ more)) (further stream piece rest at taken back) (fed.stands (stream ++ take at piece) (before ++ earlier) s))
 
-pub events_pushed : {A : Type 0} (events more : List (Event A)) (event : Event A) → more ≡ events ++ event ∷ [] → events_of events ++ event_of event ∷ [] ≡ events_of more
-events_pushed events more event e = sym (map-append event_of events (event ∷ [])) ∙ ap (λ z. events_of z) (sym e)
+pub events_pushed : {A : Type 0} (events more : List (Event A)) (event : Event A) → more ≡ events ++ event ∷ [] → map event_of events ++ event_of event ∷ [] ≡ map event_of more
+events_pushed events more event e = sym (map-append event_of events (event ∷ [])) ∙ ap (λ z. map event_of z) (sym e)
 
-pub nothing_more : {A : Type 0} (events : List (Event A)) → events_of events ++ [] ≡ events_of events
-nothing_more events = append-nil (events_of events)
+pub nothing_more : {A : Type 0} (events : List (Event A)) → map event_of events ++ [] ≡ map event_of events
+nothing_more events = append-nil (map event_of events)
 
 pub piece_on : (now new : SessionValue) (stream piece rest : List ℕ) (at taken : ℕ) (before : List EventValue)
     → new.prefix ≡ now.prefix → now.state ≢ Closed → rest ≡ drop at piece → Moves now (take taken rest) None new
@@ -62,6 +62,6 @@ not_open (Taking area hash size close body) h = absurd (h (λ e. cc))
 not_open Closed h = refl
 
 pub valid_more : {A : Type 0} (events more : List (Event A)) (event : Event A) → more ≡ events ++ event ∷ []
-    → AllByRecursion IsValid (events_of events) → IsValid (event_of event) → AllByRecursion IsValid (events_of more)
+    → AllByRecursion IsValid (map event_of events) → IsValid (event_of event) → AllByRecursion IsValid (map event_of more)
 valid_more events more event e all h =
-    subst (λ z. AllByRecursion IsValid z) (sym (ap (λ es. events_of es) e ∙ map-append event_of events (event ∷ []))) (valid_with (events_of events) (event_of event) all h)
+    subst (λ z. AllByRecursion IsValid z) (sym (ap (λ es. map event_of es) e ∙ map-append event_of events (event ∷ []))) (valid_with (map event_of events) (event_of event) all h)

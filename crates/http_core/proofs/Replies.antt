@@ -1,29 +1,42 @@
 -- A block has one reply head.
 use Rattle.std.proofs.Common.{◌≡◌, ◌≤◌, length, ℕ, List, [], Option, Some, None, map, take, sym, ◌∙◌, ap}
 use Rattle.std.specs.Prelude.{IfSome, IfNone}
-use Rattle.httparse.specs.Spans.{header_bytes}
+use Rattle.httparse.specs.Grammar.{ResponseHead, status_code}
+use Rattle.httparse.specs.Spans.{IsResponseAt, header_bytes, name_and_value}
 use Rattle.httparse.proofs.GrammarLemmas.{response_unique}
 use Rattle.http_core.specs.declared.reply_head.ReplyHead.{ReplyHead}
 use Rattle.http_core.specs.declared.reply_head.Response.{Response}
 use Rattle.http_core.specs.Block.{IsBlock}
 use Rattle.http_core.specs.Judging.{pairs}
-use Rattle.http_core.specs.ReplyHead.{IsReplyHead, ShowsResponse, reply_of, said_by}
+use Rattle.http_core.specs.ReplyHead.{IsReplyHead, IsResponseOf, reply_of}
 
 same_parts : (m n a b : ℕ) (x y : List (List ℕ × List ℕ)) → m ≡ n → a ≡ b → x ≡ y → reply_of m a x ≡ reply_of n b y
 same_parts m n a b x y e f g = ap (λ z. reply_of z a x) e ∙ ap (λ z. reply_of n z x) f ∙ ap (reply_of n b) g
 
+-- what it says of the reply, if it is valid
+abbrev pub said_by : ResponseHead → Option ReplyHead
+said_by h = reply_of h.minor (status_code h) (map name_and_value h.fields)
+
+abbrev pub said_at : List ℕ → Response → Option ReplyHead
+said_at block x = reply_of x.spans.version x.spans.code (map (header_bytes block) (take x.spans.headers x.headers))
+
+says : (block : List ℕ) (x : Response) (h : ResponseHead) → IsResponseAt block x.headers x.spans h → said_at block x ≡ said_by h
+says block x h at = same_parts _ _ _ _ _ _ at.version at.code at.fields
+
+abbrev pub Shows : List ℕ → Response → Type 0
+Shows block x = (h : ResponseHead) × IsResponseOf block h × IsResponseAt block x.headers x.spans h
+
 -- what is shown says what the block says
-pub shown_says : (block : List ℕ) (x : Response) (head : ReplyHead) → ShowsResponse block x → IsReplyHead block head
-    → reply_of x.spans.version x.spans.code (map (header_bytes block) (take x.spans.headers x.headers)) ≡ Some head
-shown_says block x head s h =
-    let same : s.response ≡ h.response = (response_unique block s.response h.response [] [] s.reads.0 h.reads.0).0 in
-    same_parts _ _ _ _ _ _ s.version s.code s.fields ∙ ap said_by same ∙ h.is
+pub shown_says : (block : List ℕ) (x : Response) (head : ReplyHead) → Shows block x → IsReplyHead block head → said_at block x ≡ Some head
+shown_says block x head (h, is, at) said =
+    let same : h ≡ said.response = (response_unique block h said.response [] [] is.0 said.reads.0).0 in
+    says block x h at ∙ ap said_by same ∙ said.is
 
 -- what is shown is valid, where it says something
-pub valid_head : (o : Option ReplyHead) (block : List ℕ) (x : Response) → IsBlock block → length block ≤ 16384 → pairs block ≤ 66 → ShowsResponse block x
-    → o ≡ reply_of x.spans.version x.spans.code (map (header_bytes block) (take x.spans.headers x.headers)) → IfSome o (λ head. IsReplyHead block head)
-valid_head None block x b fits few s e = tt
-valid_head (Some head) block x b fits few s e = record { ends = b; fits = fits; few = few; response = s.response; reads = s.reads; is = sym (same_parts _ _ _ _ _ _ s.version s.code s.fields) ∙ sym e }
+pub valid_head : (o : Option ReplyHead) (block : List ℕ) (x : Response) → IsBlock block → length block ≤ 16384 → pairs block ≤ 66 → Shows block x
+    → o ≡ said_at block x → IfSome o (λ head. IsReplyHead block head)
+valid_head None block x b fits few shown e = tt
+valid_head (Some head) block x b fits few (h, is, at) e = record { ends = b; fits = fits; few = few; response = h; reads = is; is = sym (says block x h at) ∙ sym e }
 
 pub invalid : (o : Option ReplyHead) (P : ReplyHead → Type 0) → ((head : ReplyHead) → P head → o ≡ Some head) → IfNone o ((head : ReplyHead) → P head → ⊥)
 invalid None P f = λ head p. let e : None ≡ Some head = f head p in cc

@@ -1,16 +1,21 @@
 -- One step of a session, on its state.
-use Rattle.std.proofs.Common.{◌⊎◌, ◌≡◌, ℕ, ◌<◌, ◌≤◌, ◌+◌, ◌-◌, inl, inr, Bool, true, Option, Some, None, List, [], ◌∷◌, ◌++◌, length, take, refl, sym, ◌∙◌, ap, subst, append_assoc, length-append, arith}
+use Rattle.std.proofs.Common.{◌⊎◌, ◌≡◌, ◌≢◌, ℕ, ◌<◌, ◌≤◌, ◌+◌, ◌-◌, inl, inr, Bool, true, Option, Some, None, List, [], ◌∷◌, ◌++◌, length, take, refl, sym, ◌∙◌, ap, subst, append_assoc, length-append, arith}
+use Rattle.std.specs.List.{AllByRecursion}
 use Rattle.http_core.specs.declared.event.Area.{Area}
 use Rattle.http_core.specs.declared.judging.Judgement.{Judgement}
 use Rattle.http_core.specs.declared.judging.Judgement.TheVariants as judgements
 use Rattle.http_core.specs.declared.session.Stage.{Stage}
 use Rattle.http_core.specs.declared.session.Stage.TheVariants as stages
-use Rattle.http_core.specs.Block.{EndsBlock, HasNoBlock, IsBlock, IsHeadLine}
+use Rattle.http_core.specs.Block.{EndsBlock, HasNoBlock, IsBlock}
 use Rattle.http_core.specs.Event.{EventValue, Asked, Refused, Put}
 use Rattle.http_core.specs.Judging.{Judges}
 use Rattle.http_core.specs.Stream.{Completes}
 use Rattle.http_core.specs.Session.{SessionState, Reading, Taking, Closed, Holds, Follows, state_of}
 use Rattle.http_core.proofs.Blocks.{block_with, no_block_with, no_block_through}
+
+-- no line feed but at the end
+abbrev pub IsHeadLine : List ℕ → Type 0
+IsHeadLine bytes = (front : List ℕ) × (last : ℕ) × (bytes ≡ front ++ last ∷ []) × AllByRecursion (λ b. b ≢ 10) front
 
 -- a byte more
 one_longer : (bytes : List ℕ) (byte : ℕ) → length (bytes ++ byte ∷ []) ≡ length bytes + 1

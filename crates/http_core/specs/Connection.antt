@@ -8,6 +8,7 @@ use Rattle.http_core.specs.Names.{same_name}
 abbrev pub is_close : List ℕ → Bool
 is_close part = same_name (trim_ows part) (codes "close")
 
+-- an option of the list is `close`
 abbrev pub lists_close : List ℕ → Bool
 lists_close value = list_any is_close (slice_split (λ b. b == 44) value)
 

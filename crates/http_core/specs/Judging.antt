@@ -3,12 +3,9 @@ use Rattle.std.specs.Prelude.{◌≡◌, ℕ, ◌+◌, ◌<◌, ◌≤◌, ◌==
 use Rattle.std.specs.Prelude.{◌∷◌, length, if◌then◌else◌}
 use Rattle.std.specs.List.{starts_with}
 use Rattle.httparse.specs.Grammar.{RequestHead, ReadsRequest}
-use Rattle.httparse.specs.Spans.{IsRequestWithin}
 use Rattle.http_core.specs.declared.judging.Judgement.{Judgement}
 use Rattle.http_core.specs.declared.judging.Judgement.TheVariants.{Refuse}
-use Rattle.http_core.specs.declared.judging.Head.{Head}
-use Rattle.http_core.specs.Head.{head_parts, parts_at}
-use Rattle.http_core.specs.Rules.{JudgesParts}
+use Rattle.http_core.specs.Rules.{JudgesHead}
 
 -- how often CR LF stands in the bytes
 abbrev pub pairs : List ℕ → ℕ
@@ -20,18 +17,10 @@ pairs (b ∷ bytes) =
 abbrev pub IsHeadOf : List ℕ → RequestHead → Type 0
 IsHeadOf block h = ReadsRequest block h [] × (length h.fields ≤ 64)
 
--- the parts of some head lie there in the block
-pub record ShowsHead (block : List ℕ) (x : Head) : Type 0 where
-  pub head : RequestHead
-  pub is : IsHeadOf block head
-  pub within : IsRequestWithin block x.headers x.spans
-  pub parts : parts_at block x.headers x.spans ≡ head_parts head
-
 -- The block has the judgement: too many lines are 431, and what isn't a head of at most 64 fields
 -- is 400; else the rules decide.
 unfoldable pub Judges : List ℕ → List ℕ → Judgement → Type 0
 Judges prefix block j =
     ((66 < pairs block) × (j ≡ Refuse 431 true))
     ⊎ ((pairs block ≤ 66) × ((h : RequestHead) → IsHeadOf block h → ⊥) × (j ≡ Refuse 400 true))
-    ⊎ ((pairs block ≤ 66)
-    × (h : RequestHead) × IsHeadOf block h × JudgesParts prefix (head_parts h) j)
+    ⊎ ((pairs block ≤ 66) × (h : RequestHead) × IsHeadOf block h × JudgesHead prefix h j)

@@ -2,7 +2,6 @@ pub mod Block
 pub mod Names
 pub mod Connection
 pub mod Event
-pub mod Head
 pub mod Judging
 pub mod Host
 pub mod Prefix

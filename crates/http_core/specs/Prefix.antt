@@ -8,6 +8,7 @@ use Rattle.std.specs.List.{list_all, slice_split}
 abbrev pub is_unreserved : ℕ → Bool
 is_unreserved b = is_ascii_alphanumeric b || (b == 45 || b == 46 || b == 95 || b == 126)
 
+-- one or more such bytes
 abbrev pub is_segment : List ℕ → Bool
 is_segment text = nat_lt 0 (length text) && list_all is_unreserved text
 
@@ -16,5 +17,6 @@ abbrev pub are_segments : List ℕ → Bool
 are_segments [] = true
 are_segments (b ∷ text) = b == 47 && list_all is_segment (slice_split (λ c. c == 47) text)
 
+-- segments of at most 256 bytes together
 abbrev pub is_prefix : List ℕ → Bool
 is_prefix text = nat_le (length text) 256 && are_segments text

@@ -4,6 +4,7 @@ use Rattle.std.specs.Fmt.{decimal}
 use Rattle.http_core.specs.declared.reply.Content.{Content}
 use Rattle.http_core.specs.declared.reply.Content.TheVariants.{Own, Shared}
 
+-- an answer: a status, and the bytes of its body
 pub record ReplyValue : Type 0 where
   pub status : ℕ
   pub body : List ℕ
@@ -12,6 +13,7 @@ pub record ReplyValue : Type 0 where
 abbrev pub bare : ℕ → ReplyValue
 bare status = record { status = status; body = [] }
 
+-- the bytes, whoever holds them
 abbrev pub content_bytes : {A : Type 0} → Content A → List ℕ
 content_bytes (Own bytes) = bytes.items
 content_bytes (Shared bytes) = bytes.value.items
@@ -47,5 +49,6 @@ head_text status size close =
     ++ codes "\r\nContent-Length: " ++ decimal size ++ codes "\r\n"
     ++ allow_line status ++ connection_line close ++ codes "\r\n"
 
+-- the text of an answer: its head, and its body
 unfoldable pub reply_text : ReplyValue → Bool → List ℕ
 reply_text reply close = head_text reply.status (length reply.body) close ++ reply.body

@@ -1,11 +1,10 @@
 -- The head of a reply, as a client reads it (RFC 9112, sections 4, 6.3, 9; RFC 9110, section 8.6).
-use Rattle.std.specs.Prelude.{◌≡◌, ℕ, ◌==◌, ◌≤◌, nat_lt, List, [], length, map, take, codes, Option}
-use Rattle.std.specs.Prelude.{Some, None, if◌then◌else◌}
+use Rattle.std.specs.Prelude.{◌≡◌, ℕ, ◌==◌, ◌≤◌, nat_lt, List, [], length, map, codes, Option}
+use Rattle.std.specs.Prelude.{Some, None, if◌then◌else◌, option_map}
 use Rattle.httparse.specs.Grammar.{ResponseHead, ReadsResponse, status_code}
-use Rattle.httparse.specs.Spans.{IsResponseWithin, header_bytes, name_and_value}
+use Rattle.httparse.specs.Spans.{name_and_value}
 use Rattle.blob_digest.specs.Body.{greatest_blob}
 use Rattle.http_core.specs.declared.reply_head.ReplyHead.{ReplyHead}
-use Rattle.http_core.specs.declared.reply_head.Response.{Response}
 use Rattle.http_core.specs.declared.rules.Length.{Length}
 use Rattle.http_core.specs.declared.rules.Length.TheVariants.{Absent, Bad, Is}
 use Rattle.http_core.specs.Block.{IsBlock}
@@ -24,23 +23,14 @@ reply_length status Bad = None
 reply_length status (Is size) =
     if nat_lt (if status == 204 then 0 else greatest_blob) size then None else Some size
 
--- the head, where the length is valid
-abbrev pub with_length : ℕ → List (List ℕ × List ℕ) → Option ℕ → Option ReplyHead
-with_length status fields None = None
-with_length status fields (Some size) =
-    Some (record { status = status; length = size; close = closes_of fields })
-
 -- What a head of version 1.minor, with the status and the fields, says of the reply, if it is
 -- valid: of version 1.1, with no coding of the body, and with one valid length.
 unfoldable pub reply_of : ℕ → ℕ → List (List ℕ × List ℕ) → Option ReplyHead
 reply_of minor status fields =
     if minor == 0 then None
     else (if nat_lt 0 (count_of (codes "transfer-encoding") fields) then None
-    else with_length status fields (reply_length status (length_of fields)))
-
--- what it says of the reply, if it is valid
-abbrev pub said_by : ResponseHead → Option ReplyHead
-said_by h = reply_of h.minor (status_code h) (map name_and_value h.fields)
+    else option_map (λ size. record { status = status; length = size; close = closes_of fields })
+    (reply_length status (length_of fields)))
 
 -- the block is cut as a head is, and is that of a reply with this head
 pub record IsReplyHead (block : List ℕ) (head : ReplyHead) : Type 0 where
@@ -49,14 +39,5 @@ pub record IsReplyHead (block : List ℕ) (head : ReplyHead) : Type 0 where
   pub few : pairs block ≤ 66
   pub response : ResponseHead
   pub reads : IsResponseOf block response
-  pub is : said_by response ≡ Some head
-
--- the parts of the head lie there in the block
-pub record ShowsResponse (block : List ℕ) (x : Response) : Type 0 where
-  pub response : ResponseHead
-  pub reads : IsResponseOf block response
-  pub within : IsResponseWithin block x.headers x.spans
-  pub version : x.spans.version ≡ response.minor
-  pub code : x.spans.code ≡ status_code response
-  pub fields : map (header_bytes block) (take x.spans.headers x.headers)
-      ≡ map name_and_value response.fields
+  pub is : reply_of response.minor (status_code response) (map name_and_value response.fields)
+      ≡ Some head

@@ -1,7 +1,7 @@
 -- The rules of heads, in their order (RFC 9112, sections 3, 6 and 9; RFC 9110, sections 9 and 10).
 use Rattle.std.specs.Prelude.{◌≡◌, ℕ, ◌==◌, ◌&&◌, ◌||◌, not, nat_lt, nat_le, ◌⊎◌, Bool, true, false}
 use Rattle.std.specs.Prelude.{List, [], ◌∷◌, ◌++◌, length, map, count_by, codes, if◌then◌else◌}
-use Rattle.std.specs.Prelude.{Option, Some, None}
+use Rattle.std.specs.Prelude.{Option, Some, None, MatchOption}
 use Rattle.std.specs.Str.{bytes_eq}
 use Rattle.std.specs.Str.Parse.{digits_value}
 use Rattle.std.specs.Char.{is_ascii_digit}
@@ -9,9 +9,11 @@ use Rattle.std.specs.List.{list_all, filter}
 use Rattle.hex.specs.Hex.{encode_lower}
 use Rattle.blob_digest.specs.Body.{greatest_blob}
 use Rattle.blob_digest.specs.DigestValue.{IsHash}
+use Rattle.httparse.specs.Grammar.{RequestHead}
+use Rattle.httparse.specs.Spans.{name_and_value}
 use Rattle.http_core.specs.Names.{same_name}
-use Rattle.http_core.specs.Head.{Parts}
 use Rattle.http_core.specs.Connection.{closes_of}
+use Rattle.http_core.specs.Event.{is_served}
 use Rattle.http_core.specs.declared.event.Area.{Area}
 use Rattle.http_core.specs.declared.event.Area.TheVariants.{Ac, Cas, Pin, Unpin}
 use Rattle.http_core.specs.declared.judging.Judgement.{Judgement}
@@ -27,6 +29,7 @@ count_of name fields = count_by (λ f. same_name f.0 name) fields
 abbrev pub is_length : List ℕ → Bool
 is_length text = nat_lt 0 (length text) && nat_le (length text) 19 && list_all is_ascii_digit text
 
+-- the length that the text says
 unfoldable pub read_length : List ℕ → Length
 read_length text = if is_length text then Is (digits_value 10 text) else Bad
 
@@ -40,25 +43,24 @@ length_among [] = Absent
 length_among (text ∷ []) = read_length text
 length_among (text ∷ other ∷ more) = Bad
 
+-- what the fields say of the body's length (RFC 9112, section 6.2)
 abbrev pub length_of : List (List ℕ × List ℕ) → Length
 length_of fields = length_among (values_of (codes "content-length") fields)
 
 abbrev pub is_bad : Length → Bool
 is_bad Bad = true
-is_bad Absent = false
-is_bad (Is size) = false
+is_bad other = false
 
 abbrev pub is_absent : Length → Bool
 is_absent Absent = true
-is_absent Bad = false
-is_absent (Is size) = false
+is_absent other = false
 
 -- how many bytes a body has of which this is said: without a word, none
 abbrev pub size_of : Length → ℕ
 size_of (Is size) = size
-size_of Absent = 0
-size_of Bad = 0
+size_of other = 0
 
+-- the methods that the server knows; their names have case (RFC 9110, section 9.1)
 abbrev pub is_get : List ℕ → Bool
 is_get method = bytes_eq method (codes "GET")
 
@@ -84,22 +86,18 @@ rules_of minor method fields =
     ∷ (is_get method && nat_lt 0 (size_of (length_of fields)), 400)
     ∷ []
 
+-- the status that refuses a head with these parts, if one does
 unfoldable pub refused_status : ℕ → List ℕ → List (List ℕ × List ℕ) → Option ℕ
 refused_status minor method fields = first_status (rules_of minor method fields)
 
+-- an area as it stands in a target
 abbrev pub area_text : Area → List ℕ
 area_text Ac = codes "/ac/"
 area_text Cas = codes "/cas/"
 area_text Pin = codes "/pin/"
 area_text Unpin = codes "/unpin/"
 
--- only a PUT pins
-abbrev pub is_served : Bool → Area → Bool
-is_served put Ac = true
-is_served put Cas = true
-is_served put Pin = put
-is_served put Unpin = put
-
+-- the target of the hash in the area, the hash in lowercase hex
 abbrev pub target_text : List ℕ → Area → List ℕ → List ℕ
 target_text prefix area hash = prefix ++ (area_text area ++ encode_lower hash)
 
@@ -123,11 +121,11 @@ Targets prefix put close target size j =
     ⊎ (((area : Area) (hash : List ℕ) → Names prefix put target area hash → ⊥)
     × (j ≡ judgements.Refuse 404 (put || close)))
 
--- the judgement of a head with these parts, which the rules refuse or not
-abbrev pub Judged : List ℕ → Parts → Option ℕ → Judgement → Type 0
-Judged prefix p (Some status) j = j ≡ judgements.Refuse status true
-Judged prefix p None j =
-    Targets prefix (is_put p.method) (closes_of p.fields) p.target (size_of (length_of p.fields)) j
-
-abbrev pub JudgesParts : List ℕ → Parts → Judgement → Type 0
-JudgesParts prefix p j = Judged prefix p (refused_status p.minor p.method p.fields) j
+-- What a head of version 1.minor asks for, unless a rule refuses it; its fields are names, and
+-- values without the white space around them.
+abbrev pub JudgesHead : List ℕ → RequestHead → Judgement → Type 0
+JudgesHead prefix h j =
+    let fields = map name_and_value h.fields in
+    MatchOption (refused_status h.minor h.method fields)
+    (Targets prefix (is_put h.method) (closes_of fields) h.target (size_of (length_of fields)) j)
+    (λ status. j ≡ judgements.Refuse status true)

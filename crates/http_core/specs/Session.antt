@@ -1,15 +1,14 @@
 -- What a session keeps of a stream.
 use Rattle.std.specs.Prelude.{◌≡◌, ◌≢◌, ℕ, ◌<◌, ◌≤◌, Bool, true, false, List, [], ◌∷◌, ◌++◌}
-use Rattle.std.specs.Prelude.{length, take, Option, Some, None, ⊤}
+use Rattle.std.specs.Prelude.{length, take, Option, Some, None, ⊤, IfSome, option_to_list}
 use Rattle.http_core.specs.declared.event.Area.{Area}
-use Rattle.http_core.specs.declared.judging.Judgement.{Judgement}
 use Rattle.http_core.specs.declared.judging.Judgement.TheVariants as judgements
 use Rattle.http_core.specs.declared.session.Stage.{Stage}
 use Rattle.http_core.specs.declared.session.Stage.TheVariants as stages
 use Rattle.std.specs.List.{AllByRecursion}
 use Rattle.blob_digest.specs.Body.{greatest_blob}
 use Rattle.http_core.specs.Block.{HasNoBlock, IsBlock}
-use Rattle.http_core.specs.Event.{Get, EventValue, closes, IsServed, IsValid}
+use Rattle.http_core.specs.Event.{EventValue, closes, IsValid}
 use Rattle.http_core.specs.Judging.{Judges}
 use Rattle.http_core.specs.Stream.{Completes, Cuts}
 
@@ -19,6 +18,7 @@ pub data SessionState : Type 0 where
   Taking : Area → List ℕ → ℕ → Bool → List ℕ → SessionState
   Closed : SessionState
 
+-- a session: what stands before each target, and what it keeps
 pub record SessionValue : Type 0 where
   pub prefix : List ℕ
   pub state : SessionState
@@ -35,6 +35,7 @@ held_bytes (Reading bytes) = length bytes
 held_bytes (Taking area hash size close body) = length body
 held_bytes Closed = 0
 
+-- no further bytes give events
 abbrev pub IsClosed : SessionValue → Type 0
 IsClosed s = s.state ≡ Closed
 
@@ -76,11 +77,6 @@ Follows prefix bytes None state = Holds prefix state bytes
 Follows prefix bytes (Some event) state =
     Completes prefix bytes event × (state ≡ ended (closes event))
 
--- the one event, if there is one
-abbrev pub if_any : Option EventValue → List EventValue
-if_any None = []
-if_any (Some event) = event ∷ []
-
 -- a session takes a front of the piece, at most to the end of a request
 pub record Takes
     (old : SessionValue) (piece : List ℕ) (taken : ℕ)
@@ -89,13 +85,7 @@ pub record Takes
   pub within : taken ≤ length piece
   pub moves : (rest : List ℕ) → Holds old.prefix old.state rest
       → Follows old.prefix (rest ++ take taken piece) event new.state
-  pub valid : AllByRecursion IsValid (if_any event)
-
--- what a judgement lets a request ask
-abbrev pub IsAllowed : Judgement → Type 0
-IsAllowed (judgements.Refuse status close) = ⊤
-IsAllowed (judgements.Get area hash close) = IsServed (Get area hash)
-IsAllowed (judgements.Put area hash size close) = size ≤ greatest_blob
+  pub valid : AllByRecursion IsValid (option_to_list event)
 
 -- The session took the piece, and answered the events which the cut of its stream has with it and
 -- didn't have before. A closed one answers nothing and stays closed.
@@ -108,11 +98,6 @@ pub record Feeds
   pub valid : AllByRecursion IsValid events
   pub prefix : new.prefix ≡ old.prefix
 
--- a session is where a request ends, if there is an event
-abbrev pub IsEndedBy : Option EventValue → SessionState → Type 0
-IsEndedBy None state = ⊤
-IsEndedBy (Some event) state = state ≡ ended (closes event)
-
 -- The session took a front of the piece: to the end of the first event which the cut of its stream
 -- has with it and didn't have before, or the whole piece where there is none.
 pub record FeedsFirst
@@ -121,9 +106,9 @@ pub record FeedsFirst
   pub within : taken ≤ length piece
   pub some : 0 < length piece → 0 < taken
   pub all : event ≡ None → taken ≡ length piece
-  pub feeds : Feeds old (take taken piece) (if_any event) new
+  pub feeds : Feeds old (take taken piece) (option_to_list event) new
   pub stops : (stream : List ℕ) (before : List EventValue)
-      → Stands old stream before → IsEndedBy event new.state
+      → Stands old stream before → IfSome event (λ e. new.state ≡ ended (closes e))
 
 -- the session took the pieces one after another, and answered these events together
 abbrev pub FeedsAll : SessionValue → List (List ℕ) → List EventValue → SessionValue → Type 0

@@ -1,5 +1,7 @@
-ghost use Rattle.std.specs.Prelude.{◌≡◌, ◌≤◌, ◌<◌, ◌⊎◌, ◌↔◌, length, take, IsTrue};
-ghost use Rattle.http_core.specs.Block.{EndsBlock, IsBlock, IsHeadLine};
+ghost use Rattle.std.specs.Prelude.{◌≡◌, ◌≢◌, ℕ, ◌≤◌, ◌<◌, ◌⊎◌, ◌↔◌, List, [], ◌∷◌, ◌++◌};
+ghost use Rattle.std.specs.Prelude.{length, take, IsTrue};
+ghost use Rattle.std.specs.List.{AllByRecursion};
+ghost use Rattle.http_core.specs.Block.{EndsBlock, IsBlock};
 
 /// The greatest length of a block.
 pub(crate) const MAX_BLOCK: usize = 16384;
@@ -7,7 +9,8 @@ pub(crate) const MAX_BLOCK: usize = 16384;
 /// The bytes up to and including the first line feed: at most `most` of them, but at least one.
 pub(crate) fn first_line(bytes: &[u8], most: usize) -> &[u8]
     requires { 0 < length bytes.now }
-    ensures line { IsHeadLine result.now }
+    ensures line { (front : List ℕ) × (last : ℕ) × (result.now ≡ front ++ last ∷ [])
+        × AllByRecursion (λ b. b ≢ 10) front }
     ensures most { (length result.now ≤ most) ⊎ (length result.now ≡ 1) }
     ensures front { result.now ≡ take (length result.now) bytes.now }
     ensures within { length result.now ≤ length bytes.now }

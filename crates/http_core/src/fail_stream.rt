@@ -1,15 +1,15 @@
-ghost use Rattle.std.specs.Prelude.{◌≡◌, ◌≢◌, ◌<◌, ◌-◌, ◌↔◌, IsTrue, IsOk, Some};
+ghost use Rattle.std.specs.Prelude.{◌≡◌, ◌≢◌, ◌<◌, ◌↔◌, [], IsTrue, IsOk, Some};
 ghost use Rattle.std.specs.Io.{ReadsAtMost, WritesAtMost};
 ghost use Rattle.std.specs.Io.KnownBytes.{Keeps, ReadConsumes, WriteAppends};
-ghost use Rattle.http_core.specs.FailStream.{FailsCall, GivesNext, IsFreshStream, TakesFront};
+ghost use Rattle.http_core.specs.FailStream.{FailsCall, GivesNext, TakesFront, counted};
 
 use std::alloc::Allocator;
 use std::io;
 use std::io::{ErrorKind, Read, Write};
 use std::marker::Model;
 
-/// A stream in memory that fails at one call. Its reads give the bytes that it stores and its writes
-/// are kept, at most so many bytes at once, but for one call, which fails and changes nothing.
+/// A stream in memory that fails at one call. Its reads give the bytes that it stores and its
+/// writes are kept, at most so many bytes at once, but for one call, which fails and changes nothing.
 #[derive(Drop)]
 pub struct FailStream<A: Allocator> {
     input: Vec<u8, A>,
@@ -40,7 +40,10 @@ impl<A: Allocator + Copy> FailStream<A> {
     /// one of this number fails: 1 is the first, and with 0 none does.
     pub fn new(alloc: A, input: Vec<u8, A>, most: usize, number: u64) -> FailStream<A>
         requires { 0 < most }
-        ensures { IsFreshStream input.items most number result }
+        ensures coming { result.coming ≡ input.items }
+        ensures sent { result.sent ≡ [] }
+        ensures most { result.most ≡ most }
+        ensures number { result.until_failure ≡ number }
     {
         FailStream {
             input,
@@ -70,8 +73,7 @@ impl<A: Allocator> FailStream<A> {
     /// Counts a call, and tells whether it is the one that fails.
     fn is_due(&mut self) -> bool
         ensures due { IsTrue result ↔ (self.old.until_failure ≡ 1) }
-        ensures counted { self.new
-            ≡ record self.old { until_failure = self.old.until_failure - 1 } }
+        ensures counted { self.new ≡ counted self.old }
     {
         let number = &mut self.until_failure;
         let is_due = *number == 1;

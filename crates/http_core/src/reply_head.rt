@@ -1,7 +1,7 @@
 ghost use Rattle.std.specs.Prelude.{◌≡◌, ℕ, IfSome, IfNone, map, take};
 ghost use Rattle.httparse.specs.Grammar.{ResponseHead};
-ghost use Rattle.httparse.specs.Spans.{IsResponseWithin, header_bytes};
-ghost use Rattle.http_core.specs.ReplyHead.{IsReplyHead, IsResponseOf, ShowsResponse};
+ghost use Rattle.httparse.specs.Spans.{IsResponseAt, IsResponseWithin, header_bytes};
+ghost use Rattle.http_core.specs.ReplyHead.{IsReplyHead, IsResponseOf};
 ghost use Rattle.http_core.specs.ReplyHead.{reply_length, reply_of};
 
 use crate::block::{MAX_BLOCK, is_block};
@@ -47,7 +47,9 @@ pub fn read_reply_head(block: &[u8]) -> Option<ReplyHead>
 
 /// The reply head that the whole block is.
 fn read_response(block: &[u8]) -> Option<Response>
-    ensures some { IfSome result (λ x. ShowsResponse block.now x) }
+    ensures within { IfSome result (λ x. IsResponseWithin block.now x.headers x.spans) }
+    ensures head { IfSome result (λ x. (h : ResponseHead) × IsResponseOf block.now h
+        × IsResponseAt block.now x.headers x.spans h) }
     ensures none { IfNone result ((h : ResponseHead) → IsResponseOf block.now h → ⊥) }
 {
     let mut headers = [EMPTY_HEADER_SPAN; 64];

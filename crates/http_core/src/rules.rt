@@ -2,13 +2,13 @@ ghost use Rattle.std.specs.Prelude.{true, false, ◌≡◌, ℕ, ◌≤◌, ◌<
 ghost use Rattle.std.specs.Prelude.{count_by, map, IfSome, IfNone};
 ghost use Rattle.std.specs.Char.{is_ascii_digit};
 ghost use Rattle.std.specs.List.{list_all};
-ghost use Rattle.httparse.specs.Spans.{IsHeaderWithin, IsRequestWithin, header_bytes, span_bytes};
+ghost use Rattle.httparse.specs.Grammar.{RequestHead};
+ghost use Rattle.httparse.specs.Spans.{IsHeaderWithin, IsRequestAt, IsRequestWithin, header_bytes};
 ghost use Rattle.blob_digest.specs.DigestValue.{IsHash};
 ghost use Rattle.http_core.specs.Names.{same_name};
 ghost use Rattle.http_core.specs.Rules.{count_of, length_of, read_length, is_length, is_bad};
 ghost use Rattle.http_core.specs.Rules.{is_absent, size_of, refused_status, area_text, target_text};
-ghost use Rattle.http_core.specs.Rules.{Names, Targets, JudgesParts};
-ghost use Rattle.http_core.specs.Head.{parts_at};
+ghost use Rattle.http_core.specs.Rules.{Names, Targets, JudgesHead};
 
 use crate::connection::closes;
 use crate::event::Area;
@@ -228,7 +228,7 @@ fn judge_target(prefix: &[u8], put: bool, target: &[u8], size: usize, close: boo
     }
 }
 
-/// Judges a head by its parts.
+/// Judges a head by its parts, which lie there in the block.
 pub(crate) fn judge_head(
     prefix: &[u8],
     block: &[u8],
@@ -236,7 +236,8 @@ pub(crate) fn judge_head(
     headers: &[HeaderSpan],
 ) -> Judgement
     requires { IsRequestWithin block.now headers.now spans.now }
-    ensures { JudgesParts prefix.now (parts_at block.now headers.now spans.now) result }
+    ensures { (h : RequestHead) → IsRequestAt block.now headers.now spans.now h
+        → JudgesHead prefix.now h result }
 {
     let (fields, _) = headers.split_at(spans.headers);
     let method = spans.method.of(block);

@@ -1,13 +1,14 @@
 ghost use Rattle.std.specs.Prelude.{◌≡◌, ◌↔◌, ℕ, Bool, ◌<◌, ◌≤◌, ◌++◌, ◌∷◌, List, [], length, take};
-ghost use Rattle.std.specs.Prelude.{IsTrue, IfOk, OnErr, OnOk, Option};
+ghost use Rattle.std.specs.Prelude.{map, IsTrue, IfOk, OnErr, OnOk, Option, option_map, option_to_list};
 ghost use Rattle.std.specs.List.{AllByRecursion};
 ghost use Rattle.http_core.specs.declared.event.Area.{Area};
 ghost use Rattle.http_core.specs.Block.{IsBlock};
-ghost use Rattle.http_core.specs.Event.{IsValid, events_of, option_event};
+ghost use Rattle.blob_digest.specs.Body.{greatest_blob};
+ghost use Rattle.http_core.specs.Event.{IsValid, event_of};
 ghost use Rattle.http_core.specs.Judging.{Judges};
 ghost use Rattle.http_core.specs.Session.{SessionValue, Reading, Taking, Stands, Feeds, FeedsFirst};
-ghost use Rattle.http_core.specs.Session.{IsOpen, IsClosed, Takes, Follows, IsAllowed, ended, if_any};
-ghost use Rattle.http_core.specs.Session.{held_bytes};
+ghost use Rattle.http_core.specs.Session.{IsOpen, IsClosed, Takes, Follows, ended, held_bytes};
+ghost use Rattle.http_core.specs.Stream.{body_length, outcome};
 
 use crate::block::{MAX_BLOCK, ends_block, first_line};
 use crate::event::{Area, Ask, Event};
@@ -79,7 +80,7 @@ impl<A: Allocator + Copy> Session<A> {
     /// the session is closed.
     pub fn feed(&mut self, alloc: A, piece: &[u8]) -> Result<Vec<Event<A>, A>, AllocError>
         ensures ok { IfOk result
-            (λ events. Feeds self.old piece.now (events_of events.items) self.new) }
+            (λ events. Feeds self.old piece.now (map event_of events.items) self.new) }
         ensures err { OnErr result (IsClosed self.new) }
         ensures prefix { self.new.prefix ≡ self.old.prefix }
     {
@@ -97,7 +98,7 @@ impl<A: Allocator + Copy> Session<A> {
     /// the session is closed.
     pub fn next(&mut self, alloc: A, piece: &[u8]) -> Result<(usize, Option<Event<A>>), AllocError>
         ensures ok { IfOk result
-            (λ x. FeedsFirst self.old piece.now x.0 (option_event x.1) self.new) }
+            (λ x. FeedsFirst self.old piece.now x.0 (option_map event_of x.1) self.new) }
         ensures err { OnErr result (IsClosed self.new) }
         ensures prefix { self.new.prefix ≡ self.old.prefix }
     {
@@ -132,7 +133,7 @@ impl<A: Allocator + Copy> Session<A> {
     /// Takes the piece. After an `Err` the session is in the middle of it.
     fn cut(&mut self, alloc: A, piece: &[u8]) -> Result<Vec<Event<A>, A>, AllocError>
         ensures ok { IfOk result
-            (λ events. Feeds self.old piece.now (events_of events.items) self.new) }
+            (λ events. Feeds self.old piece.now (map event_of events.items) self.new) }
         ensures prefix { self.new.prefix ≡ self.old.prefix }
     {
         let mut events = Vec::new(alloc);
@@ -156,7 +157,7 @@ impl<A: Allocator + Copy> Session<A> {
         piece: &[u8],
     ) -> Result<(usize, Option<Event<A>>), AllocError>
         ensures ok { IfOk result
-            (λ x. FeedsFirst self.old piece.now x.0 (option_event x.1) self.new) }
+            (λ x. FeedsFirst self.old piece.now x.0 (option_map event_of x.1) self.new) }
         ensures prefix { self.new.prefix ≡ self.old.prefix }
     {
         let mut at = 0;
@@ -176,7 +177,7 @@ impl<A: Allocator + Copy> Session<A> {
         requires some { 0 < length piece.now }
         requires open { IsOpen self.old }
         ensures takes { IfOk result
-            (λ x. Takes self.old piece.now x.0 (option_event x.1) self.new) }
+            (λ x. Takes self.old piece.now x.0 (option_map event_of x.1) self.new) }
         ensures prefix { self.new.prefix ≡ self.old.prefix }
     {
         match self.stage {
@@ -191,7 +192,7 @@ impl<A: Allocator + Copy> Session<A> {
         requires some { 0 < length piece.now }
         requires reading { (bytes : List ℕ) × (self.old.state ≡ Reading bytes) }
         ensures takes { IfOk result
-            (λ x. Takes self.old piece.now x.0 (option_event x.1) self.new) }
+            (λ x. Takes self.old piece.now x.0 (option_map event_of x.1) self.new) }
         ensures prefix { self.new.prefix ≡ self.old.prefix }
     {
         let line = first_line(piece, MAX_BLOCK.saturating_sub(self.block.len()));
@@ -209,11 +210,12 @@ impl<A: Allocator + Copy> Session<A> {
 
     /// Goes on after a block.
     fn follow(&mut self, alloc: A, judgement: Judgement) -> Option<Event<A>>
-        requires { IsAllowed judgement }
+        requires fits { body_length judgement ≤ greatest_blob }
+        requires valid { IsValid (outcome judgement []) }
         ensures follows { (prefix block : List ℕ) → IsBlock block → length block ≤ 16384
             → Judges prefix block judgement
-            → Follows prefix block (option_event result) self.new.state }
-        ensures valid { AllByRecursion IsValid (if_any (option_event result)) }
+            → Follows prefix block (option_map event_of result) self.new.state }
+        ensures valid { AllByRecursion IsValid (option_to_list (option_map event_of result)) }
         ensures prefix { self.new.prefix ≡ self.old.prefix }
     {
         match judgement {
@@ -242,10 +244,10 @@ impl<A: Allocator + Copy> Session<A> {
     /// Takes bytes of a body.
     fn take_body(&mut self, alloc: A, piece: &[u8]) -> Result<(usize, Option<Event<A>>), AllocError>
         requires some { 0 < length piece.now }
-        requires taking { (area : Area) × (hash : List ℕ) × (size : ℕ) × (close : Bool) × (body : List ℕ)
-            × (self.old.state ≡ Taking area hash size close body) }
+        requires taking { (area : Area) × (hash : List ℕ) × (size : ℕ) × (close : Bool)
+            × (body : List ℕ) × (self.old.state ≡ Taking area hash size close body) }
         ensures takes { IfOk result
-            (λ x. Takes self.old piece.now x.0 (option_event x.1) self.new) }
+            (λ x. Takes self.old piece.now x.0 (option_map event_of x.1) self.new) }
         ensures prefix { self.new.prefix ≡ self.old.prefix }
     {
         let Stage::Body(area, hash, length, close) = self.stage else {

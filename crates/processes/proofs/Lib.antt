@@ -1,4 +1,5 @@
 pub mod Lists
 pub mod Rooms
 pub mod Saying
+pub mod Walks
 pub mod Gathered

@@ -1,11 +1,16 @@
 -- What is collected of a child.
-use Rattle.std.specs.Prelude.{◌≡◌, ◌⊎◌, ℕ, false, List, Some, Contains}
+use Rattle.std.specs.Prelude.{◌≡◌, ◌≢◌, ◌⊎◌, ◌↔◌, ℕ, Bool, false, List, [], ◌∷◌, ◌++◌, Some, Contains}
 use Rattle.std.specs.List.{AllByRecursion}
-use Rattle.blob_digest.specs.Digest.{digest_of}
+use Rattle.blob_digest.specs.Digest.{DigestValue, digest_of}
 use Rattle.messages.specs.Path.{path_text}
-use Rattle.messages.specs.Directory.{directory_bytes}
-use Rattle.actions.specs.declared.outcome.Output.TheVariants.{File, Link, Tree}
+use Rattle.messages.specs.Tree.{TreeValue}
+use Rattle.messages.specs.declared.node.Node.TheVariants as nodes
+use Rattle.tree.specs.Tree.{Name, Standing, nothing, a_leaf, a_directory, Tree, IsOrdered, stands_at}
+use Rattle.tree.specs.Form.{NodeValue}
+use Rattle.tree.specs.Folded.{first_visits}
+use Rattle.actions.specs.declared.outcome.Output.TheVariants as outputs
 use Rattle.actions.specs.Outcome.{OutputValue, OutcomeValue, AddsOutput, output_paths}
+use Rattle.worker.specs.Stored.{directories_of}
 use Rattle.processes.specs.declared.workshop.Standing.TheVariants as standings
 use Rattle.processes.specs.Workshop.{Works}
 use Rattle.processes.specs.Laying.{place_below}
@@ -14,22 +19,83 @@ use Rattle.processes.specs.Laying.{place_below}
 pub record AreKept (some all : List (List ℕ)) : Type 0 where
   pub kept : (b : List ℕ) → Contains some b → Contains all b
 
--- What stands at a place makes this output: a file, whose bit is false, with the digest of the bytes
--- that it was read to have, which are among the blobs; or a folder, and then the encoding of the
--- Tree's root is.
-abbrev pub IsOutputAt : {R C E : Type 0} → Works R C E → E → List (List ℕ) → List ℕ → OutputValue
-    → Type 0
-IsOutputAt works ended blobs place (File d x) = (x ≡ false) × works.stands ended place standings.File
+-- A file stands at a place, with its bit false. Its digest is that of the bytes that it was read to
+-- have, which are among the blobs.
+abbrev pub IsFileAt : {R C E : Type 0} → Works R C E → E → List (List ℕ) → List ℕ → DigestValue
+    → Bool → Type 0
+IsFileAt works ended blobs place d executable = (executable ≡ false)
+    × works.stands ended place standings.File
     × ((b : List ℕ) × works.holds ended place (Some b) × (d ≡ digest_of b) × Contains blobs b)
-IsOutputAt works ended blobs place (Link t) = ⊥
-IsOutputAt works ended blobs place (Tree t) = works.stands ended place standings.Folder
-    × Contains blobs (directory_bytes t.root)
 
--- an output is what stands at one of the paths
+-- ---- a folder
+
+-- where something stands that is at a path below a place
+abbrev pub place_at : List ℕ → List Name → List ℕ
+place_at place [] = place
+place_at place (n ∷ p) = place_at (place_below place n) p
+
+-- the names in the folder at a place are those at which a tree has something below a path
+pub record HasNames {R C E : Type 0} (works : Works R C E) (ended : E) (place : List ℕ)
+    (at : List Name → Standing NodeValue) (path : List Name) : Type 0 where
+  pub names : List Name
+  pub listed : works.lists ended place (Some names)
+  pub each : (n : Name) → Contains names n ↔ (at (path ++ n ∷ []) ≢ nothing)
+
+-- What a tree has at a path stands at a place: a file, or a folder with the names that the tree has
+-- below the path.
+abbrev pub StandsAs : {R C E : Type 0} → Works R C E → E → List (List ℕ) → List ℕ
+    → (List Name → Standing NodeValue) → List Name → Standing NodeValue → Type 0
+StandsAs works ended blobs place at path nothing = Unit {0}
+StandsAs works ended blobs place at path (a_leaf (nodes.File d x)) =
+    IsFileAt works ended blobs place d x
+StandsAs works ended blobs place at path (a_leaf (nodes.Link t)) = ⊥
+StandsAs works ended blobs place at path (a_leaf (nodes.Dir d)) = ⊥
+StandsAs works ended blobs place at path a_directory =
+    works.stands ended place standings.Folder × HasNames works ended place at path
+
+-- The folder at a place has what a tree has at each path below it, and nothing else.
+pub record IsFolderAt {R C E : Type 0} (works : Works R C E) (ended : E) (blobs : List (List ℕ))
+    (place : List ℕ) (at : List Name → Standing NodeValue) : Type 0 where
+  pub names : HasNames works ended place at []
+  pub below : (n : Name) (p : List Name)
+      → StandsAs works ended blobs (place_at place (n ∷ p)) at (n ∷ p) (at (n ∷ p))
+
+-- bytes that a file of a tree was read to have below a place
+pub record IsContentAt {R C E : Type 0} (works : Works R C E) (ended : E) (place : List ℕ)
+    (at : List Name → Standing NodeValue) (b : List ℕ) : Type 0 where
+  pub name : Name
+  pub path : List Name
+  pub file : at (name ∷ path) ≡ a_leaf (nodes.File (digest_of b) false)
+  pub holds : works.holds ended (place_at place (name ∷ path)) (Some b)
+
+-- The Tree of what is in the folder at a place. The blobs are its Directories and the contents of
+-- the files below it.
+pub record IsTreeAt {R C E : Type 0} (works : Works R C E) (ended : E) (place : List ℕ)
+    (m : TreeValue) (blobs : List (List ℕ)) : Type 0 where
+  pub tree : Tree NodeValue
+  pub ordered : IsOrdered tree
+  pub folder : IsFolderAt works ended blobs place (stands_at tree)
+  pub directories : directories_of m ≡ first_visits tree
+  pub held : AreKept (directories_of m) blobs
+  pub only : (b : List ℕ) → Contains blobs b
+      → IsContentAt works ended place (stands_at tree) b ⊎ Contains (directories_of m) b
+
+-- ---- the outputs
+
+-- What stands at a place makes this output and these blobs: a file, or a folder.
+abbrev pub IsOutputAt : {R C E : Type 0} → Works R C E → E → List ℕ → OutputValue → List (List ℕ)
+    → Type 0
+IsOutputAt works ended place (outputs.File d x) blobs = IsFileAt works ended blobs place d x
+    × ((b : List ℕ) → Contains blobs b → works.holds ended place (Some b))
+IsOutputAt works ended place (outputs.Link t) blobs = ⊥
+IsOutputAt works ended place (outputs.Tree m) blobs =
+    works.stands ended place standings.Folder × IsTreeAt works ended place m blobs
+
+-- an output is what stands at one of the paths, and its blobs are among the others
 abbrev pub IsFound : {R C E : Type 0} → Works R C E → E → List ℕ → List (List (List ℕ))
     → List (List ℕ) → List (List ℕ) × OutputValue → Type 0
-IsFound works ended folder paths blobs e = Contains paths e.0
-    × IsOutputAt works ended blobs (place_below folder (path_text e.0)) e.1
+IsFound works ended folder paths blobs e = Contains paths e.0 × ((own : List (List ℕ))
+    × IsOutputAt works ended (place_below folder (path_text e.0)) e.1 own × AreKept own blobs)
 
 -- nothing stands at the path, or it has an output
 abbrev pub IsSettled : {R C E : Type 0} → Works R C E → E → List ℕ
@@ -38,19 +104,32 @@ IsSettled works ended folder outputs q =
     works.stands ended (place_below folder (path_text q)) standings.Nothing
     ⊎ Contains (output_paths outputs) q
 
+-- a blob is one of an output
+pub record IsOfOutput {R C E : Type 0} (works : Works R C E) (ended : E) (folder : List ℕ)
+    (outputs : List (List (List ℕ) × OutputValue)) (b : List ℕ) : Type 0 where
+  pub path : List (List ℕ)
+  pub output : OutputValue
+  pub inside : Contains outputs (path, output)
+  pub own : List (List ℕ)
+  pub at : IsOutputAt works ended (place_below folder (path_text path)) output own
+  pub one : Contains own b
+
 -- The outputs are what stands at the paths below a folder after a process has ended: there is none
--- but these, and none is left out.
+-- but these, and none is left out. The blobs are those of the outputs.
 pub record AreCollected {R C E : Type 0} (works : Works R C E) (ended : E) (folder : List ℕ)
     (paths : List (List (List ℕ))) (o : OutcomeValue) (blobs : List (List ℕ)) : Type 0 where
   pub found : AllByRecursion (IsFound works ended folder paths blobs) o.outputs
   pub settled : AllByRecursion (IsSettled works ended folder o.outputs) paths
+  pub only : (b : List ℕ) → Contains blobs b → IsOfOutput works ended folder o.outputs b
 
 -- ---- one path more
 
--- What stands at one more path: nothing, or an output that was added.
+-- What stands at one more path: nothing, or an output that was added, and the blobs that come with
+-- it.
 pub record IsMore {R C E : Type 0} (works : Works R C E) (ended : E) (place : List ℕ)
     (path : List (List ℕ)) (old : OutcomeValue) (before : List (List ℕ)) (new : OutcomeValue)
     (after : List (List ℕ)) : Type 0 where
-  pub kept : AreKept before after
-  pub more : (works.stands ended place standings.Nothing × (new ≡ old))
-      ⊎ ((o : OutputValue) × IsOutputAt works ended after place o × AddsOutput old path o new)
+  pub own : List (List ℕ)
+  pub blobs : after ≡ before ++ own
+  pub more : (works.stands ended place standings.Nothing × (new ≡ old) × (own ≡ []))
+      ⊎ ((o : OutputValue) × IsOutputAt works ended place o own × AddsOutput old path o new)

@@ -1,8 +1,11 @@
-ghost use Rattle.std.specs.Prelude.{◌≡◌, ℕ, List, Contains, IfOk, Some};
+ghost use Rattle.std.specs.Prelude.{◌≡◌, ℕ, List, [], ◌∷◌, ◌++◌, map, Some, IfOk, OnOk};
 ghost use Rattle.blob_digest.specs.Digest.{digest_of};
 ghost use Rattle.messages.specs.Directory.{directory_bytes};
+ghost use Rattle.tree.specs.Lookup.{names_in};
+ghost use Rattle.worker.specs.Stored.{directories_of};
 ghost use Rattle.worker.specs.Values.{blobs_of};
-ghost use Rattle.processes.specs.Collected.{AreKept};
+ghost use Rattle.processes.specs.Collected.{IsTreeAt};
+ghost use Rattle.processes.specs.Walking.{IsBare, IsWalked};
 
 use crate::laying::place_below;
 use crate::trouble::Trouble;
@@ -10,7 +13,7 @@ use crate::workshop::{Standing, Workshop};
 use blob_digest::{Digest, Sealed};
 use messages::{Directory, Name, Path, Tree};
 use std::alloc::Allocator;
-use tree::{FlatEntry, FlatTree, Folded, fold};
+use tree::{FlatEntry, FlatTree, fold};
 
 /// The most folders below one another that are looked into.
 const GREATEST_DEPTH: usize = 65;
@@ -23,9 +26,8 @@ pub(crate) fn keep_file<A: Allocator + Copy, W: Workshop>(
     place: &str,
     blobs: &mut Vec<Vec<u8, A>, A>,
 ) -> Result<Digest, Trouble>
-    ensures held { IfOk result (λ d. (b : List ℕ) × W.works.holds ended.now place.now (Some b)
-        × (d ≡ digest_of b) × Contains (blobs_of blobs.new.items) b) }
-    ensures kept { AreKept (blobs_of blobs.old.items) (blobs_of blobs.new.items) }
+    ensures { IfOk result (λ d. (b : List ℕ) × W.works.holds ended.now place.now (Some b)
+        × (d ≡ digest_of b) × (blobs_of blobs.new.items ≡ blobs_of blobs.old.items ++ b ∷ [])) }
 {
     let Some(bytes) = workshop.read(alloc, ended, place)? else {
         return Err(Trouble::NoOutput);
@@ -41,7 +43,9 @@ fn path_below<A: Allocator + Copy>(
     alloc: A,
     above: &Option<Path<A>>,
     name: &str,
-) -> Result<Path<A>, Trouble> {
+) -> Result<Path<A>, Trouble>
+    ensures { IfOk result (λ p. p ≡ names_in above.now ++ name.now ∷ []) }
+{
     let name = Name::new(alloc, name.as_bytes())?;
     match above {
         Some(above) => Ok(Path::below(alloc, above, &name)?),
@@ -51,7 +55,6 @@ fn path_below<A: Allocator + Copy>(
 
 /// Adds what stands in the folder at a place, at the path above in a tree, and keeps the contents
 /// of the files. Folders are looked into to a depth.
-#[tactic(auto, using(crate::proofs::Lists::kept_none, crate::proofs::Lists::kept_trans))]
 fn walk<A: Allocator + Copy, W: Workshop>(
     alloc: A,
     workshop: &W,
@@ -62,7 +65,9 @@ fn walk<A: Allocator + Copy, W: Workshop>(
     tree: &mut FlatTree<A>,
     blobs: &mut Vec<Vec<u8, A>, A>,
 ) -> Result<(), Trouble>
-    ensures { AreKept (blobs_of blobs.old.items) (blobs_of blobs.new.items) }
+    requires { IsBare tree.old (names_in above.now) }
+    ensures { OnOk result (IsWalked W.works ended.now place.now (names_in above.now)
+        tree.old tree.new (blobs_of blobs.old.items) (blobs_of blobs.new.items)) }
 {
     if depth == 0 {
         return Err(Trouble::NoOutput);
@@ -100,48 +105,34 @@ fn walk<A: Allocator + Copy, W: Workshop>(
     Ok(())
 }
 
-/// Reads Directories, and keeps their encodings.
-#[tactic(auto, using(crate::proofs::Lists::kept_none, crate::proofs::Lists::kept_trans))]
+/// The Directories of encodings.
 fn read_directories<A: Allocator + Copy>(
     alloc: A,
-    encodings: Vec<Vec<u8, A>, A>,
-    blobs: &mut Vec<Vec<u8, A>, A>,
+    encodings: &[Vec<u8, A>],
 ) -> Result<Vec<Directory<A>, A>, Trouble>
-    ensures { AreKept (blobs_of blobs.old.items) (blobs_of blobs.new.items) }
+    ensures { IfOk result (λ ds. map directory_bytes ds.items ≡ blobs_of encodings.now) }
 {
     let mut directories = Vec::new(alloc);
     for encoding in encodings {
-        directories.push(Directory::decode(alloc, &encoding)?)?;
-        blobs.push(encoding)?;
+        directories.push(Directory::decode(alloc, encoding)?)?;
     }
     Ok(directories)
 }
 
-/// The Tree of Directories, of which the first is its root, and the encodings are kept.
-#[tactic(auto, using(crate::proofs::Lists::kept_none, crate::proofs::Lists::kept_trans))]
-fn tree_of<A: Allocator + Copy>(
-    alloc: A,
-    folded: Folded<A>,
-    blobs: &mut Vec<Vec<u8, A>, A>,
-) -> Result<Tree<A>, Trouble>
-    ensures held { IfOk result
-        (λ t. Contains (blobs_of blobs.new.items) (directory_bytes t.root)) }
-    ensures kept { AreKept (blobs_of blobs.old.items) (blobs_of blobs.new.items) }
+/// The Tree of Directories, of which the first is its root.
+fn tree_of<A: Allocator + Copy>(alloc: A, encodings: &[Vec<u8, A>]) -> Result<Tree<A>, Trouble>
+    ensures { IfOk result (λ t. directories_of t ≡ blobs_of encodings.now) }
 {
-    let mut encodings = folded.directories;
-    if encodings.is_empty() {
+    let mut directories = read_directories(alloc, encodings)?;
+    if directories.is_empty() {
         return Err(Trouble::NoOutput);
     }
-    let first = encodings.remove(0);
-    let root = Directory::decode(alloc, &first)?;
-    let children = read_directories(alloc, encodings, blobs)?;
-    blobs.push(first)?;
-    Ok(Tree::new(alloc, root, children)?)
+    let root = directories.remove(0);
+    Ok(Tree::new(alloc, root, directories)?)
 }
 
-/// Reads the folder at a place as a Tree, and keeps the contents of its files and the encodings of
-/// its Directories.
-#[tactic(auto, using(crate::proofs::Lists::kept_none, crate::proofs::Lists::kept_trans))]
+/// Reads the folder at a place as a Tree, and keeps the contents of the files in it and the
+/// encodings of the Directories.
 pub(crate) fn keep_folder<A: Allocator + Copy, W: Workshop>(
     alloc: A,
     workshop: &W,
@@ -149,9 +140,8 @@ pub(crate) fn keep_folder<A: Allocator + Copy, W: Workshop>(
     place: &str,
     blobs: &mut Vec<Vec<u8, A>, A>,
 ) -> Result<Tree<A>, Trouble>
-    ensures held { IfOk result
-        (λ t. Contains (blobs_of blobs.new.items) (directory_bytes t.root)) }
-    ensures kept { AreKept (blobs_of blobs.old.items) (blobs_of blobs.new.items) }
+    ensures { IfOk result (λ t. (own : List (List ℕ)) × IsTreeAt W.works ended.now place.now t own
+        × (blobs_of blobs.new.items ≡ blobs_of blobs.old.items ++ own)) }
 {
     let mut tree = FlatTree::new(alloc);
     let top = None;
@@ -165,6 +155,8 @@ pub(crate) fn keep_folder<A: Allocator + Copy, W: Workshop>(
         &mut tree,
         blobs,
     )?;
-    let folded = fold(alloc, &tree)?;
-    tree_of(alloc, folded, blobs)
+    let mut directories = fold(alloc, &tree)?.directories;
+    let made = tree_of(alloc, &directories)?;
+    blobs.append(&mut directories)?;
+    Ok(made)
 }

@@ -2,9 +2,11 @@
 use Rattle.std.specs.Prelude.{◌≡◌, List, [], ℕ, false, Option, None, Result, Ok, IfOk, IfErr}
 use Rattle.std.specs.Prelude.{IsErrOf, OnErr, OnOk}
 use Rattle.std.specs.declared.vec.Vec.{Vec}
-use Rattle.blob_digest.specs.Digest.{DigestValue}
+use Rattle.blob_digest.specs.Digest.{DigestValue, digest_of}
 use Rattle.http_core.specs.declared.event.Area.{Area}
-use Rattle.blob_source.specs.Source.{Telling, bytes_of}
+use Rattle.http_core.specs.declared.event.Area.TheVariants.{Cas}
+use Rattle.blob_source.specs.Called.{Calls}
+use Rattle.blob_source.specs.Source.{CountsCall, Telling, bytes_of}
 use Rattle.blob_source.specs.declared.source.FetchError.{FetchError}
 use Rattle.blob_source.specs.declared.source.FetchError.TheVariants.{Failed}
 use Rattle.remote.specs.declared.remote.Remote.{Remote}
@@ -80,3 +82,18 @@ pub record Stores {A T : Type 0}
   pub held : OnOk result (HasAnswer after d)
   pub unheld : OnErr result (KeepsAnswers before after)
   pub others : IsSameBut d before after
+
+-- A call that put the blob under its digest, and kept nothing of that.
+pub record Sends {S A T : Type 0}
+    (flow : S → Flow) (bytes : List ℕ) (old new : Remote S A) (result : Result T FetchError)
+    : Type 0 where
+  pub taken : OnOk result (Puts (connection_of flow old) (connection_of flow new) Cas
+      (digest_of bytes).hash bytes)
+  pub refused : IfErr result (RefusesRequest (connection_of flow old) (connection_of flow new)
+      (put Cas (digest_of bytes).hash bytes))
+  pub starved : IfErr result (ExplainsMemory (connection_of flow old) (connection_of flow new)
+      (put Cas (digest_of bytes).hash bytes))
+  pub blobs : blobs_of new ≡ blobs_of old
+  pub results : results_of new ≡ results_of old
+  pub puts : (telling_of new).puts ≡ (telling_of old).puts
+  pub called : Calls CountsCall (telling_of old) (telling_of new) (IsErrOf result Failed)

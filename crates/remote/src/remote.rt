@@ -3,8 +3,8 @@ ghost use Rattle.blob_digest.specs.Digest.{digest_of};
 ghost use Rattle.blob_source.specs.Called.{Calls};
 ghost use Rattle.blob_source.specs.Sink.{PutsBlob, PutsResult, IsPut};
 ghost use Rattle.blob_source.specs.Source.{AsksBlob, AsksResult, bytes_of};
-ghost use Rattle.remote.specs.Remote.{IsFreshRemote, LooksUp, Stores, blobs_of, connection_of};
-ghost use Rattle.remote.specs.Remote.{results_of, telling_of};
+ghost use Rattle.remote.specs.Remote.{IsFreshRemote, LooksUp, Sends, Stores, blobs_of};
+ghost use Rattle.remote.specs.Remote.{connection_of, results_of, telling_of};
 
 use crate::asking::{keep_bytes, look_up};
 use crate::fault::Fault;
@@ -61,6 +61,19 @@ impl<S: Stream + Drop, A: Allocator + Copy> Remote<S, A> {
         &self.line.stream
     }
 
+    /// Puts a blob under its digest, and answers that. Nothing of it is kept: it is for what isn't
+    /// asked for again.
+    pub fn send_blob(&mut self, alloc: A, bytes: &[u8]) -> Result<Digest, FetchError>
+        ensures named { IfOk result (λ digest. digest ≡ digest_of bytes.now) }
+        ensures sent { Sends S.flow bytes.now self.old self.new result }
+    {
+        let _count = self.line.failures;
+        self.calls = self.calls.saturating_add(1);
+        let digest = Digest::of(bytes);
+        self.line.put(alloc, Area::Cas, &digest, bytes)?;
+        Ok(digest)
+    }
+
     /// The fault of the last failure.
     pub fn last_fault(&self) -> Option<Fault>
         ensures { result ≡ (connection_of S.flow self.now).fault }
@@ -113,10 +126,7 @@ impl<S: Stream + Drop, A: Allocator + Copy> BlobSink<A> for Remote<S, A> {
             (blobs_of self.old) (blobs_of self.new) result }
         ensures untouched { results_of self.new ≡ results_of self.old }
     {
-        let _count = self.line.failures;
-        self.calls = self.calls.saturating_add(1);
-        let digest = Digest::of(bytes);
-        self.line.put(alloc, Area::Cas, &digest, bytes)?;
+        let digest = self.send_blob(alloc, bytes)?;
         if self.blobs.has_right(&digest) {
             return Ok(digest);
         }

@@ -22,9 +22,11 @@ abbrev pub unsent_of : Option AnswerValue → ℕ → List ℕ
 unsent_of None sent = []
 unsent_of (Some answer) sent = drop sent (text_of answer)
 
+-- a new connection: nothing is left of what was read, and nothing unsent
 abbrev pub new_member : {S : Type 0} → S → MemberValue S
 new_member stream = record { stream = stream; left = []; unsent = [] }
 
+-- the same connection, its stream as it is now
 abbrev pub with_stream : {S : Type 0} → MemberValue S → S → MemberValue S
 with_stream m stream = record { stream = stream; left = m.left; unsent = m.unsent }
 
@@ -80,6 +82,7 @@ TalksOnUnless None spoke over prefix opening history entries k m =
 TalksOnUnless (Some why) spoke over prefix opening history entries k m =
     MayEndNow spoke over prefix opening history entries k m.stream why
 
+-- each entry is of the connection
 abbrev pub AreOf : ℕ → List HistoryEntry → Type 0
 AreOf k [] = Unit {0}
 AreOf k (entry ∷ entries) = (entry_number entry ≡ k) × AreOf k entries

@@ -10,6 +10,7 @@ use Rattle.service.specs.Talks.{HasEnded, MayEnd, AreBelow}
 use Rattle.service.specs.Sockets.{EndsAs, Why}
 use Rattle.service.specs.Member.{MemberValue, TalksOn, MovesOn, new_member}
 
+-- the open connection with the number, if there is one
 abbrev pub member_at : {S : Type 0} → List (ℕ × MemberValue S) → ℕ → Option (MemberValue S)
 member_at members k = lookup (is_at (nat_cmp k)) members
 
@@ -51,6 +52,7 @@ pub record GoesOnTogether
 abbrev pub AreSame : {S : Type 0} → List (ℕ × MemberValue S) → List (ℕ × MemberValue S) → Type 0
 AreSame old new = (j : ℕ) → member_at new j ≡ member_at old j
 
+-- all but one connection are the same
 abbrev pub OthersAreSame :
     {S : Type 0} → ℕ → List (ℕ × MemberValue S) → List (ℕ × MemberValue S) → Type 0
 OthersAreSame k old new = (j : ℕ) → (j ≡ k → ⊥) → member_at new j ≡ member_at old j

@@ -15,7 +15,7 @@ use tree::MemorySource;
 /// What came of a build.
 #[derive(Drop)]
 struct Tried {
-    /// Its line, and the text of the record after it; nothing for lack of memory.
+    /// Its line and what is told after it; nothing for lack of memory.
     told: Option<String>,
     children: Counting,
     steps: Noting,
@@ -83,7 +83,7 @@ fn build_once<A: Allocator + Copy>(
     })
 }
 
-/// The line of a build, and the text of the record after it.
+/// The line of a build, and after it the text of the record, or why it was refused.
 pub fn told_of<A: Allocator>(global: Global, told: &Told<A>) -> Result<String, AllocError> {
     match told {
         Told::Built { line, noted, .. } => {
@@ -91,7 +91,10 @@ pub fn told_of<A: Allocator>(global: Global, told: &Told<A>) -> Result<String, A
             let noted = String::from_utf8_lossy(global, noted)?;
             format!(in global; "{line}{noted}")
         }
-        Told::Failed { line } => String::from_str(global, line.as_str()),
+        Told::Failed { line, why } => {
+            let (line, why) = (line.as_str(), why.as_str());
+            format!(in global; "{line}{why}\n")
+        }
     }
 }
 

@@ -14,16 +14,15 @@ use test_support::Refusing;
 /// How many requests for memory were refused.
 pub fn run_row(verb: &str, row: &Row<'_>, text: &mut String) -> Result<u64, AllocError> {
     match verb {
-        "beginnings" => tell_beginnings(row, text)?,
-        "fail_bytes" => return fail_each_byte(row, text),
-        "fail_pieces" => return fail_each_piece(row, text),
-        "refuse_first" => return refuse_first(row, text),
-        "refuse_runs" => return refuse_runs(row, text),
-        "refuse_within" => return refuse_within(row, text),
-        "fail_each" => return fail_each(row, text),
-        _ => return tell_in_each_way(verb, row, text),
+        "beginnings" => tell_beginnings(row, text),
+        "fail_bytes" => fail_each_byte(row, text),
+        "fail_pieces" => fail_each_piece(row, text),
+        "refuse_first" => refuse_first(row, text),
+        "refuse_runs" => refuse_runs(row, text),
+        "refuse_within" => refuse_within(row, text),
+        "fail_each" => fail_each(row, text),
+        _ => tell_in_each_way(verb, row, text),
     }
-    Ok(0)
 }
 
 /// Adds what the row tells.
@@ -60,26 +59,26 @@ fn told(verb: &str, row: &Row<'_>) -> Result<String, AllocError> {
 }
 
 /// Adds what a row of the verb in its words tells of each beginning of the stream, where it differs
-/// from that of the one before.
-fn tell_beginnings(row: &Row<'_>, text: &mut String) -> Result<(), AllocError> {
+/// from that of the one before. Each request for memory is refused in turn.
+fn tell_beginnings(row: &Row<'_>, text: &mut String) -> Result<u64, AllocError> {
     let (verb, words) = row.words.split_once(' ').unwrap_or((row.words, ""));
     let mut last = String::new(row.heap);
+    let mut refused = 0u64;
     for length in 0..=row.stream.len() {
         let (stream, _) = row.stream.split_at(length);
-        let next = told(
-            verb,
-            &Row {
-                words,
-                stream,
-                ..*row
-            },
-        )?;
+        let beginning = Row {
+            words,
+            stream,
+            ..*row
+        };
+        let next = told(verb, &beginning)?;
         if length == 0 || next != last {
             write!(text, "{length} bytes\n{next}")?;
         }
+        refused = refused.saturating_add(refuse_each(verb, &beginning, next.as_str(), text)?);
         last = next;
     }
-    Ok(())
+    Ok(refused)
 }
 
 /// The lengths of pieces, in turn.

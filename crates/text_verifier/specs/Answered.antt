@@ -8,6 +8,7 @@ use Rattle.verifier.specs.Headline.{EveryRunEndsIn, NoRunIsStuck}
 use Rattle.verifier.specs.LooksAt.{PlanLooksAt}
 use Rattle.verifier.specs.Verdict.{IsVerdict, IsYes}
 use Rattle.text_verifier.specs.declared.answering.Answer.{Answer}
+use Rattle.text_verifier.specs.Lacking.{lack_of}
 use Rattle.text_verifier.specs.Texts.{Question}
 
 -- The verdict on a question by what a store told. Where it is yes, every complete run of the plan
@@ -24,11 +25,12 @@ pub record TellsVerdict {A : Type 0} (answer : Answer A) (v : Verdict A) : Type 
   pub one : IsOneLine (report_line v)
   pub positive : IsTrue answer.is_yes ↔ IsYes v
 
--- it tells the verdict on the question
+-- it tells the verdict on the question, and what the source lacks by it
 pub record IsAnswer {A : Type 0} (told : Telling) (q : Question) (answer : Answer A) : Type 0 where
   pub verdict : Verdict A
   pub judged : IsJudged told q verdict
   pub tells : TellsVerdict answer verdict
+  pub lack : answer.lack ≡ lack_of q verdict
 
 -- what the verifier looks at for a question, up to the first fault
 abbrev pub AnswerLooksAt : (A : Type 0) → Telling → Question → Asked → Type 0

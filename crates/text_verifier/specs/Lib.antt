@@ -1,3 +1,4 @@
 pub mod Answered
+pub mod Lacking
 pub mod Refused
 pub mod Texts

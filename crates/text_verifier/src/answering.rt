@@ -6,6 +6,7 @@ ghost use Rattle.tree.specs.Memo.{Asked, Covers};
 
 use crate::case::Case;
 use crate::error::TextError;
+use crate::lack::{Lack, lack_of};
 use crate::reading::Digests;
 use report::{is_yes, report};
 use std::alloc::Allocator;
@@ -20,6 +21,8 @@ pub struct Answer<A: Allocator> {
     pub line: String<A>,
     /// Whether the verdict is yes.
     pub is_yes: bool,
+    /// What it says that the source lacks.
+    pub lack: Option<Lack>,
 }
 
 /// The answer on the case, by what the source tells.
@@ -44,5 +47,6 @@ pub fn answer_question<A: Allocator + Copy, S: BlobSource<A>>(
     Ok(Answer {
         line: report(alloc, &verdict)?,
         is_yes: is_yes(&verdict),
+        lack: lack_of(case, &verdict),
     })
 }

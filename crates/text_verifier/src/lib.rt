@@ -7,9 +7,11 @@
 mod answering;
 mod case;
 mod error;
+mod lack;
 mod reading;
 
 pub use answering::{Answer, answer_question};
 pub use case::Case;
 pub use error::TextError;
+pub use lack::Lack;
 pub use reading::{Digests, read_digests, read_plan};

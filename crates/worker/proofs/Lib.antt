@@ -18,3 +18,4 @@ pub mod Counts
 pub mod Heard
 pub mod Failures
 pub mod Steps
+pub mod Acts

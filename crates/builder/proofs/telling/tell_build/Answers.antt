@@ -1,21 +1,26 @@
-use Rattle.std.proofs.Common.{subst}
-use Rattle.builder.specs.Built.{RanOrAsked}
+use Rattle.std.proofs.Common.{rules}
+use Rattle.builder.proofs.Refusing.{numberless, ran_same}
 use Rattle.builder.proofs.telling.tell_build.Goals as goal
 
-pub returns-in_ok-failed_line-in-Err-Refused-clause-ran : goal.returns-in_ok-failed_line-in-Err-Refused-clause-ran
-returns-in_ok-failed_line-in-Err-Refused-clause-ran g c =
-    let tells = g.S.BlobSource.tells in
-    let starts = g.N.Runner.starts in
-    subst (λ p. RanOrAsked g.row.A.Denot (g.N.Runner.yields c.args.runner.now) c.args.jobs p c.args.sources.now (starts c.args.runner.now) (starts c.build_plan.new.runner) (tells c.args.sink.now) (tells c.build_plan.new.sink)) c.in_ok-copy.ensures c.build_plan.ensures.ran
+pub returns-in_err-failed_line-in-Refused-clause-ran : goal.returns-in_err-failed_line-in-Refused-clause-ran
+returns-in_err-failed_line-in-Refused-clause-ran g c = ran_same _ _ _ _ _ _ _ _ _ _ c.in_ok-copy.ensures c.build_plan.ensures.ran
 
-pub returns-in-Err-clause-ran : goal.returns-in-Err-clause-ran
-returns-in-Err-clause-ran g c =
-    let tells = g.S.BlobSource.tells in
-    let starts = g.N.Runner.starts in
-    subst (λ p. RanOrAsked g.row.A.Denot (g.N.Runner.yields c.args.runner.now) c.args.jobs p c.args.sources.now (starts c.args.runner.now) (starts c.build_plan.new.runner) (tells c.args.sink.now) (tells c.build_plan.new.sink)) c.in_ok-copy.ensures c.build_plan.ensures.ran
+pub returns-in_err-why_text-in-Refused-clause-ran : goal.returns-in_err-why_text-in-Refused-clause-ran
+returns-in_err-why_text-in-Refused-clause-ran g c = ran_same _ _ _ _ _ _ _ _ _ _ c.in_ok-copy.ensures c.build_plan.ensures.ran
 
-pub returns-in_err-failed_line-in-Err-Refused-clause-ran : goal.returns-in_err-failed_line-in-Err-Refused-clause-ran
-returns-in_err-failed_line-in-Err-Refused-clause-ran g c =
-    let tells = g.S.BlobSource.tells in
-    let starts = g.N.Runner.starts in
-    subst (λ p. RanOrAsked g.row.A.Denot (g.N.Runner.yields c.args.runner.now) c.args.jobs p c.args.sources.now (starts c.args.runner.now) (starts c.build_plan.new.runner) (tells c.args.sink.now) (tells c.build_plan.new.sink)) c.in_ok-copy.ensures c.build_plan.ensures.ran
+pub returns-in-Refused-clause-ran : goal.returns-in-Refused-clause-ran
+returns-in-Refused-clause-ran g c = ran_same _ _ _ _ _ _ _ _ _ _ c.in_ok-copy.ensures c.build_plan.ensures.ran
+
+pub returns : goal.returns
+returns g c = record {
+  ran = ran_same _ _ _ _ _ _ _ _ _ _ c.in_ok-copy.ensures c.build_plan.ensures.ran;
+  told = tt;
+  failed = numberless c.fault_of.result c.in_default.not-Refused;
+  refused = search rules;
+  alive = search rules;
+  right = search rules;
+  watched = search rules;
+  whole = tt;
+  fetched = search rules;
+  device = search rules;
+}

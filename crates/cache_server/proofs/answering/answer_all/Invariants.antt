@@ -1,4 +1,5 @@
-use Rattle.http_core.specs.Event.{events_of}
+use Rattle.std.proofs.Common.{map}
+use Rattle.http_core.specs.Event.{event_of}
 use Rattle.cache_server.proofs.Telling.{TellsOn}
 use Rattle.cache_server.proofs.answering.answer_all.Given as goal
 
@@ -6,4 +7,4 @@ abbrev pub invariant-loop-event : goal.invariant-loop-event
 invariant-loop-event g l =
     (goal.iterator-loop-event g).can_next l.event-iterator
     × (goal.iterator-loop-event g).is_finite l.event-iterator
-    × TellsOn l.fn.cache (events_of l.fn.events.items) (events_of l.event-iterator.rest.items) (g.W.Write.contents l.fn.writer) (g.W.Write.contents l.writer) l.cache
+    × TellsOn l.fn.cache (map event_of l.fn.events.items) (map event_of l.event-iterator.rest.items) (g.W.Write.contents l.fn.writer) (g.W.Write.contents l.writer) l.cache

@@ -1,4 +1,4 @@
-use Rattle.std.proofs.Common.{subst, sym}
+use Rattle.std.proofs.Common.{◌∙◌, subst, sym}
 use Rattle.clap.specs.Words.{found_of, rows_of}
 use Rattle.commands.proofs.Exits.{exit_by}
 use Rattle.commands.specs.Options.{IsValidServer}
@@ -38,12 +38,20 @@ returns-in_err-plan-clause-refused g c =
       server = subst (IsValidServer options) c.text_of.ensures c.in_ok-server.ensures.valid;
     }) (c.in_ok-sources.sources, c.in_ok-sources.ensures.found) c.in_err-plan.ensures.fault)
 
-pub returns-clause-asks : goal.returns-clause-asks
-returns-clause-asks g c = record {
-  named = record {
-    jobs = c.in_ok-jobs.ensures.named;
-    server = subst (IsValidServer (rows_of (found_of c.args.matches.now))) c.text_of.ensures c.in_ok-server.ensures.valid;
-  };
-  spelled = c.in_ok-sources.ensures.found;
-  plan_is = c.in_ok-plan.ensures.found;
-}
+pub returns-clause-read : goal.returns-clause-read
+returns-clause-read g c =
+    let options = rows_of (found_of c.args.matches.now) in
+    record {
+      asks = record {
+        named = record {
+          jobs = c.in_ok-jobs.ensures.named;
+          server = subst (IsValidServer options) c.text_of.ensures c.in_ok-server.ensures.valid;
+        };
+        spelled = c.in_ok-sources.ensures.found;
+        plan_is = c.in_ok-plan.ensures.found;
+      };
+      jobs = c.in_ok-jobs.ensures.found;
+      address = c.in_ok-server.ensures.address ∙ c.text_of.ensures;
+      host = c.in_ok-server.ensures.host ∙ c.text_of.ensures;
+      prefix = c.in_ok-server.ensures.prefix;
+    }

@@ -1,31 +1,42 @@
-use Rattle.std.proofs.Common.{◌≡◌, IfSome, inr, subst, ℕ}
+use Rattle.std.proofs.Common.{IfSome, inr, subst, string_bytes, ℕ}
 use Rattle.std.specs.Io.KnownBytes.{Appends}
-use Rattle.std.proofs.KnownBytes.{Appends-kept}
 use Rattle.std.specs.declared.alloc.Global.{Global}
 use Rattle.std.specs.declared.vec.Vec.{Vec}
-use Rattle.blob_digest.specs.Digest.{digest_of}
-use Rattle.commands.proofs.Writing.{beginning_of_all, where_err}
+use Rattle.remote.specs.Remote.{connection_of}
+use Rattle.commands.specs.GetRefused.{FailsGetBlob}
+use Rattle.commands.specs.GetRefused.FailsGetBlob.{in_output}
+use Rattle.commands.specs.Got.{IsBlobOver}
+use Rattle.commands.specs.Told.{AppendsBeginning}
+use Rattle.commands.proofs.Exits.{exit_by}
+use Rattle.commands.proofs.Writing.{where_err}
 use Rattle.commands.proofs.getting.print_blob.Goals as goal
 
-pub returns-in_err-map_err-clause-begun : goal.returns-in_err-map_err-clause-begun
-returns-in_err-map_err-clause-begun g c =
+pub returns-in_err-print_all-clause-begun : goal.returns-in_err-print_all-clause-begun
+returns-in_err-print_all-clause-begun g c =
     let old = g.O.Write.contents c.args.out.now in
-    let mid = g.O.Write.contents c.write_bytes.new.out in
-    let new = g.O.Write.contents c.flush.new.self in
+    let new = g.O.Write.contents c.print_all.new.out in
     let bytes = c.in-Some.bytes.items in
+    let start = connection_of g.S.Stream.flow c.args.remote in
     let digest = c.args.digest.now in
-    let right : digest_of bytes ≡ digest = subst (λ o. IfSome o (λ (b : Vec ℕ Global). digest_of b.items ≡ digest)) c.in-Some.is c.in_ok-bytes.ensures.right in
-    let written : Appends old mid bytes = subst (Appends old mid) c.deref.ensures.value c.in_ok-write_bytes.ensures.written in
-    where_err c.from_residual-in_err-map_err.result
-    (inr (record { bytes = bytes; right = right; begun = beginning_of_all old new bytes (Appends-kept old mid new bytes written c.flush.ensures.bytes) }))
+    let blob : IsBlobOver start digest bytes = subst (λ o. IfSome o (λ (b : Vec ℕ Global). IsBlobOver start digest b.items)) c.in-Some.is c.in_ok-bytes.ensures.right in
+    where_err c.from_residual-in_err-print_all.result
+    (inr (record { bytes = bytes; right = blob.right; begun = subst (AppendsBeginning old new) c.deref.ensures.value c.in_err-print_all.ensures.begun }))
+
+pub returns-in_err-print_all-clause-fault : goal.returns-in_err-print_all-clause-fault
+returns-in_err-print_all-clause-fault g c =
+    let bytes = c.in-Some.bytes.items in
+    let start = connection_of g.S.Stream.flow c.args.remote in
+    let digest = c.args.digest.now in
+    let blob : IsBlobOver start digest bytes = subst (λ o. IfSome o (λ (b : Vec ℕ Global). IsBlobOver start digest b.items)) c.in-Some.is c.in_ok-bytes.ensures.right in
+    exit_by (FailsGetBlob start (string_bytes c.args.server.now.address) digest) _ c.from_residual-in_err-print_all.ensures.1
+    (in_output bytes blob c.in_err-print_all.ensures.fault)
 
 pub returns-clause-printed : goal.returns-clause-printed
 returns-clause-printed g c =
     let old = g.O.Write.contents c.args.out.now in
-    let mid = g.O.Write.contents c.write_bytes.new.out in
-    let new = g.O.Write.contents c.flush.new.self in
+    let new = g.O.Write.contents c.print_all.new.out in
     let bytes = c.in-Some.bytes.items in
+    let start = connection_of g.S.Stream.flow c.args.remote in
     let digest = c.args.digest.now in
-    let right : digest_of bytes ≡ digest = subst (λ o. IfSome o (λ (b : Vec ℕ Global). digest_of b.items ≡ digest)) c.in-Some.is c.in_ok-bytes.ensures.right in
-    let written : Appends old mid bytes = subst (Appends old mid) c.deref.ensures.value c.in_ok-write_bytes.ensures.written in
-    record { bytes = bytes; right = right; printed = Appends-kept old mid new bytes written c.flush.ensures.bytes }
+    let blob : IsBlobOver start digest bytes = subst (λ o. IfSome o (λ (b : Vec ℕ Global). IsBlobOver start digest b.items)) c.in-Some.is c.in_ok-bytes.ensures.right in
+    record { bytes = bytes; blob = blob; printed = subst (Appends old new) c.deref.ensures.value c.in_ok-print_all.ensures.printed }

@@ -1,37 +1,49 @@
-use Rattle.std.proofs.Common.{rules, ◌≡◌, ◌∙◌, Some, refl, sym, subst, inr}
+use Rattle.std.proofs.Common.{rules, ◌≡◌, ◌∙◌, None, Some, refl, sym, subst, string_bytes, inr}
 use Rattle.std.specs.Prelude.{IsSome, codes}
-use Rattle.std.proofs.lemmas.Result.{IfOk-weaker}
 use Rattle.clap.specs.Words.{first_of, found_of, rows_of}
-use Rattle.commands.specs.Places.{IsToldOver}
-use Rattle.commands.specs.Printed.{GetsAsked}
-use Rattle.commands.specs.Trees.{IsTreeGot}
+use Rattle.commands.specs.Printed.{StartsGet}
 use Rattle.remote.specs.Remote.{connection_of}
-use Rattle.commands.proofs.Gotten.{on_err}
-use Rattle.commands.proofs.Placed.{opened_to}
+use Rattle.commands.proofs.Gotten.{asked_by, on_err, refused_by, starts_get}
 use Rattle.commands.proofs.getting.run_get.Goals as goal
 
 pub returns-in-Some-clause-answered : goal.returns-in-Some-clause-answered
 returns-in-Some-clause-answered g c =
     let sees = g.W.World.sees in
     let rows = rows_of (found_of c.args.matches.now) in
-    let old = g.O.Write.contents c.args.out.now in
-    let new = g.O.Write.contents c.get_tree.new.out in
     let start = connection_of g.W.Link.Stream.flow c.in_ok-remote.remote in
+    let digest = c.in_ok-digest.digest in
     let into : first_of (codes "into") rows ≡ Some c.in-Some.folder.now = search rules in
-    IfOk-weaker c.get_tree.result (IsTreeGot sees (IsToldOver start) c.in_ok-digest.digest c.in-Some.folder.now old new) (GetsAsked sees rows old new)
-    (λ found got. inr (record {
-      folder = c.in-Some.folder.now;
-      into = into;
-      digest = c.in_ok-digest.digest;
-      spelled = c.in_ok-digest.ensures.found;
-      start = start;
-      connected = opened_to sees rows c.in_ok-server.server start
-          (c.in_ok-server.ensures.address ∙ c.text_of.ensures) (c.in_ok-server.ensures.host ∙ c.text_of.ensures) c.in_ok-server.ensures.prefix c.in_ok-remote.ensures.opened;
-      got = got;
-    })) c.get_tree.ensures.got
+    let starts : StartsGet sees rows digest start = starts_get sees rows start digest c.in_ok-server.server c.text_of.result.now c.text_of.ensures c.in_ok-server.ensures.address
+    c.in_ok-server.ensures.host c.in_ok-server.ensures.prefix c.in_ok-server.ensures.valid c.in_ok-digest.ensures.found c.in_ok-remote.ensures.opened in
+    asked_by sees rows start digest starts (Some c.in-Some.folder.now) into c.get_tree.result (g.O.Write.contents c.args.out.now) (g.O.Write.contents c.get_tree.new.out)
+    c.get_tree.ensures.got
+
+pub returns-in-Some-clause-refused : goal.returns-in-Some-clause-refused
+returns-in-Some-clause-refused g c =
+    let sees = g.W.World.sees in
+    let rows = rows_of (found_of c.args.matches.now) in
+    let start = connection_of g.W.Link.Stream.flow c.in_ok-remote.remote in
+    let digest = c.in_ok-digest.digest in
+    let into : first_of (codes "into") rows ≡ Some c.in-Some.folder.now = search rules in
+    let starts : StartsGet sees rows digest start = starts_get sees rows start digest c.in_ok-server.server c.text_of.result.now c.text_of.ensures c.in_ok-server.ensures.address
+    c.in_ok-server.ensures.host c.in_ok-server.ensures.prefix c.in_ok-server.ensures.valid c.in_ok-digest.ensures.found c.in_ok-remote.ensures.opened in
+    refused_by sees rows start digest starts (Some c.in-Some.folder.now) into c.get_tree.result (string_bytes c.in_ok-server.server.address)
+    (c.in_ok-server.ensures.address ∙ c.text_of.ensures) c.get_tree.ensures.fault
 
 pub returns-in-Some-clause-begun : goal.returns-in-Some-clause-begun
 returns-in-Some-clause-begun g c =
     let rows = rows_of (found_of c.args.matches.now) in
     let into : first_of (codes "into") rows ≡ Some c.in-Some.folder.now = search rules in
     on_err c.get_tree.result c.get_tree.ensures.begun (λ begins. inr (inr (subst IsSome (sym into) refl, begins)))
+
+pub returns-clause-refused : goal.returns-clause-refused
+returns-clause-refused g c =
+    let sees = g.W.World.sees in
+    let rows = rows_of (found_of c.args.matches.now) in
+    let start = connection_of g.W.Link.Stream.flow c.in_ok-remote.remote in
+    let digest = c.in_ok-digest.digest in
+    let into : first_of (codes "into") rows ≡ None = search rules in
+    let starts : StartsGet sees rows digest start = starts_get sees rows start digest c.in_ok-server.server c.text_of.result.now c.text_of.ensures c.in_ok-server.ensures.address
+    c.in_ok-server.ensures.host c.in_ok-server.ensures.prefix c.in_ok-server.ensures.valid c.in_ok-digest.ensures.found c.in_ok-remote.ensures.opened in
+    refused_by sees rows start digest starts None into c.print_blob.result (string_bytes c.in_ok-server.server.address)
+    (c.in_ok-server.ensures.address ∙ c.text_of.ensures) c.print_blob.ensures.fault

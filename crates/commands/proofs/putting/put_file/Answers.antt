@@ -1,15 +1,31 @@
-use Rattle.std.proofs.Common.{false, subst, sym}
+use Rattle.std.proofs.Common.{false, refl, string_bytes, subst, sym}
 use Rattle.messages.specs.declared.node.Node.TheVariants.{File}
 use Rattle.commands.specs.Put.{IsPutAt}
 use Rattle.commands.specs.Put.IsPutAt.{file_put}
+use Rattle.commands.specs.PutRefused.{FailsHere}
+use Rattle.commands.specs.PutRefused.FailsHere.{unread}
+use Rattle.commands.proofs.Exits.{exit_by}
+use Rattle.commands.proofs.Refused.{file_fails}
 use Rattle.commands.proofs.putting.put_file.Goals as goal
 
-pub returns : goal.returns
-returns g c =
+pub returns-in_err-bytes-clause-refused : goal.returns-in_err-bytes-clause-refused
+returns-in_err-bytes-clause-refused g c =
+    exit_by (FailsHere g.W.World.sees g.K.Origin.start (string_bytes c.args.server.now.address) c.args.place.now) _ c.from_residual.ensures.1
+    (unread _ c.in_err-bytes.ensures.fault refl)
+
+pub returns-in_err-digest-clause-refused : goal.returns-in_err-digest-clause-refused
+returns-in_err-digest-clause-refused g c =
+    let sees = g.W.World.sees in
+    let start = g.K.Origin.start in
+    let address = string_bytes c.args.server.now.address in
+    let place = c.args.place.now in
+    exit_by (FailsHere sees start address place) _ c.from_residual-in_err-digest.ensures.1
+    (file_fails sees start address place c.deref.result.now _ (subst (λ b. sees.reads place b) (sym c.deref.ensures.value) c.in_ok-bytes.ensures.read) c.in_err-digest.ensures.refused)
+
+pub returns-clause-put : goal.returns-clause-put
+returns-clause-put g c =
     let sees = g.W.World.sees in
     let start = g.K.Origin.start in
     let place = c.args.place.now in
-    record {
-      put = subst (λ digest. IsPutAt sees start place (File digest false)) (sym c.in_ok-digest.ensures.named)
-          (file_put place c.deref.result.now (subst (λ bytes. sees.reads place bytes) (sym c.deref.ensures.value) c.in_ok-bytes.ensures.read) c.in_ok-digest.ensures.taken);
-    }
+    subst (λ digest. IsPutAt sees start place (File digest false)) (sym c.in_ok-digest.ensures.named)
+    (file_put place c.deref.result.now (subst (λ bytes. sees.reads place bytes) (sym c.deref.ensures.value) c.in_ok-bytes.ensures.read) c.in_ok-digest.ensures.taken)

@@ -1,9 +1,71 @@
-use Rattle.std.proofs.Common.{◌∙◌, rules, subst}
+use Rattle.std.proofs.Common.{◌≡◌, ◌∙◌, codes, refl, rules, string_bytes, subst}
 use Rattle.clap.specs.Words.{found_of, rows_of}
+use Rattle.command_lines.specs.CommandLine.{option_text}
 use Rattle.remote.specs.Remote.{connection_of}
+use Rattle.commands.specs.Options.{IsValidServer}
+use Rattle.commands.specs.Places.{FailsToConnect}
 use Rattle.commands.specs.Put.{PutsPath}
+use Rattle.commands.specs.PutRefused.{FailsBelow, FailsPut}
+use Rattle.commands.specs.PutRefused.FailsPut.{in_connection, in_memory, in_output, in_path}
+use Rattle.commands.specs.Refusal.{IsPrintFault}
+use Rattle.commands.specs.Status.{status_of}
+use Rattle.commands.proofs.Exits.{exit_by}
 use Rattle.commands.proofs.Placed.{opened_to}
+use Rattle.commands.proofs.Refused.{not_words, or_memory, words_fail}
 use Rattle.commands.proofs.putting.run_put.Goals as goal
+
+pub returns-in_err-server-clause-refused : goal.returns-in_err-server-clause-refused
+returns-in_err-server-clause-refused g c =
+    let options = rows_of (found_of c.args.matches.now) in
+    exit_by (FailsPut g.W.World.sees options) _ c.from_residual.ensures.1
+    (words_fail g.W.World.sees options _ c.in_err-server.ensures.fault
+    (λ other valid. c.in_err-server.ensures.invalid other (rw c.text_of.ensures valid)))
+
+pub returns-in_err-place-clause-refused : goal.returns-in_err-place-clause-refused
+returns-in_err-place-clause-refused g c =
+    exit_by (FailsPut g.W.World.sees (rows_of (found_of c.args.matches.now))) _ c.from_residual-in_err-place.ensures.1 (in_memory refl)
+
+pub returns-in_err-remote-clause-refused : goal.returns-in_err-remote-clause-refused
+returns-in_err-remote-clause-refused g c =
+    let sees = g.W.World.sees in
+    let options = rows_of (found_of c.args.matches.now) in
+    exit_by (FailsPut sees options) _ c.from_residual-in_err-remote.ensures.1
+    (in_connection (subst (IsValidServer options) c.text_of.ensures c.in_ok-server.ensures.valid)
+    (subst (λ a. FailsToConnect sees a c.in_err-remote.field-0.0) (c.in_ok-server.ensures.address ∙ c.text_of.ensures) c.in_err-remote.ensures.fault))
+
+pub returns-in_err-digest-clause-refused : goal.returns-in_err-digest-clause-refused
+returns-in_err-digest-clause-refused g c =
+    let sees = g.W.World.sees in
+    let options = rows_of (found_of c.args.matches.now) in
+    let start = connection_of g.W.Link.Stream.flow c.in_ok-remote.remote in
+    exit_by (FailsPut sees options) _ c.from_residual-in_err-digest.ensures.1
+    (in_path start (record {
+      valid = subst (IsValidServer options) c.text_of.ensures c.in_ok-server.ensures.valid;
+      opened = opened_to sees options c.in_ok-server.server start
+          (c.in_ok-server.ensures.address ∙ c.text_of.ensures) (c.in_ok-server.ensures.host ∙ c.text_of.ensures) c.in_ok-server.ensures.prefix c.in_ok-remote.ensures.opened;
+    })
+    (subst (λ a. FailsBelow sees start a c.in_err-digest.field-0.0 64 (option_text options (codes "path"))) (c.in_ok-server.ensures.address ∙ c.text_of.ensures)
+    (subst (FailsBelow sees start (string_bytes c.in_ok-server.server.address) c.in_err-digest.field-0.0 64) (c.in_ok-place.ensures.ok ∙ c.text_of-2.ensures) c.in_err-digest.ensures.refused)))
+
+pub returns-in_err-print_digest-clause-refused : goal.returns-in_err-print_digest-clause-refused
+returns-in_err-print_digest-clause-refused g c =
+    let sees = g.W.World.sees in
+    let options = rows_of (found_of c.args.matches.now) in
+    let start = connection_of g.W.Link.Stream.flow c.in_ok-remote.remote in
+    exit_by (FailsPut sees options) _ c.from_residual-in_err-print_digest.ensures.1
+    (or_memory IsPrintFault (FailsPut sees options) _ in_memory
+    (in_output start c.in_ok-digest.digest (record {
+      valid = subst (IsValidServer options) c.text_of.ensures c.in_ok-server.ensures.valid;
+      opened = opened_to sees options c.in_ok-server.server start
+          (c.in_ok-server.ensures.address ∙ c.text_of.ensures) (c.in_ok-server.ensures.host ∙ c.text_of.ensures) c.in_ok-server.ensures.prefix c.in_ok-remote.ensures.opened;
+    })
+    (subst (λ p. PutsPath sees start p c.in_ok-digest.digest) (c.in_ok-place.ensures.ok ∙ c.text_of-2.ensures) c.in_ok-digest.ensures.put))
+    c.in_err-print_digest.ensures.fault)
+
+pub returns-in_err-print_digest-clause-unprinted : goal.returns-in_err-print_digest-clause-unprinted
+returns-in_err-print_digest-clause-unprinted g c =
+    exit_by (λ e. status_of e ≡ 2 → g.O.Write.contents c.print_digest.new.out ≡ g.O.Write.contents c.args.out.now) _ c.from_residual-in_err-print_digest.ensures.1
+    (λ status. absurd (not_words _ c.in_err-print_digest.ensures.fault status))
 
 pub returns-clause-printed : goal.returns-clause-printed
 returns-clause-printed g c =

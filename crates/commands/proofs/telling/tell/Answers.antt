@@ -1,11 +1,11 @@
 use Rattle.std.proofs.Common.{refl, rules, subst, sym}
 use Rattle.std.specs.Prelude.{codes}
-use Rattle.commands.specs.Told.{AppendsBeginning, IsErrorLine}
+use Rattle.commands.specs.Told.{AppendsBeginning, IsLineOf}
 use Rattle.commands.proofs.Writing.{beginning_of, tells_by}
 use Rattle.commands.proofs.telling.tell.Goals as goal
 use Rattle.commands.proofs.telling.tell.Goals.{in-Ok, in-Err}
 
-no_memory : IsErrorLine (codes "error: out of memory\n")
+no_memory : IsLineOf (codes "error: ") (codes "error: out of memory\n")
 no_memory = record { told = codes "out of memory"; one = search rules; line_is = refl }
 
 pub returns : goal.returns

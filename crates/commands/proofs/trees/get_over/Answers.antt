@@ -1,10 +1,12 @@
-use Rattle.std.proofs.Common.{refl, subst}
+use Rattle.std.proofs.Common.{refl, string_bytes, subst}
 use Rattle.std.proofs.Math.Logic.{∥∥₁_map}
 use Rattle.std.specs.declared.alloc.Global.{Global}
 use Rattle.checkout.specs.Refused.{FailsCheckout}
 use Rattle.checkout.specs.Written.{HoldsTree}
-use Rattle.checkout.specs.declared.error.CheckoutError.TheVariants.{Missing}
 use Rattle.remote.specs.Remote.{connection_of, telling_of}
+use Rattle.commands.specs.GetRefused.{FailsGetTree}
+use Rattle.commands.proofs.Exits.{exit_by}
+use Rattle.commands.proofs.Gotten.{tree_fails}
 use Rattle.commands.proofs.trees.get_over.Goals as goal
 
 pub returns-in-Ok-clause-got : goal.returns-in-Ok-clause-got
@@ -12,7 +14,7 @@ returns-in-Ok-clause-got g c =
     let source = c.check_out.new.source in
     record {
       told = telling_of source.remote;
-      of_source = ∥∥₁_map source.over (λ over. (connection_of g.S.Stream.flow source.remote, over));
+      over = ∥∥₁_map source.over (λ over. (connection_of g.S.Stream.flow source.remote, over));
       holds = subst (λ f. HoldsTree g.W.World.sees.holds (telling_of source.remote).blobs c.args.digest.now f) c.as_str.ensures.value c.in-Ok.ensures.written;
       unprinted = refl;
     }
@@ -20,12 +22,24 @@ returns-in-Ok-clause-got g c =
 pub returns-clause-got : goal.returns-clause-got
 returns-clause-got g c =
     let source = c.check_out.new.source in
-    let lack = c.in_ok-print_lack-in-Err.ensures.printed in
     record {
       told = telling_of source.remote;
-      of_source = ∥∥₁_map source.over (λ over. (connection_of g.S.Stream.flow source.remote, over));
-      lacked = lack.lacked;
-      lacks = subst (λ f. FailsCheckout {A = Global} g.W.World.sees.unwritten (telling_of source.remote).blobs c.args.digest.now f (Missing lack.lacked)) c.as_str.ensures.value
-          (subst (λ e. FailsCheckout {A = Global} g.W.World.sees.unwritten (telling_of source.remote).blobs c.args.digest.now c.as_str.result.now e) lack.is c.in-Err.ensures.refused);
-      printed = lack.printed;
+      over = ∥∥₁_map source.over (λ over. (connection_of g.S.Stream.flow source.remote, over));
+      error = c.in-Err.error;
+      fails = subst (λ f. FailsCheckout {A = Global} g.W.World.sees.unwritten (telling_of source.remote).blobs c.args.digest.now f c.in-Err.error) c.as_str.ensures.value c.in-Err.ensures.refused;
+      lacks = c.in_ok-print_lack-in-Err.ensures.printed;
     }
+
+pub returns-in_err-print_lack-in-Err-clause-fault : goal.returns-in_err-print_lack-in-Err-clause-fault
+returns-in_err-print_lack-in-Err-clause-fault g c =
+    let sees = g.W.World.sees in
+    let source = c.check_out.new.source in
+    let start = g.K.Origin.start in
+    let address = string_bytes c.args.server.now.address in
+    let folder = string_bytes c.args.folder in
+    let digest = c.args.digest.now in
+    exit_by (FailsGetTree sees start address digest folder) _ c.from_residual.ensures.1
+    (tree_fails sees start address digest folder (telling_of source.remote) c.in-Err.error _
+    (∥∥₁_map source.over (λ over. (connection_of g.S.Stream.flow source.remote, over)))
+    (subst (λ f. FailsCheckout {A = Global} sees.unwritten (telling_of source.remote).blobs digest f c.in-Err.error) c.as_str.ensures.value c.in-Err.ensures.refused)
+    c.in_err-print_lack-in-Err.ensures.fault)

@@ -1,9 +1,10 @@
 use Rattle.std.proofs.Common.{inr, subst, string_bytes}
 use Rattle.std.proofs.Math.Logic.{∥∥₁_map}
-use Rattle.std.proofs.lemmas.Result.{IfErr-weaker, IfOk-weaker}
+use Rattle.std.proofs.lemmas.Result.{IfErr-weaker}
 use Rattle.remote.specs.Remote.{connection_of}
-use Rattle.commands.specs.Places.{FailsOver, IsOfServer, IsConnected, IsAnsweredBy, IsToldOver}
+use Rattle.commands.specs.Places.{FailsOver, IsOfServer, IsConnected, IsToldOver, LacksAtServer, LacksIt}
 use Rattle.commands.specs.Refusal.{FailsServer}
+use Rattle.commands.proofs.Placed.{place_weaker}
 use Rattle.commands.proofs.verifying.judge_server.Goals as goal
 
 pub returns-clause-answered : goal.returns-clause-answered
@@ -13,8 +14,8 @@ returns-clause-answered g c =
     let address = string_bytes server.address in
     let start = connection_of g.W.Link.Stream.flow c.in_ok-remote.remote in
     let opened = subst (λ h. IsConnected sees address h server.prefix start) c.requires c.in_ok-remote.ensures.opened in
-    IfOk-weaker c.judge_over.result (IsAnsweredBy (IsToldOver start) c.args.case.now) (IsAnsweredBy (IsOfServer sees address server.prefix) c.args.case.now)
-    (λ answer is. (is.0, ∥∥₁_map is.1 (λ over. record { start = start; opened = opened; over = over }), is.2)) c.judge_over.ensures.answered
+    place_weaker c.args.case.now c.judge_over.result (IsToldOver start) (IsOfServer sees address server.prefix) (LacksIt start) (LacksAtServer sees address server.prefix)
+    (λ told over. record { start = start; opened = opened; over = over }) (λ l lacks. record { start = start; opened = opened; lacks = lacks }) c.judge_over.ensures.answered
 
 pub returns-clause-fault : goal.returns-clause-fault
 returns-clause-fault g c =

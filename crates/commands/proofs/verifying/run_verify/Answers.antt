@@ -1,10 +1,12 @@
-use Rattle.std.proofs.Common.{refl, rules}
+use Rattle.std.proofs.Common.{refl, rules, subst, sym}
+use Rattle.std.specs.Prelude.{◌↔◌, IsTrue}
 use Rattle.clap.specs.Words.{found_of, rows_of}
+use Rattle.verifier.specs.Verdict.{IsYes}
 use Rattle.commands.specs.Printed.{JudgesAsked}
 use Rattle.commands.specs.Refusal.{FailsVerify}
 use Rattle.commands.specs.Refusal.FailsVerify.{in_output, in_place, in_record}
 use Rattle.commands.proofs.Exits.{exit_by}
-use Rattle.commands.proofs.Placed.{names_place}
+use Rattle.commands.proofs.Placed.{lacked_by, names_place}
 use Rattle.commands.proofs.Writing.{no_line_of_same, where_err}
 use Rattle.commands.proofs.verifying.run_verify.Goals as goal
 
@@ -29,18 +31,22 @@ returns-in_err-answer-clause-refused g c =
 pub returns-in_err-print_line-clause-refused : goal.returns-in_err-print_line-clause-refused
 returns-in_err-print_line-clause-refused g c =
     let is = c.in_ok-answer.ensures.answered in
+    let sees = g.W.World.sees in
+    let rows = rows_of (found_of c.args.matches.now) in
     let judged : JudgesAsked g.W.World.sees (rows_of (found_of c.args.matches.now)) is.2.verdict =
-    record { question = c.in_ok-case.case; asks = c.in_ok-case.ensures.asks; told = is.0; source = is.1; judged = is.2.judged } in
+    record { question = c.in_ok-case.case; asks = c.in_ok-case.ensures.asks; told = is.0; source = is.1; judged = is.2.judged; lacks = lacked_by sees rows c.in_ok-case.case is.2.verdict c.in_ok-answer.answer.lack is.2.lack is.3 } in
     exit_by (FailsVerify g.W.World.sees (rows_of (found_of c.args.matches.now))) _ c.from_residual-in_err-print_line.ensures.1
     (in_output is.2.verdict judged c.in_err-print_line.ensures.fault)
 
 pub returns-clause-printed : goal.returns-clause-printed
 returns-clause-printed g c =
-    let is = c.in_ok-answer.ensures.answered in (
+    let is = c.in_ok-answer.ensures.answered in
+    let sees = g.W.World.sees in
+    let rows = rows_of (found_of c.args.matches.now) in (
       record {
         verdict = is.2.verdict;
-        judged = record { question = c.in_ok-case.case; asks = c.in_ok-case.ensures.asks; told = is.0; source = is.1; judged = is.2.judged };
+        judged = record { question = c.in_ok-case.case; asks = c.in_ok-case.ensures.asks; told = is.0; source = is.1; judged = is.2.judged; lacks = lacked_by sees rows c.in_ok-case.case is.2.verdict c.in_ok-answer.answer.lack is.2.lack is.3 };
         printed = search rules;
       },
-      is.2.tells.positive,
+      subst (λ b. IsTrue b ↔ IsYes is.2.verdict) (sym c.ended_of.ensures.done) is.2.tells.positive,
     )

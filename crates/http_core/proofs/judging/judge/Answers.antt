@@ -1,6 +1,5 @@
 use Rattle.std.proofs.Common.{◌<◌, ◌≤◌, inl, inr, refl, subst}
 use Rattle.http_core.specs.Judging.{Judges}
-use Rattle.http_core.specs.Rules.{JudgesParts}
 use Rattle.http_core.proofs.judging.judge.Goals as goal
 
 pub returns-then-count_pairs-gt-MAX_PAIRS : goal.returns-then-count_pairs-gt-MAX_PAIRS
@@ -14,10 +13,10 @@ returns-in-None c = inr (inl (subst (λ n. n ≤ 66) c.count_pairs.ensures c.if-
 pub returns-in-Some : goal.returns-in-Some
 unfolding Judges
 returns-in-Some c =
-    let x = c.in-Some.ensures.some in
+    let x = c.in-Some.ensures.head in
     inr (inr (
       subst (λ n. n ≤ 66) c.count_pairs.ensures c.if-count_pairs-gt-MAX_PAIRS.false,
-      x.head,
-      x.is,
-      subst (λ p. JudgesParts c.args.prefix.now p c.judge_head.result) x.parts c.judge_head.ensures,
+      x.0,
+      x.1,
+      c.judge_head.ensures x.0 x.2,
     ))

@@ -1,31 +1,41 @@
-use Rattle.std.proofs.Common.{sym, subst, inr, refl}
+use Rattle.std.proofs.Common.{◌≡◌, ℕ, List, [], ◌∷◌, ◌++◌, Some, sym, subst, inl, inr, refl, arith, append-nil}
 use Rattle.worker.specs.Values.{blobs_of}
 use Rattle.actions.specs.Outcome.{AddsOutput, output_value}
-use Rattle.processes.specs.Collected.{AreKept, IsOutputAt}
+use Rattle.processes.specs.Collected.{IsOutputAt}
+use Rattle.processes.proofs.Walks.{contains_one}
 use Rattle.processes.proofs.collecting.take_output.Goals as goal
 use Rattle.processes.proofs.collecting.take_output.Goals.{in-File+in_ok-digest-in-File, in-Folder+in_ok-keep_folder-in-Folder}
+
+pub returns-in-Nothing : goal.returns-in-Nothing
+returns-in-Nothing g c = record {
+  own = [];
+  blobs = sym (append-nil (blobs_of c.args.blobs.now.items));
+  more = inl (subst (λ s. g.W.Workshop.works.stands c.args.ended.now c.args.place.now s) c.in-Nothing.is c.in_ok-look.ensures, refl, refl);
+}
 
 pub returns : goal.returns
 returns g c =
     let works = g.W.Workshop.works in
     let place = c.args.place.now in
     let ended = c.args.ended.now in
+    let before = blobs_of c.args.blobs.now.items in
     let output = c.match-branch-2.output in
-    let kept : AreKept (blobs_of c.args.blobs.now.items) (blobs_of c.match-branch-2.blobs.items) = elim c.match-branch-2.branch [
-      | in-File+in_ok-digest-in-File w ↦ subst (λ bs. AreKept (blobs_of c.args.blobs.now.items) (blobs_of bs.items)) (sym w.blobs-is) w.keep_file.ensures.kept
-      | in-Folder+in_ok-keep_folder-in-Folder w ↦ subst (λ bs. AreKept (blobs_of c.args.blobs.now.items) (blobs_of bs.items)) (sym w.blobs-is) w.keep_folder.ensures.kept
-    ] in
-    let at : IsOutputAt works ended (blobs_of c.match-branch-2.blobs.items) place (output_value output) = elim c.match-branch-2.branch [
-      | in-File+in_ok-digest-in-File w ↦
-          subst (λ bs. IsOutputAt works ended (blobs_of bs.items) place (output_value output)) (sym w.blobs-is)
-          (subst (λ o. IsOutputAt works ended (blobs_of w.keep_file.new.blobs.items) place (output_value o)) (sym w.output-is)
-          (refl, subst (λ s. works.stands ended place s) w.in-File.is c.in_ok-look.ensures, w.in_ok-digest-in-File.ensures.held))
-      | in-Folder+in_ok-keep_folder-in-Folder w ↦
-          subst (λ bs. IsOutputAt works ended (blobs_of bs.items) place (output_value output)) (sym w.blobs-is)
-          (subst (λ o. IsOutputAt works ended (blobs_of w.keep_folder.new.blobs.items) place (output_value o)) (sym w.output-is)
-          (subst (λ s. works.stands ended place s) w.in-Folder.is c.in_ok-look.ensures, w.in_ok-keep_folder-in-Folder.ensures.held))
+    let made : (own : List (List ℕ)) × (blobs_of c.match-branch-2.blobs.items ≡ before ++ own) × IsOutputAt works ended place (output_value output) own = elim c.match-branch-2.branch [
+      | in-File+in_ok-digest-in-File w ↦ (
+          let e = w.in_ok-digest-in-File.ensures in
+          let stands = subst (λ s. works.stands ended place s) w.in-File.is c.in_ok-look.ensures in
+          subst (λ bs. (own : List (List ℕ)) × (blobs_of bs.items ≡ before ++ own) × IsOutputAt works ended place (output_value output) own) (sym w.blobs-is)
+          (subst (λ o. (own : List (List ℕ)) × (blobs_of w.keep_file.new.blobs.items ≡ before ++ own) × IsOutputAt works ended place (output_value o) own) (sym w.output-is)
+          (e.0 ∷ [], e.3, ((refl, stands, (e.0, e.1, e.2, (0, omega arith, refl))), λ x h. subst (λ y. works.holds ended place (Some y)) (contains_one e.0 x h) e.1))))
+      | in-Folder+in_ok-keep_folder-in-Folder w ↦ (
+          let e = w.in_ok-keep_folder-in-Folder.ensures in
+          let stands = subst (λ s. works.stands ended place s) w.in-Folder.is c.in_ok-look.ensures in
+          subst (λ bs. (own : List (List ℕ)) × (blobs_of bs.items ≡ before ++ own) × IsOutputAt works ended place (output_value output) own) (sym w.blobs-is)
+          (subst (λ o. (own : List (List ℕ)) × (blobs_of w.keep_folder.new.blobs.items ≡ before ++ own) × IsOutputAt works ended place (output_value o) own) (sym w.output-is)
+          (e.0, e.2, (stands, e.1))))
     ] in
     record {
-      kept = kept;
-      more = inr (output_value output, at, subst (λ p. AddsOutput c.args.outcome.now p (output_value output) c.add.new.self) c.in_ok-copy_of.ensures c.in_ok-add.ensures.added);
+      own = made.0;
+      blobs = made.1;
+      more = inr (output_value output, made.2, subst (λ p. AddsOutput c.args.outcome.now p (output_value output) c.add.new.self) c.in_ok-copy_of.ensures c.in_ok-add.ensures.added);
     }

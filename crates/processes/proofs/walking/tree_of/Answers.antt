@@ -1,22 +1,15 @@
-use Rattle.std.proofs.Common.{◌≡◌, sym, subst, ap, ◌∙◌}
-use Rattle.std.specs.Prelude.{Contains}
-use Rattle.messages.specs.Tree.{TreeValue}
+use Rattle.std.proofs.Common.{rules, arith, ◌∷◌, ◌<◌, length, map, ap, ◌∙◌}
 use Rattle.messages.specs.Directory.{directory_bytes}
-use Rattle.worker.specs.Values.{blobs_of}
-use Rattle.processes.proofs.Lists.{kept_trans, kept_pushed, held_pushed}
+use Rattle.worker.specs.Stored.{directories_of}
+use Rattle.processes.proofs.Lists.{first_removed}
 use Rattle.processes.proofs.walking.tree_of.Goals as goal
 
-pub returns-in_err-new-clause-kept : goal.returns-in_err-new-clause-kept
-returns-in_err-new-clause-kept g c =
-    kept_trans c.read_directories.ensures (kept_pushed c.read_directories.new.blobs.items c.push.new.self.items c.remove-first.result c.in_ok-push.ensures.items)
-
-pub returns-clause-kept : goal.returns-clause-kept
-returns-clause-kept g c =
-    kept_trans c.read_directories.ensures (kept_pushed c.read_directories.new.blobs.items c.push.new.self.items c.remove-first.result c.in_ok-push.ensures.items)
-
-pub returns-clause-held : goal.returns-clause-held
-returns-clause-held g c =
-    let bytes : c.remove-first.result.items ≡ directory_bytes c.in_ok-root.root = sym c.deref.ensures.value ∙ c.in_ok-root.ensures.found.1 in
-    let root = ap (λ (t : TreeValue). directory_bytes t.root) c.in_ok-new.ensures.found.1 in
-    subst (λ b. Contains (blobs_of c.push.new.self.items) b) (bytes ∙ sym root)
-    (held_pushed c.read_directories.new.blobs.items c.push.new.self.items c.remove-first.result c.in_ok-push.ensures.items)
+pub returns : goal.returns
+returns g c =
+    let all = c.in_ok-directories.directories.items in
+    let root = c.remove-root.result in
+    let ok = c.in_ok-directories.directories.ok in
+    let one = c.remove-root.ensures.len in
+    let some : 0 < length all = first_of (omega (arith, ok, one), omega arith, search rules) in
+    ap directories_of c.in_ok-new.ensures.found.1 ∙ ap (λ ds. map directory_bytes (root ∷ ds)) c.remove-root.ensures.items
+    ∙ ap (map directory_bytes) (first_removed all root some c.remove-root.ensures.value) ∙ c.in_ok-directories.ensures

@@ -1,4 +1,4 @@
-use Rattle.std.proofs.Common.{ap, sym, ◌∙◌}
+use Rattle.std.proofs.Common.{ap, ◌∙◌}
 use Rattle.cache_server.specs.Server.{ServerValue, session_at, held_bytes_at}
 use Rattle.cache_server.proofs.server.Server.held_bytes.Goals as goal
 

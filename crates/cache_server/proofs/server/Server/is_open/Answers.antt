@@ -1,4 +1,4 @@
-use Rattle.std.proofs.Common.{◌≡◌, ℕ, Bool, true, Option, Some, None, ap, sym, ◌∙◌, subst, rules, IsTrue}
+use Rattle.std.proofs.Common.{◌≡◌, Bool, true, Option, Some, None, ap, sym, ◌∙◌, subst, rules, IsTrue}
 use Rattle.http_core.specs.Session.{SessionValue, IsOpen}
 use Rattle.cache_server.specs.Server.{ServerValue, session_at, IsOpenAt}
 use Rattle.cache_server.proofs.server.Server.is_open.Goals as goal

@@ -1,10 +1,8 @@
-use Rattle.std.proofs.Common.{◌≡◌, Option, Some, List, ℕ, [], ◌∷◌, ◌++◌, take, refl, sym, subst, ◌∙◌}
+use Rattle.std.proofs.Common.{[], take, refl, ◌∙◌}
 use Rattle.std.specs.Prelude.{option_map, unwrap_or}
 use Rattle.std.proofs.lemmas.Result.{IfOk-weaker, on_err_weaker}
 use Rattle.cache_server.specs.Answer.{text_of}
-use Rattle.cache_server.specs.Cache.{CacheValue}
-use Rattle.cache_server.specs.History.{HistoryEntry, Piece}
-use Rattle.cache_server.specs.Server.{ServerValue, ServerStands, StandsOrFails, Continues}
+use Rattle.cache_server.specs.History.{Piece}
 use Rattle.cache_server.specs.Sessions.{ClosesAt}
 use Rattle.cache_server.specs.Turn.{Turns}
 use Rattle.cache_server.proofs.Serving.{on_err}

@@ -1,5 +1,6 @@
 use Rattle.std.proofs.Common.{Some, None, refl, sym, subst}
-use Rattle.http_core.specs.Event.{event_of, option_event}
+use Rattle.std.specs.Prelude.{option_map}
+use Rattle.http_core.specs.Event.{event_of}
 use Rattle.cache_server.specs.Server.{ServerValue}
 use Rattle.cache_server.specs.Sessions.{FeedsFirstAt}
 use Rattle.cache_server.proofs.Turning.{closes_fed}
@@ -9,7 +10,7 @@ pub returns-in_default-clause-ok : goal.returns-in_default-clause-ok
 returns-in_default-clause-ok g c = record {
   event = None;
   mid = c.first.new.self;
-  feeds = subst (λ z. FeedsFirstAt c.args.self.now c.args.connection c.args.piece.now c.in_ok-taken.taken (option_event z) c.first.new.self) c.in_default.is c.in_ok-taken.ensures.ok;
+  feeds = subst (λ z. FeedsFirstAt c.args.self.now c.args.connection c.args.piece.now c.in_ok-taken.taken (option_map event_of z) c.first.new.self) c.in_default.is c.in_ok-taken.ensures.ok;
   answered = refl;
   prefix = refl;
   sessions = refl;
@@ -18,7 +19,7 @@ returns-in_default-clause-ok g c = record {
 pub returns-in-Ok-clause-ok : goal.returns-in-Ok-clause-ok
 returns-in-Ok-clause-ok g c =
     let mid : ServerValue = record { cache = c.self.inside.cache; prefix = c.self.inside.prefix; sessions = c.self.inside.sessions.entries } in
-    let first : FeedsFirstAt c.args.self.now c.args.connection c.args.piece.now c.in_ok-taken.taken (Some (event_of c.in-Some.event)) c.first.new.self = subst (λ z. FeedsFirstAt c.args.self.now c.args.connection c.args.piece.now c.in_ok-taken.taken (option_event z) c.first.new.self) c.in-Some.is c.in_ok-taken.ensures.ok in
+    let first : FeedsFirstAt c.args.self.now c.args.connection c.args.piece.now c.in_ok-taken.taken (Some (event_of c.in-Some.event)) c.first.new.self = subst (λ z. FeedsFirstAt c.args.self.now c.args.connection c.args.piece.now c.in_ok-taken.taken (option_map event_of z) c.first.new.self) c.in-Some.is c.in_ok-taken.ensures.ok in
     record {
       event = Some (event_of c.in-Some.event);
       mid = mid;
@@ -32,5 +33,5 @@ pub returns-in-Err-clause-err : goal.returns-in-Err-clause-err
 returns-in-Err-clause-err g c =
     let mid : ServerValue = record { cache = c.self.inside.cache; prefix = c.self.inside.prefix; sessions = c.self.inside.sessions.entries } in
     let served : ServerValue = record { cache = c.answer.new.self; prefix = c.self.inside.prefix; sessions = c.self.inside.sessions.entries } in
-    closes_fed c.args.self.now mid served c.close.new.self c.args.connection c.args.piece.now c.in_ok-taken.taken (option_event c.in_ok-taken.event)
-    (subst (FeedsFirstAt c.args.self.now c.args.connection c.args.piece.now c.in_ok-taken.taken (option_event c.in_ok-taken.event)) (sym c.self.view_is) c.in_ok-taken.ensures.ok) c.in-Err.ensures.err refl refl c.close.ensures
+    closes_fed c.args.self.now mid served c.close.new.self c.args.connection c.args.piece.now c.in_ok-taken.taken (option_map event_of c.in_ok-taken.event)
+    (subst (FeedsFirstAt c.args.self.now c.args.connection c.args.piece.now c.in_ok-taken.taken (option_map event_of c.in_ok-taken.event)) (sym c.self.view_is) c.in_ok-taken.ensures.ok) c.in-Err.ensures.err refl refl c.close.ensures

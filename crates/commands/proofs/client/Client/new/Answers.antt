@@ -1,8 +1,8 @@
-use Rattle.std.proofs.Common.{◌∙◌, subst, sym}
-use Rattle.remote.specs.Remote.{connection_of, telling_of}
-use Rattle.commands.specs.Places.{Comes, IsClientOver}
+use Rattle.std.proofs.Common.{subst}
+use Rattle.remote.specs.Remote.{blobs_of, connection_of, results_of, telling_of}
+use Rattle.commands.specs.Places.{AreLackedOver, Comes, IsClientOver}
 use Rattle.commands.specs.Places.Comes.{fresh}
-use Rattle.commands.proofs.Tellings.{some_not_none}
+use Rattle.commands.proofs.Tellings.{none_unasked}
 use Rattle.commands.proofs.client.Client.new.Goals as goal
 
 pub invariant_of-result : goal.invariant_of-result
@@ -11,7 +11,11 @@ invariant_of-result g c =
     let start : Comes g.K.Origin.start (connection_of g.S.Stream.flow remote) = subst (Comes g.K.Origin.start) c.requires.start fresh in
     let over : IsClientOver g.K.Origin.start (connection_of g.S.Stream.flow remote) (telling_of remote) = record {
       came = start;
-      blobs = λ d b is. absurd (some_not_none (sym is ∙ c.requires.fresh.blobs d));
-      results = λ d b is. absurd (some_not_none (sym is ∙ c.requires.fresh.results d));
+      blobs = λ d b is. absurd (none_unasked (blobs_of remote) d b (c.requires.fresh.blobs d) is);
+      results = λ d b is. absurd (none_unasked (results_of remote) d b (c.requires.fresh.results d) is);
     } in
-    record { over = ∣ over ∣₁ }
+    let lacked : AreLackedOver g.K.Origin.start (blobs_of remote) (results_of remote) = record {
+      blobs = λ d has none. absurd (c.requires.fresh.blobs d has);
+      results = λ d has none. absurd (c.requires.fresh.results d has);
+    } in
+    record { over = ∣ over ∣₁; lacked = ∣ lacked ∣₁ }

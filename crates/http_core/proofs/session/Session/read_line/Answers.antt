@@ -1,6 +1,7 @@
 use Rattle.std.proofs.Common.{◌≡◌, ◌<◌, ◌≤◌, ◌-◌, ap, sym, ◌∙◌, subst, true, Some, None, rules, arith, length}
+use Rattle.std.specs.Prelude.{option_map}
 use Rattle.http_core.specs.Block.{EndsBlock}
-use Rattle.http_core.specs.Event.{option_event, Refused}
+use Rattle.http_core.specs.Event.{event_of, Refused}
 use Rattle.http_core.specs.Judging.{Judges}
 use Rattle.http_core.specs.Session.{Reading, SessionValue, state_of}
 use Rattle.http_core.proofs.Fitting.{allowed}
@@ -22,8 +23,8 @@ returns-then-ends_block-clause-takes g c =
       some = line_some c.first_line-line.result.now line.line;
       within = line.within;
       valid = c.follow.ensures.valid;
-      moves = reads_line old.prefix old.state c.follow.new.self.state inside.stage inside.block.items inside.body c.first_line-line.result.now read c.args.piece.now c.saturating_sub.result (option_event c.follow.result) is c.requires.reading line.line c.in_ok-extend_from_slice.ensures.items line.most room line.front
-          (λ front last e none few. at_block old.prefix front read last c.judge-judgement.result (option_event c.follow.result) c.follow.new.self.state e ends judged c.follow.ensures.follows none few);
+      moves = reads_line old.prefix old.state c.follow.new.self.state inside.stage inside.block.items inside.body c.first_line-line.result.now read c.args.piece.now c.saturating_sub.result (option_map event_of c.follow.result) is c.requires.reading line.line c.in_ok-extend_from_slice.ensures.items line.most room line.front
+          (λ front last e none few. at_block old.prefix front read last c.judge-judgement.result (option_map event_of c.follow.result) c.follow.new.self.state e ends judged c.follow.ensures.follows none few);
     }
 
 pub returns-then-len-lt-MAX_BLOCK-clause-takes : goal.returns-then-len-lt-MAX_BLOCK-clause-takes
@@ -63,5 +64,8 @@ returns-clause-takes g c =
           (λ front last e none few. past_block old.prefix front read last c.end.new.self.state e not_ends c.end.ensures.state many none few);
     }
 
-pub follow-requires : goal.follow-requires
-follow-requires g c = allowed c.as_bytes.result.now c.as_slice-then-ends_block.result.now c.judge-judgement.result c.judge-judgement.ensures
+pub follow-requires-clause-fits : goal.follow-requires-clause-fits
+follow-requires-clause-fits g c = (allowed c.as_bytes.result.now c.as_slice-then-ends_block.result.now c.judge-judgement.result c.judge-judgement.ensures).0
+
+pub follow-requires-clause-valid : goal.follow-requires-clause-valid
+follow-requires-clause-valid g c = (allowed c.as_bytes.result.now c.as_slice-then-ends_block.result.now c.judge-judgement.result c.judge-judgement.ensures).1

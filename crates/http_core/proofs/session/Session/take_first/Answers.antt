@@ -1,8 +1,9 @@
-use Rattle.std.proofs.Common.{◌≡◌, ◌≢◌, ℕ, ◌<◌, ◌≤◌, subst, true, Some, None, rules, arith, refl, ◌∙◌, ◌++◌, ◌∷◌, List, [], take, length, sym, ap}
+use Rattle.std.proofs.Common.{◌≡◌, ◌≢◌, ℕ, subst, true, Some, None, rules, arith, refl, ◌∙◌, ◌++◌, List, [], take, length, sym}
+use Rattle.std.specs.Prelude.{option_map, option_to_list}
 use Rattle.std.proofs.lemmas.List.{append-nil, take_all}
-use Rattle.http_core.specs.Event.{EventValue, event_of, IsValid, option_event}
+use Rattle.http_core.specs.Event.{EventValue, event_of, IsValid}
 use Rattle.std.specs.List.{AllByRecursion}
-use Rattle.http_core.specs.Session.{SessionValue, Stands, Closed, if_any}
+use Rattle.http_core.specs.Session.{SessionValue, Stands, Closed}
 use Rattle.http_core.proofs.Standing.{Moves}
 use Rattle.http_core.proofs.Pieces.{first_event_at, first_event_stops, piece_on, piece_closed, piece_done, not_open}
 use Rattle.http_core.proofs.session.Session.take_first.Goals as goal
@@ -16,7 +17,7 @@ whole s stream piece before h =
 pub returns-in-Some-clause-ok : goal.returns-in-Some-clause-ok
 returns-in-Some-clause-ok g c =
     let open_ : c.loop-at.self.state ≢ Closed = c.is_open.ensures.0 (search (rules, c.if-is_open.true)) in
-    let moves : Moves c.loop-at.self (take c.in_ok-taken.taken c.split_at.result.1.now) (Some (event_of c.in-Some.event)) c.advance.new.self = subst (λ z. Moves c.loop-at.self (take c.in_ok-taken.taken c.split_at.result.1.now) (option_event z) c.advance.new.self) c.in-Some.is c.in_ok-taken.ensures.takes.moves in
+    let moves : Moves c.loop-at.self (take c.in_ok-taken.taken c.split_at.result.1.now) (Some (event_of c.in-Some.event)) c.advance.new.self = subst (λ z. Moves c.loop-at.self (take c.in_ok-taken.taken c.split_at.result.1.now) (option_map event_of z) c.advance.new.self) c.in-Some.is c.in_ok-taken.ensures.takes.moves in
     record {
       within = omega (arith, c.in_ok-taken.ensures.takes.within, c.split_at.ensures.back_len);
       some = λ n. omega (arith, c.in_ok-taken.ensures.takes.some);
@@ -24,7 +25,7 @@ returns-in-Some-clause-ok g c =
       feeds = record {
         stands = λ stream before h. first_event_at c.loop-at.self c.advance.new.self stream c.args.piece.now c.split_at.result.1.now c.loop-at.at c.in_ok-taken.taken before (event_of c.in-Some.event) c.in_ok-taken.ensures.prefix open_ c.split_at.ensures.back moves (c.loop-at.invariant.stands stream before h);
         closed = λ shut. absurd (open_ (c.loop-at.invariant.closed shut));
-        valid = subst (λ z. AllByRecursion IsValid (if_any (option_event z))) c.in-Some.is c.in_ok-taken.ensures.takes.valid;
+        valid = subst (λ z. AllByRecursion IsValid (option_to_list (option_map event_of z))) c.in-Some.is c.in_ok-taken.ensures.takes.valid;
         prefix = c.in_ok-taken.ensures.prefix ∙ c.loop-at.invariant.prefix;
       };
       stops = λ stream before h. first_event_stops c.loop-at.self c.advance.new.self stream c.args.piece.now c.split_at.result.1.now c.loop-at.at c.in_ok-taken.taken before (event_of c.in-Some.event) open_ moves (c.loop-at.invariant.stands stream before h);
@@ -35,7 +36,7 @@ loop-at-preserved g c = record {
   within = omega (arith, c.in_ok-taken.ensures.takes.within, c.split_at.ensures.back_len);
   prefix = c.in_ok-taken.ensures.prefix ∙ c.loop-at.invariant.prefix;
   closed = λ shut. absurd (c.is_open.ensures.0 (search (rules, c.if-is_open.true)) (c.loop-at.invariant.closed shut));
-  stands = λ stream before h. let open_ : c.loop-at.self.state ≢ Closed = c.is_open.ensures.0 (search (rules, c.if-is_open.true)) in let moves : Moves c.loop-at.self (take c.in_ok-taken.taken c.split_at.result.1.now) None c.advance.new.self = subst (λ z. Moves c.loop-at.self (take c.in_ok-taken.taken c.split_at.result.1.now) (option_event z) c.advance.new.self) c.in_default.is c.in_ok-taken.ensures.takes.moves in
+  stands = λ stream before h. let open_ : c.loop-at.self.state ≢ Closed = c.is_open.ensures.0 (search (rules, c.if-is_open.true)) in let moves : Moves c.loop-at.self (take c.in_ok-taken.taken c.split_at.result.1.now) None c.advance.new.self = subst (λ z. Moves c.loop-at.self (take c.in_ok-taken.taken c.split_at.result.1.now) (option_map event_of z) c.advance.new.self) c.in_default.is c.in_ok-taken.ensures.takes.moves in
       piece_on c.loop-at.self c.advance.new.self stream c.args.piece.now c.split_at.result.1.now c.loop-at.at c.in_ok-taken.taken before c.in_ok-taken.ensures.prefix open_ c.split_at.ensures.back moves (c.loop-at.invariant.stands stream before h);
 }
 

@@ -1,5 +1,5 @@
 use Rattle.remote.specs.Remote.{connection_of}
-use Rattle.cli.proofs.building.run_build.Given as goal
+use Rattle.cli.proofs.building.build_asked.Given as goal
 
 -- the connection that was opened
 abbrev pub ghosts-build_in_folder : goal.ghosts-build_in_folder

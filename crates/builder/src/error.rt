@@ -1,0 +1,46 @@
+ghost use Rattle.std.specs.Prelude.{◌≡◌};
+ghost use Rattle.builder.specs.declared.error.BuildPlanError.TheVariants as errors;
+
+use runs::{OpenError, RunsError};
+use std::alloc::Allocator;
+use thiserror::Error;
+use worker::BuildError;
+
+/// Why a build has no root, as it was told.
+#[derive(Drop, Error)]
+#[derive_where(Debug)]
+pub enum BuildPlanError<A: Allocator> {
+    /// No engine is made of the plan.
+    #[error("no engine is made of the plan")]
+    Opening(OpenError<A>),
+    /// A step was refused.
+    #[error("a step was refused")]
+    Step(BuildError<A>),
+    /// The root was refused, or there was no memory for the record.
+    #[error("the root was refused")]
+    Root(RunsError<A>),
+}
+
+impl<A: Allocator> From<OpenError<A>> for BuildPlanError<A> {
+    ghost from_gives = { λ error e. e ≡ errors.Opening error };
+
+    fn from(error: OpenError<A>) -> BuildPlanError<A> {
+        BuildPlanError::Opening(error)
+    }
+}
+
+impl<A: Allocator> From<BuildError<A>> for BuildPlanError<A> {
+    ghost from_gives = { λ error e. e ≡ errors.Step error };
+
+    fn from(error: BuildError<A>) -> BuildPlanError<A> {
+        BuildPlanError::Step(error)
+    }
+}
+
+impl<A: Allocator> From<RunsError<A>> for BuildPlanError<A> {
+    ghost from_gives = { λ error e. e ≡ errors.Root error };
+
+    fn from(error: RunsError<A>) -> BuildPlanError<A> {
+        BuildPlanError::Root(error)
+    }
+}

@@ -1,0 +1,43 @@
+use Rattle.std.proofs.Common.{[], subst}
+use Rattle.clap.specs.Words.{found_of, rows_of}
+use Rattle.remote.specs.Remote.{connection_of}
+use Rattle.commands.proofs.Exits.{err_weaker, exit_by}
+use Rattle.std.proofs.lemmas.Result.{IfOk-weaker}
+use Rattle.cli.proofs.Builds.{connect_fails, reaches, telling_fails, tells_of}
+use Rattle.cli.specs.Refused.{FailsBuild, FailsFolder}
+use Rattle.cli.specs.Refused.FailsBuild.{in_folder, in_place}
+use Rattle.cli.proofs.building.build_asked.Goals as goal
+
+pub returns-in_err-remote-clause-refused : goal.returns-in_err-remote-clause-refused
+returns-in_err-remote-clause-refused g c =
+    let sees = g.W.World.sees in
+    let options = rows_of (found_of c.args.matches.now) in
+    exit_by (FailsBuild sees options) _ c.from_residual.ensures.1
+    (connect_fails sees options c.args.asked.now c.requires.read _ c.in_err-remote.ensures.fault)
+
+pub returns-in_err-check_work-clause-refused : goal.returns-in_err-check_work-clause-refused
+returns-in_err-check_work-clause-refused g c =
+    let sees = g.W.World.sees in
+    let options = rows_of (found_of c.args.matches.now) in
+    let start = connection_of g.W.Link.Stream.flow c.in_ok-remote.remote in
+    exit_by (FailsBuild sees options) _ c.from_residual-in_err-check_work.ensures.1
+    (in_folder (reaches sees options c.args.asked.now c.requires.read start c.in_ok-remote.ensures.opened)
+    (subst (λ p. FailsFolder sees p c.in_err-check_work.field-0.0) c.text_of-work.ensures c.in_err-check_work.ensures.fault))
+
+pub returns-clause-tells : goal.returns-clause-tells
+returns-clause-tells g c =
+    let sees = g.W.World.sees in
+    let options = rows_of (found_of c.args.matches.now) in
+    let start = connection_of g.W.Link.Stream.flow c.in_ok-remote.remote in
+    IfOk-weaker c.build_in_folder-told.result _ _
+    (tells_of sees options c.args.asked.now c.requires.read start c.in_ok-remote.ensures.opened (subst (λ p. sees.lists p []) c.text_of-work.ensures c.in_ok-check_work.ensures.empty) (subst sees.takes c.text_of.ensures c.in_ok-check_writable.ensures.takes))
+    c.build_in_folder-told.ensures.told
+
+pub returns-clause-refused : goal.returns-clause-refused
+returns-clause-refused g c =
+    let sees = g.W.World.sees in
+    let options = rows_of (found_of c.args.matches.now) in
+    let start = connection_of g.W.Link.Stream.flow c.in_ok-remote.remote in
+    err_weaker c.build_in_folder-told.result _ _
+    (telling_fails sees options c.args.asked.now c.requires.read start c.in_ok-remote.ensures.opened (subst (λ p. sees.lists p []) c.text_of-work.ensures c.in_ok-check_work.ensures.empty) (subst sees.takes c.text_of.ensures c.in_ok-check_writable.ensures.takes))
+    c.build_in_folder-told.ensures.fault

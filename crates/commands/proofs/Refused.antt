@@ -1,0 +1,126 @@
+-- What a refused put is told for.
+use Rattle.std.proofs.Common.{◌≡◌, ◌≢◌, ◌∙◌, ◌-◌, ◌<◌, ℕ, suc, List, ◌∷◌, ◌++◌, Option, Some, None, Result, Ok, Err, IfErr, ap, arith, codes, inl, inr, get_or, length, map, refl, string_bytes, subst, sym}
+use Rattle.std.proofs.Math.Logic.{∥∥₁_map}
+use Rattle.std.proofs.lemmas.List.{get_or-map, length-map}
+use Rattle.std.specs.declared.alloc.Global.{Global}
+use Rattle.std.specs.declared.string.String.{String}
+use Rattle.blob_digest.specs.Digest.{DigestValue, digest_of}
+use Rattle.blob_source.specs.declared.source.FetchError.{FetchError}
+use Rattle.blob_source.specs.declared.source.FetchError.TheVariants as refusals
+use Rattle.http_core.specs.declared.event.Area.TheVariants.{Cas}
+use Rattle.messages.specs.Directory.{directory_bytes}
+use Rattle.messages.specs.DirectoryRules.{DirectoryValue, IsDirectory}
+use Rattle.remote.specs.Line.{ConnectionValue, RefusesRequest, put}
+use Rattle.remote.specs.declared.fault.Fault.{Fault}
+use Rattle.clap.specs.Words.{Row}
+use Rattle.command_lines.specs.CommandLine.{option_text}
+use Rattle.commands.specs.Children.{AreNamed}
+use Rattle.commands.specs.Faults.{TellsRefusal}
+use Rattle.commands.specs.Options.{IsValidServer}
+use Rattle.commands.specs.Places.{Comes}
+use Rattle.commands.specs.PutRefused.{FailsBelow, FailsHere, HasEntry, HasNoName, LinksToNoText, RefusesPut}
+use Rattle.commands.specs.Faults.{IsEntryFault, OrMemory}
+use Rattle.commands.specs.PutRefused.FailsBelow.{below, here, too_deep}
+use Rattle.commands.specs.PutRefused.FailsHere.{file_refused, folder_refused, in_memory, name_twice, no_name, no_text}
+use Rattle.commands.specs.PutRefused.{FailsPut}
+use Rattle.commands.specs.PutRefused.FailsPut.{in_memory as lacks_memory, in_words}
+use Rattle.commands.specs.Refusal.{IsCommandFault, IsPrintFault}
+use Rattle.commands.specs.Status.{status_of}
+use Rattle.commands.specs.World.{Sight, a_link}
+use Rattle.commands.specs.declared.connecting.ServerOptions.{ServerOptions}
+use Rattle.commands.specs.declared.error.CommandError.{CommandError}
+use Rattle.commands.specs.declared.error.CommandError.TheVariants.{Memory, Number, Output, Unlike, Words}
+use Rattle.commands.proofs.Order.{Follows}
+use Rattle.commands.proofs.SoFar.{IsPutSoFar}
+
+-- a request that was refused, as the error tells it
+pub blob_refused : (start old new : ConnectionValue) (address bytes : List ℕ) (fault : Option Fault) (refusal : FetchError) (e : CommandError)
+    → ∥ Comes start old ∥₁ → RefusesRequest old new (put Cas (digest_of bytes).hash bytes) refusal → new.fault ≡ fault
+    → TellsRefusal address (codes "put of blob") (digest_of bytes) fault refusal e → OrMemory (λ x. ∥ RefusesPut start address bytes x ∥₁) e
+blob_refused start old new address bytes (Some fault) refusals.Failed e came refused kept told =
+    inr (∥∥₁_map came (λ before. record { old = old; new = new; before = before; refused = refused; fault = fault; kept = kept; told = told }))
+blob_refused start old new address bytes (Some fault) refusals.Memory e came refused kept told = inl told
+blob_refused start old new address bytes None refusal e came refused kept told = inl told
+
+-- memory ran out, or so it is
+pub or_memory : (P Q : CommandError → Type 0) (e : CommandError) → (e ≡ Memory → Q e) → (P e → Q e) → OrMemory P e → Q e
+or_memory P Q e memory is (inl m) = memory m
+or_memory P Q e memory is (inr p) = is p
+
+-- a name that was read in the folder
+pub entry_at : (sees : Sight) (place : List ℕ) (names : List (String Global)) (i : ℕ) (item : String Global) (n : List ℕ)
+    → sees.lists place (map string_bytes names) → i < length names → item ≡ get_or names i item → n ≡ string_bytes item → HasEntry sees place n
+entry_at sees place names i item n lists less is named = record {
+  names = map string_bytes names;
+  read = lists;
+  has = (
+    i,
+    subst (λ k. i < k) (sym (length-map names string_bytes)) less,
+    get_or-map string_bytes names i item n less ∙ ap string_bytes (sym is) ∙ sym named,
+  );
+}
+
+-- the error tells what stands at the place, or below it, and isn't put to the server
+abbrev pub Fails : Sight → ConnectionValue → ServerOptions → ℕ → List ℕ → CommandError → Type 0
+Fails sees start server left place e = FailsBelow sees start (string_bytes server.address) e left place
+
+module _ (sees : Sight) (start : ConnectionValue) (address place : List ℕ) where
+  -- what is at fault at an entry is so for its folder, where paths may go further down
+  pub further : (left : ℕ) (name path : List ℕ) (e : CommandError) → (left ≡ 0 → ⊥) → HasEntry sees place name → path ≡ place ++ 47 ∷ name
+      → FailsBelow sees start address e (left - 1) path → FailsBelow sees start address e left place
+  further left name path e some entry at fails =
+      let deep : suc (left - 1) ≡ left = omega (arith, some) in
+      subst (λ k. FailsBelow sees start address e k place) deep (below (left - 1) place name entry (subst (FailsBelow sees start address e (left - 1)) at fails))
+
+  pub deepest : (left : ℕ) (name path : List ℕ) (e : CommandError) → left ≡ 0 → HasEntry sees place name → path ≡ place ++ 47 ∷ name
+      → OrMemory (IsEntryFault path (codes "more than 64 names deep")) e → FailsBelow sees start address e left place
+  deepest left name path e none entry at fails =
+      or_memory (IsEntryFault path (codes "more than 64 names deep")) (λ x. FailsBelow sees start address x left place) e (λ m. here left place (in_memory m))
+      (λ is. subst (λ k. FailsBelow sees start address e k place) (sym none) (too_deep place name entry (subst (λ p. IsEntryFault p (codes "more than 64 names deep") e) at is))) fails
+
+  pub name_fails : (name path : List ℕ) (e : CommandError) → HasEntry sees place name → path ≡ place ++ 47 ∷ name
+      → OrMemory (HasNoName path name) e → FailsHere sees start address place e
+  name_fails name path e entry at fails = or_memory (HasNoName path name) (FailsHere sees start address place) e in_memory
+      (λ is. no_name name entry (subst (λ p. HasNoName p name e) at is)) fails
+
+  pub target_fails : (target : List ℕ) (e : CommandError) → sees.stands place (a_link target)
+      → OrMemory (LinksToNoText place target) e → FailsHere sees start address place e
+  target_fails target e stands fails =
+      or_memory (LinksToNoText place target) (FailsHere sees start address place) e in_memory (no_text target stands) fails
+
+  pub names_fail : (names : List (List ℕ)) (d : DirectoryValue) (e : CommandError) → sees.lists place names → Follows names d
+      → OrMemory (λ x. ¬ AreNamed d × IsEntryFault place (codes "two entries of one name") x) e → FailsHere sees start address place e
+  names_fail names d e lists follows fails =
+      or_memory (λ x. ¬ AreNamed d × IsEntryFault place (codes "two entries of one name") x) (FailsHere sees start address place) e in_memory
+      (λ is. name_twice names lists (record { twice = λ up. is.0 (follows.named up); told = is.1 })) fails
+
+  pub file_fails : (bytes : List ℕ) (e : CommandError) → sees.reads place bytes
+      → OrMemory (λ x. ∥ RefusesPut start address bytes x ∥₁) e → FailsHere sees start address place e
+  file_fails bytes e reads fails = or_memory (λ x. ∥ RefusesPut start address bytes x ∥₁) (FailsHere sees start address place) e in_memory (file_refused bytes reads) fails
+
+  pub directory_fails : (left : ℕ) (names : List (List ℕ)) (d : DirectoryValue) (bytes : List ℕ) (result : Result DigestValue CommandError) → IsDirectory d
+      → sees.lists place names → IsPutSoFar sees start place names d → bytes ≡ directory_bytes d
+      → IfErr result (OrMemory (λ e. ∥ RefusesPut start address bytes e ∥₁)) → IfErr result (λ e. FailsBelow sees start address e left place)
+  directory_fails left names d bytes (Ok digest) valid lists so_far is fails = tt
+  directory_fails left names d bytes (Err e) valid lists so_far is fails =
+      here left place (or_memory (λ x. ∥ RefusesPut start address bytes x ∥₁) (FailsHere sees start address place) e in_memory
+      (λ refuses. folder_refused d valid (record { names = names; read = lists; all = so_far.all }) (subst (λ b. ∥ RefusesPut start address b e ∥₁) is refuses)) fails)
+
+-- ---- the whole command
+
+pub words_fail : (sees : Sight) (options : List Row) (e : CommandError) → IsCommandFault e
+    → (e ≢ Memory → ¬ IsValidServer options (option_text options (codes "server"))) → FailsPut sees options e
+words_fail sees options (Words t) fault invalid = in_words fault (invalid (λ q. cc))
+words_fail sees options (Number o g t) fault invalid = in_words fault (invalid (λ q. cc))
+words_fail sees options (Unlike o w t) fault invalid = in_words fault (invalid (λ q. cc))
+words_fail sees options Memory fault invalid = lacks_memory refl
+words_fail sees options _ fault invalid = absurd fault
+
+-- the status of what can't be printed
+pub printed_status : (e : CommandError) → OrMemory IsPrintFault e → status_of e ≡ 3
+printed_status e (inl memory) = subst (λ x. status_of x ≡ 3) (sym memory) refl
+printed_status (Output f) (inr fault) = refl
+printed_status _ (inr fault) = absurd fault
+
+pub not_words : (e : CommandError) → OrMemory IsPrintFault e → status_of e ≡ 2 → ⊥
+not_words e fault status = let same : ◌≡◌ {A = ℕ} 3 2 = sym (printed_status e fault) ∙ status in omega (arith, same)

@@ -1,0 +1,65 @@
+use Rattle.std.proofs.Common.{codes, refl, string_bytes, subst, sym}
+use Rattle.std.proofs.Math.Logic.{∥∥₁_map}
+use Rattle.blob_digest.specs.Digest.{digest_of}
+use Rattle.http_core.specs.declared.event.Area.TheVariants.{Ac, Cas}
+use Rattle.remote.specs.Line.{put}
+use Rattle.remote.specs.Remote.{connection_of}
+use Rattle.remote.specs.Table.{told_by}
+use Rattle.commands.specs.Faults.{TellsRefusal}
+use Rattle.commands.specs.Places.{CameAllOver, LacksAllOver}
+use Rattle.commands.specs.Places.Comes.{refused, taken}
+use Rattle.commands.proofs.Refused.{blob_refused}
+use Rattle.commands.proofs.client.Client.put.Goals as goal
+
+-- what is told stays, and the connection comes on
+pub invariant_of-self : goal.invariant_of-self
+invariant_of-self g c =
+    let start = g.K.Origin.start in
+    let flow = g.S.Stream.flow in
+    let sent = c.in-Ok.ensures.sent in
+    record {
+      over = ∥∥₁_map c.args.self.now.over (λ over. record {
+        came = taken (connection_of flow c.args.self.now.remote) (connection_of flow c.send_blob.new.self) Cas (digest_of c.args.bytes.now).hash c.args.bytes.now over.came sent.taken;
+        blobs = subst (λ t. CameAllOver start Cas (told_by t)) (sym sent.blobs) over.blobs;
+        results = subst (λ t. CameAllOver start Ac (told_by t)) (sym sent.results) over.results;
+      });
+      lacked = ∥∥₁_map c.args.self.now.lacked (λ lacked. record {
+        blobs = subst (LacksAllOver start Cas) (sym sent.blobs) lacked.blobs;
+        results = subst (LacksAllOver start Ac) (sym sent.results) lacked.results;
+      });
+    }
+
+pub invariant_of-self-in-Err : goal.invariant_of-self-in-Err
+invariant_of-self-in-Err g c =
+    let start = g.K.Origin.start in
+    let flow = g.S.Stream.flow in
+    let sent = c.in-Err.ensures.sent in
+    record {
+      over = ∥∥₁_map c.args.self.now.over (λ over. record {
+        came = refused (connection_of flow c.args.self.now.remote) (connection_of flow c.send_blob.new.self) (put Cas (digest_of c.args.bytes.now).hash c.args.bytes.now) c.in-Err.refusal over.came sent.refused;
+        blobs = subst (λ t. CameAllOver start Cas (told_by t)) (sym sent.blobs) over.blobs;
+        results = subst (λ t. CameAllOver start Ac (told_by t)) (sym sent.results) over.results;
+      });
+      lacked = ∥∥₁_map c.args.self.now.lacked (λ lacked. record {
+        blobs = subst (LacksAllOver start Cas) (sym sent.blobs) lacked.blobs;
+        results = subst (LacksAllOver start Ac) (sym sent.results) lacked.results;
+      });
+    }
+
+pub returns-in-Ok-clause-taken : goal.returns-in-Ok-clause-taken
+returns-in-Ok-clause-taken g c =
+    let flow = g.S.Stream.flow in
+    ∥∥₁_map c.args.self.now.over
+    (λ over. record { old = connection_of flow c.args.self.now.remote; new = connection_of flow c.send_blob.new.self; before = over.came; is = c.in-Ok.ensures.sent.taken })
+
+pub returns-in_ok-error-in-Err-clause-refused : goal.returns-in_ok-error-in-Err-clause-refused
+returns-in_ok-error-in-Err-clause-refused g c =
+    let flow = g.S.Stream.flow in
+    let address = string_bytes c.args.server.now.address in
+    let bytes = c.args.bytes.now in
+    let new = connection_of flow c.send_blob.new.self in
+    let refusal = c.in-Err.refusal in
+    let e = c.in_ok-error-in-Err.field-0 in
+    blob_refused g.K.Origin.start (connection_of flow c.args.self.now.remote) new address bytes new.fault refusal e
+    (∥∥₁_map c.args.self.now.over (λ over. over.came)) c.in-Err.ensures.sent.refused refl
+    (subst (λ d. TellsRefusal address (codes "put of blob") d new.fault refusal e) c.of-self.ensures c.in_ok-error-in-Err.ensures.error)

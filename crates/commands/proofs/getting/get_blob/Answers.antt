@@ -1,0 +1,59 @@
+use Rattle.std.proofs.Common.{◌≡◌, ◌≢◌, ◌∙◌, Some, Ok, Option, Result, ℕ, inr, refl, subst, sym, string_bytes}
+use Rattle.std.specs.declared.alloc.Global.{Global}
+use Rattle.std.specs.declared.vec.Vec.{Vec}
+use Rattle.blob_digest.specs.Digest.{digest_of}
+use Rattle.blob_source.specs.declared.source.FetchError.{FetchError}
+use Rattle.http_core.specs.declared.event.Area.TheVariants.{Cas}
+use Rattle.remote.specs.Remote.{blobs_of, connection_of}
+use Rattle.std.specs.Prelude.{codes}
+use Rattle.commands.specs.Faults.{TellsRefusal}
+use Rattle.commands.specs.GetRefused.FailsGetBlob.{in_bytes, in_reply}
+use Rattle.commands.specs.Places.{CameOver, Comes}
+use Rattle.commands.proofs.Tellings.{comes_on, got_bytes}
+use Rattle.commands.specs.Places.Comes.{fresh}
+use Rattle.commands.proofs.getting.get_blob.Goals as goal
+
+pub returns-then-has_digest-clause-right : goal.returns-then-has_digest-clause-right
+returns-then-has_digest-clause-right g c =
+    let flow = g.S.Stream.flow in
+    let old = c.args.remote.now in
+    let new = c.fetch.new.self in
+    let digest = c.args.digest.now in
+    let is : ◌≡◌ {A = Result (Option (Vec ℕ Global)) FetchError} c.fetch.result (Ok (Some c.in-Ok-Some.bytes)) = cc in
+    record {
+      right = subst (λ b. digest_of b ≡ digest) c.deref.ensures.value (c.has_digest.ensures.0 c.if-has_digest.true);
+      came = inr (got_bytes Cas digest (connection_of flow old) (connection_of flow new) (blobs_of old) (blobs_of new) c.fetch.result c.in-Ok-Some.bytes
+          c.fetch.ensures.asked (c.requires.blobs digest) is);
+    }
+
+pub returns-in_ok-write_text-in-Ok-Some-clause-fault : goal.returns-in_ok-write_text-in-Ok-Some-clause-fault
+returns-in_ok-write_text-in-Ok-Some-clause-fault g c =
+    let flow = g.S.Stream.flow in
+    let old = c.args.remote.now in
+    let new = c.fetch.new.self in
+    let digest = c.args.digest.now in
+    let is : ◌≡◌ {A = Result (Option (Vec ℕ Global)) FetchError} c.fetch.result (Ok (Some c.in-Ok-Some.bytes)) = cc in
+    let other : digest_of c.in-Ok-Some.bytes.items ≢ digest = λ same.
+    let yes = c.has_digest.ensures.1 (subst (λ b. digest_of b ≡ digest) (sym c.deref.ensures.value) same) in
+    let no = c.if-has_digest.false in
+    cc (yes, no) in
+    in_bytes (record {
+      bytes = c.in-Ok-Some.bytes.items;
+      came = got_bytes Cas digest (connection_of flow old) (connection_of flow new) (blobs_of old) (blobs_of new) c.fetch.result c.in-Ok-Some.bytes
+          c.fetch.ensures.asked (c.requires.blobs digest) is;
+      other = other;
+    }) (c.in_ok-from_str-in-Ok-Some.ensures.ok ∙ c.as_str.ensures.value, c.in_ok-write_text-in-Ok-Some.ensures)
+
+pub returns-in_ok-server_error-in-Err-clause-fault : goal.returns-in_ok-server_error-in-Err-clause-fault
+returns-in_ok-server_error-in-Err-clause-fault g c =
+    let flow = g.S.Stream.flow in
+    let old = c.args.remote.now in
+    let new = c.fetch.new.self in
+    let start = connection_of flow old in
+    in_reply (record {
+      now = connection_of flow new;
+      came = comes_on start Cas c.args.digest.now start (connection_of flow new) (blobs_of old) (blobs_of new) c.fetch.result c.fetch.ensures.asked fresh;
+      refusal = c.in-Err.refusal;
+      told = subst (λ f. TellsRefusal (string_bytes c.args.server.now.address) (codes "get of blob") c.args.digest.now f c.in-Err.refusal c.in_ok-server_error-in-Err.field-0)
+          c.last_fault-fault.ensures c.in_ok-server_error-in-Err.ensures.error;
+    })

@@ -1,0 +1,23 @@
+use Rattle.std.proofs.Common.{refl, string_bytes, subst}
+use Rattle.commands.specs.PutRefused.{FailsBelow, FailsHere}
+use Rattle.commands.specs.PutRefused.FailsBelow.{here}
+use Rattle.commands.specs.PutRefused.FailsHere.{unread}
+use Rattle.commands.proofs.Exits.{err_weaker, exit_by}
+use Rattle.commands.proofs.putting.put_over.Goals as goal
+
+pub returns-in_err-is_folder-clause-refused : goal.returns-in_err-is_folder-clause-refused
+returns-in_err-is_folder-clause-refused g c =
+    let sees = g.W.World.sees in
+    let start = g.K.Origin.start in
+    let address = string_bytes c.args.server.now.address in
+    exit_by (λ e. FailsBelow sees start address e 64 (string_bytes c.args.place)) _ c.from_residual.ensures.1
+    (subst (FailsBelow sees start address _ 64) c.as_str-place.ensures.value (here 64 c.as_str-place.result.now (unread _ c.in_err-is_folder.ensures.fault refl)))
+
+pub returns-clause-refused : goal.returns-clause-refused
+returns-clause-refused g c =
+    let sees = g.W.World.sees in
+    let start = g.K.Origin.start in
+    let address = string_bytes c.args.server.now.address in
+    let place = c.as_str-place.result.now in
+    err_weaker c.put_file.result (FailsHere sees start address place) (λ e. FailsBelow sees start address e 64 (string_bytes c.args.place))
+    (λ e fails. subst (FailsBelow sees start address e 64) c.as_str-place.ensures.value (here 64 place fails)) c.put_file.ensures.refused

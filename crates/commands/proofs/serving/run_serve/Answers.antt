@@ -1,0 +1,52 @@
+use Rattle.std.proofs.Common.{◌≡◌, codes, refl, rules, subst}
+use Rattle.clap.specs.Words.{found_of, rows_of}
+use Rattle.command_lines.specs.CommandLine.{option_text}
+use Rattle.commands.specs.Refusal.{IsPrintFault}
+use Rattle.commands.specs.ServeRefused.{FailsFirst, FailsServe, FailsToListen, serve_words}
+use Rattle.commands.specs.ServeRefused.FailsServe.{in_address, in_connections, in_memory, in_output, in_words}
+use Rattle.commands.specs.Status.{status_of}
+use Rattle.commands.proofs.Exits.{exit_by}
+use Rattle.commands.proofs.Refused.{not_words, or_memory}
+use Rattle.commands.proofs.serving.run_serve.Goals as goal
+
+pub returns-in_err-asked-clause-refused : goal.returns-in_err-asked-clause-refused
+returns-in_err-asked-clause-refused g c =
+    let sees = g.W.World.sees in
+    let options = rows_of (found_of c.args.matches.now) in
+    exit_by (FailsServe sees options) _ c.from_residual.ensures.1
+    (or_memory (FailsFirst (serve_words options)) (FailsServe sees options) _ in_memory in_words c.in_err-asked.ensures.checked)
+
+pub returns-in_err-cache-clause-refused : goal.returns-in_err-cache-clause-refused
+returns-in_err-cache-clause-refused g c =
+    exit_by (FailsServe g.W.World.sees (rows_of (found_of c.args.matches.now))) _ c.from_residual-in_err-cache.ensures.1 (in_memory refl)
+
+pub returns-in_err-listening-clause-refused : goal.returns-in_err-listening-clause-refused
+returns-in_err-listening-clause-refused g c =
+    let sees = g.W.World.sees in
+    let options = rows_of (found_of c.args.matches.now) in
+    exit_by (FailsServe sees options) _ c.from_residual-in_err-listening.ensures.1
+    (or_memory (FailsToListen sees (option_text options (codes "listen"))) (FailsServe sees options) _ in_memory
+    (in_address c.in_ok-asked.ensures.checked)
+    (rw (← c.in_ok-asked.ensures.asked.address) c.in_err-listening.ensures.fault))
+
+pub returns-in_err-print_address-clause-refused : goal.returns-in_err-print_address-clause-refused
+returns-in_err-print_address-clause-refused g c =
+    let sees = g.W.World.sees in
+    let options = rows_of (found_of c.args.matches.now) in
+    let address = c.in_ok-listening.listening.address in
+    exit_by (FailsServe sees options) _ c.from_residual-in_err-print_address.ensures.1
+    (or_memory IsPrintFault (FailsServe sees options) _ in_memory
+    (in_output address c.in_ok-asked.ensures.checked (subst (λ a. sees.listens a address) c.in_ok-asked.ensures.asked.address c.in_ok-listening.ensures.listens))
+    c.in_err-print_address.ensures.fault)
+
+pub returns-in_err-print_address-clause-unprinted : goal.returns-in_err-print_address-clause-unprinted
+returns-in_err-print_address-clause-unprinted g c =
+    exit_by (λ e. status_of e ≡ 2 → g.O.Write.contents c.print_address.new.out ≡ g.O.Write.contents c.args.out.now) _ c.from_residual-in_err-print_address.ensures.1
+    (λ status. absurd (not_words _ c.in_err-print_address.ensures.fault status))
+
+pub returns-in-Err-clause-refused : goal.returns-in-Err-clause-refused
+returns-in-Err-clause-refused g c =
+    let sees = g.W.World.sees in
+    let address = c.in_ok-listening.listening.address in
+    in_connections address c.in-Err.fault c.in_ok-asked.ensures.checked (subst (λ a. sees.listens a address) c.in_ok-asked.ensures.asked.address c.in_ok-listening.ensures.listens)
+    (search rules) refl

@@ -1,0 +1,106 @@
+-- Why `get` ends without its answer: the first fault, in the order server, digest, connection and
+-- work.
+use Rattle.std.specs.Prelude.{◌≡◌, ◌≢◌, ◌⊎◌, ℕ, List, Option, None, Some, codes, string_bytes}
+use Rattle.std.specs.declared.alloc.Global.{Global}
+use Rattle.blob_digest.specs.Digest.{DigestValue, digest_of}
+use Rattle.blob_digest.specs.Text.{digest_text}
+use Rattle.blob_source.specs.Source.{Telling}
+use Rattle.blob_source.specs.declared.source.FetchError.{FetchError}
+use Rattle.checkout.specs.Refused.{FailsCheckout}
+use Rattle.checkout.specs.declared.error.CheckoutError.{CheckoutError}
+use Rattle.checkout.specs.declared.error.CheckoutError.TheVariants as trees
+use Rattle.clap.specs.Words.{Row, first_of}
+use Rattle.command_lines.specs.CommandLine.{option_text}
+use Rattle.commands.specs.Faults.{IsDigestFault, IsEntryFault, TellsRefusal}
+use Rattle.commands.specs.Got.{IsBlobOver}
+use Rattle.commands.specs.Options.{IsValidServer}
+use Rattle.commands.specs.Places.{CameOver, Comes, FailsOver, FailsToConnect, IsToldOver, LacksOver}
+use Rattle.commands.specs.Printed.{StartsGet}
+use Rattle.commands.specs.Refusal.{IsCommandFault, IsPrintFault}
+use Rattle.commands.specs.World.{Sight}
+use Rattle.commands.specs.declared.error.CommandError.{CommandError}
+use Rattle.commands.specs.declared.error.CommandError.TheVariants.{File, Memory, WrongBytes}
+use Rattle.http_core.specs.declared.event.Area.TheVariants.{Cas}
+use Rattle.messages.specs.Path.{path_text}
+use Rattle.remote.specs.Line.{ConnectionValue}
+use Rattle.text_verifier.specs.Refused.{IsSpelled}
+
+-- the error tells that the server sent other bytes for the digest
+abbrev pub IsWrongBytes : List ℕ → DigestValue → CommandError → Type 0
+IsWrongBytes address d (WrongBytes server digest) =
+    (string_bytes server ≡ address) × (string_bytes digest ≡ digest_text d)
+IsWrongBytes address d _ = ⊥
+
+-- ---- a blob
+
+-- bytes with another digest came over the connection
+pub record ComesWrong (start : ConnectionValue) (digest : DigestValue) : Type 0 where
+  pub bytes : List ℕ
+  pub came : CameOver start Cas digest.hash bytes
+  pub other : digest_of bytes ≢ digest
+
+-- the error tells the connection's fault at the blob
+pub record RefusesGet (start : ConnectionValue) (address : List ℕ) (digest : DigestValue)
+    (e : CommandError) : Type 0 where
+  pub now : ConnectionValue
+  pub came : Comes start now
+  pub refusal : FetchError
+  pub told : TellsRefusal address (codes "get of blob") digest now.fault refusal e
+
+-- why a blob wasn't written, over a connection to the server at this address
+pub data FailsGetBlob (start : ConnectionValue) (address : List ℕ) (digest : DigestValue)
+    (e : CommandError) : Type 0 where
+  in_memory : e ≡ Memory → FailsGetBlob start address digest e
+  in_reply : RefusesGet start address digest e → FailsGetBlob start address digest e
+  in_bytes : ComesWrong start digest → IsWrongBytes address digest e
+      → FailsGetBlob start address digest e
+  in_output : (bytes : List ℕ) → IsBlobOver start digest bytes → IsPrintFault e
+      → FailsGetBlob start address digest e
+
+-- ---- a tree
+
+-- The error tells why a tree wasn't written. Where a blob of it is missing, that is so told, and
+-- the output takes no line of that.
+abbrev pub TellsTree : ConnectionValue → List ℕ → CheckoutError Global → CommandError → Type 0
+TellsTree start address (trees.Missing d) e = ∥ FailsOver start e ∥₁
+    ⊎ (∥ LacksOver start Cas d.hash ∥₁ × IsPrintFault e)
+TellsTree start address (trees.Wrong d) e = IsWrongBytes address d e
+TellsTree start address (trees.Malformed d) e =
+    IsEntryFault (digest_text d) (codes "not a Directory") e
+TellsTree start address (trees.TooDeep path) e =
+    IsEntryFault (path_text path) (codes "a path of more than 64 names") e
+TellsTree start address trees.Fetch e = ∥ FailsOver start e ∥₁
+TellsTree start address (trees.Place path fault) e = e ≡ File path fault
+TellsTree start address trees.Memory e = e ≡ Memory
+
+-- why the tree that was told over the connection wasn't written into the folder
+pub data FailsGetTree (sees : Sight) (start : ConnectionValue) (address : List ℕ)
+    (digest : DigestValue) (folder : List ℕ) (e : CommandError) : Type 0 where
+  in_memory : e ≡ Memory → FailsGetTree sees start address digest folder e
+  in_tree : (told : Telling) (error : CheckoutError Global) → ∥ IsToldOver start told ∥₁
+      → FailsCheckout sees.unwritten told.blobs digest folder error
+      → TellsTree start address error e → FailsGetTree sees start address digest folder e
+
+-- ---- the command
+
+abbrev pub FailsGot : Sight → Option (List ℕ) → ConnectionValue → List ℕ → DigestValue
+    → CommandError → Type 0
+FailsGot sees None start address digest e = FailsGetBlob start address digest e
+FailsGot sees (Some folder) start address digest e = FailsGetTree sees start address digest folder e
+
+-- The first fault: what comes before it has none. That memory is wanting may come anywhere, and is
+-- told as that.
+pub data FailsGet (sees : Sight) (options : List Row) (e : CommandError) : Type 0 where
+  in_memory : e ≡ Memory → FailsGet sees options e
+  in_words : IsCommandFault e → ¬ IsValidServer options (option_text options (codes "server"))
+      → FailsGet sees options e
+  in_digest : IsValidServer options (option_text options (codes "server"))
+      → IsDigestFault (codes "digest") (option_text options (codes "digest")) e
+      → FailsGet sees options e
+  in_server : IsValidServer options (option_text options (codes "server"))
+      → IsSpelled (option_text options (codes "digest"))
+      → FailsToConnect sees (option_text options (codes "server")) e → FailsGet sees options e
+  in_work : (digest : DigestValue) (start : ConnectionValue)
+      → StartsGet sees options digest start
+      → FailsGot sees (first_of (codes "into") options) start
+      (option_text options (codes "server")) digest e → FailsGet sees options e

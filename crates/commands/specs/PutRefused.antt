@@ -1,0 +1,110 @@
+-- Why `put` ends without its line: the first fault, in the order words, connection, what stands at
+-- the path or below it together with the server's refusals, and output.
+use Rattle.std.specs.Prelude.{◌≡◌, ℕ, suc, List, ◌∷◌, ◌++◌, Some, codes}
+use Rattle.std.specs.List.{Contains}
+use Rattle.std.specs.declared.alloc.Global.{Global}
+use Rattle.blob_digest.specs.Digest.{DigestValue, digest_of}
+use Rattle.blob_source.specs.declared.source.FetchError.TheVariants.{Failed}
+use Rattle.clap.specs.Words.{Row}
+use Rattle.command_lines.specs.CommandLine.{option_text}
+use Rattle.http_core.specs.declared.event.Area.TheVariants.{Cas}
+use Rattle.messages.specs.Directory.{directory_bytes}
+use Rattle.messages.specs.DirectoryRules.{DirectoryValue, IsDirectory}
+use Rattle.messages.specs.Name.{IsName}
+use Rattle.messages.specs.Order.{IsAscending}
+use Rattle.messages.specs.Target.{IsTarget}
+use Rattle.remote.specs.Line.{ConnectionValue, RefusesRequest, put}
+use Rattle.remote.specs.declared.fault.Fault.{Fault}
+use Rattle.remote.specs.declared.files.FileError.{FileError}
+use Rattle.commands.specs.Faults.{IsEntryFault, IsServerFault, error_of_file}
+use Rattle.commands.specs.Options.{IsValidServer}
+use Rattle.commands.specs.Places.{Comes, FailsToConnect}
+use Rattle.commands.specs.Printed.{IsConnectedTo}
+use Rattle.commands.specs.Put.{IsListed, PutsPath}
+use Rattle.commands.specs.Refusal.{IsCommandFault, IsPrintFault}
+use Rattle.commands.specs.World.{Sight, a_link}
+use Rattle.commands.specs.declared.error.CommandError.{CommandError}
+use Rattle.commands.specs.declared.error.CommandError.TheVariants.{Memory}
+
+-- what stands at the place has no name that can be put
+pub record HasNoName (place name : List ℕ) (e : CommandError) : Type 0 where
+  pub none : ¬ IsName name
+  pub told : IsEntryFault place (codes "no name of at most 255 bytes") e
+
+-- the link at the place leads to this, which can't be put
+pub record LinksToNoText (place target : List ℕ) (e : CommandError) : Type 0 where
+  pub none : ¬ IsTarget target
+  pub told : IsEntryFault place (codes "a link to no text of at most 4096 bytes") e
+
+-- the names in the folder at the place don't ascend
+pub record HasNameTwice (place : List ℕ) (names : List (List ℕ)) (e : CommandError) : Type 0 where
+  pub twice : ¬ IsAscending names
+  pub told : IsEntryFault place (codes "two entries of one name") e
+
+-- the server at the address refused a PUT of this blob over the connection, which was opened so
+pub record RefusesPut (start : ConnectionValue) (address bytes : List ℕ) (e : CommandError)
+    : Type 0 where
+  pub old : ConnectionValue
+  pub new : ConnectionValue
+  pub before : Comes start old
+  pub refused : RefusesRequest old new (put Cas (digest_of bytes).hash bytes) Failed
+  pub fault : Fault
+  pub kept : new.fault ≡ Some fault
+  pub told : IsServerFault address (codes "put of blob") (digest_of bytes) fault e
+
+-- the folder at the place was read, and has an entry of this name
+pub record HasEntry (sees : Sight) (place name : List ℕ) : Type 0 where
+  pub names : List (List ℕ)
+  pub read : sees.lists place names
+  pub has : Contains names name
+
+-- What stands at a place isn't put: it can't be read or spelled, or the server refused it.
+pub data FailsHere (sees : Sight) (start : ConnectionValue) (address place : List ℕ)
+    (e : CommandError) : Type 0 where
+  in_memory : e ≡ Memory → FailsHere sees start address place e
+  unread : (f : FileError Global) → sees.fails place f → e ≡ error_of_file f
+      → FailsHere sees start address place e
+  no_text : (target : List ℕ) → sees.stands place (a_link target) → LinksToNoText place target e
+      → FailsHere sees start address place e
+  no_name : (name : List ℕ) → HasEntry sees place name → HasNoName (place ++ 47 ∷ name) name e
+      → FailsHere sees start address place e
+  name_twice : (names : List (List ℕ)) → sees.lists place names → HasNameTwice place names e
+      → FailsHere sees start address place e
+  file_refused : (bytes : List ℕ) → sees.reads place bytes
+      → ∥ RefusesPut start address bytes e ∥₁ → FailsHere sees start address place e
+  folder_refused : (d : DirectoryValue) → IsDirectory d → IsListed sees place d
+      → ∥ RefusesPut start address (directory_bytes d) e ∥₁
+      → FailsHere sees start address place e
+
+-- It, or something below it, isn't put, where paths go so many names further down.
+pub data FailsBelow (sees : Sight) (start : ConnectionValue) (address : List ℕ) (e : CommandError)
+    : ℕ → List ℕ → Type 0 where
+  here : (left : ℕ) (place : List ℕ) → FailsHere sees start address place e
+      → FailsBelow sees start address e left place
+  too_deep : (place name : List ℕ) → HasEntry sees place name
+      → IsEntryFault (place ++ 47 ∷ name) (codes "more than 64 names deep") e
+      → FailsBelow sees start address e 0 place
+  below : (left : ℕ) (place name : List ℕ) → HasEntry sees place name
+      → FailsBelow sees start address e left (place ++ 47 ∷ name)
+      → FailsBelow sees start address e (suc left) place
+
+-- the words are valid, and a connection to the server that they name was opened, and stood so
+pub record StartsPut (sees : Sight) (options : List Row) (start : ConnectionValue)
+    : Type 0 where
+  pub valid : IsValidServer options (option_text options (codes "server"))
+  pub opened : IsConnectedTo sees options start
+
+-- The first fault: what comes before it has none. That memory is wanting may come anywhere, and is
+-- told as that.
+pub data FailsPut (sees : Sight) (options : List Row) (e : CommandError) : Type 0 where
+  in_memory : e ≡ Memory → FailsPut sees options e
+  in_words : IsCommandFault e → ¬ IsValidServer options (option_text options (codes "server"))
+      → FailsPut sees options e
+  in_connection : IsValidServer options (option_text options (codes "server"))
+      → FailsToConnect sees (option_text options (codes "server")) e → FailsPut sees options e
+  in_path : (start : ConnectionValue) → StartsPut sees options start
+      → FailsBelow sees start (option_text options (codes "server")) e 64
+      (option_text options (codes "path")) → FailsPut sees options e
+  in_output : (start : ConnectionValue) (digest : DigestValue) → StartsPut sees options start
+      → PutsPath sees start (option_text options (codes "path")) digest → IsPrintFault e
+      → FailsPut sees options e
