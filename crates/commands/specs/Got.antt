@@ -7,7 +7,8 @@ use Rattle.remote.specs.Line.{ConnectionValue, Gets}
 use Rattle.commands.specs.Places.{CameOver}
 use Rattle.commands.specs.Told.{AppendsBeginning}
 
--- Bytes with the digest came over the connection that stood so. For the empty ones nothing is asked.
+-- Bytes with the digest came over the connection that stood so. For the empty ones nothing is
+-- asked.
 pub record IsBlobOver (start : ConnectionValue) (digest : DigestValue) (bytes : List ℕ)
     : Type 0 where
   pub right : digest_of bytes ≡ digest
