@@ -114,15 +114,17 @@ def rows_of_one_step(builds):
     done, first = builds.build(builds.one_step(printed))
     builds.expect_built("a file is made", done, first, MADE)
     builds.rows.tell("and one process was run", os.listdir(f"{first}/work") == ["0"], os.listdir(f"{first}/work"))
-    for name, words, out, status in [
-        ("an exit code", [*SHELL, "exit 3"], "failed step mk 103\n", 1),
-        ("a program by its name alone", ["sh", "-c", "exit 0"], "failed step mk 112\n", 1),
-        ("a fifo", [*SHELL, "mkfifo out"], "failed step mk 114\n", 1),
-        ("nothing at the output path", [*SHELL, "exit 0"], "failed root 106\n", 1),
-        ("a signal", [*SHELL, "kill -9 $$"], "", 3),
+    for name, words, out, status, why in [
+        ("an exit code", [*SHELL, "exit 3"], "failed step mk 103\n", 1, "step mk: exit code 3"),
+        ("a program by its name alone", ["sh", "-c", "exit 0"], "failed step mk 112\n", 1, "step mk: the program has no absolute path"),
+        ("a fifo", [*SHELL, "mkfifo out"], "failed step mk 114\n", 1, "step mk: path out is no output"),
+        ("nothing at the output path", [*SHELL, "exit 0"], "failed root 106\n", 1, "root: origin out is missing"),
+        ("a signal", [*SHELL, "kill -9 $$"], "", 3, ""),
     ]:
         done, place = builds.build(builds.one_step(words))
         builds.expect(name, done, place, out, status)
+        if why:
+            builds.rows.tell("and why is noted", done.stderr == f"note: {why}\n".encode(), done.stderr)
     done, place = builds.build(builds.one_step(printed))
     builds.expect_built("again: the result is the store's", done, place, MADE)
     builds.ran_nothing(place)
