@@ -4,7 +4,7 @@
 The program is started with a small library (faults.c) that has one thing fail: the Nth request for memory, that request and
 all after it, or the Nth call of the system, for a reason of its own or since it is interrupted. Small runs of each command are
 tried so for every N from 1 on until nothing fails any more. Each has to end soon, by itself, with its right answer, or with
-status 3, one line of an error and no answer; a build that failed leaves no record, and is built when it is asked for again. A
+status 3, one line of an error and at most a part of it; a build that failed leaves no record, and is built when asked again. A
 server has to send no answer but the right ones; where one thing fails it ends at most a connection, and serves the next. It
 prints a line for each command and kind of fault with how many there were, and ends with status 1 where one wasn't told. Without
 a C compiler a line says that nothing was tried. Nothing outside this machine is asked.

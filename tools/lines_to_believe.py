@@ -9,17 +9,20 @@ from harness import TOP, words_of
 
 # Words of private functions alone, and an example: no public claim rests on these.
 ASIDE = {
+    "action_cache": ["Survey"],
     "action_messages": ["Merging"],
-    "cache_server": ["Sessions"],
-    "cli": ["Faults"],
+    "cache_server": ["Sessions", "Writing"],
+    "cli": ["Running"],
     "commands": ["Children"],
     "eviction": ["Victims", "View"],
     "plan": ["Parts"],
-    "processes": ["Walking"],
+    "processes": ["Process", "Walking"],
+    "remote": ["Steps"],
     "runs": ["TwoSteps"],
-    "tree": ["Comparing", "MergeParts", "Unfolding", "Visiting"],
-    "verifier": ["Answers", "TwoSteps"],
-    "worker": ["Going", "Stores"],
+    "service": ["Member", "Together"],
+    "tree": ["Comparing", "Given", "Lines", "MergeParts", "Unfolding", "Visiting"],
+    "verifier": ["Answers", "Checks", "Stage", "TwoSteps"],
+    "worker": ["Going", "Stopping", "Storing"],
 }
 
 

@@ -239,7 +239,7 @@ def name_of(kind, head):
         if word == "for" and not depth:
             split = at
     sides = [head[split + 1:], head[:split]] if split is not None else [head]
-    name = "".join(tuple_name(it, parameters) or last_name(it) for it in sides)
+    name = "".join(tuple_name(it, parameters) or slice_name(it) or last_name(it) for it in sides)
     parts = own_arguments(sides[1], parameters) if len(sides) > 1 else []
     return f"{name}<{''.join(parts)}>" if parts else name
 
@@ -257,6 +257,12 @@ def tuple_name(words, parameters):
             parts[-1].append(word)
     names = [last_name(it) for it in parts if it]
     return f"Tuple{len(names)}{''.join(it for it in names if it not in parameters)}"
+
+
+def slice_name(words):
+    """The name of the impl of a reference to a slice: RefSlice and the last name of its elements' type; or nothing."""
+    named = [it for it in words if not it.startswith("'")]
+    return f"RefSlice{last_name(named[2:-1])}" if named[:2] == ["&", "["] else ""
 
 
 def last_name(words):

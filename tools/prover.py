@@ -32,11 +32,12 @@ UNTRIED = re.compile(r"note: `search` has not tried the goals of `(?P<path>[^`]+
 
 
 def kit():
-    """The folder of the kit whose `rt` is called."""
-    found = shutil.which("rt")
-    if not found:
-        raise SystemExit("no rt is installed")
-    return os.path.dirname(os.path.dirname(os.path.realpath(found)))
+    """The folder of the kit whose `rt` is called, be it through a script of that name (gate_minutes.py)."""
+    for folder in os.get_exec_path():
+        home = os.path.dirname(os.path.dirname(os.path.realpath(f"{folder}/rt")))
+        if os.access(f"{folder}/rt", os.X_OK) and os.path.exists(f"{home}/bin/rattle"):
+            return home
+    raise SystemExit("no rt is installed")
 
 
 def crates_of(top=TOP):

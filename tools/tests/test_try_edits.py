@@ -121,6 +121,8 @@ class Functions(Case):
         self.assertIn("half", mistakes.functions_of("src/lib.rt", CODE, {}))
         pair = "impl<A: Allocator, V> Listed for (Path<A>, V) { fn text(&self) {} }"
         self.assertEqual(list(mistakes.functions_of("src/listed.rt", pair, {})), ["listed::Tuple2PathListed::text"])
+        many = "impl<'a, A: Allocator> Listed for &'a [Path<A>] { fn text(&self) {} }"
+        self.assertEqual(list(mistakes.functions_of("src/listed.rt", many, {})), ["listed::RefSlicePathListed::text"])
 
     def test_a_types_functions_are_told_where_it_is_declared(self):
         self.keep("crates/small/src/text.rt", "impl Size { fn text(&self) {} }\n")

@@ -151,15 +151,6 @@ impl<A: Allocator + Copy> ActionCache<A> {
         Some(bytes)
     }
 
-    /// The blob under the hash, if it is held. Nothing moves.
-    pub fn peek_blob(&self, hash: &[u8; 32]) -> Option<&[u8]>
-        ensures value { option_copied result
-            ≡ bytes_given (blob_got by_messages self.now hash.now).0 }
-        ensures hash { HasHash (option_copied result) hash.now }
-    {
-        self.blobs.peek(hash)
-    }
-
     /// The blob under the hash, if it is held, for one holder more: it stays in memory where the
     /// cache gives it up. It moves to the front, unless it has no bytes. Nothing is copied.
     pub fn get_shared(&mut self, alloc: A, hash: &[u8; 32]) -> Result<Option<Shared<A>>, AllocError>

@@ -33,7 +33,8 @@ pub fn results_refer_to_what_is_read()
 pub fn trees_have_the_files_that_are_read()
     // Bytes are read as a Tree where they are its encoding, and give its files.
     ensures read { (t : TreeValue) (bytes : List ℕ)
-        → AreBytes bytes → IsTree t → bytes ≡ tree_bytes t → files_in bytes ≡ Some (files_in_tree t) }
+        → AreBytes bytes → IsTree t → bytes ≡ tree_bytes t
+        → files_in bytes ≡ Some (files_in_tree t) }
     // No other bytes give files.
     ensures only { (bytes : List ℕ) (files : List DigestValue)
         → IsBytes bytes → files_in bytes ≡ Some files

@@ -1,8 +1,8 @@
 -- The calls of a build are the events of a run.
-use Rattle.std.proofs.Common.{◌≡◌, ℕ, ◌<◌, List, [], ◌∷◌, ◌++◌, length, Option, Some, None, refl, ap, sym, ◌∙◌, subst, inl, inr}
-use Rattle.std.specs.Prelude.{◌⊎◌, slice_get, Contains}
+use Rattle.std.proofs.Common.{◌≡◌, ℕ, List, [], ◌∷◌, ◌++◌, Some, refl, ap, sym, ◌∙◌, subst, inl, inr}
+use Rattle.std.specs.Prelude.{◌⊎◌, Contains}
 use Rattle.std.proofs.lemmas.Option.{slice_get_within}
-use Rattle.blob_digest.specs.Digest.{DigestValue, digest_of, NoClash}
+use Rattle.blob_digest.specs.Digest.{DigestValue}
 use Rattle.messages.specs.Tree.{tree_bytes}
 use Rattle.blob_source.specs.Source.{Blobs, Telling}
 use Rattle.blob_source.specs.Sink.{KeepsRight}
@@ -14,9 +14,9 @@ use Rattle.tree.specs.Lookup.{IsValue}
 use Rattle.verifier.specs.Build.{Meaning, ActionMeaning, action_digest, Outcome, Event, start, finish, lose, State, opening, job_of, MeaningFits, happens, Obeys, IsRun}
 use Rattle.verifier.specs.Headline.{IsBlobOfMeaning, IsConcerned}
 use Rattle.verifier.proofs.FreshRuns.{one_answer}
-use Rattle.runs.specs.Calls.{IsStarted, IsFinished, IsOpened, with_job, without_job, with_finished}
-use Rattle.runs.specs.Engine.{FinishedValue, JobValue, EngineValue, IsEngine, at_number, finished_in, job_in}
-use Rattle.runs.specs.Mirrors.{IsFormOf, job_value, Mirrors, IsDirectoryOfEngine, IsConcernedIn, IsMirrored, nothing_told}
+use Rattle.runs.specs.Calls.{IsStarted, IsFinished, IsOpened, without_job}
+use Rattle.runs.specs.Engine.{FinishedValue, JobValue, EngineValue, IsEngine, finished_in, job_in}
+use Rattle.runs.specs.Mirrors.{Mirrors, IsConcernedIn, IsMirrored, nothing_told}
 use Rattle.runs.specs.declared.starting.Job.{Job}
 use Rattle.runs.proofs.Finishes.{finished_is_engine, finish_event}
 use Rattle.runs.proofs.Lost.{lost_engine, job_there, lost_event}
@@ -24,11 +24,10 @@ use Rattle.runs.proofs.Opened.{opened_mirrors}
 use Rattle.runs.proofs.Starts.{started_engine, started_event}
 use Rattle.worker.specs.Calls.{Call, started, launched, ran, taken, lost, WasStarted, Does, Leads, IsLed}
 use Rattle.worker.specs.Outcomes.{Yields}
-use Rattle.worker.proofs.Storing.{grows}
+use Rattle.worker.proofs.Acts.{calls_same, led_same}
 use Rattle.worker.proofs.Telling.{told_still}
 use Rattle.builder.specs.AsRun.{FinishedWith, IsAbout, IsARun}
-use Rattle.builder.proofs.Leading.{led_plan}
-use Rattle.builder.proofs.Staying.{GoesOn, together_stays}
+use Rattle.builder.proofs.Staying.{together_stays}
 
 -- one event more
 run_more : (X : List (ActionMeaning × Outcome)) (plan : PlanValue) (meaning : Meaning) (t : Tree Leaf) (s : State) (es : List Event) (mid : State) (e : Event) (end : State)
@@ -56,7 +55,7 @@ started_still B C i old new job keeps s = let p = s.prepared in record {
     planned = p.planned;
     at = p.at;
     tree = p.tree;
-    together = together_stays keeps (record { sources = refl; finished = λ k f at. at }) p.planned.lines p.tree p.together;
+    together = together_stays keeps {old = old} {new = old} (record { sources = refl; finished = λ k f at. at }) p.planned.lines p.tree p.together;
     number = p.number;
     of_step = p.of_step;
     frame = p.frame;
@@ -76,20 +75,6 @@ module _ (A : Type 0) (y : Yields) (told : Telling) where
   -- what has finished in the one, has in the other
   abbrev Grown : EngineValue → EngineValue → Type 0
   Grown old new = (i : ℕ) (f : FinishedValue) → finished_in i old ≡ Some f → finished_in i new ≡ Some f
-
-  same_finished : (old new : EngineValue) → new.finished ≡ old.finished → Grown old new
-  same_finished old new same i f at = ap (λ fs. at_number fs i) same ∙ at
-
-  does_grow : (later : List Call) (c : Call) (old new : EngineValue) → Does A y told later c old new → Grown old new
-  does_grow later (started i id) old new w = same_finished old new (ap (λ (e : EngineValue). e.finished) w.is.after)
-  does_grow later (launched id d x) old new w = same_finished old new (ap (λ (e : EngineValue). e.finished) w.same)
-  does_grow later (ran id d v) old new w = grows w.finished
-  does_grow later (taken id d v) old new w = grows w.finished
-  does_grow later (lost id) old new (j, at, gone) = same_finished old new (ap (λ (e : EngineValue). e.finished) gone)
-
-  leads_grow : (most : ℕ) (cs : List Call) (old new : EngineValue) → Leads A y told most cs old new → Grown old new
-  leads_grow most [] old new same i f at = same_finished old new (ap (λ (e : EngineValue). e.finished) same) i f at
-  leads_grow most (c ∷ cs) old new (mid, does, few, rest) i f at = leads_grow most cs mid new rest i f (does_grow cs c old mid does i f at)
 
   -- ---- from call to call
 
@@ -180,7 +165,7 @@ module _ (A : Type 0) (y : Yields) (told : Telling) where
 
     leads_at : (cs : List Call) → AreAmong cs → (e : EngineValue) → Leads A y told most cs e last → IsAt e → IsAt last
     leads_at [] up e same h = subst IsAt (sym same) h
-    leads_at (c ∷ cs) up e (mid, does, few, rest) h = leads_at cs (behind c cs up) mid rest (does_at cs c up e mid does h (leads_grow most (c ∷ cs) e last (mid, does, few, rest)))
+    leads_at (c ∷ cs) up e (mid, does, few, rest) h = leads_at cs (behind c cs up) mid rest (does_at cs c up e mid does h (calls_same A y told most (c ∷ cs) e last (mid, does, few, rest)).finished)
 
     opened_at : (first : EngineValue) → IsEngine first → IsOpened told.blobs plan sources first → IsAt first
     opened_at first engine opened = record {
@@ -200,7 +185,7 @@ module _ (A : Type 0) (y : Yields) (told : Telling) where
 pub as_run : (A : Type 0) (y : Yields) (plan : PlanValue) (sources : DigestValue) (before told : Telling) (most : ℕ) (first last : EngineValue) → IsPlan plan → IsEngine first → IsOpened before.blobs plan sources first → KeepsRight before.blobs told.blobs
     → (led : IsLed A y told most first last) → (t : Tree Leaf) (meaning : Meaning) (X : List (ActionMeaning × Outcome)) → IsAbout plan sources told.blobs led.calls last t meaning X → IsARun told.blobs last t meaning X
 as_run A y plan sources before told most first last valid engine opened still led t meaning X about =
-    let same : last.plan ≡ plan = led_plan led ∙ opened.plan in
+    let same : last.plan ≡ plan = (led_same A y told most led).plan ∙ opened.plan in
     let at = leads_at A y told most plan sources valid led.calls last same t meaning X about led.calls (λ d v h. h) first led.leads
     (opened_at A y told most plan sources valid led.calls last same t meaning X about first engine (opened_still before.blobs told.blobs plan sources first still opened)) in
     record { events = at.events; state = at.state; mirrored = mirrored A y told most plan sources valid led.calls last same t meaning X about told.blobs last (λ b value. value) at (λ i f there. there) }

@@ -1,48 +1,78 @@
 -- That a build ran, or that memory ran out before one did; and where each step has finished there is
 -- a record.
-use Rattle.std.proofs.Common.{◌≡◌, ℕ, List, [], ◌∷◌, Option, Some, None, Result, Err, IfErr, refl, ap, ◌∙◌, subst, sym}
+use Rattle.std.proofs.Common.{◌≡◌, ℕ, List, [], ◌∷◌, Option, Some, None, Result, Err, refl, ap, ◌∙◌, subst}
 use Rattle.std.specs.Prelude.{IsSome, option_map}
 use Rattle.std.specs.List.{AllByRecursion}
 use Rattle.std.specs.Result.{IsErrAnd}
 use Rattle.std.proofs.lemmas.Result.{err_from_is_err_and}
 use Rattle.blob_digest.specs.Digest.{DigestValue}
 use Rattle.blob_source.specs.Source.{AsksSome, Telling}
+use Rattle.blob_source.proofs.Asking.{asks_none}
 use Rattle.plan.specs.Record.{RecordValue, names_of}
 use Rattle.plan.specs.Values.{PlanValue}
 use Rattle.runs.specs.Calls.{HaveAllFinished, IsOpened, kept_digests, record_of}
 use Rattle.runs.specs.Engine.{FinishedValue, EngineValue}
 use Rattle.runs.specs.declared.error.OpenError.TheVariants as opening
-use Rattle.worker.specs.Calls.{IsBuiltWith}
+use Rattle.worker.specs.Calls.{running, IsBuiltWith}
 use Rattle.worker.specs.Outcomes.{Yields}
-use Rattle.worker.specs.Values.{Starts}
-use Rattle.builder.specs.Built.{Ran, RanOrAsked}
-use Rattle.builder.specs.Refused.{IsBuildFault}
+use Rattle.worker.specs.Watching.{IsProgress, IsWatched}
+use Rattle.worker.proofs.Acts.{led_same, puts_act}
+use Rattle.builder.specs.Built.{Builds, BuiltValue, Ran, Seen}
+use Rattle.builder.specs.Telling.{IsBuildTold, Tells}
+use Rattle.builder.specs.declared.error.BuildPlanError.{BuildPlanError}
 use Rattle.builder.specs.declared.error.BuildPlanError.TheVariants.{Opening}
 use Rattle.builder.specs.declared.fault.Fault.{Fault}
-use Rattle.builder.specs.Faults.{HasNoNumber}
+use Rattle.builder.specs.Faults.{fault_of}
 use Rattle.builder.specs.declared.fault.Fault.TheVariants.{Device, Fetch, Memory, Refused}
 use Rattle.builder.specs.declared.fault.Place.{Place}
+use Rattle.builder.specs.declared.telling.Told.{Told}
+use Rattle.builder.proofs.Serving.{none_finished}
 
-pub ran_by : (A : Type 0) (y : Yields) (most : ℕ) (plan : PlanValue) (sources : DigestValue) (from to : Starts) (before opening ending told : Telling) (first last : EngineValue) → AsksSome before opening → IsOpened opening.blobs plan sources first
-    → IsBuiltWith A y from to opening ending most first last → AsksSome ending told → Ran A y most plan sources from to before told last
-ran_by A y most plan sources from to before opening ending told first last asked opened led later = record { opening = opening; asked = asked; first = first; opened = opened; ending = ending; led = led; later = later }
+abbrev pub ran_by : (A : Type 0) (y : Yields) (most : ℕ) (plan : PlanValue) (sources : DigestValue) (old new : Seen) (opening ending : Telling) (first last : EngineValue) → AsksSome old.store opening → IsOpened opening.blobs plan sources first
+    → IsBuiltWith A y old.started new.started opening ending most first last → IsWatched (IsProgress A y ending most first) old.heard new.heard → AsksSome ending new.store → Ran A y most plan sources old new first last
+ran_by A y most plan sources old new opening ending first last asked opened led watched later =
+    let same = led_same A y ending most led.built.led in
+    record {
+      opening = opening;
+      asked = asked;
+      opened = opened;
+      ending = ending;
+      led = led;
+      of_plan = same.plan ∙ opened.plan;
+      of_sources = same.sources ∙ opened.sources;
+      own = puts_act A y ending most opening first last led.built (none_finished first opened.none_finished) (ap running opened.none_runs);
+      watched = watched;
+      later = later;
+    }
 
--- of a copy of the plan it is of the plan
-pub ran_same : (A : Type 0) (y : Yields) (most : ℕ) (copy plan : PlanValue) (sources : DigestValue) (from to : Starts) (before told : Telling) → copy ≡ plan → RanOrAsked A y most copy sources from to before told → RanOrAsked A y most plan sources from to before told
-ran_same A y most copy plan sources from to before told same h = subst (λ p. RanOrAsked A y most p sources from to before told) same h
+module _ {A : Type 0} (y : Yields) (most : ℕ) (plan : PlanValue) (sources : DigestValue) where
+  -- memory ran out, and nothing was done
+  pub none_told : (seen : Seen) (r : Result (Told A) Fault) → IsErrAnd r (λ x. x ≡ Memory) → IsBuildTold y most plan sources seen seen r
+  none_told seen r exit =
+      let p = err_from_is_err_and r exit in
+      rw (p.1, p.2) (record {
+        came = Err (Opening opening.Memory);
+        builds = record { asked = record { most = 0; asks = asks_none seen.store }; stands = tt; none = λ before h. h; unfailed = refl; unheard = refl };
+        tells = tt;
+      })
 
--- the exit of a `?` where memory ran out
-pub memory_told : {U : Type 0} (A : Type 0) (y : Yields) (most : ℕ) (plan : PlanValue) (sources : DigestValue) (told : Telling) (r : Result U Fault) → IsErrAnd r (λ x. x ≡ Memory) → IfErr r (IsBuildFault A y most plan sources told)
-memory_told A y most plan sources told r exit =
-    let p = err_from_is_err_and r exit in
-    rw (p.1, p.2) (record { error = Opening opening.Memory; stands = tt; is = refl })
+  module _ (old new : Seen) (copy : PlanValue) (came : Result BuiltValue (BuildPlanError A)) (same : copy ≡ plan) (builds : Builds A y most copy sources old new came) where
+    -- what came of a copy of the plan came of the plan
+    pub copy_told : (r : Result (Told A) Fault) → Tells plan r came → IsBuildTold y most plan sources old new r
+    copy_told r tells = record { came = came; builds = subst (λ p. Builds A y most p sources old new came) same builds; tells = tells }
 
--- what isn't refused has no number
-pub numberless : (f : Fault) → ((place : Place) (number : ℕ) → f ≡ Refused place number → ⊥) → HasNoNumber f
-numberless (Refused place number) other = absurd (other place number refl)
-numberless (Fetch place) other = tt
-numberless (Device place) other = tt
-numberless Memory other = tt
+    -- memory ran out as it was told
+    pub memory_told : (r : Result (Told A) Fault) → IsErrAnd r (λ x. x ≡ Memory) → IsBuildTold y most plan sources old new r
+    memory_told r exit =
+        let p = err_from_is_err_and r exit in
+        rw (p.1, p.2) (copy_told (Err Memory) tt)
+
+-- what isn't refused has no number, and is told
+pub fault_told : {A : Type 0} (plan : PlanValue) (error : BuildPlanError A) (fault : Fault) → fault ≡ fault_of error → ((place : Place) (number : ℕ) → fault ≡ Refused place number → ⊥) → Tells plan (Err fault) (Err error)
+fault_told plan error (Refused place number) is other = absurd (other place number refl)
+fault_told plan error (Fetch place) is other = (is, tt)
+fault_told plan error (Device place) is other = (is, tt)
+fault_told plan error Memory is other = tt
 
 kept_all : (fs : List (Option FinishedValue)) → AllByRecursion IsSome fs → (ds : List DigestValue) × (kept_digests fs ≡ Some ds)
 kept_all [] all = ([], refl)

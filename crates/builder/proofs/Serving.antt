@@ -24,7 +24,10 @@ use Rattle.verifier.specs.Build.{Meaning, ActionMeaning, action_digest, Outcome,
 use Rattle.verifier.proofs.FreshRuns.{one_answer}
 use Rattle.runs.specs.Calls.{IsFinished, IsOpened, placed, kept_digests}
 use Rattle.runs.specs.Engine.{FinishedValue, JobValue, EngineValue, IsEngine, at_number, finished_in, job_in}
-use Rattle.runs.specs.Looking.{LooksUpOrigin, Resolves, PutTogether}
+use Rattle.tree.specs.Stage.{◌and_then◌}
+use Rattle.verifier.specs.Together.{LooksUpOrigin, Resolves}
+use Rattle.verifier.proofs.VerdictOnceLines.{resolves_once}
+use Rattle.runs.specs.Looking.{outcomes_in, together_in}
 use Rattle.runs.specs.Mirrors.{IsConcernedIn, IsMirrored}
 use Rattle.runs.specs.Served.{IsLineOf, TellsWay, Serves}
 use Rattle.runs.proofs.Lost.{steady_of}
@@ -34,12 +37,12 @@ use Rattle.runs.proofs.Steady.{IsMade, made_of}
 use Rattle.worker.specs.Calls.{Call, started, launched, ran, taken, lost, WasStarted, Does, Leads, IsLed}
 use Rattle.worker.specs.Outcomes.{Yields}
 use Rattle.worker.specs.Stored.{IsToldOrTree, IsStored}
+use Rattle.worker.proofs.Acts.{led_same}
 use Rattle.worker.proofs.Started.{job_of, after}
 use Rattle.worker.proofs.Storing.{which, grows, right_blob}
 use Rattle.worker.proofs.Telling.{blob_still}
 use Rattle.builder.specs.Built.{BuiltValue, IsEnd, IsAnsweredYes}
-use Rattle.builder.proofs.Leading.{led_plan, led_frames, led_commands}
-use Rattle.builder.proofs.Staying.{GoesOn, together_stays, resolves_once}
+use Rattle.builder.proofs.Staying.{GoesOn, together_stays, valid_outcomes}
 
 -- ---- look-ups
 
@@ -77,10 +80,10 @@ module _ (B : Blobs) (S : List ℕ → Type 0) (reads : ReadsTrees S (TellsDirec
 
 -- ---- what lines of steps were put together
 
-lines_looked : (B : Blobs) (e : EngineValue) (ls : List LineValue) (xs : MergeLines) → Resolves B e ls xs
+lines_looked : (B : Blobs) (e : EngineValue) (ls : List LineValue) (xs : MergeLines) → Resolves B e.sources (outcomes_in e.finished) ls xs
     → (l : LineValue) → Contains ls l → (p : List Name) → l.origin ≡ source p → (x : NodeValue) × Looks B e.sources p (found x)
 lines_looked B e [] xs r l (k, lt, is) p from = absurd (omega (arith, lt))
-lines_looked B e (m ∷ ls) xs r l (zero, lt, is) p from = (r.0.node, subst (λ o. LooksUpOrigin B e o (found r.0.node)) (ap (λ (m : LineValue). m.origin) is ∙ from) r.1.node)
+lines_looked B e (m ∷ ls) xs r l (zero, lt, is) p from = (r.0.node, subst (λ o. LooksUpOrigin B e.sources (outcomes_in e.finished) o (found r.0.node)) (ap (λ (m : LineValue). m.origin) is ∙ from) r.1.node)
 lines_looked B e (m ∷ ls) xs r l (suc k, lt, is) p from = lines_looked B e ls r.2 r.3 l (k, omega (arith, lt), is) p from
 
 placed_which : (js : List (Option JobValue)) (w v : ℕ) (j k : JobValue) → at_number (placed js w j) v ≡ Some k → (at_number js v ≡ Some k) ⊎ (k ≡ j)
@@ -101,7 +104,7 @@ goes_as_it_is e = goes_with refl refl
 module _ (A : Type 0) (y : Yields) (t : Telling) (plan : PlanValue) where
   -- what a step's lines put together
   abbrev IsTogether : EngineValue → ℕ → Type 0
-  IsTogether e i = (step : StepValue) → slice_get plan.steps i ≡ Some step → (made : Tree NodeValue) × PutTogether t.blobs e step.lines made
+  IsTogether e i = (step : StepValue) → slice_get plan.steps i ≡ Some step → (made : Tree NodeValue) × (together_in t.blobs e step.lines).passes made
 
   -- those of each step that runs or has finished
   record AreTogether (e : EngineValue) : Type 0 where
@@ -126,7 +129,7 @@ module _ (A : Type 0) (y : Yields) (t : Telling) (plan : PlanValue) where
       here step at =
           let prepared = w.is.prepared in
           let same : prepared.planned ≡ step = one_answer (slice_get plan.steps i) prepared.planned step (sym (ap (λ (q : PlanValue). slice_get q.steps i) h.plan_is) ∙ prepared.at) at in
-          (prepared.tree, subst (λ (s : StepValue). PutTogether t.blobs old s.lines prepared.tree) same (together_stays w.still (goes_as_it_is old) prepared.planned.lines prepared.tree prepared.together))
+          (prepared.tree, subst (λ (s : StepValue). (together_in t.blobs old s.lines).passes prepared.tree) same (together_stays w.still (goes_as_it_is old) prepared.planned.lines prepared.tree prepared.together))
 
       by : (v : ℕ) (j : JobValue) → (at_number old.jobs v ≡ Some j) ⊎ (j ≡ job_of w) → IsTogether old j.step
       by v j (inl before) = h.runs v j before
@@ -194,7 +197,7 @@ module _ (A : Type 0) (y : Yields) (most : ℕ) (plan : PlanValue) (sources : Di
   })
 
   plan_is : last.plan ≡ plan
-  plan_is = led_plan led ∙ opened.plan
+  plan_is = (led_same A y ending most led).plan ∙ opened.plan
 
   kept : kept_digests last.finished ≡ Some b.noted.digests
   kept = recorded_of (kept_digests last.finished) (names_of last.plan) b.noted end.noted
@@ -207,17 +210,18 @@ module _ (A : Type 0) (y : Yields) (most : ℕ) (plan : PlanValue) (sources : Di
       (f.0, f.1)
 
   -- what the lines of a step or of the root put together
-  lines_together : (ls : List LineValue) → AreLinesOf last.plan ls → (made : Tree NodeValue) × PutTogether told.blobs last ls made
-  lines_together ls (inl is) = (end.root.tree, subst (λ ls. PutTogether told.blobs last ls end.root.tree) (sym is) end.root.together)
+  lines_together : (ls : List LineValue) → AreLinesOf last.plan ls → (made : Tree NodeValue) × (together_in told.blobs last ls).passes made
+  lines_together ls (inl is) = (end.root.tree, subst (λ ls. (together_in told.blobs last ls).passes end.root.tree) (sym is) end.root.together)
   lines_together ls (inr (i, step, at, is)) =
       let f = done i step at in
       let one = together.finished i f.0 f.1 step (subst (λ (q : PlanValue). slice_get q.steps i ≡ Some step) plan_is at) in
-      (one.0, subst (λ ls. PutTogether told.blobs last ls one.0) (sym is) (together_stays grown (goes_as_it_is last) step.lines one.0 one.1))
+      (one.0, subst (λ ls. (together_in told.blobs last ls).passes one.0) (sym is) (together_stays grown (goes_as_it_is last) step.lines one.0 one.1))
 
-  merges : (ls : List LineValue) → AreLinesOf last.plan ls → (xs : MergeLines) → Resolves told.blobs last ls xs → (u : Tree NodeValue) × (merged told.blobs xs).passes u
+  merges : (ls : List LineValue) → AreLinesOf last.plan ls → (xs : MergeLines) → Resolves told.blobs last.sources (outcomes_in last.finished) ls xs → (u : Tree NodeValue) × (merged told.blobs xs).passes u
+  unfolding ◌and_then◌
   merges ls of_plan xs r =
       let one = lines_together ls of_plan in
-      (one.0, subst (λ xs. (merged told.blobs xs).passes one.0) (resolves_once told.blobs last engine ls one.1.nodes xs one.1.resolved r) one.1.passes)
+      (one.0, subst (λ xs. (merged told.blobs xs).passes one.0) (resolves_once told.blobs last.sources (outcomes_in last.finished) (valid_outcomes last engine) ls one.1.0 xs one.1.1 r) one.1.2)
 
   module _ (t : Tree Leaf) (meaning : Meaning) (X : List (ActionMeaning × Outcome)) (es : List Event) (s : State) (k : IsMirrored told.blobs last t meaning X es s) where
     abbrev S : List ℕ → Type 0
@@ -228,9 +232,10 @@ module _ (A : Type 0) (y : Yields) (most : ℕ) (plan : PlanValue) (sources : Di
         (subst (λ d. LooksFrom (TellsDirectory told.blobs) (FailsDirectory told.blobs) p (Some (Dir d)) (found x)) (sym k.mirrors.sources) look)
 
     ways_of : (ls : List LineValue) → AreLinesOf last.plan ls → (l : LineValue) → Contains ls l → (p : List Name) → l.origin ≡ source p → TellsWay told.blobs t p
+    unfolding ◌and_then◌
     ways_of ls of_plan l inside p from =
         let one = (lines_together ls of_plan).1 in
-        let look = lines_looked told.blobs last ls one.nodes one.resolved l inside p from in
+        let look = lines_looked told.blobs last ls one.0 one.1 l inside p from in
         way_from p look.0 look.1
 
     ways : (l : LineValue) → IsLineOf last.plan l → (p : List Name) → l.origin ≡ source p → TellsWay told.blobs t p
@@ -271,8 +276,8 @@ module _ (A : Type 0) (y : Yields) (most : ℕ) (plan : PlanValue) (sources : Di
         command : IsTold IsCommand command_bytes opening.blobs a.frame.command a.command
         command =
             (opened.told.each i m.step a.frame a.command (subst (λ (q : PlanValue). slice_get q.steps i ≡ Some m.step) plan_is m.at)
-            (ap (λ fs. slice_get fs i) (sym (led_frames led)) ∙ k.mirrors.frames i m.step m.at ∙ m.frame)
-            (ap (λ cs. slice_get cs i) (sym (led_commands led)) ∙ k.mirrors.commands i m.step m.at ∙ m.command)).0.command
+            (ap (λ fs. slice_get fs i) (sym (led_same A y ending most led).frames) ∙ k.mirrors.frames i m.step m.at ∙ m.frame)
+            (ap (λ cs. slice_get cs i) (sym (led_same A y ending most led).commands) ∙ k.mirrors.commands i m.step m.at ∙ m.command)).0.command
 
     serves : NoClash (IsToldOrTree told.blobs last) → Serves told.blobs told.results last t meaning s
     serves apart = record { sources = ways; merges = merges; actions = actions; results = stored.results apart }

@@ -1,25 +1,23 @@
 -- What lines put together stays so where right bytes stay told, and as more steps finish.
-use Rattle.std.proofs.Common.{◌≡◌, ℕ, zero, suc, ◌<◌, List, [], ◌∷◌, ◌++◌, Option, Some, None, sym, ◌∙◌, subst, inl, inr}
+use Rattle.std.proofs.Common.{◌≡◌, ℕ, zero, suc, ◌<◌, List, [], ◌∷◌, ◌++◌, Option, Some, None, ap, sym, ◌∙◌, subst, inl, inr}
 use Rattle.messages.specs.declared.node.Node.TheVariants.{File, Link, Dir}
 use Rattle.messages.specs.Node.{child}
 use Rattle.blob_digest.specs.Digest.{DigestValue}
 use Rattle.blob_source.specs.Source.{Blobs}
 use Rattle.blob_source.specs.Sink.{KeepsRight}
 use Rattle.blob_source.specs.Told.{TellsDirectory, FailsDirectory}
-use Rattle.actions.specs.Outcome.{IsOutcome}
-use Rattle.actions.specs.OutcomeLookup.{LooksIn, LiesWithin}
-use Rattle.actions.proofs.Once.{looked_once, within_once}
+use Rattle.actions.specs.Outcome.{OutcomeValue, IsOutcome}
 use Rattle.plan.specs.Values.{OriginValue, source, output, LineValue}
 use Rattle.tree.specs.Tree.{Name, Tree, Entry}
 use Rattle.tree.specs.Form.{NodeValue}
-use Rattle.tree.specs.Lookup.{Looked, found, LooksFrom}
+use Rattle.tree.specs.Lookup.{found, LooksFrom}
 use Rattle.tree.specs.Stage.{Stage, ◌and_then◌}
 use Rattle.tree.specs.Merging.{WithinValue, in_source, in_tree, NodeWithin, MergeLines, MergeFault, grouped, counted, directory_read, node_opened, line_opened, opened, met, lone, stands_or, entry_merged, each_name, merged_in, merged}
-use Rattle.tree.proofs.LookupOnce.{looks_once}
-use Rattle.verifier.proofs.FreshRuns.{one_answer}
 use Rattle.runs.specs.Engine.{FinishedValue, EngineValue, IsEngine, finished_in}
-use Rattle.runs.specs.Looking.{LooksUpOrigin, OriginWithin, StandsAtOrigin, Resolves, PutTogether}
-use Rattle.runs.proofs.Places.{has_one, taken_within}
+use Rattle.verifier.specs.Together.{StandsAtOrigin, Resolves}
+use Rattle.verifier.proofs.VerdictOnceLines.{AreValidIn}
+use Rattle.runs.specs.Looking.{outcomes_in, together_in}
+use Rattle.runs.proofs.Places.{has_one, taken_within, outcome_is, finished_of}
 use Rattle.worker.proofs.Telling.{told_still}
 
 -- ---- what passes one check passes the other
@@ -91,53 +89,31 @@ pub record GoesOn (old new : EngineValue) : Type 0 where
   pub finished : (i : ℕ) (f : FinishedValue) → finished_in i old ≡ Some f → finished_in i new ≡ Some f
 
 module _ {B C : Blobs} (keeps : KeepsRight B C) {old new : EngineValue} (more : GoesOn old new) where
-  origin_stays : (o : OriginValue) (x : NodeWithin) → StandsAtOrigin B old o x → StandsAtOrigin C new o x
+  outcome_stays : (j : ℕ) (o : OutcomeValue) → outcomes_in old.finished j ≡ Some o → outcomes_in new.finished j ≡ Some o
+  outcome_stays j o at = let f = finished_of old.finished j o at in outcome_is new.finished j f.0 (more.finished j f.0 f.1) ∙ ap Some f.2
+
+  origin_stays : (o : OriginValue) (x : NodeWithin) → StandsAtOrigin B old.sources (outcomes_in old.finished) o x → StandsAtOrigin C new.sources (outcomes_in new.finished) o x
   origin_stays (source p) x h = record {
     node = subst (λ d. LooksFrom (TellsDirectory C) (FailsDirectory C) p (Some (Dir d)) (found x.node)) (sym more.sources) (looks_still keeps p (Some (Dir old.sources)) x.node h.node);
     within = h.within;
   }
   origin_stays (output j p) x h = record {
-    node = (h.node.0, more.finished j h.node.0 h.node.1, h.node.2);
-    within = (h.within.0, more.finished j h.within.0 h.within.1, h.within.2);
+    node = (h.node.0, outcome_stays j h.node.0 h.node.1, h.node.2);
+    within = (h.within.0, outcome_stays j h.within.0 h.within.1, h.within.2);
   }
 
-  resolves_stay : (ls : List LineValue) (xs : MergeLines) → Resolves B old ls xs → Resolves C new ls xs
+  resolves_stay : (ls : List LineValue) (xs : MergeLines) → Resolves B old.sources (outcomes_in old.finished) ls xs → Resolves C new.sources (outcomes_in new.finished) ls xs
   resolves_stay [] xs h = h
   resolves_stay (l ∷ ls) xs h = (h.0, origin_stays l.origin h.0 h.1, h.2, resolves_stay ls h.2 h.3, h.4)
 
-  pub together_stays : (ls : List LineValue) (t : Tree NodeValue) → PutTogether B old ls t → PutTogether C new ls t
-  together_stays ls t h = record { nodes = h.nodes; resolved = resolves_stay ls h.nodes h.resolved; passes = (merged_stays keeps h.nodes).still t h.passes }
+  pub together_stays : (ls : List LineValue) (t : Tree NodeValue) → (together_in B old ls).passes t → (together_in C new ls).passes t
+  unfolding ◌and_then◌
+  together_stays ls t h = (h.0, resolves_stay ls h.0 h.1, (merged_stays keeps h.0).still t h.2)
 
 -- ---- lines resolve to one thing
 
-found_is : (x y : NodeValue) → found x ≡ found y → x ≡ y
-found_is x y e = cc
-
-module _ (B : Blobs) (e : EngineValue) (engine : IsEngine e) where
-  valid : (j : ℕ) (f : FinishedValue) → finished_in j e ≡ Some f → IsOutcome f.outcome
-  valid j f is =
-      let c = has_one e.commands j (subst (λ n. j < n) (engine.count ∙ sym engine.stand.commands_count) (taken_within e.finished j f is)) in
-      (engine.taken j f c.0 is c.1).valid
-
-  looks_at_once : (o : OriginValue) (r s : Looked) → LooksUpOrigin B e o r → LooksUpOrigin B e o s → r ≡ s
-  looks_at_once (source p) r s h k = looks_once B e.sources p r s h k
-  looks_at_once (output j p) r s h k =
-      looked_once h.0.outcome p r s (valid j h.0 h.1) h.2 (subst (λ (f : FinishedValue). LooksIn f.outcome p s) (one_answer (finished_in j e) k.0 h.0 k.1 h.1) k.2)
-
-  within_at_once : (o : OriginValue) (v w : WithinValue) → OriginWithin e o v → OriginWithin e o w → v ≡ w
-  within_at_once (source p) v w h k = h ∙ sym k
-  within_at_once (output j p) v w h k =
-      within_once h.0.outcome p v w (valid j h.0 h.1) h.2 (subst (λ (f : FinishedValue). LiesWithin f.outcome p w) (one_answer (finished_in j e) k.0 h.0 k.1 h.1) k.2)
-
-  stands_once : (o : OriginValue) (x y : NodeWithin) → StandsAtOrigin B e o x → StandsAtOrigin B e o y → x ≡ y
-  stands_once o x y h k =
-      let node = found_is x.node y.node (looks_at_once o (found x.node) (found y.node) h.node k.node) in
-      let within = within_at_once o x.within y.within h.within k.within in
-      λ i. record { node = node i; within = within i }
-
-  pub resolves_once : (ls : List LineValue) (xs ys : MergeLines) → Resolves B e ls xs → Resolves B e ls ys → xs ≡ ys
-  resolves_once [] xs ys h k = h ∙ sym k
-  resolves_once (l ∷ ls) xs ys h k =
-      let nodes = stands_once l.origin h.0 k.0 h.1 k.1 in
-      let rest = resolves_once ls h.2 k.2 h.3 k.3 in
-      h.4 ∙ (λ i. (l.target, nodes i) ∷ rest i) ∙ sym k.4
+pub valid_outcomes : (e : EngineValue) → IsEngine e → AreValidIn (outcomes_in e.finished)
+valid_outcomes e engine j o at =
+    let f = finished_of e.finished j o at in
+    let c = has_one e.commands j (subst (λ n. j < n) (engine.count ∙ sym engine.stand.commands_count) (taken_within e.finished j f.0 f.1)) in
+    subst IsOutcome f.2 (engine.taken j f.0 c.0 f.1 c.1).valid

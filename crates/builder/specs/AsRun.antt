@@ -20,8 +20,8 @@ FinishedWith (taken id e w ∷ cs) d v = ((d ≡ e) × (v ≡ w)) ⊎ FinishedWi
 FinishedWith (c ∷ cs) d v = FinishedWith cs d v
 
 -- What the build is about: sources with the digest, what the steps mean, and a table that says of
--- each action of a run an outcome of the form that a job of it finished with. No two different blobs
--- concerned in a run share a digest.
+-- each action of a run an outcome of the form that a job of it finished with. No two different
+-- blobs concerned in a run share a digest.
 pub record IsAbout (plan : PlanValue) (sources : DigestValue) (B : Blobs) (calls : List Call)
     (last : EngineValue) (t : Tree Leaf) (meaning : Meaning)
     (X : List (ActionMeaning × Outcome)) : Type 0 where

@@ -1,27 +1,35 @@
 -- What a build came to.
-use Rattle.std.specs.Prelude.{◌≡◌, ◌⊎◌, ℕ, List, length, Some}
+use Rattle.std.specs.Prelude.{◌≡◌, ℕ, List, length, Option, Some, None, Result, Ok, Err}
+use Rattle.std.specs.List.{AllByRecursion}
 use Rattle.blob_digest.specs.Digest.{DigestValue, NoClash}
-use Rattle.blob_source.specs.Sink.{KeepsRight}
 use Rattle.blob_source.specs.Source.{AsksSome, Blobs, Telling}
 use Rattle.plan.specs.Record.{RecordValue}
 use Rattle.plan.specs.Values.{PlanValue}
-use Rattle.runs.specs.Calls.{HaveAllFinished, IsOpened, record_of}
+use Rattle.runs.specs.Calls.{HaveAllFinished, IsOpened, IsOpenFault, IsRootFault, record_of}
 use Rattle.runs.specs.Engine.{EngineValue}
-use Rattle.runs.specs.Looking.{PutTogether}
+use Rattle.runs.specs.Looking.{together_in}
 use Rattle.runs.specs.Mirrors.{IsMirrored}
 use Rattle.runs.specs.Served.{IsServedYes}
+use Rattle.runs.specs.declared.error.OpenError.{OpenError}
+use Rattle.runs.specs.declared.error.RunsError.{RunsError}
 use Rattle.tree.specs.Folded.{first_visits}
 use Rattle.tree.specs.Form.{NodeValue, root}
 use Rattle.tree.specs.Tree.{Tree, Leaf}
 use Rattle.verifier.specs.Build.{Meaning, ActionMeaning, Outcome, Event, State}
 use Rattle.verifier.specs.Verdict.{IsVerdict}
 use Rattle.verifier.specs.declared.verdict.Verdict.TheVariants.{Yes}
-use Rattle.worker.specs.Calls.{IsBuiltBy, IsBuiltWith}
+use Rattle.worker.specs.Calls.{IsBuiltWith}
 use Rattle.worker.specs.Outcomes.{Yields}
+use Rattle.worker.specs.Steps.{IsActionOf}
+use Rattle.worker.specs.Stopped.{IsRefusedBuild}
 use Rattle.worker.specs.Stored.{IsToldOrTree, IsStored}
 use Rattle.worker.specs.Values.{Starts, StartsNone}
+use Rattle.worker.specs.Watching.{IsProgress, IsUpToDate, IsWatched}
+use Rattle.worker.specs.declared.watching.Progress.{Progress}
+use Rattle.builder.specs.declared.error.BuildPlanError.{BuildPlanError}
+use Rattle.builder.specs.declared.error.BuildPlanError.TheVariants.{Opening, Step, Root}
 
--- the root, the Directories of its tree that were made, and the digests of the actions that finished
+-- the root, the Directories made for its tree, and the digests of the actions that finished
 pub record BuiltValue : Type 0 where
   pub root : DigestValue
   pub directories : List (List ℕ)
@@ -31,7 +39,7 @@ pub record BuiltValue : Type 0 where
 -- distinct Directory that is made for it once, in the order of their first visits.
 pub record AreRootOf (B : Blobs) (e : EngineValue) (b : BuiltValue) : Type 0 where
   pub tree : Tree NodeValue
-  pub together : PutTogether B e e.plan.root_lines tree
+  pub together : (together_in B e e.plan.root_lines).passes tree
   pub same : b.root ≡ root tree
   pub directories : b.directories ≡ first_visits tree
 
@@ -55,52 +63,76 @@ pub record IsAnsweredYes (A : Type 0) (told : Telling) (last : EngineValue)
       → IsVerdict {A = A} told last.sources last.plan b.noted.digests b.root
       (Yes b.root (length last.plan.steps))
 
--- Calls led from an engine of the plan, as the store told it, to one in which each step has
--- finished. What each step came to, the runner yielded or the store had recorded, and the store has
--- it. Results are put for those alone that the runner yielded, and others stay. The root and the
--- record are that engine's, and are answered yes by what the store told.
-pub record IsBuilt (A : Type 0) (yields : Yields) (most : ℕ) (plan : PlanValue)
-    (sources : DigestValue) (told : Telling) (b : BuiltValue) : Type 0 where
-  pub opening : Telling
-  pub first : EngineValue
-  pub opened : IsOpened opening.blobs plan sources first
-  -- what the store told when the last step had finished
-  pub ending : Telling
-  pub still : KeepsRight opening.blobs ending.blobs
-  pub last : EngineValue
-  pub led : IsBuiltBy A yields opening ending most first last
-  pub of_plan : last.plan ≡ plan
-  pub of_sources : last.sources ≡ sources
-  -- the store is only asked after that
-  pub asked : AsksSome ending told
-  pub stored : IsStored told last
-  pub end : IsEnd A last told b
-  pub answered : IsAnsweredYes A told last b
+-- All that contracts see of a build's store, runner and watcher: what the store tells, which
+-- children the runner may have started, how often it failed, and what the watcher was told.
+pub record Seen : Type 1 where
+  pub store : Telling
+  pub started : Starts
+  pub failed : ℕ
+  pub heard : Option (List Progress)
 
--- A build of the plan ran: an engine was opened by what the store told as it was asked, calls led
--- from it to another, and then the store was only asked. The children that were started and the
--- results that were put are those of the calls.
-pub record Ran (A : Type 0) (yields : Yields) (most : ℕ) (plan : PlanValue)
-    (sources : DigestValue) (from to : Starts) (before told : Telling) (last : EngineValue)
-    : Type 0 where
-  pub opening : Telling
-  pub asked : AsksSome before opening
-  pub first : EngineValue
-  pub opened : IsOpened opening.blobs plan sources first
-  pub ending : Telling
-  pub led : IsBuiltWith A yields from to opening ending most first last
-  pub later : AsksSome ending told
+abbrev pub seen : Telling → Starts → ℕ → Option (List Progress) → Seen
+seen store started failed heard =
+    record { store = store; started = started; failed = failed; heard = heard }
 
--- A build ran, whatever it came to; or no engine was opened, the store was only asked, and no child
--- was started.
-abbrev pub RanOrAsked : (A : Type 0) → Yields → ℕ → PlanValue → DigestValue → Starts → Starts
-    → Telling → Telling → Type 0
-RanOrAsked A yields most plan sources from to before told =
-    ((last : EngineValue) × Ran A yields most plan sources from to before told last)
-    ⊎ (AsksSome before told × StartsNone from to)
+-- a store that tells this, where nothing is said of the runner and of the watcher
+abbrev pub store_alone : Telling → Seen
+store_alone told = seen told (λ children. Unit {0}) 0 None
 
--- a build ran to an engine with this root and this record
-abbrev pub RanTo : (A : Type 0) → Yields → ℕ → PlanValue → DigestValue → Starts → Starts
-    → Telling → Telling → BuiltValue → Type 0
-RanTo A yields most plan sources from to before told b = (last : EngineValue)
-    × Ran A yields most plan sources from to before told last × IsEnd A last told b
+module _ (A : Type 0) (yields : Yields) (most : ℕ) (plan : PlanValue) (sources : DigestValue)
+    (old new : Seen) where
+  -- A build of the plan: an engine was opened by what the store told as it was asked, calls led
+  -- from it to another, and then the store was only asked. The children that were started, the
+  -- results that were put and the numbers that the watcher was told are those of the calls.
+  pub record Ran (first last : EngineValue) : Type 0 where
+    pub opening : Telling
+    pub asked : AsksSome old.store opening
+    pub opened : IsOpened opening.blobs plan sources first
+    -- what the store told after the calls
+    pub ending : Telling
+    pub led : IsBuiltWith A yields old.started new.started opening ending most first last
+    pub of_plan : last.plan ≡ plan
+    pub of_sources : last.sources ≡ sources
+    -- each result was put under the action of a step of the plan
+    pub own : AllByRecursion (λ d. (i : ℕ) × IsActionOf A ending.blobs last i d) led.built.puts.put
+    pub watched : IsWatched (IsProgress A yields ending most first) old.heard new.heard
+    pub later : AsksSome ending new.store
+
+  -- A build came to its root: each step has finished, and the store has what it came to. The root
+  -- and the record are answered yes by what the store told, and the watcher was told of the end.
+  pub record IsRootOf (first last : EngineValue) (ending : Telling) (b : BuiltValue)
+      : Type 0 where
+    pub end : IsEnd A last new.store b
+    pub stored : IsStored new.store last
+    pub answered : IsAnsweredYes A new.store last b
+    pub heard : IsUpToDate A yields ending most first last old.heard new.heard
+    pub unfailed : new.failed ≡ old.failed
+
+  -- each step has finished, and the root is refused
+  pub record RefusesRoot (last : EngineValue) (error : RunsError A) : Type 0 where
+    pub complete : HaveAllFinished last
+    pub stands : IsRootFault new.store.blobs last error
+    pub unfailed : new.failed ≡ old.failed
+
+  -- The plan is refused, at its first step without a meaning: the store was only asked.
+  pub record RefusesPlan (error : OpenError A) : Type 0 where
+    pub asked : AsksSome old.store new.store
+    pub stands : IsOpenFault new.store.blobs plan.steps error
+    pub none : StartsNone old.started new.started
+    pub unfailed : new.failed ≡ old.failed
+    pub unheard : new.heard ≡ old.heard
+
+  -- what a build came to: its root, or the refusal of a step or of the root
+  abbrev pub EndsWith : EngineValue → EngineValue → Telling
+      → Result BuiltValue (BuildPlanError A) → Type 0
+  EndsWith first last ending (Ok b) = IsRootOf first last ending b
+  EndsWith first last ending (Err (Opening error)) = ⊥
+  EndsWith first last ending (Err (Step error)) =
+      IsRefusedBuild A yields new.store most first error.step error.refusal
+  EndsWith first last ending (Err (Root error)) = RefusesRoot last error
+
+  -- what came of the plan: it was refused, or one build of it ran and came to this
+  abbrev pub Builds : Result BuiltValue (BuildPlanError A) → Type 0
+  Builds (Err (Opening error)) = RefusesPlan error
+  Builds came = (first : EngineValue) × (last : EngineValue) × (ran : Ran first last)
+      × EndsWith first last ran.ending came

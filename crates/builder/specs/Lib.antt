@@ -3,6 +3,4 @@ pub mod Faults
 pub mod Lines
 pub mod Why
 pub mod Telling
-pub mod Refused
-pub mod Watched
 pub mod AsRun

@@ -1,14 +1,11 @@
-ghost use Rattle.std.specs.Prelude.{◌≡◌, ◌<◌, IfErr, IfOk, IsErrOf, OnOk, length};
+ghost use Rattle.std.specs.Prelude.{◌≡◌, ◌<◌, IfErr, IfOk, IsErrOf};
 ghost use Rattle.std.specs.Result.{IsErrAnd};
 ghost use Rattle.blob_source.specs.Called.{Called};
 ghost use Rattle.blob_source.specs.Sink.{KeepsRight};
-ghost use Rattle.builder.specs.Built.{IsBuilt, IsEnd, RanOrAsked, RanTo};
+ghost use Rattle.builder.specs.Built.{Builds, IsEnd, seen};
 ghost use Rattle.builder.specs.Faults.{IsRunnerFailure, IsStoreFailure, fault_of};
-ghost use Rattle.builder.specs.Refused.{IsBuildError};
-ghost use Rattle.builder.specs.Watched.{IsProgressOfPlan, IsToldWhole};
 ghost use Rattle.runs.specs.Calls.{HaveAllFinished, IsRootFault};
 ghost use Rattle.worker.specs.Counted.{Counts};
-ghost use Rattle.worker.specs.Watching.{IsWatched};
 
 use crate::error::BuildPlanError;
 use blob_digest::Digest;
@@ -80,29 +77,17 @@ pub fn build_plan<A: Allocator + Copy, S: BlobSink<A>, N: Runner<A>, W: Watcher>
     jobs: usize,
 ) -> Result<Built<A>, BuildPlanError<A>>
     requires some { 0 < jobs }
-    // Whatever it answers: the children that were started and the results that were put are those of
-    // a build of the plan, from what the store told before. The root and the record are of that
-    // build.
-    ensures ran { RanOrAsked A (N.yields runner.old) jobs plan sources (N.starts runner.old)
-        (N.starts runner.new) (S.tells sink.old) (S.tells sink.new) }
-    ensures root { IfOk result (RanTo A (N.yields runner.old) jobs plan sources
-        (N.starts runner.old) (N.starts runner.new) (S.tells sink.old) (S.tells sink.new)) }
-    // The root and the record are those of an engine of the plan in which each step has finished,
-    // with what the runner yielded or the store had recorded. By what the store told, the verdict
-    // on them is yes.
-    ensures built { IfOk result
-        (IsBuilt A (N.yields runner.old) jobs plan sources (S.tells sink.new)) }
-    // The error is that of the plan, of a step or of the root, where that is refused.
-    ensures refused { IfErr result
-        (IsBuildError (N.yields runner.old) jobs plan sources (S.tells sink.new)) }
+    // One build of the plan ran, from what the store told before, or none was opened: the children,
+    // the results and the numbers that the watcher was told are those of its calls. It came to its
+    // root, which is answered yes; or the plan, a step or the root is refused, as the error says.
+    ensures build { Builds A (N.yields runner.old) jobs plan sources
+        (seen (S.tells sink.old) (N.starts runner.old) (N.failures runner.old)
+        (W.told watcher.old))
+        (seen (S.tells sink.new) (N.starts runner.new) (N.failures runner.new)
+        (W.told watcher.new)) result }
     // Each child that was started was waited for.
     ensures alive { N.alive runner.new ≡ N.alive runner.old }
     ensures right { KeepsRight (S.tells sink.old).blobs (S.tells sink.new).blobs }
-    // The watcher is told numbers of this build alone, and last that each step has finished.
-    ensures watched { IsWatched (IsProgressOfPlan A (N.yields runner.old) jobs plan sources
-        (S.tells sink.old) (S.tells sink.new)) (W.told watcher.old) (W.told watcher.new) }
-    ensures whole { OnOk result
-        (IsToldWhole (length plan.steps) (W.told watcher.old) (W.told watcher.new)) }
     // The store failed exactly where that is told, and the runner at least there.
     ensures fetched { Counts (S.tells sink.old).failures (S.tells sink.new).failures
         (IsErrAnd result (λ e. IsStoreFailure (fault_of e))) }

@@ -1,13 +1,10 @@
-ghost use Rattle.std.specs.Prelude.{◌≡◌, ◌<◌, IfErr, IfOk, length};
-ghost use Rattle.blob_source.specs.Sink.{KeepsRight};
-ghost use Rattle.builder.specs.Faults.{HasNoNumber, IsRunnerFailure, IsStoreFailure};
+ghost use Rattle.std.specs.Prelude.{◌≡◌, ◌<◌, IfOk, Ok};
 ghost use Rattle.std.specs.Result.{IsErrAnd};
+ghost use Rattle.blob_source.specs.Sink.{KeepsRight};
+ghost use Rattle.builder.specs.Built.{seen};
+ghost use Rattle.builder.specs.Faults.{IsRunnerFailure, IsStoreFailure};
+ghost use Rattle.builder.specs.Telling.{IsBuildTold, Tells};
 ghost use Rattle.worker.specs.Counted.{Counts};
-ghost use Rattle.builder.specs.Built.{RanOrAsked};
-ghost use Rattle.builder.specs.Refused.{IsBuildFault};
-ghost use Rattle.builder.specs.Telling.{IsBuildTold};
-ghost use Rattle.builder.specs.Watched.{IsProgressOfPlan, IsToldWholeOf};
-ghost use Rattle.worker.specs.Watching.{IsWatched};
 
 use crate::building::{Built, build_plan};
 use crate::fault::{Fault, fault_of};
@@ -51,7 +48,26 @@ fn copy_of<A: Allocator + Copy>(alloc: A, plan: &Plan<A>) -> Result<Plan<A>, All
     }
 }
 
-#[tactic(auto, using(crate::proofs::Refusing::memory_told, crate::proofs::Refusing::ran_same))]
+/// The line, the text of the record and the Directories of a build that came to its root.
+fn tell_root<A: Allocator + Copy>(
+    alloc: A,
+    plan: &Plan<A>,
+    built: Built<A>,
+) -> Result<Told<A>, AllocError>
+    ensures { IfOk result (λ told. Tells plan.now (Ok told) (Ok built)) }
+{
+    let Built {
+        root,
+        directories,
+        noted,
+    } = built;
+    Ok(Told::Built {
+        line: built_line(alloc, &root, plan)?,
+        noted: noted.write(alloc)?,
+        directories,
+    })
+}
+
 /// Builds a plan, as `build_plan` does, and tells what it came to in a line; and in the text of the
 /// record, where it came to its root, or in words, why it was refused.
 pub fn tell_build<A: Allocator + Copy, S: BlobSink<A>, N: Runner<A>, W: Watcher>(
@@ -64,25 +80,16 @@ pub fn tell_build<A: Allocator + Copy, S: BlobSink<A>, N: Runner<A>, W: Watcher>
     jobs: usize,
 ) -> Result<Told<A>, Fault>
     requires some { 0 < jobs }
-    // Whatever it answers: the children that were started and the results that were put are those of
-    // a build of the plan, from what the store told before.
-    ensures ran { RanOrAsked A (N.yields runner.old) jobs plan.now sources.now
-        (N.starts runner.old) (N.starts runner.new) (S.tells sink.old) (S.tells sink.new) }
-    // The line and the record are those of such a build; or line and words tell its refusal.
-    ensures told { IfOk result
-        (IsBuildTold (N.yields runner.old) jobs plan.now sources.now (S.tells sink.new)) }
-    // It fails where the store or the runner does, or memory runs out.
-    ensures failed { IfErr result HasNoNumber }
-    ensures refused { IfErr result
-        (IsBuildFault A (N.yields runner.old) jobs plan.now sources.now (S.tells sink.new)) }
+    // What is told is what came of the plan: the line, the record and the Directories are those of a
+    // build that came to its root; or line and words tell the refusal; or the fault has no number.
+    ensures told { IsBuildTold (N.yields runner.old) jobs plan.now sources.now
+        (seen (S.tells sink.old) (N.starts runner.old) (N.failures runner.old)
+        (W.told watcher.old))
+        (seen (S.tells sink.new) (N.starts runner.new) (N.failures runner.new)
+        (W.told watcher.new)) result }
     // Each child that was started was waited for.
     ensures alive { N.alive runner.new ≡ N.alive runner.old }
     ensures right { KeepsRight (S.tells sink.old).blobs (S.tells sink.new).blobs }
-    // The watcher is told numbers of this build alone, and last that each step has finished.
-    ensures watched { IsWatched (IsProgressOfPlan A (N.yields runner.old) jobs plan.now sources.now
-        (S.tells sink.old) (S.tells sink.new)) (W.told watcher.old) (W.told watcher.new) }
-    ensures whole { IfOk result (λ told. IsToldWholeOf told (length plan.now.steps)
-        (W.told watcher.old) (W.told watcher.new)) }
     // The store failed exactly where that is told, and the runner at least there.
     ensures fetched { Counts (S.tells sink.old).failures (S.tells sink.new).failures
         (IsErrAnd result IsStoreFailure) }
@@ -91,17 +98,7 @@ pub fn tell_build<A: Allocator + Copy, S: BlobSink<A>, N: Runner<A>, W: Watcher>
 {
     let copy = copy_of(alloc, plan)?;
     match build_plan(alloc, *sources, copy, sink, runner, watcher, jobs) {
-        Ok(
-            Built {
-                root,
-                directories,
-                noted,
-            },
-        ) => Ok(Told::Built {
-            line: built_line(alloc, &root, plan)?,
-            noted: noted.write(alloc)?,
-            directories,
-        }),
+        Ok(built) => Ok(tell_root(alloc, plan, built)?),
         Err(error) => match fault_of(&error) {
             Fault::Refused(place, number) => Ok(Told::Failed {
                 line: failed_line(alloc, plan, place, number)?,

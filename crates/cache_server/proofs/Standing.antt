@@ -8,8 +8,8 @@ use Rattle.http_core.specs.Session.{SessionValue, IsClosed, Leaves}
 use Rattle.http_core.specs.Session as sessions
 use Rattle.cache_server.specs.Cache.{CacheValue}
 use Rattle.cache_server.specs.History.{HistoryEntry, Piece, Fail, End, is_end, is_fail, bytes_over, since_end, until_fail, stream_of, has_failed, Gains, BringsAll, CacheAfter, AnswersTo}
-use Rattle.cache_server.specs.Server.{ServerValue, session_at, StandsSo, KeepsSession, ServerStands, StandsOrFails}
-use Rattle.cache_server.specs.Sessions.{KeepsOthers, IsSessionFor, IsClosedAt, ClosesAt}
+use Rattle.cache_server.specs.Server.{ServerValue, session_at, StandsSo, KeepsSession, ServerStands, StandsOrFails, KeepsOthers, IsSessionFor}
+use Rattle.cache_server.specs.Sessions.{IsClosedAt, ClosesAt}
 use Rattle.cache_server.proofs.Histories.{stream_aside, failed_more, failed_now, stream_ended, failed_ended}
 use Rattle.cache_server.proofs.Serving.{ServesAll, serves_none}
 use Rattle.cache_server.proofs.Gaining.{cache_more, answers_are, own_bytes, other_bytes, own_fail, other_fail, own_end, other_end, stream_open, stream_shut, gains_open, gains_none}
@@ -96,7 +96,7 @@ pub record HasFed (old : ServerValue) (k : ℕ) (bytes text : List ℕ) (new : S
   pub prefix : new.prefix ≡ old.prefix
   pub others : (j : ℕ) → (j ≡ k → ⊥) → session_at new j ≡ session_at old j
 
-held_session : (prefix : List ℕ) (o : Option SessionValue) (session : SessionValue) → o ≡ Some session → IsSessionFor prefix o session
+pub held_session : (prefix : List ℕ) (o : Option SessionValue) (session : SessionValue) → o ≡ Some session → IsSessionFor prefix o session
 held_session prefix o session e = subst (λ z. IsSessionFor prefix z session) (sym e) refl
 
 pub is_fed : (opening : CacheValue) (old new : ServerValue) (k : ℕ) (history : List HistoryEntry) (bytes text : List ℕ) → (f : HasFed old k bytes text new) → ServerStands opening old history → IsFed old.prefix k history bytes f.events f.after

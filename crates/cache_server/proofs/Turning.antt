@@ -10,12 +10,12 @@ use Rattle.http_core.specs.Event.{EventValue, IsValid}
 use Rattle.http_core.specs.Session.{SessionValue, IsClosed}
 use Rattle.http_core.specs.Session as sessions
 use Rattle.cache_server.specs.Cache.{CacheValue}
-use Rattle.cache_server.specs.History.{HistoryEntry, Piece, Fail, stream_of, CacheAfter, Brings, AnswersTo}
-use Rattle.cache_server.specs.Server.{ServerValue, session_at, StandsSo, KeepsSession, ServerStands, StandsOrFails, Continues}
-use Rattle.cache_server.specs.Sessions.{IsSessionFor, IsClosedAt, ClosesAt, OpensAt, FeedsFirstAt}
-use Rattle.cache_server.specs.Turn.{AnswersIfAny, AnswersOne, IsOneAnswerTo, Turns}
+use Rattle.cache_server.specs.History.{HistoryEntry, Piece, stream_of, CacheAfter, Brings, AnswersTo}
+use Rattle.cache_server.specs.Server.{ServerValue, session_at, StandsSo, KeepsSession, ServerStands, StandsOrFails, IsSessionFor}
+use Rattle.cache_server.specs.Sessions.{IsClosedAt, ClosesAt, OpensAt, FeedsFirstAt}
+use Rattle.cache_server.specs.Turn.{AnswersIfAny, AnswersOne, IsOneAnswerTo}
 use Rattle.cache_server.proofs.Serving.{ServesAll, serves_none, serves_one, serves_join}
-use Rattle.cache_server.proofs.Standing.{HasFed, is_fed, stands_fed, answers_fed, stands_broken}
+use Rattle.cache_server.proofs.Standing.{HasFed, held_session, is_fed, stands_fed, answers_fed, stands_broken}
 
 -- a connection with a fresh session stands as one without
 keeps_fresh : (prefix : List ℕ) (held : Option SessionValue) (session : SessionValue) (k : ℕ) (history : List HistoryEntry)
@@ -82,19 +82,37 @@ answers_if_any old new None (Some text) e = absurd e
 answers_if_any old new (Some event) None e = absurd e
 answers_if_any old new (Some event) (Some text) e = serves_one old new event text e
 
-pub fed_turn : (old : ServerValue) (k : ℕ) (piece : List ℕ) (taken : ℕ) (text : Option (List ℕ)) (new : ServerValue) → Turns old k piece taken text new → HasFed old k (take taken piece) (unwrap_or text []) new
-fed_turn old k piece taken text new t =
-    let same : (j : ℕ) → session_at new j ≡ session_at t.mid j = λ j. ap (λ z. session_at (record { cache = new.cache; prefix = new.prefix; sessions = z }) j) t.sessions in
+pub fed_turn : (old : ServerValue) (k : ℕ) (session : SessionValue) (piece : List ℕ) (taken : ℕ) (text : Option (List ℕ)) (new : ServerValue)
+    → session_at old k ≡ Some session → AnswersOne old k piece taken text new → HasFed old k (take taken piece) (unwrap_or text []) new
+fed_turn old k session piece taken text new e t =
+    let same : t.before ≡ session = subst (λ o. IsSessionFor old.prefix o t.before) e t.held in
     record {
-      before = t.feeds.before;
-      after = t.feeds.after;
+      before = t.before;
+      after = t.after;
       events = option_to_list t.event;
-      held = t.feeds.held;
-      feeds = t.feeds.feeds.feeds;
-      at = same k ∙ t.feeds.at;
-      answers = subst (λ z. ServesAll z (option_to_list t.event) (unwrap_or text []) new.cache) t.feeds.kept.cache (answers_if_any t.mid.cache new.cache t.event text t.answered);
-      prefix = t.prefix ∙ t.feeds.kept.prefix;
-      others = λ j n. same j ∙ t.feeds.kept.others j n;
+      held = e ∙ ap (λ z. Some z) (sym same);
+      feeds = t.takes.feeds;
+      at = t.at;
+      answers = answers_if_any old.cache new.cache t.event text t.answered;
+      prefix = t.prefix;
+      others = t.others;
+    }
+
+-- the event of the session that was held is answered
+pub first_answered : (old mid new : ServerValue) (k : ℕ) (piece : List ℕ) (taken : ℕ) (event : Option EventValue) (text : Option (List ℕ))
+    → FeedsFirstAt old k piece taken event mid → new.prefix ≡ mid.prefix → new.sessions ≡ mid.sessions → AnswersIfAny mid.cache event text new.cache → AnswersOne old k piece taken text new
+first_answered old mid new k piece taken event text f p m answered =
+    let same : (j : ℕ) → session_at new j ≡ session_at mid j = λ j. ap (λ z. session_at (record { cache = new.cache; prefix = new.prefix; sessions = z }) j) m in
+    record {
+      before = f.before;
+      after = f.after;
+      event = event;
+      held = held_session old.prefix (session_at old k) f.before f.held;
+      takes = f.feeds;
+      at = same k ∙ f.at;
+      others = λ j n. same j ∙ f.kept.others j n;
+      answered = subst (λ z. AnswersIfAny z event text new.cache) f.kept.cache answered;
+      prefix = p ∙ f.kept.prefix;
     }
 
 -- the event wasn't answered
@@ -129,10 +147,10 @@ module _ (opening : CacheValue) (old mid new : ServerValue) (k : ℕ) (history :
   opened_stands bytes text f = stands_fed opening mid new k history bytes text f (stands_opened opening old mid k history opens stands)
 
   -- the one answer of a turn
-  pub opened_answer : (piece : List ℕ) (taken : ℕ) (text : Option (List ℕ)) → Turns mid k piece taken text new → IsOneAnswerTo old.prefix opening history (Piece k (take taken piece)) (unwrap_or text [])
+  pub opened_answer : (piece : List ℕ) (taken : ℕ) (text : Option (List ℕ)) → AnswersOne mid k piece taken text new → IsOneAnswerTo old.prefix opening history (Piece k (take taken piece)) (unwrap_or text [])
   unfolding fed_turn
   opened_answer piece taken text t =
-      let f : HasFed mid k (take taken piece) (unwrap_or text []) new = fed_turn mid k piece taken text new t in
+      let f : HasFed mid k (take taken piece) (unwrap_or text []) new = fed_turn mid k opens.session piece taken text new opens.at t in
       let s : ServerStands opening mid history = stands_opened opening old mid k history opens stands in
       let brings : Brings mid.prefix history (Piece k (take taken piece)) (option_to_list t.event) = (is_fed opening mid new k history (take taken piece) (unwrap_or text []) f s).gains in
       subst (λ p. IsOneAnswerTo p opening history (Piece k (take taken piece)) (unwrap_or text [])) opens.kept.prefix (t.event, mid.cache, new.cache, s.cache, brings, f.answers)
@@ -153,50 +171,22 @@ taken_more piece at taken next rest e f = ap (λ z. take at piece ++ take taken 
 
 -- ---- one answer
 
-no_text : (old new : CacheValue) (event : Option EventValue) (text : Option (List ℕ)) → AnswersIfAny old event text new → text ≡ None → event ≡ None
-no_text old new None text e f = refl
-no_text old new (Some event) None e f = absurd e
-no_text old new (Some event) (Some text) e f = cc
-
-pub one_answer : (old mid new : ServerValue) (k : ℕ) (piece : List ℕ) (taken : ℕ) (text : Option (List ℕ)) → OpensAt old k mid → Turns mid k piece taken text new → AnswersOne old piece taken text new
+pub one_answer : (old mid new : ServerValue) (k : ℕ) (piece : List ℕ) (taken : ℕ) (text : Option (List ℕ)) → OpensAt old k mid → AnswersOne mid k piece taken text new → AnswersOne old k piece taken text new
 one_answer old mid new k piece taken text opens t =
-    let cache : t.mid.cache ≡ old.cache = t.feeds.kept.cache ∙ opens.kept.cache in
+    let same : t.before ≡ opens.session = subst (λ o. IsSessionFor mid.prefix o t.before) opens.at t.held in
     record {
-      within = t.feeds.feeds.within;
-      some = t.feeds.feeds.some;
-      all = λ none. t.feeds.feeds.all (no_text t.mid.cache new.cache t.event text t.answered none);
+      before = t.before;
+      after = t.after;
       event = t.event;
-      answered = subst (λ z. AnswersIfAny z t.event text new.cache) cache t.answered;
-      prefix = t.prefix ∙ t.feeds.kept.prefix ∙ opens.kept.prefix;
+      held = subst (IsSessionFor old.prefix (session_at old k)) (sym same) opens.held;
+      takes = t.takes;
+      at = t.at;
+      others = λ j n. t.others j n ∙ opens.kept.others j n;
+      answered = subst (λ z. AnswersIfAny z t.event text new.cache) opens.kept.cache t.answered;
+      prefix = t.prefix ∙ opens.kept.prefix;
     }
 
 -- what follows of a call's value and of its error
 pub of_result : {T E C : Type 0} (P : T → Type 0) (Q : Type 0) (r : Result T E) → IfOk r P → OnErr r Q → ((x : T) → P x → C) → (Q → C) → C
 of_result P Q (Ok x) p q f g = f x p
 of_result P Q (Err e) p q f g = g q
-
--- ---- runs of such calls
-
-pub goes_nowhere : (s : ServerValue) → Continues s s
-goes_nowhere s opening history stands = ([], subst (ServerStands opening s) (sym (append-nil history)) stands)
-
-pub goes_further : (a b c : ServerValue) → Continues a b → Continues b c → Continues a c
-goes_further a b c p q opening history stands =
-    let x : (more : List HistoryEntry) × ServerStands opening b (history ++ more) = p opening history stands in
-    let y : (more : List HistoryEntry) × ServerStands opening c ((history ++ x.0) ++ more) = q opening (history ++ x.0) x.1 in
-    (x.0 ++ y.0, subst (ServerStands opening c) (assoc history x.0 y.0) y.1)
-  where
-    assoc : (a b c : List HistoryEntry) → (a ++ b) ++ c ≡ a ++ (b ++ c)
-    assoc [] b c = refl
-    assoc (x ∷ a) b c = ap (λ z. x ∷ z) (assoc a b c)
-
-pub continues_with : (old new : ServerValue) (entry : HistoryEntry) → ((opening : CacheValue) (history : List HistoryEntry) → ServerStands opening old history → ServerStands opening new (history ++ entry ∷ [])) → Continues old new
-continues_with old new entry f opening history stands = (entry ∷ [], f opening history stands)
-
-pub continues_failing : (old new : ServerValue) (k : ℕ) (piece : List ℕ)
-    → ((opening : CacheValue) (history : List HistoryEntry) → ServerStands opening old history → StandsOrFails opening old k piece new history) → Continues old new
-continues_failing old new k piece f opening history stands = by_end (f opening history stands)
-  where
-    by_end : StandsOrFails opening old k piece new history → (more : List HistoryEntry) × ServerStands opening new (history ++ more)
-    by_end (inl (none, still, s)) = ([], subst (ServerStands opening new) (sym (append-nil history)) s)
-    by_end (inr (front, rest, whole, s)) = (Piece k front ∷ Fail k ∷ [], s)

@@ -51,12 +51,6 @@ StandsOrFails opening old k piece new history =
     ⊎ ((front : List ℕ) × (rest : List ℕ) × (piece ≡ front ++ rest)
     × ServerStands opening new (history ++ (Piece k front ∷ Fail k ∷ [])))
 
--- whatever history led to the one server, a longer one leads to the other
-abbrev pub Continues : ServerValue → ServerValue → Type 0
-Continues old new =
-    (opening : CacheValue) (history : List HistoryEntry) → ServerStands opening old history
-    → (more : List HistoryEntry) × ServerStands opening new (history ++ more)
-
 -- how many bytes are kept of a request that isn't whole
 abbrev pub held_bytes_at : Option SessionValue → ℕ
 held_bytes_at None = 0
@@ -66,3 +60,26 @@ held_bytes_at (Some session) = sessions.held_bytes session.state
 abbrev pub IsOpenAt : Option SessionValue → Type 0
 IsOpenAt None = ⊤
 IsOpenAt (Some session) = sessions.IsOpen session
+
+-- ---- one connection
+
+-- a session for a new connection
+pub record IsNewSession (prefix : List ℕ) (session : SessionValue) : Type 0 where
+  pub prefixed : session.prefix ≡ prefix
+  pub stands : sessions.Stands session [] []
+
+-- it is the held session, or a new one
+abbrev pub IsSessionFor : List ℕ → Option SessionValue → SessionValue → Type 0
+IsSessionFor prefix None session = IsNewSession prefix session
+IsSessionFor prefix (Some held) session = session ≡ held
+
+-- all but the session of the connection is as it was
+pub record KeepsOthers (old : ServerValue) (k : ℕ) (new : ServerValue) : Type 0 where
+  pub cache : new.cache ≡ old.cache
+  pub prefix : new.prefix ≡ old.prefix
+  pub others : (j : ℕ) → (j ≡ k → ⊥) → session_at new j ≡ session_at old j
+
+-- the connection has no session any more
+pub record Forgets (old : ServerValue) (k : ℕ) (new : ServerValue) : Type 0 where
+  pub gone : session_at new k ≡ None
+  pub kept : KeepsOthers old k new

@@ -1,25 +1,9 @@
 -- What a step of a server does to the session of one connection.
-use Rattle.std.specs.Prelude.{◌≡◌, ℕ, List, [], Option, Some, None}
+use Rattle.std.specs.Prelude.{◌≡◌, ℕ, List, Option, Some, None}
 use Rattle.http_core.specs.Event.{EventValue}
 use Rattle.http_core.specs.Session.{SessionValue, IsClosed}
 use Rattle.http_core.specs.Session as sessions
-use Rattle.cache_server.specs.Server.{ServerValue, session_at}
-
--- all but the session of the connection is as it was
-pub record KeepsOthers (old : ServerValue) (k : ℕ) (new : ServerValue) : Type 0 where
-  pub cache : new.cache ≡ old.cache
-  pub prefix : new.prefix ≡ old.prefix
-  pub others : (j : ℕ) → (j ≡ k → ⊥) → session_at new j ≡ session_at old j
-
--- a session for a new connection
-pub record IsNewSession (prefix : List ℕ) (session : SessionValue) : Type 0 where
-  pub prefixed : session.prefix ≡ prefix
-  pub stands : sessions.Stands session [] []
-
--- it is the held session, or a new one
-abbrev pub IsSessionFor : List ℕ → Option SessionValue → SessionValue → Type 0
-IsSessionFor prefix None session = IsNewSession prefix session
-IsSessionFor prefix (Some held) session = session ≡ held
+use Rattle.cache_server.specs.Server.{ServerValue, session_at, IsSessionFor, KeepsOthers}
 
 -- what was held is closed
 abbrev pub IsClosedAt : Option SessionValue → Option SessionValue → Type 0

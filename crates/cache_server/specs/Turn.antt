@@ -1,12 +1,12 @@
 -- One request at a time.
-use Rattle.std.specs.Prelude.{◌≡◌, ℕ, ◌<◌, ◌≤◌, List, length, Option, Some, None}
-use Rattle.std.specs.Prelude.{option_to_list}
+use Rattle.std.specs.Prelude.{◌≡◌, ℕ, List, Option, Some, None, option_to_list}
 use Rattle.http_core.specs.Event.{EventValue}
+use Rattle.http_core.specs.Session.{SessionValue}
+use Rattle.http_core.specs.Session as sessions
 use Rattle.cache_server.specs.Answering.{answered, answered_all}
 use Rattle.cache_server.specs.Cache.{CacheValue}
 use Rattle.cache_server.specs.History.{HistoryEntry, CacheAfter, Brings}
-use Rattle.cache_server.specs.Server.{ServerValue}
-use Rattle.cache_server.specs.Sessions.{FeedsFirstAt}
+use Rattle.cache_server.specs.Server.{ServerValue, session_at, IsSessionFor}
 
 -- the event, if there is one, is answered by the text
 abbrev pub AnswersIfAny : CacheValue → Option EventValue → Option (List ℕ) → CacheValue → Type 0
@@ -24,27 +24,17 @@ IsOneAnswerTo prefix opening history entry text =
     × CacheAfter prefix opening history before × Brings prefix history entry (option_to_list event)
     × (answered_all before (option_to_list event) ≡ (text, cache))
 
--- Of a piece that isn't empty some bytes were taken, and all where there is no answer. An answer is
--- one reply: a head, and a body at most.
+-- The session of the connection, a new one where it had none, took a front of the piece, to the end
+-- of its first request, and that is answered by one reply. All else is as it was.
 pub record AnswersOne
-    (old : ServerValue) (piece : List ℕ) (taken : ℕ) (text : Option (List ℕ)) (new : ServerValue)
-    : Type 0 where
-  pub within : taken ≤ length piece
-  pub some : 0 < length piece → 0 < taken
-  pub all : text ≡ None → taken ≡ length piece
+    (old : ServerValue) (k : ℕ) (piece : List ℕ) (taken : ℕ) (text : Option (List ℕ))
+    (new : ServerValue) : Type 0 where
+  pub before : SessionValue
+  pub after : SessionValue
   pub event : Option EventValue
+  pub held : IsSessionFor old.prefix (session_at old k) before
+  pub takes : sessions.FeedsFirst before piece taken event after
+  pub at : session_at new k ≡ Some after
+  pub others : (j : ℕ) → (j ≡ k → ⊥) → session_at new j ≡ session_at old j
   pub answered : AnswersIfAny old.cache event text new.cache
   pub prefix : new.prefix ≡ old.prefix
-
--- the session of the connection took a front of the piece, to the end of its first event, and that
--- is answered
-pub record Turns
-    (old : ServerValue) (k : ℕ) (piece : List ℕ) (taken : ℕ) (text : Option (List ℕ))
-    (new : ServerValue)
-    : Type 0 where
-  pub event : Option EventValue
-  pub mid : ServerValue
-  pub feeds : FeedsFirstAt old k piece taken event mid
-  pub answered : AnswersIfAny mid.cache event text new.cache
-  pub prefix : new.prefix ≡ mid.prefix
-  pub sessions : new.sessions ≡ mid.sessions

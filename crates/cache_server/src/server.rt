@@ -4,10 +4,10 @@ ghost use Rattle.http_core.specs.Event.{event_of};
 ghost use Rattle.cache_server.specs.Answer.{text_of};
 ghost use Rattle.cache_server.specs.Cache.{CacheValue};
 ghost use Rattle.cache_server.specs.History.{HistoryEntry, Piece, End, AnswersTo};
-ghost use Rattle.cache_server.specs.Server.{session_at, ServerStands, StandsOrFails};
-ghost use Rattle.cache_server.specs.Server.{Continues, IsOpenAt, held_bytes_at};
-ghost use Rattle.cache_server.specs.Sessions.{ClosesAt, FeedsFirstAt, KeepsOthers, OpensAt};
-ghost use Rattle.cache_server.specs.Turn.{AnswersOne, IsOneAnswerTo, Turns};
+ghost use Rattle.cache_server.specs.Server.{session_at, ServerStands, StandsOrFails, Forgets};
+ghost use Rattle.cache_server.specs.Server.{IsOpenAt, KeepsOthers, held_bytes_at};
+ghost use Rattle.cache_server.specs.Sessions.{ClosesAt, FeedsFirstAt, OpensAt};
+ghost use Rattle.cache_server.specs.Turn.{AnswersOne, IsOneAnswerTo};
 
 use crate::answer::Answer;
 use crate::cache::Cache;
@@ -97,7 +97,7 @@ impl<A: Allocator + Copy> Server<A> {
         piece: &[u8],
     ) -> Result<(usize, Option<Answer<A>>), AllocError>
         ensures one { IfOk result (λ x.
-            AnswersOne self.old piece.now x.0 (option_map text_of x.1) self.new) }
+            AnswersOne self.old connection piece.now x.0 (option_map text_of x.1) self.new) }
         ensures answers { IfOk result (λ x. (opening : CacheValue) (history : List HistoryEntry)
             → ServerStands opening self.old history
             → IsOneAnswerTo self.old.prefix opening history (Piece connection (take x.0 piece.now))
@@ -109,7 +109,6 @@ impl<A: Allocator + Copy> Server<A> {
         ensures err { OnErr result ((opening : CacheValue) (history : List HistoryEntry)
             → ServerStands opening self.old history
             → StandsOrFails opening self.old connection piece.now self.new history) }
-        ensures continues { Continues self.old self.new }
         ensures prefix { self.new.prefix ≡ self.old.prefix }
     {
         self.open(alloc, connection)?;
@@ -146,11 +145,10 @@ impl<A: Allocator + Copy> Server<A> {
 
     /// Forgets the connection.
     pub fn end(&mut self, connection: u64)
-        ensures continues { Continues self.old self.new }
         ensures stands { (opening : CacheValue) (history : List HistoryEntry)
             → ServerStands opening self.old history
             → ServerStands opening self.new (history ++ End connection ∷ []) }
-        ensures prefix { self.new.prefix ≡ self.old.prefix }
+        ensures forgets { Forgets self.old connection self.new }
     {
         self.forget(connection);
     }
@@ -165,7 +163,7 @@ impl<A: Allocator + Copy> Server<A> {
     ) -> Result<(usize, Option<Answer<A>>), AllocError>
         requires { IsSome (session_at self.old connection) }
         ensures ok { IfOk result (λ x.
-            Turns self.old connection piece.now x.0 (option_map text_of x.1) self.new) }
+            AnswersOne self.old connection piece.now x.0 (option_map text_of x.1) self.new) }
         ensures err { OnErr result (ClosesAt self.old connection self.new) }
     {
         let (taken, event) = self.first(alloc, connection, piece)?;
@@ -232,8 +230,7 @@ impl<A: Allocator + Copy> Server<A> {
     }
 
     fn forget(&mut self, connection: u64)
-        ensures at { session_at self.new connection ≡ None }
-        ensures kept { KeepsOthers self.old connection self.new }
+        ensures { Forgets self.old connection self.new }
     {
         self.sessions.remove(&connection);
     }

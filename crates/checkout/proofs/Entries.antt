@@ -1,6 +1,6 @@
 -- What is written, entry by entry.
-use Rattle.std.proofs.Common.{◌≡◌, ℕ, suc, List, [], ◌∷◌, ◌++◌, refl, sym, ◌∙◌, subst, append_assoc, append-nil, arith, length}
-use Rattle.std.specs.Prelude.{Contains, Result, Ok, Err, OnOk, IfOk}
+use Rattle.std.proofs.Common.{◌≡◌, ℕ, List, [], ◌∷◌, ◌++◌, refl, sym, ◌∙◌, subst, append_assoc, append-nil, arith, length}
+use Rattle.std.specs.Prelude.{Result, Ok, Err, OnOk, IfOk}
 use Rattle.messages.specs.Path.{path_text}
 use Rattle.messages.specs.declared.node.Node.TheVariants.{File, Link, Dir}
 use Rattle.blob_source.specs.Source.{Blobs, Grows}
@@ -8,6 +8,8 @@ use Rattle.tree.specs.Tree.{Name, Standing, nothing, a_leaf, a_directory}
 use Rattle.tree.specs.Form.{NodeValue}
 use Rattle.tree.specs.FlatTree.{FlatValue}
 use Rattle.tree.proofs.Descent.{under_still}
+use Rattle.checkout.specs.declared.error.CheckoutError.{CheckoutError}
+use Rattle.checkout.specs.Refused.{Refuses, FailsEntry, FailsEntries}
 use Rattle.checkout.specs.Folder.{Works, Written, with_written}
 use Rattle.checkout.specs.Folder.Written.{a_folder, a_file, a_link}
 use Rattle.checkout.specs.Written.{place_below, IsWrittenFor, AreWritten, MakesEntry, MakesEntries}
@@ -74,13 +76,19 @@ module _ {F : Type 0} (works : Works F) (folder : List ℕ) (all : FlatValue) wh
         };
       }
 
-  inside : (done : FlatValue) (e : List Name × Standing NodeValue) (left : FlatValue) → Contains (done ++ e ∷ left) e
-  inside [] e left = (0, omega arith, refl)
-  inside (d ∷ done) e left = let h = inside done e left in (suc h.0, let lt = h.1 in omega (arith, lt), h.2)
-
-  -- the next one is among all
-  pub is_among : {B : Blobs} (old mid : F) (p : List Name) (s : Standing NodeValue) (left : FlatValue) → SoFar works B old mid folder all ((p, s) ∷ left) → Contains all (p, s)
-  is_among old mid p s left so_far = subst (λ es. Contains es (p, s)) (sym so_far.split) (inside so_far.done (p, s) left)
+  -- the next one isn't written
+  pub next_fails : {B C : Blobs} {A : Type 0} (refuses : Refuses) (old mid : F) (p : List Name) (s : Standing NodeValue) (left : FlatValue) (e : CheckoutError A) → Grows B C
+      → SoFar works B old mid folder all ((p, s) ∷ left) → FailsEntry refuses C (place_below folder (path_text p)) s e → FailsEntries refuses C folder all e
+  next_fails refuses old mid p s left e grows so_far fails = record {
+    done = so_far.done;
+    path = p;
+    standing = s;
+    left = left;
+    whole = so_far.split;
+    written = so_far.made.written;
+    before = all_still grows folder so_far.done so_far.made.written so_far.made.of_entries;
+    fails = fails;
+  }
 
   pub all_done : {B : Blobs} (old now : F) → SoFar works B old now folder all [] → MakesEntries works B old now folder all
   all_done {B} old now so_far = subst (MakesEntries works B old now folder) (sym (so_far.split ∙ append-nil so_far.done)) so_far.made

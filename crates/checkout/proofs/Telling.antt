@@ -1,18 +1,17 @@
--- What was told of a tree, and the exit where memory ran out.
-use Rattle.std.proofs.Common.{◌≡◌, ℕ, List, sym, subst, inl}
-use Rattle.std.specs.Prelude.{Contains, Result, IfErr}
-use Rattle.std.specs.Result.{IsErrAnd}
-use Rattle.std.proofs.lemmas.Result.{err_from_is_err_and}
+-- What was told of a tree, and what wasn't made.
+use Rattle.std.proofs.Common.{ℕ, List, subst}
+use Rattle.std.specs.Prelude.{Result, IfErr}
+use Rattle.std.specs.declared.io.Error.{Error}
 use Rattle.blob_digest.specs.Digest.{DigestValue}
 use Rattle.blob_source.specs.Source.{Blobs, Grows}
-use Rattle.tree.specs.Tree.{Name, Tree, empty, leaf, folder, Standing}
+use Rattle.tree.specs.Tree.{Tree, empty, leaf, folder}
 use Rattle.tree.specs.Form.{NodeValue}
 use Rattle.tree.specs.FlatTree.{FlatValue}
 use Rattle.tree.proofs.Descent.{told_still}
 use Rattle.checkout.specs.declared.error.CheckoutError.{CheckoutError}
 use Rattle.checkout.specs.declared.error.CheckoutError.TheVariants as errors
 use Rattle.tree.specs.Unfolded.{IsUnfolded, TellsBelow}
-use Rattle.checkout.specs.Refused.{Refuses, FailsEntries}
+use Rattle.checkout.specs.Refused.{Refuses, FailsAt, FailsPlace}
 
 below_still : {B C : Blobs} → Grows B C → (t : Tree NodeValue) → TellsBelow B t → TellsBelow C t
 below_still grows empty h = h
@@ -29,9 +28,12 @@ unfolded_still grows h = record {
 
 -- ---- refusals
 
-module _ {T A : Type 0} (r : Result T (CheckoutError A)) where
-  -- the exit of a `?` where memory ran out
-  pub memory_fails : (refuses : Refuses) (B : Blobs) (place : List ℕ) (all : FlatValue) (p : List Name) (s : Standing NodeValue) → Contains all (p, s) → IsErrAnd r (λ e. e ≡ errors.Memory) → IfErr r (FailsEntries refuses B place all)
-  memory_fails refuses B place all p s inside exit =
-      let q = err_from_is_err_and r exit in
-      subst (λ x. IfErr x (FailsEntries refuses B place all)) (sym q.1) (subst (λ e. FailsEntries refuses B place all e) (sym q.2) (p, s, inside, inl tt))
+-- what wasn't made at a path
+pub place_fails : {A T : Type 0} (refuses : Refuses) (path : List ℕ) (made : Result T Error) (e : CheckoutError A) → FailsAt path made e → IfErr made (refuses path) → FailsPlace refuses path e
+place_fails refuses path made (errors.Place p fault) h refused = (h.0, subst (λ r. IfErr r (refuses path)) h.1 refused)
+place_fails refuses path made errors.Memory h refused = tt
+place_fails refuses path made (errors.Missing d) h refused = absurd h
+place_fails refuses path made (errors.Wrong d) h refused = absurd h
+place_fails refuses path made (errors.Malformed d) h refused = absurd h
+place_fails refuses path made (errors.TooDeep p) h refused = absurd h
+place_fails refuses path made errors.Fetch h refused = absurd h

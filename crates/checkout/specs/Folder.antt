@@ -2,14 +2,15 @@
 use Rattle.std.specs.Prelude.{ℕ, List, [], ◌∷◌, ◌++◌, Bool}
 use Rattle.std.specs.declared.io.Error.{Error}
 
--- what was written at a path: a folder, a file with its bytes and whether it is a program, or a link
--- with its target
+-- what was written at a path: a folder, a file with its bytes and whether it is a program, or a
+-- link with its target
 pub data Written : Type 0 where
   a_folder : Written
   a_file : List ℕ → Bool → Written
   a_link : List ℕ → Written
 
--- The folder at a path had nothing in it, and then this was written, in this order, and nothing else.
+-- The folder at a path had nothing in it, and then this was written, in this order, and nothing
+-- else.
 pub record FolderValue : Type 0 where
   pub path : List ℕ
   pub written : List (List ℕ × Written)

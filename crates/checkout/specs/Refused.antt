@@ -1,5 +1,5 @@
 -- Why a tree isn't written.
-use Rattle.std.specs.Prelude.{◌≡◌, ◌⊎◌, ℕ, Bool, List, [], Contains, Result, Err, string_bytes}
+use Rattle.std.specs.Prelude.{◌≡◌, ◌⊎◌, ℕ, Bool, List, [], ◌∷◌, ◌++◌, Result, Err, string_bytes}
 use Rattle.std.specs.declared.io.Error.{Error}
 use Rattle.blob_digest.specs.Digest.{DigestValue}
 use Rattle.messages.specs.Path.{path_text}
@@ -12,7 +12,8 @@ use Rattle.tree.specs.Tree.{Name, Standing, a_leaf}
 use Rattle.tree.specs.Form.{NodeValue}
 use Rattle.tree.specs.FlatTree.{FlatValue}
 use Rattle.tree.specs.Unfolded.{IsUnfolded, IsDeep, IsFaultBelow}
-use Rattle.checkout.specs.Written.{place_below}
+use Rattle.checkout.specs.Folder.{Written}
+use Rattle.checkout.specs.Written.{place_below, AreWritten}
 use Rattle.checkout.specs.declared.error.CheckoutError.{CheckoutError}
 use Rattle.checkout.specs.declared.error.CheckoutError.TheVariants.{Missing, Wrong, Malformed}
 use Rattle.checkout.specs.declared.error.CheckoutError.TheVariants.{TooDeep, Fetch, Place, Memory}
@@ -36,8 +37,8 @@ FailsContent B d Fetch = Unit {0}
 FailsContent B d Memory = Unit {0}
 FailsContent B d e = ⊥
 
--- why a tree isn't had: a Directory of it isn't told, or it is too deep, unless the source failed or
--- memory ran out
+-- why a tree isn't had: a Directory of it isn't told, or it is too deep, unless the source failed
+-- or memory ran out
 abbrev pub FailsTree : {A : Type 0} → Blobs → DigestValue → CheckoutError A → Type 0
 FailsTree B d (Missing e) = IsFaultBelow B d e (missing e)
 FailsTree B d (Wrong e) = IsFaultBelow B d e (wrong e)
@@ -65,17 +66,22 @@ abbrev pub FailsEntry : {A : Type 0} → Refuses → Blobs → List ℕ → Stan
 FailsEntry refuses B place s e = FailsPlace refuses place e
     ⊎ ((d : DigestValue) × (x : Bool) × (s ≡ a_leaf (File d x)) × FailsContent B d e)
 
--- Why entries aren't written: one of them isn't.
-abbrev pub FailsEntries : {A : Type 0} → Refuses → Blobs → List ℕ → FlatValue → CheckoutError A
-    → Type 0
-FailsEntries refuses B folder entries e = (p : List Name) × (s : Standing NodeValue)
-    × Contains entries (p, s)
-    × FailsEntry refuses B (place_below folder (path_text p)) s e
+-- Why entries aren't written: one isn't, and those before it are.
+pub record FailsEntries {A : Type 0} (refuses : Refuses) (B : Blobs) (folder : List ℕ)
+    (entries : FlatValue) (e : CheckoutError A) : Type 0 where
+  pub done : FlatValue
+  pub path : List Name
+  pub standing : Standing NodeValue
+  pub left : FlatValue
+  pub whole : entries ≡ done ++ (path, standing) ∷ left
+  pub written : List (List ℕ × Written)
+  pub before : AreWritten B folder done written
+  pub fails : FailsEntry refuses B (place_below folder (path_text path)) standing e
 
--- Why the tree under a digest isn't written: it isn't had, the folder isn't taken, or one of the
--- tree's entries isn't written.
+-- Why the tree under a digest isn't written, the first reason: it isn't had, or the folder isn't
+-- taken, or one of the tree's entries isn't written.
 abbrev pub FailsCheckout : {A : Type 0} → Refuses → Blobs → DigestValue → List ℕ → CheckoutError A
     → Type 0
-FailsCheckout refuses B d folder e = FailsTree B d e ⊎ (FailsPlace refuses folder e
+FailsCheckout refuses B d folder e = FailsTree B d e
     ⊎ ((entries : FlatValue) × IsUnfolded B d entries
-    × FailsEntries refuses B folder entries e))
+    × (FailsPlace refuses folder e ⊎ FailsEntries refuses B folder entries e))

@@ -1,30 +1,25 @@
 -- What a build tells is that of some build of the plan, and why it tells nothing.
-use Rattle.std.proofs.Common.{◌≡◌, ◌≢◌, ◌⊎◌, Bool, List, [], Option, Result, Ok, Err, IfErr, IfOk, OnOk, ℕ, inl, inr, refl, subst, string_bytes}
+use Rattle.std.proofs.Common.{◌≡◌, ◌≢◌, ◌⊎◌, List, [], Result, Ok, Err, ℕ, inl, inr, refl, subst, string_bytes}
 use Rattle.std.specs.Prelude.{codes}
-use Rattle.std.specs.Io.KnownBytes.{Appends}
 use Rattle.clap.specs.Words.{Row}
 use Rattle.command_lines.specs.CommandLine.{option_text}
 use Rattle.commands.specs.Places.{FailsOver, FailsToConnect, IsConnected, IsToldOver}
-use Rattle.commands.specs.Ended.{is_done}
-use Rattle.commands.specs.declared.ended.Ended.{Ended}
 use Rattle.commands.proofs.Placed.{of_options}
 use Rattle.commands.specs.Options.{IsValidServer}
 use Rattle.commands.specs.Printed.{IsConnectedTo, IsOfOptions}
-use Rattle.commands.specs.Refusal.{IsCommandFault, IsPrintFault}
+use Rattle.commands.specs.Refusal.{IsCommandFault}
 use Rattle.commands.specs.World.{Sight}
 use Rattle.commands.specs.declared.error.CommandError.{CommandError}
-use Rattle.commands.specs.declared.error.CommandError.TheVariants.{Words, Digest, Number, Text, Unlike, File}
-use Rattle.commands.specs.declared.error.CommandError.TheVariants.{NotAFile, TooLarge, Entry, Connection}
-use Rattle.commands.specs.declared.error.CommandError.TheVariants.{Server, WrongBytes, Accept, Address, Random}
-use Rattle.commands.specs.declared.error.CommandError.TheVariants.{Output, Memory, Process}
+use Rattle.commands.specs.declared.error.CommandError.TheVariants.{Memory, Process}
+use Rattle.commands.proofs.Refused.{memory_or_other}
 use Rattle.std.proofs.Math.Logic.{∥∥₁_map}
 use Rattle.std.specs.declared.alloc.Global.{Global}
 use Rattle.std.specs.declared.string.String.{String}
 use Rattle.blob_digest.specs.Digest.{DigestValue}
 use Rattle.blob_source.specs.Source.{Telling}
-use Rattle.builder.proofs.Within.{fault_within, told_within}
+use Rattle.builder.proofs.Within.{told_within}
 use Rattle.builder.specs.Lines.{place_text}
-use Rattle.builder.specs.Refused.{IsBuildFault}
+use Rattle.builder.specs.Built.{Seen}
 use Rattle.builder.specs.Telling.{IsBuildTold}
 use Rattle.builder.specs.declared.fault.Fault.{Fault}
 use Rattle.builder.specs.declared.fault.Fault.TheVariants.{Device}
@@ -34,48 +29,46 @@ use Rattle.builder.specs.declared.telling.Told.TheVariants.{Built, Failed}
 use Rattle.plan.specs.Values.{PlanValue}
 use Rattle.remote.specs.Line.{ConnectionValue}
 use Rattle.worker.specs.Outcomes.{Yields}
-use Rattle.cli.specs.Built.{HoldsRoot, IsNoted, IsReadOf, IsToldOf, NamesJobs, PrintsBuild, StartsBuild, TellsAsked, any_yields, is_whole, jobs_of, line_of}
+use Rattle.cli.specs.Built.{HoldsRoot, IsReadOf, IsToldBy, IsToldOf, NamesJobs, StartsBuild, TellsAsked, any_yields, jobs_of}
 use Rattle.cli.specs.declared.building.Asked.{Asked}
 use Rattle.cli.specs.Refused.{FailsBuild, FailsJobs, FailsTelling, ReachesServer, StopsAtProcess}
-use Rattle.cli.specs.Refused.FailsBuild.{in_jobs, in_memory, in_output, in_process, in_server, in_words}
+use Rattle.cli.specs.Refused.FailsBuild.{in_jobs, in_memory, in_process, in_server, in_words}
 
-module _ (source : Telling → Type 0) (plan : PlanValue) (sources : DigestValue) (most : ℕ) (told : Telling) where
-  of_any : (r : Told Global) → ∥ source told ∥₁ → IsBuildTold any_yields most plan sources told r → HoldsRoot source r → IsToldOf source most plan sources r
-  of_any (Built line noted directories) by h root = (told, by, h, root)
-  of_any (Failed line why) by h root = (told, by, h)
+module _ (source : Telling → Type 0) (plan : PlanValue) (sources : DigestValue) (most : ℕ) (old new : Seen) (before : ∥ source old.store ∥₁) (after : ∥ source new.store ∥₁) (z : Yields) where
+  told_of : (r : Result (Told Global) Fault) → IsBuildTold z most plan sources old new r → IsToldBy source most plan sources r
+  told_of r h = record { before = old.store; before_is = before; after = new.store; after_is = after; is = told_within z any_yields most plan sources old new (λ l c p may. tt) r h }
 
-  pub told_of : (z : Yields) (r : Told Global) → ∥ source told ∥₁ → IsBuildTold z most plan sources told r → HoldsRoot source r → IsToldOf source most plan sources r
-  told_of z r by h root = of_any r by (told_within Global z any_yields most plan sources told (λ l c p may. tt) r h) root
+  pub told_as : (r it : Result (Told Global) Fault) → IsBuildTold z most plan sources old new r → r ≡ it → IsToldBy source most plan sources it
+  told_as r it h is = subst (IsToldBy source most plan sources) is (told_of r h)
 
-  pub stops_of : (z : Yields) (place : Place) (fault : Fault) (text : String Global) → ∥ source told ∥₁ → IsBuildFault Global z most plan sources told fault → fault ≡ Device place
+  pub stops_of : (place : Place) (fault : Fault) (text : String Global) (r : Result (Told Global) Fault) → IsBuildTold z most plan sources old new r → r ≡ Err fault → fault ≡ Device place
       → string_bytes text ≡ place_text plan.steps place → StopsAtProcess source most plan sources (Process text)
-  stops_of z place fault text by h device is = record {
-    told = told;
-    source_is = by;
+  stops_of place fault text r h err device is = record {
     place = place;
-    ended = fault_within Global z any_yields most plan sources told (λ l c p may. tt) (Device place) (subst (λ (f : Fault). IsBuildFault Global z most plan sources told f) device h);
+    ended = subst (λ (f : Fault). IsToldBy source most plan sources (Err f)) device (told_as r (Err fault) h err);
     text = text;
     text_is = is;
     is = refl;
   }
 
 -- by what another kind of source told
+by_source : {P Q : Telling → Type 0} → ((told : Telling) → P told → Q told) → (most : ℕ) (plan : PlanValue) (sources : DigestValue)
+    → (r : Result (Told Global) Fault) → IsToldBy P most plan sources r → IsToldBy Q most plan sources r
+by_source f most plan sources r h = record { before = h.before; before_is = ∥∥₁_map h.before_is (f h.before); after = h.after; after_is = ∥∥₁_map h.after_is (f h.after); is = h.is }
+
 root_by : {P Q : Telling → Type 0} → ((told : Telling) → P told → Q told) → (r : Told Global) → HoldsRoot P r → HoldsRoot Q r
 root_by f (Built line noted directories) h = (h.0, ∥∥₁_map h.1 (f h.0), h.2)
 root_by f (Failed line why) h = h
 
 pub told_by : {P Q : Telling → Type 0} → ((told : Telling) → P told → Q told) → (most : ℕ) (plan : PlanValue) (sources : DigestValue)
     → (r : Told Global) → IsToldOf P most plan sources r → IsToldOf Q most plan sources r
-told_by f most plan sources (Built line noted directories) h = (h.0, ∥∥₁_map h.1 (f h.0), h.2, root_by f (Built line noted directories) h.3)
-told_by f most plan sources (Failed line why) h = (h.0, ∥∥₁_map h.1 (f h.0), h.2)
+told_by f most plan sources r h = (by_source f most plan sources (Ok r) h.0, root_by f r h.1)
 
 stops_by : {P Q : Telling → Type 0} → ((told : Telling) → P told → Q told) → (most jobs : ℕ) → most ≡ jobs → (plan : PlanValue) (sources : DigestValue)
     → (e : CommandError) → StopsAtProcess P most plan sources e → StopsAtProcess Q jobs plan sources e
-stops_by f most jobs is plan sources e h = record {
-  told = h.told;
-  source_is = ∥∥₁_map h.source_is (f h.told);
+stops_by {P} {Q} f most jobs is plan sources e h = record {
   place = h.place;
-  ended = subst (λ (n : ℕ). IsBuildFault Global any_yields n plan sources h.told (Device h.place)) is h.ended;
+  ended = subst (λ (n : ℕ). IsToldBy Q n plan sources (Err (Device h.place))) is (by_source f most plan sources (Err (Device h.place)) h.ended);
   text = h.text;
   text_is = h.text_is;
   is = h.is;
@@ -95,24 +88,10 @@ module _ (sees : Sight) (options : List Row) where
 
   -- or no server
   pub words_fail : (e : CommandError) → NamesJobs options → IsCommandFault e → (e ≢ Memory → ¬ IsValidServer options (option_text options (codes "server"))) → FailsBuild sees options e
-  words_fail (Words text) jobs is none = in_words jobs (record { none = none (λ h. cc); told = tt })
-  words_fail (Number option greatest text) jobs is none = in_words jobs (record { none = none (λ h. cc); told = tt })
-  words_fail (Unlike option wanted text) jobs is none = in_words jobs (record { none = none (λ h. cc); told = tt })
-  words_fail Memory jobs is none = in_memory refl
-  words_fail (Digest option text fault) jobs is none = absurd is
-  words_fail (Text path fault hint) jobs is none = absurd is
-  words_fail (File path fault) jobs is none = absurd is
-  words_fail (NotAFile path) jobs is none = absurd is
-  words_fail (TooLarge path) jobs is none = absurd is
-  words_fail (Entry path fault) jobs is none = absurd is
-  words_fail (Connection server fault) jobs is none = absurd is
-  words_fail (Server server asked digest fault) jobs is none = absurd is
-  words_fail (WrongBytes server digest) jobs is none = absurd is
-  words_fail (Address text fault) jobs is none = absurd is
-  words_fail (Accept fault) jobs is none = absurd is
-  words_fail (Process place) jobs is none = absurd is
-  words_fail (Random fault) jobs is none = absurd is
-  words_fail (Output fault) jobs is none = absurd is
+  words_fail e jobs is none = elim (memory_or_other e) [
+    | inl memory ↦ in_memory memory
+    | inr other ↦ in_words jobs (record { none = none other; told = is })
+  ]
 
   module _ (asked : Asked) (read : IsReadOf sees options asked) where
     -- the server couldn't be reached

@@ -1,17 +1,19 @@
 -- What a command came to, said of the words.
-use Rattle.std.proofs.Common.{◌≡◌, ◌∙◌, ◌⊎◌, ◌<◌, ◌≤◌, ◌+◌, ap, arith, subst, sym, inl, inr, refl, Bool, true, false, ℕ, List, []}
+use Rattle.std.proofs.Common.{◌≡◌, ◌∙◌, ◌⊎◌, ◌<◌, ◌≤◌, ◌+◌, ap, arith, subst, sym, inl, inr, refl, ℕ, List, []}
 use Rattle.std.specs.Prelude.{codes, ◌↔◌, IsTrue, Option, Some, None, option_map, unwrap_or}
 use Rattle.std.specs.Option.{option_map_or}
 use Rattle.std.proofs.lemmas.Bool.{iff_false}
 use Rattle.clap.specs.Words.{IsAmong, Row, Text, fault_of}
 use Rattle.verifier.specs.Verdict.{IsYes}
 use Rattle.command_lines.specs.CommandLine.{CallsCommand, options_of, program_line}
+use Rattle.cli.specs.Built.{PrintsBuild}
 use Rattle.cli.specs.Refused.{FailsBuild}
-use Rattle.cli.specs.Ended.{Fails, IsDone, IsNo, WantsHelp, WantsVersion}
+use Rattle.cli.specs.Ended.{EndsNo, Fails, IsDone, WantsHelp, WantsVersion}
+use Rattle.cli.specs.Running.{Ends, TellsEnd}
 use Rattle.cli.specs.Ended.Fails.{in_build, in_get, in_put, in_serve, in_verify}
-use Rattle.cli.specs.Ended.IsDone.{yes}
-use Rattle.cli.specs.Ended.IsNo.{no}
-use Rattle.commands.specs.Printed.{PrintsVerdict}
+use Rattle.cli.specs.Ended.IsDone.{built, got, yes}
+use Rattle.cli.specs.Ended.IsNo.{failed, no, none}
+use Rattle.commands.specs.Printed.{GetsAsked, NotesStore, PrintsVerdict}
 use Rattle.commands.specs.Refusal.{FailsVerify}
 use Rattle.commands.specs.World.{Sight}
 use Rattle.commands.specs.Ended.{is_done}
@@ -19,6 +21,7 @@ use Rattle.commands.specs.GetRefused.{FailsGet}
 use Rattle.commands.specs.PutRefused.{FailsPut}
 use Rattle.commands.specs.ServeRefused.{FailsServe}
 use Rattle.commands.specs.declared.ended.Ended.{Ended}
+use Rattle.commands.specs.declared.ended.Ended.TheVariants.{Done, No}
 use Rattle.clap.specs.declared.error.kind.ErrorKind.TheVariants.{DisplayHelp, DisplayVersion}
 use Rattle.commands.specs.Status.{status_of}
 use Rattle.commands.specs.declared.error.CommandError.{CommandError}
@@ -35,19 +38,31 @@ options_found None called rows is e = absurd (never e)
     never h = cc
 options_found (Some p) called rows is e = ap (λ (o : Option (List Row)). unwrap_or o []) e ∙ ap (λ (o : Option (Text × List Row)). option_map_or (λ q. q.1) o []) is
 
+-- words that call a command name one
+pub none_called : (found called : Option (Text × List Row)) (name : Text) → found ≡ called → ◌≡◌ {A = Option (List Row)} None (option_map (λ p. p.1) found)
+    → option_map (λ p. p.0) called ≡ Some name → ⊥
+none_called None called name is none_found named = let same : ◌≡◌ {A = Option Text} None (Some name) = ap (λ (o : Option (Text × List Row)). option_map (λ p. p.0) o) is ∙ named in cc
+none_called (Some p) called name is none_found named = cc
+
 -- what was printed for some options, and whether it is yes
 abbrev pub IsAnswer : Sight → List Row → Option (List ℕ) → Option (List ℕ) → Ended → Type 0
 IsAnswer sees rows old new ended = (prints : PrintsVerdict sees rows old new) × (IsTrue (is_done ended) ↔ IsYes prints.verdict)
 
-said : {sees : Sight} (words : List Text) {rows : List Row} {old new : Option (List ℕ)} (ended : Ended) → rows ≡ options_of words → IsAnswer sees rows old new ended → IsAnswer sees (options_of words) old new ended
-said {sees} words {rows} {old} {new} ended is h = subst (λ (options : List Row). IsAnswer sees options old new ended) is h
-
 module _ {sees : Sight} (words : List Text) {rows : List Row} (is : rows ≡ options_of words) where
-  pub yes_done : {old new : Option (List ℕ)} (ended : Ended) → CallsCommand words (codes "verify") → IsAnswer sees rows old new ended → is_done ended ≡ true → IsDone sees words old new
-  yes_done ended called h true_is = let s = said words ended is h in yes called s.0 (s.1.0 true_is)
+  pub verify_ends : {old new : Option (List ℕ)} (ended : Ended) → CallsCommand words (codes "verify") → IsAnswer sees rows old new ended
+      → NotesStore sees rows ended → Ends sees words old new ended
+  verify_ends {old} {new} Done called h noted = let said = subst (λ (o : List Row). IsAnswer sees o old new Done) is h in yes called said.0 (said.1.0 refl)
+  verify_ends {old} {new} (No note) called h noted =
+      let said = subst (λ (o : List Row). IsAnswer sees o old new (No note)) is h in
+      no called said.0 (iff_false said.1 refl) (subst (λ (o : List Row). NotesStore sees o (No note)) is noted)
 
-  pub no_told : {old new : Option (List ℕ)} (ended : Ended) → CallsCommand words (codes "verify") → IsAnswer sees rows old new ended → is_done ended ≡ false → IsNo sees words old new
-  no_told ended called h false_is = let s = said words ended is h in no called s.0 (iff_false s.1 false_is)
+  pub get_ends : {old new : Option (List ℕ)} (ended : Ended) → CallsCommand words (codes "get") → GetsAsked sees rows old new ended → Ends sees words old new ended
+  get_ends {old} {new} Done called h = got called (subst (λ (o : List Row). GetsAsked sees o old new Done) is h)
+  get_ends {old} {new} (No note) called h = none called (subst (λ (o : List Row). GetsAsked sees o old new (No note)) is h)
+
+  pub build_ends : {old new : Option (List ℕ)} (ended : Ended) → CallsCommand words (codes "build") → PrintsBuild sees rows old new ended → Ends sees words old new ended
+  build_ends {old} {new} Done called h = built called (subst (λ (o : List Row). PrintsBuild sees o old new Done) is h)
+  build_ends {old} {new} (No note) called h = failed called (subst (λ (o : List Row). PrintsBuild sees o old new (No note)) is h)
 
   pub verify_fails : (e : CommandError) → CallsCommand words (codes "verify") → FailsVerify sees rows e → Fails sees words e
   verify_fails e called h = in_verify called (subst (λ (o : List Row). FailsVerify sees o e) is h)
@@ -109,10 +124,31 @@ no_answer s e is lt = go (status_is e)
     go (inl two) = absurd (not_less 0 (subst (λ n. n < 2) (is ∙ two) lt))
     go (inr three) = absurd (not_less 1 (subst (λ n. n < 2) (is ∙ three) lt))
 
--- the status of an answer is less than that of a refusal
-pub answer_status : (b : Bool) (s : ℕ) → ((s ≡ 0) ↔ (b ≡ true)) → ((s ≡ 1) ↔ (b ≡ false)) → s < 2
-answer_status true s zero one = subst (λ n. n < 2) (sym (zero.1 refl)) (omega arith)
-answer_status false s zero one = subst (λ n. n < 2) (sym (one.1 refl)) (omega arith)
+zero_or_one : (s : ℕ) → s ≡ 0 → s ≡ 1 → ⊥
+zero_or_one s zero one = let same : ◌≡◌ {A = ℕ} 0 1 = sym zero ∙ one in omega (arith, same)
 
-pub not_refused : (s : ℕ) → s < 2 → 2 ≤ s → ⊥
-not_refused s few many = omega arith
+module _ (status : ℕ) (old new : Option (List ℕ)) where
+  -- the status of an answer is less than that of a refusal
+  few : (ended : Ended) → TellsEnd ended status old new → status < 2
+  few Done h = subst (λ n. n < 2) (sym h.0) (omega arith)
+  few (No _) h = subst (λ n. n < 2) (sym h.0) (omega arith)
+
+  pub not_refused : (ended : Ended) → TellsEnd ended status old new → 2 ≤ status → ⊥
+  not_refused ended h many = let less = few ended h in omega (arith, many, less)
+
+  pub ends_below : (ended : Ended) → TellsEnd ended status old new → status < 4
+  ends_below ended h = let less = few ended h in omega (arith, less)
+
+  pub ends_quiet : (ended : Ended) → TellsEnd ended status old new → status ≡ 0 → new ≡ old
+  ends_quiet Done h zero = h.1
+  ends_quiet (No _) h zero = absurd (zero_or_one status zero h.0)
+
+  pub ends_done : (sees : Sight) (words : List Text) (a b : Option (List ℕ)) (ended : Ended) → Ends sees words a b ended → TellsEnd ended status old new
+      → status ≡ 0 → IsDone sees words a b
+  ends_done sees words a b Done ends h zero = ends
+  ends_done sees words a b (No _) ends h zero = absurd (zero_or_one status zero h.0)
+
+  pub ends_no : (sees : Sight) (words : List Text) (a b : Option (List ℕ)) (ended : Ended) → Ends sees words a b ended → TellsEnd ended status old new
+      → status ≡ 1 → EndsNo sees words a b old new
+  ends_no sees words a b Done ends h one = absurd (zero_or_one status h.0 one)
+  ends_no sees words a b (No note) ends h one = record { note = note; no = ends; told = h.1 }

@@ -1,11 +1,13 @@
 -- What `build` prints.
-use Rattle.std.specs.Prelude.{◌≡◌, ◌<◌, ◌≤◌, ℕ, Bool, true, false, List, [], Option, codes}
+use Rattle.std.specs.Prelude.{◌≡◌, ◌<◌, ◌≤◌, ℕ, List, [], Option, Some, Result, Ok, codes}
 use Rattle.std.specs.Prelude.{string_bytes}
 use Rattle.std.specs.Io.KnownBytes.{Appends}
 use Rattle.std.specs.declared.alloc.Global.{Global}
 use Rattle.blob_digest.specs.Digest.{DigestValue}
 use Rattle.blob_source.specs.Source.{Telling}
-use Rattle.builder.specs.Telling.{TellsBuilt, TellsFailed}
+use Rattle.builder.specs.Built.{store_alone}
+use Rattle.builder.specs.Telling.{IsBuildTold}
+use Rattle.builder.specs.declared.fault.Fault.{Fault}
 use Rattle.cli.specs.declared.building.Asked.{Asked}
 use Rattle.builder.specs.declared.telling.Told.{Told}
 use Rattle.builder.specs.declared.telling.Told.TheVariants.{Built, Failed}
@@ -15,6 +17,9 @@ use Rattle.commands.specs.Options.{IsNumber, IsValidServer, number_of}
 use Rattle.commands.specs.Printed.{IsOfOptions}
 use Rattle.commands.specs.Refusal.{HasPlanRead}
 use Rattle.commands.specs.World.{Sight}
+use Rattle.commands.specs.declared.ended.Ended.{Ended}
+use Rattle.commands.specs.declared.ended.Ended.TheVariants.{Done, No}
+use Rattle.commands.specs.declared.ended.Note.TheVariants.{Refused}
 use Rattle.plan.specs.Values.{PlanValue}
 use Rattle.text_verifier.specs.Texts.{IsDigestText}
 use Rattle.worker.specs.Outcomes.{HasAllRight, Yields}
@@ -30,21 +35,25 @@ HoldsRoot source (Built line noted directories) = (told : Telling) × (∥ sourc
     × HasAllRight told.blobs (blobs_of directories.items)
 HoldsRoot source (Failed line why) = Unit {0}
 
--- By what such a source told: the line and the record of a build that came to its root, where calls
--- led from an engine of the plan to one in which each step has finished, at most so many jobs running
--- after each, the store has what each step came to, and the verdict on the record is yes; and the
--- Directories of the root are there. Or the line of the refusal that stands where the build ended.
-abbrev pub IsToldOf : (Telling → Type 0) → ℕ → PlanValue → DigestValue → Told Global → Type 0
-IsToldOf source most plan sources (Built line noted directories) = (told : Telling) × (∥ source told ∥₁)
-    × TellsBuilt Global any_yields most plan sources told (string_bytes line) noted.items
-    (blobs_of directories.items) × HoldsRoot source (Built line noted directories)
-IsToldOf source most plan sources (Failed line why) = (told : Telling) × (∥ source told ∥₁)
-    × TellsFailed Global any_yields most plan sources told (string_bytes line) (string_bytes why)
+-- By what such a source told before and after, this is told of a build of the plan, at most so many
+-- jobs running after each call: of the root, which is answered yes, or of the refusal that stands.
+pub record IsToldBy (source : Telling → Type 0) (most : ℕ) (plan : PlanValue)
+    (sources : DigestValue) (told : Result (Told Global) Fault) : Type 0 where
+  pub before : Telling
+  pub before_is : ∥ source before ∥₁
+  pub after : Telling
+  pub after_is : ∥ source after ∥₁
+  pub is : IsBuildTold any_yields most plan sources (store_alone before) (store_alone after) told
 
--- whether it came to its root
-abbrev pub is_whole : Told Global → Bool
-is_whole (Built line noted directories) = true
-is_whole (Failed line why) = false
+-- and the Directories of the root are there
+abbrev pub IsToldOf : (Telling → Type 0) → ℕ → PlanValue → DigestValue → Told Global → Type 0
+IsToldOf source most plan sources told =
+    IsToldBy source most plan sources (Ok told) × HoldsRoot source told
+
+-- done where it came to its root; else no, with why as its note
+abbrev pub ended_of : Told Global → Ended
+ended_of (Built line noted directories) = Done
+ended_of (Failed line why) = No (Some (Refused why))
 
 abbrev pub line_of : Told Global → List ℕ
 line_of (Built line noted directories) = string_bytes line
@@ -102,11 +111,11 @@ pub record TellsAsked (sees : Sight) (options : List Row) (told : Told Global) :
   pub starts : StartsBuild sees options plan sources
   pub tells : IsToldOf (IsOfOptions sees options) (jobs_of options) plan sources told
 
--- its line was printed, and where it came to its root its record written
-pub record PrintsBuild (sees : Sight) (options : List Row) (whole : Bool)
-    (old new : Option (List ℕ)) : Type 0 where
+-- Its line was printed, and where it came to its root its record written.
+pub record PrintsBuild (sees : Sight) (options : List Row) (old new : Option (List ℕ))
+    (ended : Ended) : Type 0 where
   pub told : Told Global
   pub tells : TellsAsked sees options told
   pub noted : IsNoted sees options told
-  pub is : is_whole told ≡ whole
+  pub is : ended ≡ ended_of told
   pub printed : Appends old new (line_of told)

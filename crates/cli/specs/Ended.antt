@@ -1,5 +1,5 @@
 -- What the words of the program come to: what was printed, or why nothing was.
-use Rattle.std.specs.Prelude.{◌≡◌, ◌≢◌, ℕ, true, false, List, Option, codes}
+use Rattle.std.specs.Prelude.{◌≡◌, ◌≢◌, ℕ, List, Option, codes}
 use Rattle.std.specs.Io.KnownBytes.{Appends}
 use Rattle.clap.specs.Words.{IsAmong, Text, fault_of}
 use Rattle.clap.specs.declared.error.kind.ErrorKind.{ErrorKind}
@@ -9,14 +9,17 @@ use Rattle.verifier.specs.Verdict.{IsYes}
 use Rattle.cli.specs.Built.{PrintsBuild}
 use Rattle.cli.specs.Help.{help_asked, version_line}
 use Rattle.cli.specs.Refused.{FailsBuild}
-use Rattle.commands.specs.Printed.{GetsAsked, PrintsDigest, PrintsVerdict, ServesAsked}
+use Rattle.commands.specs.Printed.{GetsAsked, NotesStore, PrintsDigest, PrintsVerdict}
+use Rattle.commands.specs.Printed.{ServesAsked}
 use Rattle.commands.specs.GetRefused.{FailsGet}
 use Rattle.commands.specs.PutRefused.{FailsPut}
 use Rattle.commands.specs.Refusal.{FailsVerify, IsPrintFault}
 use Rattle.commands.specs.ServeRefused.{FailsServe}
 use Rattle.commands.specs.Status.{status_of}
-use Rattle.commands.specs.Told.{TellsOf}
+use Rattle.commands.specs.Told.{TellsNoteOf, TellsOf}
 use Rattle.commands.specs.World.{Sight}
+use Rattle.commands.specs.declared.ended.Ended.TheVariants.{Done, No}
+use Rattle.commands.specs.declared.ended.Note.{Note}
 use Rattle.commands.specs.declared.error.CommandError.{CommandError}
 use Rattle.commands.specs.declared.error.CommandError.TheVariants.{Memory, Words}
 
@@ -38,26 +41,34 @@ pub data IsDone (sees : Sight) (words : List Text) (old new : Option (List ℕ))
   yes : CallsCommand words (codes "verify")
       → (prints : PrintsVerdict sees (options_of words) old new) → IsYes prints.verdict
       → IsDone sees words old new
-  got : CallsCommand words (codes "get") → GetsAsked sees (options_of words) old new true
+  got : CallsCommand words (codes "get") → GetsAsked sees (options_of words) old new Done
       → IsDone sees words old new
   put : CallsCommand words (codes "put") → PrintsDigest sees (options_of words) old new
       → IsDone sees words old new
   served : CallsCommand words (codes "serve") → ServesAsked sees (options_of words) old new
       → IsDone sees words old new
-  built : CallsCommand words (codes "build") → PrintsBuild sees (options_of words) true old new
+  built : CallsCommand words (codes "build") → PrintsBuild sees (options_of words) old new Done
       → IsDone sees words old new
   shown : ShowsAsked words old new → IsDone sees words old new
 
--- the line of a no was printed, or nothing since there is no such blob, or the line of a build's
--- refusal
-pub data IsNo (sees : Sight) (words : List Text) (old new : Option (List ℕ)) : Type 0 where
+-- The line of a no was printed, or nothing since there is no such blob, or the line of a build's
+-- refusal. The note is of a store folder that isn't there, that there is no such blob, or why.
+pub data IsNo (sees : Sight) (words : List Text) (note : Option Note) (old new : Option (List ℕ))
+    : Type 0 where
   no : CallsCommand words (codes "verify")
       → (prints : PrintsVerdict sees (options_of words) old new) → ¬ IsYes prints.verdict
-      → IsNo sees words old new
-  none : CallsCommand words (codes "get") → GetsAsked sees (options_of words) old new false
-      → IsNo sees words old new
-  failed : CallsCommand words (codes "build") → PrintsBuild sees (options_of words) false old new
-      → IsNo sees words old new
+      → NotesStore sees (options_of words) (No note) → IsNo sees words note old new
+  none : CallsCommand words (codes "get") → GetsAsked sees (options_of words) old new (No note)
+      → IsNo sees words note old new
+  failed : CallsCommand words (codes "build")
+      → PrintsBuild sees (options_of words) old new (No note) → IsNo sees words note old new
+
+-- with its note on standard error
+pub record EndsNo (sees : Sight) (words : List Text) (old new old_err new_err : Option (List ℕ))
+    : Type 0 where
+  pub note : Option Note
+  pub no : IsNo sees words note old new
+  pub told : TellsNoteOf note old_err new_err
 
 -- ---- why they come to neither
 
@@ -101,8 +112,8 @@ pub data Fails (sees : Sight) (words : List Text) (e : CommandError) : Type 0 wh
       → Fails sees words e
 
 -- an error with this status is why, and its line was told
-pub record EndsRefused (sees : Sight) (words : List Text) (status : ℕ) (old new : Option (List ℕ))
-    : Type 0 where
+pub record EndsRefused (sees : Sight) (words : List Text) (status : ℕ)
+    (old new : Option (List ℕ)) : Type 0 where
   pub error : CommandError
   pub why : Fails sees words error
   pub status_is : status_of error ≡ status

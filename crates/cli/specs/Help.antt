@@ -12,7 +12,7 @@ help_on name =
     else (if bytes_eq name (codes "get") then GET.now
     else (if bytes_eq name (codes "build") then BUILD.now else PROGRAM.now))))
 
--- the help that words ask for: that of the command that they name first, and else that of the program
+-- the help that words ask for: that of the command that they name first, and else the program's
 abbrev pub help_asked : List Text → List ℕ
 help_asked [] = PROGRAM.now
 help_asked (name ∷ rest) = help_on name

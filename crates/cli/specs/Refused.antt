@@ -1,13 +1,12 @@
 -- Why `build` ends without its line: the first fault, in the order jobs, server, digest, plan,
 -- connection, folder, record and work. Of a file, that it can't be read comes before what is wrong
 -- in its text.
-use Rattle.std.specs.Prelude.{◌≡◌, ◌⊎◌, ◌<◌, ℕ, true, List, [], length, codes, string_bytes}
+use Rattle.std.specs.Prelude.{◌≡◌, ◌⊎◌, ◌<◌, ℕ, List, [], length, Err, codes, string_bytes}
 use Rattle.std.specs.declared.alloc.Global.{Global}
 use Rattle.std.specs.declared.string.String.{String}
 use Rattle.blob_digest.specs.Digest.{DigestValue}
 use Rattle.blob_source.specs.Source.{Telling}
 use Rattle.builder.specs.Lines.{place_text}
-use Rattle.builder.specs.Refused.{IsBuildFault}
 use Rattle.builder.specs.declared.fault.Fault.TheVariants.{Device}
 use Rattle.builder.specs.declared.fault.Place.{Place}
 use Rattle.builder.specs.declared.telling.Told.{Told}
@@ -19,14 +18,15 @@ use Rattle.commands.specs.Places.{FailsOver, IsToldOver}
 use Rattle.commands.specs.Printed.{IsOfOptions, IsConnectedTo}
 use Rattle.commands.specs.Refusal.{FailsPlan, FailsServer, IsCommandFault, IsPrintFault}
 use Rattle.commands.specs.World.{Sight}
+use Rattle.commands.specs.declared.ended.Ended.TheVariants.{Done}
 use Rattle.commands.specs.declared.error.CommandError.{CommandError}
 use Rattle.commands.specs.declared.error.CommandError.TheVariants.{Memory, Process}
 use Rattle.plan.specs.Values.{PlanValue}
 use Rattle.remote.specs.Line.{ConnectionValue}
 use Rattle.remote.specs.declared.files.FileError.{FileError}
 use Rattle.text_verifier.specs.Refused.{IsSpelled}
-use Rattle.cli.specs.Built.{AsksBuild, IsNoted, NamesBuild, NamesJobs, StartsBuild, TellsAsked}
-use Rattle.cli.specs.Built.{any_yields, is_whole, jobs_of}
+use Rattle.cli.specs.Built.{AsksBuild, IsNoted, IsToldBy, NamesBuild, NamesJobs, StartsBuild}
+use Rattle.cli.specs.Built.{TellsAsked, ended_of, jobs_of}
 
 -- the words name no number of jobs
 pub record FailsJobs (options : List Row) (e : CommandError) : Type 0 where
@@ -54,14 +54,12 @@ FailsAtPath sees path e = (f : FileError Global) × sees.fails path f × (e ≡ 
 abbrev pub FailsFolder : Sight → List ℕ → CommandError → Type 0
 FailsFolder sees path e = (e ≡ Memory) ⊎ (HasEntries sees path e ⊎ FailsAtPath sees path e)
 
--- By what such a source told, a build of the plan ended at a step of which a process couldn't be run,
--- or was ended by a signal. The error tells the step.
+-- By what such a source told, a build of the plan ended at a step of which a process couldn't be
+-- run, or was ended by a signal. The error tells the step.
 pub record StopsAtProcess (source : Telling → Type 0) (most : ℕ) (plan : PlanValue)
     (sources : DigestValue) (e : CommandError) : Type 0 where
-  pub told : Telling
-  pub source_is : ∥ source told ∥₁
   pub place : Place
-  pub ended : IsBuildFault Global any_yields most plan sources told (Device place)
+  pub ended : IsToldBy source most plan sources (Err (Device place))
   pub text : String Global
   pub text_is : string_bytes text ≡ place_text plan.steps place
   pub is : e ≡ Process text
@@ -100,7 +98,7 @@ pub data FailsBuild (sees : Sight) (options : List Row) (e : CommandError) : Typ
   in_process : (plan : PlanValue) (sources : DigestValue) → StartsBuild sees options plan sources
       → StopsAtProcess (IsOfOptions sees options) (jobs_of options) plan sources e
       → FailsBuild sees options e
-  in_record : (told : Told Global) → TellsAsked sees options told → is_whole told ≡ true
+  in_record : (told : Told Global) → TellsAsked sees options told → ended_of told ≡ Done
       → IsFileFault (option_text options (codes "record")) e → FailsBuild sees options e
   in_output : (told : Told Global) → TellsAsked sees options told → IsNoted sees options told
       → IsPrintFault e → FailsBuild sees options e

@@ -1,11 +1,10 @@
 ghost use Rattle.std.specs.Prelude.{◌≡◌, ◌⊎◌, ◌<◌, ◌↔◌, [], IfErr, IfOk, IsSome};
-ghost use Rattle.std.specs.Prelude.{OnErr, OnOk, codes, string_bytes, true};
+ghost use Rattle.std.specs.Prelude.{OnErr, OnOk, codes, string_bytes};
 ghost use Rattle.std.specs.Io.KnownBytes.{Appends};
 ghost use Rattle.clap.specs.Words.{found_of, rows_of};
 ghost use Rattle.cli.specs.Built.{HoldsRoot, IsNoted, IsReadOf, IsToldOf, NamesJobs, PrintsBuild};
-ghost use Rattle.cli.specs.Built.{TellsAsked, is_whole, jobs_of, line_of};
+ghost use Rattle.cli.specs.Built.{TellsAsked, ended_of, jobs_of, line_of};
 ghost use Rattle.cli.specs.Refused.{FailsBuild, FailsFolder, FailsJobs, FailsTelling};
-ghost use Rattle.commands.specs.Ended.{is_done};
 ghost use Rattle.commands.specs.Faults.{IsFileFault};
 ghost use Rattle.commands.specs.Places.{FailsOver, IsFresh, IsToldOver};
 ghost use Rattle.commands.specs.Refusal.{IsPrintFault};
@@ -20,7 +19,7 @@ use clap::ArgMatches;
 use command_lines::{is_set, text_of};
 use commands::{
     Client, CommandError, Ended, Note, Origin, ServerOptions, World, number_in, open, plan_in_file,
-    read_digest, read_server, unlike,
+    print_all, read_digest, read_server, unlike,
 };
 use plan::Plan;
 use processes::{ChildErrors, Disk, ProcessRunner};
@@ -181,7 +180,7 @@ fn write_record<W: World>(
     told: &Told<Global>,
 ) -> Result<(), CommandError>
     ensures noted { OnOk result (IsNoted W.sees (rows_of (found_of matches.now)) told.now) }
-    ensures whole { OnErr result (is_whole told.now ≡ true) }
+    ensures whole { OnErr result (ended_of told.now ≡ Ended.Done) }
     ensures fault { IfErr result
         (IsFileFault (option_text (rows_of (found_of matches.now)) (codes "record"))) }
     ensures status { IfErr result (λ e. status_of e ≡ 3) }
@@ -246,14 +245,12 @@ fn print_told<O: Write>(told: &Told<Global>, out: &mut O) -> Result<(), CommandE
     let line = match told {
         Told::Built { line, .. } | Told::Failed { line, .. } => line,
     };
-    out.write_all(line.as_bytes())
-        .map_err(CommandError::Output)?;
-    out.flush().map_err(CommandError::Output)
+    print_all(out, line.as_bytes())
 }
 
 /// What a build came to, with a note why it was refused.
 fn ended_of(told: Told<Global>) -> Ended
-    ensures { is_whole told ≡ is_done result }
+    ensures { result ≡ ended_of told }
 {
     match told {
         Told::Built { .. } => Ended::Done,
@@ -272,8 +269,8 @@ pub(crate) fn run_build<R, W: World, O: Write, T: Write + Drop>(
 ) -> Result<Ended, CommandError>
 where
     R: AllocGlobal + Files + Processes + Clone + Drop,
-    ensures printed { IfOk result (λ ended. PrintsBuild W.sees (rows_of (found_of matches.now))
-        (is_done ended) (O.contents out.old) (O.contents out.new)) }
+    ensures printed { IfOk result (PrintsBuild W.sees (rows_of (found_of matches.now))
+        (O.contents out.old) (O.contents out.new)) }
     // A refusal is for the first fault: what comes before it has none.
     ensures refused { IfErr result (FailsBuild W.sees (rows_of (found_of matches.now))) }
     ensures unprinted { IfErr result

@@ -1,10 +1,9 @@
-ghost use Rattle.std.specs.Prelude.{◌≡◌, ◌<◌, ◌≤◌, ◌↔◌, IfErr, IfOk, OnErr, codes, false, map};
-ghost use Rattle.std.specs.Prelude.{string_bytes, true};
-ghost use Rattle.cli.specs.Ended.{AreFaulty, EndsRefused, Fails, IsDone, IsNo};
-ghost use Rattle.commands.specs.Ended.{is_done};
+ghost use Rattle.std.specs.Prelude.{◌≡◌, ◌<◌, ◌≤◌, IfErr, IfOk, OnErr, codes, map, string_bytes};
+ghost use Rattle.cli.specs.Ended.{AreFaulty, EndsNo, EndsRefused, Fails, IsDone};
+ghost use Rattle.cli.specs.Running.{Ends, TellsEnd};
 ghost use Rattle.commands.specs.Printed.{GetsPart};
 ghost use Rattle.commands.specs.Status.{status_of};
-ghost use Rattle.commands.specs.Told.{PrintsNoLine, TellsNote};
+ghost use Rattle.commands.specs.Told.{PrintsNoLine};
 ghost use Rattle.command_lines.specs.CommandLine.{CallsCommand, options_of};
 
 use crate::building::run_build;
@@ -19,10 +18,10 @@ use std::random::RandomSource;
 use std::rt::{Files, Processes};
 use std::time::Clock;
 
-/// Runs the program on these words. Its answers go to `out`, and for statuses 2 and 3 one line
-/// beginning `error: ` goes to `err`. The status: 0 done or yes, 1 no, 2 where the words or the
-/// texts that they name are at fault, 3 where a file, the output or memory is. On a terminal, where
-/// there is one, `put` and `build` tell how far they are.
+/// Runs the program on these words. Its answers go to `out`. To `err` goes one line: for statuses 2
+/// and 3 it begins `error: `, and for 1, where there is one, `note: `. The status: 0 done or yes, 1
+/// no, 2 where the words or the texts that they name are at fault, 3 where a file, the output or
+/// memory is. On a terminal, where there is one, `put` and `build` tell how far they are.
 pub fn run_words<R, W: World, O: Write, E: Write, T: Write + Drop>(
     rt: &R,
     world: &W,
@@ -38,17 +37,16 @@ where
     ensures done { result ≡ 0
         → IsDone W.sees (map string_bytes words.now) (O.contents out.old) (O.contents out.new) }
     // With status 1, the line of their no, or of a build's refusal; or the blob that they name
-    // isn't there.
+    // isn't there. Standard error grew at most by the line of the note that belongs to it.
     ensures no { result ≡ 1
-        → IsNo W.sees (map string_bytes words.now) (O.contents out.old) (O.contents out.new) }
+        → EndsNo W.sees (map string_bytes words.now) (O.contents out.old) (O.contents out.new)
+        (E.contents err.old) (E.contents err.new) }
     // With another status the first fault was told: standard error grew by one line that begins
     // `error: `, or by a beginning of it.
     ensures refused { 2 ≤ result → EndsRefused W.sees (map string_bytes words.now) result
         (E.contents err.old) (E.contents err.new) }
-    // With status 0 standard error stays as it was. With 1 it grew at most by one line that begins
-    // `note: `.
+    // With status 0 standard error stays as it was.
     ensures quiet { result ≡ 0 → E.contents err.new ≡ E.contents err.old }
-    ensures noted { result ≡ 1 → TellsNote (E.contents err.old) (E.contents err.new) }
     // With status 2 standard output stays as it was; so it does where the words are at fault.
     ensures unprinted { result ≡ 2 → O.contents out.new ≡ O.contents out.old }
     ensures silent { AreFaulty (map string_bytes words.now)
@@ -72,10 +70,7 @@ where
 
 /// The status of an answer. What a no doesn't say is told in a note.
 fn tell_ended<E: Write>(alloc: Global, ended: &Ended, err: &mut E) -> u8
-    ensures done { result ≡ 0 ↔ (is_done ended.now ≡ true) }
-    ensures no { result ≡ 1 ↔ (is_done ended.now ≡ false) }
-    ensures quiet { is_done ended.now ≡ true → E.contents err.new ≡ E.contents err.old }
-    ensures noted { TellsNote (E.contents err.old) (E.contents err.new) }
+    ensures { TellsEnd ended.now result (E.contents err.old) (E.contents err.new) }
 {
     match ended {
         Ended::Done => 0,
@@ -96,12 +91,8 @@ fn run<R, W: World, O: Write, T: Write + Drop>(
 ) -> Result<Ended, CommandError>
 where
     R: AllocGlobal + Clock + Files + Processes + RandomSource + Clone + Drop,
-    ensures done { IfOk result
-        (λ ended. is_done ended ≡ true
-        → IsDone W.sees (map string_bytes words.now) (O.contents out.old) (O.contents out.new)) }
-    ensures no { IfOk result
-        (λ ended. is_done ended ≡ false
-        → IsNo W.sees (map string_bytes words.now) (O.contents out.old) (O.contents out.new)) }
+    ensures ended { IfOk result
+        (Ends W.sees (map string_bytes words.now) (O.contents out.old) (O.contents out.new)) }
     ensures refused { IfErr result (Fails W.sees (map string_bytes words.now)) }
     ensures unprinted { IfErr result
         (λ fault. status_of fault ≡ 2 → O.contents out.new ≡ O.contents out.old) }
@@ -120,19 +111,22 @@ where
             return Ok(Ended::Done);
         }
     };
-    match matches.subcommand() {
-        Some(("verify", inner)) => Ok(run_verify(rt.alloc(), world, inner, out)?),
-        Some(("put", inner)) => {
+    // Words that aren't at fault call one of these.
+    let Some((command, inner)) = matches.subcommand() else {
+        unreachable!()
+    };
+    match command {
+        "verify" => Ok(run_verify(rt.alloc(), world, inner, out)?),
+        "put" => {
             run_put(rt, world, inner, out, terminal)?;
             Ok(Ended::Done)
         }
-        Some(("get", inner)) => Ok(run_get(rt.alloc(), world, inner, out)?),
-        Some(("serve", inner)) => {
+        "get" => Ok(run_get(rt.alloc(), world, inner, out)?),
+        "serve" => {
             run_serve(rt, world, inner, out)?;
             Ok(Ended::Done)
         }
-        Some(("build", inner)) => Ok(run_build(rt, world, inner, out, terminal)?),
-        // Not reached: words that aren't at fault call one of these.
-        _ => Err(CommandError::Memory),
+        "build" => Ok(run_build(rt, world, inner, out, terminal)?),
+        _ => unreachable!(),
     }
 }

@@ -8,7 +8,7 @@ ghost use Rattle.commands.specs.Status.{status_of};
 
 use crate::help::help_asked;
 use clap::error::{Error, ErrorKind};
-use commands::CommandError;
+use commands::{CommandError, print_all};
 use std::alloc::{AllocError, Global};
 use std::io::Write;
 
@@ -47,9 +47,7 @@ fn print<O: Write>(text: &str, out: &mut O) -> Result<(), CommandError>
     ensures fault { IfErr result IsPrintFault }
     ensures status { IfErr result (λ e. status_of e ≡ 3) }
 {
-    out.write_all(text.as_bytes())
-        .map_err(CommandError::Output)?;
-    out.flush().map_err(CommandError::Output)
+    print_all(out, text.as_bytes())
 }
 
 /// The mistake in one line: clap's text without its usage, and what it takes for meant.

@@ -10,7 +10,6 @@ use Rattle.clap.specs.Words.{Row, first_of}
 use Rattle.command_lines.specs.CommandLine.{option_text}
 use Rattle.remote.specs.Line.{ConnectionValue}
 use Rattle.text_verifier.specs.Texts.{IsDigestText}
-use Rattle.commands.specs.Ended.{is_done}
 use Rattle.commands.specs.GetRefused.{FailsGet, FailsGot, FailsGetTree, TellsTree}
 use Rattle.commands.specs.GetRefused.FailsGet.{in_work}
 use Rattle.commands.specs.GetRefused.FailsGetTree.{in_memory, in_tree}
@@ -49,17 +48,17 @@ module _ (sees : Sight) (options : List Row) (start : ConnectionValue) (digest :
 
   module _ (starts : StartsGet sees options digest start) (into : Option (List ℕ)) (is : first_of (codes "into") options ≡ into)
       (result : Result Ended CommandError) where
-    pub asked_by : (old new : Option (List ℕ)) → IfOk result (λ ended. IsGot sees into start digest old new (is_done ended))
-        → IfOk result (λ ended. GetsAsked sees options old new (is_done ended))
-    asked_by old new got = by result got
+    pub asked_by : (address : List ℕ) → address ≡ option_text options (codes "server") → (old new : Option (List ℕ))
+        → IfOk result (IsGot sees into start address digest old new) → IfOk result (GetsAsked sees options old new)
+    asked_by address same old new got = by result got
       where
-        by : (r : Result Ended CommandError) → IfOk r (λ ended. IsGot sees into start digest old new (is_done ended))
-            → IfOk r (λ ended. GetsAsked sees options old new (is_done ended))
+        by : (r : Result Ended CommandError) → IfOk r (IsGot sees into start address digest old new) → IfOk r (GetsAsked sees options old new)
         by (Ok ended) h = record {
           digest = digest;
           start = start;
           starts = starts;
-          got = subst (λ o. IsGot sees o start digest old new (is_done ended)) (sym is) h;
+          got = subst (λ o. IsGot sees o start (option_text options (codes "server")) digest old new ended) (sym is)
+              (subst (λ a. IsGot sees into start a digest old new ended) same h);
         }
         by (Err e) h = tt
 

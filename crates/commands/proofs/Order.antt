@@ -1,12 +1,11 @@
 -- Names of children, which ascend where the names that were read do.
 use Rattle.std.proofs.Common.{◌≡◌, ◌≢◌, ◌∙◌, ℕ, List, [], ◌∷◌, ◌++◌, ap, inl, inr, subst, sym}
 use Rattle.std.specs.List.{AllByRecursion}
-use Rattle.std.specs.declared.cmp.Ordering.{Ordering}
 use Rattle.std.specs.declared.cmp.Ordering.TheVariants.{Less, Equal}
 use Rattle.messages.specs.DirectoryRules.{AreNames, DirectoryValue, directory_names, file_names, symlink_names}
 use Rattle.messages.specs.Order.{IsAscending, ShareNone, bytes_cmp}
 use Rattle.messages.proofs.Orders.{itself}
-use Rattle.commands.specs.Children.{AddsName, AreNamed}
+use Rattle.commands.specs.Children.{AddsName}
 
 -- they all come before this name
 abbrev pub Before : List ℕ → List (List ℕ) → Type 0

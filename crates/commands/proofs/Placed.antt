@@ -4,7 +4,7 @@ use Rattle.std.proofs.Math.Logic.{∥∥₁_map}
 use Rattle.std.proofs.lemmas.Result.{IfErr-weaker, IfOk-weaker}
 use Rattle.std.specs.declared.alloc.Global.{Global}
 use Rattle.std.specs.declared.string.String.{String}
-use Rattle.std.specs.Prelude.{IfSome, None, Option, Some, codes, ⊤}
+use Rattle.std.specs.Prelude.{IfSome, None, Option, Some, codes}
 use Rattle.blob_source.specs.Source.{Telling}
 use Rattle.clap.specs.Words.{Row}
 use Rattle.command_lines.specs.CommandLine.{option_text}
@@ -14,7 +14,7 @@ use Rattle.verifier.specs.declared.verdict.Verdict.{Verdict}
 use Rattle.text_verifier.specs.declared.answering.Answer.{Answer}
 use Rattle.text_verifier.specs.declared.lack.Lack.{Lack}
 use Rattle.remote.specs.Line.{ConnectionValue}
-use Rattle.commands.specs.Places.{FailsInFolder, IsOfFolder, IsOfServer, IsConnected, IsAnsweredBy, IsToldOver, LacksAtServer}
+use Rattle.commands.specs.Places.{FailsInFolder, IsOfFolder, IsOfServer, IsConnected, IsAnsweredBy, IsToldOver, LacksAtServer, LacksInFolder}
 use Rattle.commands.specs.Printed.{IsConnectedTo, IsOfOptions, IsOfPlace, IsNamedPlace, LacksAtPlace, NamesPlace}
 use Rattle.commands.specs.Refusal.{FailsPlace, FailsServer}
 use Rattle.commands.specs.World.{Sight}
@@ -28,10 +28,6 @@ names_place options (Folder folder) place = inl place.0
 names_place options (Server server) place = inr place.0
 
 -- ---- what is missing
-
-pub if_some_all : {X : Type 0} (o : Option X) (P : X → Type 0) → ((x : X) → P x) → IfSome o P
-if_some_all None P all = tt
-if_some_all (Some x) P all = all x
 
 pub if_some_weaker : {X : Type 0} (o : Option X) (P Q : X → Type 0) → ((x : X) → P x → Q x) → IfSome o P → IfSome o Q
 if_some_weaker None P Q by h = tt
@@ -58,11 +54,13 @@ lacked_by sees options question verdict lack is h = subst (λ o. IfSome o (λ l.
 module _ (sees : Sight) (options : List Row) where
   module _ (folder : String Global) where
     pub in_folder : (question : Question) (result : Result (Answer Global) CommandError) → IsNamedPlace options (Folder folder)
-        → IfOk result (IsAnsweredBy (IsOfFolder sees (string_bytes folder)) (λ _. ⊤) question)
+        → IfOk result (IsAnsweredBy (IsOfFolder sees (string_bytes folder)) (LacksInFolder sees (string_bytes folder)) question)
         → IfOk result (IsAnsweredBy (IsOfPlace sees options) (LacksAtPlace sees options) question)
     in_folder question result place h =
-        place_weaker question result (IsOfFolder sees (string_bytes folder)) (IsOfPlace sees options) (λ _. ⊤) (LacksAtPlace sees options)
-        (λ t told. inl (place.0, subst (λ f. IsOfFolder sees f t) place.1 told)) (λ l _. inl place.0) h
+        place_weaker question result (IsOfFolder sees (string_bytes folder)) (IsOfPlace sees options)
+        (LacksInFolder sees (string_bytes folder)) (LacksAtPlace sees options)
+        (λ t told. inl (place.0, subst (λ f. IsOfFolder sees f t) place.1 told))
+        (λ l lacks. inl (place.0, subst (λ f. LacksInFolder sees f l) place.1 lacks)) h
 
     pub in_folder_fails : (result : Result (Answer Global) CommandError) → IsNamedPlace options (Folder folder)
         → IfErr result (λ e. ∥ FailsInFolder sees (string_bytes folder) e ∥₁) → IfErr result (λ e. ∥ FailsPlace sees options e ∥₁)
@@ -82,8 +80,11 @@ module _ (sees : Sight) (options : List Row) where
           subst (λ a. IsOfServer sees a (option_text options (codes "prefix")) t) place.1
               (subst (λ p. IsOfServer sees (string_bytes server.address) p t) place.3 told),
         ))
-        (λ l lacks. inr (subst (λ a. LacksAtServer sees a (option_text options (codes "prefix")) l) place.1
-        (subst (λ p. LacksAtServer sees (string_bytes server.address) p l) place.3 lacks))) h
+        (λ l lacks. inr (
+          place.0,
+          subst (λ a. LacksAtServer sees a (option_text options (codes "prefix")) l) place.1
+              (subst (λ p. LacksAtServer sees (string_bytes server.address) p l) place.3 lacks),
+        )) h
 
     pub on_server_fails : (result : Result (Answer Global) CommandError) → IsNamedPlace options (Server server)
         → IfErr result (λ e. ∥ FailsServer sees (string_bytes server.address) server.prefix e ∥₁) → IfErr result (λ e. ∥ FailsPlace sees options e ∥₁)

@@ -14,14 +14,14 @@ use Rattle.blob_source.specs.Source.{Blobs, GrowsAt, bytes_of}
 use Rattle.blob_source.specs.Sink.{IsPut, PutsAt}
 use Rattle.blob_source.specs.declared.source.FetchError.{FetchError}
 use Rattle.http_core.specs.declared.event.Area.{Area}
-use Rattle.remote.specs.Folder.{FailsAt, IsReadAt, LooksInFolder, entry_path}
+use Rattle.remote.specs.Folder.{FailsAt, IsNothingAt, IsReadAt, LooksInFolder, entry_path}
 use Rattle.blob_source.specs.declared.source.FetchError.TheVariants.{Failed, Memory}
 use Rattle.remote.specs.Line.{ConnectionValue, Gets, Puts, get, put}
 use Rattle.remote.specs.Remote.{LooksUp, Stores}
-use Rattle.remote.specs.Table.{HasAnswer, answers, bytes_kept, told_by}
+use Rattle.remote.specs.Table.{HasAnswer, IsSameBut, KeepsNone, answers, bytes_kept, told_by}
 use Rattle.remote.specs.declared.files.FileError.{FileError}
 use Rattle.remote.specs.declared.table.Table.{Table}
-use Rattle.commands.specs.Places.{CameAllOver, CameOver, Comes, FailsInStore, LacksAllOver, LacksOver}
+use Rattle.commands.specs.Places.{CameAllOver, CameOver, Comes, FailsInStore, LacksAll, LacksOver}
 use Rattle.commands.specs.Places.Comes.{fresh, got, taken, refused}
 use Rattle.commands.specs.World.{Sight}
 
@@ -130,7 +130,7 @@ module _ {A T : Type 0} (start : ConnectionValue) (area : Area) (d : DigestValue
     ]
   ]
 
--- ---- what a server lacks
+-- ---- what is lacked
 
 -- nothing is kept where nothing was asked
 pub none_unasked : {A : Type 0} (t : Table A) (d : DigestValue) (b : List ℕ) → (HasAnswer t d → ⊥) → told_by t d ≡ Some b → ⊥
@@ -140,10 +140,26 @@ none_unasked t d b not is = by (answers t d) not is
     by None none e = some_not_none (sym e)
     by (Some answer) none e = none some_not_none
 
--- under a digest the same is kept as before
-lacks_as_before : {A : Type 0} (P : Type 0) (before after : Table A) (e : DigestValue) → answers after e ≡ answers before e
-    → (HasAnswer before e → told_by before e ≡ None → P) → HasAnswer after e → told_by after e ≡ None → P
-lacks_as_before P before after e same held has none = held (subst (λ o. o ≢ None) same has) (sym (ap bytes_kept same) ∙ none)
+pub none_lacked : {A : Type 0} (P : DigestValue → Type 0) (t : Table A) → ((d : DigestValue) → HasAnswer t d → ⊥) → LacksAll P t
+none_lacked P t unasked d none = absurd (unasked d (λ e. some_not_none (sym none ∙ e)))
+
+-- an answer without bytes says that nothing is there
+kept_none : {X : Type 0} (o : Option (Option (Vec ℕ X))) → o ≢ None → bytes_kept o ≡ None → o ≡ Some None
+kept_none None has none = absurd (has refl)
+kept_none (Some None) has none = refl
+kept_none (Some (Some bytes)) has none = absurd (some_not_none none)
+
+-- what was lacked before a call is lacked after it, and so is what it has looked for
+lacked_anew : {A : Type 0} (P : DigestValue → Type 0) (d : DigestValue) (before after : Table A) → IsSameBut d before after
+    → (KeepsNone after d → P d) → LacksAll P before → LacksAll P after
+lacked_anew P d before after others here held e none = elim (same_or_other d e) [
+  | inr other ↦ held e (sym (others e other) ∙ none)
+  | inl same ↦ subst P (sym same) (here (subst (KeepsNone after) same none))
+]
+
+-- the server replied so for each
+abbrev pub LacksAllOver : {A : Type 0} → ConnectionValue → Area → Table A → Type 0
+LacksAllOver start area kept = LacksAll (λ d. LacksOver start area d.hash) kept
 
 module _ {A : Type 0} (start : ConnectionValue) (area : Area) (d : DigestValue) (old new : ConnectionValue) (before after : Table A) where
   -- a look-up that answers none had that as a reply, now or before
@@ -151,17 +167,14 @@ module _ {A : Type 0} (start : ConnectionValue) (area : Area) (d : DigestValue) 
       → bytes_of answer ≡ told_by after d → LacksAllOver start area before → told_by after d ≡ None → LacksOver start area d.hash
   lacks_here answer looks came told held none = elim (there_or_not (answers before d)) [
     | inl not ↦ record { old = old; new = new; before = came; is = subst (Gets old new area d.hash) (told ∙ none) (looks.answered not) }
-    | inr has ↦ held d has (ap bytes_kept (sym ((looks.same has).same d)) ∙ none)
+    | inr has ↦ held d (kept_none (answers before d) has (ap bytes_kept (sym ((looks.same has).same d)) ∙ none))
   ]
 
   pub lacks_on : (result : Result (Option (Vec ℕ A)) FetchError) → LooksUp area d old new before after result → Comes start old
       → IfOk result (λ answer. bytes_of answer ≡ told_by after d) → LacksAllOver start area before → LacksAllOver start area after
-  lacks_on (Err f) looks came told held e has none = lacks_as_before (LacksOver start area e.hash) before after e (looks.unheld.same e) (held e) has none
-  lacks_on (Ok answer) looks came told held e has none = elim (same_or_other d e) [
-    | inr other ↦ lacks_as_before (LacksOver start area e.hash) before after e (looks.others e other) (held e) has none
-    | inl same ↦ subst (λ x. LacksOver start area x.hash) (sym same)
-        (lacks_here answer looks came told held (subst (λ x. told_by after x ≡ None) same none))
-  ]
+  lacks_on (Err f) looks came told held = λ e none. held e (sym (looks.unheld.same e) ∙ none)
+  lacks_on (Ok answer) looks came told held =
+      lacked_anew (λ e. LacksOver start area e.hash) d before after looks.others (λ none. lacks_here answer looks came told held (ap bytes_kept none)) held
 
   pub lacks_now : (result : Result (Option (Vec ℕ A)) FetchError) → LooksUp area d old new before after result → ∥ Comes start old ∥₁
       → IfOk result (λ answer. bytes_of answer ≡ told_by after d) → ∥ LacksAllOver start area before ∥₁
@@ -196,12 +209,9 @@ result_there d bytes new (Ok x) is = λ none. some_not_none (sym is ∙ none)
 pub lacks_by_put : {A T : Type 0} (start : ConnectionValue) (area : Area) (d : DigestValue) (bytes : List ℕ) (old new : ConnectionValue)
     (before after : Table A) (result : Result T FetchError) → Stores area d bytes old new before after result
     → OnOk result (told_by after d ≡ None → ⊥) → LacksAllOver start area before → LacksAllOver start area after
-lacks_by_put start area d bytes old new before after (Err f) stores there held e has none =
-    lacks_as_before (LacksOver start area e.hash) before after e (stores.unheld.same e) (held e) has none
-lacks_by_put start area d bytes old new before after (Ok x) stores there held e has none = elim (same_or_other d e) [
-  | inr other ↦ lacks_as_before (LacksOver start area e.hash) before after e (stores.others e other) (held e) has none
-  | inl same ↦ absurd (there (subst (λ x. told_by after x ≡ None) same none))
-]
+lacks_by_put start area d bytes old new before after (Err f) stores there held = λ e none. held e (sym (stores.unheld.same e) ∙ none)
+lacks_by_put start area d bytes old new before after (Ok x) stores there held =
+    lacked_anew (λ e. LacksOver start area e.hash) d before after stores.others (λ none. absurd (there (ap bytes_kept none))) held
 
 -- ---- a store folder
 
@@ -217,13 +227,28 @@ module _ {A : Type 0} (reads : List ℕ → List ℕ → Type 0) (fails : List �
     where
       anew : (b : List ℕ) → told_by before d ≡ None → told_by after d ≡ Some b → reads (at d) b
       anew b none is = elim (there_or_not (answers before d)) [
-        | inl not ↦ subst (IsReadAt reads (at d)) (told ∙ is) (looks.read not)
+        | inl not ↦ subst (IsReadAt reads fails (at d)) (told ∙ is) (looks.read not)
         | inr has ↦ absurd (some_not_none (sym is ∙ ap bytes_kept ((looks.same has).same d) ∙ none))
       ]
   read_on at d error new_error before after (Err e) looks told grows held = told_anew (λ e b. reads (at e) b) d before after held grows anew
     where
       anew : (b : List ℕ) → told_by before d ≡ None → told_by after d ≡ Some b → reads (at d) b
       anew b none is = absurd (some_not_none (sym is ∙ ap bytes_kept (looks.unheld.same d) ∙ none))
+
+  -- what is kept as nothing was looked for, and wasn't there
+  pub absent_on : (at : DigestValue → List ℕ) (d : DigestValue) (error new_error : Option (FileError A)) (before after : Table A)
+      (result : Result (Option (Vec ℕ A)) FetchError)
+      → LooksInFolder reads fails (at d) d error new_error before after result
+      → IfOk result (λ answer. bytes_of answer ≡ told_by after d)
+      → LacksAll (λ e. IsNothingAt fails (at e)) before → LacksAll (λ e. IsNothingAt fails (at e)) after
+  absent_on at d error new_error before after (Err e) looks told held = λ f none. held f (sym (looks.unheld.same f) ∙ none)
+  absent_on at d error new_error before after (Ok answer) looks told held = lacked_anew (λ e. IsNothingAt fails (at e)) d before after looks.others here held
+    where
+      here : KeepsNone after d → IsNothingAt fails (at d)
+      here none = elim (there_or_not (answers before d)) [
+        | inl not ↦ subst (IsReadAt reads fails (at d)) (told ∙ ap bytes_kept none) (looks.read not)
+        | inr has ↦ held d (sym ((looks.same has).same d) ∙ none)
+      ]
 
 of_some : {X : Type 0} (P : X → Type 0) (o : Option X) (x : X) → IsSomeAnd o P → o ≡ Some x → P x
 of_some P None x h e = absurd h

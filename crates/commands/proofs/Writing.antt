@@ -5,10 +5,13 @@ use Rattle.std.proofs.lemmas.List.{append-nil}
 use Rattle.std.proofs.lemmas.List.Elements.{Contains-append_left}
 use Rattle.report.specs.Line.{HasNoNewline}
 use Rattle.std.proofs.Math.Seq.{drop-append_seam, take-append_seam, take-length}
-use Rattle.std.specs.Prelude.{Option}
+use Rattle.std.specs.Fmt.{debug_str}
+use Rattle.std.specs.Prelude.{IfSome, None, Option, Some, string_bytes}
 use Rattle.std.specs.Io.KnownBytes.{Appends, Keeps}
 use Rattle.std.proofs.KnownBytes.{Appends-nil, Appends-trans, Appends-kept}
-use Rattle.commands.specs.Told.{AppendsBeginning, AppendsPart, AppendsUpTo, IsLineOf, PrintsNoLine, TellsLine, TellsOf}
+use Rattle.commands.specs.Told.{AppendsBeginning, AppendsPart, AppendsUpTo, IsNoteText, PrintsNoLine, TellsNote, TellsOf, line_after, no_blob_text}
+use Rattle.commands.specs.declared.ended.Note.{Note}
+use Rattle.commands.specs.declared.ended.Note.TheVariants.{NoBlob, NoStore, Refused}
 use Rattle.commands.specs.declared.error.CommandError.{CommandError}
 use Rattle.commands.specs.declared.error.CommandError.TheVariants.{Memory}
 use Rattle.std.specs.Prelude.{codes}
@@ -88,26 +91,31 @@ none_in_nothing : HasNoNewline []
 none_in_nothing (k, lt, e) = omega arith
 
 -- a line was told up to here, and what is written stays
-pub line_by : (head : List ℕ) (old mid new : Option (List ℕ)) (line : List ℕ) → IsLineOf head line → AppendsBeginning old mid line
-    → Keeps mid new → TellsLine head old new
-line_by head old mid new line valid begun same =
-    record { line = line; valid = valid; appended = beginning_kept old mid new line begun same }
+pub tells_by : (error : CommandError) (old mid new : Option (List ℕ)) (text line : List ℕ) → line ≡ line_after (codes "error: ") text
+    → (error ≡ Memory → text ≡ codes "out of memory") → AppendsBeginning old mid line → Keeps mid new → TellsOf error old new
+tells_by error old mid new text line is memory begun same =
+    record { text = text; memory = memory; appended = beginning_kept old mid new (line_after (codes "error: ") text) (subst (AppendsBeginning old mid) is begun) same }
 
-pub tells_by : (error : CommandError) (old mid new : Option (List ℕ)) (line : List ℕ) → IsLineOf (codes "error: ") line
-    → (error ≡ Memory → line ≡ codes "error: out of memory\n") → AppendsBeginning old mid line → Keeps mid new → TellsOf error old new
-unfolding line_by
-tells_by error old mid new line valid memory begun same =
-    record { tells = line_by (codes "error: ") old mid new line valid begun same; memory = memory }
+pub note_by : (note : Note) (old mid new : Option (List ℕ)) (text line : List ℕ) → IsNoteText note text → line ≡ line_after (codes "note: ") text
+    → AppendsBeginning old mid line → Keeps mid new → TellsNote note old new
+note_by note old mid new text line words is begun same =
+    record { text = text; is = words; appended = beginning_kept old mid new (line_after (codes "note: ") text) (subst (AppendsBeginning old mid) is begun) same }
 
--- nothing is told of any line
-pub no_line_by : (head : List ℕ) (a : Option (List ℕ)) → TellsLine head a a
-no_line_by head a =
-    let line = head ++ 10 ∷ [] in
-    record {
-      line = line;
-      valid = record { told = []; one = none_in_nothing; line_is = refl };
-      appended = record { rest = line; up_to = up_to_nothing a line };
-    }
+quoted_words : (quoted : Option (List ℕ)) (after : List ℕ) → (text : List ℕ) × ((shown : List ℕ) × IfSome quoted (λ q. shown ≡ q) × (text ≡ shown ++ after))
+quoted_words (Some q) after = (q ++ after, (q, refl, refl))
+quoted_words None after = (after, ([], tt, refl))
+
+words_of_note : (note : Note) → (text : List ℕ) × IsNoteText note text
+words_of_note (NoBlob server digest) = (no_blob_text (string_bytes server) (string_bytes digest), refl)
+words_of_note (NoStore path) = quoted_words (debug_str (string_bytes path)) (codes ": there is no such folder")
+words_of_note (Refused why) = (string_bytes why, refl)
+
+-- nothing is told of the line of a note
+pub no_note_by : (note : Note) (a : Option (List ℕ)) → TellsNote note a a
+no_note_by note a =
+    let words = words_of_note note in
+    let line = line_after (codes "note: ") words.0 in
+    record { text = words.0; is = words.1; appended = record { rest = line; up_to = up_to_nothing a line } }
 
 -- the two parts of a line: its text, and the newline
 pub front_of_line : (text line : List ℕ) (n : ℕ) → line ≡ text ++ 10 ∷ [] → n ≡ length line - 1 → take n line ≡ text

@@ -1,11 +1,16 @@
 -- What was written for a blob that was asked of a server.
-use Rattle.std.specs.Prelude.{◌≡◌, ◌⊎◌, ℕ, Bool, true, false, List, Option, None}
+use Rattle.std.specs.Prelude.{◌≡◌, ◌⊎◌, ℕ, List, Option, None, Some, string_bytes}
 use Rattle.std.specs.Io.KnownBytes.{Appends}
 use Rattle.blob_digest.specs.Digest.{DigestValue, digest_of, empty_digest}
+use Rattle.blob_digest.specs.Text.{digest_text}
 use Rattle.http_core.specs.declared.event.Area.TheVariants.{Cas}
 use Rattle.remote.specs.Line.{ConnectionValue, Gets}
 use Rattle.commands.specs.Places.{CameOver}
 use Rattle.commands.specs.Told.{AppendsBeginning}
+use Rattle.commands.specs.declared.ended.Ended.{Ended}
+use Rattle.commands.specs.declared.ended.Ended.TheVariants.{Done, No}
+use Rattle.commands.specs.declared.ended.Note.{Note}
+use Rattle.commands.specs.declared.ended.Note.TheVariants.{NoBlob}
 
 -- Bytes with the digest came over the connection that stood so. For the empty ones nothing is
 -- asked.
@@ -20,12 +25,19 @@ pub record WritesRight (start : ConnectionValue) (digest : DigestValue)
   pub blob : IsBlobOver start digest bytes
   pub printed : Appends old new bytes
 
--- the reply came over it that there is none, and nothing was written
-pub record WritesNothing (start : ConnectionValue) (digest : DigestValue)
-    (old new : Option (List ℕ)) : Type 0 where
+-- the note says that the server at the address has no blob of the digest
+abbrev pub NotesNoBlob : List ℕ → DigestValue → Option Note → Type 0
+NotesNoBlob address digest (Some (NoBlob server text)) =
+    (string_bytes server ≡ address) × (string_bytes text ≡ digest_text digest)
+NotesNoBlob address digest _ = ⊥
+
+-- the reply came over it that there is none, nothing was written, and the note says why
+pub record WritesNothing (start : ConnectionValue) (address : List ℕ) (digest : DigestValue)
+    (note : Option Note) (old new : Option (List ℕ)) : Type 0 where
   pub now : ConnectionValue
   pub none : Gets start now Cas digest.hash None
   pub unprinted : new ≡ old
+  pub noted : NotesNoBlob address digest note
 
 -- a beginning of a blob with the digest
 pub record WritesPart (digest : DigestValue) (old new : Option (List ℕ)) : Type 0 where
@@ -33,8 +45,9 @@ pub record WritesPart (digest : DigestValue) (old new : Option (List ℕ)) : Typ
   pub right : digest_of bytes ≡ digest
   pub begun : AppendsBeginning old new bytes
 
--- the blob with the digest, or nothing where the server has none
-abbrev pub Writes : ConnectionValue → DigestValue → Option (List ℕ) → Option (List ℕ) → Bool
-    → Type 0
-Writes start digest old new true = WritesRight start digest old new
-Writes start digest old new false = WritesNothing start digest old new
+-- the blob with the digest, or nothing where the server at the address has none
+abbrev pub Writes : ConnectionValue → List ℕ → DigestValue → Option (List ℕ) → Option (List ℕ)
+    → Ended → Type 0
+Writes start address digest old new Done = WritesRight start digest old new
+Writes start address digest old new (No note) =
+    WritesNothing start address digest note old new

@@ -8,12 +8,14 @@ use Rattle.blob_source.specs.declared.source.FetchError.{FetchError}
 use Rattle.http_core.specs.declared.event.Area.{Area}
 use Rattle.http_core.specs.declared.event.Area.TheVariants.{Ac, Cas}
 use Rattle.remote.specs.Flow.{unknown}
-use Rattle.remote.specs.Folder.{FailsAt, entry_path}
+use Rattle.remote.specs.Folder.{FailsAt, IsNothingAt, entry_path}
+use Rattle.remote.specs.Folder as folders
 use Rattle.remote.specs.Line.{ConnectionValue, Gets, Puts, RefusesRequest, Request}
 use Rattle.remote.specs.Remote.{blobs_of, results_of}
-use Rattle.remote.specs.Table.{HasAnswer, told_by}
+use Rattle.remote.specs.Table.{HasAnswer, KeepsNone}
 use Rattle.remote.specs.declared.fault.Fault.{Fault}
 use Rattle.remote.specs.declared.files.FileError.{FileError}
+use Rattle.remote.specs.declared.folder.FolderSource.{FolderSource}
 use Rattle.remote.specs.declared.remote.Remote.{Remote}
 use Rattle.remote.specs.declared.table.Table.{Table}
 use Rattle.text_verifier.specs.Answered.{IsAnswer}
@@ -37,6 +39,16 @@ IsAnsweredBy source lacks question answer =
     (told : Telling) × (∥ source told ∥₁) × IsAnswer told question answer
     × IfSome answer.lack (λ lack. ∥ lacks lack ∥₁)
 
+-- what is kept as nothing is lacked so
+abbrev pub LacksAll : {A : Type 0} → (DigestValue → Type 0) → Table A → Type 0
+LacksAll lacks kept = (d : DigestValue) → KeepsNone kept d → lacks d
+
+-- of blobs and of results
+pub record AreLacked {A : Type 0} (lacks : Lack → Type 0) (kept_blobs kept_results : Table A)
+    : Type 0 where
+  pub blobs : LacksAll (λ d. lacks (Blob d)) kept_blobs
+  pub results : LacksAll (λ d. lacks (ActionResult d)) kept_results
+
 -- ---- a store folder
 
 -- what is told was read in this part of the folder
@@ -49,17 +61,25 @@ pub record IsOfFolder (sees : Sight) (folder : List ℕ) (told : Telling) : Type
   pub blobs : WereRead sees folder (codes "cas") told.blobs
   pub results : WereRead sees folder (codes "ac") told.results
 
+-- the world told that nothing is where this folder would have the blob's file, or the result's
+abbrev pub LacksInFolder : Sight → List ℕ → Lack → Type 0
+LacksInFolder sees folder (Blob d) = IsNothingAt sees.fails (entry_path folder (codes "cas") d)
+LacksInFolder sees folder (ActionResult d) =
+    IsNothingAt sees.fails (entry_path folder (codes "ac") d)
+
 -- a file of the store couldn't be read, for this
 pub record FailsInStore (sees : Sight) (folder : List ℕ) (e : FileError Global) : Type 0 where
   pub part : List ℕ
   pub digest : DigestValue
   pub fails : FailsAt sees.fails (entry_path folder part digest) e
 
--- and this is the error of its last failure
-pub record IsInFolder (sees : Sight) (folder : List ℕ) (told : Telling)
-    (error : Option (FileError Global)) : Type 0 where
-  pub told_is : IsOfFolder sees folder told
-  pub failed : (e : FileError Global) → error ≡ Some e → FailsInStore sees folder e
+-- What a store in this folder tells, what it keeps as nothing, and its last failure are of files
+-- there.
+pub record IsInFolder {R : Type 0} (sees : Sight) (folder : List ℕ) (s : FolderSource R Global)
+    : Type 0 where
+  pub told : IsOfFolder sees folder (folders.telling_of s)
+  pub lacked : AreLacked (LacksInFolder sees folder) (folders.blobs_of s) (folders.results_of s)
+  pub failed : (e : FileError Global) → folders.error_of s ≡ Some e → FailsInStore sees folder e
 
 -- the error tells that a file of the store couldn't be read, or that memory ran out
 abbrev pub FailsInFolder : Sight → List ℕ → CommandError → Type 0
@@ -116,17 +136,6 @@ pub record LacksOver (start : ConnectionValue) (area : Area) (hash : List ℕ) :
 abbrev pub LacksIt : ConnectionValue → Lack → Type 0
 LacksIt start (Blob d) = LacksOver start Cas d.hash
 LacksIt start (ActionResult d) = LacksOver start Ac d.hash
-
--- so it is with what was asked, and is told as nothing
-abbrev pub LacksAllOver : {A : Type 0} → ConnectionValue → Area → Table A → Type 0
-LacksAllOver start area kept =
-    (d : DigestValue) → HasAnswer kept d → told_by kept d ≡ None → LacksOver start area d.hash
-
--- of blobs and of results
-pub record AreLackedOver {A : Type 0} (start : ConnectionValue) (kept_blobs kept_results : Table A)
-    : Type 0 where
-  pub blobs : LacksAllOver start Cas kept_blobs
-  pub results : LacksAllOver start Ac kept_results
 
 -- a client over the connection told this, which now stands so
 pub record IsClientOver (start now : ConnectionValue) (told : Telling) : Type 0 where

@@ -1,5 +1,5 @@
 -- What a command prints, by its options.
-use Rattle.std.specs.Prelude.{◌≡◌, ◌⊎◌, ℕ, Bool, false, List, [], ◌∷◌, ◌++◌, Option, None, Some}
+use Rattle.std.specs.Prelude.{◌≡◌, ◌⊎◌, ℕ, false, List, [], ◌∷◌, ◌++◌, Option, None, Some}
 use Rattle.std.specs.Prelude.{IsSome, codes, string_bytes, IfSome}
 use Rattle.std.specs.Io.KnownBytes.{Appends}
 use Rattle.std.specs.Net.Text.{socket_text}
@@ -10,9 +10,8 @@ use Rattle.blob_digest.specs.Text.{digest_text}
 use Rattle.clap.specs.Words.{Row, first_of}
 use Rattle.report.specs.Line.{report_line}
 use Rattle.cache_server.specs.Cache.{empty_cache}
-use Rattle.remote.specs.Folder.{IsNotThere}
+use Rattle.remote.specs.Folder.{IsNothingAt}
 use Rattle.remote.specs.Line.{ConnectionValue}
-use Rattle.remote.specs.declared.files.FileError.{FileError}
 use Rattle.blob_source.specs.Source.{Telling}
 use Rattle.verifier.specs.declared.verdict.Verdict.{Verdict}
 use Rattle.text_verifier.specs.Answered.{IsJudged}
@@ -22,6 +21,7 @@ use Rattle.text_verifier.specs.declared.lack.Lack.{Lack}
 use Rattle.commands.specs.Got.{Writes, WritesPart}
 use Rattle.commands.specs.Options.{IsValidServer, number_of, number_or}
 use Rattle.commands.specs.Places.{IsOfFolder, IsOfServer, IsConnected, LacksAtServer}
+use Rattle.commands.specs.Places.{LacksInFolder}
 use Rattle.commands.specs.Put.{PutsPath}
 use Rattle.commands.specs.Trees.{BeginsMissing, IsTreeGot}
 use Rattle.commands.specs.World.{Serving, Sight}
@@ -72,11 +72,13 @@ IsOfPlace sees options told =
     (NamesStore options × IsOfFolder sees (option_text options (codes "store")) told)
     ⊎ (NamesServer options × IsOfOptions sees options told)
 
--- A server that they name replied that it has no such blob or result. Of a store nothing is said.
+-- The store folder that they name has no file of it, as the world told; or the server that they
+-- name replied that it has no such blob or result.
 abbrev pub LacksAtPlace : Sight → List Row → Lack → Type 0
-LacksAtPlace sees options lack = NamesStore options
-    ⊎ LacksAtServer sees (option_text options (codes "server"))
-    (option_text options (codes "prefix")) lack
+LacksAtPlace sees options lack =
+    (NamesStore options × LacksInFolder sees (option_text options (codes "store")) lack)
+    ⊎ (NamesServer options × LacksAtServer sees (option_text options (codes "server"))
+    (option_text options (codes "prefix")) lack)
 
 -- The digests in the words, and the files that they name, as they were read, ask this question.
 pub record AsksQuestion (sees : Sight) (options : List Row) (question : Question) : Type 0 where
@@ -107,8 +109,7 @@ pub record PrintsVerdict (sees : Sight) (options : List Row) (old new : Option (
 
 -- the world told that no folder is at the path
 abbrev pub LacksFolder : Sight → List ℕ → Type 0
-LacksFolder sees path = sees.leads path false
-    ⊎ ((f : FileError Global) × sees.fails path f × IsNotThere f)
+LacksFolder sees path = sees.leads path false ⊎ IsNothingAt sees.fails path
 
 -- A note of it says that the options name a store folder, and that none is there.
 abbrev pub NotesStore : Sight → List Row → Ended → Type 0
@@ -135,21 +136,22 @@ pub record StartsGet (sees : Sight) (options : List Row) (digest : DigestValue)
   pub opened : IsConnectedTo sees options start
 
 -- the blob was written, or with words of a folder the tree into that; or the server lacks it
-abbrev pub IsGot : Sight → Option (List ℕ) → ConnectionValue → DigestValue → Option (List ℕ)
-    → Option (List ℕ) → Bool → Type 0
-IsGot sees None start digest old new found = Writes start digest old new found
-IsGot sees (Some folder) start digest old new found =
-    IsTreeGot sees start digest folder old new found
+abbrev pub IsGot : Sight → Option (List ℕ) → ConnectionValue → List ℕ → DigestValue
+    → Option (List ℕ) → Option (List ℕ) → Ended → Type 0
+IsGot sees None start address digest old new ended = Writes start address digest old new ended
+IsGot sees (Some folder) start address digest old new ended =
+    IsTreeGot sees start digest folder old new ended
 
-pub record GetsAsked (sees : Sight) (options : List Row) (old new : Option (List ℕ)) (found : Bool)
+pub record GetsAsked (sees : Sight) (options : List Row) (old new : Option (List ℕ)) (ended : Ended)
     : Type 0 where
   pub digest : DigestValue
   pub start : ConnectionValue
   pub starts : StartsGet sees options digest start
-  pub got : IsGot sees (first_of (codes "into") options) start digest old new found
+  pub got : IsGot sees (first_of (codes "into") options) start
+      (option_text options (codes "server")) digest old new ended
 
--- Nothing was written, or a beginning of a blob whose digest the options spell; or where they name a
--- folder, a beginning of the line of a blob that the server lacks.
+-- Nothing was written, or a beginning of a blob whose digest the options spell; or where they name
+-- a folder, a beginning of the line of a blob that the server lacks.
 abbrev pub GetsPart : List Row → Option (List ℕ) → Option (List ℕ) → Type 0
 GetsPart options old new = (new ≡ old)
     ⊎ (((digest : DigestValue) × (first_of (codes "into") options ≡ None)

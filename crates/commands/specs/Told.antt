@@ -1,7 +1,11 @@
 -- What standard error is told.
-use Rattle.std.specs.Prelude.{◌≡◌, ℕ, ◌<◌, List, [], ◌∷◌, ◌++◌, length, Option, codes}
+use Rattle.std.specs.Prelude.{◌≡◌, ℕ, ◌<◌, ◌==◌, List, [], ◌∷◌, ◌++◌, length, map, Option, None}
+use Rattle.std.specs.Prelude.{IfSome, Some, codes, if◌then◌else◌, string_bytes}
+use Rattle.std.specs.Fmt.{debug_str}
 use Rattle.std.specs.Io.KnownBytes.{Appends}
 use Rattle.report.specs.Line.{HasNoNewline}
+use Rattle.commands.specs.declared.ended.Note.{Note}
+use Rattle.commands.specs.declared.ended.Note.TheVariants.{NoBlob, NoStore, Refused}
 use Rattle.commands.specs.declared.error.CommandError.{CommandError}
 use Rattle.commands.specs.declared.error.CommandError.TheVariants.{Memory}
 
@@ -28,23 +32,44 @@ pub record PrintsNoLine (old new : Option (List ℕ)) : Type 0 where
   pub unbroken : HasNoNewline text
   pub printed : Appends old new text
 
--- one line, which begins with this head
-pub record IsLineOf (head line : List ℕ) : Type 0 where
-  pub told : List ℕ
-  pub one : HasNoNewline told
-  pub line_is : line ≡ head ++ (told ++ 10 ∷ [])
+-- a text in one line: a space stands for each newline
+abbrev pub in_one_line : List ℕ → List ℕ
+in_one_line text = map (λ b. if b == 10 then 32 else b) text
 
--- such a line was appended, or a beginning of it
-pub record TellsLine (head : List ℕ) (old new : Option (List ℕ)) : Type 0 where
-  pub line : List ℕ
-  pub valid : IsLineOf head line
-  pub appended : AppendsBeginning old new line
+-- that line, with this head
+abbrev pub line_after : List ℕ → List ℕ → List ℕ
+line_after head text = head ++ (in_one_line text ++ 10 ∷ [])
 
--- that of an error: lack of memory is told as that
+-- the line of an error was appended, or a beginning of it: lack of memory is told as that
 pub record TellsOf (error : CommandError) (old new : Option (List ℕ)) : Type 0 where
-  pub tells : TellsLine (codes "error: ") old new
-  pub memory : error ≡ Memory → tells.line ≡ codes "error: out of memory\n"
+  pub text : List ℕ
+  pub memory : error ≡ Memory → text ≡ codes "out of memory"
+  pub appended : AppendsBeginning old new (line_after (codes "error: ") text)
 
--- that of a note
-abbrev pub TellsNote : Option (List ℕ) → Option (List ℕ) → Type 0
-TellsNote = TellsLine (codes "note: ")
+-- the words of a note of a blob, and of one of a folder: a path in quotes, as Rust's `{:?}` shows
+-- it, which is stated of ASCII alone
+abbrev pub no_blob_text : List ℕ → List ℕ → List ℕ
+no_blob_text server digest = server ++ (codes " has no blob " ++ digest)
+
+abbrev pub IsNoStoreText : List ℕ → List ℕ → Type 0
+IsNoStoreText path text =
+    (quoted : List ℕ) × IfSome (debug_str path) (λ shown. quoted ≡ shown)
+    × (text ≡ quoted ++ codes ": there is no such folder")
+
+-- those of a note
+abbrev pub IsNoteText : Note → List ℕ → Type 0
+IsNoteText (NoBlob server digest) text =
+    text ≡ no_blob_text (string_bytes server) (string_bytes digest)
+IsNoteText (NoStore path) text = IsNoStoreText (string_bytes path) text
+IsNoteText (Refused why) text = text ≡ string_bytes why
+
+-- the line of a note was appended, or a beginning of it
+pub record TellsNote (note : Note) (old new : Option (List ℕ)) : Type 0 where
+  pub text : List ℕ
+  pub is : IsNoteText note text
+  pub appended : AppendsBeginning old new (line_after (codes "note: ") text)
+
+-- and nothing where there is none
+abbrev pub TellsNoteOf : Option Note → Option (List ℕ) → Option (List ℕ) → Type 0
+TellsNoteOf None old new = new ≡ old
+TellsNoteOf (Some note) old new = TellsNote note old new

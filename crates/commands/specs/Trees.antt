@@ -1,5 +1,5 @@
 -- What `get --into` comes to.
-use Rattle.std.specs.Prelude.{◌≡◌, ◌⊎◌, ℕ, Bool, true, false, List, ◌++◌, Option, codes}
+use Rattle.std.specs.Prelude.{◌≡◌, ◌⊎◌, ℕ, List, ◌++◌, Option, None, Some, codes}
 use Rattle.std.specs.Io.KnownBytes.{Appends}
 use Rattle.std.specs.declared.alloc.Global.{Global}
 use Rattle.blob_digest.specs.Digest.{DigestValue}
@@ -14,6 +14,8 @@ use Rattle.remote.specs.Line.{ConnectionValue}
 use Rattle.commands.specs.Places.{IsToldOver, LacksOver}
 use Rattle.commands.specs.Told.{AppendsBeginning}
 use Rattle.commands.specs.World.{Sight}
+use Rattle.commands.specs.declared.ended.Ended.{Ended}
+use Rattle.commands.specs.declared.ended.Ended.TheVariants.{Done, No}
 
 -- the line of a blob that the server lacks
 abbrev pub missing_line : DigestValue → List ℕ
@@ -45,10 +47,12 @@ pub record LacksTree (sees : Sight) (start : ConnectionValue) (digest : DigestVa
   pub fails : FailsCheckout sees.unwritten told.blobs digest folder error
   pub lacks : PrintsLack start error old new
 
+-- one of both, and the line of a blob stands without a note
 abbrev pub IsTreeGot : Sight → ConnectionValue → DigestValue → List ℕ → Option (List ℕ)
-    → Option (List ℕ) → Bool → Type 0
-IsTreeGot sees start digest folder old new true = WritesTree sees start digest folder old new
-IsTreeGot sees start digest folder old new false = LacksTree sees start digest folder old new
+    → Option (List ℕ) → Ended → Type 0
+IsTreeGot sees start digest folder old new Done = WritesTree sees start digest folder old new
+IsTreeGot sees start digest folder old new (No None) = LacksTree sees start digest folder old new
+IsTreeGot sees start digest folder old new (No (Some note)) = ⊥
 
 -- nothing was printed, or a beginning of the line of a blob
 abbrev pub BeginsMissing : Option (List ℕ) → Option (List ℕ) → Type 0

@@ -4,7 +4,7 @@ ghost use Rattle.blob_source.specs.Called.{Calls};
 ghost use Rattle.blob_source.specs.Sink.{IsPut, PutsBlob};
 ghost use Rattle.blob_source.specs.Source.{AsksBlob, AsksResult, bytes_of};
 ghost use Rattle.commands.specs.Faults.{TellsRefusal};
-ghost use Rattle.commands.specs.Places.{AreLackedOver, FailsOver, FailsToConnect, IsClientOver};
+ghost use Rattle.commands.specs.Places.{AreLacked, FailsOver, FailsToConnect, IsClientOver};
 ghost use Rattle.commands.specs.Places.{IsConnected, IsFresh, LacksIt, LacksOver, TellsOfFault};
 ghost use Rattle.commands.specs.Put.{TakesBlob};
 ghost use Rattle.commands.specs.PutRefused.{RefusesPut};
@@ -45,7 +45,7 @@ pub struct Client<S: Stream + Drop, K: Origin> {
     digest: Digest,
     of: PhantomData<K>,
     ghost over: { ∥ IsClientOver K.start (connection_of S.flow remote) (telling_of remote) ∥₁ },
-    ghost lacked: { ∥ AreLackedOver K.start (blobs_of remote) (results_of remote) ∥₁ },
+    ghost lacked: { ∥ AreLacked (LacksIt K.start) (blobs_of remote) (results_of remote) ∥₁ },
 }
 
 impl<S: Stream + Drop, K: Origin> Client<S, K> {

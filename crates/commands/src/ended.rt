@@ -1,5 +1,3 @@
-use thiserror::Error;
-
 /// What a command that wasn't refused came to.
 #[derive(Drop)]
 pub enum Ended {
@@ -10,13 +8,12 @@ pub enum Ended {
 }
 
 /// What a no doesn't say by itself.
-#[derive(Debug, Drop, Error)]
+#[derive(Drop)]
 pub enum Note {
-    #[error("{server} has no blob {digest}")]
+    /// The server has no blob of the digest.
     NoBlob { server: String, digest: String },
-    #[error("{path:?}: there is no such folder")]
+    /// No folder is at the path.
     NoStore { path: String },
     /// Why a build was refused.
-    #[error("{0}")]
     Refused(String),
 }

@@ -1,10 +1,9 @@
-ghost use Rattle.std.specs.Prelude.{◌≡◌, ◌⊎◌, None, IfErr, IfNone, IfOk, IfSome, OnErr};
+ghost use Rattle.std.specs.Prelude.{◌≡◌, ◌⊎◌, None, Some, IfErr, IfNone, IfOk, IfSome, OnErr};
 ghost use Rattle.std.specs.Prelude.{◌↔◌, IsTrue, string_bytes};
 ghost use Rattle.blob_digest.specs.Digest.{digest_of};
 ghost use Rattle.clap.specs.Words.{found_of, rows_of};
-ghost use Rattle.commands.specs.Ended.{is_done};
 ghost use Rattle.commands.specs.GetRefused.{FailsGetBlob, FailsGet};
-ghost use Rattle.commands.specs.Got.{IsBlobOver, Writes, WritesPart};
+ghost use Rattle.commands.specs.Got.{IsBlobOver, NotesNoBlob, Writes, WritesPart};
 ghost use Rattle.commands.specs.Places.{IsFresh};
 ghost use Rattle.commands.specs.Printed.{GetsAsked, GetsPart};
 ghost use Rattle.commands.specs.Status.{status_of};
@@ -74,7 +73,10 @@ fn get_blob<S: Stream + Drop>(
 }
 
 /// The note that the server has no such blob.
-fn no_blob(alloc: Global, server: &ServerOptions, digest: &Digest) -> Result<Note, AllocError> {
+fn no_blob(alloc: Global, server: &ServerOptions, digest: &Digest) -> Result<Note, AllocError>
+    ensures { IfOk result (λ note.
+        NotesNoBlob (string_bytes server.now.address) digest.now (Some note)) }
+{
     Ok(Note::NoBlob {
         server: String::from_str(alloc, server.address.as_str())?,
         digest: digest.write_text(alloc)?,
@@ -91,8 +93,8 @@ fn print_blob<S: Stream + Drop, O: Write>(
     out: &mut O,
 ) -> Result<Ended, CommandError>
     requires { IsFresh remote }
-    ensures printed { IfOk result (λ ended. Writes (connection_of S.flow remote) digest.now
-        (O.contents out.old) (O.contents out.new) (is_done ended)) }
+    ensures printed { IfOk result (Writes (connection_of S.flow remote)
+        (string_bytes server.now.address) digest.now (O.contents out.old) (O.contents out.new)) }
     ensures begun { OnErr result ((O.contents out.new ≡ O.contents out.old)
         ⊎ WritesPart digest.now (O.contents out.old) (O.contents out.new)) }
     ensures status { IfErr result (λ e. status_of e ≡ 3) }
@@ -115,8 +117,8 @@ pub fn run_get<W: World, O: Write>(
     matches: &ArgMatches<'_>,
     out: &mut O,
 ) -> Result<Ended, CommandError>
-    ensures answered { IfOk result (λ ended. GetsAsked W.sees (rows_of (found_of matches.now))
-        (O.contents out.old) (O.contents out.new) (is_done ended)) }
+    ensures answered { IfOk result (GetsAsked W.sees (rows_of (found_of matches.now))
+        (O.contents out.old) (O.contents out.new)) }
     // A refusal leaves no byte that isn't the blob's, or of the line of one that the server lacks.
     ensures begun { OnErr result
         (GetsPart (rows_of (found_of matches.now)) (O.contents out.old) (O.contents out.new)) }

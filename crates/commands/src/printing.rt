@@ -9,7 +9,7 @@ use crate::telling::write_bytes;
 use std::io::Write;
 
 /// Writes the bytes, and sends them off. Where that fails, a beginning of them was written.
-pub(crate) fn print_all<O: Write>(out: &mut O, bytes: &[u8]) -> Result<(), CommandError>
+pub fn print_all<O: Write>(out: &mut O, bytes: &[u8]) -> Result<(), CommandError>
     ensures printed { OnOk result (Appends (O.contents out.old) (O.contents out.new) bytes.now) }
     ensures begun { OnErr result
         (AppendsBeginning (O.contents out.old) (O.contents out.new) bytes.now) }

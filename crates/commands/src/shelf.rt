@@ -1,6 +1,6 @@
-ghost use Rattle.std.specs.Prelude.{◌≡◌, string_bytes};
-ghost use Rattle.commands.specs.Places.{FailsInFolder, IsInFolder};
-ghost use Rattle.remote.specs.Folder.{error_of, place_of, telling_of};
+ghost use Rattle.std.specs.Prelude.{◌≡◌, IfSome, IsTrue, string_bytes};
+ghost use Rattle.commands.specs.Places.{FailsInFolder, IsInFolder, LacksInFolder};
+ghost use Rattle.remote.specs.Folder.{place_of};
 
 use crate::error::CommandError;
 use crate::world::{FilesOf, World};
@@ -9,6 +9,7 @@ use blob_source::{BlobSource, FetchError};
 use remote::FolderSource;
 use std::alloc::Global;
 use std::marker::{Brand, PhantomData};
+use text_verifier::Lack;
 
 /// Marks a store by its folder.
 pub trait Place {
@@ -29,7 +30,7 @@ pub(crate) struct Shelf<'w, W: World, K: Place> {
     store: FolderSource<'w, FilesOf<'w, W>, Global>,
     of: PhantomData<K>,
     ghost place: { place_of store ≡ K.place },
-    ghost told: { ∥ IsInFolder W.sees K.place (telling_of store) (error_of store) ∥₁ },
+    ghost told: { ∥ IsInFolder W.sees K.place store ∥₁ },
 }
 
 impl<'w, W: World, K: Place> Shelf<'w, W, K> {
@@ -39,6 +40,27 @@ impl<'w, W: World, K: Place> Shelf<'w, W, K> {
         Shelf {
             store: FolderSource::new(alloc, files, folder),
             of: PhantomData,
+        }
+    }
+
+    /// Whether the file of what is told as missing was looked for and isn't there.
+    fn lacks(&self, lack: &Lack) -> bool
+        ensures { IsTrue result → ∥ LacksInFolder W.sees K.place lack.now ∥₁ }
+    {
+        match lack {
+            Lack::Blob(digest) => self.store.lacks_blob(digest),
+            Lack::ActionResult(digest) => self.store.lacks_result(digest),
+        }
+    }
+
+    /// Whether nothing is told as missing, or it is lacked.
+    pub(crate) fn confirms(&self, lack: &Option<Lack>) -> bool
+        ensures { IsTrue result
+            → IfSome lack.now (λ lack. ∥ LacksInFolder W.sees K.place lack ∥₁) }
+    {
+        match lack {
+            Some(lack) => self.lacks(lack),
+            None => true,
         }
     }
 

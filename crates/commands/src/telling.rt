@@ -1,9 +1,10 @@
-ghost use Rattle.std.specs.Prelude.{◌≡◌, ◌≢◌, IfOk, IfErr, OnOk, OnErr, codes};
+ghost use Rattle.std.specs.Prelude.{◌≡◌, ◌≢◌, ℕ, List, IfOk, IfErr, OnOk, OnErr, codes};
+ghost use Rattle.std.specs.Prelude.{string_bytes};
 ghost use Rattle.std.specs.Io.KnownBytes.{Appends};
 ghost use Rattle.commands.specs.Refusal.{IsPrintFault};
 ghost use Rattle.commands.specs.Status.{status_of};
-ghost use Rattle.commands.specs.Told.{AppendsPart, IsLineOf, TellsNote, TellsOf};
-ghost use Rattle.report.specs.Line.{HasNoNewline};
+ghost use Rattle.commands.specs.Told.{AppendsPart, IsNoStoreText, IsNoteText, TellsNote, TellsOf};
+ghost use Rattle.commands.specs.Told.{in_one_line, line_after, no_blob_text};
 
 use crate::ended::Note;
 use crate::error::CommandError;
@@ -41,7 +42,7 @@ pub(crate) fn write_bytes<O: Write>(out: &mut O, bytes: &[u8]) -> Result<(), Com
 
 /// The text in one line: a space stands for each newline.
 fn in_one_line(alloc: Global, text: &[u8]) -> Result<Vec<u8>, AllocError>
-    ensures { IfOk result (λ line. HasNoNewline line.items) }
+    ensures { IfOk result (λ line. line.items ≡ in_one_line text.now) }
 {
     let mut line = Vec::new(alloc);
     for byte in text {
@@ -52,8 +53,8 @@ fn in_one_line(alloc: Global, text: &[u8]) -> Result<Vec<u8>, AllocError>
 }
 
 /// The line of a text after its head: a space stands for each newline of the text.
-fn line_of(alloc: Global, head: &str, text: &str) -> Result<Vec<u8>, AllocError>
-    ensures { IfOk result (λ line. IsLineOf head.now line.items) }
+fn line_after(alloc: Global, head: &str, text: &str) -> Result<Vec<u8>, AllocError>
+    ensures { IfOk result (λ line. line.items ≡ line_after head.now text.now) }
 {
     let told = in_one_line(alloc, text.as_bytes())?;
     let mut line = Vec::new(alloc);
@@ -65,14 +66,15 @@ fn line_of(alloc: Global, head: &str, text: &str) -> Result<Vec<u8>, AllocError>
 
 /// The error's line. That memory is wanting is told without any.
 fn error_line(alloc: Global, error: &CommandError) -> Result<Vec<u8>, AllocError>
-    ensures valid { IfOk result (λ line. IsLineOf (codes "error: ") line.items) }
+    ensures line { IfOk result
+        (λ line. (text : List ℕ) × (line.items ≡ line_after (codes "error: ") text)) }
     ensures other { IfOk result (λ _. error.now ≢ CommandError.Memory) }
 {
     if matches!(error, CommandError::Memory) {
         return Err(AllocError);
     }
     let text = error.to_string(alloc)?;
-    line_of(alloc, "error: ", text.as_str())
+    line_after(alloc, "error: ", text.as_str())
 }
 
 /// Tells the error in one line. Where no memory is left for that, the line tells `out of memory`.
@@ -86,17 +88,42 @@ pub fn tell<E: Write>(alloc: Global, error: &CommandError, err: &mut E)
     let _ = err.flush();
 }
 
+fn no_blob_text(alloc: Global, server: &str, digest: &str) -> Result<String, AllocError>
+    ensures { IfOk result (λ text. string_bytes text ≡ no_blob_text server.now digest.now) }
+{
+    format!(in alloc; "{server} has no blob {digest}")
+}
+
+fn no_store_text(alloc: Global, path: &str) -> Result<String, AllocError>
+    ensures { IfOk result (λ text. IsNoStoreText path.now (string_bytes text)) }
+{
+    let quoted = format!(in alloc; "{path:?}")?;
+    format!(in alloc; "{quoted}: there is no such folder")
+}
+
+/// The note's words.
+fn note_text(alloc: Global, note: &Note) -> Result<String, AllocError>
+    ensures { IfOk result (λ text. IsNoteText note.now (string_bytes text)) }
+{
+    match note {
+        Note::NoBlob { server, digest } => no_blob_text(alloc, server.as_str(), digest.as_str()),
+        Note::NoStore { path } => no_store_text(alloc, path.as_str()),
+        Note::Refused(why) => String::from_str(alloc, why.as_str()),
+    }
+}
+
 /// The note's line.
 fn note_line(alloc: Global, note: &Note) -> Result<Vec<u8>, AllocError>
-    ensures { IfOk result (λ line. IsLineOf (codes "note: ") line.items) }
+    ensures { IfOk result (λ line. (text : List ℕ) × IsNoteText note.now text
+        × (line.items ≡ line_after (codes "note: ") text)) }
 {
-    let text = note.to_string(alloc)?;
-    line_of(alloc, "note: ", text.as_str())
+    let text = note_text(alloc, note)?;
+    line_after(alloc, "note: ", text.as_str())
 }
 
 /// Tells the note in one line. Where no memory is left for that, nothing is told.
 pub fn tell_note<E: Write>(alloc: Global, note: &Note, err: &mut E)
-    ensures { TellsNote (E.contents err.old) (E.contents err.new) }
+    ensures { TellsNote note.now (E.contents err.old) (E.contents err.new) }
 {
     let Ok(line) = note_line(alloc, note) else {
         return;

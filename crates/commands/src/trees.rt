@@ -1,6 +1,5 @@
 ghost use Rattle.std.specs.Prelude.{◌≡◌, ◌⊎◌, IfErr, IfOk, OnErr, OnOk, string_bytes};
 ghost use Rattle.std.specs.Io.KnownBytes.{Appends};
-ghost use Rattle.commands.specs.Ended.{is_done};
 ghost use Rattle.commands.specs.GetRefused.{FailsGetTree, TellsTree};
 ghost use Rattle.commands.specs.Places.{IsFresh};
 ghost use Rattle.commands.specs.Refusal.{IsPrintFault};
@@ -94,8 +93,8 @@ fn get_over<W: World, S: Stream + Drop, K: Origin, O: Write>(
 ) -> Result<Ended, CommandError>
     requires start { K.start ≡ connection_of S.flow remote }
     requires fresh { IsFresh remote }
-    ensures got { IfOk result (λ ended. IsTreeGot W.sees K.start digest.now (string_bytes folder)
-        (O.contents out.old) (O.contents out.new) (is_done ended)) }
+    ensures got { IfOk result (IsTreeGot W.sees K.start digest.now (string_bytes folder)
+        (O.contents out.old) (O.contents out.new)) }
     ensures begun { OnErr result (BeginsMissing (O.contents out.old) (O.contents out.new)) }
     ensures fault { IfErr result (FailsGetTree W.sees K.start (string_bytes server.now.address)
         digest.now (string_bytes folder)) }
@@ -123,8 +122,8 @@ pub(crate) fn get_tree<W: World, O: Write>(
     out: &mut O,
 ) -> Result<Ended, CommandError>
     requires fresh { IsFresh remote }
-    ensures got { IfOk result (λ ended. IsTreeGot W.sees (connection_of W.Link.flow remote)
-        digest.now folder.now (O.contents out.old) (O.contents out.new) (is_done ended)) }
+    ensures got { IfOk result (IsTreeGot W.sees (connection_of W.Link.flow remote) digest.now
+        folder.now (O.contents out.old) (O.contents out.new)) }
     ensures begun { OnErr result (BeginsMissing (O.contents out.old) (O.contents out.new)) }
     ensures fault { IfErr result (FailsGetTree W.sees (connection_of W.Link.flow remote)
         (string_bytes server.now.address) digest.now folder.now) }

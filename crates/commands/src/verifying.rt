@@ -1,5 +1,5 @@
 ghost use Rattle.std.specs.Prelude.{◌≡◌, ◌≢◌, ◌↔◌, IfErr, IfNone, IfOk, IfSome, IsTrue, None};
-ghost use Rattle.std.specs.Prelude.{OnErr, OnOk, codes, string_bytes, ⊤};
+ghost use Rattle.std.specs.Prelude.{OnErr, OnOk, codes, string_bytes};
 ghost use Rattle.std.specs.Io.KnownBytes.{Appends};
 ghost use Rattle.blob_source.specs.Source.{Telling};
 ghost use Rattle.clap.specs.Words.{found_of, first_of, rows_of};
@@ -7,7 +7,7 @@ ghost use Rattle.command_lines.specs.CommandLine.{option_text};
 ghost use Rattle.commands.specs.Ended.{is_done};
 ghost use Rattle.commands.specs.Places.{FailsInFolder, FailsOver, IsFresh, IsOfFolder};
 ghost use Rattle.commands.specs.Places.{IsOfServer, IsAnsweredBy, IsToldOver, LacksAtServer};
-ghost use Rattle.commands.specs.Places.{LacksIt};
+ghost use Rattle.commands.specs.Places.{LacksInFolder, LacksIt};
 ghost use Rattle.commands.specs.Printed.{AsksQuestion, IsNamedPlace, IsOfPlace, NamesPlace};
 ghost use Rattle.commands.specs.Printed.{LacksFolder, NamesStore, NotesStore, PrintsVerdict};
 ghost use Rattle.commands.specs.Printed.{LacksAtPlace};
@@ -178,13 +178,19 @@ fn judge_folder<W: World, K: Place>(
     case: &Case<Global>,
 ) -> Result<Answer<Global>, CommandError>
     requires { K.place ≡ string_bytes folder }
-    ensures answered { IfOk result (IsAnsweredBy (IsOfFolder W.sees K.place) (λ _. ⊤) case.now) }
+    ensures answered { IfOk result
+        (IsAnsweredBy (IsOfFolder W.sees K.place) (LacksInFolder W.sees K.place) case.now) }
     ensures fault { IfErr result (λ e. ∥ FailsInFolder W.sees K.place e ∥₁) }
 {
     let files = FilesOf(world);
     let mut shelf: Shelf<'_, W, K> = Shelf::new(alloc, &files, folder);
     match answer_question(alloc, case, &mut shelf) {
-        Ok(answer) => Ok(answer),
+        Ok(answer) => {
+            if shelf.confirms(&answer.lack) {
+                return Ok(answer);
+            }
+            Err(shelf.into_error())
+        }
         Err(TextError::Fetch) => Err(shelf.into_error()),
         Err(_e) => Err(CommandError::Memory),
     }

@@ -1,13 +1,13 @@
 -- A session within a piece.
-use Rattle.std.proofs.Common.{◌≡◌, ◌≢◌, ℕ, ◌≤◌, ◌+◌, Some, None, List, [], ◌∷◌, ◌++◌, length, map, take, drop, refl, sym, ◌∙◌, ap, subst, append_assoc}
+use Rattle.std.proofs.Common.{◌≡◌, ◌≢◌, ℕ, ◌≤◌, ◌+◌, ◌⊎◌, inl, inr, arith, Option, Some, None, List, [], ◌∷◌, ◌++◌, length, map, take, drop, refl, sym, ◌∙◌, ap, subst, append_assoc}
 use Rattle.std.proofs.Math.Seq.{take-add}
 use Rattle.std.proofs.lemmas.List.{append-nil, map-append, take_all, take-append-drop}
 use Rattle.http_core.specs.declared.event.Event.{Event}
-use Rattle.http_core.specs.Event.{EventValue, closes, event_of, IsValid}
-use Rattle.http_core.specs.Session.{SessionState, Reading, Taking, Closed, SessionValue, Stands, Feeds, ended}
+use Rattle.http_core.specs.Event.{EventValue, event_of, IsValid}
+use Rattle.http_core.specs.Session.{SessionState, Reading, Taking, Closed, SessionValue, Holds, Follows, Stands, Feeds}
 use Rattle.std.specs.List.{AllByRecursion}
 use Rattle.http_core.proofs.Fitting.{valid_with}
-use Rattle.http_core.proofs.Standing.{Moves, stands_on, stands_event, stands_closed, stands_stop}
+use Rattle.http_core.proofs.Standing.{Moves, stands_on, stands_event, stands_closed}
 
 further : (stream piece rest : List ℕ) (at taken : ℕ) → rest ≡ drop at piece → (stream ++ take at piece) ++ take taken rest ≡ stream ++ take (at + taken) piece
 further stream piece rest at taken e = append_assoc stream (take at piece) (take taken rest) ∙ ap (λ z. stream ++ (take at piece ++ take taken z)) e ∙ ap (λ z. stream ++ z) (sym (take-add at taken piece))
@@ -20,10 +20,24 @@ pub first_event_at : (now new : SessionValue) (stream piece rest : List ℕ) (at
 first_event_at now new stream piece rest at taken before event e open_ back moves s =
     subst (λ z. Stands new z (before ++ event ∷ [])) (further stream piece rest at taken back) (stands_event now new (stream ++ take at piece) (take taken rest) before event e open_ moves s)
 
-pub first_event_stops : (now new : SessionValue) (stream piece rest : List ℕ) (at taken : ℕ) (before : List EventValue) (event : EventValue)
-    → now.state ≢ Closed → Moves now (take taken rest) (Some event) new
-    → Stands now (stream ++ take at piece) before → new.state ≡ ended (closes event)
-first_event_stops now new stream piece rest at taken before event open_ moves s = stands_stop now new (stream ++ take at piece) (take taken rest) before event open_ moves s
+-- with what was taken before
+pub moves_further : (now new : SessionValue) (prefix before piece rest : List ℕ) (at taken : ℕ) (event : Option EventValue)
+    → now.prefix ≡ prefix → rest ≡ drop at piece → Moves now (take taken rest) event new
+    → Holds prefix now.state (before ++ take at piece) → Follows prefix (before ++ take (at + taken) piece) event new.state
+moves_further now new prefix before piece rest at taken event same back moves h =
+    subst (λ z. Follows prefix z event new.state) (further before piece rest at taken back)
+    (subst (λ z. Follows z ((before ++ take at piece) ++ take taken rest) event new.state) same
+    (moves (before ++ take at piece) (subst (λ z. Holds z now.state (before ++ take at piece)) (sym same) h)))
+
+-- nothing was taken, and all was
+pub holds_first : (prefix piece rest : List ℕ) (state : SessionState) → Holds prefix state rest → Holds prefix state (rest ++ take 0 piece)
+holds_first prefix piece rest state h = subst (Holds prefix state) (sym (append-nil rest)) h
+
+pub holds_last : (prefix piece rest : List ℕ) (state : SessionState) (at : ℕ) → (state ≡ Closed) ⊎ (length piece ≤ at)
+    → Holds prefix state (rest ++ take at piece) → Holds prefix state (rest ++ take (length piece) piece)
+holds_last prefix piece rest state at (inl shut) h = absurd (subst (λ z. Holds prefix z (rest ++ take at piece)) shut h)
+holds_last prefix piece rest state at (inr all) h =
+    subst (λ z. Holds prefix state (rest ++ z)) (take_all at piece all ∙ sym (take_all (length piece) piece (omega arith))) h
 
 -- with the events of a front of the rest
 pub piece_fed : (now new : SessionValue) (stream piece rest : List ℕ) (at taken : ℕ) (before earlier more : List EventValue)

@@ -108,17 +108,6 @@ pub stands_event : (old new : SessionValue) (stream more : List ℕ) (before : L
 unfolding option_list
 stands_event old new stream more before event e open_ moves s = stands_moved old new stream more before (Some event) e open_ moves s
 
-stop_at : (old new : SessionValue) (more : List ℕ) (event : EventValue) (left : Option (List ℕ))
-    → old.state ≢ Closed → Moves old more (Some event) new → Leaves old.prefix old.state left → new.state ≡ ended (closes event)
-stop_at old new more event None open_ moves l = absurd (open_ l)
-stop_at old new more event (Some rest) open_ moves l = (moves rest l).1
-
--- after an event a session is where its request ends
-pub stands_stop : (old new : SessionValue) (stream more : List ℕ) (before : List EventValue) (event : EventValue)
-    → old.state ≢ Closed → Moves old more (Some event) new → Stands old stream before → new.state ≡ ended (closes event)
-unfolding Stands
-stands_stop old new stream more before event open_ moves (left, c, l) = stop_at old new more event left open_ moves l
-
 closed_leaves : (prefix : List ℕ) (state : SessionState) (rest : List ℕ) → state ≡ Closed → Holds prefix state rest → ⊥
 closed_leaves prefix state rest e h = subst (λ z. Holds prefix z rest) e h
 

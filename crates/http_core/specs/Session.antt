@@ -1,6 +1,6 @@
 -- What a session keeps of a stream.
 use Rattle.std.specs.Prelude.{◌≡◌, ◌≢◌, ℕ, ◌<◌, ◌≤◌, Bool, true, false, List, [], ◌∷◌, ◌++◌}
-use Rattle.std.specs.Prelude.{length, take, Option, Some, None, ⊤, IfSome, option_to_list}
+use Rattle.std.specs.Prelude.{length, take, Option, Some, None, ⊤, option_to_list}
 use Rattle.http_core.specs.declared.event.Area.{Area}
 use Rattle.http_core.specs.declared.judging.Judgement.TheVariants as judgements
 use Rattle.http_core.specs.declared.session.Stage.{Stage}
@@ -107,8 +107,9 @@ pub record FeedsFirst
   pub some : 0 < length piece → 0 < taken
   pub all : event ≡ None → taken ≡ length piece
   pub feeds : Feeds old (take taken piece) (option_to_list event) new
-  pub stops : (stream : List ℕ) (before : List EventValue)
-      → Stands old stream before → IfSome event (λ e. new.state ≡ ended (closes e))
+  -- the bytes of the event's request end with those that were taken
+  pub moves : (rest : List ℕ) → Holds old.prefix old.state rest
+      → Follows old.prefix (rest ++ take taken piece) event new.state
 
 -- the session took the pieces one after another, and answered these events together
 abbrev pub FeedsAll : SessionValue → List (List ℕ) → List EventValue → SessionValue → Type 0

@@ -1,5 +1,5 @@
 ghost use Rattle.std.specs.Prelude.{◌≡◌, ◌≢◌, ℕ, ◌≤◌, ◌<◌, ◌⊎◌, ◌↔◌, List, [], ◌∷◌, ◌++◌};
-ghost use Rattle.std.specs.Prelude.{length, take, IsTrue};
+ghost use Rattle.std.specs.Prelude.{◌-◌, Some, length, slice_get, take, IsTrue};
 ghost use Rattle.std.specs.List.{AllByRecursion};
 ghost use Rattle.http_core.specs.Block.{EndsBlock, IsBlock};
 
@@ -14,6 +14,8 @@ pub(crate) fn first_line(bytes: &[u8], most: usize) -> &[u8]
     ensures most { (length result.now ≤ most) ⊎ (length result.now ≡ 1) }
     ensures front { result.now ≡ take (length result.now) bytes.now }
     ensures within { length result.now ≤ length bytes.now }
+    ensures whole { (length result.now ≡ length bytes.now) ⊎ (most ≤ length result.now)
+        ⊎ (slice_get bytes.now (length result.now - 1) ≡ Some 10) }
 {
     let mut last = 0;
     while last + 1 < bytes.len() && last + 1 < most && bytes[last] != b'\n' {

@@ -1,5 +1,6 @@
 ghost use Rattle.std.specs.Prelude.{◌≡◌, ◌↔◌, ℕ, Bool, ◌<◌, ◌≤◌, ◌++◌, ◌∷◌, List, [], length, take};
-ghost use Rattle.std.specs.Prelude.{map, IsTrue, IfOk, OnErr, OnOk, Option, option_map, option_to_list};
+ghost use Rattle.std.specs.Prelude.{map, IsTrue, IfOk, OnErr, OnOk, Option, option_map};
+ghost use Rattle.std.specs.Prelude.{option_to_list};
 ghost use Rattle.std.specs.List.{AllByRecursion};
 ghost use Rattle.http_core.specs.declared.event.Area.{Area};
 ghost use Rattle.http_core.specs.Block.{IsBlock};

@@ -1,5 +1,5 @@
 -- What is collected of a child.
-use Rattle.std.specs.Prelude.{◌≡◌, ◌≢◌, ◌⊎◌, ◌↔◌, ℕ, Bool, false, List, [], ◌∷◌, ◌++◌, Some, Contains}
+use Rattle.std.specs.Prelude.{◌≡◌, ◌≢◌, ◌⊎◌, ◌↔◌, ℕ, Bool, false, List, [], ◌∷◌, ◌++◌, Some, None, Contains}
 use Rattle.std.specs.List.{AllByRecursion}
 use Rattle.blob_digest.specs.Digest.{DigestValue, digest_of}
 use Rattle.messages.specs.Path.{path_text}
@@ -11,6 +11,7 @@ use Rattle.tree.specs.Folded.{first_visits}
 use Rattle.actions.specs.declared.outcome.Output.TheVariants as outputs
 use Rattle.actions.specs.Outcome.{OutputValue, OutcomeValue, AddsOutput, output_paths}
 use Rattle.worker.specs.Stored.{directories_of}
+use Rattle.processes.specs.declared.workshop.Standing.{Standing as PlaceStanding}
 use Rattle.processes.specs.declared.workshop.Standing.TheVariants as standings
 use Rattle.processes.specs.Workshop.{Works}
 use Rattle.processes.specs.Laying.{place_below}
@@ -121,6 +122,20 @@ pub record AreCollected {R C E : Type 0} (works : Works R C E) (ended : E) (fold
   pub found : AllByRecursion (IsFound works ended folder paths blobs) o.outputs
   pub settled : AllByRecursion (IsSettled works ended folder o.outputs) paths
   pub only : (b : List ℕ) → Contains blobs b → IsOfOutput works ended folder o.outputs b
+
+-- ---- what is no output
+
+-- What stands so at a place is no output: neither a file nor a folder, or a file of more bytes than
+-- a blob has. What is in a folder isn't told.
+abbrev pub IsNoOutput : {R C E : Type 0} → Works R C E → E → List ℕ → PlaceStanding → Type 0
+IsNoOutput works ended place standings.Nothing = ⊥
+IsNoOutput works ended place standings.File = works.holds ended place None
+IsNoOutput works ended place standings.Folder = Unit {0}
+IsNoOutput works ended place standings.Other = Unit {0}
+
+abbrev pub HasNoOutput : {R C E : Type 0} → Works R C E → E → List ℕ → Type 0
+HasNoOutput works ended place =
+    (s : PlaceStanding) × works.stands ended place s × IsNoOutput works ended place s
 
 -- ---- one path more
 

@@ -1,6 +1,8 @@
-ghost use Rattle.std.specs.Prelude.{◌≡◌, Err, IfOk, OnOk};
+ghost use Rattle.std.specs.Prelude.{◌≡◌, ℕ, List, Contains, Err, IfOk, IsErrOf, OnOk};
+ghost use Rattle.messages.specs.Path.{path_text};
 ghost use Rattle.worker.specs.Values.{blobs_of};
-ghost use Rattle.processes.specs.Collected.{AreCollected, IsMore};
+ghost use Rattle.processes.specs.Collected.{AreCollected, HasNoOutput, IsMore};
+ghost use Rattle.processes.specs.Laying.{place_below};
 
 use crate::laying::place_below;
 use crate::trouble::Trouble;
@@ -21,8 +23,9 @@ fn take_output<A: Allocator + Copy, W: Workshop>(
     outcome: &mut Outcome<A>,
     blobs: &mut Vec<Vec<u8, A>, A>,
 ) -> Result<(), Trouble>
-    ensures { OnOk result (IsMore W.works ended.now place.now path.now outcome.old
+    ensures more { OnOk result (IsMore W.works ended.now place.now path.now outcome.old
         (blobs_of blobs.old.items) outcome.new (blobs_of blobs.new.items)) }
+    ensures bad { IsErrOf result Trouble.NoOutput → HasNoOutput W.works ended.now place.now }
 {
     let output = match workshop.look(ended, place)? {
         Standing::Nothing => return Ok(()),
@@ -51,6 +54,9 @@ pub(crate) fn collect<A: Allocator + Copy, W: Workshop>(
     ensures outputs { IfOk result
         (λ p. AreCollected W.works ended.now folder.now paths.now p.outcome p.blobs) }
     ensures error { result ≡ Err RunError.NotAbsolute → ⊥ }
+    ensures bad { (path : List (List ℕ)) → IsErrOf result (RunError.BadOutput path)
+        → Contains paths.now path
+        × HasNoOutput W.works ended.now (place_below folder.now (path_text path)) }
 {
     let mut outcome = Outcome::new(alloc, exit_code);
     let mut blobs = Vec::new(alloc);

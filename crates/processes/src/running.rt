@@ -1,10 +1,11 @@
-ghost use Rattle.std.specs.Prelude.{◌≡◌, ◌+◌, Err, IfOk, IsTrue, Ok};
+ghost use Rattle.std.specs.Prelude.{◌≡◌, ◌+◌, ℕ, ℤ, List, Err, IfOk, IsErrOf, IsTrue, Ok};
 ghost use Rattle.std.specs.Prelude.{OnErr, OnOk, Some, string_bytes};
-ghost use Rattle.worker.specs.Values.{IsAbsolute};
+ghost use Rattle.worker.specs.Values.{IsAbsolute, bad_at};
 ghost use Rattle.messages.specs.Path.{begins_with_slash};
 ghost use Rattle.processes.specs.Collected.{AreCollected};
 ghost use Rattle.processes.specs.Laying.{folder_of};
-ghost use Rattle.processes.specs.Running.{IsJobLaunched, alive_of, failures_of, work_of, next_of};
+ghost use Rattle.processes.specs.Running.{IsJobLaunched, WasLeft, alive_of, failures_of, work_of};
+ghost use Rattle.processes.specs.Running.{next_of};
 
 use crate::collecting::collect;
 use crate::laying::{lay_out, make_parents, make_start};
@@ -151,6 +152,9 @@ fn come_to<A: Allocator + Copy, W: Workshop>(
     ensures outputs { IfOk result (λ p. (e : W.Ended) × (ended ≡ Ok (e, Some p.outcome.exit_code))
         × AreCollected W.works e start.now outputs.now p.outcome p.blobs) }
     ensures error { result ≡ Err RunError.NotAbsolute → ⊥ }
+    ensures bad { (path : List (List ℕ)) → IsErrOf result (RunError.BadOutput path)
+        → (e : W.Ended) × (code : ℤ) × (ended ≡ Ok (e, Some code))
+        × WasLeft W.works e start.now outputs.now code (bad_at path) }
 {
     let (end, code) = match ended {
         Ok(told) => told,
@@ -168,9 +172,9 @@ impl<W: Workshop + Drop, A: Allocator + Copy> Runner<A> for ProcessRunner<W, A> 
     ghost use Rattle.processes.specs.Running.{HaveStarted, IsJobRun, alive_of, failures_of};
     ghost use Rattle.processes.specs.Running.{may_come};
 
-    ghost yields = { λ r l c p. IsJobRun W.works l c p };
+    ghost yields = { λ r l c e. IsJobRun W.works l c e };
 
-    ghost may_give = { λ job p. may_come W.works job p };
+    ghost may_give = { λ job e. may_come W.works job e };
 
     ghost starts = { λ _ ss. HaveStarted W.works ss };
 

@@ -1,4 +1,4 @@
-ghost use Rattle.std.specs.Prelude.{◌≡◌, ◌+◌, ◌-◌, ◌<◌, IfOk, OnErr, OnOk};
+ghost use Rattle.std.specs.Prelude.{◌≡◌, ◌+◌, ◌-◌, ◌<◌, ℕ, List, IfOk, OnErr, OnOk};
 ghost use Rattle.processes.specs.Workshop.{StartsIn};
 ghost use Rattle.processes.specs.Running.{alive_in, failures_in};
 
@@ -73,6 +73,8 @@ impl Tally {
         ensures unfailed { (result ≡ RunError.Device → ⊥)
             → failures_in self.new ≡ failures_in self.old }
         ensures same { result ≡ RunError.NotAbsolute → error ≡ RunError.NotAbsolute }
+        ensures bad { (path : List (List ℕ)) → result ≡ RunError.BadOutput path
+            → error ≡ RunError.BadOutput path }
         ensures alive { alive_in self.new ≡ alive_in self.old }
     {
         if !matches!(&error, RunError::Device) {

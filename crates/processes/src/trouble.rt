@@ -1,4 +1,5 @@
-ghost use Rattle.std.specs.Prelude.{◌≡◌};
+ghost use Rattle.std.specs.Prelude.{◌≡◌, ℕ, List};
+ghost use Rattle.processes.specs.declared.trouble.Trouble.TheVariants as troubles;
 
 use messages::{MessageError, Path};
 use std::alloc::{AllocError, AllocFailed, Allocator};
@@ -19,6 +20,8 @@ pub(crate) enum Trouble {
 }
 
 impl From<io::Error> for Trouble {
+    ghost from_gives = { λ _ e. e ≡ troubles.NoOutput → ⊥ };
+
     fn from(error: io::Error) -> Trouble {
         if error.kind() == ErrorKind::OutOfMemory {
             return Trouble::Memory;
@@ -28,12 +31,16 @@ impl From<io::Error> for Trouble {
 }
 
 impl From<AllocError> for Trouble {
+    ghost from_gives = { λ _ e. e ≡ troubles.Memory };
+
     fn from(_e: AllocError) -> Trouble {
         Trouble::Memory
     }
 }
 
 impl<T: Drop> From<AllocFailed<T>> for Trouble {
+    ghost from_gives = { λ _ e. e ≡ troubles.Memory };
+
     fn from(_e: AllocFailed<T>) -> Trouble {
         Trouble::Memory
     }
@@ -48,11 +55,14 @@ impl From<MessageError> for Trouble {
     }
 }
 
+/// The output paths of a command are apart, and a folder has a name once: else the system failed.
 impl<A: Allocator> From<AddError<A>> for Trouble {
+    ghost from_gives = { λ _ e. e ≡ troubles.NoOutput → ⊥ };
+
     fn from(error: AddError<A>) -> Trouble {
         match error {
             AddError::Memory => Trouble::Memory,
-            AddError::Overlap(_) => Trouble::NoOutput,
+            AddError::Overlap(_) => Trouble::Device,
         }
     }
 }
@@ -60,7 +70,8 @@ impl<A: Allocator> From<AddError<A>> for Trouble {
 impl Trouble {
     /// The refusal of what concerns no output path.
     pub(crate) fn into_error<A: Allocator>(self) -> RunError<A>
-        ensures { result ≡ RunError.NotAbsolute → ⊥ }
+        ensures absolute { result ≡ RunError.NotAbsolute → ⊥ }
+        ensures bad { (path : List (List ℕ)) → result ≡ RunError.BadOutput path → ⊥ }
     {
         match self {
             Trouble::Memory => RunError::Memory,
@@ -70,7 +81,9 @@ impl Trouble {
 
     /// The refusal of what concerns an output path.
     pub(crate) fn at<A: Allocator>(self, alloc: A, path: &Path<A>) -> RunError<A>
-        ensures { result ≡ RunError.NotAbsolute → ⊥ }
+        ensures absolute { result ≡ RunError.NotAbsolute → ⊥ }
+        ensures bad { (bad : List (List ℕ)) → result ≡ RunError.BadOutput bad
+            → (bad ≡ path.now) × (self ≡ Trouble.NoOutput) }
     {
         match self {
             Trouble::Device => RunError::Device,

@@ -1,4 +1,5 @@
-ghost use Rattle.std.specs.Prelude.{◌≡◌, ℕ, List, [], ◌∷◌, ◌++◌, map, Some, IfOk, OnOk};
+ghost use Rattle.std.specs.Prelude.{◌≡◌, ℕ, List, [], ◌∷◌, ◌++◌, map, Some, None, IfOk, IsErrOf};
+ghost use Rattle.std.specs.Prelude.{OnOk};
 ghost use Rattle.blob_digest.specs.Digest.{digest_of};
 ghost use Rattle.messages.specs.Directory.{directory_bytes};
 ghost use Rattle.tree.specs.Lookup.{names_in};
@@ -26,8 +27,9 @@ pub(crate) fn keep_file<A: Allocator + Copy, W: Workshop>(
     place: &str,
     blobs: &mut Vec<Vec<u8, A>, A>,
 ) -> Result<Digest, Trouble>
-    ensures { IfOk result (λ d. (b : List ℕ) × W.works.holds ended.now place.now (Some b)
+    ensures kept { IfOk result (λ d. (b : List ℕ) × W.works.holds ended.now place.now (Some b)
         × (d ≡ digest_of b) × (blobs_of blobs.new.items ≡ blobs_of blobs.old.items ++ b ∷ [])) }
+    ensures bad { IsErrOf result Trouble.NoOutput → W.works.holds ended.now place.now None }
 {
     let Some(bytes) = workshop.read(alloc, ended, place)? else {
         return Err(Trouble::NoOutput);

@@ -103,10 +103,15 @@ pub record IsFreshFolder {R A : Type 0} (place : List ℕ) (s : FolderSource R A
   pub calls : (telling_of s).calls ≡ 0
   pub unfailed : error_of s ≡ None
 
--- what was read of the file at a path: its bytes, where it is there
-abbrev pub IsReadAt : (List ℕ → List ℕ → Type 0) → List ℕ → Option (List ℕ) → Type 0
-IsReadAt reads path None = Unit {0}
-IsReadAt reads path (Some bytes) = reads path bytes
+-- nothing stands at a path: it couldn't be read, for that
+abbrev pub IsNothingAt : {A : Type 0} → (List ℕ → FileError A → Type 0) → List ℕ → Type 0
+IsNothingAt {A} fails path = (e : FileError A) × fails path e × IsNotThere e
+
+-- what was read of the file at a path: its bytes, or none where nothing stands there
+abbrev pub IsReadAt : {A : Type 0} → (List ℕ → List ℕ → Type 0)
+    → (List ℕ → FileError A → Type 0) → List ℕ → Option (List ℕ) → Type 0
+IsReadAt reads fails path None = IsNothingAt fails path
+IsReadAt reads fails path (Some bytes) = reads path bytes
 
 -- the file at a path couldn't be read, for this, or memory ran out
 abbrev pub FailsAt : {A : Type 0} → (List ℕ → FileError A → Type 0) → List ℕ → FileError A → Type 0
@@ -123,7 +128,7 @@ pub record LooksInFolder {A : Type 0}
   pub held : IfOk result (λ answer. HasAnswer after d)
   pub unheld : OnErr result (KeepsAnswers before after)
   pub others : IsSameBut d before after
-  pub read : (HasAnswer before d → ⊥) → IfOk result (λ answer. IsReadAt reads path (bytes_of answer))
+  pub read : (HasAnswer before d → ⊥) → IfOk result (λ answer. IsReadAt reads fails path (bytes_of answer))
   pub failed : IsErrOf result Failed → IsSomeAnd new (IsFaultAt path)
   pub fault : IsErrOf result Failed → IsSomeAnd new (FailsAt fails path)
   pub unfailed : (IsErrOf result Failed → ⊥) → new ≡ old

@@ -23,6 +23,10 @@ told_by t d = bytes_kept (answers t d)
 abbrev pub HasAnswer : {A : Type 0} → Table A → DigestValue → Type 0
 HasAnswer t d = answers t d ≢ None
 
+-- it is kept that nothing is there
+abbrev pub KeepsNone : {A : Type 0} → Table A → DigestValue → Type 0
+KeepsNone t d = answers t d ≡ Some None
+
 -- under the other digests is kept what was
 abbrev pub IsSameBut : {A : Type 0} → DigestValue → Table A → Table A → Type 0
 IsSameBut d old new = (e : DigestValue) → e ≢ d → answers new e ≡ answers old e

@@ -7,7 +7,7 @@ ghost use Rattle.remote.specs.Folder.{IsErrorOf, IsFaultAt, IsFreshFolder, IsNot
 ghost use Rattle.remote.specs.Folder.{FailsAt, IsReadAt, LooksInFolder};
 ghost use Rattle.remote.specs.Folder.{entry_path};
 ghost use Rattle.remote.specs.Folder.{blobs_of, error_of, place_of, results_of, telling_of};
-ghost use Rattle.remote.specs.Table.{HasAnswer, IsSameBut, KeepsAnswers, told_by};
+ghost use Rattle.remote.specs.Table.{HasAnswer, IsSameBut, KeepsAnswers, KeepsNone, told_by};
 ghost use Rattle.remote.specs.declared.files.FileError.TheVariants as errors;
 
 use crate::asking::keep_answer;
@@ -56,6 +56,20 @@ impl<'r, F: FileReader<A>, A: Allocator + Copy> FolderSource<'r, F, A> {
         }
     }
 
+    /// Whether the file of the blob was looked for and wasn't there. There is no look now.
+    pub fn lacks_blob(&self, digest: &Digest) -> bool
+        ensures { IsTrue result ↔ KeepsNone (blobs_of self.now) digest.now }
+    {
+        self.blobs.has_none(digest)
+    }
+
+    /// Whether the file of the result was looked for and wasn't there. There is no look now.
+    pub fn lacks_result(&self, digest: &Digest) -> bool
+        ensures { IsTrue result ↔ KeepsNone (results_of self.now) digest.now }
+    {
+        self.results.has_none(digest)
+    }
+
     /// The error of the last failure.
     pub fn into_error(self) -> Option<FileError<A>>
         ensures { result ≡ error_of self.entry }
@@ -91,7 +105,7 @@ impl<'r, F: FileReader<A>, A: Allocator + Copy> Folder<'r, F, A> {
         part: &str,
         digest: &Digest,
     ) -> Result<Option<Vec<u8, A>>, FileError<A>>
-        ensures read { IfOk result (λ answer. IsReadAt F.reads
+        ensures read { IfOk result (λ answer. IsReadAt F.reads F.fails
             (entry_path (string_bytes self.now.place) part.now digest.now) (bytes_of answer)) }
         ensures error { IfErr result
             (IsErrorOf (entry_path (string_bytes self.now.place) part.now digest.now)) }
@@ -120,7 +134,7 @@ impl<'r, F: FileReader<A>, A: Allocator + Copy> Folder<'r, F, A> {
         ensures unheld { OnErr result (KeepsAnswers table.old table.new) }
         ensures others { IsSameBut digest.now table.old table.new }
         ensures read { (HasAnswer table.old digest.now → ⊥)
-            → IfOk result (λ answer. IsReadAt F.reads
+            → IfOk result (λ answer. IsReadAt F.reads F.fails
             (entry_path (string_bytes self.old.place) part.now digest.now) (bytes_of answer)) }
         ensures failed { IsErrOf result FetchError.Failed → IsSomeAnd self.new.error
             (IsFaultAt (entry_path (string_bytes self.old.place) part.now digest.now)) }

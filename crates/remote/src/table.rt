@@ -2,7 +2,7 @@ ghost use Rattle.std.specs.Prelude.{◌≡◌, ◌↔◌, IsTrue, IfOk, None, Ok
 ghost use Rattle.blob_source.specs.Sink.{HasRight};
 ghost use Rattle.blob_source.specs.Source.{bytes_of};
 ghost use Rattle.blob_digest.specs.Digest.{DigestValue};
-ghost use Rattle.remote.specs.Table.{HasAnswer, KeepsAnswers, told_by};
+ghost use Rattle.remote.specs.Table.{HasAnswer, KeepsAnswers, KeepsNone, told_by};
 ghost use Rattle.remote.specs.Steps.{KeepsAnswer};
 
 use blob_digest::Digest;
@@ -30,6 +30,13 @@ impl<A: Allocator + Copy> Table<A> {
         ensures { IsTrue result ↔ HasAnswer self.now digest.now }
     {
         self.answers.contains_key(digest)
+    }
+
+    /// Whether it is kept that nothing is there under the digest.
+    pub(crate) fn has_none(&self, digest: &Digest) -> bool
+        ensures { IsTrue result ↔ KeepsNone self.now digest.now }
+    {
+        matches!(self.answers.get(digest), Some(None))
     }
 
     /// Whether bytes with the digest stand under it.

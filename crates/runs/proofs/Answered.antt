@@ -31,7 +31,7 @@ use Rattle.blob_source.specs.Source.{Blobs, Grows, IsUnder, IsBlobUnder}
 use Rattle.blob_source.specs.Told.{IsTold, TellsDirectory, FailsDirectory}
 use Rattle.tree.specs.Lookup.{found, LooksFrom, IsValue}
 use Rattle.tree.proofs.TreeDigests.{IsDigest-digest_of}
-use Rattle.verifier.specs.Accepted.{StandsAtOrigin, Resolves}
+use Rattle.verifier.specs.Together.{StandsAtOrigin, Resolves}
 use Rattle.verifier.specs.AsRecorded.{IsAsRecorded, AreAsRecorded, IsPlanAsRecorded}
 use Rattle.verifier.specs.Build.{Meaning, ActionMeaning, action_digest, Outcome, output_at, Event, State, origin_at, origins, graft_of, action_of, AreLinesOf}
 use Rattle.verifier.specs.Headline.{IsBlobOfAction, IsBlobOfOutcome, IsConcerned}
@@ -40,16 +40,16 @@ use Rattle.verifier.specs.Recorded.{IsRecordedAs, Agrees}
 use Rattle.verifier.proofs.HeldOrigins.{source_held, outcome_held}
 use Rattle.verifier.proofs.OutputLookups.{HoldsTree, HoldsOutput}
 use Rattle.verifier.proofs.Targets.{ArePaths, paths_of}
+use Rattle.verifier.proofs.Looking.{passes_together}
 use Rattle.verifier.proofs.Passing.{recorded_verdict}
 use Rattle.runs.specs.Engine.{FinishedValue, EngineValue, IsEngine, finished_in}
 use Rattle.runs.specs.Calls.{HaveOneForm, kept_digests}
 use Rattle.runs.specs.Mirrors.{IsFormOf, IsConcernedIn, IsMirrored}
-use Rattle.runs.specs.Looking as looking
-use Rattle.runs.specs.Looking.{PutTogether}
+use Rattle.runs.specs.Looking.{outcomes_in}
 use Rattle.runs.specs.Served.{TellsWay, Serves, IsServedYes}
 use Rattle.runs.specs.Ties.{IsRootOf}
 use Rattle.verifier.proofs.FreshRuns.{one_answer}
-use Rattle.runs.proofs.Places.{has_one, taken_within}
+use Rattle.runs.proofs.Places.{has_one, taken_within, outcome_is}
 use Rattle.runs.proofs.Steady.{Steady, made_of}
 use Rattle.runs.proofs.Lost.{steady_of}
 use Rattle.runs.proofs.Noted.{outcome_there, kept_count, kept_each}
@@ -175,8 +175,8 @@ module _ (B C : Blobs) (e : EngineValue) (t : Tree Leaf) (meaning : Meaning) (X 
   record OriginFound (before : List OutcomeValue) (o : OriginValue) (y : Entry Leaf) : Type 0 where
     twin : Twin
     node : twin.node ≡ entry_node y
-    by_engine : looking.StandsAtOrigin B e o (first_of twin)
-    recorded : StandsAtOrigin B e.sources before o (second_of twin)
+    by_engine : StandsAtOrigin B e.sources (outcomes_in e.finished) o (first_of twin)
+    recorded : StandsAtOrigin B e.sources (slice_get before) o (second_of twin)
     is : IsTwin S twin
     one : IsHeldIn twin.one twin.node
     other : IsHeldIn twin.other twin.node
@@ -204,6 +204,7 @@ module _ (B C : Blobs) (e : EngineValue) (t : Tree Leaf) (meaning : Meaning) (X 
       let ruled = (k.table.actions settled.action o.0 settled.in_table).1 in
       let holds_v = holds_outputs served.stands.recorded v.0.outputs served.stands.outputs in
       let holds_f = holds_output B e t meaning X es s engine k j f served.is in
+      let there = outcome_is e.finished j f served.is in
       let look_v = outputs_found S k.apart o.0 v.0 ruled settled.own holds_v (form_through v.0 f.outcome o.0 served.form o.2) p y at in
       let look_f = outputs_found S k.apart o.0 f.outcome ruled settled.own holds_f o.2 p y at in
       let lies_v = lies_in v.0 p (entry_node y) look_v in
@@ -212,7 +213,7 @@ module _ (B C : Blobs) (e : EngineValue) (t : Tree Leaf) (meaning : Meaning) (X 
       record {
         twin = record { node = entry_node y; one = lies_f.0; other = lies_v.0 };
         node = refl;
-        by_engine = record { node = (f, served.is, look_f); within = (f, served.is, lies_f.1) };
+        by_engine = record { node = (f.outcome, there, look_f); within = (f.outcome, there, lies_f.1) };
         recorded = record { node = (v.0, v.1, look_v); within = (v.0, v.1, lies_v.1) };
         is = record {
           alike = λ dir e. absurd (lies_v.2 dir e);
@@ -226,8 +227,8 @@ module _ (B C : Blobs) (e : EngineValue) (t : Tree Leaf) (meaning : Meaning) (X 
   -- lines
   record LinesFound (before : List OutcomeValue) (ls : List LineValue) : Type 0 where
     twins : Twins
-    by_engine : looking.Resolves B e ls (firsts twins)
-    recorded : Resolves B e.sources before ls (seconds twins)
+    by_engine : Resolves B e.sources (outcomes_in e.finished) ls (firsts twins)
+    recorded : Resolves B e.sources (slice_get before) ls (seconds twins)
     are : AreTwins S twins
     one : AreHeld (firsts twins)
     other : AreHeld (seconds twins)
@@ -260,7 +261,7 @@ module _ (B C : Blobs) (e : EngineValue) (t : Tree Leaf) (meaning : Meaning) (X 
   record LinesMerge (before : List OutcomeValue) (ls : List LineValue) (g : Tree Leaf) : Type 0 where
     nodes : MergeLines
     tree : Tree NodeValue
-    resolved : Resolves B e.sources before ls nodes
+    resolved : Resolves B e.sources (slice_get before) ls nodes
     put_together : (merged B nodes).passes tree
     same : root tree ≡ root (form g)
 
@@ -273,7 +274,7 @@ module _ (B C : Blobs) (e : EngineValue) (t : Tree Leaf) (meaning : Meaning) (X 
       by (Some os) at merges =
           let found = lines_found before all ls os valid tells at in
           let made = serves.merges ls of_plan (firsts found.twins) found.by_engine in
-          let known = grafted B e t meaning X es s engine k ls paths made.0 (record { nodes = firsts found.twins; resolved = found.by_engine; passes = made.1 }) in
+          let known = grafted B e t meaning X es s engine k ls paths made.0 (passes_together B e.sources (outcomes_in e.finished) ls (firsts found.twins) made.0 found.by_engine made.1) in
           record {
             nodes = seconds found.twins;
             tree = made.0;

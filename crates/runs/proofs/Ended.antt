@@ -6,39 +6,27 @@ use Rattle.plan.specs.Plan.{IsPlan}
 use Rattle.plan.specs.Values.{OriginValue, source, output, LineValue, IsLine, IsOrigin}
 use Rattle.blob_digest.specs.Digest.{DigestValue}
 use Rattle.blob_source.specs.Source.{Blobs}
-use Rattle.runs.specs.declared.error.RunsError.{RunsError}
-use Rattle.runs.specs.declared.error.RunsError.TheVariants as errors
-use Rattle.runs.specs.Engine.{FinishedValue, EngineValue, IsEngine, at_number}
-use Rattle.runs.specs.Looking.{IsThereIn, TreeFault, Explains}
-use Rattle.runs.specs.Calls.{HaveAllFinished, IsGraftedRoot, IsRootFault}
+use Rattle.actions.specs.Outcome.{OutcomeValue}
+use Rattle.verifier.specs.Together.{IsThere, AreThere}
+use Rattle.runs.specs.Engine.{FinishedValue, EngineValue, IsEngine}
+use Rattle.runs.specs.Looking.{outcomes_in}
+use Rattle.runs.specs.Calls.{IsGraftedRoot}
 use Rattle.runs.specs.Ties.{IsRootOf}
 use Rattle.runs.proofs.Starts.{root_event}
 
-all_there : (fs : List (Option FinishedValue)) (j : ℕ) → AllByRecursion IsSome fs → j < length fs → (f : FinishedValue) × (at_number fs j ≡ Some f)
+all_there : (fs : List (Option FinishedValue)) (j : ℕ) → AllByRecursion IsSome fs → j < length fs → (o : OutcomeValue) × (outcomes_in fs j ≡ Some o)
 all_there [] j all lt = absurd (omega arith)
 all_there (None ∷ fs) zero all lt = let none = all.0 in cc
-all_there (Some f ∷ fs) zero all lt = (f, refl)
+all_there (Some f ∷ fs) zero all lt = (f.outcome, refl)
 all_there (o ∷ fs) (suc j) all lt = all_there fs j all.1 (omega arith)
 
-pub lines_there : (fs : List (Option FinishedValue)) (n : ℕ) (ls : List LineValue) → AllByRecursion IsSome fs → n ≡ length fs → AllByRecursion (IsLine n) ls → AllByRecursion (λ (l : LineValue). IsThereIn fs l.origin) ls
+pub lines_there : (fs : List (Option FinishedValue)) (n : ℕ) (ls : List LineValue) → AllByRecursion IsSome fs → n ≡ length fs → AllByRecursion (IsLine n) ls → AreThere (outcomes_in fs) ls
 lines_there fs n [] all count h = tt
 lines_there fs n (l ∷ ls) all count h = (one l.origin h.0.origin, lines_there fs n ls all count h.1)
   where
-    one : (o : OriginValue) → IsOrigin n o → IsThereIn fs o
+    one : (o : OriginValue) → IsOrigin n o → IsThere (outcomes_in fs) o
     one (source p) h = tt
     one (output j p) h = all_there fs j all (subst (λ m. j < m) count h.0)
-
-pub root_fault : {A : Type 0} (B : Blobs) (e : EngineValue) → HaveAllFinished e → (why : RunsError A) → Explains (TreeFault B e e.plan.root_lines) why → IsRootFault B e why
-root_fault B e all errors.NotReady h = elim h [ ]
-root_fault B e all errors.NoSuchJob h = (all, h)
-root_fault B e all (errors.ExitCode n) h = (all, h)
-root_fault B e all errors.Disagrees h = (all, h)
-root_fault B e all (errors.Unlisted p) h = (all, h)
-root_fault B e all (errors.Origin p) h = (all, h)
-root_fault B e all (errors.Source why) h = (all, h)
-root_fault B e all (errors.Conflict p) h = (all, h)
-root_fault B e all errors.Full h = (all, h)
-root_fault B e all errors.Memory h = (all, h)
 
 pub ok_map : {T E : Type 0} {P Q : T → Type 0} (r : Result T E) → ((x : T) → P x → Q x) → IfOk r P → IfOk r Q
 ok_map (Ok x) f h = f x h

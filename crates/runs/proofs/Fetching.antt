@@ -13,7 +13,7 @@ use Rattle.runs.specs.declared.error.OpenError.{OpenError}
 use Rattle.runs.specs.declared.error.OpenError.TheVariants as opening
 use Rattle.runs.specs.declared.error.RunsError.{RunsError}
 use Rattle.runs.specs.declared.error.RunsError.TheVariants as errors
-use Rattle.runs.specs.Looking.{IsRefusalOf}
+use Rattle.runs.specs.Looking.{refusal_of}
 
 -- ---- opening, where the answer names a step
 
@@ -55,18 +55,20 @@ fetching_memory {T} {A} {r} {fails} {old} {new} exit none h =
     let p = err_from_is_err_and r exit in
     called_no none (λ is. let same : ◌≡◌ {A = Result T (RunsError A)} (Err errors.Memory) (Err (errors.Source tree.Fetch)) = ap Err (sym p.2) ∙ sym p.1 ∙ is in cc) h
 
--- the refusal of a look-up or a merge is a failure exactly where that failed
-refused_fetch : {A : Type 0} (e : TreeError A) (r : RunsError A) → IsRefusalOf e r → r ≡ errors.Source tree.Fetch → e ≡ tree.Fetch
-refused_fetch (tree.Absent path) r h is = absurd cc
-refused_fetch (tree.BlobMissing d) r h is = absurd cc
-refused_fetch (tree.BlobWrong d) r h is = absurd cc
-refused_fetch (tree.BlobMalformed d) r h is = absurd cc
-refused_fetch (tree.TooDeep path) r h is = absurd h
-refused_fetch (tree.Conflict path) r h is = absurd cc
-refused_fetch tree.Fetch r h is = refl
-refused_fetch tree.Memory r h is = absurd cc
+-- the refusal that an error is is a failure exactly where the error is
+refused_fetch : {A : Type 0} (e : TreeError A) → refusal_of e ≡ errors.Source tree.Fetch → e ≡ tree.Fetch
+refused_fetch (tree.Absent path) is = absurd cc
+refused_fetch (tree.BlobMissing d) is = absurd cc
+refused_fetch (tree.BlobWrong d) is = absurd cc
+refused_fetch (tree.BlobMalformed d) is = absurd cc
+refused_fetch (tree.TooDeep path) is = absurd cc
+refused_fetch (tree.Conflict path) is = absurd cc
+refused_fetch tree.Fetch is = refl
+refused_fetch tree.Memory is = absurd cc
 
-pub fetching_refused : {T U A : Type 0} (e : TreeError A) (r : RunsError A) {old new : Telling} → IsRefusalOf e r → Called old new (IsErrOf {T = T} (Err e) tree.Fetch) → Called old new (FailsToFetch {T = U} (Err r))
-fetching_refused {T} {U} {A} e r refusal h = called_as
-    (λ is. ap Err (refused_fetch e r refusal (err_injective {T = U} r (errors.Source tree.Fetch) is)))
-    (λ is. ap Err (subst (λ x. IsRefusalOf x r) (err_injective {T = T} e tree.Fetch is) refusal)) h
+pub fetching_refused : {T U A : Type 0} {e : TreeError A} {r : Result U (RunsError A)} {old new : Telling} → IsErrAnd r (λ y. y ≡ refusal_of e) → Called old new (IsErrOf {T = T} (Err e) tree.Fetch) → Called old new (FailsToFetch r)
+fetching_refused {T} {U} {A} {e} {r} {old} {new} exit h =
+    let p = err_from_is_err_and r exit in
+    subst (λ q. Called old new (FailsToFetch q)) (sym p.1) (called_as
+    (λ is. ap Err (refused_fetch e (sym p.2 ∙ err_injective {T = U} p.0 (errors.Source tree.Fetch) is)))
+    (λ is. ap Err (p.2 ∙ ap refusal_of (err_injective {T = T} e tree.Fetch is))) h)

@@ -17,8 +17,6 @@ pub mod Standing
 pub mod Counted
 pub mod OneAction
 pub mod Starts
-pub mod Looks
-pub mod Needs
 pub mod Ended
 pub mod Kept
 pub mod TwoStepsServed

@@ -1,5 +1,5 @@
 -- A line whose origin a look-up doesn't find has none in each run that the engine mirrors.
-use Rattle.std.proofs.Common.{◌≡◌, ℕ, List, [], ◌∷◌, Option, Some, None, refl, arith, inl, inr}
+use Rattle.std.proofs.Common.{◌≡◌, ℕ, List, [], ◌∷◌, Option, Some, None, refl, sym, subst, arith, inl, inr}
 use Rattle.std.specs.Prelude.{option_map, slice_get}
 use Rattle.actions.proofs.TreeLookups.{behind}
 use Rattle.plan.specs.Values.{LineValue, StepValue}
@@ -9,26 +9,27 @@ use Rattle.blob_source.specs.Source.{Blobs}
 use Rattle.blob_source.specs.Told.{missing, wrong, malformed}
 use Rattle.tree.specs.Lookup.{Looked, fault, nothing, found}
 use Rattle.tree.specs.Merging.{MergeFault, conflict, unreadable, merged}
+use Rattle.tree.specs.Stage.{◌and_then◌}
+use Rattle.tree.specs.declared.error.TreeError.{TreeError}
+use Rattle.tree.specs.declared.error.TreeError.TheVariants as tree
 use Rattle.verifier.proofs.Targets.{ArePaths}
 use Rattle.verifier.specs.Build.{origin_at}
-use Rattle.verifier.specs.Faults.{origin_path}
+use Rattle.verifier.specs.Together.{LooksUpOrigin, no_origin, in_conflict, of_merge, origin_path, IsFaultOfLook, FirstFault, ExplainsLines}
 use Rattle.runs.specs.declared.error.RunsError.{RunsError}
-use Rattle.runs.specs.declared.error.RunsError.TheVariants as errors
-use Rattle.runs.specs.Calls.{IsReady, HasRoomForJob, IsStartFault}
+use Rattle.runs.specs.Calls.{IsReady, HasRoomForJob, IsStartFault, HaveAllFinished, IsRootFault}
 use Rattle.runs.specs.Engine.{EngineValue, IsEngine}
-use Rattle.runs.specs.Looking.{LooksUpOrigin, Refuses, merge_error, FirstFault, TreeFault, Explains}
+use Rattle.runs.specs.Looking.{outcomes_in, together_in, refusal_of, Explains, StandsIn}
 use Rattle.runs.specs.Ties.{IsWithoutOrigin, IsWithoutGraft, TellsMissing, TellsConflict}
 use Rattle.runs.proofs.Resolved.{origin_agrees, no_graft}
+use Rattle.runs.proofs.Standing.{unread_stands}
 
 no_entry : (o : Option (Entry Leaf)) → option_map entry_node o ≡ None → o ≡ None
 no_entry None h = refl
 no_entry (Some x) h = cc
 
-module _ (A : Type 0) (B : Blobs) (e : EngineValue) (engine : IsEngine e) where
-  line_missing : (l : LineValue) (ls : List LineValue) (p : List Name) (r : Looked) → LooksUpOrigin B e l.origin r → Refuses {A = A} l.origin r (errors.Origin p) → IsWithoutOrigin B e (l ∷ ls) p
-  line_missing l ls p (fault (missing d)) look gives = cc
-  line_missing l ls p (fault (wrong d)) look gives = cc
-  line_missing l ls p (fault (malformed d)) look gives = cc
+module _ (B : Blobs) (e : EngineValue) (engine : IsEngine e) where
+  line_missing : (l : LineValue) (ls : List LineValue) (p : List Name) (r : Looked) → LooksUpOrigin B e.sources (outcomes_in e.finished) l.origin r → IsFaultOfLook l.origin r (no_origin p) → IsWithoutOrigin B e (l ∷ ls) p
+  line_missing l ls p (fault f) look gives = cc
   line_missing l ls p (found x) look gives = elim gives [ ]
   line_missing l ls p nothing look gives = record {
     line = l;
@@ -37,7 +38,7 @@ module _ (A : Type 0) (B : Blobs) (e : EngineValue) (engine : IsEngine e) where
     of_run = λ t meaning X es s k. no_entry (origin_at t s l.origin) (origin_agrees B e t meaning X es s engine k l.origin nothing look);
   }
 
-  pub first_missing : (ls : List LineValue) (p : List Name) → FirstFault {A = A} B e ls (errors.Origin p) → IsWithoutOrigin B e ls p
+  pub first_missing : (ls : List LineValue) (p : List Name) → FirstFault B e.sources (outcomes_in e.finished) ls (no_origin p) → IsWithoutOrigin B e ls p
   first_missing [] p h = elim h [ ]
   first_missing (l ∷ ls) p (inl h) = line_missing l ls p h.0 h.1 h.2
   first_missing (l ∷ ls) p (inr h) =
@@ -45,74 +46,77 @@ module _ (A : Type 0) (B : Blobs) (e : EngineValue) (engine : IsEngine e) where
       record { line = rest.line; inside = behind l ls rest.line rest.inside; path = rest.path; of_run = rest.of_run }
 
   -- what doesn't merge isn't a line without its origin
-  tree_missing : (ls : List LineValue) (p : List Name) → TreeFault {A = A} B e ls (errors.Origin p) → IsWithoutOrigin B e ls p
+  tree_missing : (ls : List LineValue) (p : List Name) → (together_in B e ls).fails (no_origin p) → IsWithoutOrigin B e ls p
+  unfolding ◌and_then◌
   tree_missing ls p (inl h) = first_missing ls p h
-  tree_missing ls p (inr (xs, resolved, f, fails, is)) = absurd (none f is)
+  tree_missing ls p (inr (xs, origins, (f, fails, is))) = absurd (none f is)
     where
-      none : (f : MergeFault) → ◌≡◌ {A = RunsError A} (errors.Origin p) (merge_error f) → ⊥
+      none : (f : MergeFault) → no_origin p ≡ of_merge f → ⊥
       none (conflict q) is = cc
-      none (unreadable (missing d)) is = cc
-      none (unreadable (wrong d)) is = cc
-      none (unreadable (malformed d)) is = cc
+      none (unreadable g) is = cc
 
   -- and a line without its origin is no conflict
-  first_no_conflict : (ls : List LineValue) (p : List Name) → FirstFault {A = A} B e ls (errors.Conflict p) → ⊥
+  first_no_conflict : (ls : List LineValue) (p : List Name) → FirstFault B e.sources (outcomes_in e.finished) ls (in_conflict p) → ⊥
   first_no_conflict [] p h = h
-  first_no_conflict (l ∷ ls) p (inl (r, look, refuses)) = by r refuses
+  first_no_conflict (l ∷ ls) p (inl (r, look, gives)) = by r gives
     where
-      by : (r : Looked) → Refuses {A = A} l.origin r (errors.Conflict p) → ⊥
-      by (fault (missing d)) is = cc
-      by (fault (wrong d)) is = cc
-      by (fault (malformed d)) is = cc
+      by : (r : Looked) → IsFaultOfLook l.origin r (in_conflict p) → ⊥
+      by (fault f) is = cc
       by nothing is = cc
       by (found x) is = is
   first_no_conflict (l ∷ ls) p (inr h) = first_no_conflict ls p h.2
 
-  tree_conflict : (ls : List LineValue) → ArePaths ls → (p : List Name) → TreeFault {A = A} B e ls (errors.Conflict p) → IsWithoutGraft B e ls
+  tree_conflict : (ls : List LineValue) → ArePaths ls → (p : List Name) → (together_in B e ls).fails (in_conflict p) → IsWithoutGraft B e ls
+  unfolding ◌and_then◌
   tree_conflict ls paths p (inl h) = absurd (first_no_conflict ls p h)
-  tree_conflict ls paths p (inr (xs, resolved, f, fails, is)) = by f fails is
+  tree_conflict ls paths p (inr (xs, origins, (f, fails, is))) = by f fails is
     where
-      by : (f : MergeFault) → (merged B xs).fails f → ◌≡◌ {A = RunsError A} (errors.Conflict p) (merge_error f) → IsWithoutGraft B e ls
-      by (conflict q) fails is = record { of_run = λ t meaning X es s k. no_graft B e t meaning X es s engine k ls paths xs resolved q fails }
-      by (unreadable (missing d)) fails is = absurd cc
-      by (unreadable (wrong d)) fails is = absurd cc
-      by (unreadable (malformed d)) fails is = absurd cc
+      by : (f : MergeFault) → (merged B xs).fails f → in_conflict p ≡ of_merge f → IsWithoutGraft B e ls
+      by (conflict q) fails is = record { of_run = λ t meaning X es s k. no_graft B e t meaning X es s engine k ls paths xs origins q fails }
+      by (unreadable g) fails is = absurd cc
 
-  pub tells_conflict : (ls : List LineValue) → ArePaths ls → (why : RunsError A) → Explains (TreeFault B e ls) why → TellsConflict B e ls why
-  tells_conflict ls paths errors.NotReady h = tt
-  tells_conflict ls paths errors.NoSuchJob h = tt
-  tells_conflict ls paths (errors.ExitCode n) h = tt
-  tells_conflict ls paths errors.Disagrees h = tt
-  tells_conflict ls paths (errors.Unlisted p) h = tt
-  tells_conflict ls paths (errors.Origin p) h = tt
-  tells_conflict ls paths (errors.Source why) h = tt
-  tells_conflict ls paths (errors.Conflict p) h = tree_conflict ls paths p h
-  tells_conflict ls paths errors.Full h = tt
-  tells_conflict ls paths errors.Memory h = tt
+  -- what a refusal tells
+  module _ {A : Type 0} (ls : List LineValue) (paths : ArePaths ls) where
+    pub tells : (why : RunsError A) → Explains (together_in B e ls).fails why → TellsMissing B e ls why × TellsConflict B e ls why × StandsIn B why
+    tells why (error, h, is) = subst (λ w. TellsMissing B e ls w × TellsConflict B e ls w × StandsIn B w) (sym is) (by error h)
+      where
+        by : (error : TreeError A) → ExplainsLines (together_in B e ls).fails error → TellsMissing B e ls (refusal_of error) × TellsConflict B e ls (refusal_of error) × StandsIn B (refusal_of error)
+        by (tree.Absent p) h = (tree_missing ls p h, tt, tt)
+        by (tree.BlobMissing d) h = (tt, tt, unread_stands B e ls (missing d) h)
+        by (tree.BlobWrong d) h = (tt, tt, unread_stands B e ls (wrong d) h)
+        by (tree.BlobMalformed d) h = (tt, tt, unread_stands B e ls (malformed d) h)
+        by (tree.TooDeep p) h = elim h [ ]
+        by (tree.Conflict p) h = (tt, tree_conflict ls paths p h, tt)
+        by tree.Fetch h = (tt, tt, tt)
+        by tree.Memory h = (tt, tt, tt)
 
-  pub tells_missing : (ls : List LineValue) (why : RunsError A) → Explains (TreeFault B e ls) why → TellsMissing B e ls why
-  tells_missing ls errors.NotReady h = tt
-  tells_missing ls errors.NoSuchJob h = tt
-  tells_missing ls (errors.ExitCode n) h = tt
-  tells_missing ls errors.Disagrees h = tt
-  tells_missing ls (errors.Unlisted p) h = tt
-  tells_missing ls (errors.Origin p) h = tree_missing ls p h
-  tells_missing ls (errors.Conflict p) h = tt
-  tells_missing ls (errors.Source why) h = tt
-  tells_missing ls errors.Full h = tt
-  tells_missing ls errors.Memory h = tt
+-- ---- why a step isn't started, and why there is no root
 
--- ---- why a step isn't started
-
-pub start_fault : {A : Type 0} (B : Blobs) (e : EngineValue) (i : ℕ) → IsReady e i → HasRoomForJob e → (why : RunsError A) → ((step : StepValue) → slice_get e.plan.steps i ≡ Some step → Explains (TreeFault B e step.lines) why)
+pub start_fault : {A : Type 0} (B : Blobs) (e : EngineValue) (i : ℕ) → IsReady e i → HasRoomForJob e → (why : RunsError A) → ((step : StepValue) → slice_get e.plan.steps i ≡ Some step → Explains (together_in B e step.lines).fails why)
     → (step : StepValue) → slice_get e.plan.steps i ≡ Some step → IsStartFault B e i why
-start_fault B e i ready room errors.NotReady h step at = elim (h step at) [ ]
-start_fault B e i ready room errors.NoSuchJob h step at = (ready, room, h)
-start_fault B e i ready room (errors.ExitCode n) h step at = (ready, room, h)
-start_fault B e i ready room errors.Disagrees h step at = (ready, room, h)
-start_fault B e i ready room (errors.Unlisted p) h step at = (ready, room, h)
-start_fault B e i ready room (errors.Origin p) h step at = (ready, room, h)
-start_fault B e i ready room (errors.Source why) h step at = (ready, room, h)
-start_fault B e i ready room (errors.Conflict p) h step at = (ready, room, h)
-start_fault B e i ready room errors.Full h step at = elim (h step at) [ ]
-start_fault B e i ready room errors.Memory h step at = (ready, room, h)
+start_fault {A} B e i ready room why h step at =
+    let x = h step at in
+    subst (IsStartFault B e i) (sym x.2) (by x.0 (λ s here. subst (Explains (together_in B e s.lines).fails) x.2 (h s here)))
+  where
+    by : (error : TreeError A) → ((step : StepValue) → slice_get e.plan.steps i ≡ Some step → Explains (together_in B e step.lines).fails (refusal_of error)) → IsStartFault B e i (refusal_of error)
+    by (tree.Absent p) h = (ready, room, h)
+    by (tree.BlobMissing d) h = (ready, room, h)
+    by (tree.BlobWrong d) h = (ready, room, h)
+    by (tree.BlobMalformed d) h = (ready, room, h)
+    by (tree.TooDeep p) h = (ready, room, h)
+    by (tree.Conflict p) h = (ready, room, h)
+    by tree.Fetch h = (ready, room, h)
+    by tree.Memory h = (ready, room, h)
+
+pub root_fault : {A : Type 0} (B : Blobs) (e : EngineValue) → HaveAllFinished e → (why : RunsError A) → Explains (together_in B e e.plan.root_lines).fails why → IsRootFault B e why
+root_fault {A} B e all why h = subst (IsRootFault B e) (sym h.2) (by h.0 (subst (Explains (together_in B e e.plan.root_lines).fails) h.2 h))
+  where
+    by : (error : TreeError A) → Explains (together_in B e e.plan.root_lines).fails (refusal_of error) → IsRootFault B e (refusal_of error)
+    by (tree.Absent p) h = (all, h)
+    by (tree.BlobMissing d) h = (all, h)
+    by (tree.BlobWrong d) h = (all, h)
+    by (tree.BlobMalformed d) h = (all, h)
+    by (tree.TooDeep p) h = (all, h)
+    by (tree.Conflict p) h = (all, h)
+    by tree.Fetch h = (all, h)
+    by tree.Memory h = (all, h)

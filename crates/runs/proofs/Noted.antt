@@ -12,10 +12,11 @@ use Rattle.verifier.specs.Headline.{HasFinished}
 use Rattle.verifier.proofs.FreshRuns.{one_answer}
 use Rattle.runs.specs.Engine.{FinishedValue, EngineValue, IsEngine, at_number, finished_in}
 use Rattle.runs.specs.Calls.{kept_digests, IsReady}
-use Rattle.runs.specs.Looking.{AreThere, IsThereIn}
+use Rattle.verifier.specs.Together.{IsThere, AreThere}
+use Rattle.runs.specs.Looking.{outcomes_in}
 use Rattle.runs.specs.Mirrors.{IsFormOf, IsFinishedAs, Mirrors}
 use Rattle.runs.specs.Ties.{TellsFinished, TellsReady, IsRecordOf}
-use Rattle.runs.proofs.Places.{has_one, some_none}
+use Rattle.runs.proofs.Places.{has_one, some_none, outcome_is, finished_of}
 
 -- ---- finished in both
 
@@ -37,11 +38,14 @@ module _ (e : EngineValue) (t : Tree Leaf) (meaning : Meaning) (s : State) (m : 
   outcome_back i o is = finished_back (finished_in i e) (outcome_of i s) o (m.finished i) is
 
   -- the steps that lines read
-  origin_there : (o : OriginValue) → IsThereIn e.finished o ↔ HasFinished s o
+  origin_there : (o : OriginValue) → IsThere (outcomes_in e.finished) o ↔ HasFinished s o
   origin_there (source p) = (λ h. h, λ h. h)
-  origin_there (output j p) = (λ h. let o = outcome_there j h.0 h.1 in (o.0, o.1), λ h. let f = outcome_back j h.0 h.1 in (f.0, f.1))
+  origin_there (output j p) = (
+    λ h. let f = finished_of e.finished j h.0 h.1 in let o = outcome_there j f.0 f.1 in (o.0, o.1),
+    λ h. let f = outcome_back j h.0 h.1 in (f.0.outcome, outcome_is e.finished j f.0 f.1),
+  )
 
-  pub lines_there : (ls : List LineValue) → AreThere e ls ↔ AllByRecursion (λ (l : LineValue). HasFinished s l.origin) ls
+  pub lines_there : (ls : List LineValue) → AreThere (outcomes_in e.finished) ls ↔ AllByRecursion (λ (l : LineValue). HasFinished s l.origin) ls
   lines_there [] = (λ h. h, λ h. h)
   lines_there (l ∷ ls) = (λ h. ((origin_there l.origin).0 h.0, (lines_there ls).0 h.1), λ h. ((origin_there l.origin).1 h.0, (lines_there ls).1 h.1))
 
@@ -64,7 +68,7 @@ pub tells_ready : (e : EngineValue) (i : ℕ) (b : Bool) → IsTrue b ↔ IsRead
 tells_ready e i b h = record {
   of_state = λ t meaning s m step at. let both = lines_there e t meaning s m step.lines in (
     λ is. both.0 (h.0 is step at),
-    λ all. h.1 (λ other there. subst (λ (p : StepValue). AreThere e p.lines) (one_answer (slice_get e.plan.steps i) step other at there) (both.1 all)),
+    λ all. h.1 (λ other there. subst (λ (p : StepValue). AreThere (outcomes_in e.finished) p.lines) (one_answer (slice_get e.plan.steps i) step other at there) (both.1 all)),
   );
 }
 

@@ -1,11 +1,13 @@
 -- Lists of places, some of which are taken, and tables with keys.
 use Rattle.std.proofs.Common.{◌≡◌, ◌≢◌, ℕ, zero, suc, ◌<◌, Bool, true, false, cond, List, [], ◌∷◌, length, set, get_or, Option, Some, None, refl, ap, sym, ◌∙◌, subst, arith, inl, inr}
-use Rattle.std.specs.Prelude.{◌==◌, ◌⊎◌, ◌↔◌, slice_get, is_some, IsTrue}
+use Rattle.std.specs.Prelude.{◌==◌, ◌⊎◌, ◌↔◌, slice_get, is_some, option_map, IsTrue}
 use Rattle.std.specs.Borrow.{Bor}
 use Rattle.std.specs.Option.{option_copied}
 use Rattle.std.specs.Map.{lookup, remove_entry}
 use Rattle.std.proofs.lemmas.Bool.Decides.{Decides-eqb}
-use Rattle.runs.specs.Engine.{at_number}
+use Rattle.actions.specs.Outcome.{OutcomeValue}
+use Rattle.runs.specs.Engine.{FinishedValue, at_number}
+use Rattle.runs.specs.Looking.{outcomes_in}
 
 pub some_none : {X : Type 0} (o : Option X) (x : X) → o ≡ Some x → o ≡ None → ⊥
 some_none o x e f = let both : ◌≡◌ {A = Option _} (Some x) None = sym e ∙ f in cc
@@ -138,3 +140,15 @@ pub has_one : {X : Type 0} (xs : List X) (i : ℕ) → i < length xs → (x : X)
 has_one [] i lt = absurd (omega arith)
 has_one (x ∷ xs) zero lt = (x, refl)
 has_one (x ∷ xs) (suc i) lt = has_one xs i (omega arith)
+
+-- ---- what steps came to
+
+pub outcome_is : (fs : List (Option FinishedValue)) (i : ℕ) (f : FinishedValue) → at_number fs i ≡ Some f → outcomes_in fs i ≡ Some f.outcome
+outcome_is fs i f is = ap (option_map (λ (f : FinishedValue). f.outcome)) is
+
+pub finished_of : (fs : List (Option FinishedValue)) (i : ℕ) (o : OutcomeValue) → outcomes_in fs i ≡ Some o → (f : FinishedValue) × (at_number fs i ≡ Some f) × (f.outcome ≡ o)
+finished_of fs i o = by (at_number fs i) refl
+  where
+    by : (q : Option FinishedValue) → at_number fs i ≡ q → option_map (λ (f : FinishedValue). f.outcome) q ≡ Some o → (f : FinishedValue) × (at_number fs i ≡ Some f) × (f.outcome ≡ o)
+    by None is h = cc
+    by (Some f) is h = (f, is, cc)

@@ -8,22 +8,20 @@ use Rattle.plan.specs.Plan.{AreSteps}
 use Rattle.plan.specs.Values.{OriginValue, source, output, LineValue, StepValue, IsOrigin, IsLine}
 use Rattle.verifier.proofs.CheckingSteps.{numbered_lines}
 use Rattle.runs.specs.Engine.{FinishedValue}
-use Rattle.runs.specs.Looking.{IsThereIn}
+use Rattle.verifier.specs.Together.{IsThere, AreThere}
+use Rattle.runs.specs.Looking.{outcomes_in}
 
-abbrev pub AllThere : List (Option FinishedValue) → List LineValue → Type 0
-AllThere fs ls = AllByRecursion (λ (l : LineValue). IsThereIn fs l.origin) ls
-
-pub there_next : (fs : List (Option FinishedValue)) (ls : List LineValue) (i : ℕ) (l : LineValue) → i < length ls → l ≡ get_or ls i l → IsThereIn fs l.origin
-    → AllThere fs (drop i ls) ↔ AllThere fs ls → AllThere fs (drop (i + 1) ls) ↔ AllThere fs ls
+pub there_next : (fs : List (Option FinishedValue)) (ls : List LineValue) (i : ℕ) (l : LineValue) → i < length ls → l ≡ get_or ls i l → IsThere (outcomes_in fs) l.origin
+    → AreThere (outcomes_in fs) (drop i ls) ↔ AreThere (outcomes_in fs) ls → AreThere (outcomes_in fs) (drop (i + 1) ls) ↔ AreThere (outcomes_in fs) ls
 there_next fs ls i l lt is there goes =
     let split : drop i ls ≡ l ∷ drop (i + 1) ls = rw (add-one, drop-cons ls i l lt) (ap (λ k. k ∷ drop (suc i) ls) (sym is)) in
-    (λ h. goes.0 (subst (AllThere fs) (sym split) (there, h)), λ h. (subst (AllThere fs) split (goes.1 h)).1)
+    (λ h. goes.0 (subst (AreThere (outcomes_in fs)) (sym split) (there, h)), λ h. (subst (AreThere (outcomes_in fs)) split (goes.1 h)).1)
 
-pub there_none : (fs : List (Option FinishedValue)) (ls : List LineValue) (i : ℕ) (l : LineValue) → i < length ls → l ≡ get_or ls i l → (IsThereIn fs l.origin → ⊥)
-    → AllThere fs (drop i ls) ↔ AllThere fs ls → AllThere fs ls → ⊥
+pub there_none : (fs : List (Option FinishedValue)) (ls : List LineValue) (i : ℕ) (l : LineValue) → i < length ls → l ≡ get_or ls i l → (IsThere (outcomes_in fs) l.origin → ⊥)
+    → AreThere (outcomes_in fs) (drop i ls) ↔ AreThere (outcomes_in fs) ls → AreThere (outcomes_in fs) ls → ⊥
 there_none fs ls i l lt is none goes h =
     let split : drop i ls ≡ l ∷ drop (i + 1) ls = rw (add-one, drop-cons ls i l lt) (ap (λ k. k ∷ drop (suc i) ls) (sym is)) in
-    none (subst (AllThere fs) split (goes.1 h)).0
+    none (subst (AreThere (outcomes_in fs)) split (goes.1 h)).0
 
 -- the lines of a step of a plan, in front of all of its steps
 pub step_lines : (steps : List StepValue) (i : ℕ) (s : StepValue) → i < length steps → s ≡ get_or steps i s → AreSteps [] steps → AllByRecursion (IsLine (length steps)) s.lines
@@ -50,9 +48,9 @@ ready_lines steps plan_steps i r v fs gs ls same valid lt is view lines those co
     subst (λ n. AllByRecursion (IsLine n) ls) left (subst (AllByRecursion (IsLine (length plan_steps))) (ap (λ (s : StepValue). s.lines) (sym view) ∙ sym lines) ok)
 
 pub ready_answer : (steps plan_steps : List StepValue) (i : ℕ) (r v s : StepValue) (fs gs : List (Option FinishedValue)) (ls : List LineValue) (b : Bool) → steps ≡ plan_steps → i < length plan_steps → r ≡ get_or steps i r → v ≡ r → ls ≡ v.lines
-    → gs ≡ fs → IsTrue b ↔ AllThere gs ls → slice_get plan_steps i ≡ Some s → IsTrue b ↔ AllThere fs s.lines
+    → gs ≡ fs → IsTrue b ↔ AreThere (outcomes_in gs) ls → slice_get plan_steps i ≡ Some s → IsTrue b ↔ AreThere (outcomes_in fs) s.lines
 ready_answer steps plan_steps i r v s fs gs ls b same lt is view lines those answer at =
     let found = element_at plan_steps i r lt (is ∙ ap (λ ss. get_or ss i r) same) in
     let one : r ≡ s = one_answer (slice_get plan_steps i) r s found at in
     let all : ls ≡ s.lines = lines ∙ ap (λ (s : StepValue). s.lines) (view ∙ one) in
-    subst (λ ks. IsTrue b ↔ AllThere fs ks) all (subst (λ hs. IsTrue b ↔ AllThere hs ls) those answer)
+    subst (λ ks. IsTrue b ↔ AreThere (outcomes_in fs) ks) all (subst (λ hs. IsTrue b ↔ AreThere (outcomes_in hs) ls) those answer)

@@ -5,7 +5,7 @@ use Rattle.std.specs.List.{AllByRecursion}
 use Rattle.messages.specs.declared.node.Node.TheVariants.{Dir}
 use Rattle.actions.specs.declared.outcome.Output.TheVariants as outputs
 use Rattle.actions.specs.Outcome.{OutputValue}
-use Rattle.actions.specs.OutcomeLookup.{LiesWithin}
+use Rattle.actions.specs.OutcomeLookup.{LooksIn, LiesWithin}
 use Rattle.actions.proofs.TreeLookups.{all_at}
 use Rattle.plan.specs.Values.{OriginValue, source, output, LineValue}
 use Rattle.tree.specs.Tree.{Name, Tree, Leaf, Entry, whole}
@@ -23,9 +23,11 @@ use Rattle.verifier.proofs.LinesTold.{valid_tree, tree_blobs, IsRead, LinesTell,
 use Rattle.verifier.proofs.OutputLookups.{HoldsOutput, output_found}
 use Rattle.verifier.proofs.Targets.{ArePaths, output_ordered}
 use Rattle.runs.specs.Engine.{FinishedValue, EngineValue, IsValidOutput, IsEngine, finished_in}
-use Rattle.runs.specs.Looking.{LooksUpOrigin, StandsAtOrigin, Resolves, PutTogether}
+use Rattle.verifier.specs.Together.{LooksUpOrigin, StandsAtOrigin, Resolves}
+use Rattle.tree.specs.Stage.{◌and_then◌}
+use Rattle.runs.specs.Looking.{outcomes_in, together_in}
 use Rattle.runs.specs.Mirrors.{IsConcernedIn, IsMirrored}
-use Rattle.runs.proofs.Places.{has_one, taken_within}
+use Rattle.runs.proofs.Places.{has_one, taken_within, finished_of}
 use Rattle.runs.proofs.Steady.{Steady}
 use Rattle.runs.proofs.Lost.{steady_of}
 use Rattle.runs.proofs.Noted.{outcome_there}
@@ -53,17 +55,17 @@ module _ (B : Blobs) (e : EngineValue) (t : Tree Leaf) (meaning : Meaning) (X : 
           let c = has_one e.commands i (subst (λ n. i < n) (engine.count ∙ sym engine.stand.commands_count) (taken_within e.finished i f is)) in
           (engine.taken i f c.0 is c.1).outputs
 
-  pub origin_agrees : (o : OriginValue) (r : Looked) → LooksUpOrigin B e o r → AgreesWith (option_map entry_node (origin_at t s o)) r
+  pub origin_agrees : (o : OriginValue) (r : Looked) → LooksUpOrigin B e.sources (outcomes_in e.finished) o r → AgreesWith (option_map entry_node (origin_at t s o)) r
   origin_agrees (source p) r look =
       looks_from (TellsDirectory B) (FailsDirectory B) S (told_reads B S (λ b q. inl (inl (inl q))) k.apart) p (Some (whole t)) r k.ordered (λ b q. inl (inr (inl (inl q))))
       (subst (λ d. LooksFrom (TellsDirectory B) (FailsDirectory B) p (Some (Dir d)) r) (sym k.mirrors.sources) look)
   origin_agrees (output j p) r look =
-      let f = look.0 in
-      let o = outcome_there e t meaning s k.mirrors j f look.1 in
+      let f = finished_of e.finished j look.0 look.1 in
+      let o = outcome_there e t meaning s k.mirrors j f.0 f.1 in
       let settled = steady.done j o.0 o.1 in
       let valid = (k.table.actions settled.action o.0 settled.in_table).1 in
       subst (λ q. AgreesWith (option_map entry_node (option_and_then (λ (o : Outcome). output_at o.outputs p) q)) r) (sym o.1)
-      (outputs_agree S k.apart o.0 f.outcome valid settled.own (holds_output j f look.1) o.2 p r look.2)
+      (outputs_agree S k.apart o.0 f.0.outcome valid settled.own (holds_output j f.0 f.1) o.2 p r (subst (λ v. LooksIn v p r) (sym f.2) look.2))
 
   origin_ordered : (o : OriginValue) → IsOrderedAt (origin_at t s o)
   origin_ordered (source p) = ordered_at p (Some (whole t)) k.ordered
@@ -87,24 +89,25 @@ module _ (B : Blobs) (e : EngineValue) (t : Tree Leaf) (meaning : Meaning) (X : 
           (steady.done j o at).own b (there.0, there.1, blob_of_entry there.0.1 b (blobs_below there.2 (Some there.0.1) y b there.4 q))
 
   -- where what is below an origin is read
-  origin_read : (o : OriginValue) (x : NodeWithin) → StandsAtOrigin B e o x → IsRead S x
+  origin_read : (o : OriginValue) (x : NodeWithin) → StandsAtOrigin B e.sources (outcomes_in e.finished) o x → IsRead S x
   origin_read (source p) x h = record {
     held = subst (λ w. IsHeldIn w x.node) (sym h.within) (source_held x.node);
     blobs = λ b q. absurd (subst (λ w. IsBlobIn w b) h.within q);
   }
   origin_read (output j p) x h =
-      let f = h.node.0 in
-      let other : h.within.0 ≡ f = one_answer (finished_in j e) h.within.0 f h.within.1 h.node.1 in
-      let lies = subst (λ (g : FinishedValue). LiesWithin g.outcome p x.within) other h.within.2 in
-      let c = has_one e.commands j (subst (λ n. j < n) (engine.count ∙ sym engine.stand.commands_count) (taken_within e.finished j f h.node.1)) in
-      let taken = engine.taken j f c.0 h.node.1 c.1 in
+      let f = finished_of e.finished j h.node.0 h.node.1 in
+      let other = one_answer (outcomes_in e.finished j) h.within.0 h.node.0 h.within.1 h.node.1 ∙ sym f.2 in
+      let lies = subst (λ v. LiesWithin v p x.within) other h.within.2 in
+      let look = subst (λ v. LooksIn v p (found x.node)) (sym f.2) h.node.2 in
+      let c = has_one e.commands j (subst (λ n. j < n) (engine.count ∙ sym engine.stand.commands_count) (taken_within e.finished j f.0 f.1)) in
+      let taken = engine.taken j f.0 c.0 f.1 c.1 in
       record {
-        held = outcome_held f.outcome taken.valid (λ o here. valid_tree k.apart o.1 (holds_output j f h.node.1 o here)) p x h.node.2 lies;
-        blobs = λ b q. tree_blobs k.apart lies.0.1 (holds_output j f h.node.1 lies.0 lies.1) b (subst (λ w. IsBlobIn w b) lies.3 q);
+        held = outcome_held f.0.outcome taken.valid (λ o here. valid_tree k.apart o.1 (holds_output j f.0 f.1 o here)) p x look lies;
+        blobs = λ b q. tree_blobs k.apart lies.0.1 (holds_output j f.0 f.1 lies.0 lies.1) b (subst (λ w. IsBlobIn w b) lies.3 q);
       }
 
   -- what stands at the origins of lines is what was looked up there
-  lines_tell : (ls : List LineValue) → ArePaths ls → (xs : MergeLines) → Resolves B e ls xs → LinesTell S t s ls xs
+  lines_tell : (ls : List LineValue) → ArePaths ls → (xs : MergeLines) → Resolves B e.sources (outcomes_in e.finished) ls xs → LinesTell S t s ls xs
   lines_tell [] paths xs r = subst (LinesTell S t s []) (sym r) (no_lines S t s)
   lines_tell (l ∷ ls) paths xs r =
       subst (LinesTell S t s (l ∷ ls)) (sym r.4)
@@ -114,9 +117,10 @@ module _ (B : Blobs) (e : EngineValue) (t : Tree Leaf) (meaning : Meaning) (X : 
   values b v = inl (inl (inl v))
 
   -- the tree that they put together is there, with the digest of that by digests
-  pub grafted : (ls : List LineValue) → ArePaths ls → (made : Tree NodeValue) → PutTogether B e ls made → (g : Tree Leaf) × (graft_of t s ls ≡ Some g) × (root (form g) ≡ root made)
-  grafted ls paths made h = let g = told_graft S t s k.apart B values (lines_tell ls paths h.nodes h.resolved) made h.passes in (g.0, g.1, g.2)
+  pub grafted : (ls : List LineValue) → ArePaths ls → (made : Tree NodeValue) → (together_in B e ls).passes made → (g : Tree Leaf) × (graft_of t s ls ≡ Some g) × (root (form g) ≡ root made)
+  unfolding ◌and_then◌
+  grafted ls paths made h = let g = told_graft S t s k.apart B values (lines_tell ls paths h.0 h.1) made h.2 in (g.0, g.1, g.2)
 
   -- and where they conflict there is none
-  pub no_graft : (ls : List LineValue) → ArePaths ls → (xs : MergeLines) → Resolves B e ls xs → (p : List Name) → (merged B xs).fails (conflict p) → graft_of t s ls ≡ None
+  pub no_graft : (ls : List LineValue) → ArePaths ls → (xs : MergeLines) → Resolves B e.sources (outcomes_in e.finished) ls xs → (p : List Name) → (merged B xs).fails (conflict p) → graft_of t s ls ≡ None
   no_graft ls paths xs r p fails = no_graft_told S t s k.apart B values (lines_tell ls paths xs r) p fails

@@ -16,11 +16,10 @@ use Rattle.blob_source.specs.Told.{Fault, missing, wrong, malformed, IsMalformed
 use Rattle.tree.specs.Lookup.{Looked, fault, nothing, found, LooksFrom}
 use Rattle.tree.specs.Merging.{MergeFault, conflict, unreadable, merged}
 use Rattle.tree.proofs.MergeFaults.{unread_in_merge}
-use Rattle.tree.specs.declared.error.TreeError.TheVariants as tree
-use Rattle.runs.specs.declared.error.RunsError.{RunsError}
-use Rattle.runs.specs.declared.error.RunsError.TheVariants as errors
+use Rattle.tree.specs.Stage.{◌and_then◌}
+use Rattle.verifier.specs.Together.{LooksUpOrigin, not_read, of_merge, IsFaultOfLook, FirstFault}
 use Rattle.runs.specs.Engine.{EngineValue}
-use Rattle.runs.specs.Looking.{LooksUpOrigin, Refuses, fault_error, merge_error, FirstFault, TreeFault, Explains, StandsIn}
+use Rattle.runs.specs.Looking.{outcomes_in, together_in}
 
 from_sources : (B : Blobs) (p : List Name) (o : Option NodeValue) (f : Fault) → LooksFrom (TellsDirectory B) (FailsDirectory B) p o (fault f) → (d : DigestValue) × FailsDirectory B d f
 from_sources B p None f h = cc
@@ -50,49 +49,36 @@ none_in : (v : OutcomeValue) (p : List Name) (f : Fault) → LooksIn v p (fault 
 none_in v p f (inl h) = none_below h.0.1 h.2 f h.4
 none_in v p f (inr h) = let is : fault f ≡ nothing = h.1 in cc
 
-at_origin : (B : Blobs) (e : EngineValue) (o : OriginValue) (f : Fault) → LooksUpOrigin B e o (fault f) → (d : DigestValue) × FailsDirectory B d f
+at_origin : (B : Blobs) (e : EngineValue) (o : OriginValue) (f : Fault) → LooksUpOrigin B e.sources (outcomes_in e.finished) o (fault f) → (d : DigestValue) × FailsDirectory B d f
 at_origin B e (source p) f h = from_sources B p (Some (Dir e.sources)) f h
-at_origin B e (output j p) f h = absurd (none_in h.0.outcome p f h.2)
+at_origin B e (output j p) f h = absurd (none_in h.0 p f h.2)
 
-module _ (A : Type 0) (B : Blobs) (e : EngineValue) where
-  named : (f : Fault) → ((d : DigestValue) × FailsDirectory B d f) → StandsIn {A = A} B (errors.Source (fault_error f))
+abbrev digest_in : Fault → DigestValue
+digest_in (missing d) = d
+digest_in (wrong d) = d
+digest_in (malformed d) = d
+
+module _ (B : Blobs) (e : EngineValue) where
+  named : (f : Fault) → ((d : DigestValue) × FailsDirectory B d f) → FailsDirectory B (digest_in f) f
   named (missing d) h = (refl, subst (IsMissing B) (sym h.1.0) h.1.1)
   named (wrong d) h = (refl, subst (IsWrong B) (sym h.1.0) h.1.1)
   named (malformed d) h = (refl, subst (IsMalformed IsDirectory directory_bytes B) (sym h.1.0) h.1.1)
 
-  at_line : (o : OriginValue) (r : Looked) (why : RunsError A) → LooksUpOrigin B e o r → Refuses o r why → StandsIn B why
-  at_line o (fault f) why look is = subst (StandsIn B) (sym is) (named f (at_origin B e o f look))
-  at_line o nothing why look is = subst (StandsIn B) (sym is) tt
-  at_line o (found x) why look is = elim is [ ]
+  at_line : (o : OriginValue) (r : Looked) (f : Fault) → LooksUpOrigin B e.sources (outcomes_in e.finished) o r → IsFaultOfLook o r (not_read f) → (d : DigestValue) × FailsDirectory B d f
+  at_line o (fault g) f look is = let same : g ≡ f = cc in subst (λ f. (d : DigestValue) × FailsDirectory B d f) same (at_origin B e o g look)
+  at_line o nothing f look is = absurd cc
+  at_line o (found x) f look is = elim is [ ]
 
-  first_stands : (ls : List LineValue) (why : RunsError A) → FirstFault B e ls why → StandsIn B why
-  first_stands [] why h = elim h [ ]
-  first_stands (l ∷ ls) why (inl h) = at_line l.origin h.0 why h.1 h.2
-  first_stands (l ∷ ls) why (inr h) = first_stands ls why h.2
+  first_stands : (ls : List LineValue) (f : Fault) → FirstFault B e.sources (outcomes_in e.finished) ls (not_read f) → (d : DigestValue) × FailsDirectory B d f
+  first_stands [] f h = elim h [ ]
+  first_stands (l ∷ ls) f (inl h) = at_line l.origin h.0 f h.1 h.2
+  first_stands (l ∷ ls) f (inr h) = first_stands ls f h.2
 
-  tree_stands : (ls : List LineValue) (why : RunsError A) → TreeFault B e ls why → StandsIn B why
-  tree_stands ls why (inl h) = first_stands ls why h
-  tree_stands ls why (inr (xs, resolved, f, fails, is)) = subst (StandsIn B) (sym is) (by f fails)
+  pub unread_stands : (ls : List LineValue) (f : Fault) → (together_in B e ls).fails (not_read f) → FailsDirectory B (digest_in f) f
+  unfolding ◌and_then◌
+  unread_stands ls f (inl h) = named f (first_stands ls f h)
+  unread_stands ls f (inr (xs, origins, (why, fails, is))) = by why fails is
     where
-      by : (f : MergeFault) → (merged B xs).fails f → StandsIn {A = A} B (merge_error f)
-      by (conflict p) fails = tt
-      by (unreadable f) fails = named f (unread_in_merge B xs f fails)
-
-  pub stands_in : (ls : List LineValue) (why : RunsError A) → Explains (TreeFault B e ls) why → StandsIn B why
-  stands_in ls errors.NotReady h = tt
-  stands_in ls errors.NoSuchJob h = tt
-  stands_in ls (errors.ExitCode n) h = tt
-  stands_in ls errors.Disagrees h = tt
-  stands_in ls (errors.Unlisted p) h = tt
-  stands_in ls (errors.Origin p) h = tt
-  stands_in ls (errors.Source (tree.Absent q)) h = tree_stands ls (errors.Source (tree.Absent q)) h
-  stands_in ls (errors.Source (tree.BlobMissing d)) h = tree_stands ls (errors.Source (tree.BlobMissing d)) h
-  stands_in ls (errors.Source (tree.BlobWrong d)) h = tree_stands ls (errors.Source (tree.BlobWrong d)) h
-  stands_in ls (errors.Source (tree.BlobMalformed d)) h = tree_stands ls (errors.Source (tree.BlobMalformed d)) h
-  stands_in ls (errors.Conflict p) h = tt
-  stands_in ls (errors.Source (tree.Conflict q)) h = tree_stands ls (errors.Source (tree.Conflict q)) h
-  stands_in ls (errors.Source (tree.TooDeep q)) h = tree_stands ls (errors.Source (tree.TooDeep q)) h
-  stands_in ls (errors.Source tree.Fetch) h = tt
-  stands_in ls (errors.Source tree.Memory) h = tree_stands ls (errors.Source tree.Memory) h
-  stands_in ls errors.Full h = tt
-  stands_in ls errors.Memory h = tt
+      by : (why : MergeFault) → (merged B xs).fails why → not_read f ≡ of_merge why → FailsDirectory B (digest_in f) f
+      by (conflict p) fails is = absurd cc
+      by (unreadable g) fails is = let same : g ≡ f = cc in named f (subst (λ f. (d : DigestValue) × FailsDirectory B d f) same (unread_in_merge B xs g fails))

@@ -1,16 +1,19 @@
 -- A step that is started, and the root.
 use Rattle.std.proofs.Common.{◌≡◌, ◌≢◌, ℕ, zero, suc, ◌<◌, ◌≤◌, true, false, List, [], ◌∷◌, length, Option, Some, None, refl, ap, sym, ◌∙◌, subst, arith, inl, inr}
-use Rattle.std.specs.Prelude.{◌==◌, ◌⊎◌, option_map, IsSomeAnd}
+use Rattle.std.specs.Prelude.{◌==◌, ◌⊎◌, option_map, slice_get, IsSomeAnd}
 use Rattle.std.specs.Map.{lookup}
 use Rattle.std.proofs.lemmas.Bool.Decides.{eqb_tells}
 use Rattle.blob_digest.specs.Digest.{DigestValue, digest_of}
 use Rattle.action_messages.specs.Action.{with_input, action_bytes}
 use Rattle.tree.specs.Tree.{Tree}
 use Rattle.tree.specs.Form.{NodeValue, form, root}
-use Rattle.blob_source.specs.Source.{Blobs}
+use Rattle.blob_source.specs.Source.{Blobs, Telling}
+use Rattle.tree.specs.Memo.{Known, Learns}
+use Rattle.plan.specs.Values.{LineValue, StepValue}
 use Rattle.verifier.specs.Build.{ActionMeaning, action_digest, State, job_of, action_of, started}
 use Rattle.runs.specs.Engine.{JobValue, EngineValue, IsEngine, at_number, job_in}
-use Rattle.runs.specs.Looking.{PutTogether}
+use Rattle.runs.specs.Looking.{outcomes_in, together_in}
+use Rattle.runs.specs.LooksAt.{LinesNeed}
 use Rattle.runs.specs.Calls.{IsLeastFree, placed, with_job, IsStarted, IsPrepared}
 use Rattle.runs.specs.declared.starting.Job.{Job}
 use Rattle.runs.specs.Mirrors.{job_value, Mirrors}
@@ -19,6 +22,8 @@ use Rattle.runs.proofs.Places.{taken_within, first_same, first_other}
 use Rattle.runs.proofs.Steady.{Extends, make, action_still}
 use Rattle.runs.proofs.Resolved.{grafted}
 use Rattle.plan.specs.Plan.{IsPlan}
+use Rattle.verifier.proofs.ChecksThen.{looked_lines}
+use Rattle.verifier.proofs.FreshRuns.{one_answer}
 use Rattle.verifier.proofs.Targets.{paths_of, step_paths}
 
 -- ---- one more job
@@ -101,7 +106,7 @@ started_event B i old new job plan engine st = let p = st.prepared in record {
         (placed_same e.jobs id j le ∙ ap Some value ∙ sym (ap (option_map job_value) (first_same s.jobs id (i, a))))
     one_more e s i id a j value le jobs u (inr h) = placed_other e.jobs id u j le h.1 ∙ jobs u ∙ ap (option_map job_value) (sym (first_other s.jobs id u (i, a) h.1))
 
-pub root_event : (B : Blobs) (e : EngineValue) (made : Tree NodeValue) (d : DigestValue) → IsPlan e.plan → IsEngine e → PutTogether B e e.plan.root_lines made → d ≡ root made → IsRootOf B e d
+pub root_event : (B : Blobs) (e : EngineValue) (made : Tree NodeValue) (d : DigestValue) → IsPlan e.plan → IsEngine e → (together_in B e e.plan.root_lines).passes made → d ≡ root made → IsRootOf B e d
 root_event B e made d plan engine together is = record {
   of_run = λ t meaning X es s k.
       let g = grafted B e t meaning X es s engine k e.plan.root_lines (paths_of (length e.plan.steps) e.plan.root_lines plan.root_lines.each) made together in
@@ -174,3 +179,10 @@ started_as B i n old job x js p least lt is same = record {
   few = subst (λ m. m < 4096) (sym p.number) lt;
   after = ap (λ (ks : List (Option JobValue)). record old { jobs = ks }) (is ∙ ap (λ d. placed old.jobs n (record { step = i; action = job.digest; input = d })) same ∙ ap (λ m. placed old.jobs m (record { step = i; action = job.digest; input = job.action.input })) (sym p.number));
 }
+
+-- what the lines of a step need, said of the step with its number
+pub step_needed : {refused : Type 0} {k0 k1 : Known} {t0 t1 : Telling} (e : EngineValue) (i : ℕ) (planned s : StepValue) {ls : List LineValue} → slice_get e.plan.steps i ≡ Some planned → slice_get e.plan.steps i ≡ Some s → ls ≡ planned.lines
+    → Learns (LinesNeed t1.blobs e ls) refused k0 k1 t0 t1 → Learns (LinesNeed t1.blobs e s.lines) refused k0 k1 t0 t1
+step_needed e i planned s there at is h =
+    let same : planned ≡ s = one_answer (slice_get e.plan.steps i) planned s there at in
+    looked_lines e.sources (outcomes_in e.finished) (is ∙ ap (λ (x : StepValue). x.lines) same) h

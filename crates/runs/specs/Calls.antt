@@ -25,7 +25,8 @@ use Rattle.runs.specs.declared.starting.Job.{Job}
 use Rattle.runs.specs.Engine.{FinishedValue, JobValue, EngineValue, TakesOutcome, at_number}
 use Rattle.runs.specs.Engine.{finished_in, job_in}
 use Rattle.runs.specs.Looking as looking
-use Rattle.runs.specs.Looking.{AreThere, PutTogether, TreeFault}
+use Rattle.runs.specs.Looking.{outcomes_in, together_in}
+use Rattle.verifier.specs.Together.{AreThere}
 
 -- ---- opening
 
@@ -204,7 +205,7 @@ pub record IsPrepared {A : Type 0} (B : Blobs) (e : EngineValue) (i id : ℕ)
   pub planned : StepValue
   pub at : slice_get e.plan.steps i ≡ Some planned
   pub tree : Tree NodeValue
-  pub together : PutTogether B e planned.lines tree
+  pub together : (together_in B e planned.lines).passes tree
   pub number : job.id ≡ id
   pub of_step : job.step ≡ i
   pub frame : slice_get e.frames i ≡ Some job.action.frame
@@ -225,7 +226,8 @@ pub record IsStarted {A : Type 0} (B : Blobs) (i : ℕ) (old new : EngineValue)
 
 -- each step that the step's lines read has finished
 abbrev pub IsReady : EngineValue → ℕ → Type 0
-IsReady e i = (step : StepValue) → slice_get e.plan.steps i ≡ Some step → AreThere e step.lines
+IsReady e i = (step : StepValue) → slice_get e.plan.steps i ≡ Some step
+    → AreThere (outcomes_in e.finished) step.lines
 
 -- fewer than 4,096 jobs run
 abbrev pub HasRoomForJob : EngineValue → Type 0
@@ -238,14 +240,14 @@ IsStartFault B e i errors.NotReady = IsReady e i → ⊥
 IsStartFault B e i errors.Full = IsReady e i × IsLeastFree e 4096
 IsStartFault B e i why = IsReady e i × HasRoomForJob e
     × ((step : StepValue) → slice_get e.plan.steps i ≡ Some step
-    → looking.Explains (TreeFault B e step.lines) why)
+    → looking.Explains (together_in B e step.lines).fails why)
 
 -- ---- the root
 
 -- the digest of what the root's lines put together
 pub record IsGraftedRoot (B : Blobs) (e : EngineValue) (d : DigestValue) : Type 0 where
   pub tree : Tree NodeValue
-  pub together : PutTogether B e e.plan.root_lines tree
+  pub together : (together_in B e e.plan.root_lines).passes tree
   pub same : d ≡ root tree
 
 -- each step has finished
@@ -255,4 +257,5 @@ HaveAllFinished e = AllByRecursion IsSome e.finished
 -- why there is no root: a step hasn't finished, or else why the root's lines put no tree together
 abbrev pub IsRootFault : {A : Type 0} → Blobs → EngineValue → RunsError A → Type 0
 IsRootFault B e errors.NotReady = HaveAllFinished e → ⊥
-IsRootFault B e why = HaveAllFinished e × looking.Explains (TreeFault B e e.plan.root_lines) why
+IsRootFault B e why =
+    HaveAllFinished e × looking.Explains (together_in B e e.plan.root_lines).fails why

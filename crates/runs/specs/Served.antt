@@ -24,7 +24,8 @@ use Rattle.verifier.specs.Verdict.{IsVerdict}
 use Rattle.verifier.specs.declared.verdict.Verdict.TheVariants.{Yes}
 use Rattle.runs.specs.Engine.{FinishedValue, EngineValue, finished_in}
 use Rattle.runs.specs.Calls.{HaveOneForm, kept_digests}
-use Rattle.runs.specs.Looking.{Resolves}
+use Rattle.verifier.specs.Together.{Resolves}
+use Rattle.runs.specs.Looking.{outcomes_in}
 use Rattle.runs.specs.Mirrors.{IsMirrored}
 
 -- a line of a step or of the root
@@ -54,7 +55,8 @@ pub record Serves (B C : Blobs) (e : EngineValue) (t : Tree Leaf) (meaning : Mea
   -- the Directories that are read where the lines of a step or of the root meet: what they put
   -- together is told
   pub merges : (lines : List LineValue) → AreLinesOf e.plan lines → (nodes : MergeLines)
-      → Resolves B e lines nodes → (u : Tree NodeValue) × (merged B nodes).passes u
+      → Resolves B e.sources (outcomes_in e.finished) lines nodes
+      → (u : Tree NodeValue) × (merged B nodes).passes u
   -- the Action and the Command of each step
   pub actions : (i : ℕ) (a : ActionMeaning) → action_of e.plan meaning t s i ≡ Some a
       → IsBlobUnder B (action_digest a) (action_bytes (with_input a.frame (root (form a.input))))

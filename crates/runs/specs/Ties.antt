@@ -14,7 +14,7 @@ use Rattle.verifier.specs.Build.{Meaning, ActionMeaning, action_digest, Outcome,
 use Rattle.verifier.specs.Build.{finish, State, opening, outcome_of, happens, action_of, origin_at}
 use Rattle.verifier.specs.Build.{graft_of, MeaningFits, Obeys, HasFinishedAll}
 use Rattle.verifier.specs.Headline.{IsBlobOfMeaning, HasFinished}
-use Rattle.verifier.specs.Faults.{origin_path}
+use Rattle.verifier.specs.Together.{origin_path}
 use Rattle.runs.specs.declared.error.RunsError.{RunsError}
 use Rattle.runs.specs.declared.error.RunsError.TheVariants as errors
 use Rattle.runs.specs.Engine.{EngineValue}

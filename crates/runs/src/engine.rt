@@ -8,7 +8,8 @@ ghost use Rattle.std.specs.Option.{option_copied};
 ghost use Rattle.runs.specs.Engine.{IsEngine, at_number, finished_in, job_in};
 ghost use Rattle.plan.specs.Record.{RecordValue, names_of};
 ghost use Rattle.runs.specs.Calls.{without_job, jobs_of, kept_digests, record_of, IsReady};
-ghost use Rattle.runs.specs.Looking.{AreThere, IsThereIn};
+ghost use Rattle.runs.specs.Looking.{outcomes_in};
+ghost use Rattle.verifier.specs.Together.{AreThere, IsThere};
 ghost use Rattle.runs.specs.Mirrors.{nothing_told};
 ghost use Rattle.runs.specs.Ties.{IsEvent, TellsFinished, TellsReady, TellsRunning, IsRecordOf};
 
@@ -203,7 +204,7 @@ fn count_of(jobs: &[Option<Running>], step: usize) -> usize
 /// Whether the steps that the lines read have finished.
 pub(crate) fn are_there<A: Allocator>(finished: &[Option<Finished<A>>], lines: &[Line<A>]) -> bool
     requires { AllByRecursion (IsLine (length finished.now)) lines.now }
-    ensures { IsTrue result ↔ AllByRecursion (λ l. IsThereIn finished.now l.origin) lines.now }
+    ensures { IsTrue result ↔ AreThere (outcomes_in finished.now) lines.now }
 {
     for line in lines {
         if !is_there(finished, &line.origin) {
@@ -216,7 +217,7 @@ pub(crate) fn are_there<A: Allocator>(finished: &[Option<Finished<A>>], lines: &
 /// Whether the step that the origin reads has finished.
 fn is_there<A: Allocator>(finished: &[Option<Finished<A>>], origin: &Origin<A>) -> bool
     requires { IsOrigin (length finished.now) (origin_value origin.now) }
-    ensures { IsTrue result ↔ IsThereIn finished.now (origin_value origin.now) }
+    ensures { IsTrue result ↔ IsThere (outcomes_in finished.now) (origin_value origin.now) }
 {
     match origin {
         Origin::Source(_) => true,

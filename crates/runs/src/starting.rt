@@ -5,8 +5,8 @@ ghost use Rattle.tree.specs.Memo.{IsKnownOf, WasRefused, Learns, known_by};
 ghost use Rattle.blob_source.specs.Called.{Called};
 ghost use Rattle.runs.specs.Calls.{IsLeastIn, placed, IsPrepared, IsStarted, IsReady, IsStartFault};
 ghost use Rattle.runs.specs.Ties.{IsStart, TellsConflict, TellsMissing};
-ghost use Rattle.runs.specs.LooksAt.{TreeNeeds, StartNeeds};
-ghost use Rattle.runs.specs.Looking.{AreThere, TreeFault, Explains, StandsIn};
+ghost use Rattle.runs.specs.LooksAt.{LinesNeed, StartNeeds};
+ghost use Rattle.runs.specs.Looking.{Explains, StandsIn, together_in};
 
 use crate::engine::{Engine, Running};
 use crate::error::RunsError;
@@ -75,11 +75,12 @@ impl<A: Allocator + Copy> Engine<A> {
         requires known { IsKnownOf (known_by memo.old) (S.tells source.old) }
         ensures prepared { IfOk result (IsPrepared (S.tells source.new).blobs self.now step id) }
         ensures faulty { (s : StepValue) → slice_get self.now.plan.steps step ≡ Some s
-            → IfErr result (Explains (TreeFault (S.tells source.new).blobs self.now s.lines)) }
+            → IfErr result (Explains
+            (together_in (S.tells source.new).blobs self.now s.lines).fails) }
         ensures called { Called (S.tells source.old) (S.tells source.new)
             (IsErrOf result (RunsError.Source TreeError.Fetch)) }
         ensures learned { (s : StepValue) → slice_get self.now.plan.steps step ≡ Some s
-            → Learns (TreeNeeds (S.tells source.new).blobs self.now s.lines) (WasRefused result)
+            → Learns (LinesNeed (S.tells source.new).blobs self.now s.lines) (WasRefused result)
             (known_by memo.old) (known_by memo.new) (S.tells source.old) (S.tells source.new) }
     {
         let steps = self.plan.steps();

@@ -60,7 +60,7 @@ module _ (prefix : List ℕ) (opening : CacheValue) (history : List HistoryEntry
   }
 
   -- whatever comes after its end
-  pub ended_before : (cut : Bool) (ended : ℕ → List ℕ → List ℕ → Why → Type 0) (lost : ℕ → Type 0) (j : ℕ) (more entries : List HistoryEntry)
+  pub ended_before : (cut : Bool) (ended : ℕ → List ℕ → List ℕ → Why → Type 0) (lost : ℕ → Why → Type 0) (j : ℕ) (more entries : List HistoryEntry)
       → HasEnded cut ended lost prefix opening history entries j → HasEnded cut ended lost prefix opening history (entries ++ more) j
   ended_before cut ended lost j more entries h = record {
     before = h.before;
@@ -79,11 +79,11 @@ module _ (prefix : List ℕ) (opening : CacheValue) (history : List HistoryEntry
   -- ---- one connection
 
   -- it may end for a fault, as where it is over or memory is wanting
-  fault_may : (over shut : Type 0) (left unsent : List ℕ) (why : Why) → FailsFor over (Some why) → MayEnd over shut left unsent why
+  fault_may : (over : Why → Type 0) (shut : Type 0) (left unsent : List ℕ) (why : Why) → FailsFor over (Some why) → MayEnd over shut left unsent why
   fault_may over shut left unsent (Ok done) f = absurd f
   fault_may over shut left unsent (Err e) f = f
 
-  pub leaves : {S : Type 0} (spoke : ℕ → S → List ℕ → List ℕ → Type 0) (over : S → Type 0) (entries : List HistoryEntry) (k : ℕ) (m : MemberValue S) (why : Why)
+  pub leaves : {S : Type 0} (spoke : ℕ → S → List ℕ → List ℕ → Type 0) (over : S → Why → Type 0) (entries : List HistoryEntry) (k : ℕ) (m : MemberValue S) (why : Why)
       → TalksOn spoke prefix opening history entries k m → MayEnd (over m.stream) (IsShut prefix k (history ++ entries)) m.left m.unsent why
       → MayEndNow spoke over prefix opening history entries k m.stream why
   leaves spoke over entries k m why h may = record {
@@ -96,7 +96,7 @@ module _ (prefix : List ℕ) (opening : CacheValue) (history : List HistoryEntry
     may = may;
   }
 
-  pub unless : {S : Type 0} (e : Option Why) (spoke : ℕ → S → List ℕ → List ℕ → Type 0) (over : S → Type 0) (entries : List HistoryEntry) (k : ℕ) (m : MemberValue S)
+  pub unless : {S : Type 0} (e : Option Why) (spoke : ℕ → S → List ℕ → List ℕ → Type 0) (over : S → Why → Type 0) (entries : List HistoryEntry) (k : ℕ) (m : MemberValue S)
       → FailsFor (over m.stream) e → TalksOn spoke prefix opening history entries k m → TalksOnUnless e spoke over prefix opening history entries k m
   unless None spoke over entries k m f h = h
   unless (Some why) spoke over entries k m f h = leaves spoke over entries k m why h (fault_may (over m.stream) (IsShut prefix k (history ++ entries)) m.left m.unsent why f)
@@ -170,15 +170,15 @@ text_unsent (Some a) = refl
 
 -- ---- faults
 
-fails_so : (P Q : Type 0) (e : Option Why) → (P → Q) → FailsFor P e → FailsFor Q e
+fails_so : (P Q : Why → Type 0) (e : Option Why) → ((why : Why) → P why → Q why) → FailsFor P e → FailsFor Q e
 fails_so P Q None f h = tt
 fails_so P Q (Some (Ok done)) f h = h
 fails_so P Q (Some (Err e)) f (inl none) = inl none
-fails_so P Q (Some (Err e)) f (inr h) = inr (f h)
+fails_so P Q (Some (Err e)) f (inr h) = inr (f (Err e) h)
 
--- a fault after which the turn ends is one for which it is over
-pub fails_for : {P Q : Type 0} (turn : Turn) → (P → Q) → FailsFor P (end_of turn) → FailsFor Q (end_of turn)
-fails_for {P} {Q} turn f h = fails_so P Q (end_of turn) f h
+-- the fault after which the turn ends is one for which it is over
+pub fails_for : {P : Type 0} (Q : Why → Type 0) (cause : Why) (turn : Turn) → (P → Q cause) → FailsFor (λ why. P × (why ≡ cause)) (end_of turn) → FailsFor Q (end_of turn)
+fails_for {P} Q cause turn f h = fails_so (λ why. P × (why ≡ cause)) Q (end_of turn) (λ why p. subst Q (sym p.1) (f p.0)) h
 
 -- ---- no more can be answered
 
@@ -205,13 +205,13 @@ pub shut_is : (opening : CacheValue) (server : ServerValue) (k : ℕ) (history :
 shut_is opening server k history stands shut = shut_session server.prefix (session_at server k) k history (stands.sessions k) shut
 
 -- why it may end, by the server's session and by what came before
-pub may_end : (opening : CacheValue) (server : ServerValue) (k : ℕ) (history : List HistoryEntry) (prefix : List ℕ) (over : Type 0) (left unsent : List ℕ) (why : Why) → ServerStands opening server history → server.prefix ≡ prefix
+pub may_end : (opening : CacheValue) (server : ServerValue) (k : ℕ) (history : List HistoryEntry) (prefix : List ℕ) (over : Why → Type 0) (left unsent : List ℕ) (why : Why) → ServerStands opening server history → server.prefix ≡ prefix
     → MayEnd over (IsOpenAt (session_at server k) → ⊥) left unsent why → MayEnd over (IsShut prefix k history) left unsent why
 may_end opening server k history prefix over left unsent (Ok done) stands same (inl all) = inl all
 may_end opening server k history prefix over left unsent (Ok done) stands same (inr (shut, none)) = inr (subst (λ z. IsShut z k history) same (shut_is opening server k history stands shut), none)
 may_end opening server k history prefix over left unsent (Err e) stands same f = f
 
-module _ {S : Type 0} (spoke : ℕ → S → List ℕ → List ℕ → Type 0) (over : S → Type 0) where
+module _ {S : Type 0} (spoke : ℕ → S → List ℕ → List ℕ → Type 0) (over : S → Why → Type 0) where
   abbrev MovesSo : Option Why → ℕ → ServerValue → MemberValue S → ServerValue → MemberValue S → Type 0
   MovesSo e k old before new after =
       (opening : CacheValue) (history entries : List HistoryEntry) → ServerStands opening old (history ++ entries)
@@ -274,7 +274,7 @@ module _ {S : Type 0} (spoke : ℕ → S → List ℕ → List ℕ → Type 0) (
   pub sends_lost : (count : ℕ) (before after : MemberValue S) → Stays spoke before.stream after.stream → PassesSent (Some (Err Memory)) spoke over count before after
   sends_lost count before after stays = record { left = λ e. cc; unsent = λ e. cc; stays = stays; fails = inl refl }
 
-  pub sends_over : (count : ℕ) (before after : MemberValue S) → Stays spoke before.stream after.stream → over after.stream → PassesSent (Some (Err WriteFault)) spoke over count before after
+  pub sends_over : (count : ℕ) (before after : MemberValue S) → Stays spoke before.stream after.stream → over after.stream (Err WriteFault) → PassesSent (Some (Err WriteFault)) spoke over count before after
   sends_over count before after stays o = record { left = λ e. cc; unsent = λ e. cc; stays = stays; fails = inr o }
 
   pub sends_more : (count : ℕ) (before after : MemberValue S) → Stays spoke before.stream after.stream → after.left ≡ before.left → after.unsent ≡ drop count before.unsent → PassesSent None spoke over count before after
@@ -297,7 +297,7 @@ module _ {S : Type 0} (spoke : ℕ → S → List ℕ → List ℕ → Type 0) (
   reads_none before after bytes e reads k read sent h = subst (λ z. spoke k after z sent) (ap (λ z. read ++ z) e ∙ append-nil read) (reads k read sent h)
 
   -- the peer has ended it, and nothing is left
-  pub reads_end : (before after : MemberValue S) → Stays spoke before.stream after.stream → before.left ≡ [] → before.unsent ≡ [] → over after.stream → Passes (Some (Ok tt)) spoke over before after
+  pub reads_end : (before after : MemberValue S) → Stays spoke before.stream after.stream → before.left ≡ [] → before.unsent ≡ [] → over after.stream (Ok tt) → Passes (Some (Ok tt)) spoke over before after
   reads_end before after stays left unsent o = record {
     on = λ prefix opening history entries k h. record {
       read = h.read;

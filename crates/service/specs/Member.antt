@@ -42,8 +42,8 @@ pub record TalksOn
 
 -- it may end, for this reason
 pub record MayEndNow
-    {S : Type 0} (spoke : ℕ → S → List ℕ → List ℕ → Type 0) (over : S → Type 0) (prefix : List ℕ)
-    (opening : CacheValue) (history entries : List HistoryEntry) (k : ℕ) (stream : S)
+    {S : Type 0} (spoke : ℕ → S → List ℕ → List ℕ → Type 0) (over : S → Why → Type 0)
+    (prefix : List ℕ) (opening : CacheValue) (history entries : List HistoryEntry) (k : ℕ) (stream : S)
     (why : Why) : Type 0 where
   pub read : List ℕ
   pub sent : List ℕ
@@ -60,11 +60,11 @@ end_of Waits = None
 end_of Held = None
 end_of (Ends why) = Some why
 
--- it ends only with a fault: memory is wanting, or this holds
-abbrev pub FailsFor : Type 0 → Option Why → Type 0
+-- it ends only with a fault: memory is wanting, or this holds of it
+abbrev pub FailsFor : (Why → Type 0) → Option Why → Type 0
 FailsFor over None = ⊤
 FailsFor over (Some (Ok done)) = ⊥
-FailsFor over (Some (Err e)) = (e ≡ Memory) ⊎ over
+FailsFor over (Some (Err e)) = (e ≡ Memory) ⊎ over (Err e)
 
 -- it ends only without a fault
 abbrev pub EndsWell : Option Why → Type 0
@@ -75,7 +75,7 @@ EndsWell (Some (Err e)) = ⊥
 -- it goes on, or ends for this reason
 abbrev pub TalksOnUnless :
     {S : Type 0} → Option Why → (ℕ → S → List ℕ → List ℕ → Type 0)
-    → (S → Type 0) → List ℕ → CacheValue → List HistoryEntry → List HistoryEntry → ℕ
+    → (S → Why → Type 0) → List ℕ → CacheValue → List HistoryEntry → List HistoryEntry → ℕ
     → MemberValue S → Type 0
 TalksOnUnless None spoke over prefix opening history entries k m =
     TalksOn spoke prefix opening history entries k m
@@ -90,7 +90,7 @@ AreOf k (entry ∷ entries) = (entry_number entry ≡ k) × AreOf k entries
 -- entries of the connection alone led to the server, and it goes on, or ends
 pub record HasMovedOn
     {S : Type 0} (end : Option Why)
-    (spoke : ℕ → S → List ℕ → List ℕ → Type 0) (over : S → Type 0) (prefix : List ℕ)
+    (spoke : ℕ → S → List ℕ → List ℕ → Type 0) (over : S → Why → Type 0) (prefix : List ℕ)
     (opening : CacheValue) (history entries : List HistoryEntry) (k : ℕ) (m : MemberValue S)
     (server : ServerValue) : Type 0 where
   pub more : List HistoryEntry
@@ -102,7 +102,7 @@ pub record HasMovedOn
 -- so it is whatever history had led to the server
 pub record MovesOn
     {S : Type 0} (end : Option Why)
-    (spoke : ℕ → S → List ℕ → List ℕ → Type 0) (over : S → Type 0) (k : ℕ)
+    (spoke : ℕ → S → List ℕ → List ℕ → Type 0) (over : S → Why → Type 0) (k : ℕ)
     (old : ServerValue) (before : MemberValue S) (new : ServerValue) (after : MemberValue S)
     : Type 0 where
   pub on : (opening : CacheValue) (history entries : List HistoryEntry)
@@ -113,7 +113,7 @@ pub record MovesOn
 -- some was read or sent, and nothing came to the server
 pub record Passes
     {S : Type 0} (end : Option Why)
-    (spoke : ℕ → S → List ℕ → List ℕ → Type 0) (over : S → Type 0)
+    (spoke : ℕ → S → List ℕ → List ℕ → Type 0) (over : S → Why → Type 0)
     (before after : MemberValue S) : Type 0 where
   pub on : (prefix : List ℕ) (opening : CacheValue) (history entries : List HistoryEntry) (k : ℕ)
       → TalksOn spoke prefix opening history entries k before
@@ -122,7 +122,7 @@ pub record Passes
 -- so it is, where so many bytes of what wasn't sent were sent before it
 pub record PassesSent
     {S : Type 0} (end : Option Why)
-    (spoke : ℕ → S → List ℕ → List ℕ → Type 0) (over : S → Type 0) (count : ℕ)
+    (spoke : ℕ → S → List ℕ → List ℕ → Type 0) (over : S → Why → Type 0) (count : ℕ)
     (before after : MemberValue S) : Type 0 where
   pub left : end ≡ None → after.left ≡ before.left
   pub unsent : end ≡ None → after.unsent ≡ drop count before.unsent

@@ -32,9 +32,10 @@ pub record IsBroken (e : Error) : Type 0 where
 
 -- what was said of the stream is said of a connection that has ended, for this reason
 pub record EndsAs
-    {S : Type 0} (spoke : ℕ → S → List ℕ → List ℕ → Type 0) (over : S → Type 0) (stream : S)
+    {S : Type 0} (spoke : ℕ → S → List ℕ → List ℕ → Type 0) (over : S → Why → Type 0) (stream : S)
     (why : Why)
-    (ended : ℕ → List ℕ → List ℕ → Why → Type 0) (lost : ℕ → Type 0)
+    (ended : ℕ → List ℕ → List ℕ → Why → Type 0) (lost : ℕ → Why → Type 0)
     : Type 0 where
   pub said : (k : ℕ) (read sent : List ℕ) → spoke k stream read sent → ended k read sent why
-  pub found : (k : ℕ) (read sent : List ℕ) → spoke k stream read sent → over stream → lost k
+  pub found : (k : ℕ) (read sent : List ℕ) (cause : Why)
+      → spoke k stream read sent → over stream cause → lost k cause

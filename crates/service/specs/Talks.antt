@@ -36,8 +36,8 @@ pub data Answered (prefix : List ℕ) (opening : CacheValue) (history : List His
       → (entry_number entry ≡ k → ⊥)
       → Answered prefix opening history k (entries ++ entry ∷ []) came earlier last
 
--- Of what was read of the connection all but `left` came to the server, and the answers to that were
--- sent but for `unsent`, which is of one answer.
+-- Of what was read of the connection all but `left` came to the server, and the answers to that
+-- were sent but for `unsent`, which is of one answer.
 pub record Talks
     (prefix : List ℕ) (opening : CacheValue) (history entries : List HistoryEntry) (k : ℕ)
     (read sent left unsent : List ℕ) : Type 0 where
@@ -54,12 +54,13 @@ IsShut prefix k history =
     (has_failed k history ≡ true)
     ⊎ ((events : List EventValue) × Cuts prefix (stream_of k history) events None)
 
--- Why a connection may end. Without a fault it is over, and all that was read is answered and sent,
--- or no more can be answered, and the last answer is sent. With one memory is wanting, or it is over.
-abbrev pub MayEnd : Type 0 → Type 0 → List ℕ → List ℕ → Why → Type 0
+-- Why a connection may end. Without a fault its peer has ended it, and all that was read is
+-- answered and sent, or no more can be answered, and the last answer is sent. With one memory is
+-- wanting, or the connection is over for it.
+abbrev pub MayEnd : (Why → Type 0) → Type 0 → List ℕ → List ℕ → Why → Type 0
 MayEnd over shut left unsent (Ok done) =
-    (over × (left ≡ []) × (unsent ≡ [])) ⊎ (shut × (unsent ≡ []))
-MayEnd over shut left unsent (Err e) = (e ≡ Memory) ⊎ over
+    (over (Ok done) × (left ≡ []) × (unsent ≡ [])) ⊎ (shut × (unsent ≡ []))
+MayEnd over shut left unsent (Err e) = (e ≡ Memory) ⊎ over (Err e)
 
 -- so it is, unless the whole run was cut off
 abbrev pub Unless : Bool → Type 0 → Type 0
@@ -70,7 +71,7 @@ Unless true P = ⊤
 -- to the server, and a beginning of the answers to that was sent, to the last one at least.
 pub record HasEnded
     (cut : Bool) (ended : ℕ → List ℕ → List ℕ → Why → Type 0)
-    (lost : ℕ → Type 0) (prefix : List ℕ) (opening : CacheValue)
+    (lost : ℕ → Why → Type 0) (prefix : List ℕ) (opening : CacheValue)
     (history entries : List HistoryEntry) (k : ℕ) : Type 0 where
   pub before : List HistoryEntry
   pub after : List HistoryEntry
@@ -93,7 +94,7 @@ AreBelow count (entry ∷ entries) = (entry_number entry < count) × AreBelow co
 -- to the server.
 pub record ServesEach
     (cut : Bool) (ended : ℕ → List ℕ → List ℕ → Why → Type 0)
-    (lost : ℕ → Type 0) (prefix : List ℕ) (opening : CacheValue)
+    (lost : ℕ → Why → Type 0) (prefix : List ℕ) (opening : CacheValue)
     (history : List HistoryEntry) (count : ℕ) (new : ServerValue) : Type 0 where
   pub entries : List HistoryEntry
   pub stands : ServerStands opening new (history ++ entries)
@@ -102,7 +103,7 @@ pub record ServesEach
 
 -- so it is, whatever history had led to the server
 abbrev pub Serves :
-    Bool → (ℕ → List ℕ → List ℕ → Why → Type 0) → (ℕ → Type 0)
+    Bool → (ℕ → List ℕ → List ℕ → Why → Type 0) → (ℕ → Why → Type 0)
     → ServerValue → ℕ → ServerValue → Type 0
 Serves cut ended over old count new =
     (opening : CacheValue) (history : List HistoryEntry)

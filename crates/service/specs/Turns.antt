@@ -1,28 +1,30 @@
 -- What connections do to a cache that are served one after another.
-use Rattle.std.specs.Prelude.{ℕ, ◌+◌, ◌⊎◌, List, Option}
+use Rattle.std.specs.Prelude.{ℕ, ◌+◌, List, Option, MatchResult}
 use Rattle.cache_server.specs.Cache.{CacheValue}
 use Rattle.cache_server.specs.Connection.{Runs, BreaksOff}
-use Rattle.cache_server.specs.declared.error.ConnError.{ConnError}
+use Rattle.service.specs.Sockets.{Why}
 
 -- The connection with the number was opened, its requests were answered under the prefix, to its
 -- end or to a fault, and it has ended.
 pub record ServesNext
-    (opened ended : ℕ → Option (List ℕ) → Option (List ℕ) → Type 0) (prefix : List ℕ) (number : ℕ)
-    (old new : CacheValue) : Type 0 where
+    (opened : ℕ → Option (List ℕ) → Option (List ℕ) → Type 0)
+    (ended : ℕ → Option (List ℕ) → Option (List ℕ) → Why → Type 0)
+    (prefix : List ℕ) (number : ℕ) (old new : CacheValue) : Type 0 where
   pub input : Option (List ℕ)
   pub left : Option (List ℕ)
   pub before : Option (List ℕ)
   pub after : Option (List ℕ)
+  pub why : Why
   pub opens : opened number input before
-  pub ends : ended number left after
-  pub ran :
-      Runs prefix old input left before after new
-      ⊎ ((why : ConnError) × BreaksOff prefix old input left before after new why)
+  pub ends : ended number left after why
+  pub ran : MatchResult why (λ _. Runs prefix old input left before after new)
+      (BreaksOff prefix old input left before after new)
 
 -- so were the connections with the numbers below this one, each after the one before it
 pub data ServesInTurn
-    (opened ended : ℕ → Option (List ℕ) → Option (List ℕ) → Type 0) (prefix : List ℕ)
-    (opening : CacheValue) : ℕ → CacheValue → Type 0 where
+    (opened : ℕ → Option (List ℕ) → Option (List ℕ) → Type 0)
+    (ended : ℕ → Option (List ℕ) → Option (List ℕ) → Why → Type 0)
+    (prefix : List ℕ) (opening : CacheValue) : ℕ → CacheValue → Type 0 where
   none : ServesInTurn opened ended prefix opening 0 opening
   next : (count : ℕ) (old new : CacheValue)
       → ServesInTurn opened ended prefix opening count old

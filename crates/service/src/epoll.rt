@@ -45,7 +45,7 @@ impl Epoll {
 impl Peer for TcpStream {
     ghost spoke = { λ _ _ _ _. Unit {0} };
 
-    ghost over = { λ _. Unit {0} };
+    ghost over = { λ _ _. Unit {0} };
 
     fn read(&mut self, buffer: &mut [u8]) -> io::Result<usize> {
         let mut stream = &*self;
@@ -76,7 +76,7 @@ impl Sockets for Epoll {
 
     ghost ended = { λ _ _ _ _. Unit {0} };
 
-    ghost lost = { λ _. Unit {0} };
+    ghost lost = { λ _ _. Unit {0} };
 
     fn accept(&mut self, number: u64) -> io::Result<(TcpStream, SocketAddr)> {
         let (stream, peer) = self.listener.accept()?;

@@ -1,7 +1,9 @@
 ghost use Rattle.std.specs.Prelude.{ℕ, List, Option, IfOk};
+ghost use Rattle.service.specs.Sockets.{Why};
 
 use crate::closing::close;
 use crate::metered::Metered;
+use cache_server::ConnError;
 use std::alloc::Global;
 use std::io;
 use std::io::{BufWriter, Read, Write};
@@ -28,29 +30,28 @@ pub trait Listener {
     /// That the connection with this number was opened, with this to be read and written there.
     ghost opened: { ℕ → Option (List ℕ) → Option (List ℕ) → Type 0 };
 
-    /// That it has ended, with this left to be read and written there. Only the calls that opened it
-    /// and ended it say so.
-    ghost ended: { ℕ → Option (List ℕ) → Option (List ℕ) → Type 0 };
+    /// That it has ended, with this left to be read and written there, and why. Only the calls that
+    /// opened it and ended it say so.
+    ghost ended: { ℕ → Option (List ℕ) → Option (List ℕ) → Why → Type 0 };
 
     /// Waits for the next connection, under this number.
     fn accept(&mut self, number: u64) -> io::Result<Accepted<Self::Reader, Self::Writer>>
         ensures { IfOk result (λ it. opened number
             (Self.Reader.remaining it.reader) (Self.Writer.contents it.writer)) };
 
-    /// Ends a connection, and tells how many bytes were read and written. One that `lingers` may
-    /// still be sending.
+    /// Ends a connection, is told why, and tells how many bytes were read and written.
     fn end(
         &mut self,
         number: u64,
         reader: Self::Reader,
         writer: Self::Writer,
-        lingers: bool,
+        why: Result<(), ConnError>,
     ) -> (u64, u64)
-        ensures { ended number (Self.Reader.remaining reader) (Self.Writer.contents writer) };
+        ensures { ended number (Self.Reader.remaining reader) (Self.Writer.contents writer) why };
 }
 
-/// A listener of the system. A connection that is silent for `idle`, or takes no answer for so long,
-/// fails.
+/// A listener of the system. A connection that is silent for `idle`, or takes no answer for so
+/// long, fails.
 #[derive(Drop)]
 pub(crate) struct System<'r, R> {
     pub(crate) rt: &'r R,
@@ -65,7 +66,7 @@ impl<'r, R: AllocGlobal + Clock> Listener for System<'r, R> {
 
     ghost opened = { λ _ _ _. Unit {0} };
 
-    ghost ended = { λ _ _ _. Unit {0} };
+    ghost ended = { λ _ _ _ _. Unit {0} };
 
     fn accept(&mut self, number: u64) -> io::Result<Accepted<Metered, BufWriter<Metered, Global>>> {
         let _number = number;
@@ -86,11 +87,12 @@ impl<'r, R: AllocGlobal + Clock> Listener for System<'r, R> {
         number: u64,
         reader: Metered,
         writer: BufWriter<Metered, Global>,
-        lingers: bool,
+        why: Result<(), ConnError>,
     ) -> (u64, u64) {
         let _number = number;
         let (sender, _unsent) = writer.into_parts();
-        if lingers {
+        // Without a fault the peer may still be sending.
+        if why.is_ok() {
             close(self.rt, &reader.stream);
         }
         (reader.bytes, sender.bytes)

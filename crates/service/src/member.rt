@@ -1,4 +1,5 @@
-ghost use Rattle.std.specs.Prelude.{◌≡◌, [], take, drop, true, IfErr, IfOk, IfSome, IsTrue, OnErr};
+ghost use Rattle.std.specs.Prelude.{◌≡◌, [], take, drop, true, Err, IfErr, IfOk, IfSome, IsTrue};
+ghost use Rattle.std.specs.Prelude.{OnErr};
 ghost use Rattle.cache_server.specs.Server.{IsOpenAt, session_at};
 ghost use Rattle.service.specs.Member.{EndsWell, FailsFor, MovesOn, Passes, PassesSent, end_of};
 ghost use Rattle.service.specs.Member.{new_member, unsent_of};
@@ -21,8 +22,8 @@ use std::{io, mem};
 /// The most steps of a turn, so that one busy client starves nobody.
 const STEPS: u32 = 16;
 
-/// How many milliseconds a connection that holds more than so many bytes may be silent, where others
-/// wait for memory.
+/// How many milliseconds a connection that holds more than so many bytes may be silent, where
+/// others wait for memory.
 const PRESSED_TIME: u64 = 5_000;
 
 const HEAVY: u64 = 65_536;
@@ -288,8 +289,10 @@ impl<S: Peer + Drop> Member<S> {
         ensures sent { IfOk result (λ count.
             SendsTo S.spoke self.old.stream (take count self.old.unsent) self.new.stream) }
         ensures fault { OnErr result (Stays S.spoke self.old.stream self.new.stream) }
-        ensures end { IfOk result (λ count. count ≡ 0 → S.over self.new.stream) }
-        ensures broken { IfErr result (λ e. IsBroken e → S.over self.new.stream) }
+        ensures end { IfOk result (λ count. count ≡ 0
+            → S.over self.new.stream (Err ConnError.WriteFault)) }
+        ensures broken { IfErr result (λ e. IsBroken e
+            → S.over self.new.stream (Err ConnError.WriteFault)) }
     {
         let Some(answer) = &self.answer else {
             return Err(io::Error::from(ErrorKind::Interrupted));
@@ -305,7 +308,7 @@ impl<S: Peer + Drop> Member<S> {
     /// So much more of the answer is sent.
     #[tactic(auto, using(crate::proofs::Talking::sends_lost, crate::proofs::Talking::sends_over, crate::proofs::Talking::sends_more))]
     fn pass(&mut self, count: usize, is_last: bool, now: u64) -> Turn
-        requires { count ≡ 0 → S.over self.old.stream }
+        requires { count ≡ 0 → S.over self.old.stream (Err ConnError.WriteFault) }
         ensures { PassesSent (end_of result) S.spoke S.over count self.old self.new }
     {
         let Some(sent) = self.sent.checked_add(count) else {
@@ -489,7 +492,7 @@ impl<S: Peer + Drop> Member<S> {
 /// What comes of a call that failed: without memory, where the system has nothing for it, where it
 /// was interrupted, and otherwise.
 fn after_fault(fault: &io::Error, other: ConnError) -> Turn
-    ensures { FailsFor (IsBroken fault.now) (end_of result) }
+    ensures { FailsFor (λ why. IsBroken fault.now × (why ≡ Err other)) (end_of result) }
 {
     match fault.kind() {
         ErrorKind::OutOfMemory => Turn::Ends(Err(ConnError::Memory)),

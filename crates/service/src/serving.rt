@@ -26,9 +26,9 @@ pub fn serve<R: AllocGlobal + Clock + Log>(
     prefix: &Prefix<Global>,
 ) -> Result<(), NotAccepted>
     // The requests of some streams, one for each connection, led to the cache.
-    ensures ok { OnOk result (ServesInTurn (λ _ _ _. Unit {0}) (λ _ _ _. Unit {0})
+    ensures ok { OnOk result (ServesInTurn (λ _ _ _. Unit {0}) (λ _ _ _ _. Unit {0})
         prefix.now cache.old connections cache.new) }
-    ensures err { IfErr result (λ fault. ServesInTurn (λ _ _ _. Unit {0}) (λ _ _ _. Unit {0})
+    ensures err { IfErr result (λ fault. ServesInTurn (λ _ _ _. Unit {0}) (λ _ _ _ _. Unit {0})
         prefix.now cache.old fault.accepted cache.new) }
     ensures few { IfErr result (λ fault. fault.accepted < connections) }
 {
@@ -37,8 +37,8 @@ pub fn serve<R: AllocGlobal + Clock + Log>(
 }
 
 /// Serves so many connections of the listener, one after another, under the prefix. A fault of one
-/// connection ends that connection alone. One that can't be accepted isn't counted; after 100 faults
-/// in a row no more are waited for.
+/// connection ends that connection alone. One that can't be accepted isn't counted; after 100
+/// faults in a row no more are waited for.
 pub fn serve_listener<R: AllocGlobal + Log, L: Listener>(
     rt: &R,
     listener: &mut L,
@@ -108,7 +108,7 @@ fn serve_next<R: AllocGlobal + Log, L: Listener>(
     let end = run(rt.alloc(), &mut reader, &mut writer, cache, prefix);
     let mut counts = Counts::none();
     counts.add_between(&before, &cache.counts());
-    let (read, written) = listener.end(number, reader, writer, end.is_ok());
+    let (read, written) = listener.end(number, reader, writer, end);
     let traffic = Traffic {
         counts,
         read,

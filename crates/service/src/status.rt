@@ -1,4 +1,4 @@
-ghost use Rattle.std.specs.Prelude.{◌≡◌, ◌<◌, ◌≤◌, IsSome, None, Some, is_some};
+ghost use Rattle.std.specs.Prelude.{◌≡◌, ◌+◌, ◌<◌, ◌≤◌, ◌⊎◌, min, IsSome, None, Some, is_some};
 
 use std::io::{IsTerminal, Stderr, Write};
 
@@ -73,6 +73,10 @@ impl StatusLine {
         ensures rare { now < self.old.next → self.new.shown ≡ self.old.shown }
         ensures shown { IsSome self.old.terminal → self.old.next ≤ now
             → self.new.shown ≡ Some status }
+        ensures paced { (self.new.shown ≡ self.old.shown)
+            ⊎ (self.new.next ≡ min (now + 1000) 18446744073709551615) }
+        ensures due { IsSome self.old.terminal
+            → (self.new.shown ≡ Some status) ⊎ (self.new.due ≡ self.old.next) }
     {
         let Some(terminal) = &mut self.terminal else {
             return;
@@ -95,6 +99,7 @@ impl StatusLine {
     /// Takes the line away, for what else is told there.
     pub(crate) fn clear(&mut self)
         ensures cleared { self.new.shown ≡ None }
+        ensures paced { self.new.next ≡ self.old.next }
         ensures silent { self.old.terminal ≡ None → self.new.terminal ≡ None }
     {
         if self.shown.is_none() {

@@ -64,9 +64,9 @@ pub fn serve_together<R: AllocGlobal + Clock + ErrorTerminal + Log + Net>(
     server: &mut Server<Global>,
 ) -> Result<(), NotAccepted>
     // What came over these connections led to the server, in the order of its calls.
-    ensures ok { OnOk result (Serves false (λ _ _ _ _. Unit {0}) (λ _. Unit {0})
+    ensures ok { OnOk result (Serves false (λ _ _ _ _. Unit {0}) (λ _ _. Unit {0})
         server.old connections server.new) }
-    ensures err { IfErr result (λ fault. Serves true (λ _ _ _ _. Unit {0}) (λ _. Unit {0})
+    ensures err { IfErr result (λ fault. Serves true (λ _ _ _ _. Unit {0}) (λ _ _. Unit {0})
         server.old fault.accepted server.new) }
     ensures few { IfErr result (λ fault. fault.accepted ≤ connections) }
 {
@@ -85,9 +85,9 @@ pub fn serve_together<R: AllocGlobal + Clock + ErrorTerminal + Log + Net>(
     )
 }
 
-/// Serves so many connections of the sockets, up to `at_once` of them at a time, none of which waits
-/// for another. Each is read only while it has no answer that isn't sent. A line on the terminal, if
-/// there is one, says how many are open, and the hits so far.
+/// Serves so many connections of the sockets, up to `at_once` of them at a time, none of which
+/// waits for another. Each is read only while it has no answer that isn't sent. A line on the
+/// terminal, if there is one, says how many are open, and the hits so far.
 #[tactic(auto, using(crate::proofs::Whole::serves_all, crate::proofs::Whole::serves_cut, crate::proofs::Whole::serves_none))]
 pub fn serve_sockets<R: AllocGlobal + Clock + Log, N: Sockets>(
     rt: &R,

@@ -1,11 +1,14 @@
 //! What an engine answers to calls.
+ghost use Rattle.tree.specs.Memo.{IsKnownOf, known_by};
+
 use crate::answers::{Answer, Broken, count_in, number_in, said, word};
 use crate::engines::fault_told;
 use actions::Outcome;
 use blob_digest::Digest;
+use messages::Path;
 use runs::{Engine, RunsError};
 use std::alloc::{Allocator, Global};
-use tree::{Memo, MemorySource};
+use tree::{BlobSource, Memo, MemorySource};
 
 /// What the engine answers to a call, in which `outcome` is what a job came to.
 pub fn answered<A: Allocator + Copy>(
@@ -58,30 +61,33 @@ fn of_number<A: Allocator + Copy>(
 
 /// A refusal as the rows spell it.
 fn refusal_told<A: Allocator>(global: Global, error: RunsError<A>) -> Answer {
-    Ok(match error {
-        RunsError::NotReady => String::from_str(global, "101")?,
-        RunsError::NoSuchJob => String::from_str(global, "102")?,
-        RunsError::ExitCode(code) => format!(in global; "103 {code}")?,
-        RunsError::Disagrees => String::from_str(global, "104")?,
-        RunsError::Unlisted(path) => {
-            let path = path.as_str();
-            format!(in global; "105 {path}")?
-        }
-        RunsError::Origin(path) => {
-            let path = path.as_str();
-            format!(in global; "106 {path}")?
-        }
+    match &error {
+        RunsError::NotReady => said(global, "101"),
+        RunsError::NoSuchJob => said(global, "102"),
+        RunsError::ExitCode(code) => Ok(format!(in global; "103 {code}")?),
+        RunsError::Disagrees => said(global, "104"),
+        RunsError::Unlisted(path) => with_path(global, 105, path),
+        RunsError::Origin(path) => with_path(global, 106, path),
         RunsError::Source(error) => {
             let fault = fault_told(global, error)?;
-            format!(in global; "107 {fault}")?
+            Ok(format!(in global; "107 {fault}")?)
         }
-        RunsError::Full => String::from_str(global, "109")?,
-        RunsError::Conflict(path) => {
-            let path = path.as_str();
-            format!(in global; "110 {path}")?
-        }
-        RunsError::Memory => return Err(Broken::Memory),
-    })
+        RunsError::Full => said(global, "109"),
+        RunsError::Conflict(path) => with_path(global, 110, path),
+        RunsError::Memory => Err(Broken::Memory),
+    }
+}
+
+/// A number and a path.
+pub fn with_path<A: Allocator>(global: Global, number: u8, path: &Path<A>) -> Answer {
+    let path = path.as_str();
+    Ok(format!(in global; "{number} {path}")?)
+}
+
+/// A number and a digest.
+pub fn with_digest(global: Global, number: u8, digest: &Digest) -> Answer {
+    let text = digest.write_text(global)?;
+    Ok(format!(in global; "{number} {text}")?)
 }
 
 fn ended<A: Allocator>(global: Global, ended: Result<(), RunsError<A>>) -> Answer {
@@ -98,11 +104,26 @@ fn start<A: Allocator + Copy>(
     source: &mut MemorySource<A>,
     step: usize,
 ) -> Answer {
+    let mut memo = Memo::new(alloc);
+    start_over(global, alloc, engine, &mut memo, source, step)
+}
+
+/// The answer to a start over what the memo knows.
+pub fn start_over<A: Allocator + Copy, S: BlobSource<A>>(
+    global: Global,
+    alloc: A,
+    engine: &mut Engine<A>,
+    memo: &mut Memo<A>,
+    source: &mut S,
+    step: usize,
+) -> Answer
+    requires { IsKnownOf (known_by memo.old) (S.tells source.old) }
+    ensures { IsKnownOf (known_by memo.new) (S.tells source.new) }
+{
     if step >= engine.plan().steps().len() {
         return Err(Broken::NoRow);
     }
-    let mut memo = Memo::new(alloc);
-    match engine.start(alloc, step, &mut memo, source) {
+    match engine.start(alloc, step, memo, source) {
         Err(error) => refusal_told(global, error),
         Ok(job) => {
             let id = job.id;
@@ -119,7 +140,21 @@ fn root<A: Allocator + Copy>(
     source: &mut MemorySource<A>,
 ) -> Answer {
     let mut memo = Memo::new(alloc);
-    match engine.root(alloc, &mut memo, source) {
+    root_over(global, alloc, engine, &mut memo, source)
+}
+
+/// The root over what the memo knows.
+pub fn root_over<A: Allocator + Copy, S: BlobSource<A>>(
+    global: Global,
+    alloc: A,
+    engine: &Engine<A>,
+    memo: &mut Memo<A>,
+    source: &mut S,
+) -> Answer
+    requires { IsKnownOf (known_by memo.old) (S.tells source.old) }
+    ensures { IsKnownOf (known_by memo.new) (S.tells source.new) }
+{
+    match engine.root(alloc, memo, source) {
         Err(error) => refusal_told(global, error),
         Ok(root) => {
             let digest = root.write_text(global)?;

@@ -42,7 +42,7 @@ pub fn answer<A: Allocator + Copy>(
 
 /// What a row's text says of each child.
 pub fn came_of(text: &[u8]) -> Came {
-    if is(text, "out") {
+    if is(text, "out") || is(text, "out unheard") {
         Came::File("out", "123456789")
     } else {
         Came::Code(if is(text, "0") { 0 } else { 3 })

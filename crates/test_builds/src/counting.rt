@@ -1,3 +1,7 @@
+ghost use Rattle.std.specs.Prelude.{◌≡◌, IsTrue};
+ghost use Rattle.messages.specs.Path.{begins_with_slash};
+ghost use Rattle.worker.specs.Values.{IsAbsolute};
+
 use actions::{Command, Outcome, Output};
 use blob_digest::Digest;
 use messages::Path;
@@ -60,6 +64,25 @@ impl Counting {
     }
 }
 
+fn begins_with_slash(bytes: &[u8]) -> bool
+    ensures { result ≡ begins_with_slash bytes.now }
+{
+    match bytes {
+        [b'/', ..] => true,
+        _ => false,
+    }
+}
+
+/// Whether the command names its program by a path from the root of the file system.
+fn is_absolute<A: Allocator>(command: &Command<A>) -> bool
+    ensures { IsAbsolute command.now → IsTrue result }
+{
+    match command.arguments() {
+        [program, ..] => begins_with_slash(program.as_bytes()),
+        [] => false,
+    }
+}
+
 /// The path of this text.
 fn path_of<A: Allocator>(alloc: A, text: &str) -> Result<Path<A>, AllocError> {
     match Path::new(alloc, text.as_bytes()) {
@@ -106,8 +129,11 @@ impl<A: Allocator + Copy> Runner<A> for Counting {
         &mut self,
         _alloc: A,
         _layout: &Layout<A>,
-        _command: &Command<A>,
+        command: &Command<A>,
     ) -> Result<Counted, RunError<A>> {
+        if !is_absolute(command) {
+            return Err(RunError::NotAbsolute);
+        }
         let Some(alive) = self.alive.checked_add(1) else {
             return Err(RunError::Memory);
         };

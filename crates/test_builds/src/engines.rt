@@ -1,7 +1,8 @@
 //! Rows of calls of an engine, of which each group has one, over a source with the stock. Each
 //! request for memory of a call is refused in turn before the engine is asked once more.
-use crate::answers::{Answer, Broken, compared, said, word};
+use crate::answers::{Answer, Broken, compared, count_in, said, word};
 use crate::calls::answered;
+use crate::memos::{self, Question};
 use crate::stock::source_of;
 use actions::{Outcome, Output};
 use blob_digest::Digest;
@@ -14,7 +15,12 @@ use tree::{MemorySource, TreeError};
 
 /// How many requests were refused by the calls of the group, whose first row has the plan and the
 /// digest of the sources, and what is held besides.
-pub fn run(global: Global, stock: &[Row], group: &[Row]) -> Result<u64, Broken> {
+pub fn run(
+    global: Global,
+    stock: &[Row],
+    group: &[Row],
+    noted: &mut String,
+) -> Result<u64, Broken> {
     let Some((first, rows)) = group.split_first() else {
         return Ok(0);
     };
@@ -24,16 +30,44 @@ pub fn run(global: Global, stock: &[Row], group: &[Row]) -> Result<u64, Broken> 
     let heap = Refusing::new(global, 0);
     let mut source = source_of(&heap, stock, changes)?;
     let plan = Plan::read(&heap, plan)?;
-    let Ok(mut engine) = Engine::new(&heap, plan, Digest::read_text(sources)?, &mut source) else {
-        return Err(Broken::NoRow);
-    };
+    match Engine::new(&heap, plan, Digest::read_text(sources)?, &mut source) {
+        Ok(mut engine) => run_rows(global, &heap, &mut engine, &mut source, rows, noted),
+        Err(_) => Err(Broken::NoRow),
+    }
+}
+
+/// How many requests were refused by these calls of the engine.
+fn run_rows<'h>(
+    global: Global,
+    heap: &'h Refusing<Global>,
+    engine: &mut Engine<&'h Refusing<Global>>,
+    source: &mut MemorySource<&'h Refusing<Global>>,
+    rows: &[Row],
+    noted: &mut String,
+) -> Result<u64, Broken> {
     let mut refused = 0u64;
     for row in rows {
-        let (told, requests) = insisted(global, &heap, &mut engine, &mut source, &row.fields)?;
-        compared(row, told)?;
+        let (told, requests) = match asked_over_memo(&row.fields)? {
+            Some((question, expected)) => {
+                memos::insisted(global, heap, engine, source, question, expected)?
+            }
+            None => insisted(global, heap, engine, source, &row.fields)?,
+        };
+        compared(row, told.as_str(), noted)?;
         refused = refused.saturating_add(requests);
     }
     Ok(refused)
+}
+
+/// What a row asks over one memo, and what must come; none for another row.
+fn asked_over_memo(fields: &[Vec<u8>]) -> Result<Option<(Question, &[u8])>, Broken> {
+    Ok(match fields {
+        [kind, expected] if word(kind) == "memo root" => Some((Question::Root, expected)),
+        [kind, step, expected] if word(kind) == "memo start" => {
+            Some((Question::Start(count_in(step)?), expected))
+        }
+        _ => None,
+    })
 }
 
 /// Whether the call takes no memory.
@@ -120,7 +154,7 @@ pub fn opened<A: Allocator + Copy>(
     match Engine::new(alloc, plan, Digest::empty(), &mut source) {
         Ok(_) => said(global, "none"),
         Err(OpenError::Source(step, error)) => {
-            let fault = fault_told(global, error)?;
+            let fault = fault_told(global, &error)?;
             Ok(format!(in global; "107 {step} {fault}")?)
         }
         Err(OpenError::DoNotCache(step)) => Ok(format!(in global; "108 {step}")?),
@@ -129,7 +163,7 @@ pub fn opened<A: Allocator + Copy>(
 }
 
 /// A fault of a blob, and its digest.
-pub fn fault_told<A: Allocator>(global: Global, error: TreeError<A>) -> Answer {
+pub fn fault_told<A: Allocator>(global: Global, error: &TreeError<A>) -> Answer {
     let (fault, digest) = match error {
         TreeError::BlobMissing(digest) => ("missing", digest),
         TreeError::BlobWrong(digest) => ("wrong", digest),

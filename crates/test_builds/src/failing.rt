@@ -5,7 +5,7 @@ ghost use Rattle.std.specs.Prelude.{◌<◌};
 use crate::answers::{Answer, Broken, count_in, said};
 use crate::children::{came_of, told_of};
 use crate::counting::{Came, Counting};
-use crate::stock::{digest_of, source_of, text_of};
+use crate::stock::{Case, case_of, source_of};
 use crate::verdicts::verdict_told;
 use blob_digest::Digest;
 use builder::{Fault, tell_build};
@@ -19,27 +19,46 @@ use worker::{FailRunner, Unwatched};
 /// The verdict on the changed build, and how many calls of its source fail in turn, after each of
 /// which there is none.
 pub fn verdict(global: Global, stock: &[Row], changes: &[Vec<u8>]) -> Answer {
-    let plan = text_of(global, stock, changes, "plan", "plan ")?;
-    let record = text_of(global, stock, changes, "record", "record ")?;
-    let sources = digest_of(stock, changes, "sources", "sources ")?;
-    let claim = digest_of(stock, changes, "claim", "claim ")?;
-    let plan = Plan::read(global, plan.as_bytes())?;
-    let record = Record::read(global, record.as_bytes(), &plan)?;
     for number in 1..1000u64 {
-        let mut source = FailSink::new(source_of(global, stock, changes)?, number);
-        let verdict = verify(global, &sources, &plan, &record, &claim, &mut source);
-        let is_reached = source.until_failure() == 0;
-        match verdict {
-            Err(VerifyError::Fetch) if is_reached && source.failures() == 1 => {}
-            Ok(verdict) if !is_reached && source.failures() == 0 => {
-                let told = verdict_told(global, &verdict)?;
-                let faults = number - 1;
-                return Ok(format!(in global; "{told}, {faults} faults")?);
-            }
-            _ => return said(global, "told otherwise"),
+        if let Some(told) = verdict_without(global, stock, changes, number)? {
+            let faults = number - 1;
+            return Ok(format!(in global; "{told}, {faults} faults")?);
         }
     }
     Err(Broken::NoRow)
+}
+
+/// The verdict, where the call of this number fails if there is one; none if that failed.
+fn verdict_without(
+    global: Global,
+    stock: &[Row],
+    changes: &[Vec<u8>],
+    number: u64,
+) -> Result<Option<String>, Broken> {
+    let case = case_of(global, stock, changes)?;
+    let mut source = FailSink::new(source_of(global, stock, changes)?, number);
+    let verdict = judged_over(global, &case, &mut source)?;
+    let is_reached = source.until_failure() == 0;
+    match verdict {
+        None if is_reached && source.failures() == 1 => Ok(None),
+        Some(told) if !is_reached && source.failures() == 0 => Ok(Some(told)),
+        _ => Err(Broken::Untold),
+    }
+}
+
+/// The verdict; none where the source failed.
+fn judged_over(
+    global: Global,
+    case: &Case,
+    source: &mut FailSink<MemorySource<Global>>,
+) -> Result<Option<String>, Broken> {
+    let plan = Plan::read(global, case.plan.as_bytes())?;
+    let record = Record::read(global, case.record.as_bytes(), &plan)?;
+    match verify(global, &case.sources, &plan, &record, &case.claim, source) {
+        Ok(verdict) => Ok(Some(verdict_told(global, &verdict)?)),
+        Err(VerifyError::Fetch) => Ok(None),
+        Err(VerifyError::Memory) => Err(Broken::Memory),
+    }
 }
 
 /// What comes of a build, and how many calls of its store and of its runner fail in turn.

@@ -1,55 +1,44 @@
-//! Rows of many jobs of an engine, and of starts over one memo and another.
-ghost use Rattle.tree.specs.Memo.{IsKnownOf, known_by};
-
-use crate::answers::{Answer, Broken, is, number_in, said};
+//! Rows of many jobs of an engine.
+use crate::answers::{Answer, Broken, number_in, said, word};
 use crate::calls::asked;
 use crate::engines::insisted;
 use crate::stock::source_of;
 use blob_digest::Digest;
 use plan::Plan;
 use runs::Engine;
-use std::alloc::{Allocator, Global};
+use std::alloc::Global;
 use test_support::{Refusing, Row};
-use tree::{BlobSource, Memo, MemorySource};
-
-pub fn answer(global: Global, stock: &[Row], fields: &[Vec<u8>]) -> Answer {
-    let [kind, plan, given, action, _] = fields else {
-        return Err(Broken::NoRow);
-    };
-    if is(kind, "jobs") {
-        return many_jobs(global, stock, plan, number_in(given)?, action);
-    }
-    let mut source = source_of(global, stock, &[])?;
-    let plan = Plan::read(global, plan)?;
-    let sources = Digest::of(given);
-    source.hold_blob(sources, Vec::from_slice(global, given)?)?;
-    let Ok(mut engine) = Engine::new(global, plan, sources, &mut source) else {
-        return Err(Broken::NoRow);
-    };
-    over_memos(global, &mut engine, &mut source)
-}
+use tree::MemorySource;
 
 /// What the start after this many of the first step is told, and how many jobs run then. Each
 /// request for memory of each start is refused before.
-fn many_jobs(global: Global, stock: &[Row], plan: &[u8], count: u64, action: &[u8]) -> Answer {
+pub fn answer(global: Global, stock: &[Row], fields: &[Vec<u8>]) -> Answer {
+    let [plan, count, action, _] = fields else {
+        return Err(Broken::NoRow);
+    };
+    let count = number_in(count)?;
     let heap = Refusing::new(global, 0);
     let mut source = source_of(&heap, stock, &[])?;
     let plan = Plan::read(&heap, plan)?;
-    let Ok(mut engine) = Engine::new(&heap, plan, Digest::empty(), &mut source) else {
-        return Err(Broken::NoRow);
-    };
-    if !are_started(
-        global,
-        &heap,
-        &mut engine,
-        &mut source,
-        count,
-        str::from_utf8(action)?,
-    )? {
+    match Engine::new(&heap, plan, Digest::empty(), &mut source) {
+        Ok(mut engine) => many_jobs(global, &heap, &mut engine, &mut source, count, word(action)),
+        Err(_) => Err(Broken::NoRow),
+    }
+}
+
+fn many_jobs<'h>(
+    global: Global,
+    heap: &'h Refusing<Global>,
+    engine: &mut Engine<&'h Refusing<Global>>,
+    source: &mut MemorySource<&'h Refusing<Global>>,
+    count: u64,
+    action: &str,
+) -> Answer {
+    if !are_started(global, heap, engine, source, count, action)? {
         return said(global, "another job");
     }
-    let last = start_first(global, &heap, &mut engine, &mut source)?;
-    let running = asked(global, &heap, &engine, "running", 0)?;
+    let last = start_first(global, heap, engine, source)?;
+    let running = asked(global, heap, engine, "running", 0)?;
     Ok(format!(in global; "{last} beside {running}")?)
 }
 
@@ -86,46 +75,4 @@ fn start_first<'h>(
     ];
     let (told, _) = insisted(global, heap, engine, source, &call)?;
     Ok(told)
-}
-
-/// Whether the step has started, over what the memo knows.
-fn has_started<A: Allocator + Copy, S: BlobSource<A>>(
-    alloc: A,
-    engine: &mut Engine<A>,
-    step: usize,
-    memo: &mut Memo<A>,
-    source: &mut S,
-) -> bool
-    requires { IsKnownOf (known_by memo.old) (S.tells source.old) }
-    ensures { IsKnownOf (known_by memo.new) (S.tells source.new) }
-{
-    if step >= engine.plan().steps().len() {
-        return false;
-    }
-    engine.start(alloc, step, memo, source).is_ok()
-}
-
-/// How often the source was called after two starts of the first step over one memo and after one
-/// over another.
-fn over_memos(
-    global: Global,
-    engine: &mut Engine<Global>,
-    source: &mut MemorySource<Global>,
-) -> Answer {
-    let before = source.calls();
-    let mut memo = Memo::new(global);
-    if !has_started(global, engine, 0, &mut memo, source) {
-        return said(global, "not started");
-    }
-    let first = source.calls().saturating_sub(before);
-    if !has_started(global, engine, 0, &mut memo, source) {
-        return said(global, "not started again");
-    }
-    let second = source.calls().saturating_sub(before);
-    let mut other = Memo::new(global);
-    if !has_started(global, engine, 0, &mut other, source) {
-        return said(global, "not started over another memo");
-    }
-    let third = source.calls().saturating_sub(before);
-    Ok(format!(in global; "{first} {second} {third}")?)
 }

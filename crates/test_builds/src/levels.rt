@@ -61,13 +61,13 @@ fn hold_levels<A: Allocator + Copy>(
     Ok(sources)
 }
 
-/// How many requests for memory were refused where the rows come to what they say. Of a row that
-/// refuses, each request of its verdict is refused before, over one source.
-pub fn run(global: Global, group: &[Row], refuses: bool) -> Result<u64, Broken> {
+/// How many requests for memory were refused where the rows come to what they say. The first request
+/// of a row's verdict and each after so many is refused before, over one source.
+pub fn run(global: Global, group: &[Row], stride: u64, noted: &mut String) -> Result<u64, Broken> {
     let mut refused = 0u64;
     for row in group {
-        let (told, requests) = insisted(global, &row.fields, refuses)?;
-        compared(row, told)?;
+        let (told, requests) = insisted(global, &row.fields, stride)?;
+        compared(row, told.as_str(), noted)?;
         refused = refused.saturating_add(requests);
     }
     Ok(refused)
@@ -75,7 +75,7 @@ pub fn run(global: Global, group: &[Row], refuses: bool) -> Result<u64, Broken> 
 
 /// The verdict, and how often the source was called for it, by the lowest Directory, the number of
 /// pairs and the claim; and how many requests were refused before.
-fn insisted(global: Global, fields: &[Vec<u8>], refuses: bool) -> Result<(String, u64), Broken> {
+fn insisted(global: Global, fields: &[Vec<u8>], stride: u64) -> Result<(String, u64), Broken> {
     let [lowest, pairs, claim, _] = fields else {
         return Err(Broken::NoRow);
     };
@@ -88,17 +88,17 @@ fn insisted(global: Global, fields: &[Vec<u8>], refuses: bool) -> Result<(String
     let plan = plan_of(global, pairs)?;
     let claim = Digest::read_text(claim)?;
     let texts = (plan.as_slice(), b"buildrecord 1\n".as_slice());
-    for number in 1..1_000_000u64 {
+    for turn in 0..1_000_000u64 {
         let before = source.calls();
-        heap.refuse(if refuses { number } else { 0 });
+        heap.refuse(turn.saturating_mul(stride).saturating_add(1));
         let verdict = judged(&heap, texts, &sources, &claim, &mut source);
-        let is_refused = refuses && heap.has_refused();
+        let is_refused = heap.has_refused();
         heap.refuse(0);
         match verdict {
             Ok(verdict) if !is_refused => {
                 let told = verdict_told(global, &verdict)?;
                 let calls = source.calls().saturating_sub(before);
-                return Ok((format!(in global; "{told} by {calls}")?, number - 1));
+                return Ok((format!(in global; "{told} by {calls}")?, turn));
             }
             Err(Broken::Memory) if is_refused => {}
             Err(broken) => return Err(broken),

@@ -25,8 +25,31 @@ fn after<'a>(change: &'a [u8], words: &str) -> Result<Option<&'a str>, Broken> {
     Ok(str::from_utf8(change)?.strip_prefix(words))
 }
 
+/// A build that is judged: the texts of its plan and record, its sources and the claim.
+#[derive(Drop)]
+pub struct Case {
+    pub plan: String,
+    pub record: String,
+    pub sources: Digest,
+    pub claim: Digest,
+}
+
+/// The stock's build with the changes.
+pub fn case_of(global: Global, stock: &[Row], changes: &[Vec<u8>]) -> Result<Case, Broken> {
+    let sources = digest_of(stock, changes, "sources", "sources ")?;
+    let claim = digest_of(stock, changes, "claim", "claim ")?;
+    let plan = text_of(global, stock, changes, "plan", "plan ")?;
+    let record = text_of(global, stock, changes, "record", "record ")?;
+    Ok(Case {
+        plan,
+        record,
+        sources,
+        claim,
+    })
+}
+
 /// The text of the stock with the changes of those that begin with these words.
-pub fn text_of(
+fn text_of(
     global: Global,
     stock: &[Row],
     changes: &[Vec<u8>],
@@ -46,7 +69,7 @@ pub fn text_of(
 }
 
 /// The digest of the first change that begins with these words, and else that of the stock.
-pub fn digest_of(
+fn digest_of(
     stock: &[Row],
     changes: &[Vec<u8>],
     kind: &str,
@@ -92,27 +115,27 @@ fn hold_stock<A: Allocator + Copy>(
     Ok(())
 }
 
+/// The digest and the bytes that stand after these words in a change, if it begins with them.
+fn held_after<'a>(change: &'a [u8], words: &str) -> Result<Option<(&'a str, &'a str)>, Broken> {
+    match after(change, words)? {
+        Some(held) => Ok(held.split_once(' ')),
+        None => Ok(None),
+    }
+}
+
 /// Holds what the change says.
 fn hold_changed<A: Allocator + Copy>(
     alloc: A,
     source: &mut MemorySource<A>,
     change: &[u8],
 ) -> Result<(), Broken> {
-    if let Some(held) = after(change, "holds blob ")? {
-        if let Some((digest, bytes)) = held.split_once(' ') {
-            source.hold_blob(
-                Digest::read_text(digest.as_bytes())?,
-                Vec::from_slice(alloc, bytes.as_bytes())?,
-            )?;
-        }
+    if let Some((digest, bytes)) = held_after(change, "holds blob ")? {
+        let bytes = Vec::from_slice(alloc, bytes.as_bytes())?;
+        source.hold_blob(Digest::read_text(digest.as_bytes())?, bytes)?;
     }
-    if let Some(held) = after(change, "holds result ")? {
-        if let Some((digest, bytes)) = held.split_once(' ') {
-            source.hold_result(
-                Digest::read_text(digest.as_bytes())?,
-                Vec::from_slice(alloc, bytes.as_bytes())?,
-            )?;
-        }
+    if let Some((digest, bytes)) = held_after(change, "holds result ")? {
+        let bytes = Vec::from_slice(alloc, bytes.as_bytes())?;
+        source.hold_result(Digest::read_text(digest.as_bytes())?, bytes)?;
     }
     Ok(())
 }

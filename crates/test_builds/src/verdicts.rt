@@ -1,10 +1,10 @@
 //! Rows of verdicts: changes of the stock's build, and the verdict on it.
-use crate::answers::{Answer, Broken, is};
-use crate::stock::{digest_of, source_of, text_of};
+use crate::answers::{Answer, Broken, is, said};
+use crate::calls::{with_digest, with_path};
+use crate::stock::{Case, case_of, source_of};
 use blob_digest::Digest;
-use messages::Path;
 use plan::{Plan, Record};
-use std::alloc::{AllocError, Allocator, Global};
+use std::alloc::{Allocator, Global};
 use test_support::Row;
 use tree::MemorySource;
 use verifier::{Cause, Place, Verdict, VerifyError, verify};
@@ -16,19 +16,25 @@ pub fn answer<A: Allocator + Copy>(
     stock: &[Row],
     changes: &[Vec<u8>],
 ) -> Answer {
-    let plan = text_of(global, stock, changes, "plan", "plan ")?;
-    let record = text_of(global, stock, changes, "record", "record ")?;
-    let sources = digest_of(stock, changes, "sources", "sources ")?;
-    let claim = digest_of(stock, changes, "claim", "claim ")?;
+    let case = case_of(global, stock, changes)?;
     let mut source = source_of(alloc, stock, changes)?;
-    let texts = (plan.as_bytes(), record.as_bytes());
-    let verdict = judged(alloc, texts, &sources, &claim, &mut source)?;
-    let told = verdict_told(global, &verdict)?;
+    let told = told_of(global, alloc, &case, &mut source)?;
     if changes.iter().any(|change| is(change, "calls")) {
         let calls = source.calls();
         return Ok(format!(in global; "{told} by {calls}")?);
     }
     Ok(told)
+}
+
+fn told_of<A: Allocator + Copy>(
+    global: Global,
+    alloc: A,
+    case: &Case,
+    source: &mut MemorySource<A>,
+) -> Answer {
+    let texts = (case.plan.as_bytes(), case.record.as_bytes());
+    let verdict = judged(alloc, texts, &case.sources, &case.claim, source)?;
+    Ok(verdict_told(global, &verdict)?)
 }
 
 /// The verdict on the plan and the record of these texts.
@@ -48,59 +54,57 @@ pub fn judged<A: Allocator + Copy>(
     }
 }
 
-fn with_digest(alloc: Global, number: u8, digest: &Digest) -> Result<String, AllocError> {
-    let text = digest.write_text(alloc)?;
-    format!(in alloc; "{number} {text}")
-}
-
-fn with_path<A: Allocator>(
-    alloc: Global,
-    number: u8,
-    path: &Path<A>,
-) -> Result<String, AllocError> {
-    let text = path.as_str();
-    format!(in alloc; "{number} {text}")
-}
-
 /// The number of a cause, and what it names.
-fn cause_shown<A: Allocator>(alloc: Global, cause: &Cause<A>) -> Result<String, AllocError> {
+fn cause_shown<A: Allocator>(global: Global, cause: &Cause<A>) -> Answer {
     match cause {
-        Cause::BlobMissing(digest) => with_digest(alloc, 1, digest),
-        Cause::BlobWrong(digest) => with_digest(alloc, 2, digest),
-        Cause::BlobMalformed(digest) => with_digest(alloc, 3, digest),
-        Cause::DoNotCache => String::from_str(alloc, "4"),
-        Cause::OriginMissing(path) => with_path(alloc, 5, path),
-        Cause::FrameDiffers => String::from_str(alloc, "6"),
-        Cause::InputUnexplained(path) => with_path(alloc, 7, path),
-        Cause::InputAbsent(path) => with_path(alloc, 8, path),
-        Cause::InputDiffers(path) => with_path(alloc, 9, path),
-        Cause::ResultMissing => String::from_str(alloc, "10"),
-        Cause::ResultMalformed => String::from_str(alloc, "11"),
-        Cause::ExitCode(code) => format!(in alloc; "12 {code}"),
-        Cause::OutputUnlisted(path) => with_path(alloc, 13, path),
-        Cause::RootDiffers(root) => with_digest(alloc, 14, root),
-        Cause::InputConflict(path) => with_path(alloc, 15, path),
+        Cause::DoNotCache => said(global, "4"),
+        Cause::FrameDiffers => said(global, "6"),
+        Cause::ResultMissing => said(global, "10"),
+        Cause::ResultMalformed => said(global, "11"),
+        Cause::ExitCode(code) => Ok(format!(in global; "12 {code}")?),
+        Cause::BlobMissing(digest) => with_digest(global, 1, digest),
+        Cause::BlobWrong(digest) => with_digest(global, 2, digest),
+        Cause::BlobMalformed(digest) => with_digest(global, 3, digest),
+        Cause::RootDiffers(root) => with_digest(global, 14, root),
+        cause => path_shown(global, cause),
     }
 }
 
+/// The number of a cause that names a path, and this.
+fn path_shown<A: Allocator>(global: Global, cause: &Cause<A>) -> Answer {
+    let (number, path) = match cause {
+        Cause::OriginMissing(path) => (5, path),
+        Cause::InputUnexplained(path) => (7, path),
+        Cause::InputAbsent(path) => (8, path),
+        Cause::InputDiffers(path) => (9, path),
+        Cause::OutputUnlisted(path) => (13, path),
+        Cause::InputConflict(path) => (15, path),
+        _ => return Err(Broken::NoRow),
+    };
+    with_path(global, number, path)
+}
+
 /// A verdict as the rows spell it.
-pub fn verdict_told<A: Allocator>(
-    alloc: Global,
-    verdict: &Verdict<A>,
-) -> Result<String, AllocError> {
+pub fn verdict_told<A: Allocator>(global: Global, verdict: &Verdict<A>) -> Answer {
     match verdict {
         Verdict::Yes { root, steps } => {
-            let root = root.write_text(alloc)?;
-            format!(in alloc; "yes {root} steps {steps}")
+            let root = root.write_text(global)?;
+            Ok(format!(in global; "yes {root} steps {steps}")?)
         }
-        Verdict::No(Place::Step(name), cause) => {
+        Verdict::No(place, cause) => {
+            let place = place_told(global, place)?;
+            let cause = cause_shown(global, cause)?;
+            Ok(format!(in global; "{place} {cause}")?)
+        }
+    }
+}
+
+fn place_told<A: Allocator>(global: Global, place: &Place<A>) -> Answer {
+    match place {
+        Place::Root => said(global, "root"),
+        Place::Step(name) => {
             let name = name.as_str();
-            let cause = cause_shown(alloc, cause)?;
-            format!(in alloc; "step {name} {cause}")
-        }
-        Verdict::No(Place::Root, cause) => {
-            let cause = cause_shown(alloc, cause)?;
-            format!(in alloc; "root {cause}")
+            Ok(format!(in global; "step {name}")?)
         }
     }
 }

@@ -2,9 +2,9 @@
 use crate::rows::Row;
 use crate::streams::{Next, Streams};
 use crate::text::show;
+use crate::texts::{host_of, prefix_of};
 use blob_digest::Digest;
 use blob_source::{BlobSink, BlobSource, FetchError};
-use http_core::{Host, Prefix};
 use remote::*;
 use std::alloc::{AllocError, Allocator, Global};
 
@@ -79,8 +79,8 @@ fn client<A: Allocator + Copy>(
     number: u64,
 ) -> Result<Remote<Streams, A>, AllocError> {
     let stream = stream_of(row, number)?;
-    let host = Host::read(alloc, "h:80")?.ok_or(AllocError)?;
-    let prefix = Prefix::read(alloc, b"/p")?.ok_or(AllocError)?;
+    let host = host_of(alloc, "h:80")?;
+    let prefix = prefix_of(alloc, "/p")?;
     Remote::new(alloc, stream, &host, &prefix)
 }
 

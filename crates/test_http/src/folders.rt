@@ -38,7 +38,6 @@ fn lengths_there<R: Files + Alloc<A = A>, A: Allocator + Copy>(
 
 /// Prints what a folder tells of a blob and of its result.
 pub fn read_folder(rt: &HostRuntime) -> io::Result<()> {
-    let heap = rt.alloc();
     fs::create_dir_all(rt, "kept/cas")?;
     fs::create_dir_all(rt, NO_FILE)?;
     fs::write(rt, BLOB, b"123456789")?;
@@ -46,6 +45,14 @@ pub fn read_folder(rt: &HostRuntime) -> io::Result<()> {
         "each request for memory refused: {}",
         refusals_are_told(rt)
     )?;
+    read_store(rt)?;
+    println!(rt; "asked anew: {:?}", lengths_there(rt))
+}
+
+/// Prints what a folder tells where the blob goes and the result comes between, and where a folder
+/// stands in place of a file.
+fn read_store(rt: &HostRuntime) -> io::Result<()> {
+    let heap = rt.alloc();
     let files = SystemFiles(rt);
     let mut source = FolderSource::new(heap, &files, String::from_str(heap, "kept")?);
     println!(rt; "a blob: {:?}", lengths(rt, &mut source))?;
@@ -56,8 +63,7 @@ pub fn read_folder(rt: &HostRuntime) -> io::Result<()> {
     let failed = matches!(refused, Err(FetchError::Failed));
     let error = source.into_error();
     let told = matches!(&error, Some(FileError::NotAFile { path }) if path.as_str() == NO_FILE);
-    println!(rt; "a folder in place of a file: {}", failed && told)?;
-    println!(rt; "asked anew: {:?}", lengths_there(rt))
+    println!(rt; "a folder in place of a file: {}", failed && told)
 }
 
 /// Whether each request for memory, refused in turn, is told as such.

@@ -60,10 +60,20 @@ pub fn serve<A: Allocator + Copy>(
     show(row.heap, &answers, text)?;
     let held = held?;
     writeln!(text, "held {held}")?;
-    if answered(alloc, row)? != answers {
+    tell_otherwise(alloc, row, &answers, text)
+}
+
+/// Adds where a server answers otherwise than so.
+fn tell_otherwise<A: Allocator + Copy>(
+    alloc: A,
+    row: &Row<'_>,
+    answers: &[u8],
+    text: &mut String,
+) -> Result<(), AllocError> {
+    if answered(alloc, row)?.as_slice() != answers {
         text.push_str("otherwise in pieces\n")?;
     }
-    if answered_singly(alloc, row)? != answers {
+    if answered_singly(alloc, row)?.as_slice() != answers {
         text.push_str("otherwise one request at a time\n")?;
     }
     Ok(())

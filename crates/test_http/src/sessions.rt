@@ -44,19 +44,23 @@ fn tell_all<A: Allocator>(
 fn tell<A: Allocator>(heap: Global, event: &Event<A>, text: &mut String) -> Result<(), AllocError> {
     match event {
         Event::Refuse(status, close) => writeln!(text, "{status}{}", closing(*close)),
-        Event::Ask(Ask::Get(area, hash), close) => {
-            let hash = hash_text(heap, *hash)?;
-            writeln!(text, "get {} {hash}{}", name_of(*area), closing(*close))
+        Event::Ask(ask, close) => {
+            tell_ask(heap, ask, text)?;
+            writeln!(text, "{}", closing(*close))
         }
-        Event::Ask(Ask::Put(area, hash, body), close) => {
+    }
+}
+
+fn tell_ask<A: Allocator>(heap: Global, ask: &Ask<A>, text: &mut String) -> Result<(), AllocError> {
+    match ask {
+        Ask::Get(area, hash) => {
+            let hash = hash_text(heap, *hash)?;
+            write!(text, "get {} {hash}", name_of(*area))
+        }
+        Ask::Put(area, hash, body) => {
             let hash = hash_text(heap, *hash)?;
             let digest = body.digest().write_text(heap)?;
-            writeln!(
-                text,
-                "put {} {hash} {digest}{}",
-                name_of(*area),
-                closing(*close)
-            )
+            write!(text, "put {} {hash} {digest}", name_of(*area))
         }
     }
 }

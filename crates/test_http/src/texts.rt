@@ -57,15 +57,24 @@ pub fn request<A: Allocator + Copy>(
     let mut words = row.words.splitn(4, ' ');
     let puts = words.next() == Some("put");
     let area = area_of(words.next().unwrap_or(""));
-    let host = Host::read(alloc, words.next().unwrap_or(""))?.ok_or(AllocError)?;
-    let prefix = words.next().unwrap_or("");
-    let prefix = Prefix::read(alloc, prefix.as_bytes())?.ok_or(AllocError)?;
+    let host = host_of(alloc, words.next().unwrap_or(""))?;
+    let prefix = prefix_of(alloc, words.next().unwrap_or(""))?;
     let hash = Digest::of(b"123456789").hash();
-    let host = host.copied(alloc)?;
-    let prefix = prefix.copied(alloc)?;
     let body = puts.then_some(row.stream);
     let request = write_request(alloc, area, &hash, body, host.as_str(), &prefix)?;
     show(row.heap, &request, text)
+}
+
+/// A copy of the host of this text.
+pub fn host_of<A: Allocator + Copy>(alloc: A, text: &str) -> Result<Host<A>, AllocError> {
+    let host = Host::read(alloc, text)?.ok_or(AllocError)?;
+    Ok(host.copied(alloc)?)
+}
+
+/// A copy of the prefix of this text.
+pub fn prefix_of<A: Allocator + Copy>(alloc: A, text: &str) -> Result<Prefix<A>, AllocError> {
+    let prefix = Prefix::read(alloc, text.as_bytes())?.ok_or(AllocError)?;
+    Ok(prefix.copied(alloc)?)
 }
 
 fn area_of(name: &str) -> Area {

@@ -86,8 +86,14 @@ fn standing<A: Allocator + Copy>(
     let path = Path::new(alloc, path)?;
     match tree.get(alloc, &path)? {
         None => said(global, "nothing"),
-        Some(FlatEntry::File { digest, executable }) => file_told(global, digest, *executable),
-        Some(FlatEntry::Link { target }) => phrase(global, "link", target.as_bytes()),
-        Some(FlatEntry::Dir) => said(global, "directory"),
+        Some(entry) => entry_told(global, entry),
+    }
+}
+
+fn entry_told<A: Allocator>(global: Global, entry: &FlatEntry<A>) -> Answer {
+    match entry {
+        FlatEntry::File { digest, executable } => file_told(global, digest, *executable),
+        FlatEntry::Link { target } => phrase(global, "link", target.as_bytes()),
+        FlatEntry::Dir => said(global, "directory"),
     }
 }

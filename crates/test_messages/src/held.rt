@@ -13,7 +13,7 @@ use tree::{FlatTree, MemorySource};
 /// A source, a tree, an outcome or a store; or nothing, where each row stands by itself.
 #[derive(Drop)]
 pub enum Held<A: Allocator> {
-    Nothing,
+    Nothing(Subject),
     Source(MemorySource<A>),
     Trees(MemorySource<A>),
     FlatTree(FlatTree<A>),
@@ -38,10 +38,10 @@ pub fn held_by<'a, A: Allocator + Copy>(
         Subject::Entries | Subject::Blobs | Subject::Caches => {
             return match group.split_first() {
                 Some((first, rows)) => Ok((store_of(subject, alloc, state, &first.fields)?, rows)),
-                None => Ok((Held::Nothing, group)),
+                None => Ok((Held::Nothing(subject), group)),
             };
         }
-        _ => Held::Nothing,
+        _ => Held::Nothing(subject),
     };
     Ok((held, group))
 }
@@ -60,15 +60,15 @@ fn store_of<A: Allocator + Copy>(
     })
 }
 
-/// What a row comes to; none where it stands by itself.
+/// What a row comes to.
 pub fn answer<A: Allocator + Copy>(
     global: Global,
     alloc: A,
     held: &mut Held<A>,
     fields: &[Vec<u8>],
-) -> Option<Answer> {
-    Some(match held {
-        Held::Nothing => return None,
+) -> Answer {
+    match held {
+        Held::Nothing(subject) => crate::answer(*subject, global, alloc, fields),
         Held::Source(source) => sources::answer(global, alloc, source, fields),
         Held::Trees(source) => trees::answer(global, alloc, source, fields),
         Held::FlatTree(tree) => flat_trees::answer(global, alloc, tree, fields),
@@ -78,5 +78,5 @@ pub fn answer<A: Allocator + Copy>(
         Held::Entries(store) => entries::answer(global, alloc, store, fields),
         Held::Blobs(store) => blobs::answer(global, alloc, store, fields),
         Held::Cache(cache) => caches::answer(global, alloc, cache, fields),
-    })
+    }
 }

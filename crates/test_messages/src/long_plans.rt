@@ -1,7 +1,7 @@
 //! Rows of plans with as many lines and steps as they may have, and what is added to such a plan.
 use crate::answers::{Answer, Broken, number_in, word};
 use crate::plans::plan;
-use std::alloc::{AllocError, Global};
+use std::alloc::{AllocError, Allocator, Global};
 
 /// The digest of no bytes.
 const FRAME: &str = "e3b0c44298fc1c149afbf4c8996fb92427ae41e4649b934ca495991b7852b855/0";
@@ -24,7 +24,7 @@ fn plan_of_steps(global: Global, count: u64) -> Result<String, AllocError> {
     Ok(text)
 }
 
-pub fn answer(global: Global, fields: &[Vec<u8>]) -> Answer {
+pub fn answer<A: Allocator + Copy>(global: Global, alloc: A, fields: &[Vec<u8>]) -> Answer {
     let [kind, count, more, _] = fields else {
         return Err(Broken::NoRow);
     };
@@ -36,5 +36,5 @@ pub fn answer(global: Global, fields: &[Vec<u8>]) -> Answer {
     }
     .into_bytes();
     text.extend_from_slice(more)?;
-    plan(global, global, &text)
+    plan(global, alloc, &text)
 }

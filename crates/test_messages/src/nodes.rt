@@ -1,5 +1,5 @@
 //! Nodes, paths and refusals of trees as rows spell them.
-use crate::answers::{Answer, Broken, digest_text, said};
+use crate::answers::{Answer, Broken, digest_text, said, word};
 use blob_digest::Digest;
 use messages::{Node, Path, Target};
 use std::alloc::{Allocator, Global};
@@ -33,31 +33,33 @@ pub fn file_told(global: Global, digest: &Digest, executable: bool) -> Answer {
 }
 
 /// The node that is told so.
-pub fn node_of<A: Allocator + Copy>(alloc: A, word: &[u8], rest: &[u8]) -> Result<Node<A>, Broken> {
-    Ok(match word {
-        b"file" => Node::File {
-            digest: Digest::read_text(rest)?,
-            executable: false,
-        },
-        b"executable" => Node::File {
-            digest: Digest::read_text(rest)?,
-            executable: true,
-        },
-        b"link" => Node::Link {
+pub fn node_of<A: Allocator + Copy>(alloc: A, kind: &[u8], rest: &[u8]) -> Result<Node<A>, Broken> {
+    match word(kind) {
+        "link" => Ok(Node::Link {
             target: Target::new(alloc, rest)?,
-        },
-        b"directory" => Node::Dir(Digest::read_text(rest)?),
-        _ => return Err(Broken::NoRow),
-    })
+        }),
+        "directory" => Ok(Node::Dir(Digest::read_text(rest)?)),
+        kind => file_of(kind, rest),
+    }
+}
+
+/// The node of a file that is told so.
+fn file_of<A: Allocator>(kind: &str, rest: &[u8]) -> Result<Node<A>, Broken> {
+    let executable = kind == "executable";
+    if !executable && kind != "file" {
+        return Err(Broken::NoRow);
+    }
+    let digest = Digest::read_text(rest)?;
+    Ok(Node::File { digest, executable })
 }
 
 /// A refusal as it is told.
 pub fn refusal_told<A: Allocator>(global: Global, error: TreeError<A>) -> Answer {
-    match error {
+    match &error {
         TreeError::Absent(_) => said(global, "absent"),
-        TreeError::BlobMissing(digest) => with_digest(global, "missing", &digest),
-        TreeError::BlobWrong(digest) => with_digest(global, "wrong", &digest),
-        TreeError::BlobMalformed(digest) => with_digest(global, "malformed", &digest),
+        TreeError::BlobMissing(digest) => with_digest(global, "missing", digest),
+        TreeError::BlobWrong(digest) => with_digest(global, "wrong", digest),
+        TreeError::BlobMalformed(digest) => with_digest(global, "malformed", digest),
         TreeError::TooDeep(path) => phrase(global, "too deep", path.as_bytes()),
         TreeError::Conflict(path) => phrase(global, "conflict", path.as_bytes()),
         TreeError::Memory => Err(Broken::Memory),

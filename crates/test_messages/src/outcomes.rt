@@ -1,5 +1,5 @@
 //! Rows of outcomes, of which the last that was made is asked, and of a source.
-use crate::answers::{Answer, Broken, number, said, word};
+use crate::answers::{Answer, Broken, number, push_text, said, word};
 use crate::nodes::{node_of, node_told, refusal_told};
 use crate::trees::{hold, hold_as};
 use actions::{ActionResult, Outcome, Output, recorded};
@@ -67,11 +67,15 @@ fn read<A: Allocator + Copy>(
 ) -> Answer {
     let result = ActionResult::decode(alloc, bytes)?;
     match recorded(alloc, &result, source) {
-        Ok(read) => *outcome = read,
-        Err(error) => return refusal_told(global, error),
+        Ok(read) => {
+            *outcome = read;
+            code_told(global, outcome.exit_code(), source.calls())
+        }
+        Err(error) => refusal_told(global, error),
     }
-    let code = outcome.exit_code();
-    let calls = source.calls();
+}
+
+fn code_told(global: Global, code: i32, calls: u64) -> Answer {
     Ok(format!(in global; "exit code {code} by {calls}")?.into_bytes())
 }
 
@@ -120,8 +124,7 @@ fn added<A: Allocator + Copy>(
 fn outputs<A: Allocator>(global: Global, outcome: &Outcome<A>) -> Answer {
     let mut paths = Vec::new(global);
     for output in outcome.outputs() {
-        paths.extend_from_slice(output.0.as_bytes())?;
-        paths.push(b',')?;
+        push_text(&mut paths, output.0.as_bytes())?;
     }
     Ok(paths)
 }

@@ -24,20 +24,20 @@ fn of_one<A: Allocator + Copy>(global: Global, alloc: A, kind: &str, given: &[u8
     }
 }
 
-/// Whether a name, a target and a path can be made, or why not.
+/// Whether something was made, or that no memory was left for it.
+fn is_made<T: Drop>(made: Result<T, MessageError>) -> Result<bool, MessageError> {
+    match made {
+        Ok(_) => Ok(true),
+        Err(MessageError::Memory) => Err(MessageError::Memory),
+        Err(_) => Ok(false),
+    }
+}
+
+/// Whether a name, a target and a path can be made.
 fn made_of<A: Allocator + Copy>(alloc: A, text: &[u8]) -> Result<[bool; 3], MessageError> {
-    let name = match Name::new(alloc, text) {
-        Err(MessageError::Memory) => return Err(MessageError::Memory),
-        name => name.is_ok(),
-    };
-    let target = match Target::new(alloc, text) {
-        Err(MessageError::Memory) => return Err(MessageError::Memory),
-        target => target.is_ok(),
-    };
-    let path = match Path::new(alloc, text) {
-        Err(MessageError::Memory) => return Err(MessageError::Memory),
-        path => path.is_ok(),
-    };
+    let name = is_made(Name::new(alloc, text))?;
+    let target = is_made(Target::new(alloc, text))?;
+    let path = is_made(Path::new(alloc, text))?;
     Ok([name, target, path])
 }
 
@@ -69,25 +69,33 @@ fn pair(global: Global, first: &[u8], second: &[u8]) -> Answer {
     let path = Path::new(&heap, first)?;
     let other = Path::new(&heap, second)?;
     heap.refuse(1);
-    let names_are_names = path.names().all(|name| is_name(name));
-    if path.as_bytes() != first || path.is_same(&other) != (first == second) || !names_are_names {
+    let is_same = path.is_same(&other) == (first == second);
+    let is_text = path.as_bytes() == first && path.names().all(|name| is_name(name));
+    let (place, order) = (place_of(&path, &other), order_of(&path, &other));
+    if heap.has_refused() {
+        return said(global, "compared with memory");
+    }
+    if !is_same || !is_text {
         return said(global, "other names");
     }
-    let order = match path.compare_text(&other) {
+    Ok(format!(in global; "{place} {order}")?.into_bytes())
+}
+
+fn order_of<A: Allocator>(path: &Path<A>, other: &Path<A>) -> &'static str {
+    match path.compare_text(other) {
         Ordering::Less => "before",
         Ordering::Equal => "same",
         Ordering::Greater => "after",
-    };
-    let place = match (path.lies_under(&other), path.overlaps(&other)) {
+    }
+}
+
+fn place_of<A: Allocator>(path: &Path<A>, other: &Path<A>) -> &'static str {
+    match (path.lies_under(other), path.overlaps(other)) {
         (true, true) => "under",
         (false, true) => "overlaps",
         (false, false) => "apart",
         (true, false) => "strange",
-    };
-    if heap.has_refused() {
-        return said(global, "compared with memory");
     }
-    Ok(format!(in global; "{place} {order}")?.into_bytes())
 }
 
 /// The path of this many names `a`.

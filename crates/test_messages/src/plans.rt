@@ -1,6 +1,7 @@
 //! Rows of plans and records, as texts.
-use crate::answers::{Answer, Broken, digest_text, said, word, yes_or_no};
+use crate::answers::{Answer, Broken, push_digest, said, word, yes_or_no};
 use blob_digest::Digest;
+use messages::Path;
 use plan::{Line, Origin, Plan, ReadError, Record, Step};
 use std::alloc::{AllocError, Allocator, Global};
 
@@ -54,22 +55,26 @@ fn of_two<A: Allocator + Copy>(
 /// Whether the plan that is read is written so.
 pub fn plan<A: Allocator + Copy>(global: Global, alloc: A, text: &[u8]) -> Answer {
     let written = Plan::read(alloc, text)?.write(alloc)?;
-    said(
-        global,
-        if written.as_slice() == text {
-            "same"
-        } else {
-            "other"
-        },
-    )
+    same_or_other(global, &written, text)
+}
+
+/// Whether what was written is the text.
+fn same_or_other(global: Global, written: &[u8], text: &[u8]) -> Answer {
+    said(global, if written == text { "same" } else { "other" })
 }
 
 /// How the fault of the text is told.
 fn fault<A: Allocator + Copy>(global: Global, alloc: A, text: &[u8]) -> Answer {
     match Plan::read(alloc, text) {
         Ok(_) => said(global, "none"),
-        Err(ReadError::Faulty(error)) => Ok(error.to_string(global)?.into_bytes()),
-        Err(ReadError::Memory) => Err(Broken::Memory),
+        Err(error) => fault_told(global, error),
+    }
+}
+
+fn fault_told(global: Global, error: ReadError) -> Answer {
+    match error {
+        ReadError::Faulty(error) => Ok(error.to_string(global)?.into_bytes()),
+        ReadError::Memory => Err(Broken::Memory),
     }
 }
 
@@ -77,15 +82,25 @@ fn fault<A: Allocator + Copy>(global: Global, alloc: A, text: &[u8]) -> Answer {
 fn push_line<A: Allocator>(told: &mut String, line: &Line<A>) -> Result<(), AllocError> {
     let target = line.target.as_str();
     match &line.origin {
-        Origin::Source(Some(path)) => {
-            let path = path.as_str();
-            write!(told, " {target} from src {path};")
-        }
-        Origin::Source(None) => write!(told, " {target} from src;"),
+        Origin::Source(path) => push_source(told, target, path.as_ref()),
         Origin::Output(step, path) => {
             let path = path.as_str();
             write!(told, " {target} from {step} {path};")
         }
+    }
+}
+
+fn push_source<A: Allocator>(
+    told: &mut String,
+    target: &str,
+    path: Option<&Path<A>>,
+) -> Result<(), AllocError> {
+    match path {
+        Some(path) => {
+            let path = path.as_str();
+            write!(told, " {target} from src {path};")
+        }
+        None => write!(told, " {target} from src;"),
     }
 }
 
@@ -129,14 +144,7 @@ fn lines<A: Allocator + Copy>(global: Global, alloc: A, text: &[u8]) -> Answer {
 fn record<A: Allocator + Copy>(global: Global, alloc: A, plan: &[u8], text: &[u8]) -> Answer {
     let plan = Plan::read(alloc, plan)?;
     let written = Record::read(alloc, text, &plan)?.write(alloc)?;
-    said(
-        global,
-        if written.as_slice() == text {
-            "same"
-        } else {
-            "other"
-        },
-    )
+    same_or_other(global, &written, text)
 }
 
 /// The digests of the record, each with a comma after it.
@@ -149,8 +157,7 @@ fn digests<A: Allocator + Copy>(global: Global, alloc: A, plan: &[u8], text: &[u
 fn digests_told(global: Global, digests: &[Digest]) -> Answer {
     let mut told = Vec::new(global);
     for digest in digests {
-        told.extend_from_slice(&digest_text(global, digest)?)?;
-        told.push(b',')?;
+        push_digest(global, &mut told, digest)?;
     }
     Ok(told)
 }
@@ -168,6 +175,17 @@ fn fits<A: Allocator + Copy>(
     yes_or_no(global, record.fits(&Plan::read(alloc, other)?))
 }
 
+fn both<A: Allocator>(
+    alloc: A,
+    first: Digest,
+    second: Digest,
+) -> Result<Vec<Digest, A>, AllocError> {
+    let mut digests = Vec::new(alloc);
+    digests.push(first)?;
+    digests.push(second)?;
+    Ok(digests)
+}
+
 /// The record with these digests of the two steps of a plan.
 fn noted<A: Allocator + Copy>(
     global: Global,
@@ -177,9 +195,7 @@ fn noted<A: Allocator + Copy>(
     second: &[u8],
 ) -> Answer {
     let plan = Plan::read(alloc, plan)?;
-    let mut digests = Vec::new(alloc);
-    digests.push(Digest::read_text(first)?)?;
-    digests.push(Digest::read_text(second)?)?;
+    let digests = both(alloc, Digest::read_text(first)?, Digest::read_text(second)?)?;
     if plan.steps().len() != digests.len() {
         return Err(Broken::NoRow);
     }

@@ -1,5 +1,5 @@
 //! Rows of a source in memory, and of what is fetched from it.
-use crate::answers::{Answer, Broken, digest_text, number, said, word};
+use crate::answers::{Answer, Broken, digest_text, number, push_digest, said, word};
 use crate::nodes::{phrase, with_digest};
 use blob_digest::Digest;
 use blob_source::{
@@ -33,7 +33,7 @@ pub fn answer<A: Allocator + Copy>(
 
 fn of_all<A: Allocator + Copy>(global: Global, source: &MemorySource<A>, kind: &str) -> Answer {
     match kind {
-        "calls" => number(global, source.calls()),
+        "calls" => called(global, source.calls()),
         "puts" => puts(global, source),
         _ => Err(Broken::NoRow),
     }
@@ -52,6 +52,11 @@ fn of_one<A: Allocator + Copy>(
         "directory" => directory(global, alloc, source, digest),
         _ => Err(Broken::NoRow),
     }
+}
+
+/// How often a source was called.
+fn called(global: Global, calls: u64) -> Answer {
+    Ok(format!(in global; "called by {calls}")?.into_bytes())
 }
 
 /// Holds or puts bytes under a digest.
@@ -77,8 +82,7 @@ fn held<A: Allocator + Copy>(
 fn puts<A: Allocator + Copy>(global: Global, source: &MemorySource<A>) -> Answer {
     let mut told = Vec::new(global);
     for digest in source.puts() {
-        told.extend_from_slice(&digest_text(global, digest)?)?;
-        told.push(b',')?;
+        push_digest(global, &mut told, digest)?;
     }
     Ok(told)
 }

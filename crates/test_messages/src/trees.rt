@@ -1,5 +1,5 @@
 //! Rows of look-ups, merges, comparisons and unfoldings over a source.
-use crate::answers::{Answer, Broken, digest_text, number_in, said, word};
+use crate::answers::{Answer, Broken, digest_text, number_in, push_digest, said, word};
 use crate::merges::merged;
 use crate::nodes::{node_told, phrase, refusal_told};
 use blob_digest::Digest;
@@ -34,9 +34,7 @@ fn other<A: Allocator + Copy>(
     match given {
         [given] => of_one(global, alloc, source, kind, given),
         [first, second] => of_two(global, alloc, source, kind, first, second),
-        [name, count, bytes] if kind == "nested" => {
-            nested(global, alloc, source, (name, number_in(count)?), bytes)
-        }
+        _ if kind == "nested" => nested(global, alloc, source, given),
         _ => Err(Broken::NoRow),
     }
 }
@@ -85,8 +83,18 @@ pub fn hold<A: Allocator + Copy>(
     bytes: &[u8],
 ) -> Answer {
     let digest = Digest::of(bytes);
-    source.hold_blob(digest, Vec::from_slice(alloc, bytes)?)?;
+    hold_under(alloc, source, digest, bytes)?;
     digest_text(global, &digest)
+}
+
+/// Holds the bytes under the digest.
+fn hold_under<A: Allocator + Copy>(
+    alloc: A,
+    source: &mut MemorySource<A>,
+    digest: Digest,
+    bytes: &[u8],
+) -> Result<(), AllocError> {
+    source.hold_blob(digest, Vec::from_slice(alloc, bytes)?)
 }
 
 /// Holds the bytes under another digest.
@@ -97,7 +105,7 @@ pub fn hold_as<A: Allocator + Copy>(
     digest: &[u8],
     bytes: &[u8],
 ) -> Answer {
-    source.hold_blob(Digest::read_text(digest)?, Vec::from_slice(alloc, bytes)?)?;
+    hold_under(alloc, source, Digest::read_text(digest)?, bytes)?;
     said(global, "held")
 }
 
@@ -107,15 +115,18 @@ fn nested<A: Allocator + Copy>(
     global: Global,
     alloc: A,
     source: &mut MemorySource<A>,
-    (name, count): (&[u8], u64),
-    bytes: &[u8],
+    given: &[Vec<u8>],
 ) -> Answer {
+    let [name, count, bytes] = given else {
+        return Err(Broken::NoRow);
+    };
+    let count = number_in(count)?;
     let mut digest = Digest::of(bytes);
-    source.hold_blob(digest, Vec::from_slice(alloc, bytes)?)?;
+    hold_under(alloc, source, digest, bytes)?;
     for _ in 0..count {
         let above = directory_over(alloc, name, &digest)?;
         digest = Digest::of(&above);
-        source.hold_blob(digest, above)?;
+        hold_under(alloc, source, digest, &above)?;
     }
     digest_text(global, &digest)
 }
@@ -178,15 +189,14 @@ fn unfolded<A: Allocator + Copy>(
 /// The digests of the Directories, in the order of their first visits, each with a comma after it.
 pub fn directories_told<A: Allocator>(global: Global, folded: &Folded<A>) -> Answer {
     let mut told = Vec::new(global);
-    for (number, directory) in folded.directories.iter().enumerate() {
-        let digest = Digest::of(directory);
-        if number == 0 && digest != folded.root {
-            return said(global, "another root");
-        }
-        told.extend_from_slice(&digest_text(global, &digest)?)?;
-        told.push(b',')?;
+    for directory in &folded.directories {
+        push_digest(global, &mut told, &Digest::of(directory))?;
     }
-    Ok(told)
+    if told.starts_with(&folded.root.hash_text()) {
+        Ok(told)
+    } else {
+        said(global, "another root")
+    }
 }
 
 /// The Directories of what the lines put together.
@@ -229,8 +239,16 @@ fn difference<A: Allocator + Copy>(
 fn difference_told<A: Allocator>(global: Global, difference: &Option<Difference<A>>) -> Answer {
     match difference {
         None => said(global, "same"),
-        Some(Difference::Unexplained(path)) => phrase(global, "unexplained", path.as_bytes()),
-        Some(Difference::Absent(path)) => phrase(global, "absent", path.as_bytes()),
-        Some(Difference::Differs(path)) => phrase(global, "differs", path.as_bytes()),
+        Some(difference) => named(global, difference),
     }
+}
+
+/// The kind of the difference and its path.
+fn named<A: Allocator>(global: Global, difference: &Difference<A>) -> Answer {
+    let (word, path) = match difference {
+        Difference::Unexplained(path) => ("unexplained", path),
+        Difference::Absent(path) => ("absent", path),
+        Difference::Differs(path) => ("differs", path),
+    };
+    phrase(global, word, path.as_bytes())
 }

@@ -12,7 +12,7 @@ use Rattle.messages.specs.declared.error.MessageError.{MessageError}
 use Rattle.messages.specs.declared.error.MessageError.TheVariants.{Memory}
 use Rattle.messages.specs.Gives.{FailsUnlessMemory}
 use Rattle.action_messages.specs.Command.{CommandValue}
-use Rattle.actions.specs.Outcome.{OutcomeValue, OutputValue, output_paths}
+use Rattle.actions.specs.Outcome.{OutputValue, output_paths}
 use Rattle.action_messages.specs.Outputs.{RecordedValue, recorded_path, recorded_value, recorded_values}
 use Rattle.actions.specs.Recorded.{StandsFor, StandForAll}
 use Rattle.action_messages.specs.declared.recorded_output.RecordedOutput.{RecordedOutput}
@@ -30,7 +30,7 @@ use Rattle.verifier.specs.LooksAt.{InputLooksAt}
 use Rattle.blob_source.specs.Source.{Blobs, Grows}
 use Rattle.verifier.specs.declared.verdict.Cause.{Cause}
 use Rattle.verifier.specs.declared.fault.Fault as faults_type
-use Rattle.verifier.specs.Accepted.{Resolves}
+use Rattle.verifier.specs.Together.{Earlier, Resolves}
 use Rattle.verifier.specs.Answers.{IsDifference}
 use Rattle.verifier.specs.Stage.{Explains, Answers}
 use Rattle.verifier.specs.StepChecks.{IsRefusedOutput, OutputFault, grafted, held}
@@ -45,7 +45,7 @@ oks (Err e) P Q by h = tt
 
 -- ---- what passed stays so
 
-pub resolves_still : (B C : Blobs) (d : DigestValue) (os : List OutcomeValue) (ls : List LineValue) (xs : MergeLines) → Grows B C → Resolves B d os ls xs → Resolves C d os ls xs
+pub resolves_still : (B C : Blobs) (d : DigestValue) (os : Earlier) (ls : List LineValue) (xs : MergeLines) → Grows B C → Resolves B d os ls xs → Resolves C d os ls xs
 resolves_still B C d os [] xs g h = h
 resolves_still B C d os (l ∷ ls) xs g h = (h.0, origin_still B C d os l.origin h.0 g h.1, h.2, resolves_still B C d os ls h.2 g h.3, h.4)
 

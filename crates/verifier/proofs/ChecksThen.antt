@@ -1,7 +1,7 @@
 -- Checks of a source, one after another, while it tells more and more.
 use Rattle.std.proofs.Common.{◌≡◌, ℕ, List, [], ◌∷◌, ◌++◌, ap, sym, subst, ◌∙◌, inl, inr}
 use Rattle.std.proofs.lemmas.Result.{err_from_is_err_and}
-use Rattle.std.specs.Prelude.{Result, Ok, Err, IsErrOf}
+use Rattle.std.specs.Prelude.{Result, Ok, Err, IsErrOf, slice_get}
 use Rattle.std.specs.Result.{IsErrAnd}
 use Rattle.blob_digest.specs.Digest.{DigestValue}
 use Rattle.action_messages.specs.Action.{ActionValue}
@@ -13,18 +13,16 @@ use Rattle.plan.specs.Values.{LineValue, StepValue}
 use Rattle.blob_source.specs.Called.{Called}
 use Rattle.tree.specs.Tree.{Tree}
 use Rattle.tree.specs.Form.{NodeValue, root}
-use Rattle.blob_source.specs.Source.{Telling, Grows}
+use Rattle.blob_source.specs.Source.{Blobs, Telling, Grows}
 use Rattle.blob_source.proofs.Calling.{called_none, called_ok, called_exit}
 use Rattle.tree.specs.Memo.{Asked, Known, IsKnownOf, WasRefused, Learns, LooksAtBlob}
 use Rattle.tree.proofs.Descent.{told_still}
 use Rattle.tree.proofs.Learning.{learns_none, learns_then, learns_more, learns_refused, refused_exit}
 use Rattle.tree.proofs.Ways.{compares_still}
 use Rattle.tree.specs.Folded.{first_visits}
-use Rattle.tree.specs.Merging.{MergeLines, merged}
-use Rattle.tree.specs.MergeLooks.{looks, MergeLooksAt}
+use Rattle.tree.specs.declared.folding.Folded.{Folded}
+use Rattle.tree.specs.MergeLooks.{looks}
 use Rattle.tree.specs.Stage.{Stage, ◌and_then◌}
-use Rattle.tree.proofs.MergeLooking.{steady_merged_in}
-use Rattle.tree.proofs.MergeStages.{stable_merged_in}
 use Rattle.tree.proofs.StageLaws.{looks_here, looks_next}
 use Rattle.verifier.specs.declared.fault.Fault.{Fault}
 use Rattle.verifier.specs.declared.fault.Fault.TheVariants as faults
@@ -34,11 +32,11 @@ use Rattle.verifier.specs.Answers.{IsStopped}
 use Rattle.verifier.specs.Checks.{Checks}
 use Rattle.verifier.specs.declared.verifying.Checked.{Checked}
 use Rattle.verifier.specs.Stage.{Explains, Answers}
-use Rattle.verifier.specs.StepChecks.{message, resolved, put_together, grafted, held, read, step_check}
-use Rattle.verifier.specs.LooksAt.{LinesLookAt, InputLooksAt, ResultLooksAt, StepLooksAt, StepsLookAt}
+use Rattle.verifier.specs.StepChecks.{message, together, grafted, held, read, step_check}
+use Rattle.verifier.specs.Together.{Earlier, IsFoldOfPassed, put_together, TogetherLooksAt}
+use Rattle.verifier.specs.LooksAt.{InputLooksAt, ResultLooksAt, StepLooksAt, StepsLookAt}
 use Rattle.verifier.specs.Verdict.{located, steps_check}
-use Rattle.verifier.proofs.Checking.{resolves_still}
-use Rattle.verifier.proofs.Looking.{lines_look_still, outputs_look_still}
+use Rattle.verifier.proofs.Looking.{together_still, together_looks_still, outputs_look_still}
 use Rattle.verifier.proofs.Stages.{fails_here, then_answers}
 
 -- ---- what passes still passes when more is told
@@ -60,12 +58,8 @@ module _ {A : Type 0} where
   pub stable_message : {M : Type 0} {keeps : M → Type 0} {spells : M → List ℕ} {d : DigestValue} → IsStable (λ t. message {A = A} keeps spells t.blobs d)
   stable_message = record { still = λ old new g k v h. told_still g h }
 
-  pub stable_resolved : (d : DigestValue) (os : List OutcomeValue) (ls : List LineValue) → IsStable (λ t. resolved {A = A} t.blobs d os ls)
-  stable_resolved d os ls = record { still = λ old new g k v h. resolves_still old.blobs new.blobs d os ls v g h }
-
-  pub stable_put_together : (xs : MergeLines) → IsStable (λ t. put_together {A = A} t.blobs xs)
-  unfolding merged
-  stable_put_together xs = record { still = λ old new g k v h. (stable_merged_in 64 [] xs).still old.blobs new.blobs g v h }
+  pub stable_together : (d : DigestValue) (os : List OutcomeValue) (ls : List LineValue) → IsStable (λ t. together {A = A} t.blobs d os ls)
+  stable_together d os ls = record { still = λ old new g k v h. together_still old.blobs new.blobs d (slice_get os) ls v g h }
 
   pub stable_grafted : (a : ActionValue) (made : Tree NodeValue) → IsStable (λ t. grafted {A = A} t.blobs a made)
   stable_grafted a made = record { still = λ old new g k v h. h }
@@ -82,12 +76,11 @@ module _ {A : Type 0} where
       stable_then stable_without (λ _.
       stable_then stable_message (λ m.
       stable_then stable_without (λ _.
-      stable_then (stable_resolved d os s.lines) (λ xs.
-      stable_then (stable_put_together xs) (λ made.
+      stable_then (stable_together d os s.lines) (λ made.
       stable_then (stable_grafted a made) (λ _.
       stable_then stable_held (λ r.
       stable_then stable_without (λ _.
-      stable_read m r)))))))))
+      stable_read m r))))))))
 
   pub stable_steps : (d : DigestValue) (os : List OutcomeValue) (ss : List StepValue) (ds : List DigestValue) → IsStable (λ t. steps_check {A = A} t d os ss ds)
   stable_steps d os [] ds = stable_without
@@ -111,12 +104,8 @@ steady_looks {first = first} {here = here} {next = next} stable steady rest = re
     by old new g k a (inl h) = inl (steady.still old new g k a h)
     by old new g k a (inr h) = inr (h.0, stable.still old new g k h.0 h.1, (rest h.0).still old new g k a h.2)
 
-pub steady_lines : (d : DigestValue) (os : List OutcomeValue) (ls : List LineValue) → IsSteady (λ t. LinesLookAt t.blobs d os ls)
-steady_lines d os ls = record { still = λ old new g k a h. lines_look_still old.blobs new.blobs d os ls a g h }
-
-pub steady_merge : (xs : MergeLines) → IsSteady (λ t. MergeLooksAt t.blobs xs)
-unfolding MergeLooksAt
-steady_merge xs = record { still = λ old new g k a h. (steady_merged_in 64 [] xs).still old.blobs new.blobs g a h }
+pub steady_together : (d : DigestValue) (os : Earlier) (ls : List LineValue) → IsSteady (λ t. TogetherLooksAt t.blobs d os ls)
+steady_together d os ls = record { still = λ old new g k a h. together_looks_still old.blobs new.blobs d os ls a g h }
 
 pub steady_input : (act : ActionValue) (made : Tree NodeValue) → IsSteady (λ t. InputLooksAt t.blobs act made)
 steady_input act made = record { still = λ old new g k a h. (h.0, compares_still (first_visits made) g a 64 (root made) act.input h.1) }
@@ -131,12 +120,11 @@ module _ (A : Type 0) where
       steady_looks stable_without steady_without (λ _.
       steady_looks (stable_message {A = A}) steady_without (λ m.
       steady_looks stable_without steady_without (λ _.
-      steady_looks (stable_resolved {A = A} d os s.lines) (steady_lines d os s.lines) (λ xs.
-      steady_looks (stable_put_together {A = A} xs) (steady_merge xs) (λ made.
+      steady_looks (stable_together {A = A} d os s.lines) (steady_together d (slice_get os) s.lines) (λ made.
       steady_looks (stable_grafted {A = A} a made) (steady_input a made) (λ _.
       steady_looks (stable_held {A = A}) steady_without (λ r.
       steady_looks stable_without steady_without (λ _.
-      steady_result m r)))))))))
+      steady_result m r))))))))
 
   pub steady_steps : (d : DigestValue) (os : List OutcomeValue) (ss : List StepValue) (ds : List DigestValue) → IsSteady (λ t. StepsLookAt A t d os ss ds)
   steady_steps d os [] ds = steady_without
@@ -147,8 +135,11 @@ module _ (A : Type 0) where
 pub looked_blob : {d e : DigestValue} {refused : Type 0} {k0 k1 : Known} {t0 t1 : Telling} → d ≡ e → Learns (LooksAtBlob d) refused k0 k1 t0 t1 → Learns (LooksAtBlob e) refused k0 k1 t0 t1
 looked_blob same h = learns_more (λ a k. subst (λ x. LooksAtBlob x a) same k) (λ n. n) h
 
-pub looked_lines : (d : DigestValue) (os : List OutcomeValue) {ls ls' : List LineValue} {refused : Type 0} {k0 k1 : Known} {t0 t1 : Telling} → ls ≡ ls' → Learns (LinesLookAt t1.blobs d os ls) refused k0 k1 t0 t1 → Learns (LinesLookAt t1.blobs d os ls') refused k0 k1 t0 t1
-looked_lines d os {t1 = t1} same h = learns_more (λ a k. subst (λ x. LinesLookAt t1.blobs d os x a) same k) (λ n. n) h
+pub looked_lines : (d : DigestValue) (os : Earlier) {ls ls' : List LineValue} {refused : Type 0} {k0 k1 : Known} {t0 t1 : Telling} → ls ≡ ls' → Learns (TogetherLooksAt t1.blobs d os ls) refused k0 k1 t0 t1 → Learns (TogetherLooksAt t1.blobs d os ls') refused k0 k1 t0 t1
+looked_lines d os {t1 = t1} same h = learns_more (λ a k. subst (λ x. TogetherLooksAt t1.blobs d os x a) same k) (λ n. n) h
+
+pub input_made : {A : Type 0} (B : Blobs) (d : DigestValue) (os : Earlier) {ls ls' : List LineValue} {f : Folded A} → ls ≡ ls' → IsFoldOfPassed (put_together B d os ls) f → IsFoldOfPassed (put_together B d os ls') f
+input_made B d os {f = f} same h = subst (λ x. IsFoldOfPassed (put_together B d os x) f) same h
 
 pub stopped_exit : {A E : Type 0} (r : Result (Checked A) E) (P : E → Type 0) → IsErrAnd r P → IsStopped r
 stopped_exit (Ok x) P exit = elim exit [ ]

@@ -1,10 +1,11 @@
 -- Errors of calls on trees, as faults of what is checked.
-use Rattle.std.proofs.Common.{◌≡◌, refl, ℕ, zero, suc, ◌<◌, List, [], ◌∷◌, length, get_or, ap, sym, subst, arith}
+use Rattle.std.proofs.Common.{◌≡◌, refl, ℕ, zero, suc, ◌<◌, List, [], ◌∷◌, length, ap, sym, subst, arith}
 use Rattle.blob_digest.specs.Digest.{DigestValue}
+use Rattle.std.specs.List.{AllByRecursion}
 use Rattle.std.specs.Prelude.{Some, slice_get}
 use Rattle.actions.specs.Outcome.{OutcomeValue}
 use Rattle.actions.specs.OutcomeLookup.{LooksIn, LiesWithin}
-use Rattle.plan.specs.Values.{source, output, LineValue, IsOrigin, IsLine}
+use Rattle.plan.specs.Values.{OriginValue, source, output, LineValue, IsOrigin, IsLine}
 use Rattle.tree.specs.Tree.{Name}
 use Rattle.blob_source.specs.Source.{Blobs}
 use Rattle.blob_source.specs.Told as told
@@ -12,22 +13,20 @@ use Rattle.blob_source.specs.Told.{IsTold, missing, wrong, malformed}
 use Rattle.tree.specs.Form.{node_value}
 use Rattle.tree.specs.Lookup.{Looked, fault, nothing, found, Looks}
 use Rattle.tree.specs.Difference.{unread, FindsFirst, ExplainsDifference}
-use Rattle.tree.specs.Merging.{NodeWithin, MergeFault, conflict, unreadable, ExplainsMerge, node_within, merge_lines}
-use Rattle.tree.specs.declared.merging.Within.{Within}
+use Rattle.tree.specs.Merging.{NodeWithin, MergeFault, conflict, unreadable, ExplainsMerge, node_within}
 use Rattle.tree.specs.declared.merging.Within.TheVariants as withins
 use Rattle.tree.specs.TreeError as errors
 use Rattle.tree.specs.TreeError.{ExplainsLookup}
 use Rattle.tree.specs.declared.error.TreeError.{TreeError}
 use Rattle.tree.specs.declared.error.TreeError.TheVariants as tree
 use Rattle.verifier.specs.declared.verdict.Cause.{Cause}
-use Rattle.verifier.specs.declared.verdict.Cause.TheVariants.{BlobMissing, BlobWrong, BlobMalformed, OriginMissing}
 use Rattle.verifier.specs.declared.fault.Fault.{Fault}
 use Rattle.verifier.specs.declared.fault.Fault.TheVariants as faults
 use Rattle.messages.specs.declared.node.Node.{Node}
-use Rattle.verifier.specs.Accepted.{LooksUpOrigin, StandsAtOrigin, Resolves}
+use Rattle.verifier.specs.Together.{Earlier, IsThere, AreThere, LooksUpOrigin, StandsAtOrigin, LinesFault, no_origin, in_conflict, not_read, of_merge, IsFaultOfLook, LineFault, ExplainsLines}
 use Rattle.verifier.specs.Answers.{IsFaultOf, IsDifference}
 use Rattle.verifier.specs.Stage.{Explains}
-use Rattle.verifier.specs.Faults.{cause_of, cause_of_merge, IsCauseOfLook, LineFault}
+use Rattle.verifier.specs.Faults.{cause_of, cause_of_lines}
 
 module _ {A : Type 0} where
   pub explains_map : (P Q : Cause A → Type 0) (f : Fault A) → ((c : Cause A) → P c → Q c) → Explains P f → Explains Q f
@@ -77,73 +76,99 @@ module _ {A : Type 0} where
   fetch_faults tree.Fetch f is e = is
   fetch_faults tree.Memory f is e = absurd cc
 
-  -- the fault of lines that don't merge
-  pub merge_explained : (Fails : MergeFault → Type 0) (error : TreeError A) (f : Fault A) → ExplainsMerge Fails error → IsFaultOf error f → Explains (λ c. (why : MergeFault) × Fails why × (c ≡ cause_of_merge why)) f
-  merge_explained Fails error f h is = by error h is
+  -- the fault of lines that weren't put together
+  pub lines_explained : (Fails : LinesFault → Type 0) (error : TreeError A) (f : Fault A) → ExplainsLines Fails error → IsFaultOf error f → Explains (λ c. (why : LinesFault) × Fails why × (c ≡ cause_of_lines why)) f
+  lines_explained Fails error f h is = by error h is
     where
-      stands : (why : MergeFault) → Fails why → f ≡ faults.Cause (cause_of_merge why) → Explains (λ c. (why : MergeFault) × Fails why × (c ≡ cause_of_merge why)) f
-      stands why fails is = subst (Explains (λ c. (why : MergeFault) × Fails why × (c ≡ cause_of_merge why))) (sym is) (why, fails, refl)
+      P : Fault A → Type 0
+      P = Explains (λ c. (why : LinesFault) × Fails why × (c ≡ cause_of_lines why))
 
-      by : (error : TreeError A) → ExplainsMerge Fails error → IsFaultOf error f → Explains (λ c. (why : MergeFault) × Fails why × (c ≡ cause_of_merge why)) f
-      by (tree.Absent q) h is = elim h [ ]
-      by (tree.BlobMissing d) h is = stands (unreadable (missing d)) h is
-      by (tree.BlobWrong d) h is = stands (unreadable (wrong d)) h is
-      by (tree.BlobMalformed d) h is = stands (unreadable (malformed d)) h is
+      stands : (why : LinesFault) → Fails why → f ≡ faults.Cause (cause_of_lines why) → P f
+      stands why fails is = subst P (sym is) (why, fails, refl)
+
+      by : (error : TreeError A) → ExplainsLines Fails error → IsFaultOf error f → P f
+      by (tree.Absent q) h is = stands (no_origin q) h is
+      by (tree.BlobMissing d) h is = stands (not_read (missing d)) h is
+      by (tree.BlobWrong d) h is = stands (not_read (wrong d)) h is
+      by (tree.BlobMalformed d) h is = stands (not_read (malformed d)) h is
       by (tree.TooDeep q) h is = elim h [ ]
-      by (tree.Conflict q) h is = stands (conflict q) h is
-      by tree.Fetch h is = subst (Explains (λ c. (why : MergeFault) × Fails why × (c ≡ cause_of_merge why))) (sym is) tt
-      by tree.Memory h is = subst (Explains (λ c. (why : MergeFault) × Fails why × (c ≡ cause_of_merge why))) (sym is) tt
+      by (tree.Conflict q) h is = stands (in_conflict q) h is
+      by tree.Fetch h is = subst P (sym is) tt
+      by tree.Memory h is = subst P (sym is) tt
 
-  -- the fault of a line
-  pub line_explained : (B : Blobs) (d : DigestValue) (os : List OutcomeValue) (l : LineValue) (p : List Name) (error : TreeError A) (f : Fault A) → l.origin ≡ source p → ExplainsLookup B d p error → IsFaultOf error f
-      → Explains (LineFault B d os l) f
-  line_explained B d os l p error f from h is = by error h is
+  -- ---- lines
+
+  pub lines_map : (P Q : LinesFault → Type 0) (error : TreeError A) → ((why : LinesFault) → P why → Q why) → ExplainsLines P error → ExplainsLines Q error
+  lines_map P Q (tree.Absent q) by h = by (no_origin q) h
+  lines_map P Q (tree.BlobMissing d) by h = by (not_read (missing d)) h
+  lines_map P Q (tree.BlobWrong d) by h = by (not_read (wrong d)) h
+  lines_map P Q (tree.BlobMalformed d) by h = by (not_read (malformed d)) h
+  lines_map P Q (tree.TooDeep q) by h = h
+  lines_map P Q (tree.Conflict q) by h = by (in_conflict q) h
+  lines_map P Q tree.Fetch by h = h
+  lines_map P Q tree.Memory by h = h
+
+  -- they don't merge
+  pub merge_explained : (P : MergeFault → Type 0) (Q : LinesFault → Type 0) (error : TreeError A) → ((why : MergeFault) → P why → Q (of_merge why)) → ExplainsMerge P error → ExplainsLines Q error
+  merge_explained P Q (tree.Absent q) by h = elim h [ ]
+  merge_explained P Q (tree.BlobMissing d) by h = by (unreadable (missing d)) h
+  merge_explained P Q (tree.BlobWrong d) by h = by (unreadable (wrong d)) h
+  merge_explained P Q (tree.BlobMalformed d) by h = by (unreadable (malformed d)) h
+  merge_explained P Q (tree.TooDeep q) by h = h
+  merge_explained P Q (tree.Conflict q) by h = by (conflict q) h
+  merge_explained P Q tree.Fetch by h = h
+  merge_explained P Q tree.Memory by h = h
+
+  -- a line has no origin in the source tree
+  pub source_missing : (B : Blobs) (d : DigestValue) (os : Earlier) (l : LineValue) (p : List Name) (error : TreeError A) → l.origin ≡ source p → ExplainsLookup B d p error → ExplainsLines (LineFault B d os l) error
+  source_missing B d os l p error from h = by error h
     where
-      stands : (r : Looked) (c : Cause A) → Looks B d p r → IsCauseOfLook (source p) r c → f ≡ faults.Cause c → Explains (LineFault B d os l) f
-      stands r c look gives is = subst (Explains (LineFault B d os l)) (sym is) (r, subst (λ o. LooksUpOrigin B d os o r) (sym from) look, subst (λ o. IsCauseOfLook o r c) (sym from) gives)
+      stands : (r : Looked) (why : LinesFault) → Looks B d p r → IsFaultOfLook (source p) r why → LineFault B d os l why
+      stands r why look gives = (r, subst (λ o. LooksUpOrigin B d os o r) (sym from) look, subst (λ o. IsFaultOfLook o r why) (sym from) gives)
 
-      by : (error : TreeError A) → ExplainsLookup B d p error → IsFaultOf error f → Explains (LineFault B d os l) f
-      by (tree.Absent q) h is = stands nothing (OriginMissing q) h.1 (ap OriginMissing h.0) is
-      by (tree.BlobMissing e) h is = stands (fault (missing e)) (BlobMissing e) h refl is
-      by (tree.BlobWrong e) h is = stands (fault (wrong e)) (BlobWrong e) h refl is
-      by (tree.BlobMalformed e) h is = stands (fault (malformed e)) (BlobMalformed e) h refl is
-      by (tree.TooDeep q) h is = elim h [ ]
-      by (tree.Conflict q) h is = elim h [ ]
-      by tree.Fetch h is = subst (Explains (LineFault B d os l)) (sym is) tt
-      by tree.Memory h is = subst (Explains (LineFault B d os l)) (sym is) tt
-
-item_there : (os : List OutcomeValue) (i : ℕ) (o : OutcomeValue) → i < length os → o ≡ get_or os i o → slice_get os i ≡ Some o
-item_there [] i o lt is = absurd (omega arith)
-item_there (x ∷ os) zero o lt is = ap Some (sym is)
-item_there (x ∷ os) (suc i) o lt is = item_there os i o (omega arith) is
-
--- the outcome of the step that a line names
-named_outcome : (os : List OutcomeValue) (l : LineValue) (step : ℕ) (p : List Name) (o : OutcomeValue) → IsLine (length os) l → l.origin ≡ output step p → o ≡ get_or os step o → slice_get os step ≡ Some o
-named_outcome os l step p o line from is = item_there os step o (subst (IsOrigin (length os)) from line.origin).0 is
+      by : (error : TreeError A) → ExplainsLookup B d p error → ExplainsLines (LineFault B d os l) error
+      by (tree.Absent q) h = stands nothing (no_origin q) h.1 (ap no_origin h.0)
+      by (tree.BlobMissing e) h = stands (fault (missing e)) (not_read (missing e)) h refl
+      by (tree.BlobWrong e) h = stands (fault (wrong e)) (not_read (wrong e)) h refl
+      by (tree.BlobMalformed e) h = stands (fault (malformed e)) (not_read (malformed e)) h refl
+      by (tree.TooDeep q) h = h
+      by (tree.Conflict q) h = elim h [ ]
+      by tree.Fetch h = h
+      by tree.Memory h = h
 
 -- a node in the source tree
-pub source_stands : {A : Type 0} (B : Blobs) (d : DigestValue) (os : List OutcomeValue) (l : LineValue) (p : List Name) (x : Node A) → l.origin ≡ source p → Looks B d p (found (node_value x)) → StandsAtOrigin B d os l.origin (node_within {A = A} x withins.Source)
+pub source_stands : {A : Type 0} (B : Blobs) (d : DigestValue) (os : Earlier) (l : LineValue) (p : List Name) (x : Node A) → l.origin ≡ source p → Looks B d p (found (node_value x)) → StandsAtOrigin B d os l.origin (node_within {A = A} x withins.Source)
 source_stands B d os l p x from look = subst (λ origin. StandsAtOrigin B d os origin (node_within x withins.Source)) (sym from) (record { node = look; within = refl })
 
 -- a node in what a step came to
-pub output_stands : (B : Blobs) (d : DigestValue) (os : List OutcomeValue) (l : LineValue) (step : ℕ) (p : List Name) (o : OutcomeValue) (x : NodeWithin) → IsLine (length os) l → l.origin ≡ output step p → o ≡ get_or os step o
+pub output_stands : (B : Blobs) (d : DigestValue) (os : Earlier) (l : LineValue) (step : ℕ) (p : List Name) (o : OutcomeValue) (x : NodeWithin) → l.origin ≡ output step p → os step ≡ Some o
     → LooksIn o p (found x.node) → LiesWithin o p x.within → StandsAtOrigin B d os l.origin x
-output_stands B d os l step p o x line from is look within =
-    let there = named_outcome os l step p o line from is in
+output_stands B d os l step p o x from there look within =
     subst (λ origin. StandsAtOrigin B d os origin x) (sym from) (record { node = (o, there, look); within = (o, there, within) })
 
-pub output_missing : {A : Type 0} (B : Blobs) (d : DigestValue) (os : List OutcomeValue) (l : LineValue) (step : ℕ) (p : List Name) (o : OutcomeValue) (q : List Name) → IsLine (length os) l → l.origin ≡ output step p → o ≡ get_or os step o
-    → LooksIn o p nothing → q ≡ p → LineFault {A = A} B d os l (OriginMissing q)
-output_missing {A} B d os l step p o q line from is look same = (
+pub output_missing : (B : Blobs) (d : DigestValue) (os : Earlier) (l : LineValue) (step : ℕ) (p : List Name) (o : OutcomeValue) (q : List Name) → l.origin ≡ output step p → os step ≡ Some o
+    → LooksIn o p nothing → q ≡ p → LineFault B d os l (no_origin q)
+output_missing B d os l step p o q from there look same = (
   nothing,
-  subst (λ origin. LooksUpOrigin B d os origin nothing) (sym from) (o, named_outcome os l step p o line from is, look),
-  subst (λ origin. IsCauseOfLook {A = A} origin nothing (OriginMissing q)) (sym from) (ap OriginMissing same),
+  subst (λ origin. LooksUpOrigin B d os origin nothing) (sym from) (o, there, look),
+  subst (λ origin. IsFaultOfLook origin nothing (no_origin q)) (sym from) (ap no_origin same),
 )
+
+-- each step that lines before it read is there
+pub lines_there : (os : List OutcomeValue) (ls : List LineValue) → AllByRecursion (IsLine (length os)) ls → AreThere (slice_get os) ls
+lines_there os [] h = tt
+lines_there os (l ∷ ls) h = (one l.origin h.0.origin, lines_there os ls h.1)
+  where
+    at : (os : List OutcomeValue) (i : ℕ) → i < length os → (o : OutcomeValue) × (slice_get os i ≡ Some o)
+    at [] i lt = absurd (omega arith)
+    at (o ∷ os) zero lt = (o, refl)
+    at (o ∷ os) (suc i) lt = at os i (omega (arith, lt))
+
+    one : (o : OriginValue) → IsOrigin (length os) o → IsThere (slice_get os) o
+    one (source p) h = tt
+    one (output i p) h = at os i h.0
 
 -- ---- what was told, as it is named elsewhere
 
 pub told_at : {M : Type 0} {keeps : M → Type 0} {spells : M → List ℕ} {B : Blobs} {d e : DigestValue} {m : M} → d ≡ e → IsTold keeps spells B d m → IsTold keeps spells B e m
 told_at {M} {keeps} {spells} {B} {d} {e} {m} same told = subst (λ x. IsTold keeps spells B x m) same told
-
-pub resolves_at : {A : Type 0} (B : Blobs) (d : DigestValue) (os : List OutcomeValue) (ls ls' : List LineValue) (ns ns' : List (List Name × Node A × Within A)) → ls ≡ ls' → ns ≡ ns' → Resolves B d os ls (merge_lines ns) → Resolves B d os ls' (merge_lines ns')
-resolves_at B d os ls ls' ns ns' same same' h = subst (λ l. Resolves B d os l (merge_lines ns')) same (subst (λ n. Resolves B d os ls (merge_lines n)) same' h)

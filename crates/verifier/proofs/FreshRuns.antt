@@ -1,5 +1,5 @@
 -- What runs of a plan keep, where the plan is as recorded and no two different blobs concerned share a digest.
-use Rattle.std.proofs.Common.{◌≡◌, ◌≢◌, ℕ, zero, suc, Bool, true, false, cond, List, [], ◌∷◌, Option, Some, None, length, refl, ap, sym, ◌∙◌, subst, arith, inl, inr}
+use Rattle.std.proofs.Common.{◌≡◌, ℕ, zero, suc, Bool, true, false, cond, List, [], ◌∷◌, Option, Some, None, length, refl, ap, sym, ◌∙◌, subst, arith, inl, inr}
 use Rattle.std.specs.Prelude.{◌==◌, pos, option_map, option_and_then, slice_get, IsSomeAnd, Contains}
 use Rattle.std.specs.List.{AllByRecursion}
 use Rattle.std.specs.Map.{lookup, remove_entry}
@@ -12,9 +12,8 @@ use Rattle.action_messages.specs.Action.{ActionValue, with_input, action_bytes}
 use Rattle.action_messages.specs.ActionResult.{ActionResultValue}
 use Rattle.action_messages.specs.Command.{CommandValue, command_bytes}
 use Rattle.action_messages.specs.Frame.{FrameValue, frame_bytes}
-use Rattle.actions.specs.declared.outcome.Output.TheVariants as outputs
 use Rattle.actions.specs.Outcome.{OutputValue, OutcomeValue, IsOutcome}
-use Rattle.actions.specs.OutcomeLookup.{LooksIn, within_output, LiesWithin}
+use Rattle.actions.specs.OutcomeLookup.{LooksIn, LiesWithin}
 use Rattle.action_messages.specs.Outputs.{RecordedValue, file, directory, link}
 use Rattle.actions.specs.Recorded.{StandForAll}
 use Rattle.actions.proofs.EncodedOnce.{frame_bytes_injective, action_bytes_injective, command_bytes_injective}
@@ -25,31 +24,29 @@ use Rattle.actions.proofs.TreeBytes.{tree_bytes_some}
 use Rattle.actions.proofs.Rooms.{holds_at}
 use Rattle.plan.specs.Plan.{IsPlan}
 use Rattle.plan.specs.Values.{OriginValue, source, output, LineValue, StepValue, PlanValue}
-use Rattle.tree.specs.Tree.{Name, Tree, Leaf, Entry, single, whole, entry_of, below_entry, IsOrdered, IsOrderedEntry}
+use Rattle.tree.specs.Tree.{Name, Tree, Leaf, Entry, single, whole, entry_of, below_entry, IsOrdered}
 use Rattle.tree.specs.Form.{NodeValue, entry_node, form, top, root, IsBlobOf}
-use Rattle.tree.specs.Merge.{TreeLines, AreMergeable, merge}
-use Rattle.tree.specs.MergeAgrees.{StandFor, IsBlobIn, IsBlobOfTrees, IsBlobOfOne, IsBlobOfEntries, IsOfMerge}
-use Rattle.tree.specs.Merging.{NodeWithin, MergeLines, IsHeldIn, AreHeld, merged}
+use Rattle.tree.specs.Merge.{merge}
+use Rattle.tree.specs.MergeAgrees.{IsBlobIn, IsBlobOfOne}
+use Rattle.tree.specs.Merging.{NodeWithin, MergeLines, IsHeldIn, merged}
 use Rattle.blob_source.specs.Source.{Blobs, IsUnder, IsBlobUnder}
 use Rattle.blob_source.specs.Told.{IsTold, TellsDirectory, FailsDirectory}
 use Rattle.tree.specs.Lookup.{found, LooksFrom, IsValue}
 use Rattle.tree.proofs.LookupLemmas.{looks_from, told_reads, entry_blobs}
 use Rattle.tree.proofs.LookupLemmas as lookups
-use Rattle.tree.proofs.MergeTold.{merges_tell}
-use Rattle.tree.proofs.MergeTotal.{tells_merge}
 use Rattle.tree.proofs.OrderLemmas.{IsOrderedAt, ordered_at}
 use Rattle.tree.proofs.SameRoot.{same_root}
 use Rattle.tree.proofs.TreeDigests.{IsDigest-digest_of, only_empty}
-use Rattle.verifier.specs.Accepted.{LooksUpOrigin, StandsAtOrigin, Resolves}
+use Rattle.verifier.specs.Together.{LooksUpOrigin, StandsAtOrigin, Resolves}
 use Rattle.verifier.specs.AsRecorded.{IsPlanAsRecorded}
 use Rattle.verifier.specs.Build.{Meaning, ActionMeaning, action_digest, Outcome, output_at, StepFits, MeaningFits, Event, start, finish, lose, State, opening, outcome_of, job_of, origin_at, origins, graft_of, step_action, action_of, started, finished, lost, happens, IsTable, Obeys, IsRun, HasFinishedAll}
 use Rattle.verifier.specs.Headline.{IsDirectoryInTree, IsBlobOfEntry, IsBlobOfAction, IsBlobOfOutcome, IsBlobOfEvent, IsBlobOfEvents, IsBlobOfChosen, HasFinished, IsNotStuck, IsAsChosen}
 use Rattle.verifier.specs.Recorded.{Agrees, IsRecordedAs, RecordsAt}
-use Rattle.verifier.proofs.HeldOrigins.{IsValidTree, source_held, outcome_held}
+use Rattle.verifier.proofs.HeldOrigins.{source_held, outcome_held}
 use Rattle.verifier.proofs.LinesTold.{valid_tree, tree_blobs, IsRead, LinesTell, no_lines, one_more, told_graft}
-use Rattle.verifier.proofs.OutputLookups.{HoldsTree, HoldsOutput, mapped_from, output_found, outputs_tell}
+use Rattle.verifier.proofs.OutputLookups.{HoldsTree, HoldsOutput, output_found, outputs_tell}
 use Rattle.verifier.proofs.RecordedSteps.{get_other, as_many, IsRecordedStep, step_at}
-use Rattle.verifier.proofs.Targets.{ArePaths, paths_of, step_paths, some_names, output_ordered}
+use Rattle.verifier.proofs.Targets.{ArePaths, paths_of, step_paths, output_ordered}
 
 -- ---- lists and options
 
@@ -191,7 +188,7 @@ module _ (S : List ℕ → Type 0) (apart : NoClash S) where
       origin_step j v e = get_other h.outcomes plan.steps j v (as_many B C src plan.steps ds h.outcomes h.steps) e
 
       -- an origin has the node that was looked up
-      origin_tells : (s : State) → Keeps s → (o : OriginValue) (x : NodeValue) → LooksUpOrigin B src h.outcomes o (found x) → HasFinished s o → option_map entry_node (origin_at t s o) ≡ Some x
+      origin_tells : (s : State) → Keeps s → (o : OriginValue) (x : NodeValue) → LooksUpOrigin B src (slice_get h.outcomes) o (found x) → HasFinished s o → option_map entry_node (origin_at t s o) ≡ Some x
       origin_tells s keeps (source p) x look done =
           looks_from (TellsDirectory B) (FailsDirectory B) S (told_reads B S within.values apart) p (Some (whole t)) (found x) ordered within.own
           (subst (λ d. LooksFrom (TellsDirectory B) (FailsDirectory B) p (Some (Dir d)) (found x)) (sym sources) look)
@@ -234,7 +231,7 @@ module _ (S : List ℕ → Type 0) (apart : NoClash S) where
               within.picked b (done.0, holds_at chosen j done.0 done.1, inr (subst (λ (z : Outcome). IsBlobOfOutcome z b) done.2 (there.0, there.1, own)))
 
       -- where what is below an origin is read
-      origin_read : (o : OriginValue) (x : NodeWithin) → StandsAtOrigin B src h.outcomes o x → IsRead S x
+      origin_read : (o : OriginValue) (x : NodeWithin) → StandsAtOrigin B src (slice_get h.outcomes) o x → IsRead S x
       origin_read (source p) x k = record {
         held = subst (λ w. IsHeldIn w x.node) (sym k.within) (source_held x.node);
         blobs = λ b q. absurd (subst (λ w. IsBlobIn w b) k.within q);
@@ -255,7 +252,7 @@ module _ (S : List ℕ → Type 0) (apart : NoClash S) where
           }
 
       -- what stands at the origins of lines is what was looked up there
-      lines_tell : (s : State) → Keeps s → (ls : List LineValue) → ArePaths ls → (xs : MergeLines) → Resolves B src h.outcomes ls xs → HaveFinished s ls → LinesTell S t s ls xs
+      lines_tell : (s : State) → Keeps s → (ls : List LineValue) → ArePaths ls → (xs : MergeLines) → Resolves B src (slice_get h.outcomes) ls xs → HaveFinished s ls → LinesTell S t s ls xs
       lines_tell s keeps [] paths xs r done = subst (LinesTell S t s []) (sym r) (no_lines S t s)
       lines_tell s keeps (l ∷ ls) paths xs r done =
           subst (LinesTell S t s (l ∷ ls)) (sym r.4)
@@ -263,7 +260,7 @@ module _ (S : List ℕ → Type 0) (apart : NoClash S) where
           (lines_tell s keeps ls paths.1 r.2 r.3 done.1))
 
       -- what lines whose steps have finished put together is there, with the digest that was found
-      grafts : (s : State) → Keeps s → (ls : List LineValue) → ArePaths ls → (xs : MergeLines) → Resolves B src h.outcomes ls xs → (made : Tree NodeValue) → (merged B xs).passes made → HaveFinished s ls
+      grafts : (s : State) → Keeps s → (ls : List LineValue) → ArePaths ls → (xs : MergeLines) → Resolves B src (slice_get h.outcomes) ls xs → (made : Tree NodeValue) → (merged B xs).passes made → HaveFinished s ls
           → (g : Tree Leaf) × (graft_of t s ls ≡ Some g) × (root (form g) ≡ root made) × IsOrdered g
       grafts s keeps ls paths xs r made merges done = told_graft S t s apart B within.values (lines_tell s keeps ls paths xs r done) made merges
 
@@ -397,11 +394,11 @@ module _ (S : List ℕ → Type 0) (apart : NoClash S) where
 
       -- ---- what a run comes to
 
-      finished_all : (end : State) → HasFinishedAll plan end → (ls : List LineValue) (xs : MergeLines) → Resolves B src h.outcomes ls xs → HaveFinished end ls
+      finished_all : (end : State) → HasFinishedAll plan end → (ls : List LineValue) (xs : MergeLines) → Resolves B src (slice_get h.outcomes) ls xs → HaveFinished end ls
       finished_all end all [] xs r = tt
       finished_all end all (l ∷ ls) xs r = (one l.origin r.1.node, finished_all end all ls r.2 r.3)
         where
-          one : (o : OriginValue) → LooksUpOrigin B src h.outcomes o (found r.0.node) → HasFinished end o
+          one : (o : OriginValue) → LooksUpOrigin B src (slice_get h.outcomes) o (found r.0.node) → HasFinished end o
           one (source p) look = tt
           one (output j p) look = let step = origin_step j look.0 look.1 in all j step.0 step.1
 

@@ -18,7 +18,7 @@ use Rattle.tree.specs.Form.{NodeValue}
 use Rattle.tree.specs.Lookup.{found, LooksFrom}
 use Rattle.tree.specs.Merging.{in_source, in_tree, NodeWithin, MergeLines, IsHeldIn, AreHeld}
 use Rattle.blob_source.specs.Source.{Blobs}
-use Rattle.verifier.specs.Accepted.{StandsAtOrigin, Resolves}
+use Rattle.verifier.specs.Together.{StandsAtOrigin, Resolves}
 
 -- a Tree that is an output is valid
 abbrev pub IsValidTree : OutputValue → Type 0
@@ -86,12 +86,12 @@ module _ (B : Blobs) (sources : DigestValue) (os : List OutcomeValue) (all : Are
   one_there : (i : ℕ) (o v : OutcomeValue) → slice_get os i ≡ Some o → slice_get os i ≡ Some v → o ≡ v
   one_there i o v h k = let both : ◌≡◌ {A = Option OutcomeValue} (Some o) (Some v) = sym h ∙ k in cc
 
-  pub origin_held : (o : OriginValue) (x : NodeWithin) → StandsAtOrigin B sources os o x → IsHeldIn x.within x.node
+  pub origin_held : (o : OriginValue) (x : NodeWithin) → StandsAtOrigin B sources (slice_get os) o x → IsHeldIn x.within x.node
   origin_held (source p) x h = subst (λ w. IsHeldIn w x.node) (sym h.within) (source_held x.node)
   origin_held (output i p) x h =
       let v = h.node.0 in
       outcome_held v (all.valid i v h.node.1) (all.trees i v h.node.1) p x h.node.2 (subst (λ o. LiesWithin o p x.within) (one_there i h.within.0 v h.within.1 h.node.1) h.within.2)
 
-  pub resolves_held : (ls : List LineValue) (xs : MergeLines) → Resolves B sources os ls xs → AreHeld xs
+  pub resolves_held : (ls : List LineValue) (xs : MergeLines) → Resolves B sources (slice_get os) ls xs → AreHeld xs
   resolves_held [] xs h = subst AreHeld (sym h) tt
   resolves_held (l ∷ ls) xs h = subst AreHeld (sym h.4) (origin_held l.origin h.0 h.1, resolves_held ls h.2 h.3)

@@ -9,7 +9,7 @@ use Rattle.actions.specs.declared.outcome.Output.TheVariants as outputs
 use Rattle.actions.specs.Outcome.{OutputValue}
 use Rattle.actions.specs.OutcomeLookup.{within_output}
 use Rattle.plan.specs.Values.{LineValue}
-use Rattle.tree.specs.Tree.{Name, Tree, Leaf, Entry, IsOrdered, IsOrderedEntry}
+use Rattle.tree.specs.Tree.{Name, Tree, Leaf, Entry, IsOrdered}
 use Rattle.tree.specs.Form.{NodeValue, entry_node, form, root}
 use Rattle.tree.specs.Lookup.{IsValue}
 use Rattle.tree.specs.Merge.{TreeLines, AreMergeable, merge}

@@ -1,12 +1,12 @@
 -- What checks look at, one after another, while the source tells more and more.
-use Rattle.std.proofs.Common.{◌≡◌, ℕ, suc, ◌+◌, ◌<◌, List, [], ◌∷◌, length, drop, get_or, ap, sym, subst, inl, inr, add-one, drop-cons}
+use Rattle.std.proofs.Common.{◌≡◌, ℕ, suc, ◌+◌, ◌<◌, List, [], ◌∷◌, length, drop, get_or, refl, ap, sym, subst, inl, inr, add-one, drop-cons}
 use Rattle.blob_digest.specs.Digest.{DigestValue}
 use Rattle.std.specs.List.{Contains}
 use Rattle.action_messages.specs.Command.{CommandValue}
 use Rattle.action_messages.specs.Outputs.{RecordedValue, recorded_path, recorded_value, recorded_values}
 use Rattle.action_messages.specs.declared.recorded_output.RecordedOutput.{RecordedOutput}
 use Rattle.actions.specs.LooksAt.{OutputLooksAt}
-use Rattle.actions.specs.Outcome.{OutcomeValue, OutputValue}
+use Rattle.actions.specs.Outcome.{OutputValue}
 use Rattle.actions.specs.Recorded.{StandsFor}
 use Rattle.actions.proofs.Reading.{stands_still}
 use Rattle.plan.specs.Values.{OriginValue, source, output, LineValue}
@@ -14,13 +14,18 @@ use Rattle.tree.specs.Form.{NodeValue}
 use Rattle.tree.specs.Lookup.{found}
 use Rattle.tree.specs.LooksAt.{OnWay}
 use Rattle.tree.specs.Memo.{Asked, Known, Learns}
-use Rattle.tree.specs.Tree.{Name}
+use Rattle.tree.specs.Tree.{Name, Tree}
+use Rattle.tree.specs.Merging.{MergeLines, MergeFault, merged}
+use Rattle.tree.specs.MergeLooks.{looks, MergeLooksAt}
+use Rattle.tree.specs.Stage.{◌and_then◌}
+use Rattle.tree.proofs.MergeLooking.{steady_merged_in}
+use Rattle.tree.proofs.MergeStages.{stable_merged_in}
 use Rattle.tree.proofs.Learning.{learns_more}
 use Rattle.tree.proofs.Ways.{way_still}
 use Rattle.blob_source.specs.Source.{Blobs, Telling, Grows}
-use Rattle.verifier.specs.Accepted.{LooksUpOrigin}
-use Rattle.verifier.specs.LooksAt.{OriginLooksAt, LinesLookAt, OutputsLookAt}
-use Rattle.verifier.proofs.Checking.{recorded_next}
+use Rattle.verifier.specs.Together.{Earlier, LooksUpOrigin, Resolves, LinesFault, of_merge, FirstFault, put_together, OriginLooksAt, LinesLookAt, TogetherLooksAt}
+use Rattle.verifier.specs.LooksAt.{OutputsLookAt}
+use Rattle.verifier.proofs.Checking.{recorded_next, resolves_still}
 use Rattle.verifier.proofs.Lines.{found_still}
 
 -- ---- lines
@@ -29,19 +34,19 @@ pub origin_look_still : (B C : Blobs) (d : DigestValue) (o : OriginValue) (a : A
 origin_look_still B C d (source p) a g h = way_still B C d p a g h
 origin_look_still B C d (output step p) a g h = h
 
-pub lines_look_still : (B C : Blobs) (d : DigestValue) (os : List OutcomeValue) (ls : List LineValue) (a : Asked) → Grows B C → LinesLookAt B d os ls a → LinesLookAt C d os ls a
+pub lines_look_still : (B C : Blobs) (d : DigestValue) (os : Earlier) (ls : List LineValue) (a : Asked) → Grows B C → LinesLookAt B d os ls a → LinesLookAt C d os ls a
 lines_look_still B C d os [] a g h = h
 lines_look_still B C d os (l ∷ ls) a g (inl h) = inl (origin_look_still B C d l.origin a g h)
 lines_look_still B C d os (l ∷ ls) a g (inr h) = inr (h.0, found_still B C d os l.origin h.0 g h.1, lines_look_still B C d os ls a g h.2)
 
 -- whatever is told later, what the rest of the lines looks at is looked at by all
-pub record LinesLookOn (B : Blobs) (d : DigestValue) (os : List OutcomeValue) (ls rest : List LineValue) : Type 0 where
+pub record LinesLookOn (B : Blobs) (d : DigestValue) (os : Earlier) (ls rest : List LineValue) : Type 0 where
   pub look : (later : Blobs) → Grows B later → (a : Asked) → LinesLookAt later d os rest a → LinesLookAt later d os ls a
 
-pub lines_look_first : (B : Blobs) (d : DigestValue) (os : List OutcomeValue) (ls : List LineValue) → LinesLookOn B d os ls ls
+pub lines_look_first : (B : Blobs) (d : DigestValue) (os : Earlier) (ls : List LineValue) → LinesLookOn B d os ls ls
 lines_look_first B d os ls = record { look = λ later g a h. h }
 
-module _ (B C : Blobs) (d : DigestValue) (os : List OutcomeValue) (ls : List LineValue) (i : ℕ) (l : LineValue) (lt : i < length ls) (is : l ≡ get_or ls i l) (on : LinesLookOn B d os ls (drop i ls)) (grows : Grows B C) where
+module _ (B C : Blobs) (d : DigestValue) (os : Earlier) (ls : List LineValue) (i : ℕ) (l : LineValue) (lt : i < length ls) (is : l ≡ get_or ls i l) (on : LinesLookOn B d os ls (drop i ls)) (grows : Grows B C) where
   split : drop i ls ≡ l ∷ drop (i + 1) ls
   split = rw (add-one, drop-cons ls i l lt) (ap (λ k. k ∷ drop (suc i) ls) (sym is))
 
@@ -53,6 +58,48 @@ module _ (B C : Blobs) (d : DigestValue) (os : List OutcomeValue) (ls : List Lin
     look = λ later g a h. on.look later (λ e b q. g e b (grows e b q)) a
         (subst (λ q. LinesLookAt later d os q a) (sym split) (inr (x, found_still C later d os l.origin x g there, h)));
   }
+
+-- ---- what lines put together
+
+merged_still : (B C : Blobs) (xs : MergeLines) (t : Tree NodeValue) → Grows B C → (merged B xs).passes t → (merged C xs).passes t
+unfolding merged
+merged_still B C xs t g h = (stable_merged_in 64 [] xs).still B C g t h
+
+merge_look_still : (B C : Blobs) (xs : MergeLines) (a : Asked) → Grows B C → MergeLooksAt B xs a → MergeLooksAt C xs a
+unfolding MergeLooksAt
+merge_look_still B C xs a g h = (steady_merged_in 64 [] xs).still B C g a h
+
+pub together_still : (B C : Blobs) (d : DigestValue) (os : Earlier) (ls : List LineValue) (t : Tree NodeValue) → Grows B C → (put_together B d os ls).passes t → (put_together C d os ls).passes t
+unfolding ◌and_then◌
+together_still B C d os ls t g h = (h.0, resolves_still B C d os ls h.0 g h.1, merged_still B C h.0 t g h.2)
+
+pub together_looks_still : (B C : Blobs) (d : DigestValue) (os : Earlier) (ls : List LineValue) (a : Asked) → Grows B C → TogetherLooksAt B d os ls a → TogetherLooksAt C d os ls a
+unfolding looks
+together_looks_still B C d os ls a g (inl h) = inl (lines_look_still B C d os ls a g h)
+together_looks_still B C d os ls a g (inr h) = inr (h.0, resolves_still B C d os ls h.0 g h.1, merge_look_still B C h.0 a g h.2)
+
+-- the lines, and then what stands at their origins
+module _ (B C : Blobs) (d : DigestValue) (os : Earlier) (ls : List LineValue) where
+  pub together_first : (a : Asked) → Grows B C → LinesLookAt B d os ls a → TogetherLooksAt C d os ls a
+  unfolding looks
+  together_first a g h = inl (lines_look_still B C d os ls a g h)
+
+  pub together_next : (xs : MergeLines) (a : Asked) → Grows B C → Resolves B d os ls xs → MergeLooksAt C xs a → TogetherLooksAt C d os ls a
+  unfolding looks
+  together_next xs a g r h = inr (xs, resolves_still B C d os ls xs g r, h)
+
+module _ (B : Blobs) (d : DigestValue) (os : Earlier) (ls : List LineValue) where
+  pub passes_together : (xs : MergeLines) (t : Tree NodeValue) → Resolves B d os ls xs → (merged B xs).passes t → (put_together B d os ls).passes t
+  unfolding ◌and_then◌
+  passes_together xs t r h = (xs, r, h)
+
+  pub fails_first : (why : LinesFault) → FirstFault B d os ls why → (put_together B d os ls).fails why
+  unfolding ◌and_then◌
+  fails_first why h = inl h
+
+  pub fails_merged : (xs : MergeLines) → Resolves B d os ls xs → (why : MergeFault) → (merged B xs).fails why → (put_together B d os ls).fails (of_merge why)
+  unfolding ◌and_then◌
+  fails_merged xs r why h = inr (xs, r, (why, h, refl))
 
 -- ---- outputs
 

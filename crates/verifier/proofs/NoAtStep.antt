@@ -8,8 +8,7 @@ use Rattle.verifier.specs.declared.verdict.Verdict.TheVariants.{No}
 use Rattle.verifier.specs.declared.verdict.Place.{Place}
 use Rattle.verifier.specs.declared.verdict.Place.TheVariants.{Step, Root}
 use Rattle.verifier.specs.declared.verdict.Cause.{Cause}
-use Rattle.verifier.specs.Accepted.{IsAccepted}
-use Rattle.verifier.specs.AsRecorded.{AreAsRecorded, IsFirstUnlikeRecorded}
+use Rattle.verifier.specs.AsRecorded.{AreAsRecorded, IsFirstUnlikeRecorded, IsAccepted}
 use Rattle.tree.specs.Stage.{◌and_then◌}
 use Rattle.verifier.specs.Verdict.{steps_check, IsVerdict}
 use Rattle.verifier.proofs.Passing.{root_fails, accepted_root, recorded_steps}

@@ -2,22 +2,20 @@
 use Rattle.std.proofs.Common.{◌≡◌, ℕ, List, [], ◌∷◌, ◌++◌, length, refl, subst, inl, inr}
 use Rattle.blob_digest.specs.Digest.{DigestValue}
 use Rattle.actions.specs.Outcome.{OutcomeValue}
-use Rattle.plan.specs.Values.{OriginValue, LineValue, StepValue, PlanValue}
+use Rattle.plan.specs.Values.{LineValue, StepValue, PlanValue}
 use Rattle.tree.specs.Form.{root}
-use Rattle.tree.specs.Merging.{MergeFault, conflict, unreadable}
 use Rattle.tree.specs.Stage.{◌and_then◌}
-use Rattle.blob_source.specs.Source.{Blobs, Telling}
-use Rattle.blob_source.specs.Told.{Fault, missing, wrong, malformed}
-use Rattle.tree.specs.Lookup.{Looked, fault, nothing, found}
+use Rattle.blob_source.specs.Source.{Telling}
+use Rattle.blob_source.specs.Told.{missing, wrong, malformed}
 use Rattle.verifier.specs.declared.verdict.Verdict.{Verdict}
 use Rattle.verifier.specs.declared.verdict.Verdict.TheVariants.{Yes, No}
 use Rattle.verifier.specs.declared.verdict.Place.{Place}
 use Rattle.verifier.specs.declared.verdict.Place.TheVariants.{Step, Root}
 use Rattle.verifier.specs.declared.verdict.Cause.{Cause}
 use Rattle.verifier.specs.declared.verdict.Cause.TheVariants.{RootDiffers}
-use Rattle.verifier.specs.Accepted.{IsAccepted}
-use Rattle.verifier.specs.AsRecorded.{AreAsRecorded, IsPlanAsRecorded}
-use Rattle.verifier.specs.Faults.{cause_of, cause_of_merge, IsCauseOfLook, FirstFault}
+use Rattle.verifier.specs.AsRecorded.{AreAsRecorded, IsPlanAsRecorded, IsAccepted}
+use Rattle.verifier.specs.Faults.{cause_of_lines}
+use Rattle.verifier.specs.Together.{LinesFault, no_origin, in_conflict, not_read}
 use Rattle.verifier.specs.Verdict.{root_check, steps_check, IsVerdict, IsYes}
 use Rattle.verifier.proofs.StepLaws.{recorded_from, from_recorded}
 use Rattle.verifier.proofs.VerdictOnce.{verdict_once}
@@ -39,36 +37,21 @@ module _ (A : Type 0) (t : Telling) (sources : DigestValue) where
   -- and so does the root where it is accepted
   pub root_accepted : (os : List OutcomeValue) (ls : List LineValue) (claim : DigestValue) → (root_check {A = A} t sources os ls claim).passes tt → IsAccepted t.blobs sources os ls claim
   unfolding ◌and_then◌
-  root_accepted os ls claim h = record { nodes = h.0; tree = h.2.0; resolved = h.1; put_together = h.2.1; same = h.2.2 }
+  root_accepted os ls claim h = record { nodes = h.1.0; tree = h.0; resolved = h.1.1; put_together = h.1.2; same = h.2 }
 
   pub accepted_root : (os : List OutcomeValue) (ls : List LineValue) (claim : DigestValue) → IsAccepted t.blobs sources os ls claim → (root_check {A = A} t sources os ls claim).passes tt
   unfolding ◌and_then◌
-  accepted_root os ls claim h = (h.nodes, h.resolved, (h.tree, h.put_together, h.same))
+  accepted_root os ls claim h = (h.tree, (h.nodes, h.resolved, h.put_together), h.same)
 
 -- ---- another root
 
--- the cause that the root differs is no fault of a line
-no_line : (A : Type 0) (B : Blobs) (sources : DigestValue) (outcomes : List OutcomeValue) (ls : List LineValue) (other : DigestValue) → FirstFault {A = A} B sources outcomes ls (RootDiffers other) → ⊥
-no_line A B sources outcomes [] other h = h
-no_line A B sources outcomes (l ∷ ls) other (inr h) = no_line A B sources outcomes ls other h.2
-no_line A B sources outcomes (l ∷ ls) other (inl h) = by l.origin h.0 h.2
-  where
-    told : (f : Fault) → ◌≡◌ {A = Cause A} (RootDiffers other) (cause_of f) → ⊥
-    told (missing d) e = cc
-    told (wrong d) e = cc
-    told (malformed d) e = cc
-
-    by : (o : OriginValue) (r : Looked) → IsCauseOfLook {A = A} o r (RootDiffers other) → ⊥
-    by o (fault f) e = told f e
-    by o nothing e = cc
-    by o (found x) e = e
-
--- nor that of lines that don't merge
-no_merge : (A : Type 0) (why : MergeFault) (other : DigestValue) → ◌≡◌ {A = Cause A} (RootDiffers other) (cause_of_merge why) → ⊥
-no_merge A (conflict path) other e = cc
-no_merge A (unreadable (missing d)) other e = cc
-no_merge A (unreadable (wrong d)) other e = cc
-no_merge A (unreadable (malformed d)) other e = cc
+-- the cause that the root differs is no fault of lines
+no_lines : (A : Type 0) (why : LinesFault) (other : DigestValue) → ◌≡◌ {A = Cause A} (RootDiffers other) (cause_of_lines why) → ⊥
+no_lines A (no_origin path) other e = cc
+no_lines A (in_conflict path) other e = cc
+no_lines A (not_read (missing d)) other e = cc
+no_lines A (not_read (wrong d)) other e = cc
+no_lines A (not_read (malformed d)) other e = cc
 
 no_step : {A : Type 0} (name : List ℕ) → ◌≡◌ {A = Place A} Root (Step name) → ⊥
 no_step name e = cc
@@ -83,9 +66,8 @@ steps_fail_at_steps A t sources before (s ∷ ss) (d ∷ ds) c (inr h) = steps_f
 
 root_differs : (A : Type 0) (t : Telling) (sources : DigestValue) (os : List OutcomeValue) (ls : List LineValue) (claim other : DigestValue) → (root_check {A = A} t sources os ls claim).fails (RootDiffers other) → IsAccepted t.blobs sources os ls other
 unfolding ◌and_then◌
-root_differs A t sources os ls claim other (inl h) = absurd (no_line A t.blobs sources os ls other h)
-root_differs A t sources os ls claim other (inr (nodes, resolved, inl h)) = absurd (no_merge A h.0 other h.2)
-root_differs A t sources os ls claim other (inr (nodes, resolved, inr (tree, merges, (differs, is)))) =
+root_differs A t sources os ls claim other (inl h) = absurd (no_lines A h.0 other h.2)
+root_differs A t sources os ls claim other (inr (tree, (nodes, resolved, merges), (differs, is))) =
     let same : root tree ≡ other = cc in
     record { nodes = nodes; tree = tree; resolved = resolved; put_together = merges; same = same }
 

@@ -8,7 +8,7 @@ use Rattle.plan.specs.Values.{OriginValue, source, output, LineValue, StepValue}
 use Rattle.tree.specs.Merging.{WithinValue, NodeWithin, MergeLines}
 use Rattle.blob_source.specs.Source.{Blobs}
 use Rattle.tree.specs.Lookup.{Looked}
-use Rattle.verifier.specs.Accepted.{LooksUpOrigin, OriginWithin, StandsAtOrigin, Resolves}
+use Rattle.verifier.specs.Together.{LooksUpOrigin, OriginWithin, StandsAtOrigin, Resolves}
 use Rattle.verifier.specs.AsRecorded.{IsAsRecorded, AreAsRecorded}
 
 -- ---- elements by their numbers
@@ -32,18 +32,18 @@ get_other (x ∷ xs) (y ∷ ys) (suc i) z same e = let rest : length xs ≡ leng
 -- ---- more outcomes
 
 module _ (B C : Blobs) (src : DigestValue) where
-  looks_more : (before more : List OutcomeValue) (o : OriginValue) (r : Looked) → LooksUpOrigin B src before o r → LooksUpOrigin B src (before ++ more) o r
+  looks_more : (before more : List OutcomeValue) (o : OriginValue) (r : Looked) → LooksUpOrigin B src (slice_get before) o r → LooksUpOrigin B src (slice_get (before ++ more)) o r
   looks_more before more (source p) r h = h
   looks_more before more (output j p) r h = (h.0, get_left before more j h.0 h.1, h.2)
 
-  within_more : (before more : List OutcomeValue) (o : OriginValue) (w : WithinValue) → OriginWithin before o w → OriginWithin (before ++ more) o w
+  within_more : (before more : List OutcomeValue) (o : OriginValue) (w : WithinValue) → OriginWithin (slice_get before) o w → OriginWithin (slice_get (before ++ more)) o w
   within_more before more (source p) w h = h
   within_more before more (output j p) w h = (h.0, get_left before more j h.0 h.1, h.2)
 
-  stands_more : (before more : List OutcomeValue) (o : OriginValue) (x : NodeWithin) → StandsAtOrigin B src before o x → StandsAtOrigin B src (before ++ more) o x
+  stands_more : (before more : List OutcomeValue) (o : OriginValue) (x : NodeWithin) → StandsAtOrigin B src (slice_get before) o x → StandsAtOrigin B src (slice_get (before ++ more)) o x
   stands_more before more o x h = record { node = looks_more before more o _ h.node; within = within_more before more o x.within h.within }
 
-  resolves_more : (before more : List OutcomeValue) (ls : List LineValue) (xs : MergeLines) → Resolves B src before ls xs → Resolves B src (before ++ more) ls xs
+  resolves_more : (before more : List OutcomeValue) (ls : List LineValue) (xs : MergeLines) → Resolves B src (slice_get before) ls xs → Resolves B src (slice_get (before ++ more)) ls xs
   resolves_more before more [] xs h = h
   resolves_more before more (l ∷ ls) xs h = (h.0, stands_more before more l.origin h.0 h.1, h.2, resolves_more before more ls h.2 h.3, h.4)
 
@@ -87,7 +87,7 @@ module _ (B C : Blobs) (src : DigestValue) where
     may_be_cached = h.may_be_cached;
     frame = h.frame;
     command_told = h.command_told;
-    resolved = subst (λ os. Resolves B src os s.lines h.nodes) (sym e) (resolves_more before more s.lines h.nodes h.resolved);
+    resolved = subst (λ os. Resolves B src (slice_get os) s.lines h.nodes) (sym e) (resolves_more before more s.lines h.nodes h.resolved);
     put_together = h.put_together;
     input = h.input;
     held = h.held;

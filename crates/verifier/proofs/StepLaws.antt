@@ -1,6 +1,6 @@
 -- The check of a step has one answer, and passes exactly where the step is as recorded.
 use Rattle.std.proofs.Common.{◌≡◌, List, [], ap, sym, ◌∙◌, subst, inl, inr, refl}
-use Rattle.std.specs.Prelude.{ℕ}
+use Rattle.std.specs.Prelude.{ℕ, slice_get}
 use Rattle.blob_digest.specs.Digest.{DigestValue}
 use Rattle.action_messages.specs.Action.{ActionValue, IsAction, action_bytes}
 use Rattle.action_messages.specs.ActionResult.{ActionResultValue}
@@ -24,13 +24,29 @@ use Rattle.tree.proofs.MergeStages.{once_merged_in}
 use Rattle.tree.proofs.StageLaws.{IsOnce, once_then, once_demands}
 use Rattle.verifier.specs.declared.verdict.Cause.{Cause}
 use Rattle.verifier.specs.AsRecorded.{IsAsRecorded}
-use Rattle.verifier.specs.Faults.{cause_of, cause_of_merge}
-use Rattle.verifier.specs.StepChecks.{difference_cause, OutputFault, message, resolved, put_together, grafted, held, read, step_check}
+use Rattle.verifier.specs.Faults.{cause_of, cause_of_lines}
+use Rattle.verifier.specs.StepChecks.{difference_cause, OutputFault, message, together, grafted, held, read, step_check}
 use Rattle.verifier.specs.Verdict.{root_check}
 use Rattle.verifier.proofs.StepsOnce.{IsSpelledOnce, told_once, output_fault_is_one, fault_or_all, bytes_are, none_some}
-use Rattle.verifier.proofs.VerdictOnceLines.{AreValid, resolves_once, first_once, first_resolves}
+use Rattle.verifier.specs.Together.{Earlier, of_merge, resolved, put_together}
+use Rattle.verifier.proofs.StageLaws.{once_named}
+use Rattle.verifier.proofs.VerdictOnceLines.{AreValid, AreValidIn, valid_there, resolves_once, first_once, first_resolves}
 
 -- ---- each check of a step
+
+once_resolved : (B : Blobs) (sources : DigestValue) (os : Earlier) (lines : List LineValue) → AreValidIn os → IsOnce (resolved B sources os lines)
+once_resolved B sources os lines valid = record {
+  value = resolves_once B sources os valid lines;
+  why = first_once B sources os valid lines;
+  either = λ xs c p q. first_resolves B sources os valid lines c xs q p;
+}
+
+once_merged : (B : Blobs) (xs : MergeLines) → IsOnce (merged B xs)
+unfolding merged
+once_merged B xs = once_merged_in B 64 [] xs
+
+once_put_together : (B : Blobs) (sources : DigestValue) (os : Earlier) (lines : List LineValue) → AreValidIn os → IsOnce (put_together B sources os lines)
+once_put_together B sources os lines valid = once_then _ _ (once_resolved B sources os lines valid) (λ xs _. once_named of_merge _ (once_merged B xs))
 
 module _ {A : Type 0} where
   once_message : {M : Type 0} (keeps : M → Type 0) (spells : M → List ℕ) → IsSpelledOnce keeps spells → (B : Blobs) (d : DigestValue) → IsOnce (message {A = A} keeps spells B d)
@@ -40,22 +56,8 @@ module _ {A : Type 0} where
     either = λ m c p q. told_or_fault keeps spells B d m q.0 p q.1;
   }
 
-  once_resolved : (B : Blobs) (sources : DigestValue) (outcomes : List OutcomeValue) (lines : List LineValue) → AreValid outcomes → IsOnce (resolved {A = A} B sources outcomes lines)
-  once_resolved B sources outcomes lines valid = record {
-    value = resolves_once B sources outcomes valid lines;
-    why = first_once B sources outcomes valid lines;
-    either = λ xs c p q. first_resolves B sources outcomes valid lines c xs q p;
-  }
-
-  once_put_together : (B : Blobs) (xs : MergeLines) → IsOnce (put_together {A = A} B xs)
-  unfolding merged
-  once_put_together B xs =
-      let one = once_merged_in B 64 [] xs in
-      record {
-        value = one.value;
-        why = λ c e p q. p.2 ∙ ap cause_of_merge (one.why p.0 q.0 p.1 q.1) ∙ sym q.2;
-        either = λ t c p q. one.either t q.0 p q.1;
-      }
+  once_together : (B : Blobs) (sources : DigestValue) (outcomes : List OutcomeValue) (lines : List LineValue) → AreValid outcomes → IsOnce (together {A = A} B sources outcomes lines)
+  once_together B sources outcomes lines valid = once_named cause_of_lines _ (once_put_together B sources (slice_get outcomes) lines (valid_there outcomes valid))
 
   once_grafted : (B : Blobs) (a : ActionValue) (t : Tree NodeValue) → IsOnce (grafted {A = A} B a t)
   once_grafted B a t = record {
@@ -96,22 +98,21 @@ module _ {A : Type 0} where
       once_then _ _ (once_demands _ _) (λ _ _.
       once_then _ _ (once_message IsCommand command_bytes command_bytes_injective t.blobs a.frame.command) (λ m _.
       once_then _ _ (once_demands _ _) (λ _ _.
-      once_then _ _ (once_resolved t.blobs sources outcomes s.lines valid) (λ xs _.
-      once_then _ _ (once_put_together t.blobs xs) (λ made _.
+      once_then _ _ (once_together t.blobs sources outcomes s.lines valid) (λ made _.
       once_then _ _ (once_grafted t.blobs a made) (λ _ _.
       once_then _ _ (once_held t.results d) (λ r _.
       once_then _ _ (once_demands _ _) (λ _ _.
-      once_read t.blobs m r)))))))))
+      once_read t.blobs m r))))))))
 
   pub once_root : (t : Telling) (sources : DigestValue) (outcomes : List OutcomeValue) (lines : List LineValue) (claim : DigestValue) → AreValid outcomes → IsOnce (root_check {A = A} t sources outcomes lines claim)
-  once_root t sources outcomes lines claim valid = once_then _ _ (once_resolved t.blobs sources outcomes lines valid) (λ xs _. once_then _ _ (once_put_together t.blobs xs) (λ made _. once_demands _ _))
+  once_root t sources outcomes lines claim valid = once_then _ _ (once_together t.blobs sources outcomes lines valid) (λ made _. once_demands _ _)
 
 -- ---- a step passes exactly where it is as recorded
 
 module _ (A : Type 0) (t : Telling) (sources : DigestValue) (before : List OutcomeValue) (s : StepValue) (d : DigestValue) (o : OutcomeValue) where
   pub recorded_from : (step_check {A = A} t sources before s d).passes o → IsAsRecorded t.blobs t.results sources before s d o
   unfolding ◌and_then◌
-  recorded_from (action, action_told, (_, cached, (command, command_told, (_, frame, (nodes, origins, (made, merges, (_, input, (result, kept, (_, exit_code, (recorded, listed)))))))))) = record {
+  recorded_from (action, action_told, (_, cached, (command, command_told, (_, frame, (made, (nodes, origins, merges), (_, input, (result, kept, (_, exit_code, (recorded, listed))))))))) = record {
     action = action;
     command = command;
     nodes = nodes;
@@ -133,4 +134,4 @@ module _ (A : Type 0) (t : Telling) (sources : DigestValue) (before : List Outco
   pub from_recorded : IsAsRecorded t.blobs t.results sources before s d o → (step_check {A = A} t sources before s d).passes o
   unfolding ◌and_then◌
   from_recorded h =
-      (h.action, h.action_told, (tt, h.may_be_cached, (h.command, h.command_told, (tt, h.frame, (h.nodes, h.resolved, (h.tree, h.put_together, (tt, h.input, (h.result, h.held, (tt, h.exit_code, (h.recorded, h.listed))))))))))
+      (h.action, h.action_told, (tt, h.may_be_cached, (h.command, h.command_told, (tt, h.frame, (h.tree, (h.nodes, h.resolved, h.put_together), (tt, h.input, (h.result, h.held, (tt, h.exit_code, (h.recorded, h.listed)))))))))

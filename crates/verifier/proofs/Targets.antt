@@ -5,7 +5,6 @@ use Rattle.std.specs.List.{AllByRecursion}
 use Rattle.std.specs.Map.{lookup}
 use Rattle.blob_digest.specs.Digest.{DigestValue}
 use Rattle.messages.specs.Path.{IsPath, Overlap}
-use Rattle.actions.specs.Outcome.{OutcomeValue}
 use Rattle.plan.specs.declared.version.Version.TheVariants.{One}
 use Rattle.plan.specs.Values.{source, output, OriginValue, LineValue, StepValue, PlanValue, IsLine}
 use Rattle.plan.specs.Plan as plans
@@ -18,7 +17,7 @@ use Rattle.tree.proofs.MergeLaws.{graft_merges}
 use Rattle.tree.proofs.MergeTotal.{tells_merge}
 use Rattle.tree.proofs.OrderLemmas.{IsOrderedAt, ordered_at}
 use Rattle.blob_source.specs.Source.{Blobs}
-use Rattle.verifier.specs.Accepted.{Resolves}
+use Rattle.verifier.specs.Together.{Earlier, Resolves}
 use Rattle.verifier.specs.Build.{Outcome, IsTreeOutcome, State, outcome_of, below_path, output_from, output_at, origin_at, origins, graft_of, AreLinesOf}
 
 -- ---- the lines of a plan
@@ -86,7 +85,7 @@ module _ {X : Type 0} where
   targets_few (l ∷ ls) [] h paths = elim h [ ]
   targets_few (l ∷ ls) (x ∷ xs) h paths = (subst (λ p. length p ≤ 64) (sym h.0) paths.0.few, targets_few ls xs h.1 paths.1)
 
-pub resolved_targets : (B : Blobs) (d : DigestValue) (os : List OutcomeValue) (ls : List LineValue) (xs : MergeLines) → Resolves B d os ls xs → HaveTargets ls xs
+pub resolved_targets : (B : Blobs) (d : DigestValue) (os : Earlier) (ls : List LineValue) (xs : MergeLines) → Resolves B d os ls xs → HaveTargets ls xs
 resolved_targets B d os [] xs h = subst (HaveTargets []) (sym h) tt
 resolved_targets B d os (l ∷ ls) xs h = subst (HaveTargets (l ∷ ls)) (sym h.4) (refl, resolved_targets B d os ls h.2 h.3)
 

@@ -33,10 +33,10 @@ use Rattle.tree.specs.Lookup.{Looked, fault, nothing, found}
 use Rattle.tree.specs.Merging.{WithinValue, in_source, MergeLines}
 use Rattle.tree.proofs.Totals.{told_or_faulty, looks_on, looks_total}
 use Rattle.verifier.specs.declared.verdict.Cause.{Cause}
-use Rattle.verifier.specs.declared.verdict.Cause.TheVariants.{OriginMissing, ResultMissing, ResultMalformed, OutputUnlisted}
-use Rattle.verifier.specs.Accepted.{LooksUpOrigin, OriginWithin, Resolves}
-use Rattle.verifier.specs.Faults.{cause_of, origin_path, FirstFault}
-use Rattle.verifier.specs.StepChecks.{OutputFault, message, resolved, held, read}
+use Rattle.verifier.specs.declared.verdict.Cause.TheVariants.{ResultMissing, ResultMalformed, OutputUnlisted}
+use Rattle.verifier.specs.Together.{LooksUpOrigin, OriginWithin, Resolves, LinesFault, no_origin, not_read, origin_path, FirstFault, resolved}
+use Rattle.verifier.specs.Faults.{cause_of}
+use Rattle.verifier.specs.StepChecks.{OutputFault, message, held, read}
 use Rattle.tree.proofs.StageLaws.{IsTotal}
 
 -- ---- look-ups in outcomes
@@ -112,7 +112,7 @@ valid_outcome_there (x ∷ os) zero o h e = let same : x ≡ o = cc in subst Are
 valid_outcome_there (x ∷ os) (suc i) o h e = valid_outcome_there os i o h.1 e
 
 module _ (B : Blobs) (sources : DigestValue) (os : List OutcomeValue) (valid : AllByRecursion AreValidOutputs os) where
-  looks_at : (o : OriginValue) → IsOrigin (length os) o → ((r : Looked) → LooksUpOrigin B sources os o r → ⊥) → ⊥
+  looks_at : (o : OriginValue) → IsOrigin (length os) o → ((r : Looked) → LooksUpOrigin B sources (slice_get os) o r → ⊥) → ⊥
   looks_at (source p) is k = looks_total B sources p k
   looks_at (output i p) is k =
       let o = outcome_there os i is.0 in
@@ -123,24 +123,24 @@ lies_somewhere : (o : OutcomeValue) (p : List Name) (x : NodeValue) → LooksIn 
 lies_somewhere o p x (inl (e, here, names, path, look)) = (within_output e.1, (e, here, (names, path), refl))
 lies_somewhere o p x (inr h) = absurd (let e = h.1 in cc)
 
-stands_somewhere : (B : Blobs) (sources : DigestValue) (os : List OutcomeValue) (o : OriginValue) (x : NodeValue) → LooksUpOrigin B sources os o (found x) → (w : WithinValue) × OriginWithin os o w
+stands_somewhere : (B : Blobs) (sources : DigestValue) (os : List OutcomeValue) (o : OriginValue) (x : NodeValue) → LooksUpOrigin B sources (slice_get os) o (found x) → (w : WithinValue) × OriginWithin (slice_get os) o w
 stands_somewhere B sources os (source p) x h = (in_source, refl)
 stands_somewhere B sources os (output i p) x h = let w = lies_somewhere h.0 p x h.2 in (w.0, (h.0, h.1, w.1))
 
-module _ {A : Type 0} (B : Blobs) (sources : DigestValue) (os : List OutcomeValue) (valid : AllByRecursion AreValidOutputs os) where
-  line_total : (l : LineValue) (ls : List LineValue) → (((xs : MergeLines) → Resolves B sources os ls xs → ⊥) → ((c : Cause A) → FirstFault B sources os ls c → ⊥) → ⊥)
-      → ((xs : MergeLines) → Resolves B sources os (l ∷ ls) xs → ⊥) → ((c : Cause A) → FirstFault B sources os (l ∷ ls) c → ⊥) → (r : Looked) → LooksUpOrigin B sources os l.origin r → ⊥
+module _ (B : Blobs) (sources : DigestValue) (os : List OutcomeValue) (valid : AllByRecursion AreValidOutputs os) where
+  line_total : (l : LineValue) (ls : List LineValue) → (((xs : MergeLines) → Resolves B sources (slice_get os) ls xs → ⊥) → ((c : LinesFault) → FirstFault B sources (slice_get os) ls c → ⊥) → ⊥)
+      → ((xs : MergeLines) → Resolves B sources (slice_get os) (l ∷ ls) xs → ⊥) → ((c : LinesFault) → FirstFault B sources (slice_get os) (l ∷ ls) c → ⊥) → (r : Looked) → LooksUpOrigin B sources (slice_get os) l.origin r → ⊥
   line_total l ls rest passes fails (found x) h =
       let w = stands_somewhere B sources os l.origin x h in
       rest (λ xs q. passes ((l.target, record { node = x; within = w.0 }) ∷ xs) (record { node = x; within = w.0 }, record { node = h; within = w.1 }, xs, q, refl)) (λ c q. fails c (inr (x, h, q)))
-  line_total l ls rest passes fails nothing h = fails (OriginMissing (origin_path l.origin)) (inl (nothing, h, refl))
-  line_total l ls rest passes fails (fault f) h = fails (cause_of f) (inl (fault f, h, refl))
+  line_total l ls rest passes fails nothing h = fails (no_origin (origin_path l.origin)) (inl (nothing, h, refl))
+  line_total l ls rest passes fails (fault f) h = fails (not_read f) (inl (fault f, h, refl))
 
-  lines_total : (ls : List LineValue) → AllByRecursion (IsLine (length os)) ls → ((xs : MergeLines) → Resolves B sources os ls xs → ⊥) → ((c : Cause A) → FirstFault B sources os ls c → ⊥) → ⊥
+  lines_total : (ls : List LineValue) → AllByRecursion (IsLine (length os)) ls → ((xs : MergeLines) → Resolves B sources (slice_get os) ls xs → ⊥) → ((c : LinesFault) → FirstFault B sources (slice_get os) ls c → ⊥) → ⊥
   lines_total [] is passes fails = passes [] refl
   lines_total (l ∷ ls) is passes fails = looks_at B sources os valid l.origin is.0.origin (line_total l ls (λ p f. lines_total ls is.1 p f) passes fails)
 
-  pub total_resolved : (ls : List LineValue) → AllByRecursion (IsLine (length os)) ls → IsTotal (resolved {A = A} B sources os ls)
+  pub total_resolved : (ls : List LineValue) → AllByRecursion (IsLine (length os)) ls → IsTotal (resolved B sources (slice_get os) ls)
   total_resolved ls is = record { ends = lines_total ls is }
 
 -- ---- the others

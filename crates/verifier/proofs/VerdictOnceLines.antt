@@ -10,12 +10,9 @@ use Rattle.plan.specs.Values.{OriginValue, source, output, LineValue}
 use Rattle.tree.specs.Form.{NodeValue}
 use Rattle.tree.specs.Merging.{WithinValue, NodeWithin, MergeLines}
 use Rattle.blob_source.specs.Source.{Blobs}
-use Rattle.blob_source.specs.Told.{missing, wrong, malformed}
 use Rattle.tree.specs.Lookup.{Looked, fault, nothing, found}
 use Rattle.tree.proofs.LookupOnce.{looks_once}
-use Rattle.verifier.specs.declared.verdict.Cause.{Cause}
-use Rattle.verifier.specs.Accepted.{LooksUpOrigin, OriginWithin, StandsAtOrigin, Resolves}
-use Rattle.verifier.specs.Faults.{IsCauseOfLook, LineFault, FirstFault}
+use Rattle.verifier.specs.Together.{Earlier, LooksUpOrigin, OriginWithin, StandsAtOrigin, Resolves, LinesFault, IsFaultOfLook, LineFault, FirstFault}
 
 abbrev pub AreValid : List OutcomeValue → Type 0
 AreValid outcomes = AllByRecursion IsOutcome outcomes
@@ -27,24 +24,27 @@ found_is x y e = cc
 some_is : (o p : OutcomeValue) → ◌≡◌ {A = Option OutcomeValue} (Some o) (Some p) → o ≡ p
 some_is o p e = cc
 
-one_there : (os : List OutcomeValue) (step : ℕ) (o p : OutcomeValue) → slice_get os step ≡ Some o → slice_get os step ≡ Some p → o ≡ p
-one_there os step o p h k = some_is o p (sym h ∙ k)
+abbrev pub AreValidIn : Earlier → Type 0
+AreValidIn os = (step : ℕ) (o : OutcomeValue) → os step ≡ Some o → IsOutcome o
 
-valid_there : (os : List OutcomeValue) (step : ℕ) (o : OutcomeValue) → AreValid os → slice_get os step ≡ Some o → IsOutcome o
-valid_there [] step o h e = absurd cc
-valid_there (x ∷ os) zero o h e = subst IsOutcome (some_is x o e) h.0
-valid_there (x ∷ os) (suc step) o h e = valid_there os step o h.1 e
+pub valid_there : (os : List OutcomeValue) → AreValid os → AreValidIn (slice_get os)
+valid_there [] h step o e = absurd cc
+valid_there (x ∷ os) h zero o e = subst IsOutcome (some_is x o e) h.0
+valid_there (x ∷ os) h (suc step) o e = valid_there os h.1 step o e
 
-module _ (B : Blobs) (d : DigestValue) (os : List OutcomeValue) (valid : AreValid os) where
+module _ (B : Blobs) (d : DigestValue) (os : Earlier) (valid : AreValidIn os) where
+  one_there : (step : ℕ) (o p : OutcomeValue) → os step ≡ Some o → os step ≡ Some p → o ≡ p
+  one_there step o p h k = some_is o p (sym h ∙ k)
+
   looks_at_once : (o : OriginValue) (r s : Looked) → LooksUpOrigin B d os o r → LooksUpOrigin B d os o s → r ≡ s
   looks_at_once (source p) r s h k = looks_once B d p r s h k
   looks_at_once (output step p) r s h k =
-      looked_once h.0 p r s (valid_there os step h.0 valid h.1) h.2 (subst (λ o. LooksIn o p s) (one_there os step k.0 h.0 k.1 h.1) k.2)
+      looked_once h.0 p r s (valid step h.0 h.1) h.2 (subst (λ o. LooksIn o p s) (one_there step k.0 h.0 k.1 h.1) k.2)
 
   within_at_once : (o : OriginValue) (v w : WithinValue) → OriginWithin os o v → OriginWithin os o w → v ≡ w
   within_at_once (source p) v w h k = h ∙ sym k
   within_at_once (output step p) v w h k =
-      within_once h.0 p v w (valid_there os step h.0 valid h.1) h.2 (subst (λ o. LiesWithin o p w) (one_there os step k.0 h.0 k.1 h.1) k.2)
+      within_once h.0 p v w (valid step h.0 h.1) h.2 (subst (λ o. LiesWithin o p w) (one_there step k.0 h.0 k.1 h.1) k.2)
 
   stands_once : (o : OriginValue) (x y : NodeWithin) → StandsAtOrigin B d os o x → StandsAtOrigin B d os o y → x ≡ y
   stands_once o x y h k =
@@ -59,30 +59,27 @@ module _ (B : Blobs) (d : DigestValue) (os : List OutcomeValue) (valid : AreVali
       let rest = resolves_once ls h.2 k.2 h.3 k.3 in
       h.4 ∙ (λ i. (l.target, nodes i) ∷ rest i) ∙ sym k.4
 
-  module _ {A : Type 0} where
-    gives_once : (o : OriginValue) (r : Looked) (c e : Cause A) → IsCauseOfLook o r c → IsCauseOfLook o r e → c ≡ e
-    gives_once o (fault (missing f)) c e h k = h ∙ sym k
-    gives_once o (fault (wrong f)) c e h k = h ∙ sym k
-    gives_once o (fault (malformed f)) c e h k = h ∙ sym k
-    gives_once o nothing c e h k = h ∙ sym k
-    gives_once o (found x) c e h k = elim h [ ]
+  gives_once : (o : OriginValue) (r : Looked) (c e : LinesFault) → IsFaultOfLook o r c → IsFaultOfLook o r e → c ≡ e
+  gives_once o (fault f) c e h k = h ∙ sym k
+  gives_once o nothing c e h k = h ∙ sym k
+  gives_once o (found x) c e h k = elim h [ ]
 
-    line_once : (l : LineValue) (c e : Cause A) → LineFault B d os l c → LineFault B d os l e → c ≡ e
-    line_once l c e h k = gives_once l.origin h.0 c e h.2 (subst (λ r. IsCauseOfLook l.origin r e) (looks_at_once l.origin k.0 h.0 k.1 h.1) k.2)
+  line_once : (l : LineValue) (c e : LinesFault) → LineFault B d os l c → LineFault B d os l e → c ≡ e
+  line_once l c e h k = gives_once l.origin h.0 c e h.2 (subst (λ r. IsFaultOfLook l.origin r e) (looks_at_once l.origin k.0 h.0 k.1 h.1) k.2)
 
-    line_found : (l : LineValue) (c : Cause A) (x : NodeValue) → LineFault B d os l c → LooksUpOrigin B d os l.origin (found x) → ⊥
-    line_found l c x h k = subst (λ r. IsCauseOfLook l.origin r c) (looks_at_once l.origin h.0 (found x) h.1 k) h.2
+  line_found : (l : LineValue) (c : LinesFault) (x : NodeValue) → LineFault B d os l c → LooksUpOrigin B d os l.origin (found x) → ⊥
+  line_found l c x h k = subst (λ r. IsFaultOfLook l.origin r c) (looks_at_once l.origin h.0 (found x) h.1 k) h.2
 
-    -- one fault is the first
-    pub first_once : (ls : List LineValue) (c e : Cause A) → FirstFault B d os ls c → FirstFault B d os ls e → c ≡ e
-    first_once [] c e h k = elim h [ ]
-    first_once (l ∷ ls) c e (inl h) (inl k) = line_once l c e h k
-    first_once (l ∷ ls) c e (inl h) (inr k) = absurd (line_found l c k.0 h k.1)
-    first_once (l ∷ ls) c e (inr h) (inl k) = absurd (line_found l e h.0 k h.1)
-    first_once (l ∷ ls) c e (inr h) (inr k) = first_once ls c e h.2 k.2
+  -- one fault is the first
+  pub first_once : (ls : List LineValue) (c e : LinesFault) → FirstFault B d os ls c → FirstFault B d os ls e → c ≡ e
+  first_once [] c e h k = elim h [ ]
+  first_once (l ∷ ls) c e (inl h) (inl k) = line_once l c e h k
+  first_once (l ∷ ls) c e (inl h) (inr k) = absurd (line_found l c k.0 h k.1)
+  first_once (l ∷ ls) c e (inr h) (inl k) = absurd (line_found l e h.0 k h.1)
+  first_once (l ∷ ls) c e (inr h) (inr k) = first_once ls c e h.2 k.2
 
-    -- lines that have their origins have no fault
-    pub first_resolves : (ls : List LineValue) (c : Cause A) (xs : MergeLines) → FirstFault B d os ls c → Resolves B d os ls xs → ⊥
-    first_resolves [] c xs h k = h
-    first_resolves (l ∷ ls) c xs (inl h) k = line_found l c k.0.node h k.1.node
-    first_resolves (l ∷ ls) c xs (inr h) k = first_resolves ls c k.2 h.2 k.3
+  -- lines that have their origins have no fault
+  pub first_resolves : (ls : List LineValue) (c : LinesFault) (xs : MergeLines) → FirstFault B d os ls c → Resolves B d os ls xs → ⊥
+  first_resolves [] c xs h k = h
+  first_resolves (l ∷ ls) c xs (inl h) k = line_found l c k.0.node h k.1.node
+  first_resolves (l ∷ ls) c xs (inr h) k = first_resolves ls c k.2 h.2 k.3

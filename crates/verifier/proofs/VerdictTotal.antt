@@ -40,12 +40,12 @@ use Rattle.tree.proofs.Totals.{looks_valid, child_valid}
 use Rattle.tree.proofs.TreeDigests.{IsDigest-digest_of}
 use Rattle.verifier.specs.declared.verdict.Verdict.{Verdict}
 use Rattle.verifier.specs.declared.verdict.Verdict.TheVariants.{Yes, No}
-use Rattle.verifier.specs.Accepted.{LooksUpOrigin, Resolves}
-use Rattle.verifier.specs.Faults.{cause_of_merge}
-use Rattle.verifier.specs.StepChecks.{difference_cause, put_together, grafted, step_check}
+use Rattle.verifier.specs.Together.{LooksUpOrigin, Resolves, of_merge}
+use Rattle.verifier.specs.Faults.{cause_of_lines}
+use Rattle.verifier.specs.StepChecks.{difference_cause, together, grafted, step_check}
 use Rattle.verifier.specs.Verdict.{root_check, steps_check, plan_check, IsVerdict}
 use Rattle.verifier.proofs.HeldOrigins.{IsValidTree, AreWithTrees, resolves_held}
-use Rattle.verifier.proofs.StageLaws.{total_located}
+use Rattle.verifier.proofs.StageLaws.{total_located, total_named}
 use Rattle.verifier.proofs.StepLaws.{recorded_from}
 use Rattle.verifier.proofs.Totals.{IsValidOutput, AreValidOutputs, total_message, total_resolved, total_held, total_read}
 
@@ -90,7 +90,7 @@ with_trees os h = record {
 }
 
 module _ (B : Blobs) (sources : DigestValue) (is : IsDigest sources) (os : List OutcomeValue) (valid : AllByRecursion AreValidOutputs os) where
-  at_valid : (o : OriginValue) (y : NodeValue) → LooksUpOrigin B sources os o (found y) → IsNode y
+  at_valid : (o : OriginValue) (y : NodeValue) → LooksUpOrigin B sources (slice_get os) o (found y) → IsNode y
   at_valid (source p) y h = looks_valid (TellsDirectory B) (FailsDirectory B) (λ d m told. told.valid) p _ (λ x e. subst IsNode (some_is e) is) y h
     where
       some_is : {a b : NodeValue} → ◌≡◌ {A = Option NodeValue} (Some a) (Some b) → a ≡ b
@@ -98,7 +98,7 @@ module _ (B : Blobs) (sources : DigestValue) (is : IsDigest sources) (os : List 
   at_valid (output i p) y h = in_valid h.0 (valid_at os i h.0 valid h.1) p y h.2
 
   -- the lines that are merged
-  valid_lines : (ls : List LineValue) (xs : MergeLines) → AllByRecursion (IsLine (length os)) ls → Resolves B sources os ls xs → AreValidLines xs
+  valid_lines : (ls : List LineValue) (xs : MergeLines) → AllByRecursion (IsLine (length os)) ls → Resolves B sources (slice_get os) ls xs → AreValidLines xs
   valid_lines [] xs all h = subst AreValidLines (sym h) tt
   valid_lines (l ∷ ls) xs all h = subst AreValidLines (sym h.4) ((all.0.target.each, at_valid l.origin h.0.node h.1.node), valid_lines ls h.2 all.1 h.3)
 
@@ -124,11 +124,16 @@ module _ (A : Type 0) (t : Telling) (sources : DigestValue) (is : IsDigest sourc
 
   -- ---- the checks
 
-  total_put_together : (xs : MergeLines) → AreHeld xs → IsTotal (put_together {A = A} t.blobs xs)
+  total_merged : (xs : MergeLines) → AreHeld xs → IsTotal (merged t.blobs xs)
   unfolding merged
-  total_put_together xs held = record { ends = λ passes fails. (total_merged_in t.blobs 64 [] xs held).ends passes (λ why h. fails (cause_of_merge why) (why, h, refl)) }
+  total_merged xs held = total_merged_in t.blobs 64 [] xs held
 
-  total_grafted : (a : ActionValue) (xs : MergeLines) (made : trees.Tree NodeValue) → AreValidLines xs → AreHeld xs → (put_together {A = A} t.blobs xs).passes made → IsTotal (grafted {A = A} t.blobs a made)
+  total_together : (os : List OutcomeValue) (ls : List LineValue) → AllByRecursion AreValidOutputs os → AllByRecursion (IsLine (length os)) ls → IsTotal (together {A = A} t.blobs sources os ls)
+  total_together os ls valid all =
+      total_named cause_of_lines _ (total_then _ _ (total_resolved t.blobs sources os valid ls all)
+      (λ xs h. total_named of_merge _ (total_merged xs (resolves_held t.blobs sources os (with_trees os valid) ls xs h))))
+
+  total_grafted : (a : ActionValue) (xs : MergeLines) (made : trees.Tree NodeValue) → AreValidLines xs → AreHeld xs → (merged t.blobs xs).passes made → IsTotal (grafted {A = A} t.blobs a made)
   unfolding merged
   total_grafted a xs made valid held merges = record {
     ends = λ passes fails.
@@ -138,21 +143,21 @@ module _ (A : Type 0) (t : Telling) (sources : DigestValue) (is : IsDigest sourc
   }
 
   total_step : (os : List OutcomeValue) (s : StepValue) (d : DigestValue) → AllByRecursion AreValidOutputs os → AllByRecursion (IsLine (length os)) s.lines → IsTotal (step_check {A = A} t sources os s d)
+  unfolding ◌and_then◌
   total_step os s d valid all =
       total_then _ _ (total_message IsAction action_bytes t.blobs d) (λ a _.
       total_then _ _ (total_demands _ _) (λ _ _.
       total_then _ _ (total_message IsCommand command_bytes t.blobs a.frame.command) (λ m _.
       total_then _ _ (total_demands _ _) (λ _ _.
-      total_then _ _ (total_resolved t.blobs sources os valid s.lines all) (λ xs h.
-      let held = resolves_held t.blobs sources os (with_trees os valid) s.lines xs h in
-      total_then _ _ (total_put_together xs held) (λ made merges.
-      total_then _ _ (total_grafted a xs made (valid_lines t.blobs sources is os valid s.lines xs all h) held merges) (λ _ _.
+      total_then _ _ (total_together os s.lines valid all) (λ made h.
+      let held = resolves_held t.blobs sources os (with_trees os valid) s.lines h.0 h.1 in
+      total_then _ _ (total_grafted a h.0 made (valid_lines t.blobs sources is os valid s.lines h.0 all h.1) held h.2) (λ _ _.
       total_then _ _ (total_held t.results d) (λ r kept.
       total_then _ _ (total_demands _ _) (λ _ _.
-      total_read t.blobs m r kept.2.2.valid)))))))))
+      total_read t.blobs m r kept.2.2.valid))))))))
 
   total_root : (os : List OutcomeValue) (ls : List LineValue) (claim : DigestValue) → AllByRecursion AreValidOutputs os → AllByRecursion (IsLine (length os)) ls → IsTotal (root_check {A = A} t sources os ls claim)
-  total_root os ls claim valid all = total_then _ _ (total_resolved t.blobs sources os valid ls all) (λ xs h. total_then _ _ (total_put_together xs (resolves_held t.blobs sources os (with_trees os valid) ls xs h)) (λ made _. total_demands _ _))
+  total_root os ls claim valid all = total_then _ _ (total_together os ls valid all) (λ made _. total_demands _ _)
 
   one_more : (os : List OutcomeValue) (o : OutcomeValue) → AllByRecursion AreValidOutputs os → AreValidOutputs o → AllByRecursion AreValidOutputs (os ++ o ∷ [])
   one_more [] o h k = (k, tt)

@@ -8,13 +8,13 @@ use Rattle.action_messages.specs.Command.{CommandValue, IsCommand, command_bytes
 use Rattle.action_messages.specs.Frame.{frame_bytes}
 use Rattle.actions.specs.Outcome.{OutcomeValue}
 use Rattle.actions.specs.Recorded.{IsRecorded}
-use Rattle.plan.specs.Values.{StepValue, PlanValue}
+use Rattle.plan.specs.Values.{LineValue, StepValue, PlanValue}
 use Rattle.tree.specs.Tree.{Tree}
 use Rattle.tree.specs.Form.{NodeValue, root}
 use Rattle.tree.specs.Merging.{MergeLines, merged}
 use Rattle.blob_source.specs.Source.{Blobs}
 use Rattle.blob_source.specs.Told.{IsTold}
-use Rattle.verifier.specs.Accepted.{Resolves, IsAccepted}
+use Rattle.verifier.specs.Together.{Resolves}
 use Rattle.verifier.specs.StepChecks.{AreListed}
 
 -- A step with a recorded digest is as recorded, and came to an outcome, where the steps before it
@@ -33,7 +33,7 @@ pub record IsAsRecorded (B C : Blobs) (sources : DigestValue) (before : List Out
   -- its Command is told
   pub command_told : IsTold IsCommand command_bytes B action.frame.command command
   -- its input is what the step's lines put together
-  pub resolved : Resolves B sources before step.lines nodes
+  pub resolved : Resolves B sources (slice_get before) step.lines nodes
   pub put_together : (merged B nodes).passes tree
   pub input : root tree ≡ action.input
   -- its result is held, with exit code 0, and stands for the outcome
@@ -66,6 +66,16 @@ pub record IsFirstUnlikeRecorded (B C : Blobs) (sources : DigestValue) (earlier 
   pub named : name ≡ step.name
   pub before : AreAsRecorded B C sources earlier (take index steps) recorded outcomes
   pub unlike : (o : OutcomeValue) → IsAsRecorded B C sources outcomes step digest o → ⊥
+
+-- The lines of the root are accepted: each has its origin in the sources or in what a step came to,
+-- and the tree that they put together has the claim as its digest.
+pub record IsAccepted (blobs : Blobs) (sources : DigestValue) (outcomes : List OutcomeValue)
+    (lines : List LineValue) (claim : DigestValue) : Type 0 where
+  pub nodes : MergeLines
+  pub tree : Tree NodeValue
+  pub resolved : Resolves blobs sources (slice_get outcomes) lines nodes
+  pub put_together : (merged blobs nodes).passes tree
+  pub same : root tree ≡ claim
 
 -- A plan is as recorded, and ends in the claim.
 pub record IsPlanAsRecorded (B C : Blobs) (sources : DigestValue) (plan : PlanValue)

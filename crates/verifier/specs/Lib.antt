@@ -2,9 +2,9 @@ pub mod Holding
 pub mod Build
 pub mod Recorded
 pub mod Headline
-pub mod Accepted
-pub mod Faults
 pub mod Stage
+pub mod Together
+pub mod Faults
 pub mod LooksAt
 pub mod StepChecks
 pub mod Checks

@@ -1,5 +1,5 @@
 -- What the checks of a plan look at, up to the first fault: blobs and results, by their digests.
-use Rattle.std.specs.Prelude.{◌≢◌, ◌⊎◌, List, [], ◌∷◌, ◌++◌}
+use Rattle.std.specs.Prelude.{◌≢◌, ◌⊎◌, List, [], ◌∷◌, ◌++◌, slice_get}
 use Rattle.std.specs.List.{Contains}
 use Rattle.blob_digest.specs.Digest.{DigestValue}
 use Rattle.action_messages.specs.Action.{ActionValue, IsAction, action_bytes}
@@ -9,18 +9,17 @@ use Rattle.action_messages.specs.Outputs.{RecordedValue, recorded_path, AreOutpu
 use Rattle.actions.specs.Outcome.{OutcomeValue, OutputValue}
 use Rattle.actions.specs.LooksAt.{OutputLooksAt}
 use Rattle.actions.specs.Recorded.{StandsFor}
-use Rattle.plan.specs.Values.{OriginValue, source, output, LineValue, StepValue, PlanValue}
+use Rattle.plan.specs.Values.{LineValue, StepValue, PlanValue}
 use Rattle.tree.specs.Tree.{Tree}
 use Rattle.tree.specs.Form.{NodeValue, root}
 use Rattle.tree.specs.Folded.{first_visits}
-use Rattle.tree.specs.MergeLooks.{looks, MergeLooksAt}
-use Rattle.tree.specs.Lookup.{found}
-use Rattle.tree.specs.LooksAt.{OnWay, Compares}
+use Rattle.tree.specs.MergeLooks.{looks}
+use Rattle.tree.specs.LooksAt.{Compares}
 use Rattle.tree.specs.Memo.{Asked, LooksAtBlob, LooksAtResult}
 use Rattle.blob_source.specs.Source.{Blobs, Telling}
-use Rattle.verifier.specs.Accepted.{LooksUpOrigin}
-use Rattle.verifier.specs.StepChecks.{message, cached, framed, resolved, put_together, grafted, held}
-use Rattle.verifier.specs.StepChecks.{succeeded, step_check}
+use Rattle.verifier.specs.StepChecks.{message, cached, framed, together, grafted, held, succeeded}
+use Rattle.verifier.specs.StepChecks.{step_check}
+use Rattle.verifier.specs.Together.{TogetherLooksAt}
 use Rattle.verifier.specs.Verdict.{steps_check}
 
 -- a check of what is known already
@@ -28,19 +27,6 @@ abbrev pub LooksAtNothing : Asked → Type 0
 LooksAtNothing a = ⊥
 
 -- ---- what each check looks at
-
--- the Directories on the way to an origin in the source tree; an outcome is known
-abbrev pub OriginLooksAt : Blobs → DigestValue → OriginValue → Asked → Type 0
-OriginLooksAt B sources (source p) a = OnWay B sources p a
-OriginLooksAt B sources (output step p) a = ⊥
-
--- one line after another, as far as each has its origin
-abbrev pub LinesLookAt : Blobs → DigestValue → List OutcomeValue → List LineValue → Asked → Type 0
-LinesLookAt B sources outcomes [] a = ⊥
-LinesLookAt B sources outcomes (l ∷ ls) a =
-    OriginLooksAt B sources l.origin a
-    ⊎ ((x : NodeValue) × LooksUpOrigin B sources outcomes l.origin (found x)
-    × LinesLookAt B sources outcomes ls a)
 
 -- the comparison with the recorded input, where the tree isn't that
 abbrev pub InputLooksAt : Blobs → ActionValue → Tree NodeValue → Asked → Type 0
@@ -70,9 +56,8 @@ StepLooksAt A tells sources outcomes step d =
     looks (message {A = A} IsCommand command_bytes tells.blobs action.frame.command)
     (LooksAtBlob action.frame.command) λ command.
     looks (framed {A = A} action step.frame) LooksAtNothing λ _.
-    looks (resolved {A = A} tells.blobs sources outcomes step.lines)
-    (LinesLookAt tells.blobs sources outcomes step.lines) λ nodes.
-    looks (put_together {A = A} tells.blobs nodes) (MergeLooksAt tells.blobs nodes) λ t.
+    looks (together {A = A} tells.blobs sources outcomes step.lines)
+    (TogetherLooksAt tells.blobs sources (slice_get outcomes) step.lines) λ t.
     looks (grafted {A = A} tells.blobs action t) (InputLooksAt tells.blobs action t) λ _.
     looks (held {A = A} tells.results d) (LooksAtResult d) λ result.
     looks (succeeded {A = A} result) LooksAtNothing λ _.
@@ -88,13 +73,12 @@ StepsLookAt A tells sources outcomes (s ∷ ss) (d ∷ ds) a =
     (StepLooksAt A tells sources outcomes s d)
     (λ outcome. StepsLookAt A tells sources (outcomes ++ outcome ∷ []) ss ds) a
 
--- the checks of the root
+-- the check of the root
 abbrev pub RootLooksAt : (A : Type 0) → Telling → DigestValue → List OutcomeValue → List LineValue
     → Asked → Type 0
 RootLooksAt A tells sources outcomes lines =
-    looks (resolved {A = A} tells.blobs sources outcomes lines)
-    (LinesLookAt tells.blobs sources outcomes lines) λ nodes.
-    looks (put_together {A = A} tells.blobs nodes) (MergeLooksAt tells.blobs nodes) λ _.
+    looks (together {A = A} tells.blobs sources outcomes lines)
+    (TogetherLooksAt tells.blobs sources (slice_get outcomes) lines) λ _.
     LooksAtNothing
 
 -- the checks of a plan: of its steps, and of its root

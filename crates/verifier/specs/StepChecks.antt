@@ -1,6 +1,6 @@
 -- Whether a step is as recorded: what is checked of it, one thing after another, and why each
 -- fails.
-use Rattle.std.specs.Prelude.{◌≡◌, ◌≢◌, ◌⊎◌, ℕ, pos, false, List, [], ◌∷◌, Some, None}
+use Rattle.std.specs.Prelude.{◌≡◌, ◌≢◌, ◌⊎◌, ℕ, pos, false, List, [], ◌∷◌, Some, None, slice_get}
 use Rattle.std.specs.List.{AllByRecursion, Contains}
 use Rattle.blob_digest.specs.Digest.{DigestValue, digest_of}
 use Rattle.action_messages.specs.Action.{ActionValue, IsAction, action_bytes}
@@ -15,7 +15,6 @@ use Rattle.plan.specs.Values.{LineValue, StepValue}
 use Rattle.tree.specs.Tree.{Tree}
 use Rattle.tree.specs.Form.{NodeValue, root}
 use Rattle.tree.specs.Folded.{first_visits}
-use Rattle.tree.specs.Merging.{MergeLines, MergeFault, merged}
 use Rattle.tree.specs.Stage.{Stage, ◌and_then◌, demands}
 use Rattle.blob_source.specs.Source.{Blobs, Telling}
 use Rattle.blob_source.specs.Told.{Fault, IsTold, IsFault}
@@ -26,9 +25,10 @@ use Rattle.verifier.specs.declared.verdict.Cause.TheVariants.{InputUnexplained, 
 use Rattle.verifier.specs.declared.verdict.Cause.TheVariants.{InputDiffers, ResultMissing}
 use Rattle.verifier.specs.declared.verdict.Cause.TheVariants.{ResultMalformed, ExitCode}
 use Rattle.verifier.specs.declared.verdict.Cause.TheVariants.{OutputUnlisted}
-use Rattle.verifier.specs.Accepted.{Resolves}
-use Rattle.verifier.specs.Faults.{cause_of, cause_of_merge, FirstFault}
+use Rattle.verifier.specs.Faults.{cause_of, cause_of_lines}
 use Rattle.verifier.specs.Holding.{HoldsResult}
+use Rattle.verifier.specs.Stage.{named}
+use Rattle.verifier.specs.Together.{put_together}
 
 -- ---- what a step must be, one check each
 
@@ -48,20 +48,11 @@ cached action = demands (action.frame.do_not_cache ≡ false) DoNotCache
 abbrev pub framed : {A : Type 0} → ActionValue → DigestValue → Stage (Cause A) (Unit {0})
 framed action frame = demands (digest_of (frame_bytes action.frame) ≡ frame) FrameDiffers
 
--- each line has its origin
-abbrev pub resolved : {A : Type 0} → Blobs → DigestValue → List OutcomeValue → List LineValue
-    → Stage (Cause A) MergeLines
-resolved B sources outcomes lines = record {
-  passes = Resolves B sources outcomes lines;
-  fails = FirstFault B sources outcomes lines;
-}
-
--- what stands at the origins merges
-abbrev pub put_together : {A : Type 0} → Blobs → MergeLines → Stage (Cause A) (Tree NodeValue)
-put_together B nodes = record {
-  passes = (merged B nodes).passes;
-  fails = λ cause. (why : MergeFault) × (merged B nodes).fails why × (cause ≡ cause_of_merge why);
-}
+-- lines put a tree together, over what the steps before came to
+abbrev pub together : {A : Type 0} → Blobs → DigestValue → List OutcomeValue → List LineValue
+    → Stage (Cause A) (Tree NodeValue)
+together B sources outcomes lines =
+    named cause_of_lines (put_together B sources (slice_get outcomes) lines)
 
 -- the cause that a difference of the recorded input is
 abbrev pub difference_cause : {A : Type 0} → Differing → Cause A
@@ -70,7 +61,7 @@ difference_cause (absent path) = InputAbsent path
 difference_cause (differs path) = InputDiffers path
 difference_cause (unread f) = cause_of f
 
--- the tree that it merges into is the recorded input
+-- the tree is the recorded input
 abbrev pub grafted : {A : Type 0} → Blobs → ActionValue → Tree NodeValue
     → Stage (Cause A) (Unit {0})
 grafted B action t = record {
@@ -134,8 +125,7 @@ step_check tells sources outcomes step d =
     cached action and_then λ _.
     message IsCommand command_bytes tells.blobs action.frame.command and_then λ command.
     framed action step.frame and_then λ _.
-    resolved tells.blobs sources outcomes step.lines and_then λ nodes.
-    put_together tells.blobs nodes and_then λ t.
+    together tells.blobs sources outcomes step.lines and_then λ t.
     grafted tells.blobs action t and_then λ _.
     held tells.results d and_then λ result.
     succeeded result and_then λ _.

@@ -13,15 +13,13 @@ use Rattle.verifier.specs.declared.verdict.Place.{Place}
 use Rattle.verifier.specs.declared.verdict.Place.TheVariants.{Step, Root}
 use Rattle.verifier.specs.declared.verdict.Cause.{Cause}
 use Rattle.verifier.specs.declared.verdict.Cause.TheVariants.{RootDiffers}
-use Rattle.verifier.specs.StepChecks.{resolved, put_together, step_check}
+use Rattle.verifier.specs.StepChecks.{together, step_check}
 
--- the check of the root: each of its lines has its origin, and what stands there merges into the
--- claim
+-- the check of the root: its lines put a tree together, which is the claim
 abbrev pub root_check : {A : Type 0} → Telling → DigestValue → List OutcomeValue → List LineValue
     → DigestValue → Stage (Cause A) (Unit {0})
 root_check tells sources outcomes lines claim =
-    resolved tells.blobs sources outcomes lines and_then λ nodes.
-    put_together tells.blobs nodes and_then λ t.
+    together tells.blobs sources outcomes lines and_then λ t.
     demands (root t ≡ claim) (RootDiffers (root t))
 
 -- a check, which fails with its place

@@ -20,8 +20,8 @@ ghost use Rattle.actions.specs.Outcome.{OutcomeValue, IsOutcome, outputs_form};
 ghost use Rattle.std.specs.List.{AllByRecursion};
 ghost use Rattle.actions.specs.Recorded.{IsRecorded};
 ghost use Rattle.verifier.specs.AsRecorded.{IsAsRecorded, AreAsRecorded, IsFirstUnlikeRecorded};
-ghost use Rattle.verifier.specs.AsRecorded.{IsPlanAsRecorded};
-ghost use Rattle.verifier.specs.Accepted.{IsAccepted, Resolves};
+ghost use Rattle.verifier.specs.AsRecorded.{IsAccepted, IsPlanAsRecorded};
+ghost use Rattle.verifier.specs.Together.{Earlier, Resolves};
 ghost use Rattle.verifier.specs.StepChecks.{step_check};
 ghost use Rattle.verifier.specs.declared.verdict.Cause.{Cause};
 ghost use Rattle.verifier.specs.Build.{Outcome, IsTreeOutcome, output_at, opening, MeaningFits};
@@ -80,15 +80,15 @@ pub fn stages_end_in_the_last_claim<A: Allocator>()
 /// What lines of a plan of version 1 put together is their graft. A law: it does nothing.
 pub fn version_one_is_grafted()
     // By digests it is that of the nodes that stand at the origins, and nothing is looked at for it.
-    ensures nodes { (blobs : Blobs) (sources : DigestValue) (outcomes : List OutcomeValue)
+    ensures nodes { (blobs : Blobs) (sources : DigestValue) (earlier : Earlier)
         (plan : PlanValue) (lines : List LineValue) (nodes : MergeLines)
         → IsPlan plan → plan.version ≡ One → AreLinesOf plan lines
-        → Resolves blobs sources outcomes lines nodes
+        → Resolves blobs sources earlier lines nodes
         → (merged blobs nodes).passes (graft (nodes_in nodes)) }
-    ensures nothing { (blobs : Blobs) (sources : DigestValue) (outcomes : List OutcomeValue)
+    ensures nothing { (blobs : Blobs) (sources : DigestValue) (earlier : Earlier)
         (plan : PlanValue) (lines : List LineValue) (nodes : MergeLines)
         → IsPlan plan → plan.version ≡ One → AreLinesOf plan lines
-        → Resolves blobs sources outcomes lines nodes
+        → Resolves blobs sources earlier lines nodes
         → (a : Asked) → MergeLooksAt blobs nodes a → ⊥ }
     // In a run it is that of what stands at the origins.
     ensures trees { (plan : PlanValue) (lines : List LineValue) (t : Tree Leaf) (s : State)

@@ -24,7 +24,7 @@ ghost use Rattle.verifier.specs.StepChecks.{IsRefusedOutput, OutputFault, cached
 ghost use Rattle.verifier.specs.StepChecks.{held, succeeded, read, step_check};
 
 use crate::fault::{Fault, fault_of};
-use crate::origins::{merge_nodes, resolve};
+use crate::origins::together;
 use crate::told::told;
 use crate::verdict::Cause;
 use actions::{Action, ActionResult, Command, Outcome, Output, RecordedOutput};
@@ -55,8 +55,7 @@ pub(crate) fn check_step<A: Allocator + Copy, S: BlobSource<A>>(
     check_cached(&action)?;
     let command: Command<A> = told(alloc, &action.command_digest(), memo, source)?;
     check_frame(alloc, &action, step)?;
-    let nodes = resolve(alloc, sources, outcomes, &step.lines, memo, source)?;
-    let input = merge_nodes(alloc, &nodes, memo, source)?;
+    let input = together(alloc, sources, outcomes, &step.lines, memo, source)?;
     check_input(alloc, &action, &input, memo, source)?;
     let made = held_result(alloc, recorded, memo, source)?;
     check_exit_code(&made)?;

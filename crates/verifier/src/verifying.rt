@@ -13,7 +13,7 @@ ghost use Rattle.verifier.specs.Verdict.{root_check, IsVerdict, IsYes};
 
 use crate::error::VerifyError;
 use crate::fault::Fault;
-use crate::origins::{merge_nodes, resolve};
+use crate::origins::together;
 use crate::steps::check_step;
 use crate::verdict::{Cause, Place, Verdict};
 use actions::Outcome;
@@ -84,8 +84,7 @@ fn check_steps<A: Allocator + Copy, S: BlobSource<A>>(
     Ok(Checked::Outcomes(outcomes))
 }
 
-/// Each line of the root has its origin, and what stands there merges into the claim. The steps
-/// came to these outcomes.
+/// The lines of the root put the claim together. The steps came to these outcomes.
 fn check_root<A: Allocator + Copy, S: BlobSource<A>>(
     alloc: A,
     sources: &Digest,
@@ -101,8 +100,7 @@ fn check_root<A: Allocator + Copy, S: BlobSource<A>>(
         (λ tells. RootLooksAt A tells sources.now outcomes.now lines.now)
         (known_by memo.old) (known_by memo.new) (S.tells source.old) (S.tells source.new) result }
 {
-    let nodes = resolve(alloc, sources, outcomes, lines, memo, source)?;
-    let root = merge_nodes(alloc, &nodes, memo, source)?.root;
+    let root = together(alloc, sources, outcomes, lines, memo, source)?.root;
     if root != *claim {
         return Err(Fault::Cause(Cause::RootDiffers(root)));
     }

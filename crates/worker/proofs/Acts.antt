@@ -1,13 +1,14 @@
--- The action of each step that has finished.
+-- The action of each step that has finished, and of each result that was put.
 use Rattle.std.proofs.Common.{◌≡◌, ℕ, zero, suc, ◌≤◌, List, [], ◌∷◌, length, set, Option, Some, None, refl, ap, sym, ◌∙◌, subst, inl, inr, arith}
 use Rattle.std.specs.Prelude.{◌⊎◌}
+use Rattle.std.specs.List.{AllByRecursion}
 use Rattle.blob_digest.specs.Digest.{DigestValue}
 use Rattle.blob_source.specs.Source.{Blobs, Telling}
 use Rattle.actions.specs.Outcome.{OutcomeValue}
 use Rattle.runs.specs.Calls.{IsFinished, placed}
 use Rattle.runs.specs.Engine.{FinishedValue, JobValue, EngineValue, at_number, finished_in, job_in}
 use Rattle.runs.proofs.Places.{set_at}
-use Rattle.worker.specs.Calls.{Call, started, launched, ran, taken, lost, running, WasStarted, Does, Leads, IsLed}
+use Rattle.worker.specs.Calls.{Call, started, launched, ran, taken, lost, running, CameTo, HasChildsResult, WasStarted, Does, Leads, IsLed, IsBuiltBy}
 use Rattle.worker.specs.Outcomes.{Yields}
 use Rattle.worker.specs.Steps.{IsSameBuild, IsActionOf}
 use Rattle.worker.specs.Stored.{HasNoneFinished}
@@ -30,6 +31,18 @@ no_job js w j none at = let one = running_set js w j at in omega (arith, one, no
 
 no_step : (o : Option FinishedValue) (f : FinishedValue) → o ≡ None → o ≡ Some f → ⊥
 no_step o f e h = cc
+
+same_build : (e : EngineValue) → IsSameBuild e e
+same_build e = record { plan = refl; sources = refl; frames = refl; commands = refl; finished = λ i f at. at }
+
+same_then : {old mid new : EngineValue} → IsSameBuild old mid → IsSameBuild mid new → IsSameBuild old new
+same_then h k = record {
+  plan = k.plan ∙ h.plan;
+  sources = k.sources ∙ h.sources;
+  frames = k.frames ∙ h.frames;
+  commands = k.commands ∙ h.commands;
+  finished = λ i f at. k.finished i f (h.finished i f at);
+}
 
 only_jobs : (old new : EngineValue) (js : List (Option JobValue)) → new ≡ record old { jobs = js } → IsSameBuild old new
 only_jobs old new js is = record {
@@ -60,13 +73,7 @@ module _ (A : Type 0) (B : Blobs) where
     told = a.told;
     still = a.still;
     at = a.at;
-    same = record {
-      plan = s.plan ∙ a.same.plan;
-      sources = s.sources ∙ a.same.sources;
-      frames = s.frames ∙ a.same.frames;
-      commands = s.commands ∙ a.same.commands;
-      finished = λ k f at. s.finished k f (a.same.finished k f at);
-    };
+    same = same_then a.same s;
     job = a.job;
     prepared = a.prepared;
     digest = a.digest;
@@ -107,6 +114,20 @@ module _ (A : Type 0) (B : Blobs) where
       }
 
 module _ (A : Type 0) (y : Yields) (t : Telling) (most : ℕ) where
+  call_same : (later : List Call) (c : Call) (old new : EngineValue) → Does A y t later c old new → IsSameBuild old new
+  call_same later (started i id) old new w = only_jobs old new (placed old.jobs id (job_of w)) (after w)
+  call_same later (launched id d x) old new w = subst (IsSameBuild old) (sym w.same) (same_build old)
+  call_same later (ran id d v) old new w = finishing w.finished
+  call_same later (taken id d v) old new w = finishing w.finished
+  call_same later (lost id) old new (j, at, gone) = only_jobs old new (set old.jobs id None) gone
+
+  pub calls_same : (cs : List Call) (old new : EngineValue) → Leads A y t most cs old new → IsSameBuild old new
+  calls_same [] old new same = subst (IsSameBuild old) (sym same) (same_build old)
+  calls_same (c ∷ cs) old new (mid, does, few, rest) = same_then (call_same cs c old mid does) (calls_same cs mid new rest)
+
+  pub led_same : {first last : EngineValue} → IsLed A y t most first last → IsSameBuild first last
+  led_same {first} {last} led = calls_same led.calls first last led.leads
+
   one_call : (later : List Call) (c : Call) (old new : EngineValue) → Does A y t later c old new → AreActions A t.blobs old → AreActions A t.blobs new
   one_call later (started i id) old new w a = one_started A t.blobs i id old new w a
   one_call later (launched id d x) old new w a = subst (AreActions A t.blobs) (sym w.same) a
@@ -118,8 +139,32 @@ module _ (A : Type 0) (y : Yields) (t : Telling) (most : ℕ) where
   all_calls [] old new same a = subst (AreActions A t.blobs) (sym same) a
   all_calls (c ∷ cs) old new (mid, does, few, rest) a = all_calls cs mid new rest (one_call cs c old mid does a)
 
+  begun : (first : EngineValue) → HasNoneFinished first → running first.jobs ≡ 0 → AreActions A t.blobs first
+  begun first none idle = record { jobs = λ w j at. absurd (no_job first.jobs w j idle at); steps = λ i f at. absurd (no_step (finished_in i first) f (none i) at) }
+
   pub steps_act : (first last : EngineValue) → IsLed A y t most first last → HasNoneFinished first → running first.jobs ≡ 0
       → (i : ℕ) (f : FinishedValue) → finished_in i last ≡ Some f → IsActionOf A t.blobs last i f.action
-  steps_act first last led none idle =
-      let a = all_calls led.calls first last led.leads (record { jobs = λ w j at. absurd (no_job first.jobs w j idle at); steps = λ i f at. absurd (no_step (finished_in i first) f (none i) at) }) in
-      a.steps
+  steps_act first last led none idle = let a = all_calls led.calls first last led.leads (begun first none idle) in a.steps
+
+  -- what a child came to was of a job, and that of a step
+  came_acts : (cs : List Call) (old new : EngineValue) → Leads A y t most cs old new → AreActions A t.blobs old → (d : DigestValue) (v : OutcomeValue) → CameTo cs d v → (i : ℕ) × IsActionOf A t.blobs new i d
+  came_acts [] old new same a d v h = absurd h
+  came_acts (started i id ∷ cs) old new (mid, does, few, rest) a d v h = came_acts cs mid new rest (one_call cs (started i id) old mid does a) d v h
+  came_acts (launched id e x ∷ cs) old new (mid, does, few, rest) a d v h = came_acts cs mid new rest (one_call cs (launched id e x) old mid does a) d v h
+  came_acts (taken id e w ∷ cs) old new (mid, does, few, rest) a d v h = came_acts cs mid new rest (one_call cs (taken id e w) old mid does a) d v h
+  came_acts (lost id ∷ cs) old new (mid, does, few, rest) a d v h = came_acts cs mid new rest (one_call cs (lost id) old mid does a) d v h
+  came_acts (ran id e w ∷ cs) old new (mid, does, few, rest) a d v (inr h) = came_acts cs mid new rest (one_call cs (ran id e w) old mid does a) d v h
+  came_acts (ran id e w ∷ cs) old new (mid, does, few, rest) a d v (inl is) =
+      let job = does.finished.job in (
+        job.step,
+        action_still A t.blobs old new (same_then (finishing does.finished) (calls_same cs mid new rest)) job.step d
+            (subst (IsActionOf A t.blobs old job.step) (does.action ∙ sym is.0) (a.jobs id job does.finished.is)),
+      )
+
+  pub puts_act : (before : Telling) (first last : EngineValue) → (built : IsBuiltBy A y before t most first last) → HasNoneFinished first → running first.jobs ≡ 0
+      → AllByRecursion (λ d. (i : ℕ) × IsActionOf A t.blobs last i d) built.puts.put
+  puts_act before first last built none idle = by built.puts.put built.puts.each
+    where
+      by : (put : List DigestValue) → AllByRecursion (HasChildsResult built.led.calls t.results) put → AllByRecursion (λ d. (i : ℕ) × IsActionOf A t.blobs last i d) put
+      by [] h = tt
+      by (d ∷ put) h = (came_acts built.led.calls first last built.led.leads (begun first none idle) d h.0.outcome h.0.came, by put h.1)

@@ -9,19 +9,15 @@ use Rattle.runs.proofs.Places.{set_other}
 use Rattle.verifier.proofs.FreshRuns.{one_answer}
 use Rattle.worker.specs.declared.child.Child.{Child}
 use Rattle.worker.specs.declared.turns.Turn.TheVariants as turns
-use Rattle.worker.specs.Values.{ProducedValue, Starts}
+use Rattle.worker.specs.Values.{EndValue, Starts}
 use Rattle.worker.specs.Outcomes.{Yields}
 use Rattle.worker.specs.Calls.{WasStarted}
-use Rattle.worker.specs.Going.{IsJobOf, AreJobsOf, IsLaunched, IsBegun, EndsWell, HasEndedFirst, FinishesOnly, first_step, step_of}
-use Rattle.worker.specs.Watching.{IsOneThatRuns, finished_count}
-use Rattle.worker.proofs.Lefts.{one_fewer, own_step}
+use Rattle.worker.specs.Going.{IsJobOf, AreJobsOf, IsLaunched, IsBegun, EndsWell, HasEndedFirst, FinishesOnly, one_if, step_of, taken_in}
+use Rattle.worker.specs.Watching.{finished_count}
+use Rattle.worker.proofs.Lefts.{one_there}
 use Rattle.worker.proofs.Started.{job_of, job_is, after}
 
 -- ---- the count
-
-abbrev pub one_if : Option FinishedValue → ℕ
-one_if None = 0
-one_if (Some f) = 1
 
 count_front : (o : Option FinishedValue) (fs : List (Option FinishedValue)) → finished_count (o ∷ fs) ≡ one_if o + finished_count fs
 count_front None fs = omega arith
@@ -66,10 +62,6 @@ count_changed (f ∷ fs) (g ∷ gs) (suc i) lt len others =
     let a = count_front f fs in
     let b = count_front g gs in
     omega (arith, rest, here, a, b)
-
-one_there : (o : Option FinishedValue) → IsSome o → one_if o ≡ 1
-one_there None some = absurd cc
-one_there (Some f) some = refl
 
 none_there : (o : Option FinishedValue) → (IsSome o → ⊥) → one_if o ≡ 0
 none_there None none = refl
@@ -117,6 +109,23 @@ pub next_le : (count next : ℕ) (is : Bool) → ((is ≡ true) × (next ≡ cou
 next_le count next is (inl (t, e)) = omega (arith, e)
 next_le count next is (inr (n, e)) = omega (arith, e)
 
+one_le : (o q : Option FinishedValue) → (IsSome q → IsSome o) → one_if q ≤ one_if o
+one_le o None f = omega arith
+one_le o (Some x) f = let one = one_there o (f refl) in omega (arith, one)
+
+-- what is taken from the store, as the code counts it
+pub taken_of : (start comes is : Bool) (i : ℕ) (old new : EngineValue) → ((comes ≡ true) × (is ≡ start)) ⊎ ((comes ≡ false) × (is ≡ comes))
+    → (comes ≡ true → IsSome (finished_in i new) × (IsSome (finished_in i old) → ⊥)) → (comes ≡ false → IsSome (finished_in i new) → IsSome (finished_in i old)) → (if is then 1 else 0) ≡ taken_in start i old new
+taken_of true comes is i old new (inl (t, same)) more none =
+    let one = one_there (finished_in i new) (more t).0 in
+    let zero_before = none_there (finished_in i old) (more t).1 in
+    ap (λ b. if b then 1 else 0) same ∙ omega (arith, one, zero_before)
+taken_of false comes is i old new (inl (t, same)) more none = ap (λ b. if b then 1 else 0) same
+taken_of true comes is i old new (inr (f, same)) more none =
+    let le = one_le (finished_in i old) (finished_in i new) (none f) in
+    ap (λ b. if b then 1 else 0) (same ∙ f) ∙ omega (arith, le)
+taken_of false comes is i old new (inr (f, same)) more none = ap (λ b. if b then 1 else 0) (same ∙ f)
+
 pub bit_le : (a b : Bool) → (a ≡ true → b ≡ true) → (if a then 1 else 0) ≤ (if b then 1 else 0)
 bit_le false b follows = omega arith
 bit_le true true follows = omega arith
@@ -163,7 +172,7 @@ only_then f g = record {
   still = λ some. g.still (f.still some);
 }
 
-module _ (A J : Type 0) (y : Yields) (may : J → ProducedValue → Type 0) (from to : Starts) (t u : Telling) (now new : EngineValue) where
+module _ (A J : Type 0) (y : Yields) (may : J → EndValue → Type 0) (from to : Starts) (t u : Telling) (now new : EngineValue) where
   begun_only : (i : ℕ) (cs ds : List (Child J)) → IsBegun A y may from to t u i now new cs ds → FinishesOnly i now new
   begun_only i cs ds b = only_then started (by b.goes)
     where
@@ -193,8 +202,3 @@ module _ (A J : Type 0) (y : Yields) (may : J → ProducedValue → Type 0) (fro
   finish_only (Ok x) cs ds jobs h =
       subst (λ xs. FinishesOnly (step_of turns.Finish xs) now new) (sym h.is) (ended_only h.child ds (subst (AreJobsOf IsJobOf now.jobs) h.is jobs) h.end)
   finish_only (Err x) cs ds jobs h = tt
-
--- the first child's job is one that runs
-pub first_runs : {J : Type 0} (e : EngineValue) (cs : List (Child J)) → AreJobsOf IsJobOf e.jobs cs → IsOneThatRuns e (first_step cs)
-first_runs e [] none = none
-first_runs e (c ∷ cs) (j, at, of_c, rest) = let fewer = one_fewer c.step e.jobs c.id j at in let own = own_step j c.step of_c.step in omega (arith, fewer, own)

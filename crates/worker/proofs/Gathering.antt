@@ -12,7 +12,8 @@ use Rattle.worker.specs.declared.laid.LayoutError.{LayoutError}
 use Rattle.worker.specs.declared.laid.LayoutError.TheVariants as laying
 use Rattle.worker.specs.Values.{LayoutValue}
 use Rattle.worker.specs.Layout.{folders_among, AreFiles, IsLinkAt, AreGathered}
-use Rattle.worker.specs.Refusals.{IsContentFault, StopsLayout}
+use Rattle.worker.specs.Stopping.{IsContentFault}
+use Rattle.worker.specs.Refusals.{StopsLayout}
 
 -- whatever the entries that are left come to, all come to it behind what is there
 pub record GoesOn (B : Blobs) (all : FlatValue) (folders : List (List Name)) (files : List (List Name × List ℕ)) (left : FlatValue) : Type 0 where

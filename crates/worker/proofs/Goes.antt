@@ -1,26 +1,30 @@
 -- A build goes on.
-use Rattle.std.proofs.Common.{◌≡◌, ℕ, ◌<◌, ◌≤◌, List, [], ◌∷◌, ◌++◌, append_assoc, append-nil, length, length-append, set, Some, None, refl, ap, sym, ◌∙◌, subst, arith, inl, inr}
-use Rattle.std.specs.Prelude.{◌⊎◌, ◌↔◌, Result, Ok, Err, IsErr, OnOk, slice_get}
+use Rattle.std.proofs.Common.{◌≡◌, ℕ, ◌+◌, ◌<◌, ◌≤◌, true, List, [], ◌∷◌, ◌++◌, append_assoc, append-nil, length, length-append, set, Some, None, refl, ap, sym, ◌∙◌, subst, arith, inl, inr}
+use Rattle.std.specs.Prelude.{◌⊎◌, ◌↔◌, Result, Ok, Err, IsErr, IsSome, OnOk, slice_get}
+use Rattle.std.proofs.lemmas.List.{map-append}
 use Rattle.blob_digest.specs.Digest.{DigestValue}
 use Rattle.actions.specs.Outcome.{OutcomeValue}
 use Rattle.blob_source.specs.Source.{Blobs, Telling}
 use Rattle.blob_source.specs.Sink.{KeepsRight}
-use Rattle.runs.specs.Engine.{JobValue, EngineValue, job_in}
+use Rattle.runs.specs.Engine.{JobValue, EngineValue, finished_in, job_in}
 use Rattle.runs.specs.Calls.{IsStarted, without_job}
 use Rattle.runs.specs.declared.starting.Job.{Job}
 use Rattle.runs.proofs.Places.{some_none}
 use Rattle.verifier.proofs.FreshRuns.{one_answer}
 use Rattle.worker.specs.declared.child.Child.{Child}
 use Rattle.worker.specs.Layout.{IsLayoutOf}
-use Rattle.worker.specs.Values.{ProducedValue, StartValue, Starts, StartsOne, StartsAll, StartsNone}
-use Rattle.worker.specs.Stores.{IsKept, Stands, IsKeptBut}
-use Rattle.worker.specs.Outcomes.{Yields, YieldsNoMore, IsYielded, CanBeTaken, IsHeld, HasNoneToTake}
+use Rattle.worker.specs.Values.{EndValue, made, StartValue, Starts, StartsOne, StartsAll, StartsNone}
+use Rattle.worker.specs.Stored.{IsKept}
+use Rattle.worker.specs.Storing.{Stands, IsKeptBut}
+use Rattle.worker.specs.Outcomes.{Yields, YieldsNoMore, IsYielded}
 use Rattle.worker.specs.Calls.{running, Call, started, launched, ran, taken, lost, CameTo, HasChild, children_of, IsResultFor, HasChildsResult, WasStarted, FinishedByChild, Does, Leads, IsLed, PutsOf, TakesRecorded, IsBuiltWith}
-use Rattle.worker.specs.Going.{IsJobOf, AreJobsOf, IsOwnJob, IsGoing, HasChildFor, IsBegun, CameToNothing, IsLaunched, job_value, EndsWell, Ends}
+use Rattle.worker.specs.Going.{HasNoneToTake, IsJobOf, AreJobsOf, IsOwnJob, IsGoing, HasChildFor, IsBegun, CameToNothing, IsLaunched, job_value, EndsWell, Ends, GoesOnBy, jobs_with, one_if, taken_in}
+use Rattle.worker.specs.Watching.{taken_count, without_number, jobs_after}
 use Rattle.std.specs.List.{AllByRecursion}
-use Rattle.worker.proofs.Keeping.{kept_none, right_trans, right_still, all_right_still}
-use Rattle.worker.proofs.Telling.{layout_still, recorded_still, held_kept}
-use Rattle.worker.proofs.Jobs.{least_within, jobs_added, jobs_back, jobs_count, jobs_map}
+use Rattle.worker.proofs.Keeping.{kept_none, right_trans}
+use Rattle.worker.proofs.Telling.{layout_still, recorded_still, held_kept, end_still, yielded_still, owed_still, owed_ends}
+use Rattle.worker.proofs.Jobs.{least_within, jobs_added, jobs_back, jobs_count, jobs_map, first_goes, placed_goes}
+use Rattle.worker.proofs.Lefts.{finished_at, one_there}
 use Rattle.worker.proofs.Started.{job_of, after, least, job_is, one_more, was_started, started_value}
 
 -- ---- calls
@@ -30,7 +34,7 @@ record Moves (t u : Telling) (more : List Call) : Type 0 where
   blobs : KeepsRight t.blobs u.blobs
   puts : PutsOf more t u
 
-puts_none : (t u : Telling) (more : List Call) → IsKept t u → PutsOf more t u
+pub puts_none : (t u : Telling) (more : List Call) → IsKept t u → PutsOf more t u
 puts_none t u more k = record { put = []; are = k.puts ∙ sym (append-nil t.puts); each = tt; others = λ e b at. inl (k.results e b at) }
 
 moves_kept : (t u : Telling) (more : List Call) → IsKept t u → Moves t u more
@@ -82,23 +86,7 @@ module _ (A : Type 0) (y : Yields) (t u : Telling) (more : List Call) (m : Moves
   does_moved : (later : List Call) (c : Call) (old new : EngineValue) → Does A y t later c old new → Does A y u (later ++ more) c old new
   does_moved later (started i id) old new w = record { told = w.told; still = right_trans w.still m.blobs; job = w.job; number = w.number; is = w.is }
   does_moved later (launched id d x) old new w = record { job = w.job; is = w.is; action = w.action; laid = layout_still m.blobs w.laid; command = w.command; same = w.same }
-  does_moved later (ran id d v) old new w =
-      let k = w.yielded in
-      record {
-        finished = w.finished;
-        action = w.action;
-        yielded = record {
-          layout = k.layout;
-          laid = layout_still m.blobs k.laid;
-          command = k.command;
-          of_step = k.of_step;
-          produced = k.produced;
-          may = k.may;
-          outcome = k.outcome;
-          action = right_still m.blobs k.action;
-          blobs = all_right_still t.blobs u.blobs k.produced.blobs m.blobs k.blobs;
-        };
-      }
+  does_moved later (ran id d v) old new w = record { finished = w.finished; action = w.action; yielded = yielded_still old old (λ l c e h. h) m.blobs refl w.finished.job w.yielded }
   does_moved later (taken id d v) old new w = record {
     finished = w.finished;
     action = w.action;
@@ -159,7 +147,7 @@ puts_moved s t u cs more p m = record {
 pub puts_kept : {t u : Telling} → IsKept t u → PutsOf [] t u
 puts_kept {t} {u} k = puts_none t u [] k
 
-pub puts_ended : {J : Type 0} (may : J → ProducedValue → Type 0) (t u : Telling) (c : Child J) (now new : EngineValue) → Ends may t u c now new → (more : List Call) × PutsOf more t u
+pub puts_ended : {J : Type 0} (may : J → EndValue → Type 0) (t u : Telling) (c : Child J) (now new : EngineValue) → Ends may t u c now new → (more : List Call) × PutsOf more t u
 puts_ended may t u c now new (inl e) = (ran c.id c.action e.produced.outcome ∷ [], (moves_ran t u c.id c.action e.produced.outcome e.kept).puts)
 puts_ended may t u c now new (inr (l, k)) = ([], puts_none t u [] k)
 
@@ -189,7 +177,7 @@ child_either (lost id ∷ cs) more d x h = child_either cs more d x h
 all_starts : (xs ys : List StartValue) (from mid to : Starts) → StartsAll xs from mid → StartsAll ys mid to → StartsAll (xs ++ ys) from to
 all_starts xs ys from mid to f g before h = subst to (append_assoc before xs ys) (g (before ++ xs) (f before h))
 
-none_starts : (from to : Starts) → StartsNone from to → StartsAll [] from to
+pub none_starts : (from to : Starts) → StartsNone from to → StartsAll [] from to
 none_starts from to f before h = subst to (sym (append-nil before)) (f before h)
 
 -- the store had nothing to take for the children of these calls
@@ -207,7 +195,7 @@ takes_moved s t cs more keeps p old new d x child v held fits = by (child_either
         next (inl at) = absurd (new d x h v (record { bytes = held.bytes; held = at; result = held.result; reads = held.reads; recorded = recorded_still keeps held.result v held.recorded }) fits)
         next (inr was) = (was.outcome, came_more d was.outcome cs more was.came)
 
-built_moved : (A : Type 0) (y : Yields) (from mid to : Starts) (s t u : Telling) (more : List Call) → Moves t u more → StartsAll (children_of more) mid to → HadNone t more
+abbrev built_moved : (A : Type 0) (y : Yields) (from mid to : Starts) (s t u : Telling) (more : List Call) → Moves t u more → StartsAll (children_of more) mid to → HadNone t more
     → (most : ℕ) (old now new : EngineValue) → IsBuiltWith A y from mid s t most old now → Leads A y u most more now new → IsBuiltWith A y from to s u most old new
 built_moved A y from mid to s t u more m starts none most old now new h rest = record {
   built = record { led = led_moved A y t u more m most old now new h.built.led rest; puts = puts_moved s t u h.built.led.calls more h.built.puts m.puts };
@@ -216,31 +204,37 @@ built_moved A y from mid to s t u more m starts none most old now new h rest = r
   takes = takes_moved s t h.built.led.calls more h.blobs h.built.puts h.takes none;
 }
 
+-- ---- what is counted
+
+taken_join : (cs more : List Call) → taken_count (cs ++ more) ≡ taken_count cs + taken_count more
+taken_join [] more = omega arith
+taken_join (taken id d v ∷ cs) more = let rest = taken_join cs more in omega (arith, rest)
+taken_join (started i id ∷ cs) more = taken_join cs more
+taken_join (launched id d x ∷ cs) more = taken_join cs more
+taken_join (ran id d v ∷ cs) more = taken_join cs more
+taken_join (lost id ∷ cs) more = taken_join cs more
+
+jobs_join : (js : List (ℕ × ℕ)) (cs more : List Call) → jobs_after js (cs ++ more) ≡ jobs_after (jobs_after js cs) more
+jobs_join js [] more = refl
+jobs_join js (started i id ∷ cs) more = jobs_join (js ++ (id, i) ∷ []) cs more
+jobs_join js (launched id d x ∷ cs) more = jobs_join js cs more
+jobs_join js (ran id d v ∷ cs) more = jobs_join (without_number id js) cs more
+jobs_join js (taken id d v ∷ cs) more = jobs_join (without_number id js) cs more
+jobs_join js (lost id ∷ cs) more = jobs_join (without_number id js) cs more
+
 -- ---- what is owed
 
-owed_still : {J : Type 0} {y z : Yields} {may : J → ProducedValue → Type 0} {B C : Blobs} {old new : EngineValue} → YieldsNoMore y z → KeepsRight B C → new.commands ≡ old.commands
+own_still : {J : Type 0} {y z : Yields} {may : J → EndValue → Type 0} {B C : Blobs} {old new : EngineValue} → YieldsNoMore y z → KeepsRight B C → new.commands ≡ old.commands
     → (c : Child J) (j : JobValue) → IsOwnJob y may B old c j → IsOwnJob z may C new c j
-owed_still {J} {y} {z} {may} {B} {C} {old} {new} within keeps same c j h =
-    let k = h.owed in
-    record {
-      of_child = h.of_child;
-      owed = record {
-        layout = k.layout;
-        laid = layout_still keeps k.laid;
-        command = k.command;
-        of_step = ap (λ cs. slice_get cs j.step) same ∙ k.of_step;
-        may_come = λ p may_p. within k.layout k.command p (k.may_come p may_p);
-        action = right_still keeps k.action;
-      };
-    }
+own_still {J} {y} {z} {may} {B} {C} {old} {new} within keeps same c j h = record { of_child = h.of_child; owed = owed_still old new within keeps same j h.owed }
 
 -- ---- going on
 
-module _ (A J : Type 0) (y : Yields) (may : J → ProducedValue → Type 0) (from : Starts) (s : Telling) (most : ℕ) (old : EngineValue) where
+module _ (A J : Type 0) (y : Yields) (may : J → EndValue → Type 0) (from : Starts) (s : Telling) (most : ℕ) (old : EngineValue) where
   abbrev Goes : Starts → Telling → EngineValue → List (Child J) → Type 0
   Goes to t now cs = IsGoing A y may from to s t most old now cs
 
-  pub going_none : running old.jobs ≡ 0 → Goes from s old []
+  abbrev pub going_none : running old.jobs ≡ 0 → Goes from s old []
   going_none idle = record {
     led = record {
       built = record { led = record { calls = []; leads = refl }; puts = puts_none s s [] kept_none };
@@ -249,17 +243,25 @@ module _ (A J : Type 0) (y : Yields) (may : J → ProducedValue → Type 0) (fro
       takes = λ d x child v held fits. absurd child;
     };
     jobs = idle;
+    order = refl;
     few = omega arith;
   }
 
+  abbrev On : Starts → Telling → EngineValue → List (Child J) → List Call → ℕ → Type 0
+  On to t now cs calls n = GoesOnBy A y may from to s t most old now cs calls n
+
   module _ (a b : Starts) where
     -- only the store was called
-    pub going_kept : (t u : Telling) (now new : EngineValue) (cs : List (Child J)) → IsKept t u → StartsNone a b → new ≡ now → Goes a t now cs → Goes b u new cs
-    going_kept t u now new cs k quiet same g = subst (λ e. Goes b u e cs) (sym same) (record {
-      led = built_moved A y from a b s t u [] (moves_kept t u [] k) (none_starts a b quiet) (λ d x child. absurd child) most old now now g.led refl;
-      jobs = jobs_map (IsOwnJob y may t.blobs now) (IsOwnJob y may u.blobs now) (owed_still (λ l c p h. h) k.blobs refl) cs now.jobs g.jobs;
-      few = g.few;
-    })
+    going_kept : (t u : Telling) (now : EngineValue) (cs : List (Child J)) → IsKept t u → StartsNone a b → (g : Goes a t now cs) → On b u now cs g.led.built.led.calls 0
+    going_kept t u now cs k quiet g =
+        let calls = g.led.built.led.calls in
+        let going : Goes b u now cs = record {
+          led = built_moved A y from a b s t u [] (moves_kept t u [] k) (none_starts a b quiet) (λ d x child. absurd child) most old now now g.led refl;
+          jobs = jobs_map (IsOwnJob y may t.blobs now) (IsOwnJob y may u.blobs now) (own_still (λ l c p h. h) k.blobs refl) cs now.jobs g.jobs;
+          order = jobs_join [] calls [] ∙ g.order;
+          few = g.few;
+        } in
+        record { going = going; taken = taken_join calls [] }
 
     pub led_kept : (t u : Telling) (now : EngineValue) (cs : List (Child J)) → IsKept t u → Goes a t now cs → IsLed A y u most old now
     led_kept t u now cs k g = led_moved A y t u [] (moves_kept t u [] k) most old now now g.led.built.led refl
@@ -269,46 +271,44 @@ module _ (A J : Type 0) (y : Yields) (may : J → ProducedValue → Type 0) (fro
       fewer : length cs ≤ most
       fewer = let few = g.few in omega (arith, few)
 
-      gone : (more : List Call) → Moves t u more → StartsAll (children_of more) a b → HadNone t more → new.jobs ≡ set now.jobs c.id None → new.commands ≡ now.commands → (running new.jobs ≤ most → Leads A y u most more now new) → Goes b u new cs
-      gone more m starts none jobs commands leads =
+      gone : (more : List Call) → Moves t u more → StartsAll (children_of more) a b → HadNone t more → ((js : List (ℕ × ℕ)) → jobs_after js more ≡ without_number c.id js)
+          → new.jobs ≡ set now.jobs c.id None → new.commands ≡ now.commands → (running new.jobs ≤ most → Leads A y u most more now new) → On b u new cs g.led.built.led.calls (taken_count more)
+      gone more m starts none ends jobs commands leads =
+          let calls = g.led.built.led.calls in
           let rest : AreJobsOf (IsOwnJob y may t.blobs now) (set now.jobs c.id None) cs = g.jobs.3 in
           let count = jobs_count (IsOwnJob y may t.blobs now) cs (set now.jobs c.id None) rest in
           let le = fewer in
           let few : running (set now.jobs c.id None) ≤ most = omega (arith, count, le) in
-          record {
+          let going : Goes b u new cs = record {
             led = built_moved A y from a b s t u more m starts none most old now new g.led (leads (subst (λ js. running js ≤ most) (sym jobs) few));
             jobs = subst (λ js. AreJobsOf (IsOwnJob y may u.blobs new) js cs) (sym jobs)
-                (jobs_map (IsOwnJob y may t.blobs now) (IsOwnJob y may u.blobs new) (owed_still (λ l d p h. h) m.blobs commands) cs (set now.jobs c.id None) rest);
+                (jobs_map (IsOwnJob y may t.blobs now) (IsOwnJob y may u.blobs new) (own_still (λ l d p h. h) m.blobs commands) cs (set now.jobs c.id None) rest);
+            order = jobs_join [] calls more ∙ ap (λ js. jobs_after js more) g.order ∙ ends (jobs_with (c ∷ cs)) ∙ first_goes (IsOwnJob y may t.blobs now) c cs now.jobs g.jobs;
             few = fewer;
-          }
+          } in
+          record { going = going; taken = taken_join calls more }
 
       ran_child : (e : EndsWell may t u c now new) → FinishedByChild y u c.id c.action e.produced.outcome now new
       ran_child e =
           let same : e.finished.job ≡ g.jobs.0 = one_answer (job_in c.id now) e.finished.job g.jobs.0 e.finished.is g.jobs.1 in
-          let k = g.jobs.2.owed in
           record {
             finished = e.finished;
             action = ap (λ (j : JobValue). j.action) same ∙ g.jobs.2.of_child.action;
             yielded = subst (λ j. IsYielded y u.blobs now j e.produced.outcome) (sym same) (record {
-              layout = k.layout;
-              laid = layout_still e.kept.blobs k.laid;
-              command = k.command;
-              of_step = k.of_step;
               produced = e.produced;
-              may = k.may_come e.produced e.came;
               outcome = refl;
-              action = right_still e.kept.blobs k.action;
+              may = end_still now now (λ l d x h. h) e.kept.blobs refl g.jobs.0 (made e.produced) (owed_ends g.jobs.2.owed (made e.produced) e.came);
               blobs = e.blobs;
             });
           }
 
-      pub going_ended : Ends may t u c now new → Goes b u new cs
+      pub going_ended : Ends may t u c now new → On b u new cs g.led.built.led.calls 0
       going_ended (inl e) = gone (ran c.id c.action e.produced.outcome ∷ []) (moves_ran t u c.id c.action e.produced.outcome e.kept)
-          (none_starts a b quiet) (λ d x child. absurd child)
+          (none_starts a b quiet) (λ d x child. absurd child) (λ js. refl)
           (ap (λ (e : EngineValue). e.jobs) e.finished.after) (ap (λ (e : EngineValue). e.commands) e.finished.after)
           (λ few. (new, ran_child e, few, refl))
       going_ended (inr ((j, at, after), k)) = gone (lost c.id ∷ []) (moves_kept t u (lost c.id ∷ []) k)
-          (none_starts a b quiet) (λ d x child. absurd child)
+          (none_starts a b quiet) (λ d x child. absurd child) (λ js. refl)
           (ap (λ (e : EngineValue). e.jobs) after) (ap (λ (e : EngineValue). e.commands) after)
           (λ few. (new, (j, at, after), few, refl))
 
@@ -321,44 +321,67 @@ module _ (A J : Type 0) (y : Yields) (may : J → ProducedValue → Type 0) (fro
       commands_mid = ap (λ (e : EngineValue). e.commands) (after w)
 
       there : AreJobsOf (IsOwnJob y may u.blobs mid) now.jobs cs
-      there = jobs_map (IsOwnJob y may t.blobs now) (IsOwnJob y may u.blobs mid) (owed_still (λ l c p h. h) k.blobs commands_mid) cs now.jobs g.jobs
+      there = jobs_map (IsOwnJob y may t.blobs now) (IsOwnJob y may u.blobs mid) (own_still (λ l c p h. h) k.blobs commands_mid) cs now.jobs g.jobs
 
       pub led_started : IsLed A y u most old mid
       led_started = led_moved A y t u (started i id ∷ []) (moves_kept t u (started i id ∷ []) k) most old now mid g.led.built.led (mid, w, few_mid, refl)
 
-      pub going_started : (c : Child J) → c.id ≡ id → IsOwnJob y may u.blobs mid c (job_of w) → (x : StartValue) → IsLayoutOf u.blobs (job_of w).input x.layout → slice_get mid.commands i ≡ Some x.command
-          → StartsOne a b x → HasNoneToTake t (job_of w).action x.command → Goes b u mid (cs ++ c ∷ [])
-      going_started c same is x laid command starts none = record {
-        led = built_moved A y from a b s t u (started i id ∷ launched id (job_of w).action x ∷ []) (moves_kept t u (started i id ∷ launched id (job_of w).action x ∷ []) k) starts had
-            most old now mid g.led (mid, w, few_mid, (mid, record { job = job_of w; is = job_is w; action = refl; laid = laid; command = command; same = refl }, few_mid, refl));
-        jobs = subst (λ js. AreJobsOf (IsOwnJob y may u.blobs mid) js (cs ++ c ∷ [])) (sym (ap (λ (e : EngineValue). e.jobs) (after w)))
-            (jobs_added (IsOwnJob y may u.blobs mid) cs now.jobs id c (job_of w) (least_within now.jobs id (least w)) (least w).free same is there);
-        few = let n = length-append cs (c ∷ []) in omega (arith, n, room);
-      }
+      going_started : (c : Child J) → c.id ≡ id → IsOwnJob y may u.blobs mid c (job_of w) → (x : StartValue) → IsLayoutOf u.blobs (job_of w).input x.layout → slice_get mid.commands i ≡ Some x.command
+          → StartsOne a b x → HasNoneToTake t (job_of w).action x.command → On b u mid (cs ++ c ∷ []) g.led.built.led.calls 0
+      going_started c same is x laid command starts none =
+          let calls = g.led.built.led.calls in
+          let more : List Call = started i id ∷ launched id (job_of w).action x ∷ [] in
+          let going : Goes b u mid (cs ++ c ∷ []) = record {
+            led = built_moved A y from a b s t u more (moves_kept t u more k) starts had
+                most old now mid g.led (mid, w, few_mid, (mid, record { job = job_of w; is = job_is w; action = refl; laid = laid; command = command; same = refl }, few_mid, refl));
+            jobs = subst (λ js. AreJobsOf (IsOwnJob y may u.blobs mid) js (cs ++ c ∷ [])) (sym (ap (λ (e : EngineValue). e.jobs) (after w)))
+                (jobs_added (IsOwnJob y may u.blobs mid) cs now.jobs id c (job_of w) (least_within now.jobs id (least w)) (least w).free same is there);
+            order = jobs_join [] calls more ∙ ap (λ js. js ++ (id, i) ∷ []) g.order ∙ ap (λ (j : ℕ × ℕ). jobs_with cs ++ j ∷ []) pair ∙ sym (map-append (λ (c : Child J). (c.id, c.step)) cs (c ∷ []));
+            few = let n = length-append cs (c ∷ []) in omega (arith, n, room);
+          } in
+          record { going = going; taken = taken_join calls more }
         where
+          pair : ◌≡◌ {A = ℕ × ℕ} (id, i) (c.id, c.step)
+          pair = let number = same in let step = is.of_child.step in cc
+
           had : (d : DigestValue) (z : StartValue) → HasChild (started i id ∷ launched id (job_of w).action x ∷ []) d z → HasNoneToTake t d z.command
           had d z (inl (of_action, of_child)) = subst (λ e. HasNoneToTake t e z.command) (sym of_action) (subst (λ (r : StartValue). HasNoneToTake t (job_of w).action r.command) (sym of_child) none)
           had d z (inr h) = absurd h
 
       -- its job is gone again: nothing runs that didn't run before
-      pub going_back : (new : EngineValue) (call : Call) → StartsAll (children_of (call ∷ [])) a b → HadNone t (call ∷ []) → new.jobs ≡ set mid.jobs id None → new.commands ≡ mid.commands → Does A y u [] call mid new → Goes b u new cs
-      going_back new call starts none jobs commands does =
+      going_back : (new : EngineValue) (call : Call) → StartsAll (children_of (call ∷ [])) a b → HadNone t (call ∷ []) → ((js : List (ℕ × ℕ)) → jobs_after js (call ∷ []) ≡ without_number id js)
+          → new.jobs ≡ set mid.jobs id None → new.commands ≡ mid.commands → Does A y u [] call mid new → (n : ℕ) → taken_count (call ∷ []) ≡ n → On b u new cs g.led.built.led.calls n
+      going_back new call starts none ends jobs commands does n counted =
+          let calls = g.led.built.led.calls in
+          let more : List Call = started i id ∷ call ∷ [] in
           let back : AreJobsOf (IsOwnJob y may u.blobs mid) (set mid.jobs id None) cs
           = subst (λ js. AreJobsOf (IsOwnJob y may u.blobs mid) (set js id None) cs) (sym (ap (λ (e : EngineValue). e.jobs) (after w)))
           (jobs_back (IsOwnJob y may u.blobs mid) cs now.jobs id (job_of w) (least_within now.jobs id (least w)) (least w).free there) in
           let count = jobs_count (IsOwnJob y may u.blobs mid) cs (set mid.jobs id None) back in
           let few = g.few in
           let few_new : running new.jobs ≤ most = subst (λ js. running js ≤ most) (sym jobs) (omega (arith, count, few)) in
-          record {
-            led = built_moved A y from a b s t u (started i id ∷ call ∷ []) (moves_kept t u (started i id ∷ call ∷ []) k) starts none most old now new g.led (mid, w, few_mid, (new, does, few_new, refl));
+          let going : Goes b u new cs = record {
+            led = built_moved A y from a b s t u more (moves_kept t u more k) starts none most old now new g.led (mid, w, few_mid, (new, does, few_new, refl));
             jobs = subst (λ js. AreJobsOf (IsOwnJob y may u.blobs new) js cs) (sym jobs)
-                (jobs_map (IsOwnJob y may u.blobs mid) (IsOwnJob y may u.blobs new) (owed_still (λ l c p h. h) (λ e b at right. at) commands) cs (set mid.jobs id None) back);
+                (jobs_map (IsOwnJob y may u.blobs mid) (IsOwnJob y may u.blobs new) (own_still (λ l c p h. h) (λ e b at right. at) commands) cs (set mid.jobs id None) back);
+            order = jobs_join [] calls more ∙ ap (λ js. jobs_after (js ++ (id, i) ∷ []) (call ∷ [])) g.order ∙ ends (jobs_with cs ++ (id, i) ∷ []) ∙ placed_goes (IsOwnJob y may u.blobs mid) cs now.jobs id i (least w).free there;
             few = g.few;
-          }
+          } in
+          record { going = going; taken = taken_join calls more ∙ ap (λ m. taken_count calls + m) counted }
 
-    module _ (z : Yields) (within : YieldsNoMore z y) where
-      pub going_begun : (t u : Telling) (now new : EngineValue) (i : ℕ) (cs ds : List (Child J)) → IsKept t u → Goes a t now cs → length cs < most → IsBegun A z may a b t u i now new cs ds → Goes b u new ds
-      going_begun t u now new i cs ds k g room begun = by begun.goes
+    -- a step that hasn't finished is started
+    module _ (t u : Telling) (now new : EngineValue) (i : ℕ) (cs : List (Child J)) (k : IsKept t u) (g : Goes a t now cs) (room : length cs < most) (unfinished : finished_in i now ≡ None) where
+      none_in : finished_in i new ≡ None → taken_in true i now new ≡ 0
+      none_in none = let before = ap one_if unfinished in let behind = ap one_if none in omega (arith, before, behind)
+
+      mid_none : (id : ℕ) (mid : EngineValue) → WasStarted A u.blobs i id now mid → finished_in i mid ≡ None
+      mid_none id mid w = ap (λ (e : EngineValue). finished_in i e) (after w) ∙ unfinished
+
+      one_in : IsSome (finished_in i new) → taken_in true i now new ≡ 1
+      one_in some = let before = ap one_if unfinished in let behind = one_there (finished_in i new) some in omega (arith, before, behind)
+
+      pub going_begun : (z : Yields) → YieldsNoMore z y → (ds : List (Child J)) → i < length now.finished → IsBegun A z may a b t u i now new cs ds → On b u new ds g.led.built.led.calls (taken_in true i now new)
+      going_begun z within ds lt begun = by begun.goes
         where
           w : WasStarted A u.blobs i begun.id now begun.mid
           w = begun.started
@@ -366,17 +389,19 @@ module _ (A J : Type 0) (y : Yields) (may : J → ProducedValue → Type 0) (fro
           one : begun.job ≡ job_of w
           one = one_answer (job_in begun.id begun.mid) begun.job (job_of w) begun.is (job_is w)
 
-          by : IsLaunched z may a b t u begun.id begun.job begun.mid new cs ds → Goes b u new ds
+          by : IsLaunched z may a b t u begun.id begun.job begun.mid new cs ds → On b u new ds g.led.built.led.calls (taken_in true i now new)
           by (inl (c, id, child, same, grown)) =
               let own : HasChildFor z may a b t u begun.mid (job_of w) c = subst (λ j. HasChildFor z may a b t u begun.mid j c) one child in
-              subst (λ (e : EngineValue). Goes b u e ds) (sym same)
-              (subst (Goes b u begun.mid) (sym grown) (going_started t u now begun.mid cs i begun.id k g room w c id
-              (owed_still within (λ e b at right. at) refl c (job_of w) own.own)
-              (record { layout = own.own.owed.layout; command = own.own.owed.command }) own.own.owed.laid own.own.owed.of_step own.started own.none))
+              subst (On b u new ds g.led.built.led.calls) (sym (none_in (ap (λ (e : EngineValue). finished_in i e) same ∙ mid_none begun.id begun.mid w)))
+              (subst (λ (e : EngineValue). On b u e ds g.led.built.led.calls 0) (sym same)
+              (subst (λ xs. On b u begun.mid xs g.led.built.led.calls 0) (sym grown) (going_started t u now begun.mid cs i begun.id k g room w c id
+              (own_still within (λ e b at right. at) refl c (job_of w) own.own)
+              (record { layout = own.own.owed.layout; command = own.own.owed.command }) own.own.owed.laid own.own.owed.of_step own.started own.none)))
           by (inr (v, f, held, same, quiet)) =
               let of_job : f.job ≡ begun.job = one_answer (job_in begun.id begun.mid) f.job begun.job f.is begun.is in
-              subst (Goes b u new) (sym same) (going_back t u now begun.mid cs i begun.id k g room w new (taken begun.id begun.job.action v)
-              (none_starts a b quiet) (λ d x child. absurd child)
+              let within_mid : i < length begun.mid.finished = subst (λ (e : EngineValue). i < length e.finished) (sym (after w)) lt in
+              subst (λ xs. On b u new xs g.led.built.led.calls (taken_in true i now new)) (sym same) (going_back t u now begun.mid cs i begun.id k g room w new (taken begun.id begun.job.action v)
+              (none_starts a b quiet) (λ d x child. absurd child) (λ js. refl)
               (ap (λ (e : EngineValue). e.jobs) f.after) (ap (λ (e : EngineValue). e.commands) f.after)
               (record {
                 finished = f;
@@ -386,20 +411,23 @@ module _ (A J : Type 0) (y : Yields) (may : J → ProducedValue → Type 0) (fro
                 result = held.held.result;
                 reads = held.held.reads;
                 recorded = held.held.recorded;
-              }))
+              }) (taken_in true i now new) (sym (one_in (finished_at begun.mid new begun.id i v (job_of w) within_mid f (job_is w) refl))))
 
-    pub going_refused : (t u : Telling) (now new : EngineValue) (i : ℕ) (cs : List (Child J)) → IsKept t u → StartsNone a b → Goes a t now cs → length cs < most → CameToNothing A u.blobs i now new → Goes b u new cs
-    going_refused t u now new i cs k quiet g room (inl same) = going_kept t u now new cs k quiet same g
-    going_refused t u now new i cs k quiet g room (inr (id, mid, w, gone)) =
-        going_back t u now mid cs i id k g room w new (lost id) (none_starts a b quiet) (λ d x child. absurd child) (ap (λ (e : EngineValue). e.jobs) gone) (ap (λ (e : EngineValue). e.commands) gone) (job_of w, job_is w, gone)
+      pub going_refused : StartsNone a b → CameToNothing A u.blobs i now new → On b u new cs g.led.built.led.calls (taken_in true i now new)
+      going_refused quiet (inl same) =
+          subst (On b u new cs g.led.built.led.calls) (sym (none_in (ap (λ (e : EngineValue). finished_in i e) same ∙ unfinished)))
+          (subst (λ (e : EngineValue). On b u e cs g.led.built.led.calls 0) (sym same) (going_kept t u now cs k quiet g))
+      going_refused quiet (inr (id, mid, w, gone)) =
+          going_back t u now mid cs i id k g room w new (lost id) (none_starts a b quiet) (λ d x child. absurd child) (λ js. refl) (ap (λ (e : EngineValue). e.jobs) gone) (ap (λ (e : EngineValue). e.commands) gone) (job_of w, job_is w, gone)
+          (taken_in true i now new) (sym (none_in (ap (λ (e : EngineValue). finished_in i e) gone ∙ mid_none id mid w)))
 
 -- the children's jobs
-pub own_jobs : {J : Type 0} (A : Type 0) (y : Yields) (may : J → ProducedValue → Type 0) (from to : Starts) (s t : Telling) (most : ℕ) (old now : EngineValue) (cs : List (Child J)) → IsGoing A y may from to s t most old now cs → AreJobsOf IsJobOf now.jobs cs
+pub own_jobs : {J : Type 0} (A : Type 0) (y : Yields) (may : J → EndValue → Type 0) (from to : Starts) (s t : Telling) (most : ℕ) (old now : EngineValue) (cs : List (Child J)) → IsGoing A y may from to s t most old now cs → AreJobsOf IsJobOf now.jobs cs
 own_jobs A y may from to s t most old now cs g = jobs_map (IsOwnJob y may t.blobs now) IsJobOf (λ c j h. h.of_child) cs now.jobs g.jobs
 
 -- ---- a step that is started, or refused
 
-pub begun : {A J : Type 0} {y : Yields} {may : J → ProducedValue → Type 0} {from to : Starts} {B : Blobs} {s t : Telling} (u : Telling) {i : ℕ} {old mid new : EngineValue} {job : Job A} {before behind : List (Child J)} → IsStarted B i old mid job → KeepsRight B u.blobs → IsKept s t
+pub begun : {A J : Type 0} {y : Yields} {may : J → EndValue → Type 0} {from to : Starts} {B : Blobs} {s t : Telling} (u : Telling) {i : ℕ} {old mid new : EngineValue} {job : Job A} {before behind : List (Child J)} → IsStarted B i old mid job → KeepsRight B u.blobs → IsKept s t
     → IsLaunched y may from to t u job.id (job_value job) mid new before behind → IsBegun A y may from to s u i old new before behind
 begun {A} {J} {y} {may} {from} {to} {B} {s} {t} u {i} {old} {mid} {new} {job} {before} {behind} is keeps kept went = record {
   id = job.id;

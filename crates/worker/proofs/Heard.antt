@@ -1,5 +1,5 @@
 -- What a watcher is told.
-use Rattle.std.proofs.Common.{ℕ, List, [], ◌∷◌, ◌++◌, append_assoc, append-nil, Option, Some, None, refl, ap, sym, ◌∙◌, inl, inr}
+use Rattle.std.proofs.Common.{◌≡◌, ℕ, List, [], ◌∷◌, ◌++◌, append_assoc, append-nil, Option, Some, None, refl, ap, sym, ◌∙◌, inl, inr}
 use Rattle.std.specs.List.{AllByRecursion}
 use Rattle.blob_source.specs.Sink.{KeepsRight}
 use Rattle.blob_source.specs.Source.{Telling}
@@ -7,7 +7,7 @@ use Rattle.runs.specs.Engine.{EngineValue}
 use Rattle.worker.specs.declared.watching.Progress.{Progress}
 use Rattle.worker.specs.Calls.{Call, PutsOf}
 use Rattle.worker.specs.Outcomes.{Yields}
-use Rattle.worker.specs.Watching.{Hears, IsWatched, IsProgress, IsProgressOf, IsUpToDate}
+use Rattle.worker.specs.Watching.{Hears, IsWatched, IsToldLast, IsProgress, IsUpToDate}
 use Rattle.worker.proofs.Goes.{puts_moved}
 use Rattle.worker.proofs.Keeping.{right_trans}
 
@@ -32,15 +32,23 @@ module _ {Is : Progress → Type 0} where
   pub watched_more : {a b c : Option (List Progress)} (p : Progress) → IsWatched Is a b → Hears b c (p ∷ []) → Is p → IsWatched Is a c
   watched_more {a} {b} {c} p w heard is = record { told = w.told ++ p ∷ []; heard = hears_more a b c w.told (p ∷ []) w.heard heard; each = all_more Is w.told p w.each is }
 
-pub up_none : (e : EngineValue) (a : Option (List Progress)) → IsUpToDate e e a a
-up_none e None = tt
-up_none e (Some ps) = inl (refl, refl)
+-- what was told last
+module _ (A : Type 0) (y : Yields) (t : Telling) (most : ℕ) (first : EngineValue) where
+  pub up_none : (a : Option (List Progress)) → IsUpToDate A y t most first first a a
+  up_none None = tt
+  up_none (Some ps) = inl (refl, refl)
 
-pub up_more : {Is : Progress → Type 0} (first now : EngineValue) (a b c : Option (List Progress)) (p : Progress) → IsWatched Is a b → Hears b c (p ∷ []) → IsProgressOf now p → IsUpToDate first now a c
-up_more first now None b c p w heard is = tt
-up_more first now (Some xs) None c p w heard is = absurd w.heard
-up_more first now (Some xs) (Some ys) None p w heard is = absurd heard
-up_more first now (Some xs) (Some ys) (Some zs) p w heard is = inr (ys, p, heard, is)
+  pub up_more : {So : Progress → Type 0} (now : EngineValue) (a b c : Option (List Progress)) (p : Progress) → IsWatched So a b → Hears b c (p ∷ []) → (q : IsProgress A y t most first p) → q.now ≡ now → IsUpToDate A y t most first now a c
+  up_more now None b c p w heard q is = tt
+  up_more now (Some xs) None c p w heard q is = absurd w.heard
+  up_more now (Some xs) (Some ys) None p w heard q is = absurd heard
+  up_more now (Some xs) (Some ys) (Some zs) p w heard q is = inr (ys, p, heard, (q, is))
+
+pub last_so : (Is So : Progress → Type 0) (none never : Type 0) → ((p : Progress) → Is p → So p) → (none → never) → (a b : Option (List Progress)) → IsToldLast Is none a b → IsToldLast So never a b
+last_so Is So none never follows f None b h = tt
+last_so Is So none never follows f (Some xs) None h = absurd h
+last_so Is So none never follows f (Some xs) (Some ys) (inl (same, was)) = inl (same, f was)
+last_so Is So none never follows f (Some xs) (Some ys) (inr (ps, p, told, is)) = inr (ps, p, told, follows p is)
 
 -- ---- as more is put
 

@@ -1,11 +1,15 @@
 -- The jobs of an engine and the children that run.
-use Rattle.std.proofs.Common.{◌≡◌, ◌≢◌, ℕ, zero, suc, ◌<◌, ◌≤◌, List, [], ◌∷◌, ◌++◌, length, set, Option, Some, None, refl, ap, sym, ◌∙◌, subst, arith}
+use Rattle.std.proofs.Common.{◌≡◌, ◌≢◌, ℕ, zero, suc, ◌<◌, ◌≤◌, true, false, cond, List, [], ◌∷◌, ◌++◌, length, set, Option, Some, None, refl, ap, sym, ◌∙◌, subst, arith, inl, inr}
+use Rattle.std.specs.Prelude.{◌⊎◌, ◌==◌, not}
+use Rattle.std.specs.List.{AllByRecursion}
+use Rattle.std.proofs.lemmas.Bool.Decides.{eqb_tells, Decides-eqb}
 use Rattle.runs.specs.Engine.{JobValue, at_number}
 use Rattle.runs.specs.Calls.{IsLeastIn, placed}
-use Rattle.runs.proofs.Places.{taken_within, set_other, some_none}
+use Rattle.runs.proofs.Places.{taken_within, set_same, set_other, some_none}
 use Rattle.worker.specs.declared.child.Child.{Child}
 use Rattle.worker.specs.Calls.{running}
-use Rattle.worker.specs.Going.{AreJobsOf}
+use Rattle.worker.specs.Going.{AreJobsOf, jobs_with}
+use Rattle.worker.specs.Watching.{without_number}
 
 pub least_within : (js : List (Option JobValue)) (w : ℕ) → IsLeastIn js w → w ≤ length js
 least_within js zero k = omega arith
@@ -112,3 +116,44 @@ module _ {J : Type 0} (Is : Child J → JobValue → Type 0) where
 pub jobs_map : {J : Type 0} (Is So : Child J → JobValue → Type 0) → ((c : Child J) (j : JobValue) → Is c j → So c j) → (cs : List (Child J)) (js : List (Option JobValue)) → AreJobsOf Is js cs → AreJobsOf So js cs
 jobs_map Is So follows [] js none = none
 jobs_map Is So follows (c ∷ cs) js (j, at, of_c, rest) = (j, at, follows c j of_c, jobs_map Is So follows cs (set js c.id None) rest)
+
+-- ---- the order of their starts
+
+abbrev AreOthers : ℕ → List (ℕ × ℕ) → Type 0
+AreOthers w js = AllByRecursion (λ (j : ℕ × ℕ). j.0 ≢ w) js
+
+eq_other : (v w : ℕ) → v ≢ w → not (v == w) ≡ true
+eq_other v w other = by (eqb_tells v w)
+  where
+    by : (((v == w) ≡ true) × (v ≡ w)) ⊎ (((v == w) ≡ false) × (v ≢ w)) → not (v == w) ≡ true
+    by (inl h) = absurd (other h.1)
+    by (inr h) = ap not h.0
+
+eq_same : (w : ℕ) → not (w == w) ≡ false
+eq_same w = ap not ((Decides-eqb w w).1 refl)
+
+others_stay : (w : ℕ) (js : List (ℕ × ℕ)) → AreOthers w js → without_number w js ≡ js
+others_stay w [] h = refl
+others_stay w (j ∷ js) h = ap (λ b. cond b (j ∷ without_number w js) (without_number w js)) (eq_other j.0 w h.0) ∙ ap (λ ks. j ∷ ks) (others_stay w js h.1)
+
+own_goes : (w i : ℕ) (js : List (ℕ × ℕ)) → without_number w ((w, i) ∷ js) ≡ without_number w js
+own_goes w i js = ap (λ b. cond b ((w, i) ∷ without_number w js) (without_number w js)) (eq_same w)
+
+last_goes : (w i : ℕ) (js : List (ℕ × ℕ)) → AreOthers w js → without_number w (js ++ (w, i) ∷ []) ≡ js
+last_goes w i [] h = own_goes w i []
+last_goes w i (j ∷ js) h = ap (λ b. cond b (j ∷ without_number w (js ++ (w, i) ∷ [])) (without_number w (js ++ (w, i) ∷ []))) (eq_other j.0 w h.0) ∙ ap (λ ks. j ∷ ks) (last_goes w i js h.1)
+
+others_of : {J : Type 0} (Is : Child J → JobValue → Type 0) (cs : List (Child J)) (js : List (Option JobValue)) (w : ℕ) → at_number js w ≡ None → AreJobsOf Is js cs → AreOthers w (jobs_with cs)
+others_of Is [] js w free h = tt
+others_of Is (d ∷ cs) js w free (k, at, of_d, rest) =
+    let other : d.id ≢ w = λ e. some_none (at_number js w) k (subst (λ n. at_number js n ≡ Some k) e at) free in
+    (other, others_of Is cs (set js d.id None) w (set_other js d.id w None (λ e. other (sym e)) ∙ free) rest)
+
+-- the first child's job is taken away
+pub first_goes : {J : Type 0} (Is : Child J → JobValue → Type 0) (c : Child J) (cs : List (Child J)) (js : List (Option JobValue)) → AreJobsOf Is js (c ∷ cs) → without_number c.id (jobs_with (c ∷ cs)) ≡ jobs_with cs
+first_goes Is c cs js (j, at, of_c, rest) =
+    own_goes c.id c.step (jobs_with cs) ∙ others_stay c.id (jobs_with cs) (others_of Is cs (set js c.id None) c.id (set_same js c.id None (taken_within js c.id j at)) rest)
+
+-- a job is placed and taken away again
+pub placed_goes : {J : Type 0} (Is : Child J → JobValue → Type 0) (cs : List (Child J)) (js : List (Option JobValue)) (w i : ℕ) → at_number js w ≡ None → AreJobsOf Is js cs → without_number w (jobs_with cs ++ (w, i) ∷ []) ≡ jobs_with cs
+placed_goes Is cs js w i free h = last_goes w i (jobs_with cs) (others_of Is cs js w free h)

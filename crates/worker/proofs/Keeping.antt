@@ -13,7 +13,8 @@ use Rattle.blob_source.specs.declared.source.FetchError.{FetchError}
 use Rattle.blob_source.specs.declared.source.FetchError.TheVariants as fetching
 use Rattle.worker.specs.Refusals.{of_fetch}
 use Rattle.worker.specs.Stopped.{IsStoreFault}
-use Rattle.worker.specs.Stores.{IsKept, Stands, IsKeptBut}
+use Rattle.worker.specs.Stored.{IsKept}
+use Rattle.worker.specs.Storing.{Stands, IsKeptBut}
 use Rattle.worker.specs.Outcomes.{HasAllRight}
 
 grown_same : (B C : Blobs) → C ≡ B → Grows B C

@@ -5,7 +5,7 @@ use Rattle.messages.specs.declared.node.Node.TheVariants.{File, Link, Dir}
 use Rattle.messages.specs.Node.{child}
 use Rattle.blob_source.specs.Source.{Blobs, Telling, IsUnder}
 use Rattle.blob_source.specs.Sink.{KeepsRight}
-use Rattle.plan.specs.Values.{OriginValue, source, output}
+use Rattle.plan.specs.Values.{OriginValue, source, output, LineValue}
 use Rattle.tree.specs.Tree.{Name}
 use Rattle.tree.specs.Form.{NodeValue}
 use Rattle.tree.specs.LooksAt.{OnWayFrom}
@@ -14,10 +14,11 @@ use Rattle.tree.specs.Tree.{Entry}
 use Rattle.tree.specs.Stage.{Stage}
 use Rattle.tree.specs.Merging.{WithinValue, in_source, in_tree, NodeWithin, MergeLines, grouped, counted, line_opened, opened, lone, entry_merged, merged_in}
 use Rattle.tree.specs.MergeLooks.{looks, NodeLooksAt, LineLooksAt, OpenedLooksAt, StandsOrLooksAt, EachLooksAt, MetLooksAt, MergeLooksIn, MergeLooksAt}
-use Rattle.verifier.specs.LooksAt.{OriginLooksAt}
+use Rattle.verifier.specs.Together.{Earlier, OriginLooksAt, LinesLookAt, TogetherLooksAt}
 use Rattle.runs.specs.Engine.{EngineValue}
+use Rattle.runs.specs.Looking.{outcomes_in}
 use Rattle.runs.specs.LooksAt.{StartNeeds}
-use Rattle.worker.specs.Stores.{KnowsBlobs}
+use Rattle.worker.specs.Storing.{KnowsBlobs}
 
 never : {o : Option (List ℕ)} {b : List ℕ} → o ≡ None → o ≡ Some b → ⊥
 never e f = cc
@@ -94,9 +95,18 @@ merging_of_blobs : (B : Blobs) (ls : MergeLines) (d : DigestValue) → MergeLook
 unfolding MergeLooksAt
 merging_of_blobs B ls d h = merge_of_blobs B 64 [] ls d h
 
+lines_of_blobs : (B : Blobs) (sources : DigestValue) (os : Earlier) (ls : List LineValue) (d : DigestValue) → LinesLookAt B sources os ls (result d) → ⊥
+lines_of_blobs B sources os [] d h = h
+lines_of_blobs B sources os (l ∷ ls) d (inl h) = origin_of_blobs B sources l.origin d h
+lines_of_blobs B sources os (l ∷ ls) d (inr h) = lines_of_blobs B sources os ls d h.2
+
+together_of_blobs : (B : Blobs) (sources : DigestValue) (os : Earlier) (ls : List LineValue) (d : DigestValue) → TogetherLooksAt B sources os ls (result d) → ⊥
+unfolding looks
+together_of_blobs B sources os ls d (inl h) = lines_of_blobs B sources os ls d h
+together_of_blobs B sources os ls d (inr h) = merging_of_blobs B h.0 d h.2
+
 start_of_blobs : (B : Blobs) (e : EngineValue) (i : ℕ) (d : DigestValue) → StartNeeds B e i (result d) → ⊥
-start_of_blobs B e i d (step, at, ready, room, inl (line, reached, h)) = origin_of_blobs B e.sources line.origin d h
-start_of_blobs B e i d (step, at, ready, room, inr (nodes, resolved, h)) = merging_of_blobs B nodes d h
+start_of_blobs B e i d (step, at, ready, room, h) = together_of_blobs B e.sources (outcomes_in e.finished) step.lines d h
 
 pub knows_started : {old new : Known} {t u : Telling} {refused : Type 0} (e : EngineValue) (i : ℕ) → KnowsBlobs old t.blobs → Learns (StartNeeds u.blobs e i) refused old new t u → KnowsBlobs new u.blobs
 knows_started {old} {new} {t} {u} e i h learned = record {

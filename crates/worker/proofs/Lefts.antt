@@ -9,10 +9,10 @@ use Rattle.runs.specs.Calls.{IsFinished, first_kept, placed, runs_step, jobs_of,
 use Rattle.runs.proofs.Places.{set_same, set_other}
 use Rattle.verifier.proofs.FreshRuns.{one_answer}
 use Rattle.worker.specs.declared.child.Child.{Child}
-use Rattle.worker.specs.Values.{ProducedValue, Starts}
+use Rattle.worker.specs.Values.{EndValue, Starts}
 use Rattle.worker.specs.Outcomes.{Yields}
 use Rattle.worker.specs.Calls.{WasStarted, IsStartable}
-use Rattle.worker.specs.Going.{IsLaunched, IsBegun, EndsWell, HasEndedFirst, weight, waiting_among, turns_left}
+use Rattle.worker.specs.Going.{IsLaunched, IsBegun, EndsWell, HasEndedFirst, one_if, weight, waiting_among, turns_left}
 use Rattle.worker.proofs.Jobs.{least_within}
 use Rattle.worker.proofs.Started.{job_of, job_is, after as started_after, least as started_least}
 
@@ -66,6 +66,10 @@ other_step j i other = by (eqb_tells j.step i)
     by (inl h) = absurd (other (sym h.1))
     by (inr h) = ap (λ b. if b then 1 else 0) h.0
 
+pub one_there : (o : Option FinishedValue) → IsSome o → one_if o ≡ 1
+one_there None some = absurd cc
+one_there (Some f) some = refl
+
 -- what has finished behind a finish
 kept_other : (fs : List (Option FinishedValue)) (o : Option FinishedValue) (i k : ℕ) (f : FinishedValue) → k ≢ i → at_number (first_kept o fs i f) k ≡ at_number fs k
 kept_other fs (Some before) i k f other = refl
@@ -76,15 +80,19 @@ kept_here fs (Some before) i f lt is = (before, is)
 kept_here fs None i f lt is = (f, set_same fs i (Some f) lt)
 
 -- the step of a job that finished has
-pub finished_there : (old new : EngineValue) (id i : ℕ) (v : OutcomeValue) (j : JobValue) → IsEngine old → IsFinished id v old new → job_in id old ≡ Some j → j.step ≡ i → IsSome (finished_in i new)
-finished_there old new id i v j k f at of =
+pub finished_at : (old new : EngineValue) (id i : ℕ) (v : OutcomeValue) (j : JobValue) → i < length old.finished → IsFinished id v old new → job_in id old ≡ Some j → j.step ≡ i → IsSome (finished_in i new)
+finished_at old new id i v j lt f at of =
     let same : f.job ≡ j = one_answer (job_in id old) f.job j f.is at in
     let step : f.job.step ≡ i = ap (λ (r : JobValue). r.step) same ∙ of in
-    let lt = k.running id f.job f.is in
-    let count = k.count in
-    let here = kept_here old.finished (finished_in f.job.step old) f.job.step (record { action = f.job.action; outcome = v }) (omega (arith, lt, count)) refl in
+    let here = kept_here old.finished (finished_in f.job.step old) f.job.step (record { action = f.job.action; outcome = v }) (omega (arith, step, lt)) refl in
     let there : finished_in f.job.step new ≡ Some here.0 = ap (finished_in f.job.step) f.after ∙ here.1 in
     subst (λ n. IsSome (finished_in n new)) step (subst IsSome (sym there) refl)
+
+pub finished_there : (old new : EngineValue) (id i : ℕ) (v : OutcomeValue) (j : JobValue) → IsEngine old → IsFinished id v old new → job_in id old ≡ Some j → j.step ≡ i → IsSome (finished_in i new)
+finished_there old new id i v j k f at of =
+    let lt = k.running id j at in
+    let count = k.count in
+    finished_at old new id i v j (omega (arith, lt, count, of)) f at of
 
 -- behind a finish, against an engine with the same finished steps and as many jobs of the others
 finished_le : (e m : EngineValue) (w : ℕ) (j : JobValue) (v : OutcomeValue) → m.finished ≡ e.finished → j.step < length e.finished
@@ -110,7 +118,7 @@ finished_le e m w j v same lt others = (none, λ k. by k (eqb_tells k j.step))
 waits : (e : EngineValue) (i : ℕ) → IsStartable e i → at_step e i ≡ 1
 waits e i s = ap (λ o. weight o (jobs_of i e.jobs)) s.waiting.unfinished ∙ ap (weight None) s.waiting.idle
 
-module _ (A J : Type 0) (y : Yields) (may : J → ProducedValue → Type 0) (from to : Starts) (t u : Telling) (now new : EngineValue) (k : IsEngine now) where
+module _ (A J : Type 0) (y : Yields) (may : J → EndValue → Type 0) (from to : Starts) (t u : Telling) (now new : EngineValue) (k : IsEngine now) where
   -- a step was started
   begun_less : (i : ℕ) (cs ds : List (Child J)) → i < length now.plan.steps → IsStartable now i → IsBegun A y may from to t u i now new cs ds → turns_left new ds < turns_left now cs
   begun_less i cs ds lt s b = by b.goes

@@ -1,6 +1,6 @@
 -- Where what each step of a build came to is from.
 use Rattle.std.proofs.Common.{◌≡◌, ◌≢◌, ℕ, List, [], ◌∷◌, Option, Some, None, refl, ap, sym, ◌∙◌, subst, inl, inr}
-use Rattle.std.specs.Prelude.{◌⊎◌, slice_get, Contains}
+use Rattle.std.specs.Prelude.{◌⊎◌, Contains}
 use Rattle.std.specs.List.{AllByRecursion}
 use Rattle.blob_digest.specs.Digest.{DigestValue}
 use Rattle.blob_source.specs.Source.{Blobs, Telling}
@@ -15,6 +15,7 @@ use Rattle.worker.specs.Stored.{HasNoneFinished}
 use Rattle.worker.proofs.Goes.{came_behind}
 use Rattle.worker.proofs.Keeping.{same_digest}
 use Rattle.worker.proofs.Storing.{which}
+use Rattle.worker.proofs.Telling.{yielded_still}
 
 -- a digest isn't among those that were put, or the result of what a child came to stands under it
 put_or_not : (calls : List Call) (C : Blobs) (d : DigestValue) (put : List DigestValue) → AllByRecursion (HasChildsResult calls C) put → AllByRecursion (λ e. e ≢ d) put ⊎ HasChildsResult calls C d
@@ -52,23 +53,7 @@ module _ (A : Type 0) (y : Yields) (t : Telling) (most : ℕ) where
     Stands bytes d = ((t.results d ≡ Some bytes) × (Contains put d → ⊥)) ⊎ ((v : OutcomeValue) × CameTo all d v)
 
     of_ran : (id : ℕ) (d : DigestValue) (v : OutcomeValue) (old new : EngineValue) → (w : FinishedByChild y t id d v old new) → last.commands ≡ old.commands → IsFrom (record { action = w.finished.job.action; outcome = v })
-    of_ran id d v old new w same =
-        let k = w.yielded in
-        inl (
-          w.finished.job,
-          refl,
-          record {
-            layout = k.layout;
-            laid = k.laid;
-            command = k.command;
-            of_step = ap (λ cs. slice_get cs w.finished.job.step) same ∙ k.of_step;
-            produced = k.produced;
-            may = k.may;
-            outcome = k.outcome;
-            action = k.action;
-            blobs = k.blobs;
-          },
-        )
+    of_ran id d v old new w same = inl (w.finished.job, refl, yielded_still old last (λ l c e h. h) (λ e b at right. at) same w.finished.job w.yielded)
 
     of_taken : (later : List Call) → ((d : DigestValue) (v : OutcomeValue) → CameTo later d v → CameTo all d v) → (id : ℕ) (d : DigestValue) (v : OutcomeValue) (old new : EngineValue) → (w : FinishedAsRecorded t later id d v old new)
         → IsFrom (record { action = w.finished.job.action; outcome = v })

@@ -23,9 +23,9 @@ use Rattle.runs.specs.Results.{result_of}
 use Rattle.runs.specs.Served.{Keeps, HoldsTrees, IsKeptOf}
 use Rattle.runs.proofs.Places.{set_other}
 use Rattle.verifier.proofs.FreshRuns.{one_answer}
-use Rattle.worker.specs.Stores.{IsKept, Stands, IsKeptBut}
+use Rattle.worker.specs.Storing.{Stands, IsKeptBut, HasResultOf, IsResultOfStep, IsForForm, StoresStep, StoresSteps, IsHeldWhole}
 use Rattle.worker.specs.Calls.{IsResultFor}
-use Rattle.worker.specs.Stored.{directories_of, IsToldOrTree, IsStored, HasTree, HasTrees, HasResultOf, IsResultOfStep, IsForForm, StoresStep, StoresSteps, IsHeldWhole}
+use Rattle.worker.specs.Stored.{IsKept, directories_of, IsToldOrTree, IsStored, HasTree, HasTrees}
 use Rattle.worker.proofs.Keeping.{right_still, all_right_still, same_bytes, same_digest}
 use Rattle.worker.proofs.Telling.{recorded_still}
 

@@ -1,45 +1,55 @@
 -- A turn that is taken goes on.
-use Rattle.std.proofs.Common.{◌≡◌, ℕ, ◌+◌, ◌-◌, ◌<◌, List, ◌∷◌, length, Some, None, ap, sym, ◌∙◌, subst, arith, inl, inr}
+use Rattle.std.proofs.Common.{◌≡◌, ℕ, ◌+◌, ◌-◌, true, List, ◌∷◌, length, Some, None, ap, sym, ◌∙◌, subst, arith, inl, inr}
 use Rattle.std.specs.Prelude.{◌↔◌, Result, Ok, Err, IsErr, OnOk, OnErr}
 use Rattle.blob_source.specs.Source.{Telling}
 use Rattle.blob_source.specs.Sink.{HasRight, KeepsRight}
-use Rattle.runs.specs.Engine.{JobValue, EngineValue, job_in}
+use Rattle.runs.specs.Engine.{JobValue, EngineValue, IsEngine, job_in}
 use Rattle.runs.specs.Calls.{without_job}
 use Rattle.worker.specs.declared.child.Child.{Child}
-use Rattle.worker.specs.Values.{ProducedValue, Starts, StartsNone}
-use Rattle.worker.specs.Stores.{IsKept, IsKeptBut}
+use Rattle.worker.specs.declared.turns.Turn.TheVariants as turns
+use Rattle.worker.specs.Values.{EndValue, Starts, StartsNone}
+use Rattle.worker.specs.Stored.{IsKept}
+use Rattle.worker.specs.Storing.{IsKeptBut, HasResultOf, IsResultOfStep, StoresSteps, IsHeldWhole}
 use Rattle.worker.specs.Outcomes.{Yields, YieldsNoMore}
 use Rattle.worker.specs.Calls.{Call, IsResultFor, PutsOf}
-use Rattle.worker.specs.Stored.{HasResultOf, IsResultOfStep, StoresSteps, IsHeldWhole}
-use Rattle.worker.specs.Going.{IsJobOf, AreJobsOf, IsOwnJob, IsGoing, IsBegun, IsLaunched, CameToNothing, EndsWell, Ends, HasEndedFirst, HasResultOfFirst}
+use Rattle.worker.specs.Going.{IsJobOf, AreJobsOf, IsOwnJob, IsGoing, IsBegun, IsLaunched, IsTurn, CameToNothing, EndsWell, Ends, HasEndedFirst, HasResultOfFirst, GoesOnBy, taken_in}
 use Rattle.verifier.proofs.FreshRuns.{one_answer}
 use Rattle.worker.proofs.Started.{after}
 use Rattle.worker.proofs.Keeping.{kept_none, kept_as, kept_then, right_still, all_right_still}
 use Rattle.worker.proofs.Storing.{result_for, trees_still, steps_kept, steps_taken, steps_ran}
 use Rattle.worker.proofs.Goes.{going_begun, going_refused, going_ended, lose_goes, puts_ended}
 
-module _ (A J : Type 0) (y : Yields) (may : J → ProducedValue → Type 0) (from a b : Starts) (s t u : Telling) (most : ℕ) (first now new : EngineValue) (cs ds : List (Child J)) (g : IsGoing A y may from a s t most first now cs) where
-  pub start_goes : {T E : Type 0} (r : Result T E) (z : Yields) (i : ℕ) → YieldsNoMore z y → IsKept t u → OnErr r (StartsNone a b) → length cs < most → OnOk r (IsBegun A z may a b t u i now new cs ds) → OnErr r (CameToNothing A u.blobs i now new) → OnErr r (ds ≡ cs)
-      → IsGoing A y may from b s u most first new ds
-  start_goes (Ok x) z i within k quiet room begun refused same = going_begun A J y may from s most first a b z within t u now new i cs ds k g room begun
-  start_goes (Err x) z i within k quiet room begun refused same = subst (IsGoing A y may from b s u most first new) (sym same) (going_refused A J y may from s most first a b t u now new i cs k quiet g room refused)
+module _ (A J : Type 0) (y : Yields) (may : J → EndValue → Type 0) (from a b : Starts) (s t u : Telling) (most : ℕ) (first now new : EngineValue) (cs ds : List (Child J)) (g : IsGoing A y may from a s t most first now cs) where
+  abbrev On : List (Child J) → ℕ → Type 0
+  On xs n = GoesOnBy A y may from b s u most first new xs g.led.built.led.calls n
 
-  pub ended_goes : StartsNone a b → HasEndedFirst (Ends may t u) now new cs ds → IsGoing A y may from b s u most first new ds
-  ended_goes quiet h = going_ended A J y may from s most first a b t u now new h.child ds quiet (subst (IsGoing A y may from a s t most first now) h.is g) h.end
+  pub start_goes : {T E : Type 0} (r : Result T E) (z : Yields) (i : ℕ) → YieldsNoMore z y → IsKept t u → OnErr r (StartsNone a b) → IsTurn most now cs (turns.Start i) → IsEngine now → OnOk r (IsBegun A z may a b t u i now new cs ds) → OnErr r (CameToNothing A u.blobs i now new) → OnErr r (ds ≡ cs)
+      → On ds (taken_in true i now new)
+  start_goes (Ok x) z i within k quiet turn valid begun refused same =
+      let count = valid.count in
+      let lt = turn.1 in
+      going_begun A J y may from s most first a b t u now new i cs k g turn.0 turn.2.waiting.unfinished z within ds (omega (arith, count, lt)) begun
+  start_goes (Err x) z i within k quiet turn valid begun refused same =
+      subst (λ xs. On xs (taken_in true i now new)) (sym same) (going_refused A J y may from s most first a b t u now new i cs k g turn.0 turn.2.waiting.unfinished quiet refused)
 
-  pub finish_goes : {T E : Type 0} (r : Result T E) → StartsNone a b → OnOk r (HasEndedFirst (EndsWell may t u) now new cs ds) → OnErr r (HasEndedFirst (Ends may t u) now new cs ds) → IsGoing A y may from b s u most first new ds
+  pub ended_goes : StartsNone a b → HasEndedFirst (Ends may t u) now new cs ds → On ds 0
+  ended_goes quiet h =
+      subst (λ xs. (f : IsGoing A y may from a s t most first now xs) → GoesOnBy A y may from b s u most first new ds f.led.built.led.calls 0) (sym h.is)
+      (λ f. going_ended A J y may from s most first a b t u now new h.child ds quiet f h.end) g
+
+  pub finish_goes : {T E : Type 0} (r : Result T E) → StartsNone a b → OnOk r (HasEndedFirst (EndsWell may t u) now new cs ds) → OnErr r (HasEndedFirst (Ends may t u) now new cs ds) → On ds 0
   finish_goes (Ok x) quiet well ended = ended_goes quiet (record { child = well.child; is = well.is; end = inl well.end })
   finish_goes (Err x) quiet well ended = ended_goes quiet ended
 
-ends_right : {J : Type 0} (may : J → ProducedValue → Type 0) (t u : Telling) (c : Child J) (now new : EngineValue) → Ends may t u c now new → KeepsRight t.blobs u.blobs
+ends_right : {J : Type 0} (may : J → EndValue → Type 0) (t u : Telling) (c : Child J) (now new : EngineValue) → Ends may t u c now new → KeepsRight t.blobs u.blobs
 ends_right may t u c now new (inl e) = e.kept.blobs
 ends_right may t u c now new (inr (l, k)) = k.blobs
 
-pub finish_right : {J T E : Type 0} (may : J → ProducedValue → Type 0) (t u : Telling) (now new : EngineValue) (cs ds : List (Child J)) (r : Result T E) → OnOk r (HasEndedFirst (EndsWell may t u) now new cs ds) → OnErr r (HasEndedFirst (Ends may t u) now new cs ds) → KeepsRight t.blobs u.blobs
+pub finish_right : {J T E : Type 0} (may : J → EndValue → Type 0) (t u : Telling) (now new : EngineValue) (cs ds : List (Child J)) (r : Result T E) → OnOk r (HasEndedFirst (EndsWell may t u) now new cs ds) → OnErr r (HasEndedFirst (Ends may t u) now new cs ds) → KeepsRight t.blobs u.blobs
 finish_right may t u now new cs ds (Ok x) well ended = well.end.kept.blobs
 finish_right may t u now new cs ds (Err x) well ended = ends_right may t u ended.child now new ended.end
 
-pub finish_puts : {J T E : Type 0} (may : J → ProducedValue → Type 0) (t u : Telling) (now new : EngineValue) (cs ds : List (Child J)) (r : Result T E) → OnOk r (HasEndedFirst (EndsWell may t u) now new cs ds) → OnErr r (HasEndedFirst (Ends may t u) now new cs ds) → (more : List Call) × PutsOf more t u
+pub finish_puts : {J T E : Type 0} (may : J → EndValue → Type 0) (t u : Telling) (now new : EngineValue) (cs ds : List (Child J)) (r : Result T E) → OnOk r (HasEndedFirst (EndsWell may t u) now new cs ds) → OnErr r (HasEndedFirst (Ends may t u) now new cs ds) → (more : List Call) × PutsOf more t u
 finish_puts may t u now new cs ds (Ok x) well ended = puts_ended may t u well.child now new (inl well.end)
 finish_puts may t u now new cs ds (Err x) well ended = puts_ended may t u ended.child now new ended.end
 
@@ -54,14 +64,14 @@ module _ {J : Type 0} (now new : EngineValue) (c : Child J) (cs ds : List (Child
   pub lost_jobs : new ≡ without_job c.id now → AreJobsOf IsJobOf new.jobs ds
   lost_jobs lost = subst (λ (e : EngineValue). AreJobsOf IsJobOf e.jobs ds) (sym lost) jobs_now.3
 
-  pub lost_goes : (A : Type 0) (y : Yields) (may : J → ProducedValue → Type 0) → new ≡ without_job c.id now → (from a b : Starts) → StartsNone a b → (s t : Telling) (most : ℕ) (first : EngineValue) → IsGoing A y may from a s t most first now cs → IsGoing A y may from b s t most first new ds
-  lost_goes A y may lost from a b quiet s t most first g = going_ended A J y may from s most first a b t t now new c ds quiet (subst (IsGoing A y may from a s t most first now) is g) (inr ((jobs_now.0, jobs_now.1, lost), kept_none))
+  pub lost_goes : (A : Type 0) (y : Yields) (may : J → EndValue → Type 0) → new ≡ without_job c.id now → (from a b : Starts) → StartsNone a b → (s t : Telling) (most : ℕ) (first : EngineValue) → IsGoing A y may from a s t most first now cs → IsGoing A y may from b s t most first new ds
+  lost_goes A y may lost from a b quiet s t most first g = (going_ended A J y may from s most first a b t t now new c ds quiet (subst (IsGoing A y may from a s t most first now) is g) (inr ((jobs_now.0, jobs_now.1, lost), kept_none))).going
 
 pub lost_count : {J : Type 0} (c : Child J) (cs ds : List (Child J)) → cs ≡ c ∷ ds → (n old after : ℕ) → old ≡ n + length cs → after ≡ old - 1 → after ≡ n + length ds
 lost_count c cs ds is n old after all one = let len = ap length is in omega (arith, all, one, len)
 
 -- a result was put
-pub ends_put : {J : Type 0} (may : J → ProducedValue → Type 0) (s t u : Telling) (c : Child J) (old new : EngineValue) (j : JobValue) → job_in c.id old ≡ Some j → IsJobOf c j → IsKept s t → EndsWell may s t c old new → IsKeptBut c.action (IsResultOfStep new c.step) t u
+pub ends_put : {J : Type 0} (may : J → EndValue → Type 0) (s t u : Telling) (c : Child J) (old new : EngineValue) (j : JobValue) → job_in c.id old ≡ Some j → IsJobOf c j → IsKept s t → EndsWell may s t c old new → IsKeptBut c.action (IsResultOfStep new c.step) t u
     → EndsWell may s u c old new
 ends_put may s t u c old new j at of none e k =
     let same : e.finished.job ≡ j = one_answer (job_in c.id old) e.finished.job j e.finished.is at in
@@ -85,7 +95,7 @@ on_err (Err y) x = x
 
 -- ---- what the store has
 
-module _ (A J : Type 0) (y : Yields) (may : J → ProducedValue → Type 0) (a b : Starts) (t u : Telling) (now new : EngineValue) (cs ds : List (Child J)) where
+module _ (A J : Type 0) (y : Yields) (may : J → EndValue → Type 0) (a b : Starts) (t u : Telling) (now new : EngineValue) (cs ds : List (Child J)) where
   begun_stored : (i : ℕ) → IsKept t u → IsBegun A y may a b t u i now new cs ds → StoresSteps t now → StoresSteps u new
   begun_stored i k begun h = by begun.goes
     where

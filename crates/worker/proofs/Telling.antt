@@ -1,5 +1,6 @@
 -- What is told of a layout and of a result stays told where right bytes stay.
-use Rattle.std.proofs.Common.{ℕ, List, [], ◌∷◌, Some, sym, inl, inr}
+use Rattle.std.proofs.Common.{◌≡◌, ℕ, List, [], ◌∷◌, Some, ap, ◌∙◌, sym, inl, inr}
+use Rattle.std.specs.Prelude.{slice_get}
 use Rattle.blob_digest.specs.Digest.{DigestValue}
 use Rattle.messages.specs.declared.node.Node.TheVariants as nodes
 use Rattle.blob_source.specs.Source.{Blobs, Telling, IsUnder, IsBlobUnder}
@@ -13,9 +14,12 @@ use Rattle.tree.specs.Tree.{Name, Tree, empty, leaf, folder, nothing, a_leaf, a_
 use Rattle.tree.specs.Form.{NodeValue}
 use Rattle.tree.specs.FlatTree.{FlatValue}
 use Rattle.tree.specs.Unfolded.{TellsBelow, IsUnfolded}
-use Rattle.worker.specs.Values.{LayoutValue}
-use Rattle.worker.specs.Stores.{IsKept}
-use Rattle.worker.specs.Outcomes.{IsHeld}
+use Rattle.runs.specs.Engine.{JobValue, EngineValue}
+use Rattle.worker.specs.Values.{LayoutValue, EndValue, made}
+use Rattle.worker.specs.Stored.{IsKept}
+use Rattle.worker.specs.Outcomes.{Yields, YieldsNoMore, MayComeTo, IsYielded, IsHeld}
+use Rattle.worker.specs.Going.{IsOwed}
+use Rattle.worker.proofs.Keeping.{right_still, all_right_still}
 use Rattle.worker.specs.Layout.{AreFiles, IsLayoutOf}
 
 module _ {B C : Blobs} (keeps : KeepsRight B C) where
@@ -82,3 +86,38 @@ held_kept {t} {u} {d} {v} k h = record {
   reads = h.reads;
   recorded = recorded_still k.blobs h.result v h.recorded;
 }
+
+-- ---- how a child may end
+
+-- a runner that yields more, a store that keeps right bytes, and an engine with the same commands
+module _ {y z : Yields} {B C : Blobs} (old new : EngineValue) (within : YieldsNoMore y z) (keeps : KeepsRight B C) (same : new.commands ≡ old.commands) (j : JobValue) where
+  pub end_still : (end : EndValue) → MayComeTo y B old j end → MayComeTo z C new j end
+  end_still end h = record {
+    layout = h.layout;
+    laid = layout_still keeps h.laid;
+    command = h.command;
+    of_step = ap (λ cs. slice_get cs j.step) same ∙ h.of_step;
+    may = within h.layout h.command end h.may;
+    action = right_still keeps h.action;
+  }
+
+  pub yielded_still : {v : OutcomeValue} → IsYielded y B old j v → IsYielded z C new j v
+  yielded_still h = record {
+    produced = h.produced;
+    outcome = h.outcome;
+    may = end_still (made h.produced) h.may;
+    blobs = all_right_still B C h.produced.blobs keeps h.blobs;
+  }
+
+  pub owed_still : {may : EndValue → Type 0} → IsOwed y may B old j → IsOwed z may C new j
+  owed_still h = record {
+    layout = h.layout;
+    laid = layout_still keeps h.laid;
+    command = h.command;
+    of_step = ap (λ cs. slice_get cs j.step) same ∙ h.of_step;
+    may_come = λ end may_end. within h.layout h.command end (h.may_come end may_end);
+    action = right_still keeps h.action;
+  }
+
+pub owed_ends : {y : Yields} {may : EndValue → Type 0} {B : Blobs} {e : EngineValue} {j : JobValue} → IsOwed y may B e j → (end : EndValue) → may end → MayComeTo y B e j end
+owed_ends h end may_end = record { layout = h.layout; laid = h.laid; command = h.command; of_step = h.of_step; may = h.may_come end may_end; action = h.action }

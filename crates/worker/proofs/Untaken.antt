@@ -18,7 +18,8 @@ use Rattle.tree.specs.TreeError.{Explains}
 use Rattle.tree.specs.declared.error.TreeError.{TreeError}
 use Rattle.tree.specs.declared.error.TreeError.TheVariants as tree
 use Rattle.verifier.proofs.FreshRuns.{one_answer}
-use Rattle.worker.specs.Outcomes.{CanBeTaken, IsHeld, HasNoneToTake}
+use Rattle.worker.specs.Outcomes.{CanBeTaken, IsHeld}
+use Rattle.worker.specs.Going.{HasNoneToTake}
 
 -- bytes that aren't read as a result
 pub unread : (e : MessageError) (r : ActionResultValue) → (e ≡ messages.Memory → ⊥) → FailsUnlessMemory e (Ok r) → ⊥

@@ -34,14 +34,3 @@ pub record FailsRun {N T A : Type 0} (failures : N → ℕ) (old new : FailRunne
       → IsErrOf result Device
   pub hands_on : until_failure_of old ≢ 1 → failures_of old < greatest_count
       → Counts (failures (inner_of old)) (failures (inner_of new)) (IsErrOf result Device)
-
--- ---- steps of a call
-
--- A failure was counted where one is told.
-abbrev pub CountsRun : {T A : Type 0} → ℕ → ℕ → Result T (RunError A) → Type 0
-CountsRun old new result = Counts old new (IsErrOf result Device)
-
--- nothing was called, and only failures may have been counted
-pub record IsSameRunner {N : Type 0} (old new : FailRunner N) : Type 0 where
-  pub inner : new.inner ≡ old.inner
-  pub number : new.until_failure ≡ old.until_failure

@@ -1,21 +1,25 @@
--- A build that goes on: the children that run, and the engine.
+-- A build that goes on, its children and its turns: words of private functions.
 use Rattle.std.specs.Prelude.{zero, suc, ◌≡◌, ◌≢◌, ◌⊎◌, ◌+◌, ◌*◌, ◌<◌, ◌≤◌, ℕ, List, [], ◌∷◌, ◌++◌}
-use Rattle.std.specs.Prelude.{length, set, slice_get, Option, Some, None, IsSome}
-use Rattle.blob_digest.specs.Digest.{digest_of}
+use Rattle.std.specs.Prelude.{◌-◌, Bool, true, false, length, map, set, slice_get, Option, Some, None, IsSome}
+use Rattle.blob_digest.specs.Digest.{DigestValue, digest_of}
 use Rattle.action_messages.specs.Action.{action_bytes}
+use Rattle.action_messages.specs.Command.{CommandValue}
 use Rattle.actions.specs.Outcome.{OutcomeValue}
 use Rattle.blob_source.specs.Source.{Blobs, Telling}
+use Rattle.blob_source.specs.Sink.{HasRight}
 use Rattle.runs.specs.Engine.{FinishedValue, JobValue, EngineValue, at_number, finished_in, job_in}
 use Rattle.runs.specs.Calls.{IsFinished, without_job, jobs_of}
 use Rattle.runs.specs.declared.starting.Job.{Job}
 use Rattle.worker.specs.declared.child.Child.{Child}
 use Rattle.worker.specs.declared.turns.Turn.{Turn}
 use Rattle.worker.specs.declared.turns.Turn.TheVariants as turns
-use Rattle.worker.specs.Values.{ProducedValue, Starts, StartsOne, StartsNone}
-use Rattle.worker.specs.Stores.{IsKept, IsKeptBut}
-use Rattle.worker.specs.Outcomes.{Yields, IsOwed, HasAllRight, HasNoneToTake}
-use Rattle.worker.specs.Stored.{HasTrees, HasResultOf, IsHeldWhole}
-use Rattle.worker.specs.Calls.{running, WasStarted, IsLost, IsBuiltWith, IsResultFor, IsStartable}
+use Rattle.worker.specs.Layout.{IsLayoutOf}
+use Rattle.worker.specs.Values.{LayoutValue, ProducedValue, EndValue, made, Starts, StartsOne, StartsNone}
+use Rattle.worker.specs.Storing.{IsKeptBut, HasResultOf, IsHeldWhole}
+use Rattle.worker.specs.Outcomes.{Yields, HasAllRight, IsHeld, CanBeTaken}
+use Rattle.worker.specs.Stored.{IsKept, HasTrees}
+use Rattle.worker.specs.Calls.{running, Call, WasStarted, IsLost, IsBuiltWith, IsResultFor, IsStartable}
+use Rattle.worker.specs.Watching.{taken_count, jobs_after}
 
 -- the job is the child's
 pub record IsJobOf {J : Type 0} (c : Child J) (j : JobValue) : Type 0 where
@@ -30,18 +34,35 @@ AreJobsOf Is js [] = running js ≡ 0
 AreJobsOf Is js (c ∷ cs) =
     (j : JobValue) × (at_number js c.id ≡ Some j) × Is c j × AreJobsOf Is (set js c.id None) cs
 
+-- All that may come of a job's child, the runner yields for the layout that is told under the root
+-- of the job's input and for the command of the job's step. The job's action is in the store.
+pub record IsOwed (yields : Yields) (may : EndValue → Type 0) (B : Blobs) (e : EngineValue)
+    (j : JobValue) : Type 0 where
+  pub layout : LayoutValue
+  pub laid : IsLayoutOf B j.input layout
+  pub command : CommandValue
+  pub of_step : slice_get e.commands j.step ≡ Some command
+  pub may_come : (end : EndValue) → may end → yields layout command end
+  pub action : HasRight B j.action
+
 -- the job is the child's, and what may come of the child is owed to it
-pub record IsOwnJob {J : Type 0} (yields : Yields) (may : J → ProducedValue → Type 0) (B : Blobs)
+pub record IsOwnJob {J : Type 0} (yields : Yields) (may : J → EndValue → Type 0) (B : Blobs)
     (e : EngineValue) (c : Child J) (j : JobValue) : Type 0 where
   pub of_child : IsJobOf c j
   pub owed : IsOwed yields (may c.job) B e j
 
--- Calls led to the engine and put results, the children have its jobs, and they are few.
-pub record IsGoing (A : Type 0) {J : Type 0} (yields : Yields) (may : J → ProducedValue → Type 0)
+-- the numbers and the steps of the children's jobs
+abbrev pub jobs_with : {J : Type 0} → List (Child J) → List (ℕ × ℕ)
+jobs_with cs = map (λ (c : Child _). (c.id, c.step)) cs
+
+-- Calls led to the engine and put results. The children have its jobs, in the order of their
+-- starts, and they are few.
+pub record IsGoing (A : Type 0) {J : Type 0} (yields : Yields) (may : J → EndValue → Type 0)
     (from to : Starts) (before t : Telling) (most : ℕ) (old new : EngineValue)
     (children : List (Child J)) : Type 0 where
   pub led : IsBuiltWith A yields from to before t most old new
   pub jobs : AreJobsOf (IsOwnJob yields may t.blobs new) new.jobs children
+  pub order : jobs_after [] led.built.led.calls ≡ jobs_with children
   pub few : length children ≤ most
 
 -- a job as an engine has it
@@ -54,8 +75,12 @@ pub record IsJobIn {A : Type 0} (e : EngineValue) (job : Job A) : Type 0 where
   pub command : slice_get e.commands job.step ≡ Some job.command
   pub digest : job.digest ≡ digest_of (action_bytes job.action)
 
+-- the store has no result to take for the action and the command
+abbrev pub HasNoneToTake : Telling → DigestValue → CommandValue → Type 0
+HasNoneToTake t d c = (v : OutcomeValue) → IsHeld t d v → CanBeTaken c v → ⊥
+
 -- A child runs for a job, for which the store had no result to take.
-pub record HasChildFor {J : Type 0} (yields : Yields) (may : J → ProducedValue → Type 0)
+pub record HasChildFor {J : Type 0} (yields : Yields) (may : J → EndValue → Type 0)
     (from to : Starts) (s t : Telling) (e : EngineValue) (j : JobValue) (c : Child J)
     : Type 0 where
   pub own : IsOwnJob yields may t.blobs e c j
@@ -64,7 +89,7 @@ pub record HasChildFor {J : Type 0} (yields : Yields) (may : J → ProducedValue
   pub none : HasNoneToTake s j.action own.owed.command
 
 -- A job goes on: a child runs for it, or it finished at once as the store had recorded.
-abbrev pub IsLaunched : {J : Type 0} → Yields → (J → ProducedValue → Type 0) → Starts → Starts
+abbrev pub IsLaunched : {J : Type 0} → Yields → (J → EndValue → Type 0) → Starts → Starts
     → Telling → Telling → ℕ → JobValue → EngineValue → EngineValue → List (Child J)
     → List (Child J) → Type 0
 IsLaunched yields may from to s t id j old new before after =
@@ -74,7 +99,7 @@ IsLaunched yields may from to s t id j old new before after =
     × StartsNone from to)
 
 -- A step was started: a child runs for it, or its job finished at once.
-pub record IsBegun (A : Type 0) {J : Type 0} (yields : Yields) (may : J → ProducedValue → Type 0)
+pub record IsBegun (A : Type 0) {J : Type 0} (yields : Yields) (may : J → EndValue → Type 0)
     (from to : Starts) (s t : Telling) (i : ℕ) (old new : EngineValue)
     (before after : List (Child J)) : Type 0 where
   pub id : ℕ
@@ -91,17 +116,17 @@ CameToNothing A B i old new = (new ≡ old)
 
 -- A child's job finished with what the child came to, whose blobs and Trees are in the store, where
 -- a result may have been put.
-pub record EndsWell {J : Type 0} (may : J → ProducedValue → Type 0) (s t : Telling) (c : Child J)
+pub record EndsWell {J : Type 0} (may : J → EndValue → Type 0) (s t : Telling) (c : Child J)
     (old new : EngineValue) : Type 0 where
   pub produced : ProducedValue
-  pub came : may c.job produced
+  pub came : may c.job (made produced)
   pub finished : IsFinished c.id produced.outcome old new
   pub blobs : HasAllRight t.blobs produced.blobs
   pub trees : HasTrees t.blobs produced.outcome
   pub kept : IsKeptBut c.action (IsResultFor produced.outcome) s t
 
 -- A child's job ended, well or lost.
-abbrev pub Ends : {J : Type 0} → (J → ProducedValue → Type 0) → Telling → Telling → Child J
+abbrev pub Ends : {J : Type 0} → (J → EndValue → Type 0) → Telling → Telling → Child J
     → EngineValue → EngineValue → Type 0
 Ends may s t c old new = EndsWell may s t c old new ⊎ (IsLost c.id old new × IsKept s t)
 
@@ -117,11 +142,6 @@ abbrev pub HasResultOfFirst : {J : Type 0} → Telling → EngineValue → List 
 HasResultOfFirst t e [] = ⊥
 HasResultOfFirst t e (c ∷ cs) = HasResultOf t e c.step c.action
 
--- the step of the child that was started first
-abbrev pub first_step : {J : Type 0} → List (Child J) → Option ℕ
-first_step [] = None
-first_step (c ∷ cs) = Some c.step
-
 -- ---- the turns
 
 -- a turn that can be taken: a step may be started, while fewer children than the most run, or there
@@ -136,6 +156,10 @@ abbrev pub step_of : {J : Type 0} → Turn → List (Child J) → ℕ
 step_of (turns.Start i) children = i
 step_of turns.Finish [] = 0
 step_of turns.Finish (c ∷ cs) = c.step
+
+abbrev pub is_start : Turn → Bool
+is_start (turns.Start i) = true
+is_start turns.Finish = false
 
 -- The turn that comes next: the least step that may be started. The first child is waited for only
 -- where no step may be started, or no more children may run.
@@ -160,6 +184,22 @@ abbrev pub turns_left : {J : Type 0} → EngineValue → List (Child J) → ℕ
 turns_left e children = 2 * waiting_among (length e.plan.steps) e + length children
 
 -- ---- what a turn changes
+
+abbrev pub one_if : Option FinishedValue → ℕ
+one_if None = 0
+one_if (Some f) = 1
+
+-- how many steps a turn takes from the store: a step that is started, if it finishes at once
+abbrev pub taken_in : Bool → ℕ → EngineValue → EngineValue → ℕ
+taken_in true i old new = one_if (finished_in i new) - one_if (finished_in i old)
+taken_in false i old new = 0
+
+-- A build went on from these calls, and this many steps were taken from the store.
+pub record GoesOnBy (A : Type 0) {J : Type 0} (yields : Yields) (may : J → EndValue → Type 0)
+    (from to : Starts) (before t : Telling) (most : ℕ) (old new : EngineValue)
+    (children : List (Child J)) (calls : List Call) (n : ℕ) : Type 0 where
+  pub going : IsGoing A yields may from to before t most old new children
+  pub taken : taken_count going.led.built.led.calls ≡ taken_count calls + n
 
 -- the same other steps have finished as before
 pub record FinishesOnly (i : ℕ) (old new : EngineValue) : Type 0 where

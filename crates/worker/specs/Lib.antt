@@ -1,12 +1,13 @@
 pub mod Values
 pub mod Layout
 pub mod Refusals
-pub mod Stores
 pub mod Outcomes
 pub mod Calls
 pub mod Going
 pub mod Stored
+pub mod Storing
 pub mod Stopped
+pub mod Stopping
 pub mod Watching
 pub mod Counted
 pub mod FailRunner

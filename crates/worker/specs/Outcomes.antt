@@ -10,46 +10,40 @@ use Rattle.actions.specs.Recorded.{IsRecorded}
 use Rattle.blob_source.specs.Source.{Blobs, Telling}
 use Rattle.blob_source.specs.Sink.{HasRight}
 use Rattle.runs.specs.Engine.{JobValue, EngineValue}
-use Rattle.worker.specs.Values.{LayoutValue, ProducedValue}
+use Rattle.worker.specs.Values.{LayoutValue, ProducedValue, EndValue, made}
 use Rattle.worker.specs.Layout.{IsLayoutOf}
 
 -- what a runner may make of a layout and a command
 abbrev pub Yields : Type 1
-Yields = LayoutValue → CommandValue → ProducedValue → Type 0
+Yields = LayoutValue → CommandValue → EndValue → Type 0
 
 -- what the one yields, the other does
 abbrev pub YieldsNoMore : Yields → Yields → Type 0
 YieldsNoMore some all =
-    (l : LayoutValue) (c : CommandValue) (p : ProducedValue) → some l c p → all l c p
+    (l : LayoutValue) (c : CommandValue) (e : EndValue) → some l c e → all l c e
 
--- All that may come of a job's child, the runner yields for the layout that is told under the root
--- of the job's input and for the command of the job's step. The job's action is in the store.
-pub record IsOwed (yields : Yields) (may : ProducedValue → Type 0) (B : Blobs) (e : EngineValue)
-    (j : JobValue) : Type 0 where
+-- A job's child may come to this: the runner yields it for the layout that is told under the root of
+-- the job's input, and for the command of the job's step. The job's action is in the store.
+pub record MayComeTo (yields : Yields) (B : Blobs) (e : EngineValue) (j : JobValue) (end : EndValue)
+    : Type 0 where
   pub layout : LayoutValue
   pub laid : IsLayoutOf B j.input layout
   pub command : CommandValue
   pub of_step : slice_get e.commands j.step ≡ Some command
-  pub may_come : (p : ProducedValue) → may p → yields layout command p
+  pub may : yields layout command end
   pub action : HasRight B j.action
 
 -- bytes with each blob's digest stand under it
 abbrev pub HasAllRight : Blobs → List (List ℕ) → Type 0
 HasAllRight B = AllByRecursion (λ b. HasRight B (digest_of b))
 
--- A job came to an outcome that the runner yields for the layout that is told under the root of its
--- input, and for the command of its step. Its action is in the store, and the blobs that its child
--- made.
+-- A job came to an outcome to which its child may come, and the blobs that the child made are in
+-- the store.
 pub record IsYielded (yields : Yields) (B : Blobs) (e : EngineValue) (j : JobValue)
     (v : OutcomeValue) : Type 0 where
-  pub layout : LayoutValue
-  pub laid : IsLayoutOf B j.input layout
-  pub command : CommandValue
-  pub of_step : slice_get e.commands j.step ≡ Some command
   pub produced : ProducedValue
-  pub may : yields layout command produced
   pub outcome : v ≡ produced.outcome
-  pub action : HasRight B j.action
+  pub may : MayComeTo yields B e j (made produced)
   pub blobs : HasAllRight B produced.blobs
 
 -- an outcome that a build takes: its exit code is 0, and the command lists each output
@@ -64,10 +58,6 @@ pub record IsHeld (t : Telling) (d : DigestValue) (v : OutcomeValue) : Type 0 wh
   pub result : ActionResultValue
   pub reads : Reads result bytes
   pub recorded : IsRecorded t.blobs result v
-
--- the store has no result to take for the action and the command
-abbrev pub HasNoneToTake : Telling → DigestValue → CommandValue → Type 0
-HasNoneToTake t d c = (v : OutcomeValue) → IsHeld t d v → CanBeTaken c v → ⊥
 
 -- A job came to an outcome that the store has recorded for its action, and that a build takes for
 -- the command of its step.

@@ -28,12 +28,6 @@ FailsBlob B d (missing e) = (e ≡ d) × IsMissing B d
 FailsBlob B d (wrong e) = (e ≡ d) × IsWrong B d
 FailsBlob B d (malformed e) = ⊥
 
--- why a blob isn't fetched: it isn't told, unless the source failed or memory ran out
-abbrev pub IsContentFault : {A : Type 0} → Blobs → DigestValue → LayoutError A → Type 0
-IsContentFault B d (laying.Source e) = Explains (FailsBlob B d) e
-IsContentFault B d (laying.LinkInput p) = ⊥
-IsContentFault B d laying.Memory = Unit {0}
-
 -- Why entries aren't laid out: the content of a file among them isn't fetched, or a link is among
 -- them.
 abbrev pub StopsLayout : {A : Type 0} → Blobs → FlatValue → LayoutError A → Type 0

@@ -14,6 +14,11 @@ pub record ProducedValue : Type 0 where
   pub outcome : OutcomeValue
   pub blobs : List (List ℕ)
 
+-- what comes of a child: an outcome with its blobs; or none, as what stands at a path is no output
+pub data EndValue : Type 0 where
+  made : (p : ProducedValue) → EndValue
+  bad_at : (path : List (List ℕ)) → EndValue
+
 -- a child that is started: what is laid out for it, and its command
 pub record StartValue : Type 0 where
   pub layout : LayoutValue

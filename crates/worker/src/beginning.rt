@@ -3,12 +3,14 @@ ghost use Rattle.worker.specs.Layout.{IsLayoutOf};
 ghost use Rattle.tree.specs.Memo.{known_by};
 ghost use Rattle.std.specs.Result.{IsErrAnd};
 ghost use Rattle.worker.specs.Counted.{Counts, IsDevice, IsFetch};
-ghost use Rattle.worker.specs.Stores.{IsKept, KnowsBlobs};
+ghost use Rattle.worker.specs.Stored.{IsKept};
+ghost use Rattle.worker.specs.Storing.{KnowsBlobs};
 ghost use Rattle.worker.specs.Calls.{IsStartable};
 ghost use Rattle.worker.specs.Outcomes.{YieldsNoMore};
-ghost use Rattle.worker.specs.Values.{LayoutValue, ProducedValue, StartsNone, StartsOne};
+ghost use Rattle.worker.specs.Values.{LayoutValue, EndValue, StartsNone, StartsOne};
 ghost use Rattle.worker.specs.Going.{IsJobIn, job_value, IsBegun, CameToNothing, IsLaunched};
-ghost use Rattle.worker.specs.Stopped.{StopsChild, StopsStep, StopsBeginning};
+ghost use Rattle.worker.specs.Stopping.{StopsChild, StopsBeginning};
+ghost use Rattle.worker.specs.Stopped.{StopsStep};
 
 use crate::child::Child;
 use crate::error::{BuildError, Refusal};
@@ -31,7 +33,7 @@ fn start_child<A: Allocator + Copy, S: BlobSink<A>, N: Runner<A>>(
     ensures kept { IsKept (S.tells sink.old) (S.tells sink.new) }
     ensures owed { IfOk result (λ child. (l : LayoutValue)
         × IsLayoutOf (S.tells sink.new).blobs job.now.action.input l
-        × ((p : ProducedValue) → N.may_give child p → N.yields runner.old l job.now.command p)
+        × ((e : EndValue) → N.may_give child e → N.yields runner.old l job.now.command e)
         × StartsOne (N.starts runner.old) (N.starts runner.new)
         (record { layout = l; command = job.now.command })) }
     ensures unlisted { OnErr result (StartsNone (N.starts runner.old) (N.starts runner.new)) }

@@ -6,11 +6,11 @@ ghost use Rattle.runs.specs.Calls.{HaveAllFinished};
 ghost use Rattle.tree.specs.Memo.{known_by};
 ghost use Rattle.std.specs.Result.{IsErrAnd};
 ghost use Rattle.worker.specs.Counted.{Counts, IsDevice, IsFetch};
-ghost use Rattle.worker.specs.Stores.{KnowsBlobs};
+ghost use Rattle.worker.specs.Storing.{KnowsBlobs, StoresSteps};
 ghost use Rattle.worker.specs.Calls.{running, IsBuiltWith};
 ghost use Rattle.worker.specs.Going.{AreJobsOf, IsJobOf, IsGoing};
 ghost use Rattle.worker.specs.Stopped.{IsRefusedBuild};
-ghost use Rattle.worker.specs.Stored.{HasNoneFinished, IsStored, StoresSteps};
+ghost use Rattle.worker.specs.Stored.{HasNoneFinished, IsStored};
 ghost use Rattle.worker.specs.Watching.{IsProgress, IsUpToDate, IsWatched};
 
 use crate::child::Child;
@@ -80,7 +80,8 @@ fn take_turns<A: Allocator + Copy, S: BlobSink<A>, N: Runner<A>, W: Watcher>(
         (IsProgress A (N.yields runner.old) (S.tells sink.new) jobs engine.old)
         (W.told watcher.old) (W.told watcher.new) }
     ensures up_to_date { OnOk result
-        (IsUpToDate engine.old engine.new (W.told watcher.old) (W.told watcher.new)) }
+        (IsUpToDate A (N.yields runner.old) (S.tells sink.new) jobs engine.old engine.new
+        (W.told watcher.old) (W.told watcher.new)) }
     ensures fetched { Counts (S.tells sink.old).failures (S.tells sink.new).failures
         (IsErrAnd result (λ e. IsFetch e.refusal)) }
     ensures device { Counts (N.failures runner.old) (N.failures runner.new)
@@ -135,7 +136,8 @@ pub fn build<A: Allocator + Copy, S: BlobSink<A>, N: Runner<A>, W: Watcher>(
         (W.told watcher.old) (W.told watcher.new) }
     // and the last is that of the engine as it is then.
     ensures up_to_date { OnOk result
-        (IsUpToDate engine.old engine.new (W.told watcher.old) (W.told watcher.new)) }
+        (IsUpToDate A (N.yields runner.old) (S.tells sink.new) jobs engine.old engine.new
+        (W.told watcher.old) (W.told watcher.new)) }
     // The store failed exactly where that is told, and the runner at least there.
     ensures fetched { Counts (S.tells sink.old).failures (S.tells sink.new).failures
         (IsErrAnd result (λ e. IsFetch e.refusal)) }

@@ -1,8 +1,10 @@
-ghost use Rattle.std.specs.Prelude.{◌≡◌, ◌↔◌, ◌+◌, ◌<◌, ◌^◌, ℕ, IsSome, IsTrue, length, if◌then◌else◌};
+ghost use Rattle.std.specs.Prelude.{◌≡◌, ◌↔◌, ◌+◌, ◌<◌, ◌^◌, ℕ, List, [], IsSome, IsTrue, length};
+ghost use Rattle.std.specs.Prelude.{if◌then◌else◌};
 ghost use Rattle.runs.specs.Engine.{EngineValue, finished_in};
-ghost use Rattle.worker.specs.Calls.{running};
-ghost use Rattle.worker.specs.Going.{AreJobsOf, FinishesOnly, IsJobOf, IsTurn, first_step, step_of};
-ghost use Rattle.worker.specs.Watching.{IsProgressOf, finished_count};
+ghost use Rattle.worker.specs.Calls.{Call, running};
+ghost use Rattle.worker.specs.Going.{AreJobsOf, FinishesOnly, IsJobOf, IsTurn, is_start, jobs_with};
+ghost use Rattle.worker.specs.Going.{step_of, taken_in};
+ghost use Rattle.worker.specs.Watching.{IsProgressOf, first_step, jobs_after, taken_count};
 
 use crate::child::Child;
 use crate::turns::Turn;
@@ -24,7 +26,7 @@ pub(crate) struct Before {
 /// How far a build of which no job runs is.
 pub(crate) fn first_progress<A: Allocator + Copy>(engine: &Engine<A>) -> Progress
     requires { running engine.now.jobs ≡ 0 }
-    ensures { IsProgressOf engine.now result }
+    ensures { IsProgressOf [] engine.now result }
 {
     let steps = engine.plan().steps().len();
     let mut finished = 0;
@@ -44,7 +46,7 @@ pub(crate) fn first_progress<A: Allocator + Copy>(engine: &Engine<A>) -> Progres
 
 /// The step of the child that was started first.
 fn longest<J, A: Allocator>(children: &VecDeque<Child<J>, A>) -> Option<usize>
-    ensures { result ≡ first_step children.now.items }
+    ensures { result ≡ first_step (jobs_with children.now.items) }
 {
     match children.front() {
         Some(child) => Some(child.step),
@@ -83,6 +85,7 @@ pub(crate) fn before_turn<A: Allocator + Copy, J>(
     requires there { AreJobsOf IsJobOf engine.now.jobs children.now.items }
     ensures step { result.step ≡ step_of turn.now children.now.items }
     ensures within { result.step < length engine.now.plan.steps }
+    ensures start { result.is_start ≡ is_start turn.now }
     ensures finished { IsTrue result.had_finished ↔ IsSome (finished_in result.step engine.now) }
 {
     let step = step_of(engine, children, turn);
@@ -113,9 +116,12 @@ pub(crate) fn progress_after<A: Allocator + Copy, J>(
 ) -> Progress
     requires within { turn.step < length engine.now.plan.steps }
     requires there { AreJobsOf IsJobOf engine.now.jobs children.now.items }
-    ensures { (old : EngineValue) → IsProgressOf old progress
+    ensures { (old : EngineValue) (calls all : List Call) → IsProgressOf calls old progress
         → IsTrue turn.had_finished ↔ IsSome (finished_in turn.step old)
-        → FinishesOnly turn.step old engine.now → IsProgressOf engine.now result }
+        → FinishesOnly turn.step old engine.now
+        → taken_count all
+        ≡ taken_count calls + taken_in turn.is_start turn.step old engine.now
+        → jobs_after [] all ≡ jobs_with children.now.items → IsProgressOf all engine.now result }
 {
     let comes = engine.finished(turn.step) && !turn.had_finished;
     let is_taken = comes && turn.is_start;

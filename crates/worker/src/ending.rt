@@ -2,13 +2,13 @@ ghost use Rattle.std.specs.Prelude.{◌≡◌, ◌+◌, ◌-◌, ◌<◌, Some, 
 ghost use Rattle.runs.specs.Engine.{JobValue, job_in};
 ghost use Rattle.std.specs.Result.{IsErrAnd};
 ghost use Rattle.worker.specs.Counted.{Counts, IsDevice, IsFetch};
-ghost use Rattle.worker.specs.Stores.{IsKept};
 ghost use Rattle.worker.specs.Outcomes.{YieldsNoMore, HasAllRight};
-ghost use Rattle.worker.specs.Values.{ProducedValue, StartsNone};
+ghost use Rattle.worker.specs.Values.{ProducedValue, StartsNone, made};
 ghost use Rattle.worker.specs.Going.{AreJobsOf, IsJobOf, HasEndedFirst, EndsWell, Ends};
 ghost use Rattle.worker.specs.Going.{HasResultOfFirst};
-ghost use Rattle.worker.specs.Stopped.{StopsCollecting, StopsEnd, StopsSettling, StopsFirst};
-ghost use Rattle.worker.specs.Stored.{HasTrees, HasResultOf};
+ghost use Rattle.worker.specs.Stopping.{StopsCollecting, StopsEnd, StopsSettling, StopsFirst};
+ghost use Rattle.worker.specs.Stored.{IsKept, HasTrees};
+ghost use Rattle.worker.specs.Storing.{HasResultOf};
 
 use crate::child::Child;
 use crate::error::{BuildError, Refusal};
@@ -28,10 +28,10 @@ fn collect<A: Allocator + Copy, S: BlobSink<A>, N: Runner<A>>(
     job: N::Job,
 ) -> Result<Outcome<A>, Refusal<A>>
     ensures kept { IsKept (S.tells sink.old) (S.tells sink.new) }
-    ensures gave { IfOk result (λ v. (p : ProducedValue) × N.may_give job p × (v ≡ p.outcome)
-        × HasAllRight (S.tells sink.new).blobs p.blobs) }
+    ensures gave { IfOk result (λ v. (p : ProducedValue) × N.may_give job (made p)
+        × (v ≡ p.outcome) × HasAllRight (S.tells sink.new).blobs p.blobs) }
     ensures trees { IfOk result (HasTrees (S.tells sink.new).blobs) }
-    ensures refused { IfErr result StopsCollecting }
+    ensures refused { IfErr result (StopsCollecting (N.may_give job)) }
     ensures within { YieldsNoMore (N.yields runner.new) (N.yields runner.old) }
     ensures unlisted { StartsNone (N.starts runner.old) (N.starts runner.new) }
     ensures closed { N.alive runner.new ≡ N.alive runner.old - 1 }

@@ -1,11 +1,11 @@
-ghost use Rattle.std.specs.Prelude.{◌≡◌, ◌≢◌, ◌+◌, ◌-◌, ◌<◌, ◌↔◌, Ok, IfOk, IsErr, IsErrOf, IsTrue};
-ghost use Rattle.std.specs.Prelude.{OnErr, OnOk};
+ghost use Rattle.std.specs.Prelude.{◌≡◌, ◌≢◌, ◌+◌, ◌-◌, ◌<◌, ◌↔◌, ℕ, List, Ok, IfOk, IsErr};
+ghost use Rattle.std.specs.Prelude.{IsErrOf, IsTrue, OnErr, OnOk};
 ghost use Rattle.blob_source.specs.Source.{greatest_count};
 ghost use Rattle.worker.specs.Counted.{Counts};
-ghost use Rattle.worker.specs.FailRunner.{CountsRun, FailsRun, IsFreshRunner, IsSameRunner};
+ghost use Rattle.worker.specs.FailRunner.{FailsRun, IsFreshRunner};
 ghost use Rattle.worker.specs.FailRunner.{failures_of, inner_of, until_failure_of};
 ghost use Rattle.worker.specs.Outcomes.{YieldsNoMore};
-ghost use Rattle.worker.specs.Values.{IsAbsolute, ProducedValue, StartsNone, StartsOne};
+ghost use Rattle.worker.specs.Values.{IsAbsolute, EndValue, StartsNone, StartsOne, made, bad_at};
 
 use crate::laid::Layout;
 use crate::runner::{Produced, RunError, Runner};
@@ -58,10 +58,13 @@ impl<N> FailRunner<N> {
     /// Counts a failure. One whose count is full is lack of memory instead.
     fn fail<T, A: Allocator>(&mut self) -> Result<T, RunError<A>>
         ensures failed { failures_of self.old < greatest_count → IsErrOf result RunError.Device }
-        ensures counted { CountsRun (failures_of self.old) (failures_of self.new) result }
+        ensures counted { Counts (failures_of self.old) (failures_of self.new)
+            (IsErrOf result RunError.Device) }
         ensures err { IsErr result }
-        ensures same { IsSameRunner self.old self.new }
+        ensures number { until_failure_of self.new ≡ until_failure_of self.old }
+        ensures inner { inner_of self.new ≡ inner_of self.old }
         ensures absolute { IsErrOf result RunError.NotAbsolute → ⊥ }
+        ensures bad { (path : List (List ℕ)) → IsErrOf result (RunError.BadOutput path) → ⊥ }
     {
         let count = &mut self.failures;
         let Some(failures) = count.checked_add(1) else {
@@ -90,9 +93,13 @@ impl<N> FailRunner<N> {
         ensures err { OnErr result (IsErr answer) }
         ensures absolute { IsErrOf result RunError.NotAbsolute
             → IsErrOf answer RunError.NotAbsolute }
+        ensures bad { (path : List (List ℕ)) → IsErrOf result (RunError.BadOutput path)
+            → IsErrOf answer (RunError.BadOutput path) }
         ensures passed { failures_of self.old < greatest_count → result ≡ answer }
-        ensures counted { CountsRun (failures_of self.old) (failures_of self.new) result }
-        ensures same { IsSameRunner self.old self.new }
+        ensures counted { Counts (failures_of self.old) (failures_of self.new)
+            (IsErrOf result RunError.Device) }
+        ensures number { until_failure_of self.new ≡ until_failure_of self.old }
+        ensures inner { inner_of self.new ≡ inner_of self.old }
     {
         match answer {
             Err(RunError::Device) => self.fail(),
@@ -122,8 +129,8 @@ impl<A: Allocator, N: Runner<A>> Runner<A> for FailRunner<N> {
         layout: &Layout<A>,
         command: &Command<A>,
     ) -> Result<N::Job, RunError<A>>
-        ensures gives { IfOk result (λ job. (p : ProducedValue)
-            → N.may_give job p → N.yields (inner_of self.new) layout.now command.now p) }
+        ensures gives { IfOk result (λ job. (e : EndValue)
+            → N.may_give job e → N.yields (inner_of self.new) layout.now command.now e) }
         ensures same { YieldsNoMore (N.yields (inner_of self.new)) (N.yields (inner_of self.old)) }
         ensures listed { OnOk result (StartsOne (N.starts (inner_of self.old))
             (N.starts (inner_of self.new))
@@ -135,6 +142,7 @@ impl<A: Allocator, N: Runner<A>> Runner<A> for FailRunner<N> {
         ensures unopened { OnErr result
             (N.alive (inner_of self.new) ≡ N.alive (inner_of self.old)) }
         ensures refused { IsErrOf result RunError.NotAbsolute → IsAbsolute command.now → ⊥ }
+        ensures bad { (path : List (List ℕ)) → IsErrOf result (RunError.BadOutput path) → ⊥ }
         ensures failed { IsErrOf result RunError.Device
             → failures_of self.old < failures_of self.new }
         ensures unfailed { (IsErrOf result RunError.Device → ⊥)
@@ -151,7 +159,9 @@ impl<A: Allocator, N: Runner<A>> Runner<A> for FailRunner<N> {
     }
 
     fn finish(&mut self, alloc: A, job: N::Job) -> Result<Produced<A>, RunError<A>>
-        ensures gave { IfOk result (N.may_give job) }
+        ensures gave { IfOk result (λ p. N.may_give job (made p)) }
+        ensures bad { (path : List (List ℕ)) → IsErrOf result (RunError.BadOutput path)
+            → N.may_give job (bad_at path) }
         ensures same { YieldsNoMore (N.yields (inner_of self.new)) (N.yields (inner_of self.old)) }
         ensures unlisted { StartsNone (N.starts (inner_of self.old)) (N.starts (inner_of self.new)) }
         ensures closed { N.alive (inner_of self.new) ≡ N.alive (inner_of self.old) - 1 }

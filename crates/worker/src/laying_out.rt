@@ -5,7 +5,8 @@ ghost use Rattle.blob_source.specs.Source.{Asks, IsBlobUnder};
 ghost use Rattle.tree.specs.FlatTree.{path_values};
 ghost use Rattle.tree.specs.Unfolded.{IsUnfolded};
 ghost use Rattle.worker.specs.Layout.{AreGathered, IsLayoutOf};
-ghost use Rattle.worker.specs.Refusals.{IsContentFault, IsTreeFault, StopsLayout, IsLayoutFault};
+ghost use Rattle.worker.specs.Stopping.{IsContentFault};
+ghost use Rattle.worker.specs.Refusals.{IsTreeFault, StopsLayout, IsLayoutFault};
 
 use crate::laid::{Layout, LayoutError};
 use blob_digest::Digest;

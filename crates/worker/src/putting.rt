@@ -5,12 +5,12 @@ ghost use Rattle.action_messages.specs.Action.{action_bytes};
 ghost use Rattle.wire.specs.Bytes.{IsBytes};
 ghost use Rattle.blob_source.specs.Sink.{HasRight};
 ghost use Rattle.runs.specs.Engine.{finished_in};
-ghost use Rattle.worker.specs.Stores.{IsKept, IsKeptBut};
+ghost use Rattle.worker.specs.Storing.{IsKeptBut, HasResultOf, IsResultOfStep};
 ghost use Rattle.worker.specs.Outcomes.{HasAllRight};
 ghost use Rattle.worker.specs.Counted.{Counts, IsFetch};
 ghost use Rattle.worker.specs.Values.{blobs_of};
 ghost use Rattle.worker.specs.Stopped.{IsStoreFault};
-ghost use Rattle.worker.specs.Stored.{directories_of, HasTrees, HasResultOf, IsResultOfStep};
+ghost use Rattle.worker.specs.Stored.{IsKept, directories_of, HasTrees};
 
 use crate::error::Refusal;
 use actions::{Outcome, Output};

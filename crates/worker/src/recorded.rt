@@ -2,8 +2,9 @@ ghost use Rattle.std.specs.Prelude.{◌≡◌, ◌↔◌, ◌+◌, ◌-◌, ◌<
 ghost use Rattle.std.specs.Prelude.{IfOk, Contains};
 ghost use Rattle.std.specs.Result.{IsErrAnd};
 ghost use Rattle.worker.specs.Counted.{Counts, IsFetch};
-ghost use Rattle.worker.specs.Stores.{IsKept};
-ghost use Rattle.worker.specs.Outcomes.{IsHeld, CanBeTaken, HasNoneToTake};
+ghost use Rattle.worker.specs.Stored.{IsKept};
+ghost use Rattle.worker.specs.Outcomes.{IsHeld, CanBeTaken};
+ghost use Rattle.worker.specs.Going.{HasNoneToTake};
 ghost use Rattle.worker.specs.Stopped.{IsStoreFault};
 ghost use Rattle.std.specs.List.{AllByRecursion};
 ghost use Rattle.actions.specs.Outcome.{outputs_in, output_paths};

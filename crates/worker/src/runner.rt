@@ -1,7 +1,7 @@
 ghost use Rattle.std.specs.Prelude.{◌≡◌, ◌+◌, ◌-◌, ◌<◌, ℕ, IfOk, IsErrOf, OnOk, OnErr};
 ghost use Rattle.worker.specs.declared.runner.RunError.TheVariants as errors;
 ghost use Rattle.worker.specs.Outcomes.{YieldsNoMore};
-ghost use Rattle.worker.specs.Values.{IsAbsolute, StartsOne, StartsNone};
+ghost use Rattle.worker.specs.Values.{IsAbsolute, StartsOne, StartsNone, made, bad_at};
 
 use crate::laid::Layout;
 use actions::{Command, Outcome};
@@ -66,13 +66,13 @@ pub trait Runner<A: Allocator> {
 
     ghost use Rattle.action_messages.specs.Command.{CommandValue};
     ghost use Rattle.std.specs.Prelude.{List};
-    ghost use Rattle.worker.specs.Values.{LayoutValue, ProducedValue, StartValue};
+    ghost use Rattle.worker.specs.Values.{LayoutValue, EndValue, StartValue};
 
     /// What may come of a layout and a command.
-    ghost yields: { Self → LayoutValue → CommandValue → ProducedValue → Type 0 };
+    ghost yields: { Self → LayoutValue → CommandValue → EndValue → Type 0 };
 
     /// What may come of a child. It is the child's own: no later call changes it.
-    ghost may_give: { Self.Job → ProducedValue → Type 0 };
+    ghost may_give: { Self.Job → EndValue → Type 0 };
 
     /// The children that it may have started, the latest last.
     ghost starts: { Self → List StartValue → Type 0 };
@@ -90,8 +90,8 @@ pub trait Runner<A: Allocator> {
         layout: &Layout<A>,
         command: &Command<A>,
     ) -> Result<Self::Job, RunError<A>>
-        ensures gives { IfOk result (λ job. (p : ProducedValue)
-            → may_give job p → yields self.new layout.now command.now p) }
+        ensures gives { IfOk result (λ job. (e : EndValue)
+            → may_give job e → yields self.new layout.now command.now e) }
         ensures same { YieldsNoMore (yields self.new) (yields self.old) }
         ensures listed { OnOk result (StartsOne (starts self.old) (starts self.new)
             (record { layout = layout.now; command = command.now })) }
@@ -99,13 +99,16 @@ pub trait Runner<A: Allocator> {
         ensures opened { OnOk result (alive self.new ≡ alive self.old + 1) }
         ensures unopened { OnErr result (alive self.new ≡ alive self.old) }
         ensures refused { IsErrOf result RunError.NotAbsolute → IsAbsolute command.now → ⊥ }
+        ensures bad { (path : List (List ℕ)) → IsErrOf result (RunError.BadOutput path) → ⊥ }
         ensures failed { IsErrOf result RunError.Device → failures self.old < failures self.new }
         ensures unfailed { (IsErrOf result RunError.Device → ⊥)
             → failures self.new ≡ failures self.old };
 
     /// Waits for a child, which is spent also where the call is refused.
     fn finish(&mut self, alloc: A, job: Self::Job) -> Result<Produced<A>, RunError<A>>
-        ensures gave { IfOk result (may_give job) }
+        ensures gave { IfOk result (λ p. may_give job (made p)) }
+        ensures bad { (path : List (List ℕ)) → IsErrOf result (RunError.BadOutput path)
+            → may_give job (bad_at path) }
         ensures same { YieldsNoMore (yields self.new) (yields self.old) }
         ensures unlisted { StartsNone (starts self.old) (starts self.new) }
         ensures closed { alive self.new ≡ alive self.old - 1 }

@@ -7,13 +7,12 @@ ghost use Rattle.runs.specs.Engine.{EngineValue, IsEngine};
 ghost use Rattle.tree.specs.Memo.{known_by};
 ghost use Rattle.std.specs.Result.{IsErrAnd};
 ghost use Rattle.worker.specs.Counted.{Counts, IsDevice, IsFetch};
-ghost use Rattle.worker.specs.Stores.{KnowsBlobs};
+ghost use Rattle.worker.specs.Storing.{KnowsBlobs, StoresSteps};
 ghost use Rattle.worker.specs.Outcomes.{YieldsNoMore};
 ghost use Rattle.worker.specs.Calls.{Call, IsStartable, PutsOf};
 ghost use Rattle.worker.specs.Going.{AreJobsOf, IsJobOf, IsTurn, IsNextTurn, IsGoing, turns_left};
-ghost use Rattle.worker.specs.Going.{FinishesOnly, step_of};
+ghost use Rattle.worker.specs.Going.{FinishesOnly, GoesOnBy, is_start, step_of, taken_in};
 ghost use Rattle.worker.specs.Stopped.{IsRefusedBuild};
-ghost use Rattle.worker.specs.Stored.{StoresSteps};
 
 use crate::beginning::begin;
 use crate::child::Child;
@@ -108,12 +107,13 @@ pub(crate) fn take_turn<A: Allocator + Copy, S: BlobSink<A>, N: Runner<A>>(
     ensures going { (entry : N) (before : Telling) (most : ℕ) (first : EngineValue)
         → YieldsNoMore (N.yields runner.old) (N.yields entry)
         → IsTurn most engine.old children.old.items turn
-        → IsGoing A (N.yields entry) N.may_give (N.starts entry) (N.starts runner.old)
+        → (g : IsGoing A (N.yields entry) N.may_give (N.starts entry) (N.starts runner.old)
         before (S.tells sink.old) most first
-        engine.old children.old.items
-        → IsGoing A (N.yields entry) N.may_give (N.starts entry) (N.starts runner.new)
+        engine.old children.old.items)
+        → GoesOnBy A (N.yields entry) N.may_give (N.starts entry) (N.starts runner.new)
         before (S.tells sink.new) most first
-        engine.new children.new.items }
+        engine.new children.new.items g.led.built.led.calls
+        (taken_in (is_start turn) (step_of turn children.old.items) engine.old engine.new) }
     // Where the turn is refused, the refusal stands.
     ensures stopped { IfErr result (λ e. (entry : N) (before : Telling) (most : ℕ)
         (first : EngineValue)

@@ -1,16 +1,14 @@
-use Rattle.std.proofs.Common.{◌∙◌, inl, inr}
+use Rattle.std.proofs.Common.{◌∙◌, refl}
 use Rattle.std.proofs.lemmas.Result.{err_from_is_err_and}
+use Rattle.blob_source.specs.Source.{AsksSome}
 use Rattle.blob_source.proofs.Asking.{asks_none}
 use Rattle.blob_source.proofs.Puts.{right_grows, right_then}
 use Rattle.worker.specs.Stored.{IsStored}
 use Rattle.worker.specs.declared.error.Refusal.TheVariants as refusals
 use Rattle.worker.proofs.Storing.{stored_grown}
-use Rattle.worker.proofs.Heard.{watched_none}
 use Rattle.worker.proofs.Failures.{counts_calls, counts_engine, counts_exit, counts_from, counts_same}
-use Rattle.builder.proofs.Leading.{led_plan, led_sources}
 use Rattle.builder.proofs.Refusing.{ran_by}
 use Rattle.builder.proofs.Serving.{none_finished, answered}
-use Rattle.builder.proofs.Watched.{watched_of_plan, whole_of}
 use Rattle.builder.specs.Faults.{IsRunnerFailure, IsStoreFailure, fault_of}
 use Rattle.builder.specs.declared.fault.Place.TheVariants.{Step, Root}
 use Rattle.builder.proofs.Failing.{counts_opening, counts_refusal, device_refusal, opening_no_device, exit_device}
@@ -33,102 +31,58 @@ returns-clause-right g c = right_then
     (right_then (right_grows c.new.ensures.called.asked.asks.blobs) c.build.ensures.right)
     (right_grows c.end.ensures.called.asked.asks.blobs)
 
-pub returns-clause-built : goal.returns-clause-built
-returns-clause-built g c =
+pub returns-in_err-engine-clause-build : goal.returns-in_err-engine-clause-build
+returns-in_err-engine-clause-build g c =
+    let p = err_from_is_err_and c.from_residual.result c.from_residual.ensures.1 in
+    rw (p.1, p.2) (record {
+      asked = c.new.ensures.called.asked;
+      stands = c.in_err-engine.ensures.refused;
+      none = λ before h. h;
+      unfailed = refl;
+      unheard = refl;
+    })
+
+pub returns-in_err-build-clause-build : goal.returns-in_err-build-clause-build
+returns-in_err-build-clause-build g c =
+    let p = err_from_is_err_and c.from_residual-in_err-build.result c.from_residual-in_err-build.ensures.1 in
+    let ending = g.S.BlobSource.tells c.build.new.sink in
+    let asks : AsksSome ending ending = record { most = 0; asks = asks_none ending } in
+    rw (p.1, p.2) (
+      c.in_ok-engine.engine,
+      c.build.new.engine,
+      ran_by _ _ _ _ _ _ _ _ _ _ _ c.new.ensures.called.asked c.in_ok-engine.ensures.opened c.build.ensures.led c.build.ensures.watched asks,
+      c.in_err-build.ensures.stopped,
+    )
+
+pub returns-in_err-built-clause-build : goal.returns-in_err-built-clause-build
+returns-in_err-built-clause-build g c =
+    let p = err_from_is_err_and c.from_residual-in_err-built.result c.from_residual-in_err-built.ensures.1 in
+    rw (p.1, p.2) (
+      c.in_ok-engine.engine,
+      c.build.new.engine,
+      ran_by _ _ _ _ _ _ _ _ _ _ _ c.new.ensures.called.asked c.in_ok-engine.ensures.opened c.build.ensures.led c.build.ensures.watched c.end.ensures.called.asked,
+      record { complete = c.in_ok-build.ensures.done; stands = c.in_err-built.ensures.refused; unfailed = c.in_ok-build.ensures.unfailed },
+    )
+
+pub returns-clause-build : goal.returns-clause-build
+returns-clause-build g c =
     let opening = g.S.BlobSource.tells c.new.new.source in
     let ending = g.S.BlobSource.tells c.build.new.sink in
     let told = g.S.BlobSource.tells c.end.new.sink in
     let opened = c.in_ok-engine.ensures.opened in
     let asks = c.end.ensures.called.asked.asks in
-    let led = c.build.ensures.led.built in
-    let stored : IsStored told c.build.new.engine = stored_grown asks.blobs asks.results (c.in_ok-build.ensures.stored (none_finished c.in_ok-engine.engine opened.none_finished)) in
-    record {
-      opening = opening;
-      first = c.in_ok-engine.engine;
-      opened = opened;
-      ending = ending;
-      still = c.build.ensures.right;
-      last = c.build.new.engine;
-      led = led;
-      of_plan = led_plan led.led ∙ opened.plan;
-      of_sources = led_sources led.led ∙ opened.sources;
-      asked = c.end.ensures.called.asked;
-      stored = stored;
-      end = c.in_ok-built.ensures.ended;
-      answered = answered g.row.A.Denot (g.N.Runner.yields c.args.runner.now) c.args.jobs c.args.plan c.args.sources opening ending told c.in_ok-engine.engine c.build.new.engine c.in_ok-built.built opened c.build.ensures.right led.led (right_grows asks.blobs) c.plan.ensures.valid stored c.in_ok-built.ensures.ended;
-    }
-
-pub returns-in_err-engine-clause-ran : goal.returns-in_err-engine-clause-ran
-returns-in_err-engine-clause-ran g c = inr (c.new.ensures.called.asked, λ before h. h)
-
-pub returns-in_err-build-clause-ran : goal.returns-in_err-build-clause-ran
-returns-in_err-build-clause-ran g c =
-    let ending = g.S.BlobSource.tells c.build.new.sink in
-    inl (c.build.new.engine, ran_by _ _ _ _ _ _ _ _ _ _ _ _ _ c.new.ensures.called.asked c.in_ok-engine.ensures.opened c.build.ensures.led (record { most = 0; asks = asks_none ending }))
-
-pub returns-in_err-built-clause-ran : goal.returns-in_err-built-clause-ran
-returns-in_err-built-clause-ran g c = inl (c.build.new.engine, ran_by _ _ _ _ _ _ _ _ _ _ _ _ _ c.new.ensures.called.asked c.in_ok-engine.ensures.opened c.build.ensures.led c.end.ensures.called.asked)
-
-pub returns-clause-ran : goal.returns-clause-ran
-returns-clause-ran g c = inl (c.build.new.engine, ran_by _ _ _ _ _ _ _ _ _ _ _ _ _ c.new.ensures.called.asked c.in_ok-engine.ensures.opened c.build.ensures.led c.end.ensures.called.asked)
-
-pub returns-clause-root : goal.returns-clause-root
-returns-clause-root g c =
-    (c.build.new.engine, ran_by _ _ _ _ _ _ _ _ _ _ _ _ _ c.new.ensures.called.asked c.in_ok-engine.ensures.opened c.build.ensures.led c.end.ensures.called.asked, c.in_ok-built.ensures.ended)
-
-pub returns-in_err-engine-clause-refused : goal.returns-in_err-engine-clause-refused
-returns-in_err-engine-clause-refused g c =
-    let p = err_from_is_err_and c.from_residual.result c.from_residual.ensures.1 in
-    rw (p.1, p.2) c.in_err-engine.ensures.refused
-
-pub returns-in_err-build-clause-refused : goal.returns-in_err-build-clause-refused
-returns-in_err-build-clause-refused g c =
-    let p = err_from_is_err_and c.from_residual-in_err-build.result c.from_residual-in_err-build.ensures.1 in
-    rw (p.1, p.2) (record {
-      opening = g.S.BlobSource.tells c.new.new.source;
-      first = c.in_ok-engine.engine;
-      opened = c.in_ok-engine.ensures.opened;
-      still = c.build.ensures.right;
-      stands = c.in_err-build.ensures.stopped;
-    })
-
-pub returns-in_err-built-clause-refused : goal.returns-in_err-built-clause-refused
-returns-in_err-built-clause-refused g c =
-    let p = err_from_is_err_and c.from_residual-in_err-built.result c.from_residual-in_err-built.ensures.1 in
-    rw (p.1, p.2) (record {
-      opening = g.S.BlobSource.tells c.new.new.source;
-      first = c.in_ok-engine.engine;
-      opened = c.in_ok-engine.ensures.opened;
-      ending = g.S.BlobSource.tells c.build.new.sink;
-      still = c.build.ensures.right;
-      last = c.build.new.engine;
-      led = c.build.ensures.led.built.led;
-      complete = c.in_ok-build.ensures.done;
-      asked = c.end.ensures.called.asked;
-      stands = c.in_err-built.ensures.refused;
-    })
-
-pub returns-in_err-engine-clause-watched : goal.returns-in_err-engine-clause-watched
-returns-in_err-engine-clause-watched g c = watched_none (g.W.Watcher.told c.args.watcher.now)
-
-pub returns-in_err-build-clause-watched : goal.returns-in_err-build-clause-watched
-returns-in_err-build-clause-watched g c =
-    let end = g.S.BlobSource.tells c.build.new.sink in
-    watched_of_plan (g.S.BlobSource.tells c.args.sink.now) (g.S.BlobSource.tells c.new.new.source) end end c.in_ok-engine.engine c.new.ensures.called.asked c.in_ok-engine.ensures.opened (record { most = 0; asks = asks_none end }) c.build.ensures.watched
-
-pub returns-in_err-built-clause-watched : goal.returns-in_err-built-clause-watched
-returns-in_err-built-clause-watched g c =
-    watched_of_plan (g.S.BlobSource.tells c.args.sink.now) (g.S.BlobSource.tells c.new.new.source) (g.S.BlobSource.tells c.build.new.sink) (g.S.BlobSource.tells c.end.new.sink) c.in_ok-engine.engine c.new.ensures.called.asked c.in_ok-engine.ensures.opened c.end.ensures.called.asked c.build.ensures.watched
-
-pub returns-clause-watched : goal.returns-clause-watched
-returns-clause-watched g c =
-    watched_of_plan (g.S.BlobSource.tells c.args.sink.now) (g.S.BlobSource.tells c.new.new.source) (g.S.BlobSource.tells c.build.new.sink) (g.S.BlobSource.tells c.end.new.sink) c.in_ok-engine.engine c.new.ensures.called.asked c.in_ok-engine.ensures.opened c.end.ensures.called.asked c.build.ensures.watched
-
-pub returns-clause-whole : goal.returns-clause-whole
-returns-clause-whole g c =
-    let opened = c.in_ok-engine.ensures.opened in
-    whole_of c.args.plan c.in_ok-engine.engine c.build.new.engine opened c.plan.ensures.valid c.in_ok-build.ensures.done (led_plan c.build.ensures.led.built.led ∙ opened.plan)
-    (g.W.Watcher.told c.args.watcher.now) (g.W.Watcher.told c.build.new.watcher) c.in_ok-build.ensures.up_to_date
+    let stored : IsStored told c.build.new.engine = stored_grown asks.blobs asks.results (c.in_ok-build.ensures.stored (none_finished c.in_ok-engine.engine opened.none_finished)) in (
+      c.in_ok-engine.engine,
+      c.build.new.engine,
+      ran_by _ _ _ _ _ _ _ _ _ _ _ c.new.ensures.called.asked opened c.build.ensures.led c.build.ensures.watched c.end.ensures.called.asked,
+      record {
+        end = c.in_ok-built.ensures.ended;
+        stored = stored;
+        answered = answered g.row.A.Denot (g.N.Runner.yields c.args.runner.now) c.args.jobs c.args.plan c.args.sources opening ending told c.in_ok-engine.engine c.build.new.engine c.in_ok-built.built opened c.build.ensures.right c.build.ensures.led.built.led (right_grows asks.blobs) c.plan.ensures.valid stored c.in_ok-built.ensures.ended;
+        heard = c.in_ok-build.ensures.up_to_date;
+        unfailed = c.in_ok-build.ensures.unfailed;
+      },
+    )
 
 pub returns-in_err-engine-clause-fetched : goal.returns-in_err-engine-clause-fetched
 returns-in_err-engine-clause-fetched g c = counts_exit (λ e. IsStoreFailure (fault_of e)) c.from_residual.result c.from_residual.ensures.1 (counts_opening _ (counts_calls c.in_err-engine.ensures.called))

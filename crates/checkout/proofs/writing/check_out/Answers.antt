@@ -1,5 +1,5 @@
 -- A tree that is told, and its entries.
-use Rattle.std.proofs.Common.{subst, inr}
+use Rattle.std.proofs.Common.{subst, inl, inr}
 use Rattle.std.specs.Prelude.{IfOk}
 use Rattle.std.proofs.lemmas.Result.{err_from_is_err_and}
 use Rattle.blob_source.proofs.Calling.{called_ok, called_no, called_exit}
@@ -7,18 +7,27 @@ use Rattle.blob_source.proofs.Asking.{ok_no_error}
 use Rattle.checkout.specs.Folder.{empty_folder}
 use Rattle.checkout.specs.Refused.{FailsEntries}
 use Rattle.checkout.specs.Written.{AreWritten}
-use Rattle.checkout.proofs.Telling.{unfolded_still}
+use Rattle.checkout.proofs.Telling.{unfolded_still, place_fails}
 use Rattle.checkout.proofs.writing.check_out.Goals as goal
+
+pub returns-in_err-folder-clause-refused : goal.returns-in_err-folder-clause-refused
+returns-in_err-folder-clause-refused g c =
+    let p = err_from_is_err_and c.from_residual-in_err-folder.result c.from_residual-in_err-folder.ensures.1 in
+    rw (p.1, p.2) (inr (
+      c.in_ok-tree.tree,
+      c.in_ok-tree.ensures.told,
+      inl (place_fails g.W.FolderWriter.works.refuses c.args.path.now c.take.result c.in_err-folder.field-0.0 c.in_err-folder.ensures.refused c.take.ensures.refused),
+    ))
 
 pub returns-in_err-write_entries-clause-refused : goal.returns-in_err-write_entries-clause-refused
 returns-in_err-write_entries-clause-refused g c =
     let p = err_from_is_err_and c.from_residual-in_err-write_entries.result c.from_residual-in_err-write_entries.ensures.1 in
     let blobs = (g.S.BlobSource.tells c.write_entries.new.source).blobs in
-    rw (p.1, p.2) (inr (inr (
+    rw (p.1, p.2) (inr (
       c.in_ok-tree.tree,
       unfolded_still c.write_entries.ensures.called.asked.asks.blobs c.in_ok-tree.ensures.told,
-      subst (λ es. FailsEntries g.W.FolderWriter.works.refuses blobs c.args.path.now es c.in_err-write_entries.field-0.0) c.in_ok-entries.ensures.value c.in_err-write_entries.ensures.refused,
-    )))
+      inr (subst (λ es. FailsEntries g.W.FolderWriter.works.refuses blobs c.args.path.now es c.in_err-write_entries.field-0.0) c.in_ok-entries.ensures.value c.in_err-write_entries.ensures.refused),
+    ))
 
 pub returns-in_err-write_entries-clause-called : goal.returns-in_err-write_entries-clause-called
 returns-in_err-write_entries-clause-called g c =

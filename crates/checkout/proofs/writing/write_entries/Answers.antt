@@ -1,13 +1,13 @@
 -- The entries so far, and the next one.
-use Rattle.std.proofs.Common.{rules, arith, ◌≡◌, [], ◌∷◌, ap, subst, ◌∙◌}
+use Rattle.std.proofs.Common.{rules, arith, ◌≡◌, [], ◌∷◌, ap, subst, ◌∙◌, inl}
 use Rattle.std.proofs.lemmas.Result.{err_from_is_err_and}
 use Rattle.blob_source.proofs.Asking.{ok_no_error}
 use Rattle.blob_source.proofs.Calling.{called_none, called_no, called_on, called_exit}
 use Rattle.tree.specs.FlatTree.{entry_value, path_values}
 use Rattle.checkout.specs.Refused.{FailsEntry}
 use Rattle.checkout.specs.Written.{place_below}
-use Rattle.checkout.proofs.Entries.{SoFar, none_yet, next_one, is_among, all_done, none_left}
-use Rattle.checkout.proofs.Telling.{memory_fails}
+use Rattle.checkout.specs.declared.error.CheckoutError.TheVariants.{Memory}
+use Rattle.checkout.proofs.Entries.{SoFar, none_yet, next_one, next_fails, all_done, none_left}
 use Rattle.checkout.proofs.writing.write_entries.Goals as goal
 
 pub loop-below-init : goal.loop-below-init
@@ -29,8 +29,8 @@ returns-in_err-place-clause-refused g c =
     let left = c.next.new.self.rest.items in
     let steps : c.loop-below.below-iterator.rest.items ≡ (c.in-Some.below, c.in-Some.entry) ∷ left = search rules in
     let so_far = subst (λ es. SoFar works blobs c.args.folder.now c.loop-below.folder c.args.path.now all (path_values es)) steps c.loop-below.invariant.so_far in
-    memory_fails c.from_residual.result works.refuses blobs c.args.path.now all c.in-Some.below (entry_value c.in-Some.entry)
-    (is_among works c.args.path.now all c.args.folder.now c.loop-below.folder c.in-Some.below (entry_value c.in-Some.entry) (path_values left) so_far) c.from_residual.ensures.1
+    let p = err_from_is_err_and c.from_residual.result c.from_residual.ensures.1 in
+    rw (p.1, p.2) (next_fails works c.args.path.now all works.refuses c.args.folder.now c.loop-below.folder c.in-Some.below (entry_value c.in-Some.entry) (path_values left) Memory (λ d b h. h) so_far (inl tt))
 
 pub returns-in_err-place-clause-called : goal.returns-in_err-place-clause-called
 returns-in_err-place-clause-called g c = called_no (λ n. n) (search rules) c.loop-below.invariant.called
@@ -46,12 +46,8 @@ returns-in_err-write_entry-clause-refused g c =
     let steps : c.loop-below.below-iterator.rest.items ≡ (c.in-Some.below, c.in-Some.entry) ∷ left = search rules in
     let so_far = subst (λ es. SoFar works blobs c.args.folder.now c.loop-below.folder c.args.path.now all (path_values es)) steps c.loop-below.invariant.so_far in
     let at = c.as_str-in-loop-below.ensures.value ∙ c.in_ok-place.ensures ∙ ap (λ t. place_below c.args.path.now t) c.as_str.ensures.value in
-    rw (p.1, p.2) (
-      c.in-Some.below,
-      entry_value c.in-Some.entry,
-      is_among works c.args.path.now all c.args.folder.now c.loop-below.folder c.in-Some.below (entry_value c.in-Some.entry) (path_values left) so_far,
-      subst (λ q. FailsEntry works.refuses after q (entry_value c.in-Some.entry) c.in_err-write_entry.field-0.0) at c.in_err-write_entry.ensures.refused,
-    )
+    rw (p.1, p.2) (next_fails works c.args.path.now all works.refuses c.args.folder.now c.loop-below.folder c.in-Some.below (entry_value c.in-Some.entry) (path_values left) c.in_err-write_entry.field-0.0
+    c.write_entry.ensures.called.asked.asks.blobs so_far (subst (λ q. FailsEntry works.refuses after q (entry_value c.in-Some.entry) c.in_err-write_entry.field-0.0) at c.in_err-write_entry.ensures.refused))
 
 pub returns-in_err-write_entry-clause-called : goal.returns-in_err-write_entry-clause-called
 returns-in_err-write_entry-clause-called g c =

@@ -5,7 +5,7 @@ use Rattle.commands.proofs.Exits.{err_weaker, exit_by}
 use Rattle.std.proofs.lemmas.Result.{IfOk-weaker}
 use Rattle.cli.proofs.Builds.{connect_fails, reaches, telling_fails, tells_of}
 use Rattle.cli.specs.Refused.{FailsBuild, FailsFolder}
-use Rattle.cli.specs.Refused.FailsBuild.{in_folder, in_place}
+use Rattle.cli.specs.Refused.FailsBuild.{in_folder}
 use Rattle.cli.proofs.building.build_asked.Goals as goal
 
 pub returns-in_err-remote-clause-refused : goal.returns-in_err-remote-clause-refused

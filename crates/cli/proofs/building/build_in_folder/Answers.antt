@@ -1,17 +1,20 @@
 use Rattle.std.proofs.Common.{inl, inr}
 use Rattle.std.proofs.Math.Logic.{∥∥₁_map}
-use Rattle.remote.specs.Remote.{connection_of, telling_of}
+use Rattle.remote.specs.Remote.{connection_of}
 use Rattle.commands.specs.Places.{IsToldOver}
-use Rattle.cli.proofs.Builds.{putting_fails, stops_of, told_of}
+use Rattle.cli.proofs.Builds.{putting_fails, stops_of, told_as}
 use Rattle.commands.proofs.Exits.{exit_by}
 use Rattle.cli.specs.Refused.{FailsTelling}
 use Rattle.cli.proofs.building.build_in_folder.Goals as goal
 
 pub returns-in-Ok-clause-told : goal.returns-in-Ok-clause-told
 returns-in-Ok-clause-told g c =
-    let remote = c.tell_build.new.sink.remote in
-    told_of (IsToldOver g.K.Origin.start) c.args.asked.now.plan c.args.asked.now.sources _ (telling_of remote) _ c.in-Ok.told
-    (∥∥₁_map c.tell_build.new.sink.over (λ over. (connection_of g.S.Stream.flow remote, over))) c.in-Ok.ensures.told c.in_ok-put_root-in-Ok.ensures.held
+    let remote = c.tell_build.new.sink.remote in (
+      told_as (IsToldOver g.K.Origin.start) c.args.asked.now.plan c.args.asked.now.sources _ _ _
+          (∥∥₁_map c.new-client.result.over (λ over. (connection_of g.S.Stream.flow c.new-client.result.remote, over)))
+          (∥∥₁_map c.tell_build.new.sink.over (λ over. (connection_of g.S.Stream.flow remote, over))) _ c.tell_build.result _ c.tell_build.ensures.told c.in-Ok.is,
+      c.in_ok-put_root-in-Ok.ensures.held,
+    )
 
 pub returns-in_err-put_root-in-Ok-clause-fault : goal.returns-in_err-put_root-in-Ok-clause-fault
 returns-in_err-put_root-in-Ok-clause-fault g c =
@@ -22,5 +25,7 @@ returns-in_err-put_root-in-Ok-clause-fault g c =
 pub returns-in-Err-Device-clause-fault : goal.returns-in-Err-Device-clause-fault
 returns-in-Err-Device-clause-fault g c =
     let remote = c.tell_build.new.sink.remote in
-    inr (inl (stops_of (IsToldOver g.K.Origin.start) c.args.asked.now.plan c.args.asked.now.sources c.args.asked.now.jobs (telling_of remote) _ c.in-Err-Device.place _ _
-    (∥∥₁_map c.tell_build.new.sink.over (λ over. (connection_of g.S.Stream.flow remote, over))) c.in-Err-Device.ensures.refused c.in-Err-Device.field-0-is c.in_ok-place_text-in-Err-Device.ensures))
+    inr (inl (stops_of (IsToldOver g.K.Origin.start) c.args.asked.now.plan c.args.asked.now.sources c.args.asked.now.jobs _ _
+    (∥∥₁_map c.new-client.result.over (λ over. (connection_of g.S.Stream.flow c.new-client.result.remote, over)))
+    (∥∥₁_map c.tell_build.new.sink.over (λ over. (connection_of g.S.Stream.flow remote, over)))
+    _ c.in-Err-Device.place _ _ c.tell_build.result c.tell_build.ensures.told c.in-Err-Device.is c.in-Err-Device.field-0-is c.in_ok-place_text-in-Err-Device.ensures))

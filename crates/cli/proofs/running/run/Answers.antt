@@ -2,16 +2,17 @@ use Rattle.std.proofs.Common.{◌≡◌, rules, inl, map, string_bytes, codes}
 use Rattle.commands.specs.Status.{status_of}
 use Rattle.clap.specs.Words.{subcommand_of, subcommand_rows_of}
 use Rattle.command_lines.specs.CommandLine.{CallsCommand, program_line}
+use Rattle.command_lines.proofs.Called.{calls_one}
 use Rattle.commands.proofs.Exits.{exit_by}
 use Rattle.commands.proofs.Writing.{no_line_of_same, where_err}
-use Rattle.cli.proofs.CommandLines.{build_fails, get_fails, no_help, no_told, no_version, options_found, put_fails, serve_fails, verify_fails, yes_done}
+use Rattle.cli.proofs.CommandLines.{build_ends, build_fails, get_ends, get_fails, no_help, no_version, none_called, options_found, put_fails, serve_fails, verify_ends, verify_fails}
 use Rattle.cli.specs.Ended.{Fails}
 use Rattle.cli.specs.Ended.Fails.{in_words}
 use Rattle.cli.specs.Ended.IsDone.{shown}
 use Rattle.cli.proofs.running.run.Goals as goal
 
-pub returns-in-Err-clause-done : goal.returns-in-Err-clause-done
-returns-in-Err-clause-done g c = λ _. shown c.in_ok-show-in-Err.ensures.shown
+pub returns-in-Err-clause-ended : goal.returns-in-Err-clause-ended
+returns-in-Err-clause-ended g c = shown c.in_ok-show-in-Err.ensures.shown
 
 pub returns-in_err-show-in-Err-clause-refused : goal.returns-in_err-show-in-Err-clause-refused
 returns-in_err-show-in-Err-clause-refused g c =
@@ -27,66 +28,79 @@ returns-in_err-show-in-Err-clause-begun g c =
     let words = map string_bytes c.args.words.now in
     where_err c.from_residual.result (λ called. inl (c.in_err-show-in-Err.ensures.silent (no_help words called.faultless) (no_version words called.faultless)))
 
-pub returns-in_ok-run_verify-in-Some-verify-default-clause-done : goal.returns-in_ok-run_verify-in-Some-verify-default-clause-done
-returns-in_ok-run_verify-in-Some-verify-default-clause-done g c =
+pub unreachable-requires : goal.unreachable-requires
+unreachable-requires g c =
+    let words = map string_bytes c.args.words.now in
+    let one = calls_one words c.in-Ok.ensures.fails in
+    none_called (subcommand_rows_of c.in-Ok.matches) (subcommand_of program_line words) one.name c.in-Ok.ensures.called c.in_default.ensures.rows one.called.command_is
+
+pub returns-in_ok-run_verify-in-verify-clause-ended : goal.returns-in_ok-run_verify-in-verify-clause-ended
+returns-in_ok-run_verify-in-verify-clause-ended g c =
     let words = map string_bytes c.args.words.now in
     let called : CallsCommand words (codes "verify") = record { faultless = c.in-Ok.ensures.fails; command_is = search rules } in
-    let rows = options_found (subcommand_rows_of c.in-Ok.matches) (subcommand_of program_line words) _ c.in-Ok.ensures.called c.in-Some-verify-default.ensures.rows in
-    λ done. yes_done words rows _ called c.in_ok-run_verify-in-Some-verify-default.ensures.printed done
+    let rows = options_found (subcommand_rows_of c.in-Ok.matches) (subcommand_of program_line words) _ c.in-Ok.ensures.called c.in-Some.ensures.rows in
+    verify_ends words rows _ called c.in_ok-run_verify-in-verify.ensures.printed c.in_ok-run_verify-in-verify.ensures.noted
 
-pub returns-in_ok-run_verify-in-Some-verify-default-clause-no : goal.returns-in_ok-run_verify-in-Some-verify-default-clause-no
-returns-in_ok-run_verify-in-Some-verify-default-clause-no g c =
-    let words = map string_bytes c.args.words.now in
-    let called : CallsCommand words (codes "verify") = record { faultless = c.in-Ok.ensures.fails; command_is = search rules } in
-    let rows = options_found (subcommand_rows_of c.in-Ok.matches) (subcommand_of program_line words) _ c.in-Ok.ensures.called c.in-Some-verify-default.ensures.rows in
-    λ not. no_told words rows _ called c.in_ok-run_verify-in-Some-verify-default.ensures.printed not
-
-pub returns-in_err-run_verify-in-Some-verify-default-clause-refused : goal.returns-in_err-run_verify-in-Some-verify-default-clause-refused
-returns-in_err-run_verify-in-Some-verify-default-clause-refused g c =
-    let words = map string_bytes c.args.words.now in
-    let called : CallsCommand words (codes "verify") = record { faultless = c.in-Ok.ensures.fails; command_is = search rules } in
-    let rows = options_found (subcommand_rows_of c.in-Ok.matches) (subcommand_of program_line words) _ c.in-Ok.ensures.called c.in-Some-verify-default.ensures.rows in
-    exit_by (Fails g.W.World.sees words) _ c.from_residual-in_err-run_verify-in-Some-verify-default.ensures.1
-    (verify_fails words rows _ called c.in_err-run_verify-in-Some-verify-default.ensures.refused)
-
-pub returns-in_err-run_build-in-Some-build-default-clause-refused : goal.returns-in_err-run_build-in-Some-build-default-clause-refused
-returns-in_err-run_build-in-Some-build-default-clause-refused g c =
-    let words = map string_bytes c.args.words.now in
-    let called : CallsCommand words (codes "build") = record { faultless = c.in-Ok.ensures.fails; command_is = search rules } in
-    let rows = options_found (subcommand_rows_of c.in-Ok.matches) (subcommand_of program_line words) _ c.in-Ok.ensures.called c.in-Some-build-default.ensures.rows in
-    exit_by (Fails g.W.World.sees words) _ c.from_residual-in_err-run_build-in-Some-build-default.ensures.1
-    (build_fails words rows _ called c.in_err-run_build-in-Some-build-default.ensures.refused)
-
-pub returns-in_err-run_put-in-Some-put-default-clause-refused : goal.returns-in_err-run_put-in-Some-put-default-clause-refused
-returns-in_err-run_put-in-Some-put-default-clause-refused g c =
-    let words = map string_bytes c.args.words.now in
-    let called : CallsCommand words (codes "put") = record { faultless = c.in-Ok.ensures.fails; command_is = search rules } in
-    let rows = options_found (subcommand_rows_of c.in-Ok.matches) (subcommand_of program_line words) _ c.in-Ok.ensures.called c.in-Some-put-default.ensures.rows in
-    exit_by (Fails g.W.World.sees words) _ c.from_residual-in_err-run_put-in-Some-put-default.ensures.1
-    (put_fails words rows _ called c.in_err-run_put-in-Some-put-default.ensures.refused)
-
-pub returns-in_err-run_get-in-Some-get-default-clause-refused : goal.returns-in_err-run_get-in-Some-get-default-clause-refused
-returns-in_err-run_get-in-Some-get-default-clause-refused g c =
+pub returns-in_ok-run_get-in-get-clause-ended : goal.returns-in_ok-run_get-in-get-clause-ended
+returns-in_ok-run_get-in-get-clause-ended g c =
     let words = map string_bytes c.args.words.now in
     let called : CallsCommand words (codes "get") = record { faultless = c.in-Ok.ensures.fails; command_is = search rules } in
-    let rows = options_found (subcommand_rows_of c.in-Ok.matches) (subcommand_of program_line words) _ c.in-Ok.ensures.called c.in-Some-get-default.ensures.rows in
-    exit_by (Fails g.W.World.sees words) _ c.from_residual-in_err-run_get-in-Some-get-default.ensures.1
-    (get_fails words rows _ called c.in_err-run_get-in-Some-get-default.ensures.refused)
+    let rows = options_found (subcommand_rows_of c.in-Ok.matches) (subcommand_of program_line words) _ c.in-Ok.ensures.called c.in-Some.ensures.rows in
+    get_ends words rows _ called c.in_ok-run_get-in-get.ensures.answered
 
-pub returns-in_err-run_serve-in-Some-serve-default-clause-refused : goal.returns-in_err-run_serve-in-Some-serve-default-clause-refused
-returns-in_err-run_serve-in-Some-serve-default-clause-refused g c =
+pub returns-in_ok-run_build-in-build-clause-ended : goal.returns-in_ok-run_build-in-build-clause-ended
+returns-in_ok-run_build-in-build-clause-ended g c =
+    let words = map string_bytes c.args.words.now in
+    let called : CallsCommand words (codes "build") = record { faultless = c.in-Ok.ensures.fails; command_is = search rules } in
+    let rows = options_found (subcommand_rows_of c.in-Ok.matches) (subcommand_of program_line words) _ c.in-Ok.ensures.called c.in-Some.ensures.rows in
+    build_ends words rows _ called c.in_ok-run_build-in-build.ensures.printed
+
+pub returns-in_err-run_verify-in-verify-clause-refused : goal.returns-in_err-run_verify-in-verify-clause-refused
+returns-in_err-run_verify-in-verify-clause-refused g c =
+    let words = map string_bytes c.args.words.now in
+    let called : CallsCommand words (codes "verify") = record { faultless = c.in-Ok.ensures.fails; command_is = search rules } in
+    let rows = options_found (subcommand_rows_of c.in-Ok.matches) (subcommand_of program_line words) _ c.in-Ok.ensures.called c.in-Some.ensures.rows in
+    exit_by (Fails g.W.World.sees words) _ c.from_residual-in_err-run_verify-in-verify.ensures.1
+    (verify_fails words rows _ called c.in_err-run_verify-in-verify.ensures.refused)
+
+pub returns-in_err-run_build-in-build-clause-refused : goal.returns-in_err-run_build-in-build-clause-refused
+returns-in_err-run_build-in-build-clause-refused g c =
+    let words = map string_bytes c.args.words.now in
+    let called : CallsCommand words (codes "build") = record { faultless = c.in-Ok.ensures.fails; command_is = search rules } in
+    let rows = options_found (subcommand_rows_of c.in-Ok.matches) (subcommand_of program_line words) _ c.in-Ok.ensures.called c.in-Some.ensures.rows in
+    exit_by (Fails g.W.World.sees words) _ c.from_residual-in_err-run_build-in-build.ensures.1
+    (build_fails words rows _ called c.in_err-run_build-in-build.ensures.refused)
+
+pub returns-in_err-run_put-in-put-clause-refused : goal.returns-in_err-run_put-in-put-clause-refused
+returns-in_err-run_put-in-put-clause-refused g c =
+    let words = map string_bytes c.args.words.now in
+    let called : CallsCommand words (codes "put") = record { faultless = c.in-Ok.ensures.fails; command_is = search rules } in
+    let rows = options_found (subcommand_rows_of c.in-Ok.matches) (subcommand_of program_line words) _ c.in-Ok.ensures.called c.in-Some.ensures.rows in
+    exit_by (Fails g.W.World.sees words) _ c.from_residual-in_err-run_put-in-put.ensures.1
+    (put_fails words rows _ called c.in_err-run_put-in-put.ensures.refused)
+
+pub returns-in_err-run_get-in-get-clause-refused : goal.returns-in_err-run_get-in-get-clause-refused
+returns-in_err-run_get-in-get-clause-refused g c =
+    let words = map string_bytes c.args.words.now in
+    let called : CallsCommand words (codes "get") = record { faultless = c.in-Ok.ensures.fails; command_is = search rules } in
+    let rows = options_found (subcommand_rows_of c.in-Ok.matches) (subcommand_of program_line words) _ c.in-Ok.ensures.called c.in-Some.ensures.rows in
+    exit_by (Fails g.W.World.sees words) _ c.from_residual-in_err-run_get-in-get.ensures.1
+    (get_fails words rows _ called c.in_err-run_get-in-get.ensures.refused)
+
+pub returns-in_err-run_serve-in-serve-clause-refused : goal.returns-in_err-run_serve-in-serve-clause-refused
+returns-in_err-run_serve-in-serve-clause-refused g c =
     let words = map string_bytes c.args.words.now in
     let called : CallsCommand words (codes "serve") = record { faultless = c.in-Ok.ensures.fails; command_is = search rules } in
-    let rows = options_found (subcommand_rows_of c.in-Ok.matches) (subcommand_of program_line words) _ c.in-Ok.ensures.called c.in-Some-serve-default.ensures.rows in
-    exit_by (Fails g.W.World.sees words) _ c.from_residual-in_err-run_serve-in-Some-serve-default.ensures.1
-    (serve_fails words rows _ called c.in_err-run_serve-in-Some-serve-default.ensures.refused)
+    let rows = options_found (subcommand_rows_of c.in-Ok.matches) (subcommand_of program_line words) _ c.in-Ok.ensures.called c.in-Some.ensures.rows in
+    exit_by (Fails g.W.World.sees words) _ c.from_residual-in_err-run_serve-in-serve.ensures.1
+    (serve_fails words rows _ called c.in_err-run_serve-in-serve.ensures.refused)
 
-pub returns-in_err-run_get-in-Some-get-default-clause-unprinted : goal.returns-in_err-run_get-in-Some-get-default-clause-unprinted
-returns-in_err-run_get-in-Some-get-default-clause-unprinted g c =
-    exit_by (λ fault. status_of fault ≡ 2 → g.O.Write.contents c.run_get.new.out ≡ g.O.Write.contents c.args.out.now) _ c.from_residual-in_err-run_get-in-Some-get-default.ensures.1
-    c.in_err-run_get-in-Some-get-default.ensures.unprinted
+pub returns-in_err-run_get-in-get-clause-unprinted : goal.returns-in_err-run_get-in-get-clause-unprinted
+returns-in_err-run_get-in-get-clause-unprinted g c =
+    exit_by (λ fault. status_of fault ≡ 2 → g.O.Write.contents c.run_get.new.out ≡ g.O.Write.contents c.args.out.now) _ c.from_residual-in_err-run_get-in-get.ensures.1
+    c.in_err-run_get-in-get.ensures.unprinted
 
-pub returns-in_err-run_serve-in-Some-serve-default-clause-unprinted : goal.returns-in_err-run_serve-in-Some-serve-default-clause-unprinted
-returns-in_err-run_serve-in-Some-serve-default-clause-unprinted g c =
-    exit_by (λ fault. status_of fault ≡ 2 → g.O.Write.contents c.run_serve.new.out ≡ g.O.Write.contents c.args.out.now) _ c.from_residual-in_err-run_serve-in-Some-serve-default.ensures.1
-    c.in_err-run_serve-in-Some-serve-default.ensures.unprinted
+pub returns-in_err-run_serve-in-serve-clause-unprinted : goal.returns-in_err-run_serve-in-serve-clause-unprinted
+returns-in_err-run_serve-in-serve-clause-unprinted g c =
+    exit_by (λ fault. status_of fault ≡ 2 → g.O.Write.contents c.run_serve.new.out ≡ g.O.Write.contents c.args.out.now) _ c.from_residual-in_err-run_serve-in-serve.ensures.1
+    c.in_err-run_serve-in-serve.ensures.unprinted

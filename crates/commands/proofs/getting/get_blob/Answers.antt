@@ -1,4 +1,4 @@
-use Rattle.std.proofs.Common.{◌≡◌, ◌≢◌, ◌∙◌, Some, Ok, Option, Result, ℕ, inr, refl, subst, sym, string_bytes}
+use Rattle.std.proofs.Common.{◌≡◌, ◌≢◌, ◌∙◌, Some, Ok, Option, Result, ℕ, inr, subst, sym, string_bytes}
 use Rattle.std.specs.declared.alloc.Global.{Global}
 use Rattle.std.specs.declared.vec.Vec.{Vec}
 use Rattle.blob_digest.specs.Digest.{digest_of}
@@ -8,7 +8,6 @@ use Rattle.remote.specs.Remote.{blobs_of, connection_of}
 use Rattle.std.specs.Prelude.{codes}
 use Rattle.commands.specs.Faults.{TellsRefusal}
 use Rattle.commands.specs.GetRefused.FailsGetBlob.{in_bytes, in_reply}
-use Rattle.commands.specs.Places.{CameOver, Comes}
 use Rattle.commands.proofs.Tellings.{comes_on, got_bytes}
 use Rattle.commands.specs.Places.Comes.{fresh}
 use Rattle.commands.proofs.getting.get_blob.Goals as goal

@@ -15,8 +15,8 @@ returns-in-Some-clause-answered g c =
     let into : first_of (codes "into") rows ≡ Some c.in-Some.folder.now = search rules in
     let starts : StartsGet sees rows digest start = starts_get sees rows start digest c.in_ok-server.server c.text_of.result.now c.text_of.ensures c.in_ok-server.ensures.address
     c.in_ok-server.ensures.host c.in_ok-server.ensures.prefix c.in_ok-server.ensures.valid c.in_ok-digest.ensures.found c.in_ok-remote.ensures.opened in
-    asked_by sees rows start digest starts (Some c.in-Some.folder.now) into c.get_tree.result (g.O.Write.contents c.args.out.now) (g.O.Write.contents c.get_tree.new.out)
-    c.get_tree.ensures.got
+    asked_by sees rows start digest starts (Some c.in-Some.folder.now) into c.get_tree.result (string_bytes c.in_ok-server.server.address)
+    (c.in_ok-server.ensures.address ∙ c.text_of.ensures) (g.O.Write.contents c.args.out.now) (g.O.Write.contents c.get_tree.new.out) c.get_tree.ensures.got
 
 pub returns-in-Some-clause-refused : goal.returns-in-Some-clause-refused
 returns-in-Some-clause-refused g c =
@@ -35,6 +35,18 @@ returns-in-Some-clause-begun g c =
     let rows = rows_of (found_of c.args.matches.now) in
     let into : first_of (codes "into") rows ≡ Some c.in-Some.folder.now = search rules in
     on_err c.get_tree.result c.get_tree.ensures.begun (λ begins. inr (inr (subst IsSome (sym into) refl, begins)))
+
+pub returns-clause-answered : goal.returns-clause-answered
+returns-clause-answered g c =
+    let sees = g.W.World.sees in
+    let rows = rows_of (found_of c.args.matches.now) in
+    let start = connection_of g.W.Link.Stream.flow c.in_ok-remote.remote in
+    let digest = c.in_ok-digest.digest in
+    let into : first_of (codes "into") rows ≡ None = search rules in
+    let starts : StartsGet sees rows digest start = starts_get sees rows start digest c.in_ok-server.server c.text_of.result.now c.text_of.ensures c.in_ok-server.ensures.address
+    c.in_ok-server.ensures.host c.in_ok-server.ensures.prefix c.in_ok-server.ensures.valid c.in_ok-digest.ensures.found c.in_ok-remote.ensures.opened in
+    asked_by sees rows start digest starts None into c.print_blob.result (string_bytes c.in_ok-server.server.address)
+    (c.in_ok-server.ensures.address ∙ c.text_of.ensures) (g.O.Write.contents c.args.out.now) (g.O.Write.contents c.print_blob.new.out) c.print_blob.ensures.printed
 
 pub returns-clause-refused : goal.returns-clause-refused
 returns-clause-refused g c =

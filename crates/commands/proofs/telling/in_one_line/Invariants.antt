@@ -1,6 +1,6 @@
-use Rattle.std.proofs.Common.{◌≢◌}
-use Rattle.std.specs.List.{All}
+use Rattle.std.proofs.Common.{◌≡◌, take}
+use Rattle.commands.specs.Told.{in_one_line}
 use Rattle.commands.proofs.telling.in_one_line.Given as goal
 
 abbrev pub invariant-loop-byte : goal.invariant-loop-byte
-invariant-loop-byte l = All (λ b. b ≢ 10) l.line.items
+invariant-loop-byte l = l.line.items ≡ in_one_line (take l.byte-index l.text)

@@ -1,7 +1,6 @@
 use Rattle.std.proofs.Common.{subst, string_bytes}
 use Rattle.std.specs.Prelude.{IfErr, IfOk}
 use Rattle.remote.specs.Remote.{connection_of}
-use Rattle.commands.specs.Ended.{is_done}
 use Rattle.commands.specs.GetRefused.{FailsGetTree}
 use Rattle.commands.specs.Trees.{IsTreeGot}
 use Rattle.commands.proofs.trees.get_tree.Goals as goal
@@ -12,7 +11,7 @@ returns-clause-got g c =
     let old = g.O.Write.contents c.args.out.now in
     let new = g.O.Write.contents c.get_over.new.out in
     let start = connection_of g.W.Link.Stream.flow c.args.remote in
-    subst (λ f. IfOk c.get_over.result (λ ended. IsTreeGot sees start c.args.digest.now f old new (is_done ended))) c.in_ok-folder.ensures.ok c.get_over.ensures.got
+    subst (λ f. IfOk c.get_over.result (IsTreeGot sees start c.args.digest.now f old new)) c.in_ok-folder.ensures.ok c.get_over.ensures.got
 
 pub returns-clause-fault : goal.returns-clause-fault
 returns-clause-fault g c =

@@ -1,9 +1,13 @@
-use Rattle.std.proofs.Common.{ap, ◌∙◌, ◌≤◌, length, subst, arith}
+use Rattle.std.proofs.Common.{◌≡◌, ap, ◌∙◌, ◌≤◌, Err, length, subst, sym, arith}
+use Rattle.std.specs.Prelude.{Contains}
 use Rattle.std.specs.List.{AllByRecursion}
 use Rattle.std.proofs.lemmas.List.{take_all}
 use Rattle.worker.specs.Values.{blobs_of}
 use Rattle.processes.specs.Laying.{place_below}
-use Rattle.processes.specs.Collected.{IsSettled}
+use Rattle.messages.specs.Path.{path_text}
+use Rattle.worker.specs.declared.runner.RunError.{RunError}
+use Rattle.worker.specs.declared.runner.RunError.TheVariants as children
+use Rattle.processes.specs.Collected.{HasNoOutput, IsSettled}
 use Rattle.processes.proofs.Gathered.{so_far_taken}
 use Rattle.processes.proofs.collecting.collect.Goals as goal
 
@@ -13,7 +17,7 @@ loop-path-preserved g c =
     c.loop-path.outcome (blobs_of c.loop-path.blobs.items) c.take_output.new.outcome (blobs_of c.take_output.new.blobs.items) c.as_str-in-loop-path.result.now
     c.loop-path-test.true c.path-item.is c.loop-path.invariant
     (c.as_str-in-loop-path.ensures.value ∙ c.in-Ok.ensures ∙ ap (λ t. place_below c.args.folder.now t) c.as_str.ensures.value)
-    c.in-Ok-take_output.ensures
+    c.in-Ok-take_output.ensures.more
 
 pub returns-clause-outputs : goal.returns-clause-outputs
 returns-clause-outputs g c =
@@ -24,3 +28,15 @@ returns-clause-outputs g c =
       settled = subst (AllByRecursion (IsSettled g.W.Workshop.works c.args.ended.now c.args.folder.now c.loop-path.outcome.outputs)) (take_all c.loop-path.path-index paths end) c.loop-path.invariant.settled;
       only = c.loop-path.invariant.only;
     }
+
+pub returns-in-Err-clause-bad : goal.returns-in-Err-clause-bad
+returns-in-Err-clause-bad g c path is =
+    let works = g.W.Workshop.works in
+    let ended = c.args.ended.now in
+    let folder = c.args.folder.now in
+    let told : ◌≡◌ {A = RunError g.row.A.Denot} c.at.result (children.BadOutput path) = let e = is in cc in
+    let at = c.at.ensures.bad path told in
+    let place : c.as_str-in-loop-path.result.now ≡ place_below folder (path_text c.path-item.result) = c.as_str-in-loop-path.ensures.value ∙ c.in-Ok.ensures ∙ ap (λ t. place_below folder t) c.as_str.ensures.value in
+    let bad : HasNoOutput works ended c.as_str-in-loop-path.result.now = c.in-Err.ensures.bad (ap Err at.1) in
+    subst (λ p. Contains c.args.paths.now p × HasNoOutput works ended (place_below folder (path_text p))) (sym at.0)
+    ((c.loop-path.path-index, c.loop-path-test.true, sym c.path-item.is), subst (HasNoOutput works ended) place bad)

@@ -6,15 +6,15 @@ use Rattle.processes.proofs.Walks.{contains_one}
 use Rattle.processes.proofs.collecting.take_output.Goals as goal
 use Rattle.processes.proofs.collecting.take_output.Goals.{in-File+in_ok-digest-in-File, in-Folder+in_ok-keep_folder-in-Folder}
 
-pub returns-in-Nothing : goal.returns-in-Nothing
-returns-in-Nothing g c = record {
+pub returns-in-Nothing-clause-more : goal.returns-in-Nothing-clause-more
+returns-in-Nothing-clause-more g c = record {
   own = [];
   blobs = sym (append-nil (blobs_of c.args.blobs.now.items));
   more = inl (subst (λ s. g.W.Workshop.works.stands c.args.ended.now c.args.place.now s) c.in-Nothing.is c.in_ok-look.ensures, refl, refl);
 }
 
-pub returns : goal.returns
-returns g c =
+pub returns-clause-more : goal.returns-clause-more
+returns-clause-more g c =
     let works = g.W.Workshop.works in
     let place = c.args.place.now in
     let ended = c.args.ended.now in
@@ -22,7 +22,7 @@ returns g c =
     let output = c.match-branch-2.output in
     let made : (own : List (List ℕ)) × (blobs_of c.match-branch-2.blobs.items ≡ before ++ own) × IsOutputAt works ended place (output_value output) own = elim c.match-branch-2.branch [
       | in-File+in_ok-digest-in-File w ↦ (
-          let e = w.in_ok-digest-in-File.ensures in
+          let e = w.in_ok-digest-in-File.ensures.kept in
           let stands = subst (λ s. works.stands ended place s) w.in-File.is c.in_ok-look.ensures in
           subst (λ bs. (own : List (List ℕ)) × (blobs_of bs.items ≡ before ++ own) × IsOutputAt works ended place (output_value output) own) (sym w.blobs-is)
           (subst (λ o. (own : List (List ℕ)) × (blobs_of w.keep_file.new.blobs.items ≡ before ++ own) × IsOutputAt works ended place (output_value o) own) (sym w.output-is)

@@ -44,9 +44,9 @@ loop-name-preserved g t c =
           subst (λ t. IsSoFar works ended place path (map string_bytes (take (i + 1) names)) c.args.tree.now t before (blobs_of c.match-branch-6.blobs.items)) (sym w.tree-is)
           (subst (λ bs. IsSoFar works ended place path (map string_bytes (take (i + 1) names)) c.args.tree.now w.add.new.self before (blobs_of bs.items)) (sym w.blobs-is)
           (one_file works ended place path string_bytes names i c.name-item.result c.loop-name-test.true c.name-item.is c.args.tree.now c.loop-name.tree w.add.new.self before between c.loop-name.invariant _ _
-          at w.in_ok-add-in-File.ensures.added w.in_ok-add-in-File.ensures.room _ looked (blobs_of w.keep_file.new.blobs.items) w.in_ok-digest-in-File.ensures.0 w.in_ok-digest-in-File.digest refl
+          at w.in_ok-add-in-File.ensures.added w.in_ok-add-in-File.ensures.room _ looked (blobs_of w.keep_file.new.blobs.items) w.in_ok-digest-in-File.ensures.kept.0 w.in_ok-digest-in-File.digest refl
           (subst (λ s. works.stands ended c.as_str-in-loop-name-2.result.now s) w.in-File.is c.in_ok-look.ensures) w.as_str-in-File.result.now (w.as_str-in-File.ensures.value ∙ spot)
-          w.in_ok-digest-in-File.ensures.1 w.in_ok-digest-in-File.ensures.2 w.in_ok-digest-in-File.ensures.3))
+          w.in_ok-digest-in-File.ensures.kept.1 w.in_ok-digest-in-File.ensures.kept.2 w.in_ok-digest-in-File.ensures.kept.3))
       | in-Folder+in_ok-copy_of-in-Folder+in_ok-add-in-Folder+in_ok-walk-in-Folder+in-None-1 w ↦
           subst (λ t. IsSoFar works ended place path (map string_bytes (take (i + 1) names)) c.args.tree.now t before (blobs_of c.match-branch-6.blobs.items)) (sym w.tree-is)
           (subst (λ bs. IsSoFar works ended place path (map string_bytes (take (i + 1) names)) c.args.tree.now w.walk.new.tree before (blobs_of bs.items)) (sym w.blobs-is)

@@ -2,5 +2,5 @@
 use Rattle.tree.proofs.Learning.{known_nothing}
 use Rattle.test_builds.proofs.calls.root.Goals as goal
 
-pub root-requires : goal.root-requires
-root-requires g c = known_nothing c.new-memo.ensures
+pub root_over-requires : goal.root_over-requires
+root_over-requires g c = known_nothing c.new-memo.ensures

@@ -60,7 +60,7 @@ returns-clause-launched g c =
             laid = owed.1;
             command = c.args.job.now.command;
             of_step = c.requires.command;
-            may_come = λ p m. owed.2 p m;
+            may_come = owed.2;
             action = subst (HasRight B) (sym c.requires.digest) (right_still (kept_trans c.recorded_outcome.ensures.kept c.start_child.ensures.kept).blobs c.in_ok-put_input.ensures.held);
           };
         };
@@ -97,7 +97,7 @@ returns-in_err-finish-clause-refused g c =
       of_step = c.requires.command;
       fits = subst (λ o. IfSome o (CanBeTaken c.args.job.now.command)) c.in-Some.is c.in_ok-outcome.ensures.fits;
     } in
-    rw (p.1, p.2) (inr (c.args.job.now.id, job_value c.args.job.now, c.requires.there, refl, c.in-Some.outcome, inr taken, c.in_err-finish.ensures.refused))
+    rw (p.1, p.2) (inr (c.args.job.now.id, job_value c.args.job.now, c.requires.there, refl, (c.in-Some.outcome, inr taken, c.in_err-finish.ensures.refused)))
 
 pub returns-in_err-child-clause-refused : goal.returns-in_err-child-clause-refused
 returns-in_err-child-clause-refused g c =

@@ -1,7 +1,7 @@
-use Rattle.std.proofs.Common.{[], arith, refl, subst, sym, ap, ◌∙◌, length}
+use Rattle.std.proofs.Common.{◌≡◌, ◌+◌, [], arith, refl, subst, sym, ap, ◌∙◌, length}
 use Rattle.std.proofs.lemmas.Result.{err_from_is_err_and}
-use Rattle.worker.specs.Going.{AreJobsOf, FinishesOnly, IsJobOf, IsGoing}
-use Rattle.worker.specs.Watching.{IsProgressOf}
+use Rattle.worker.specs.Going.{AreJobsOf, FinishesOnly, IsJobOf, IsGoing, is_start, taken_in}
+use Rattle.worker.specs.Watching.{IsProgress, IsProgressOf, taken_count}
 use Rattle.worker.proofs.Keeping.{kept_none, right_trans}
 use Rattle.worker.proofs.Complete.{all_finished}
 use Rattle.worker.proofs.Goes.{going_none, own_jobs, puts_kept}
@@ -14,8 +14,8 @@ pub loop-turn-init : goal.loop-turn-init
 loop-turn-init g c =
     let t = g.S.BlobSource.tells c.args.sink.now in
     record {
-      going = subst (IsGoing g.row.A.Denot (g.N.Runner.yields c.args.runner.now) g.N.Runner.may_give (g.N.Runner.starts c.args.runner.now) (g.N.Runner.starts c.args.runner.now) t t c.args.jobs c.args.engine.now c.args.engine.now) (sym c.requires.none)
-          (going_none g.row.A.Denot g.row.N-Job.Denot (g.N.Runner.yields c.args.runner.now) g.N.Runner.may_give (g.N.Runner.starts c.args.runner.now) t c.args.jobs c.args.engine.now c.requires.idle);
+      going = subst (λ xs. (h : IsGoing g.row.A.Denot (g.N.Runner.yields c.args.runner.now) g.N.Runner.may_give (g.N.Runner.starts c.args.runner.now) (g.N.Runner.starts c.args.runner.now) t t c.args.jobs c.args.engine.now c.args.engine.now xs) × IsProgressOf h.led.built.led.calls c.args.engine.now c.first_progress-progress.result) (sym c.requires.none)
+          (going_none g.row.A.Denot g.row.N-Job.Denot (g.N.Runner.yields c.args.runner.now) g.N.Runner.may_give (g.N.Runner.starts c.args.runner.now) t c.args.jobs c.args.engine.now c.requires.idle, c.first_progress-progress.ensures);
       within = λ l d p h. h;
       right = λ e b at right. at;
       stored = λ h. h;
@@ -23,51 +23,57 @@ loop-turn-init g c =
       device = refl;
       knows = c.requires.knows;
       alive = let none = c.requires.none in let len = ap length none in omega (arith, len);
-      progress = c.first_progress-progress.ensures;
       watched = watched_none (g.W.Watcher.told c.args.watcher.now);
-      up_to_date = up_none c.args.engine.now (g.W.Watcher.told c.args.watcher.now);
+      up_to_date = up_none g.row.A.Denot (g.N.Runner.yields c.args.runner.now) t c.args.jobs c.args.engine.now (g.W.Watcher.told c.args.watcher.now);
     }
 
 pub take_turn-requires : goal.take_turn-requires
 take_turn-requires g c = record {
   can = (c.args.jobs, c.in-Some.ensures.turn);
-  there = own_jobs g.row.A.Denot (g.N.Runner.yields c.args.runner.now) g.N.Runner.may_give (g.N.Runner.starts c.args.runner.now) (g.N.Runner.starts c.loop-turn.runner) (g.S.BlobSource.tells c.args.sink.now) (g.S.BlobSource.tells c.loop-turn.sink) c.args.jobs c.args.engine.now c.loop-turn.engine c.loop-turn.children.items c.loop-turn.invariant.going;
+  there = own_jobs g.row.A.Denot (g.N.Runner.yields c.args.runner.now) g.N.Runner.may_give (g.N.Runner.starts c.args.runner.now) (g.N.Runner.starts c.loop-turn.runner) (g.S.BlobSource.tells c.args.sink.now) (g.S.BlobSource.tells c.loop-turn.sink) c.args.jobs c.args.engine.now c.loop-turn.engine c.loop-turn.children.items c.loop-turn.invariant.going.0;
   knows = c.loop-turn.invariant.knows;
   alive = let all = c.loop-turn.invariant.alive in omega (arith, all);
 }
 
 pub before_turn-before-requires-clause-there : goal.before_turn-before-requires-clause-there
-before_turn-before-requires-clause-there g c = own_jobs g.row.A.Denot (g.N.Runner.yields c.args.runner.now) g.N.Runner.may_give (g.N.Runner.starts c.args.runner.now) (g.N.Runner.starts c.loop-turn.runner) (g.S.BlobSource.tells c.args.sink.now) (g.S.BlobSource.tells c.loop-turn.sink) c.args.jobs c.args.engine.now c.loop-turn.engine c.loop-turn.children.items c.loop-turn.invariant.going
+before_turn-before-requires-clause-there g c = own_jobs g.row.A.Denot (g.N.Runner.yields c.args.runner.now) g.N.Runner.may_give (g.N.Runner.starts c.args.runner.now) (g.N.Runner.starts c.loop-turn.runner) (g.S.BlobSource.tells c.args.sink.now) (g.S.BlobSource.tells c.loop-turn.sink) c.args.jobs c.args.engine.now c.loop-turn.engine c.loop-turn.children.items c.loop-turn.invariant.going.0
 
 pub progress_after-progress-requires-clause-there : goal.progress_after-progress-requires-clause-there
 progress_after-progress-requires-clause-there g c =
     own_jobs g.row.A.Denot (g.N.Runner.yields c.args.runner.now) g.N.Runner.may_give (g.N.Runner.starts c.args.runner.now) (g.N.Runner.starts c.take_turn.new.runner) (g.S.BlobSource.tells c.args.sink.now) (g.S.BlobSource.tells c.take_turn.new.sink) c.args.jobs c.args.engine.now c.take_turn.new.engine c.take_turn.new.children.items
-    (c.take_turn.ensures.going c.args.runner.now (g.S.BlobSource.tells c.args.sink.now) c.args.jobs c.args.engine.now c.loop-turn.invariant.within c.in-Some.ensures.turn c.loop-turn.invariant.going)
+    (c.take_turn.ensures.going c.args.runner.now (g.S.BlobSource.tells c.args.sink.now) c.args.jobs c.args.engine.now c.loop-turn.invariant.within c.in-Some.ensures.turn c.loop-turn.invariant.going.0).going
 
 pub loop-turn-preserved : goal.loop-turn-preserved
 loop-turn-preserved g c =
     let told = g.W.Watcher.told in
     let new = c.take_turn.new.engine in
-    let going = c.take_turn.ensures.going c.args.runner.now (g.S.BlobSource.tells c.args.sink.now) c.args.jobs c.args.engine.now c.loop-turn.invariant.within c.in-Some.ensures.turn c.loop-turn.invariant.going in
+    let was = c.loop-turn.invariant.going in
+    let on = c.take_turn.ensures.going c.args.runner.now (g.S.BlobSource.tells c.args.sink.now) c.args.jobs c.args.engine.now c.loop-turn.invariant.within c.in-Some.ensures.turn was.0 in
+    let going = on.going in
+    let calls = was.0.led.built.led.calls in
+    let all = going.led.built.led.calls in
     let only = subst (λ i. FinishesOnly i c.loop-turn.engine new) (sym c.before_turn-before.ensures.step) c.in_ok-take_turn.ensures.only in
-    let is : IsProgressOf new c.progress_after-progress.result = c.progress_after-progress.ensures c.loop-turn.engine c.loop-turn.invariant.progress c.before_turn-before.ensures.finished only in
+    let counts : taken_count all ≡ taken_count calls + taken_in c.before_turn-before.result.is_start c.before_turn-before.result.step c.loop-turn.engine new =
+    subst (λ b. taken_count all ≡ taken_count calls + taken_in b c.before_turn-before.result.step c.loop-turn.engine new) (sym c.before_turn-before.ensures.start)
+    (subst (λ i. taken_count all ≡ taken_count calls + taken_in (is_start c.in-Some.turn) i c.loop-turn.engine new) (sym c.before_turn-before.ensures.step) on.taken) in
+    let is : IsProgressOf all new c.progress_after-progress.result = c.progress_after-progress.ensures c.loop-turn.engine calls all was.1 c.before_turn-before.ensures.finished only counts going.order in
+    let now : IsProgress g.row.A.Denot (g.N.Runner.yields c.args.runner.now) (g.S.BlobSource.tells c.take_turn.new.sink) c.args.jobs c.args.engine.now c.progress_after-progress.result =
+    record { told = g.S.BlobSource.tells c.take_turn.new.sink; now = new; led = going.led.built.led; is = is; later = []; since = puts_kept kept_none; still = λ e b at right. at } in
     record {
-      going = going;
+      going = (going, is);
       within = λ l d p h. c.loop-turn.invariant.within l d p (c.take_turn.ensures.within l d p h);
       right = right_trans c.loop-turn.invariant.right c.take_turn.ensures.right;
-      stored = λ h. c.in_ok-take_turn.ensures.stored c.args.runner.now (g.S.BlobSource.tells c.args.sink.now) c.args.jobs c.args.engine.now c.loop-turn.invariant.going (c.loop-turn.invariant.stored h);
+      stored = λ h. c.in_ok-take_turn.ensures.stored c.args.runner.now (g.S.BlobSource.tells c.args.sink.now) c.args.jobs c.args.engine.now c.loop-turn.invariant.going.0 (c.loop-turn.invariant.stored h);
       fetched = c.in_ok-take_turn.ensures.fetched.unfailed (λ f. f) ∙ c.loop-turn.invariant.fetched;
       device = c.in_ok-take_turn.ensures.device.unfailed (λ f. f) ∙ c.loop-turn.invariant.device;
       knows = c.take_turn.ensures.knows;
       alive = let now = c.take_turn.ensures.alive in let was = c.loop-turn.invariant.alive in omega (arith, now, was);
-      progress = is;
-      watched = watched_more c.progress_after-progress.result (watched_so (progress_moved g.row.A.Denot (g.N.Runner.yields c.args.runner.now) c.args.jobs c.args.engine.now (g.S.BlobSource.tells c.loop-turn.sink) (g.S.BlobSource.tells c.take_turn.new.sink) c.take_turn.ensures.puts.0 c.take_turn.ensures.puts.1 c.take_turn.ensures.right) c.loop-turn.invariant.watched) c.watch.ensures
-          (record { told = g.S.BlobSource.tells c.take_turn.new.sink; now = new; led = going.led.built.led; is = is; later = []; since = puts_kept kept_none; still = λ e b at right. at });
-      up_to_date = up_more c.args.engine.now new (told c.args.watcher.now) (told c.loop-turn.watcher) (told c.watch.new.self) c.progress_after-progress.result c.loop-turn.invariant.watched c.watch.ensures is;
+      watched = watched_more c.progress_after-progress.result (watched_so (progress_moved g.row.A.Denot (g.N.Runner.yields c.args.runner.now) c.args.jobs c.args.engine.now (g.S.BlobSource.tells c.loop-turn.sink) (g.S.BlobSource.tells c.take_turn.new.sink) c.take_turn.ensures.puts.0 c.take_turn.ensures.puts.1 c.take_turn.ensures.right) c.loop-turn.invariant.watched) c.watch.ensures now;
+      up_to_date = up_more g.row.A.Denot (g.N.Runner.yields c.args.runner.now) (g.S.BlobSource.tells c.take_turn.new.sink) c.args.jobs c.args.engine.now new (told c.args.watcher.now) (told c.loop-turn.watcher) (told c.watch.new.self) c.progress_after-progress.result c.loop-turn.invariant.watched c.watch.ensures now refl;
     }
 
 pub returns-in_err-take_turn-clause-going : goal.returns-in_err-take_turn-clause-going
-returns-in_err-take_turn-clause-going g c = c.take_turn.ensures.going c.args.runner.now (g.S.BlobSource.tells c.args.sink.now) c.args.jobs c.args.engine.now c.loop-turn.invariant.within c.in-Some.ensures.turn c.loop-turn.invariant.going
+returns-in_err-take_turn-clause-going g c = (c.take_turn.ensures.going c.args.runner.now (g.S.BlobSource.tells c.args.sink.now) c.args.jobs c.args.engine.now c.loop-turn.invariant.within c.in-Some.ensures.turn c.loop-turn.invariant.going.0).going
 
 pub returns-in_err-take_turn-clause-watched : goal.returns-in_err-take_turn-clause-watched
 returns-in_err-take_turn-clause-watched g c = watched_so (progress_moved g.row.A.Denot (g.N.Runner.yields c.args.runner.now) c.args.jobs c.args.engine.now (g.S.BlobSource.tells c.loop-turn.sink) (g.S.BlobSource.tells c.take_turn.new.sink) c.take_turn.ensures.puts.0 c.take_turn.ensures.puts.1 c.take_turn.ensures.right) c.loop-turn.invariant.watched
@@ -78,13 +84,13 @@ returns-in_err-take_turn-clause-right g c = right_trans c.loop-turn.invariant.ri
 pub returns-clause-done : goal.returns-clause-done
 returns-clause-done g c =
     let empty = c.next_turn.ensures.none_runs c.in_default.is in
-    let jobs = own_jobs g.row.A.Denot (g.N.Runner.yields c.args.runner.now) g.N.Runner.may_give (g.N.Runner.starts c.args.runner.now) (g.N.Runner.starts c.loop-turn.runner) (g.S.BlobSource.tells c.args.sink.now) (g.S.BlobSource.tells c.loop-turn.sink) c.args.jobs c.args.engine.now c.loop-turn.engine c.loop-turn.children.items c.loop-turn.invariant.going in
+    let jobs = own_jobs g.row.A.Denot (g.N.Runner.yields c.args.runner.now) g.N.Runner.may_give (g.N.Runner.starts c.args.runner.now) (g.N.Runner.starts c.loop-turn.runner) (g.S.BlobSource.tells c.args.sink.now) (g.S.BlobSource.tells c.loop-turn.sink) c.args.jobs c.args.engine.now c.loop-turn.engine c.loop-turn.children.items c.loop-turn.invariant.going.0 in
     all_finished c.loop-turn.engine c.next_turn.ensures.planned c.next_turn.ensures.valid (subst (AreJobsOf IsJobOf c.loop-turn.engine.jobs) empty jobs) (c.next_turn.ensures.none_starts c.in_default.is)
 
 pub returns-in_err-take_turn-clause-stopped : goal.returns-in_err-take_turn-clause-stopped
 returns-in_err-take_turn-clause-stopped g c =
     let p = err_from_is_err_and c.from_residual.result c.from_residual.ensures.1 in
-    rw (p.1, p.2) (c.in_err-take_turn.ensures.stopped c.args.runner.now (g.S.BlobSource.tells c.args.sink.now) c.args.jobs c.args.engine.now c.loop-turn.invariant.within c.in-Some.ensures.turn c.loop-turn.invariant.going)
+    rw (p.1, p.2) (c.in_err-take_turn.ensures.stopped c.args.runner.now (g.S.BlobSource.tells c.args.sink.now) c.args.jobs c.args.engine.now c.loop-turn.invariant.within c.in-Some.ensures.turn c.loop-turn.invariant.going.0)
 
 pub returns-in_err-take_turn-clause-fetched : goal.returns-in_err-take_turn-clause-fetched
 returns-in_err-take_turn-clause-fetched g c = counts_from c.loop-turn.invariant.fetched (counts_exit (λ e. IsFetch e.refusal) c.from_residual.result c.from_residual.ensures.1 (c.in_err-take_turn.ensures.fetched))

@@ -1,9 +1,8 @@
 use Rattle.std.proofs.Common.{◌≡◌, ◌+◌, length}
 use Rattle.blob_source.specs.Sink.{KeepsRight}
 use Rattle.tree.specs.Memo.{known_by}
-use Rattle.worker.specs.Stores.{KnowsBlobs}
+use Rattle.worker.specs.Storing.{KnowsBlobs, StoresSteps}
 use Rattle.worker.specs.Outcomes.{YieldsNoMore}
-use Rattle.worker.specs.Stored.{StoresSteps}
 use Rattle.worker.specs.Going.{IsGoing, turns_left}
 use Rattle.worker.specs.Watching.{IsProgress, IsProgressOf, IsUpToDate, IsWatched}
 use Rattle.worker.proofs.building.take_turns.Given as goal
@@ -14,7 +13,8 @@ invariant-loop-turn g l =
     let yields = g.N.Runner.yields in
     let told = g.W.Watcher.told in
     record {
-      going : IsGoing g.row.A.Denot (yields l.fn.runner) g.N.Runner.may_give (g.N.Runner.starts l.fn.runner) (g.N.Runner.starts l.runner) (tells l.fn.sink) (tells l.sink) l.jobs l.fn.engine l.engine l.children.items;
+      going : (h : IsGoing g.row.A.Denot (yields l.fn.runner) g.N.Runner.may_give (g.N.Runner.starts l.fn.runner) (g.N.Runner.starts l.runner) (tells l.fn.sink) (tells l.sink) l.jobs l.fn.engine l.engine l.children.items)
+          × IsProgressOf h.led.built.led.calls l.engine l.progress;
       within : YieldsNoMore (yields l.runner) (yields l.fn.runner);
       right : KeepsRight (tells l.fn.sink).blobs (tells l.sink).blobs;
       stored : StoresSteps (tells l.fn.sink) l.fn.engine → StoresSteps (tells l.sink) l.engine;
@@ -22,9 +22,8 @@ invariant-loop-turn g l =
       device : g.N.Runner.failures l.runner ≡ g.N.Runner.failures l.fn.runner;
       knows : KnowsBlobs (known_by l.memo) (tells l.sink).blobs;
       alive : g.N.Runner.alive l.runner ≡ g.N.Runner.alive l.fn.runner + length l.children.items;
-      progress : IsProgressOf l.engine l.progress;
       watched : IsWatched (IsProgress g.row.A.Denot (yields l.fn.runner) (tells l.sink) l.jobs l.fn.engine) (told l.fn.watcher) (told l.watcher);
-      up_to_date : IsUpToDate l.fn.engine l.engine (told l.fn.watcher) (told l.watcher);
+      up_to_date : IsUpToDate g.row.A.Denot (yields l.fn.runner) (tells l.sink) l.jobs l.fn.engine l.engine (told l.fn.watcher) (told l.watcher);
     }
 
 abbrev pub decreases-loop-turn : goal.decreases-loop-turn

@@ -1,4 +1,4 @@
-use Rattle.std.proofs.Common.{◌≡◌, ◌+◌, true, false, length, ap, sym, ◌∙◌, take_all, arith, inl, inr}
+use Rattle.std.proofs.Common.{◌≡◌, ◌+◌, true, false, length, refl, ap, sym, ◌∙◌, take_all, arith, inl, inr}
 use Rattle.std.specs.Prelude.{◌⊎◌}
 use Rattle.plan.specs.Values.{PlanValue}
 use Rattle.worker.specs.Watching.{finished_count}
@@ -32,7 +32,8 @@ returns g c =
     record {
       all = steps;
       done = c.loop-step.invariant.counted ∙ whole;
-      from_store = omega arith;
+      from_store = refl;
+      no_more = omega arith;
       jobs = sym c.requires;
-      first = c.requires;
+      first = refl;
     }

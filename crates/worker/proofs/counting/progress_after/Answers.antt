@@ -2,14 +2,14 @@ use Rattle.std.proofs.Common.{◌≡◌, ◌≤◌, true, false, length, ap, sym
 use Rattle.std.specs.Prelude.{◌⊎◌, not}
 use Rattle.plan.specs.Values.{PlanValue}
 use Rattle.worker.specs.Going.{IsJobOf}
-use Rattle.worker.specs.Watching.{IsOneThatRuns}
-use Rattle.worker.proofs.Counts.{bit_le, comes_of, count_le, count_next, first_runs}
+use Rattle.worker.specs.Watching.{first_step}
+use Rattle.worker.proofs.Counts.{bit_le, comes_of, count_le, count_next, taken_of}
 use Rattle.worker.proofs.Jobs.{jobs_count}
 use Rattle.worker.proofs.counting.progress_after.Goals as goal
 use Rattle.worker.proofs.counting.progress_after.Goals.{then-finished, else-finished, then-comes, else-comes}
 
 pub returns : goal.returns
-returns g c old is had only =
+returns g c old calls all is had only counts order =
     let new = c.args.engine.now in
     let comes = c.if-finished.comes in
     let by : ((c.finished.result ≡ true) × (comes ≡ not c.args.turn.had_finished)) ⊎ ((c.finished.result ≡ false) × (comes ≡ c.finished.result)) =
@@ -26,8 +26,12 @@ returns g c old is had only =
     let next = count_next old.finished new.finished c.args.turn.step (omega (arith, within, count, len)) len only.others comes both.0 both.1 only.still in
     let le = count_le new.finished in
     let done = is.done in
-    let taken = is.from_store in
+    let taken = is.no_more in
     let bit = bit_le c.if-comes.is_taken comes follows in
+    let by_taken : ((comes ≡ true) × (c.if-comes.is_taken ≡ c.args.turn.is_start)) ⊎ ((comes ≡ false) × (c.if-comes.is_taken ≡ comes)) =
+    elim c.if-comes.branch [ then-comes w ↦ inl (w.if-comes.true, w.is_taken-is) | else-comes w ↦ inr (w.if-comes.false, w.is_taken-is) ] in
+    let from = taken_of c.args.turn.is_start comes c.if-comes.is_taken c.args.turn.step old new by_taken both.0 both.1 in
+    let was = is.from_store in
     let finished_is = c.counted.ensures (omega (arith, next, le, done, steps, few, count)) in
     let taken_is = c.counted-2.ensures (omega (arith, next, le, done, steps, few, count, taken, bit)) in
     let jobs = jobs_count IsJobOf c.args.children.now.items new.jobs c.requires.there in
@@ -36,7 +40,8 @@ returns g c old is had only =
     record {
       all = steps;
       done = omega (arith, finished_is, next, done);
-      from_store = omega (arith, finished_is, taken_is, taken, bit);
+      from_store = omega (arith, taken_is, from, was, counts);
+      no_more = omega (arith, finished_is, taken_is, taken, bit);
       jobs = omega (arith, jobs, ok, length_is);
-      first = subst (IsOneThatRuns new) (sym c.longest.ensures) (first_runs new c.args.children.now.items c.requires.there);
+      first = c.longest.ensures ∙ ap first_step (sym order);
     }

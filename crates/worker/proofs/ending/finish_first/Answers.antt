@@ -1,5 +1,5 @@
 use Rattle.std.proofs.Common.{refl, sym, subst}
-use Rattle.worker.specs.Stopped.{StopsFirst}
+use Rattle.worker.specs.Stopping.{StopsFirst}
 use Rattle.worker.specs.Going.{AreJobsOf, IsJobOf, HasResultOfFirst}
 use Rattle.worker.proofs.ending.finish_first.Goals as goal
 

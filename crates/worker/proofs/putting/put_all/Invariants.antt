@@ -1,5 +1,5 @@
 use Rattle.std.proofs.Common.{◌≡◌, take}
-use Rattle.worker.specs.Stores.{IsKept}
+use Rattle.worker.specs.Stored.{IsKept}
 use Rattle.worker.specs.Outcomes.{HasAllRight}
 use Rattle.worker.specs.Values.{blobs_of}
 use Rattle.worker.proofs.putting.put_all.Given as goal

@@ -1,7 +1,7 @@
 use Rattle.std.proofs.Common.{◌≡◌, ◌∷◌, take}
 use Rattle.std.specs.Prelude.{map}
 use Rattle.messages.specs.Directory.{directory_bytes}
-use Rattle.worker.specs.Stores.{IsKept}
+use Rattle.worker.specs.Stored.{IsKept}
 use Rattle.worker.specs.Outcomes.{HasAllRight}
 use Rattle.worker.proofs.putting.put_directories.Given as goal
 

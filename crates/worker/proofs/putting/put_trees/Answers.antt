@@ -3,9 +3,8 @@ use Rattle.std.proofs.lemmas.Result.{err_from_is_err_and}
 use Rattle.blob_digest.specs.Digest.{digest_of}
 use Rattle.blob_source.specs.Sink.{HasRight}
 use Rattle.actions.specs.Outcome.{output_value}
-use Rattle.worker.specs.Stores.{IsKept}
 use Rattle.actions.specs.declared.outcome.Output.TheVariants as outputs
-use Rattle.worker.specs.Stored.{directories_of, HasTree}
+use Rattle.worker.specs.Stored.{IsKept, directories_of, HasTree}
 use Rattle.worker.proofs.Keeping.{kept_none, kept_trans, kept_blob, right_put, all_right_still, fetch_fault}
 use Rattle.worker.proofs.Storing.{trees_taken, no_tree}
 use Rattle.blob_source.proofs.Asking.{ok_no_error}

@@ -5,7 +5,7 @@ use Rattle.worker.proofs.Keeping.{kept_trans, kept_asks, kept_result}
 use Rattle.std.specs.Prelude.{Err}
 use Rattle.blob_source.proofs.Asking.{ok_no_error}
 use Rattle.worker.proofs.Failures.{counts_as, counts_no, counts_from, counts_calls}
-use Rattle.worker.specs.Outcomes.{HasNoneToTake}
+use Rattle.worker.specs.Going.{HasNoneToTake}
 use Rattle.worker.proofs.Untaken.{unread, none_reads, none_fits, none_explained, if_ok, if_err}
 use Rattle.worker.proofs.recorded.recorded_outcome.Goals.{in-Memory, in_default-error}
 use Rattle.worker.proofs.recorded.recorded_outcome.Goals as goal

@@ -1,6 +1,6 @@
 use Rattle.std.proofs.Common.{[], subst, sym}
 use Rattle.std.specs.Prelude.{OnOk}
-use Rattle.worker.specs.Going.{FinishesOnly, IsTurn, step_of}
+use Rattle.worker.specs.Going.{FinishesOnly, GoesOnBy, IsTurn, is_start, step_of, taken_in}
 use Rattle.worker.proofs.Goes.{puts_kept}
 use Rattle.worker.proofs.Taking.{start_goes, finish_goes, finish_puts, finish_right, start_stored, finish_stored}
 use Rattle.worker.proofs.Stopping.{start_refused, finish_refused}
@@ -11,8 +11,12 @@ use Rattle.worker.proofs.turns.take_turn.Goals as goal
 
 pub returns-in-Start-clause-going : goal.returns-in-Start-clause-going
 returns-in-Start-clause-going g c entry s most first within turn going =
-    start_goes g.row.A.Denot g.row.N-Job.Denot (g.N.Runner.yields entry) g.N.Runner.may_give (g.N.Runner.starts entry) (g.N.Runner.starts c.args.runner.now) (g.N.Runner.starts c.begin.new.runner) s (g.S.BlobSource.tells c.args.sink.now) (g.S.BlobSource.tells c.begin.new.sink) most first c.args.engine.now c.begin.new.engine c.args.children.now.items c.begin.new.children.items going
-    c.begin.result (g.N.Runner.yields c.args.runner.now) c.in-Start.step within c.begin.ensures.kept c.begin.ensures.unlisted (subst (IsTurn most c.args.engine.now c.args.children.now.items) c.in-Start.is turn).0 c.begin.ensures.begun c.begin.ensures.refused c.begin.ensures.same
+    let calls = going.led.built.led.calls in
+    let old = c.args.engine.now in
+    let new = c.begin.new.engine in
+    subst (λ t. GoesOnBy g.row.A.Denot (g.N.Runner.yields entry) g.N.Runner.may_give (g.N.Runner.starts entry) (g.N.Runner.starts c.begin.new.runner) s (g.S.BlobSource.tells c.begin.new.sink) most first new c.begin.new.children.items calls (taken_in (is_start t) (step_of t c.args.children.now.items) old new)) (sym c.in-Start.is)
+    (start_goes g.row.A.Denot g.row.N-Job.Denot (g.N.Runner.yields entry) g.N.Runner.may_give (g.N.Runner.starts entry) (g.N.Runner.starts c.args.runner.now) (g.N.Runner.starts c.begin.new.runner) s (g.S.BlobSource.tells c.args.sink.now) (g.S.BlobSource.tells c.begin.new.sink) most first old new c.args.children.now.items c.begin.new.children.items going
+    c.begin.result (g.N.Runner.yields c.args.runner.now) c.in-Start.step within c.begin.ensures.kept c.begin.ensures.unlisted (subst (IsTurn most old c.args.children.now.items) c.in-Start.is turn) c.plan.ensures.valid c.begin.ensures.begun c.begin.ensures.refused c.begin.ensures.same)
 
 pub returns-in-Start-clause-puts : goal.returns-in-Start-clause-puts
 returns-in-Start-clause-puts g c = ([], puts_kept c.begin.ensures.kept)
@@ -30,8 +34,12 @@ returns-in-Start-clause-fewer g c =
 
 pub returns-in-Finish-clause-going : goal.returns-in-Finish-clause-going
 returns-in-Finish-clause-going g c entry s most first within turn going =
-    finish_goes g.row.A.Denot g.row.N-Job.Denot (g.N.Runner.yields entry) g.N.Runner.may_give (g.N.Runner.starts entry) (g.N.Runner.starts c.args.runner.now) (g.N.Runner.starts c.finish_first.new.runner) s (g.S.BlobSource.tells c.args.sink.now) (g.S.BlobSource.tells c.finish_first.new.sink) most first c.args.engine.now c.finish_first.new.engine c.args.children.now.items c.finish_first.new.children.items going
-    c.finish_first.result c.finish_first.ensures.unlisted c.finish_first.ensures.ended c.finish_first.ensures.refused
+    let calls = going.led.built.led.calls in
+    let old = c.args.engine.now in
+    let new = c.finish_first.new.engine in
+    subst (λ t. GoesOnBy g.row.A.Denot (g.N.Runner.yields entry) g.N.Runner.may_give (g.N.Runner.starts entry) (g.N.Runner.starts c.finish_first.new.runner) s (g.S.BlobSource.tells c.finish_first.new.sink) most first new c.finish_first.new.children.items calls (taken_in (is_start t) (step_of t c.args.children.now.items) old new)) (sym c.in-Finish.is)
+    (finish_goes g.row.A.Denot g.row.N-Job.Denot (g.N.Runner.yields entry) g.N.Runner.may_give (g.N.Runner.starts entry) (g.N.Runner.starts c.args.runner.now) (g.N.Runner.starts c.finish_first.new.runner) s (g.S.BlobSource.tells c.args.sink.now) (g.S.BlobSource.tells c.finish_first.new.sink) most first old new c.args.children.now.items c.finish_first.new.children.items going
+    c.finish_first.result c.finish_first.ensures.unlisted c.finish_first.ensures.ended c.finish_first.ensures.refused)
 
 pub returns-in-Finish-clause-fewer : goal.returns-in-Finish-clause-fewer
 returns-in-Finish-clause-fewer g c =

@@ -31,10 +31,10 @@ loop-at-preserved g c =
     let rest = c.split_at.result.1.now in
     let taken = c.in_ok-taken.taken in
     let fed = fed_join c.open.new.self c.loop-at.self c.turn.new.self c.args.connection (take at c.args.piece.now) (take taken rest) c.loop-at.text.items (unwrap_or (option_map text_of c.in_ok-taken.answer) []) c.loop-at.invariant.fed
-    (fed_turn c.loop-at.self c.args.connection rest taken (option_map text_of c.in_ok-taken.answer) c.turn.new.self turn) in
+    (fed_turn c.loop-at.self c.args.connection c.loop-at.invariant.fed.after rest taken (option_map text_of c.in_ok-taken.answer) c.turn.new.self c.loop-at.invariant.fed.at turn) in
     let bytes = taken_more c.args.piece.now at taken (at + taken) rest c.split_at.ensures.back refl in
     record {
-      within = omega (arith, turn.feeds.feeds.within, c.split_at.ensures.back_len);
+      within = omega (arith, turn.takes.within, c.split_at.ensures.back_len);
       fed = subst (λ z. HasFed c.open.new.self c.args.connection z c.push_text.new.text.items c.turn.new.self) bytes (subst (λ z. HasFed c.open.new.self c.args.connection (take at c.args.piece.now ++ take taken rest) z c.turn.new.self) (sym (was_pushed c.push_text.result c.is_err.result _ c.push_text.ensures c.is_err.ensures.value c.if-is_err.false)) fed);
     }
 
@@ -50,7 +50,7 @@ returns-then-is_err-clause-err g c opening history stands =
     let rest = c.split_at.result.1.now in
     let taken = c.in_ok-taken.taken in
     let fed = fed_join c.open.new.self c.loop-at.self c.turn.new.self c.args.connection (take at c.args.piece.now) (take taken rest) c.loop-at.text.items (unwrap_or (option_map text_of c.in_ok-taken.answer) []) c.loop-at.invariant.fed
-    (fed_turn c.loop-at.self c.args.connection rest taken (option_map text_of c.in_ok-taken.answer) c.turn.new.self turn) in
+    (fed_turn c.loop-at.self c.args.connection c.loop-at.invariant.fed.after rest taken (option_map text_of c.in_ok-taken.answer) c.turn.new.self c.loop-at.invariant.fed.at turn) in
     let bytes = taken_more c.args.piece.now at taken (at + taken) rest c.split_at.ensures.back refl in
     opened_breaks opening c.args.self.now c.open.new.self c.close.new.self c.args.connection history c.in_ok-open.ensures.ok stands c.turn.new.self c.args.piece.now (take (at + taken) c.args.piece.now) (drop (at + taken) c.args.piece.now)
     (c.loop-at.text.items ++ unwrap_or (option_map text_of c.in_ok-taken.answer) []) (sym (take-append-drop (at + taken) c.args.piece.now))

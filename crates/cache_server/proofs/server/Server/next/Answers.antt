@@ -2,12 +2,11 @@ use Rattle.std.proofs.Common.{[], take, refl, ◌∙◌}
 use Rattle.std.specs.Prelude.{option_map, unwrap_or}
 use Rattle.std.proofs.lemmas.Result.{IfOk-weaker, on_err_weaker}
 use Rattle.cache_server.specs.Answer.{text_of}
-use Rattle.cache_server.specs.History.{Piece}
 use Rattle.cache_server.specs.Sessions.{ClosesAt}
-use Rattle.cache_server.specs.Turn.{Turns}
+use Rattle.cache_server.specs.Turn.{AnswersOne}
 use Rattle.cache_server.proofs.Serving.{on_err}
 use Rattle.cache_server.proofs.Standing.{stands_closed}
-use Rattle.cache_server.proofs.Turning.{is_there, fed_none, fed_turn, opened_stands, opened_answer, opened_breaks, one_answer, continues_with, continues_failing, of_result}
+use Rattle.cache_server.proofs.Turning.{is_there, fed_none, fed_turn, opened_stands, opened_answer, opened_breaks, one_answer, of_result}
 use Rattle.cache_server.proofs.server.Server.next.Goals as goal
 
 pub turn-requires : goal.turn-requires
@@ -16,10 +15,6 @@ turn-requires g c = is_there _ c.in_ok-open.ensures.ok.session c.in_ok-open.ensu
 pub returns-in_err-open-clause-err : goal.returns-in_err-open-clause-err
 returns-in_err-open-clause-err g c =
     on_err c.from_residual.result (λ opening history stands. stands_closed opening c.args.self.now c.open.new.self c.args.connection c.args.piece.now history c.in_err-open.ensures.err stands)
-
-pub returns-in_err-open-clause-continues : goal.returns-in_err-open-clause-continues
-returns-in_err-open-clause-continues g c =
-    continues_failing c.args.self.now c.open.new.self c.args.connection c.args.piece.now (λ opening history stands. stands_closed opening c.args.self.now c.open.new.self c.args.connection c.args.piece.now history c.in_err-open.ensures.err stands)
 
 pub returns-clause-one : goal.returns-clause-one
 returns-clause-one g c =
@@ -32,26 +27,18 @@ returns-clause-answers g c =
 pub returns-clause-ok : goal.returns-clause-ok
 returns-clause-ok g c =
     IfOk-weaker c.turn.result _ _ (λ x t opening history stands. opened_stands opening c.args.self.now c.open.new.self c.turn.new.self c.args.connection history c.in_ok-open.ensures.ok stands (take x.0 c.args.piece.now) (unwrap_or (option_map text_of x.1) [])
-    (fed_turn c.open.new.self c.args.connection c.args.piece.now x.0 (option_map text_of x.1) c.turn.new.self t)) c.turn.ensures.ok
+    (fed_turn c.open.new.self c.args.connection c.in_ok-open.ensures.ok.session c.args.piece.now x.0 (option_map text_of x.1) c.turn.new.self c.in_ok-open.ensures.ok.at t)) c.turn.ensures.ok
 
 pub returns-clause-err : goal.returns-clause-err
 returns-clause-err g c =
     on_err_weaker c.turn.result (λ closes opening history stands. opened_breaks opening c.args.self.now c.open.new.self c.turn.new.self c.args.connection history c.in_ok-open.ensures.ok stands c.open.new.self c.args.piece.now [] c.args.piece.now [] refl
     (fed_none c.open.new.self c.args.connection c.in_ok-open.ensures.ok.session c.in_ok-open.ensures.ok.at) closes) c.turn.ensures.err
 
-pub returns-clause-continues : goal.returns-clause-continues
-returns-clause-continues g c =
-    of_result (λ (x : _). Turns c.open.new.self c.args.connection c.args.piece.now x.0 (option_map text_of x.1) c.turn.new.self) (ClosesAt c.open.new.self c.args.connection c.turn.new.self) c.turn.result c.turn.ensures.ok c.turn.ensures.err
-    (λ x t. continues_with c.args.self.now c.turn.new.self (Piece c.args.connection (take x.0 c.args.piece.now)) (λ opening history stands. opened_stands opening c.args.self.now c.open.new.self c.turn.new.self c.args.connection history c.in_ok-open.ensures.ok stands (take x.0 c.args.piece.now) (unwrap_or (option_map text_of x.1) [])
-    (fed_turn c.open.new.self c.args.connection c.args.piece.now x.0 (option_map text_of x.1) c.turn.new.self t)))
-    (λ closes. continues_failing c.args.self.now c.turn.new.self c.args.connection c.args.piece.now (λ opening history stands. opened_breaks opening c.args.self.now c.open.new.self c.turn.new.self c.args.connection history c.in_ok-open.ensures.ok stands c.open.new.self c.args.piece.now [] c.args.piece.now [] refl
-    (fed_none c.open.new.self c.args.connection c.in_ok-open.ensures.ok.session c.in_ok-open.ensures.ok.at) closes))
-
 pub returns-in_err-open-clause-prefix : goal.returns-in_err-open-clause-prefix
 returns-in_err-open-clause-prefix g c = c.in_err-open.ensures.err.kept.prefix
 
 pub returns-clause-prefix : goal.returns-clause-prefix
 returns-clause-prefix g c =
-    of_result (λ (x : _). Turns c.open.new.self c.args.connection c.args.piece.now x.0 (option_map text_of x.1) c.turn.new.self) (ClosesAt c.open.new.self c.args.connection c.turn.new.self) c.turn.result c.turn.ensures.ok c.turn.ensures.err
+    of_result (λ (x : _). AnswersOne c.open.new.self c.args.connection c.args.piece.now x.0 (option_map text_of x.1) c.turn.new.self) (ClosesAt c.open.new.self c.args.connection c.turn.new.self) c.turn.result c.turn.ensures.ok c.turn.ensures.err
     (λ x t. (one_answer c.args.self.now c.open.new.self c.turn.new.self c.args.connection c.args.piece.now x.0 (option_map text_of x.1) c.in_ok-open.ensures.ok t).prefix)
     (λ closes. closes.kept.prefix ∙ c.in_ok-open.ensures.ok.kept.prefix)

@@ -2,7 +2,8 @@ use Rattle.std.proofs.Common.{◌≡◌, ℕ, true, Option, Some, None, ap, sym,
 use Rattle.std.specs.Option.{is_some}
 use Rattle.http_core.specs.Session.{SessionValue}
 use Rattle.cache_server.specs.Server.{ServerValue, session_at}
-use Rattle.cache_server.specs.Sessions.{OpensAt, IsSessionFor}
+use Rattle.cache_server.specs.Server.{IsSessionFor}
+use Rattle.cache_server.specs.Sessions.{OpensAt}
 use Rattle.cache_server.proofs.server.Server.open.Goals as goal
 
 opened : (s : ServerValue) (k : ℕ) (o : Option SessionValue) → session_at s k ≡ o → is_some o ≡ true → OpensAt s k s

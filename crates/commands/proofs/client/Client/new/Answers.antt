@@ -1,8 +1,9 @@
 use Rattle.std.proofs.Common.{subst}
+use Rattle.http_core.specs.declared.event.Area.TheVariants.{Ac, Cas}
 use Rattle.remote.specs.Remote.{blobs_of, connection_of, results_of, telling_of}
-use Rattle.commands.specs.Places.{AreLackedOver, Comes, IsClientOver}
+use Rattle.commands.specs.Places.{AreLacked, Comes, IsClientOver, LacksIt, LacksOver}
 use Rattle.commands.specs.Places.Comes.{fresh}
-use Rattle.commands.proofs.Tellings.{none_unasked}
+use Rattle.commands.proofs.Tellings.{none_lacked, none_unasked}
 use Rattle.commands.proofs.client.Client.new.Goals as goal
 
 pub invariant_of-result : goal.invariant_of-result
@@ -14,8 +15,8 @@ invariant_of-result g c =
       blobs = λ d b is. absurd (none_unasked (blobs_of remote) d b (c.requires.fresh.blobs d) is);
       results = λ d b is. absurd (none_unasked (results_of remote) d b (c.requires.fresh.results d) is);
     } in
-    let lacked : AreLackedOver g.K.Origin.start (blobs_of remote) (results_of remote) = record {
-      blobs = λ d has none. absurd (c.requires.fresh.blobs d has);
-      results = λ d has none. absurd (c.requires.fresh.results d has);
+    let lacked : AreLacked (LacksIt g.K.Origin.start) (blobs_of remote) (results_of remote) = record {
+      blobs = none_lacked (λ d. LacksOver g.K.Origin.start Cas d.hash) (blobs_of remote) c.requires.fresh.blobs;
+      results = none_lacked (λ d. LacksOver g.K.Origin.start Ac d.hash) (results_of remote) c.requires.fresh.results;
     } in
     record { over = ∣ over ∣₁; lacked = ∣ lacked ∣₁ }

@@ -6,9 +6,10 @@ use Rattle.remote.specs.Line.{put}
 use Rattle.remote.specs.Remote.{connection_of}
 use Rattle.remote.specs.Table.{told_by}
 use Rattle.commands.specs.Faults.{TellsRefusal}
-use Rattle.commands.specs.Places.{CameAllOver, LacksAllOver}
+use Rattle.commands.specs.Places.{CameAllOver}
 use Rattle.commands.specs.Places.Comes.{refused, taken}
 use Rattle.commands.proofs.Refused.{blob_refused}
+use Rattle.commands.proofs.Tellings.{LacksAllOver}
 use Rattle.commands.proofs.client.Client.put.Goals as goal
 
 -- what is told stays, and the connection comes on

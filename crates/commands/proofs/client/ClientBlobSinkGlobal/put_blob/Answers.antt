@@ -4,9 +4,9 @@ use Rattle.blob_digest.specs.Digest.{DigestValue, digest_of}
 use Rattle.http_core.specs.declared.event.Area.TheVariants.{Ac, Cas}
 use Rattle.remote.specs.Remote.{blobs_of, connection_of}
 use Rattle.remote.specs.Table.{told_by}
-use Rattle.commands.specs.Places.{CameAllOver, LacksAllOver}
+use Rattle.commands.specs.Places.{CameAllOver}
 use Rattle.commands.proofs.Taken.{taken_by_put}
-use Rattle.commands.proofs.Tellings.{blob_there, came_by_put, comes_by_put, lacks_by_put}
+use Rattle.commands.proofs.Tellings.{LacksAllOver, blob_there, came_by_put, comes_by_put, lacks_by_put}
 use Rattle.commands.proofs.client.ClientBlobSinkGlobal.put_blob.Goals as goal
 
 pub invariant_of-self : goal.invariant_of-self

@@ -3,8 +3,8 @@ use Rattle.std.proofs.Math.Logic.{∥∥₁_map, ∥∥₁_map₂}
 use Rattle.http_core.specs.declared.event.Area.TheVariants.{Ac, Cas}
 use Rattle.remote.specs.Remote.{connection_of, results_of}
 use Rattle.remote.specs.Table.{told_by}
-use Rattle.commands.specs.Places.{CameAllOver, LacksAllOver}
-use Rattle.commands.proofs.Tellings.{came_on, comes_on, lacks_now, lacks_on}
+use Rattle.commands.specs.Places.{CameAllOver}
+use Rattle.commands.proofs.Tellings.{LacksAllOver, came_on, comes_on, lacks_now, lacks_on}
 use Rattle.commands.proofs.client.ClientBlobSourceGlobal.result.Goals as goal
 
 pub invariant_of-self : goal.invariant_of-self

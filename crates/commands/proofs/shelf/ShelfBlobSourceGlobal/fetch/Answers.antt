@@ -1,10 +1,10 @@
 use Rattle.std.proofs.Common.{◌∙◌, subst, sym}
 use Rattle.std.proofs.Math.Logic.{∥∥₁_map}
 use Rattle.std.specs.Prelude.{codes}
-use Rattle.remote.specs.Folder.{LooksInFolder, blobs_of, entry_path, error_of}
+use Rattle.remote.specs.Folder.{IsNothingAt, LooksInFolder, blobs_of, entry_path, error_of}
 use Rattle.remote.specs.Table.{told_by}
-use Rattle.commands.specs.Places.{WereRead}
-use Rattle.commands.proofs.Tellings.{failed_on, read_on}
+use Rattle.commands.specs.Places.{LacksAll, WereRead}
+use Rattle.commands.proofs.Tellings.{absent_on, failed_on, read_on}
 use Rattle.commands.proofs.shelf.ShelfBlobSourceGlobal.fetch.Goals as goal
 
 pub invariant_of-self : goal.invariant_of-self
@@ -19,10 +19,15 @@ invariant_of-self g c =
     record {
       place = c.fetch.ensures.placed ∙ c.args.self.now.place;
       told = ∥∥₁_map c.args.self.now.told (λ is. record {
-        told_is = record {
+        told = record {
           blobs = read_on sees.reads sees.fails (λ e. entry_path folder (codes "cas") e) d (error_of old) (error_of new) (blobs_of old) (blobs_of new) c.fetch.result looks
-              c.fetch.ensures.told c.fetch.ensures.called.asked.blobs is.told_is.blobs;
-          results = subst (λ t. WereRead sees folder (codes "ac") (told_by t)) (sym c.fetch.ensures.untouched) is.told_is.results;
+              c.fetch.ensures.told c.fetch.ensures.called.asked.blobs is.told.blobs;
+          results = subst (λ t. WereRead sees folder (codes "ac") (told_by t)) (sym c.fetch.ensures.untouched) is.told.results;
+        };
+        lacked = record {
+          blobs = absent_on sees.reads sees.fails (λ e. entry_path folder (codes "cas") e) d (error_of old) (error_of new) (blobs_of old) (blobs_of new) c.fetch.result looks
+              c.fetch.ensures.told is.lacked.blobs;
+          results = subst (LacksAll (λ e. IsNothingAt sees.fails (entry_path folder (codes "ac") e))) (sym c.fetch.ensures.untouched) is.lacked.results;
         };
         failed = failed_on sees folder (codes "cas") d (error_of old) (error_of new) (blobs_of old) (blobs_of new) c.fetch.result looks is.failed;
       });

@@ -1,10 +1,10 @@
 use Rattle.std.proofs.Common.{◌∙◌, subst, sym}
 use Rattle.std.proofs.Math.Logic.{∥∥₁_map}
 use Rattle.std.specs.Prelude.{codes}
-use Rattle.remote.specs.Folder.{LooksInFolder, entry_path, error_of, results_of}
+use Rattle.remote.specs.Folder.{IsNothingAt, LooksInFolder, entry_path, error_of, results_of}
 use Rattle.remote.specs.Table.{told_by}
-use Rattle.commands.specs.Places.{WereRead}
-use Rattle.commands.proofs.Tellings.{failed_on, read_on}
+use Rattle.commands.specs.Places.{LacksAll, WereRead}
+use Rattle.commands.proofs.Tellings.{absent_on, failed_on, read_on}
 use Rattle.commands.proofs.shelf.ShelfBlobSourceGlobal.result.Goals as goal
 
 pub invariant_of-self : goal.invariant_of-self
@@ -19,10 +19,15 @@ invariant_of-self g c =
     record {
       place = c.result.ensures.placed ∙ c.args.self.now.place;
       told = ∥∥₁_map c.args.self.now.told (λ is. record {
-        told_is = record {
+        told = record {
           results = read_on sees.reads sees.fails (λ e. entry_path folder (codes "ac") e) d (error_of old) (error_of new) (results_of old) (results_of new) c.result.result looks
-              c.result.ensures.told c.result.ensures.called.asked.results is.told_is.results;
-          blobs = subst (λ t. WereRead sees folder (codes "cas") (told_by t)) (sym c.result.ensures.untouched) is.told_is.blobs;
+              c.result.ensures.told c.result.ensures.called.asked.results is.told.results;
+          blobs = subst (λ t. WereRead sees folder (codes "cas") (told_by t)) (sym c.result.ensures.untouched) is.told.blobs;
+        };
+        lacked = record {
+          results = absent_on sees.reads sees.fails (λ e. entry_path folder (codes "ac") e) d (error_of old) (error_of new) (results_of old) (results_of new) c.result.result looks
+              c.result.ensures.told is.lacked.results;
+          blobs = subst (LacksAll (λ e. IsNothingAt sees.fails (entry_path folder (codes "cas") e))) (sym c.result.ensures.untouched) is.lacked.blobs;
         };
         failed = failed_on sees folder (codes "ac") d (error_of old) (error_of new) (results_of old) (results_of new) c.result.result looks is.failed;
       });

@@ -8,16 +8,34 @@ use Rattle.blob_source.proofs.Asking.{ok_no_error}
 use Rattle.blob_source.proofs.Calling.{called_no}
 use Rattle.runs.specs.Engine.{EngineValue}
 use Rattle.runs.proofs.Fetching.{fetching_memory}
-use Rattle.runs.specs.Looking.{IsFoldTogether}
+use Rattle.tree.specs.declared.error.TreeError.TheVariants as tree
+use Rattle.verifier.specs.Together.{IsFoldOfPassed}
+use Rattle.verifier.proofs.FreshRuns.{one_answer}
+use Rattle.runs.specs.Looking.{Explains, together_in}
 use Rattle.runs.proofs.Places.{element_at}
 use Rattle.tree.proofs.Learning.{learns_refused, refused_exit}
-use Rattle.runs.proofs.Needs.{step_needed}
+use Rattle.runs.proofs.Starts.{step_needed}
 use Rattle.runs.proofs.engine.Engine.prepare.Goals as goal
 
 pub returns-in_err-encode-clause-faulty : goal.returns-in_err-encode-clause-faulty
 returns-in_err-encode-clause-faulty g c = λ s at.
     let p = err_from_is_err_and c.from_residual-in_err-encode.result c.from_residual-in_err-encode.ensures.1 in
-    rw (p.1, p.2) tt
+    rw (p.1, p.2) (tree.Memory, tt, refl)
+
+pub returns-in_err-input-clause-faulty : goal.returns-in_err-input-clause-faulty
+returns-in_err-input-clause-faulty g c = λ s at.
+    let p = err_from_is_err_and c.from_residual.result c.from_residual.ensures.1 in
+    let told = (g.S.BlobSource.tells c.put_together.new.source).blobs in
+    let lt = subst (λ (e : EngineValue). c.args.step < length e.plan.steps) (sym c.self.view_is) c.requires.within in
+    let is : c.index-steps-step.result ≡ get_or c.self.inside.plan.steps c.args.step c.index-steps-step.result = c.index-steps-step.is ∙ ap (λ ss. get_or ss c.args.step c.index-steps-step.result) c.steps-steps.ensures.value in
+    let there = ap (λ (e : EngineValue). slice_get e.plan.steps c.args.step) (sym c.self.view_is) ∙ element_at c.self.inside.plan.steps c.args.step c.index-steps-step.result lt is in
+    let lines = c.deref.ensures.value ∙ ap (λ (x : StepValue). x.lines) (c.planned.view_is ∙ one_answer (slice_get c.args.self.now.plan.steps c.args.step) c.index-steps-step.result s there at) in
+    rw (p.1, p.2) (subst (λ ls. Explains (together_in told c.args.self.now ls).fails c.in_err-input.field-0.0) lines c.in_err-input.ensures.faulty)
+
+pub returns-in_err-frame-clause-faulty : goal.returns-in_err-frame-clause-faulty
+returns-in_err-frame-clause-faulty g c = λ s at.
+    let p = err_from_is_err_and c.from_residual-in_err-frame.result c.from_residual-in_err-frame.ensures.1 in
+    rw (p.1, p.2) (tree.Memory, tt, refl)
 
 pub offset_bounds-commands-step : goal.offset_bounds-commands-step
 offset_bounds-commands-step g c =
@@ -34,14 +52,14 @@ bounds-commands-step g c =
 pub returns-in_err-command-clause-faulty : goal.returns-in_err-command-clause-faulty
 returns-in_err-command-clause-faulty g c = λ s at.
     let p = err_from_is_err_and c.from_residual-in_err-command.result c.from_residual-in_err-command.ensures.1 in
-    rw (p.1, p.2) tt
+    rw (p.1, p.2) (tree.Memory, tt, refl)
 
 pub returns-clause-prepared : goal.returns-clause-prepared
 returns-clause-prepared g c =
     let tells = g.S.BlobSource.tells c.put_together.new.source in
     let lt = subst (λ (e : EngineValue). c.args.step < length e.plan.steps) (sym c.self.view_is) c.requires.within in
     let stand = c.self.invariant.stand in
-    let told = subst (λ ls. IsFoldTogether tells.blobs c.args.self.now ls c.in_ok-input.input) (c.deref.ensures.value ∙ ap (λ (s : StepValue). s.lines) c.planned.view_is) c.in_ok-input.ensures.told in
+    let told = subst (λ ls. IsFoldOfPassed (together_in tells.blobs c.args.self.now ls) c.in_ok-input.input) (c.deref.ensures.value ∙ ap (λ (s : StepValue). s.lines) c.planned.view_is) c.in_ok-input.ensures.told in
     let f = element_at c.self.inside.frames.items c.args.step c.index-frames-step.result (subst (λ n. c.args.step < n) (sym stand.frames_count) lt) (c.index-frames-step.is ∙ ap (λ fs. get_or fs c.args.step c.index-frames-step.result) c.as_slice-frames.ensures.value) in
     let d = element_at c.self.inside.commands.items c.args.step c.index-commands-step.result (subst (λ n. c.args.step < n) (sym stand.commands_count) lt) (c.index-commands-step.is ∙ ap (λ fs. get_or fs c.args.step c.index-commands-step.result) c.as_slice-commands.ensures.value) in
     let is : c.index-steps-step.result ≡ get_or c.self.inside.plan.steps c.args.step c.index-steps-step.result = c.index-steps-step.is ∙ ap (λ ss. get_or ss c.args.step c.index-steps-step.result) c.steps-steps.ensures.value in

@@ -1,7 +1,8 @@
 use Rattle.std.proofs.Common.{◌≡◌, ◌<◌, sym, subst, length}
 use Rattle.runs.specs.Engine.{EngineValue}
 use Rattle.std.specs.Prelude.{slice_get, Some}
-use Rattle.runs.specs.Looking.{AreThere}
+use Rattle.verifier.specs.Together.{AreThere}
+use Rattle.runs.specs.Looking.{outcomes_in}
 use Rattle.std.specs.Prelude.{◌↔◌, IsTrue}
 use Rattle.runs.proofs.Ready.{ready_lines, ready_answer}
 use Rattle.plan.specs.Values.{StepValue}
@@ -18,9 +19,9 @@ are_there-requires g c =
 pub returns-clause-value : goal.returns-clause-value
 returns-clause-value g c =
     let lt = subst (λ (e : EngineValue). c.args.step < length e.plan.steps) (sym c.self.view_is) c.requires in
-    let each : (s : StepValue) → slice_get c.args.self.now.plan.steps c.args.step ≡ Some s → IsTrue c.are_there.result ↔ AreThere c.args.self.now s.lines = λ s at.
+    let each : (s : StepValue) → slice_get c.args.self.now.plan.steps c.args.step ≡ Some s → IsTrue c.are_there.result ↔ AreThere (outcomes_in c.args.self.now.finished) s.lines = λ s at.
     let here = subst (λ (e : EngineValue). slice_get e.plan.steps c.args.step ≡ Some s) (sym c.self.view_is) at in
-    subst (λ (e : EngineValue). IsTrue c.are_there.result ↔ AreThere e s.lines) c.self.view_is
+    subst (λ (e : EngineValue). IsTrue c.are_there.result ↔ AreThere (outcomes_in e.finished) s.lines) c.self.view_is
     (ready_answer c.steps-steps.result.now c.self.inside.plan.steps c.args.step c.index-steps-step.result _ s c.self.inside.finished.items c.deref.result.now c.deref-2.result.now c.are_there.result c.steps-steps.ensures.value lt c.index-steps-step.is c.step.view_is c.deref-2.ensures.value
     c.deref.ensures.value c.are_there.ensures here) in
     let some = has_one c.args.self.now.plan.steps c.args.step c.requires in

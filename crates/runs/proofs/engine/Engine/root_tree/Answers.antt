@@ -1,12 +1,12 @@
 use Rattle.std.proofs.Common.{sym, subst, length, IsSome}
 use Rattle.std.specs.List.{AllByRecursion}
 use Rattle.runs.specs.Engine.{EngineValue, IsEngine}
-use Rattle.runs.specs.Looking.{AreThere}
+use Rattle.verifier.specs.Together.{AreThere}
+use Rattle.runs.specs.Looking.{outcomes_in}
 use Rattle.plan.specs.Plan.{IsPlan}
 use Rattle.runs.proofs.Answered.{served_yes}
 use Rattle.runs.specs.Calls.{HaveAllFinished}
-use Rattle.runs.proofs.Standing.{stands_in}
-use Rattle.runs.proofs.Missing.{tells_missing, tells_conflict}
+use Rattle.runs.proofs.Missing.{root_fault, tells}
 use Rattle.verifier.proofs.Targets.{paths_of}
 use Rattle.runs.proofs.Ended.{lines_there, grafted_root, ok_map, err_map}
 use Rattle.tree.proofs.Learning.{learns_more}
@@ -15,7 +15,7 @@ use Rattle.runs.proofs.engine.Engine.root_tree.Goals as goal
 pub graft_root-requires-clause-there : goal.graft_root-requires-clause-there
 graft_root-requires-clause-there g c =
     let all = subst (AllByRecursion IsSome) c.deref.ensures.value (c.have_all_finished.ensures.0 c.if-not-have_all_finished.false) in
-    subst (λ (e : EngineValue). AreThere e e.plan.root_lines) c.self.view_is
+    subst (λ (e : EngineValue). AreThere (outcomes_in e.finished) e.plan.root_lines) c.self.view_is
     (lines_there c.self.inside.finished.items (length c.self.inside.plan.steps) c.self.inside.plan.root_lines all (sym c.self.invariant.count) c.root.ensures.valid.root_lines.each)
 
 pub returns-clause-state : goal.returns-clause-state
@@ -30,11 +30,19 @@ returns-clause-served g c =
     let told = (g.S.BlobSource.tells c.graft_root.new.source).blobs in
     ok_map c.graft_root.result (λ f h. served_yes g.row.A.Denot told c.args.self.now f.root plan engine (grafted_root told c.args.self.now f.root plan engine (record { tree = h.0; together = h.1; same = h.2.root }))) c.graft_root.ensures.told
 
+pub returns-clause-refused : goal.returns-clause-refused
+returns-clause-refused g c =
+    let all = subst (AllByRecursion IsSome) c.deref.ensures.value (c.have_all_finished.ensures.0 c.if-not-have_all_finished.false) in
+    let complete : HaveAllFinished c.args.self.now = subst HaveAllFinished c.self.view_is all in
+    err_map c.graft_root.result (λ why h. root_fault (g.S.BlobSource.tells c.graft_root.new.source).blobs c.args.self.now complete why h) c.graft_root.ensures.faulty
+
 pub returns-clause-missing : goal.returns-clause-missing
 returns-clause-missing g c =
     let engine : IsEngine c.args.self.now = subst IsEngine c.self.view_is c.self.invariant in
+    let plan : IsPlan c.args.self.now.plan = subst (λ (e : EngineValue). IsPlan e.plan) c.self.view_is c.root.ensures.valid in
     let told = (g.S.BlobSource.tells c.graft_root.new.source).blobs in
-    err_map c.graft_root.result (λ why h. tells_missing g.row.A.Denot told c.args.self.now engine c.args.self.now.plan.root_lines why h) c.graft_root.ensures.faulty
+    let paths = paths_of (length c.args.self.now.plan.steps) c.args.self.now.plan.root_lines plan.root_lines.each in
+    err_map c.graft_root.result (λ why h. (tells told c.args.self.now engine c.args.self.now.plan.root_lines paths why h).0) c.graft_root.ensures.faulty
 
 pub returns-clause-conflict : goal.returns-clause-conflict
 returns-clause-conflict g c =
@@ -42,12 +50,15 @@ returns-clause-conflict g c =
     let plan : IsPlan c.args.self.now.plan = subst (λ (e : EngineValue). IsPlan e.plan) c.self.view_is c.root.ensures.valid in
     let told = (g.S.BlobSource.tells c.graft_root.new.source).blobs in
     let paths = paths_of (length c.args.self.now.plan.steps) c.args.self.now.plan.root_lines plan.root_lines.each in
-    err_map c.graft_root.result (λ why h. tells_conflict g.row.A.Denot told c.args.self.now engine c.args.self.now.plan.root_lines paths why h) c.graft_root.ensures.faulty
+    err_map c.graft_root.result (λ why h. (tells told c.args.self.now engine c.args.self.now.plan.root_lines paths why h).1) c.graft_root.ensures.faulty
 
 pub returns-clause-stands : goal.returns-clause-stands
 returns-clause-stands g c =
+    let engine : IsEngine c.args.self.now = subst IsEngine c.self.view_is c.self.invariant in
+    let plan : IsPlan c.args.self.now.plan = subst (λ (e : EngineValue). IsPlan e.plan) c.self.view_is c.root.ensures.valid in
     let told = (g.S.BlobSource.tells c.graft_root.new.source).blobs in
-    err_map c.graft_root.result (λ why h. stands_in g.row.A.Denot told c.args.self.now c.args.self.now.plan.root_lines why h) c.graft_root.ensures.faulty
+    let paths = paths_of (length c.args.self.now.plan.steps) c.args.self.now.plan.root_lines plan.root_lines.each in
+    err_map c.graft_root.result (λ why h. (tells told c.args.self.now engine c.args.self.now.plan.root_lines paths why h).2) c.graft_root.ensures.faulty
 
 pub returns-clause-complete : goal.returns-clause-complete
 returns-clause-complete g c =

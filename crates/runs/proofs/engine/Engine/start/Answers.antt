@@ -1,4 +1,4 @@
-use Rattle.std.proofs.Common.{[], ◌≡◌, ◌∙◌, ◌<◌, true, false, sym, subst, length, arith}
+use Rattle.std.proofs.Common.{[], ◌≡◌, ◌∙◌, ◌<◌, true, false, refl, sym, subst, length, arith}
 use Rattle.std.proofs.lemmas.Result.{err_from_is_err_and}
 use Rattle.runs.specs.Engine.{EngineValue, IsEngine}
 use Rattle.runs.specs.Calls.{IsLeastIn, IsLeastFree, IsReady, HasRoomForJob, IsPrepared, IsStarted}
@@ -7,8 +7,8 @@ use Rattle.blob_source.proofs.Asking.{ok_no_error}
 use Rattle.runs.proofs.Fetching.{fetching_memory}
 use Rattle.plan.specs.Plan.{IsPlan}
 use Rattle.verifier.proofs.Targets.{step_paths}
-use Rattle.runs.proofs.Missing.{start_fault, tells_missing, tells_conflict}
-use Rattle.runs.proofs.Standing.{stands_in}
+use Rattle.tree.specs.declared.error.TreeError.TheVariants as tree
+use Rattle.runs.proofs.Missing.{start_fault, tells}
 use Rattle.runs.proofs.Places.{has_one}
 use Rattle.runs.proofs.Starts.{started_engine, started_event, started_as, least_is_within}
 use Rattle.tree.proofs.Learning.{learns_more, learns_refused, refused_exit}
@@ -45,17 +45,20 @@ returns-in_err-job-clause-refused g c =
 pub returns-in_err-job-clause-missing : goal.returns-in_err-job-clause-missing
 returns-in_err-job-clause-missing g c = λ s at.
     let p = err_from_is_err_and c.from_residual.result c.from_residual.ensures.1 in
-    let tells = g.S.BlobSource.tells c.prepare.new.source in
+    let told = (g.S.BlobSource.tells c.prepare.new.source).blobs in
     let engine : IsEngine c.args.self.now = subst IsEngine c.self.view_is c.self.invariant in
-    rw (p.1, p.2) (tells_missing g.row.A.Denot tells.blobs c.args.self.now engine s.lines c.in_err-job.field-0.0 (c.in_err-job.ensures.faulty s at))
+    let plan : IsPlan c.args.self.now.plan = subst (λ (e : EngineValue). IsPlan e.plan) c.self.view_is c.steps.ensures.valid in
+    let paths = step_paths [] c.args.self.now.plan.steps plan.steps c.args.step s at in
+    rw (p.1, p.2) (tells told c.args.self.now engine s.lines paths c.in_err-job.field-0.0 (c.in_err-job.ensures.faulty s at)).0
 
 pub returns-in_err-job-clause-conflict : goal.returns-in_err-job-clause-conflict
 returns-in_err-job-clause-conflict g c = λ s at.
     let p = err_from_is_err_and c.from_residual.result c.from_residual.ensures.1 in
-    let tells = g.S.BlobSource.tells c.prepare.new.source in
+    let told = (g.S.BlobSource.tells c.prepare.new.source).blobs in
     let engine : IsEngine c.args.self.now = subst IsEngine c.self.view_is c.self.invariant in
     let plan : IsPlan c.args.self.now.plan = subst (λ (e : EngineValue). IsPlan e.plan) c.self.view_is c.steps.ensures.valid in
-    rw (p.1, p.2) (tells_conflict g.row.A.Denot tells.blobs c.args.self.now engine s.lines (step_paths [] c.args.self.now.plan.steps plan.steps c.args.step s at) c.in_err-job.field-0.0 (c.in_err-job.ensures.faulty s at))
+    let paths = step_paths [] c.args.self.now.plan.steps plan.steps c.args.step s at in
+    rw (p.1, p.2) (tells told c.args.self.now engine s.lines paths c.in_err-job.field-0.0 (c.in_err-job.ensures.faulty s at)).1
 
 pub returns-in_err-place-clause-conflict : goal.returns-in_err-place-clause-conflict
 returns-in_err-place-clause-conflict g c = λ s at.
@@ -68,7 +71,7 @@ returns-in_err-place-clause-refused g c =
     let ready : IsReady c.args.self.now c.args.step = c.ready.ensures.value.0 c.if-not-ready.false in
     let least : IsLeastFree c.args.self.now c.free_number-number.result = subst (λ (e : EngineValue). IsLeastIn e.jobs c.free_number-number.result) c.self.view_is (subst (λ js. IsLeastIn js c.free_number-number.result) c.deref.ensures.value c.free_number-number.ensures) in
     let room : HasRoomForJob c.args.self.now = (c.free_number-number.result, least, c.if-number-ge-MOST_JOBS.false) in
-    rw (p.1, p.2) (ready, room, λ s at. tt)
+    rw (p.1, p.2) (ready, room, λ s at. (tree.Memory, tt, refl))
 
 pub returns-in_err-place-clause-missing : goal.returns-in_err-place-clause-missing
 returns-in_err-place-clause-missing g c = λ s at.
@@ -102,10 +105,13 @@ returns-clause-event g c =
 
 pub returns-in_err-job-clause-stands : goal.returns-in_err-job-clause-stands
 returns-in_err-job-clause-stands g c =
-    let p = err_from_is_err_and c.from_residual.result c.from_residual.ensures.1 in
-    let tells = g.S.BlobSource.tells c.prepare.new.source in
     let s = has_one c.args.self.now.plan.steps c.args.step c.requires.within in
-    rw (p.1, p.2) (stands_in g.row.A.Denot tells.blobs c.args.self.now s.0.lines c.in_err-job.field-0.0 (c.in_err-job.ensures.faulty s.0 s.1))
+    let p = err_from_is_err_and c.from_residual.result c.from_residual.ensures.1 in
+    let told = (g.S.BlobSource.tells c.prepare.new.source).blobs in
+    let engine : IsEngine c.args.self.now = subst IsEngine c.self.view_is c.self.invariant in
+    let plan : IsPlan c.args.self.now.plan = subst (λ (e : EngineValue). IsPlan e.plan) c.self.view_is c.steps.ensures.valid in
+    let paths = step_paths [] c.args.self.now.plan.steps plan.steps c.args.step s.0 s.1 in
+    rw (p.1, p.2) (tells told c.args.self.now engine s.0.lines paths c.in_err-job.field-0.0 (c.in_err-job.ensures.faulty s.0 s.1)).2
 
 pub returns-in_err-place-clause-called : goal.returns-in_err-place-clause-called
 returns-in_err-place-clause-called g c = fetching_memory c.from_residual-in_err-place.ensures.1 ok_no_error c.in_ok-job.ensures.called

@@ -1,0 +1,66 @@
+-- Why a turn of a build is refused: words of private functions.
+use Rattle.std.specs.Prelude.{◌≡◌, ◌⊎◌, ℕ, List, [], ◌∷◌}
+use Rattle.blob_digest.specs.Digest.{DigestValue}
+use Rattle.action_messages.specs.Command.{CommandValue}
+use Rattle.blob_source.specs.Source.{Blobs, Telling}
+use Rattle.runs.specs.Engine.{EngineValue}
+use Rattle.runs.specs.Calls.{IsFinishFault}
+use Rattle.tree.specs.TreeError.{Explains}
+use Rattle.worker.specs.declared.error.Refusal.{Refusal}
+use Rattle.worker.specs.declared.error.Refusal.TheVariants as refusals
+use Rattle.worker.specs.declared.laid.LayoutError.{LayoutError}
+use Rattle.worker.specs.declared.laid.LayoutError.TheVariants as laying
+use Rattle.worker.specs.declared.runner.RunError.TheVariants as children
+use Rattle.worker.specs.declared.child.Child.{Child}
+use Rattle.worker.specs.Calls.{WasStarted}
+use Rattle.worker.specs.Outcomes.{Yields, HasAllRight}
+use Rattle.worker.specs.Refusals.{FailsBlob, IsLayoutFault}
+use Rattle.worker.specs.Stopped.{StopsStep, IsStoreFault}
+use Rattle.worker.specs.Stored.{IsKept}
+use Rattle.worker.specs.Values.{ProducedValue, EndValue, made, bad_at, IsAbsolute}
+
+-- why a blob isn't fetched: it isn't told, unless the source failed or memory ran out
+abbrev pub IsContentFault : {A : Type 0} → Blobs → DigestValue → LayoutError A → Type 0
+IsContentFault B d (laying.Source e) = Explains (FailsBlob B d) e
+IsContentFault B d (laying.LinkInput p) = ⊥
+IsContentFault B d laying.Memory = Unit {0}
+
+-- why a child isn't started for an input and a command
+abbrev pub StopsChild : {A : Type 0} → Blobs → DigestValue → CommandValue → Refusal A → Type 0
+StopsChild B input c (refusals.Engine why) = ⊥
+StopsChild B input c (refusals.Layout why) = IsLayoutFault B input why
+StopsChild B input c (refusals.Run children.NotAbsolute) = IsAbsolute c → ⊥
+StopsChild B input c (refusals.Run (children.BadOutput path)) = ⊥
+StopsChild B input c r = Unit {0}
+
+-- why a child comes to nothing that is collected
+abbrev pub StopsCollecting : {A : Type 0} → (EndValue → Type 0) → Refusal A → Type 0
+StopsCollecting may (refusals.Engine why) = ⊥
+StopsCollecting may (refusals.Layout why) = ⊥
+StopsCollecting may (refusals.Run children.NotAbsolute) = ⊥
+StopsCollecting may (refusals.Run (children.BadOutput path)) = may (bad_at path)
+StopsCollecting may r = Unit {0}
+
+-- why the job of a child doesn't finish: the engine doesn't take what the child came to, or it came
+-- to nothing
+abbrev pub StopsEnd : {A J : Type 0} → (J → EndValue → Type 0) → Blobs → Child J → EngineValue
+    → Refusal A → Type 0
+StopsEnd may B c e (refusals.Engine why) = (p : ProducedValue) × may c.job (made p)
+    × HasAllRight B p.blobs × IsFinishFault e c.id p.outcome why
+StopsEnd may B c e r = StopsCollecting (may c.job) r
+
+-- the store failed or memory ran out; or the first child's job didn't finish, and no result was put
+abbrev pub StopsSettling : {A J : Type 0} → (J → EndValue → Type 0) → Telling → Telling
+    → Child J → EngineValue → Refusal A → Type 0
+StopsSettling may s t c e r = IsStoreFault r ⊎ (IsKept s t × StopsEnd may t.blobs c e r)
+
+abbrev pub StopsFirst : {A J : Type 0} → (J → EndValue → Type 0) → Telling → Telling
+    → List (Child J) → EngineValue → ℕ → Refusal A → Type 0
+StopsFirst may s t [] e i r = ⊥
+StopsFirst may s t (c ∷ cs) e i r = (i ≡ c.step) × StopsSettling may s t c e r
+
+-- a step is refused as it is started, or as its job goes on
+abbrev pub StopsBeginning : {A : Type 0} → Yields → Telling → EngineValue → ℕ → Refusal A → Type 0
+StopsBeginning {A} yields t e i r = StopsStep yields t e i r
+    ⊎ ((id : ℕ) × (mid : EngineValue) × WasStarted A t.blobs i id e mid
+    × StopsStep yields t mid i r)

@@ -1,0 +1,78 @@
+-- What a store has while a build goes on: words of private functions.
+use Rattle.std.specs.Prelude.{◌≡◌, ◌⊎◌, ℕ, List, [], ◌∷◌, ◌++◌, Some, None}
+use Rattle.blob_digest.specs.Digest.{DigestValue}
+use Rattle.action_messages.specs.ActionResult.{ActionResultValue}
+use Rattle.action_messages.specs.Reads.{Reads}
+use Rattle.actions.specs.Outcome.{OutcomeValue}
+use Rattle.actions.specs.Recorded.{IsRecorded}
+use Rattle.blob_source.specs.Source.{Blobs, Telling, IsBlobUnder}
+use Rattle.blob_source.specs.Sink.{HasRight, KeepsRight}
+use Rattle.tree.specs.Memo.{Known, blob, result}
+use Rattle.runs.specs.Calls.{HaveOneForm}
+use Rattle.runs.specs.Engine.{FinishedValue, EngineValue, finished_in}
+use Rattle.runs.specs.Results.{result_of}
+use Rattle.runs.specs.Served.{IsKeptOf}
+use Rattle.worker.specs.Outcomes.{IsHeld}
+use Rattle.worker.specs.Stored.{HasTrees}
+
+-- bytes of which this is so stand under a digest
+abbrev pub Stands : (List ℕ → Type 0) → Blobs → DigestValue → Type 0
+Stands Is C d = (b : List ℕ) × (C d ≡ Some b) × Is b
+
+-- calls that put bytes of which this is so under one digest, or put none: all others stay
+pub record IsKeptBut (d : DigestValue) (Is : List ℕ → Type 0) (old new : Telling) : Type 0 where
+  pub blobs : KeepsRight old.blobs new.blobs
+  pub results : (e : DigestValue) (b : List ℕ) → old.results e ≡ Some b
+      → (new.results e ≡ Some b) ⊎ ((e ≡ d) × Stands Is new.results d)
+  pub puts : (new.puts ≡ old.puts)
+      ⊎ ((new.puts ≡ old.puts ++ d ∷ []) × Stands Is new.results d)
+
+-- Blobs alone are known, and each is one that is told. Right bytes stay told when others are put,
+-- and so what is known stays so; a result may give way to another.
+pub record KnowsBlobs (known : Known) (B : Blobs) : Type 0 where
+  pub blobs : (d : DigestValue) (b : List ℕ) → known (blob d) ≡ Some b → IsBlobUnder B d b
+  pub results : (d : DigestValue) → known (result d) ≡ None
+
+-- under a digest stands a result of a step that has finished
+pub record HasResultOf (t : Telling) (e : EngineValue) (i : ℕ) (d : DigestValue) : Type 0 where
+  pub step : FinishedValue
+  pub at : finished_in i e ≡ Some step
+  pub bytes : List ℕ
+  pub held : t.results d ≡ Some bytes
+  pub result : ActionResultValue
+  pub reads : Reads result bytes
+  pub kept : IsKeptOf e i result
+
+-- bytes read as the result of a step that has finished
+abbrev pub IsResultOfStep : EngineValue → ℕ → List ℕ → Type 0
+IsResultOfStep e i b =
+    (f : FinishedValue) × (finished_in i e ≡ Some f) × Reads (result_of f.outcome) b
+
+-- a result is for an outcome of this form, or it is that of a step which came to one
+abbrev pub IsForForm : Blobs → EngineValue → ActionResultValue → OutcomeValue → Type 0
+IsForForm B e r o =
+    ((v : OutcomeValue) × IsRecorded B r v × HaveOneForm v o)
+    ⊎ ((i : ℕ) × (f : FinishedValue) × (finished_in i e ≡ Some f) × HaveOneForm f.outcome o
+    × IsKeptOf e i r)
+
+-- A store has what a step came to: bytes with the digest of its action, its Trees, and a result for
+-- an outcome of its form.
+pub record StoresStep (t : Telling) (e : EngineValue) (f : FinishedValue) : Type 0 where
+  pub action : HasRight t.blobs f.action
+  pub trees : HasTrees t.blobs f.outcome
+  pub bytes : List ℕ
+  pub held : t.results f.action ≡ Some bytes
+  pub result : ActionResultValue
+  pub reads : Reads result bytes
+  pub stands : IsForForm t.blobs e result f.outcome
+
+-- a store has what each step that has finished came to
+abbrev pub StoresSteps : Telling → EngineValue → Type 0
+StoresSteps t e = (i : ℕ) (f : FinishedValue) → finished_in i e ≡ Some f → StoresStep t e f
+
+-- A store has what it recorded under a digest: bytes with the digest, and the outcome with its
+-- Trees.
+pub record IsHeldWhole (t : Telling) (d : DigestValue) (v : OutcomeValue) : Type 0 where
+  pub held : IsHeld t d v
+  pub action : HasRight t.blobs d
+  pub trees : HasTrees t.blobs v
