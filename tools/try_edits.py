@@ -29,7 +29,7 @@ from prover import Workspace
 
 # What one check is taken to need of memory, in bytes; and those of the crates that were seen to take more.
 ROOM = 4_500_000_000
-ROOMS = {"commands": 6_500_000_000, "builder": 6_500_000_000}
+ROOMS = {"commands": 6_500_000_000, "cli": 6_000_000_000}
 
 
 class Memory:
