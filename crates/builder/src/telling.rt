@@ -80,8 +80,9 @@ pub fn tell_build<A: Allocator + Copy, S: BlobSink<A>, N: Runner<A>, W: Watcher>
     jobs: usize,
 ) -> Result<Told<A>, Fault>
     requires some { 0 < jobs }
-    // What is told is what came of the plan: the line, the record and the Directories are those of a
-    // build that came to its root; or line and words tell the refusal; or the fault has no number.
+    // What is told is what came of the plan: the line, the record and the Directories are those of
+    // a build that came to its root; or line and words tell the refusal; or the fault has no
+    // number.
     ensures told { IsBuildTold (N.yields runner.old) jobs plan.now sources.now
         (seen (S.tells sink.old) (N.starts runner.old) (N.failures runner.old)
         (W.told watcher.old))

@@ -155,10 +155,10 @@ fn write_entries<A: Allocator + Copy, S: BlobSource<A>, W: FolderWriter>(
 
 /// Writes the tree with a digest into a folder that isn't there or is empty: each directory, each
 /// file with its content and whether it is a program, each symbolic link, and nothing else. A
-/// file's content is fetched when its turn comes: what was written before a refusal stays. Refusals,
-/// the first of these: `Missing`, `Wrong`, `Malformed` and `TooDeep` of the tree, `Place` where the
-/// folder isn't empty, and in the order of the paths `Missing` and `Wrong` of a file's content and
-/// `Place` where something can't be written.
+/// file's content is fetched when its turn comes: what was written before a refusal stays.
+/// Refusals, the first of these: `Missing`, `Wrong`, `Malformed` and `TooDeep` of the tree, `Place`
+/// where the folder isn't empty, and in the order of the paths `Missing` and `Wrong` of a file's
+/// content and `Place` where something can't be written.
 pub fn check_out<A: Allocator + Copy, S: BlobSource<A>, W: FolderWriter>(
     alloc: A,
     writer: &W,

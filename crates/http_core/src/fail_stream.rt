@@ -8,8 +8,9 @@ use std::io;
 use std::io::{ErrorKind, Read, Write};
 use std::marker::Model;
 
-/// A stream in memory that fails at one call. Its reads give the bytes that it stores and its writes
-/// are kept, at most so many bytes at once, but for one call, which fails and changes nothing.
+/// A stream in memory that fails at one call. Its reads give the bytes that it stores and its
+/// writes are kept, at most so many bytes at once, but for one call, which fails and changes
+/// nothing.
 #[derive(Drop)]
 pub struct FailStream<A: Allocator> {
     input: Vec<u8, A>,

@@ -128,7 +128,8 @@ pub record LooksInFolder {A : Type 0}
   pub held : IfOk result (λ answer. HasAnswer after d)
   pub unheld : OnErr result (KeepsAnswers before after)
   pub others : IsSameBut d before after
-  pub read : (HasAnswer before d → ⊥) → IfOk result (λ answer. IsReadAt reads fails path (bytes_of answer))
+  pub read : (HasAnswer before d → ⊥)
+      → IfOk result (λ answer. IsReadAt reads fails path (bytes_of answer))
   pub failed : IsErrOf result Failed → IsSomeAnd new (IsFaultAt path)
   pub fault : IsErrOf result Failed → IsSomeAnd new (FailsAt fails path)
   pub unfailed : (IsErrOf result Failed → ⊥) → new ≡ old

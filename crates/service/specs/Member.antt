@@ -43,8 +43,8 @@ pub record TalksOn
 -- it may end, for this reason
 pub record MayEndNow
     {S : Type 0} (spoke : ℕ → S → List ℕ → List ℕ → Type 0) (over : S → Why → Type 0)
-    (prefix : List ℕ) (opening : CacheValue) (history entries : List HistoryEntry) (k : ℕ) (stream : S)
-    (why : Why) : Type 0 where
+    (prefix : List ℕ) (opening : CacheValue) (history entries : List HistoryEntry) (k : ℕ)
+    (stream : S) (why : Why) : Type 0 where
   pub read : List ℕ
   pub sent : List ℕ
   pub left : List ℕ

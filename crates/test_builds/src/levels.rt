@@ -61,8 +61,8 @@ fn hold_levels<A: Allocator + Copy>(
     Ok(sources)
 }
 
-/// How many requests for memory were refused where the rows come to what they say. The first request
-/// of a row's verdict and each after so many is refused before, over one source.
+/// How many requests for memory were refused where the rows come to what they say. The first
+/// request of a row's verdict and each after so many is refused before, over one source.
 pub fn run(global: Global, group: &[Row], stride: u64, noted: &mut String) -> Result<u64, Broken> {
     let mut refused = 0u64;
     for row in group {

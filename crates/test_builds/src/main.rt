@@ -36,8 +36,9 @@ enum Subject {
     FailingBuilds,
 }
 
-/// Each file, after the name of another where it has the stock of that; how far apart the requests for
-/// memory are that are refused, and fewer than are. Those of 0 refuse none, or don't count them.
+/// Each file, after the name of another where it has the stock of that; how far apart the requests
+/// for memory are that are refused, and fewer than are. Those of 0 refuse none, or don't count
+/// them.
 static FILES: [(&str, Subject, u64, u64); 14] = [
     ("reports", Subject::Reports, 1, 100),
     ("openings", Subject::Openings, 1, 40),
@@ -81,8 +82,8 @@ fn answer<A: Allocator + Copy>(
     }
 }
 
-/// Whether the row names that a refusal may go unheard: that of a child that is waited for after the
-/// build was refused.
+/// Whether the row names that a refusal may go unheard: that of a child that is waited for after
+/// the build was refused.
 fn is_unheard(row: &Row) -> bool {
     row.fields.iter().any(|field| is(field, "out unheard"))
 }
@@ -148,8 +149,8 @@ fn refused_in(
     Ok(refused)
 }
 
-/// How many rows a file has after its stock, if all come to what they say and no fewer requests than
-/// these are refused.
+/// How many rows a file has after its stock, if all come to what they say and no fewer requests
+/// than these are refused.
 fn rows_of(
     global: Global,
     text: &str,

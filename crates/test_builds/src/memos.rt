@@ -1,5 +1,5 @@
-//! Calls of an engine over one memo. Each request for memory is refused in turn; after each the call
-//! is asked twice more, and the second time nothing is fetched.
+//! Calls of an engine over one memo. Each request for memory is refused in turn; after each the
+//! call is asked twice more, and the second time nothing is fetched.
 ghost use Rattle.tree.specs.Memo.{IsKnownOf, known_by};
 
 use crate::answers::{Answer, Broken};
@@ -38,7 +38,8 @@ fn asked<A: Allocator + Copy, S: BlobSource<A>>(
     }
 }
 
-/// The answer, and how often the source was called for it; and how many requests were refused before.
+/// The answer, and how often the source was called for it; and how many requests were refused
+/// before.
 pub fn insisted<'h>(
     global: Global,
     heap: &'h Refusing<Global>,

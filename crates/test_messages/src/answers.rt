@@ -234,8 +234,8 @@ fn differ_in_calls(one: &[u8], other: &[u8]) -> bool {
     !told.is_empty() && told == before_calls(other)
 }
 
-/// Whether the row comes to what it says, where it may be but for the calls of a source. Notes what it
-/// comes to otherwise.
+/// Whether the row comes to what it says, where it may be but for the calls of a source. Notes what
+/// it comes to otherwise.
 pub fn compared(
     global: Global,
     row: &Row,

@@ -102,8 +102,8 @@ fn answer<A: Allocator + Copy>(
 }
 
 /// Whether a row was told of lack of memory, where the rows of the group come, one after another,
-/// to what they say. Such a row is asked once more, of what is held then; the source was called more
-/// often by then than the rows say.
+/// to what they say. Such a row is asked once more, of what is held then; the source was called
+/// more often by then than the rows say.
 fn run(
     subject: Subject,
     global: Global,
@@ -202,7 +202,8 @@ fn refused_in_turn(
     Err(Broken::Untold)
 }
 
-/// How many rows a file has, if all come to what they say and no fewer requests than these are refused.
+/// How many rows a file has, if all come to what they say and no fewer requests than these are
+/// refused.
 fn rows_of(
     global: Global,
     state: RandomState,

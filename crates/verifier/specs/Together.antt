@@ -1,5 +1,5 @@
--- What lines put together: where each finds its origin, the tree that what stands there merges into,
--- and why there is none.
+-- What lines put together: where each finds its origin, the tree that what stands there merges
+-- into, and why there is none.
 use Rattle.std.specs.Prelude.{◌≡◌, ◌⊎◌, ℕ, List, [], ◌∷◌, Option, Some}
 use Rattle.std.specs.List.{AllByRecursion}
 use Rattle.blob_digest.specs.Digest.{DigestValue}

@@ -1,6 +1,7 @@
 -- A build that goes on, its children and its turns: words of private functions.
 use Rattle.std.specs.Prelude.{zero, suc, ◌≡◌, ◌≢◌, ◌⊎◌, ◌+◌, ◌*◌, ◌<◌, ◌≤◌, ℕ, List, [], ◌∷◌, ◌++◌}
-use Rattle.std.specs.Prelude.{◌-◌, Bool, true, false, length, map, set, slice_get, Option, Some, None, IsSome}
+use Rattle.std.specs.Prelude.{◌-◌, Bool, true, false, length, map, set, slice_get, Option, Some}
+use Rattle.std.specs.Prelude.{None, IsSome}
 use Rattle.blob_digest.specs.Digest.{DigestValue, digest_of}
 use Rattle.action_messages.specs.Action.{action_bytes}
 use Rattle.action_messages.specs.Command.{CommandValue}
@@ -14,11 +15,13 @@ use Rattle.worker.specs.declared.child.Child.{Child}
 use Rattle.worker.specs.declared.turns.Turn.{Turn}
 use Rattle.worker.specs.declared.turns.Turn.TheVariants as turns
 use Rattle.worker.specs.Layout.{IsLayoutOf}
-use Rattle.worker.specs.Values.{LayoutValue, ProducedValue, EndValue, made, Starts, StartsOne, StartsNone}
+use Rattle.worker.specs.Values.{LayoutValue, ProducedValue, EndValue, made, Starts, StartsOne}
+use Rattle.worker.specs.Values.{StartsNone}
 use Rattle.worker.specs.Storing.{IsKeptBut, HasResultOf, IsHeldWhole}
 use Rattle.worker.specs.Outcomes.{Yields, HasAllRight, IsHeld, CanBeTaken}
 use Rattle.worker.specs.Stored.{IsKept, HasTrees}
-use Rattle.worker.specs.Calls.{running, Call, WasStarted, IsLost, IsBuiltWith, IsResultFor, IsStartable}
+use Rattle.worker.specs.Calls.{running, Call, WasStarted, IsLost, IsBuiltWith, IsResultFor}
+use Rattle.worker.specs.Calls.{IsStartable}
 use Rattle.worker.specs.Watching.{taken_count, jobs_after}
 
 -- the job is the child's

@@ -22,8 +22,8 @@ abbrev pub YieldsNoMore : Yields → Yields → Type 0
 YieldsNoMore some all =
     (l : LayoutValue) (c : CommandValue) (e : EndValue) → some l c e → all l c e
 
--- A job's child may come to this: the runner yields it for the layout that is told under the root of
--- the job's input, and for the command of the job's step. The job's action is in the store.
+-- A job's child may come to this: the runner yields it for the layout that is told under the root
+-- of the job's input, and for the command of the job's step. The job's action is in the store.
 pub record MayComeTo (yields : Yields) (B : Blobs) (e : EngineValue) (j : JobValue) (end : EndValue)
     : Type 0 where
   pub layout : LayoutValue
