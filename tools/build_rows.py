@@ -1,23 +1,26 @@
 #!/usr/bin/env python3
 """Tries `build` with real processes, over the program's own server: build_rows.py PROGRAM
 
-Steps that make a file, end with a code, name their program badly, make what is no output, read an input, are ended by
-a signal, and wait for each other; links and folders of folders at an output path, and what a step writes beside its
-files; lines whose directories merge, and that don't; trees that are fetched into a folder; the second build of a plan,
-which runs nothing; the `verify` of each record; folders that can't be those of the jobs; what stands at the record's path;
-what is told of a text that can't be read; and builds over a server that cuts each reply in turn, or changes a byte of it.
-It prints a line for each row, and ends with status 1 where one failed.
-Nothing outside this machine is asked.
+Steps that make a file, end with a code, name their program badly, make what is no output, read an input, are ended by a
+signal, and wait for each other; links and folders at an output path, what a step writes beside its files, and what it is
+given; lines whose directories merge, and that don't; the second build of a plan, which runs nothing, one that goes on where a
+signal ended it, and two at once; the `verify` of each record; folders that can't be those of the jobs; what stands at the
+record's path; texts that can't be read; and builds over a server that cuts each reply in turn, or changes a byte of it. It prints
+a line for each row, and ends with status 1 where one failed. Nothing outside this machine is asked.
 """
 
+import concurrent.futures
 import os
+import signal
+import subprocess
 import sys
 import tempfile
+import time
 
 import harness
 import stores
 from harness import Between, Server
-from messages import EMPTY, Digest, File, Link, action_message, command_message, directory_message
+from messages import EMPTY, Digest, File, action_message, command_message, directory_message
 
 NINE = b"123456789"
 SHELL = ["/bin/sh", "-c"]
@@ -38,45 +41,52 @@ class Builds:
         self.program, self.work, self.rows, self.count = program, work, rows, 0
         self.renew()
 
-    def renew(self):
+    def renew(self, *more):
         """Another server, which holds nothing."""
         if self.count:
             self.server.end()
-        self.server = Server(self.program, None, 1000000, 100000)
+        self.server = Server(self.program, None, 1000000, 100000, more)
         self.address = self.server.address
 
     def run(self, *words):
         return harness.run(self.program, *words)
 
     def put(self, blob):
+        """Puts a blob, and answers its digest."""
         stores.write_file(f"{self.work}/blob", blob)
         done = self.run("put", "--server", self.address, f"{self.work}/blob")
-        assert done.stdout == f"{Digest.of(blob).text()}\n".encode(), done
+        digest = Digest.of(blob).text()
+        assert done.stdout == f"{digest}\n".encode(), done
+        return digest
 
-    def plan(self, steps, lines, version=1):
+    def plan(self, steps, lines, version=1, **command):
         """The text of a plan: a step has a name, its words, its outputs and its lines."""
         text = f"buildplan {version}\n"
         for name, words, outputs, reads in steps:
-            meant = command_message(words, outputs)
+            meant = command_message(words, outputs, **command)
             frame = action_message(Digest.of(meant))
             self.put(meant)
             self.put(frame)
             text += f"step {name} {Digest.of(frame).text()}\n" + "".join(f"in {it}\n" for it in reads)
         return text + "root\n" + "".join(f"in {it}\n" for it in lines)
 
-    def one_step(self, words, reads=()):
-        return self.plan([("mk", words, ["out"], reads)], ["a out mk out"])
+    def one_step(self, words, reads=(), **command):
+        return self.plan([("mk", words, ["out"], reads)], ["a out mk out"], **command)
 
-    def build(self, plan, sources=EMPTY.text(), jobs=1, spoil=lambda work: None, address=None, more=(), record="record"):
-        """Builds a plan; the run, and the folder of its plan and its record. The folder of the jobs is spoilt first."""
+    def words(self, plan, sources=EMPTY.text(), jobs=1, spoil=lambda work: None, address=None, more=(), record="record"):
+        """The words that build a plan, and the folder of the plan and the record. The folder of the jobs is spoilt first."""
         self.count += 1
         place = f"{self.work}/{self.count}"
         os.makedirs(f"{place}/work")
         spoil(f"{place}/work")
         stores.write_file(f"{place}/plan", plan.encode())
-        done = self.run("build", "--server", address or self.address, "--sources", sources, "--plan", f"{place}/plan",
-                        "--record", f"{place}/{record}", "--work", f"{place}/work", "--jobs", str(jobs), *more)
-        return done, place
+        return ["build", "--server", address or self.address, "--sources", sources, "--plan", f"{place}/plan",
+                "--record", f"{place}/{record}", "--work", f"{place}/work", "--jobs", str(jobs), *more], place
+
+    def build(self, plan, *how, **named):
+        """Builds a plan: the run, and the folder of the plan and the record."""
+        words, place = self.words(plan, *how, **named)
+        return self.run(*words), place
 
     def expect(self, name, done, place, out, status):
         right = done.stdout == out.encode() and done.returncode == status
@@ -130,11 +140,9 @@ def rows_of_one_step(builds):
     builds.ran_nothing(place)
     builds.rows.tell("and the record is the same", record_of(place) == record_of(first), record_of(place))
     builds.put(NINE)
-    sources = directory("a", NINE)
-    builds.put(sources)
-    read = builds.one_step([*SHELL, 'read -r l < d/x; printf %s "$l" > out'], ["d/x src a"])
-    done, place = builds.build(read, Digest.of(sources).text())
-    builds.expect_built("an input is read", done, place, MADE, 1, Digest.of(sources).text())
+    given = builds.put(directory("a", NINE))
+    done, place = builds.build(builds.one_step([*SHELL, 'read -r l < d/x; printf %s "$l" > out'], ["d/x src a"]), given)
+    builds.expect_built("an input is read", done, place, MADE, 1, given)
 
 
 def rows_of_outputs(builds):
@@ -201,6 +209,73 @@ def rows_of_two_steps(builds):
             builds.expect(name, done, place, "failed step one 103\n", 1)
 
 
+def rows_of_given(builds):
+    """What a step is given: no input, its command's variables alone, its command's folder, and names of all letters."""
+    made = "printf %s 123456789 >"
+    done, place = builds.build(builds.one_step([*SHELL, "cat > out"]))
+    builds.expect_built("a step that reads its standard input to the end", done, place, Digest.of(directory("a", b"")).text())
+    variables = builds.one_step(["/usr/bin/sort", "-z", "-o", "out", "/proc/self/environ"], environment=[("A", "1"), ("B", "x y")])
+    done, place = builds.build(variables)
+    builds.expect_built("a step has its command's variables alone", done, place, Digest.of(directory("a", b"A=1\0B=x y\0")).text())
+    done, place = builds.build(builds.one_step([*SHELL, f"cd ../../d/e && {made} out"], folder="d/e"))
+    builds.expect_built("a step starts in its command's folder", done, place, MADE)
+    builds.rows.tell("where its output is", os.path.exists(f"{place}/work/0/d/e/out"), os.listdir(f"{place}/work/0"))
+    builds.put(NINE)
+    given = builds.put(directory("é +", NINE))
+    reads = ["i%20n/%C3%B6 src %C3%A9%20%2B"]
+    plan = builds.plan([("mk", [*SHELL, "cat 'i n/ö' > 'o ü%20'"], ["o ü%20"], reads)], ["a out mk o%20%C3%BC%2520"])
+    done, place = builds.build(plan, given)
+    builds.expect_built("names with blanks and other letters", done, place, MADE, 1, given)
+    left = f"{builds.work}/left"
+    done, place = builds.build(builds.one_step([*SHELL, f'sleep 600 & echo $! > "$0"; {made} out', left]))
+    builds.expect_built("a process that a step leaves behind isn't waited for", done, place, MADE)
+    os.kill(int(read(left)), signal.SIGKILL)
+
+
+def rows_of_ended(builds):
+    """A build that a signal ends goes on where it was; one over a server that was started again says what is missing."""
+    mark, made = f"{builds.work}/begun", "printf %s 123456789 > out"
+    waits = f'[ -e "$0" ] || {{ echo $$ > "$0.new"; mv "$0.new" "$0"; exec sleep 600; }}; {made}'
+    steps = [("one", [*SHELL, made], ["out"], ()), ("two", [*SHELL, waits, mark], ["out"], ["x out one out"])]
+    plan = builds.plan(steps, ["a out two out"])
+    words, place = builds.words(plan)
+    with subprocess.Popen([builds.program, *words], stdin=subprocess.DEVNULL, stdout=subprocess.PIPE) as ended:
+        for _ in range(600):
+            if os.path.exists(mark):
+                break
+            time.sleep(0.1)
+        ended.terminate()
+        out, status = ended.communicate()[0], ended.returncode
+    os.kill(int(read(mark)), signal.SIGKILL)
+    right = (out, status) == (b"", -signal.SIGTERM) and not os.path.exists(f"{place}/record")
+    builds.rows.tell("a build that SIGTERM ends has no line and no record", right, (out, status))
+    done, place = builds.build(plan)
+    builds.expect_built("it is built when it is asked again", done, place, MADE, 2)
+    jobs = os.listdir(f"{place}/work")
+    builds.rows.tell("and the step that had finished isn't run again", jobs == ["0"], jobs)
+    frame, action = plan.split()[4], record_of(place).decode().split()[4]
+    builds.renew()
+    builds.expect_verdict("its verify over a server that was started again", place, MADE,
+                          f"no step one cause blob-missing {action}\n", 1)
+    done, place = builds.build(plan)
+    builds.expect("and its build there", done, place, "failed step one 107\n", 1)
+    builds.rows.tell("and why is noted", done.stderr == f"note: step one: blob {frame} is missing\n".encode(), done.stderr)
+
+
+def rows_of_two_builds(builds):
+    """Two builds of a plan at once over one server: both run its step, and come to the same."""
+    marks = f"{builds.work}/marks"
+    os.mkdir(marks)
+    waits = 'mktemp "$0"/XXXXXX; n=0; until [ $(ls "$0" | wc -l) = 2 ]; do n=$((n+1)); [ $n -le 1000 ] || exit 1; sleep 0.02; done'
+    builds.renew("--at-once", "4")
+    plan = builds.one_step([*SHELL, f"{waits}; printf %s 123456789 > out", marks])
+    both = [builds.words(plan) for _ in range(2)]
+    with concurrent.futures.ThreadPoolExecutor() as pool:
+        for done, (_, place) in zip(pool.map(lambda it: builds.run(*it[0]), both), both):
+            builds.expect_built("one of two builds of a plan at once", done, place, MADE)
+    builds.renew()
+
+
 def rows_of_merges(builds):
     """Version 2: a step that reads its sources and what an earlier one made in one folder, and a root of two steps' folders."""
 
@@ -216,9 +291,7 @@ def rows_of_merges(builds):
         return File(Digest.of(content), is_executable=False)
 
     builds.put(NINE)
-    sources = directory("a", NINE)
-    builds.put(sources)
-    given = Digest.of(sources).text()
+    given = builds.put(directory("a", NINE))
     use = ("use", [*SHELL, "mkdir out; cat d/a d/b > out/c"], ["out"], ["d src .", "d out gen out"])
     plan = builds.plan([("gen", makes({"b": "made"}), ["out"], ()), use], ["r out gen out", "r out use out"], 2)
     root = Digest.of(directory_message({"r": {"b": of(b"made"), "c": of(NINE + b"made")}})).text()
@@ -233,14 +306,9 @@ def rows_of_merges(builds):
     done, place = builds.build(roots({"b": "made"}, {"b": "made", "c": "more"}))
     root = Digest.of(directory_message({"r": {"b": of(b"made"), "c": of(b"more")}})).text()
     builds.expect_built("two steps that made the same file at one path", done, place, root, 2)
-    meeting = plan_of(place).replace("in r out two out", "in r/b out two out")
+    meeting = read(f"{place}/plan").decode().replace("in r out two out", "in r/b out two out")
     stores.write_file(f"{place}/plan", meeting.encode())
     builds.expect_verdict("a folder at the path of a file: no", place, root, "no root cause input-conflict r/b\n", 1)
-
-
-def plan_of(place):
-    with open(f"{place}/plan", encoding="ascii") as it:
-        return it.read()
 
 
 def rows_of_the_folder(builds):
@@ -397,67 +465,6 @@ def rows_of_hints(builds):
     builds.rows.tell("and over one that is there it isn't", (told.returncode, told.stderr) == (1, b""), told)
 
 
-def standing_at(folder):
-    """What stands below a folder: `None` for a folder, a link's target, or a file's bytes and whether it may be run."""
-    found = {}
-    for above, folders, files in os.walk(folder):
-        for name in folders + files:
-            path = os.path.join(above, name)
-            below = os.path.relpath(path, folder)
-            if os.path.islink(path):
-                found[below] = os.readlink(path)
-            elif os.path.isdir(path):
-                found[below] = None
-            else:
-                with open(path, "rb") as it:
-                    found[below] = (it.read(), os.access(path, os.X_OK))
-    return found
-
-
-def rows_of_trees(builds):
-    """`get --into`: the tree of a digest in a folder, as the tree has it; and no folder that has something is written into."""
-
-    def get(digest, folder):
-        return builds.run("get", "--server", builds.address, "--into", folder, digest)
-
-    def expect(name, done, out, status):
-        right = done.stdout == out.encode() and done.returncode == status
-        builds.rows.tell(name, right and (harness.is_error(done.stderr) if status > 1 else done.stderr == b""), done)
-
-    def expect_tree(name, digest, folder, tree):
-        expect(name, get(digest, folder), "", 0)
-        builds.rows.tell(f"{name}: it is the tree", standing_at(folder) == tree, standing_at(folder))
-
-    script = "mkdir -p out/d/e; printf %s 123456789 > out/d/f; : > out/g"
-    done, place = builds.build(builds.plan([("mk", [*SHELL, script], ["out"], ())], ["a/b out mk out", "c out mk out/g"]))
-    tree = {"a": {"b": {"d": {"e": {}, "f": File(Digest.of(NINE), False)}, "g": File(EMPTY, False)}}, "c": File(EMPTY, False)}
-    root = Digest.of(directory_message(tree)).text()
-    builds.expect_built("a root with folders above what a step made", done, place, root)
-    empty = (b"", False)
-    made = {"a": None, "a/b": None, "a/b/d": None, "a/b/d/e": None, "a/b/d/f": (NINE, False), "a/b/g": empty, "c": empty}
-    expect_tree("the root of a build", root, f"{place}/tree", made)
-    os.mkdir(f"{place}/empty")
-    expect_tree("into a folder that is empty", root, f"{place}/empty", made)
-    expect("into it again, as it isn't empty now", get(root, f"{place}/empty"), "", 3)
-    builds.rows.tell("and it is as it was", standing_at(f"{place}/empty") == made)
-    expect("into a file", get(root, f"{place}/plan"), "", 3)
-    expect("below a folder that isn't there", get(root, f"{place}/none/tree"), "", 3)
-    expect("the digest of a file", get(Digest.of(NINE).text(), f"{place}/file"), "", 3)
-    outside = {"l": Link("../../plan"), "m": Link("/etc"), "x": File(Digest.of(NINE))}
-    builds.put(directory_message(outside))
-    given = Digest.of(directory_message(outside)).text()
-    expect_tree("links and a program", given, f"{place}/links", {"l": "../../plan", "m": "/etc", "x": (NINE, True)})
-    lost = Digest.of(b"lost")
-    lacking = {"a": File(Digest.of(NINE)), "b": File(lost), "c": File(Digest.of(NINE))}
-    builds.put(directory_message(lacking))
-    lacks = get(Digest.of(directory_message(lacking)).text(), f"{place}/lacking")
-    expect("a file that the server lacks", lacks, f"missing {lost.text()}\n", 1)
-    builds.rows.tell("and what was written before stays", standing_at(f"{place}/lacking") == {"a": (NINE, True)})
-    expect("a tree that the server lacks", get(f"{'0' * 64}/80", f"{place}/lacked"), f"missing {'0' * 64}/80\n", 1)
-    builds.rows.tell("and no folder was made", not os.path.exists(f"{place}/lacked"))
-    expect_tree("the empty tree", EMPTY.text(), f"{place}/nothing", {})
-
-
 def spoilt(body):
     return body[:-1] + bytes([body[-1] ^ 1]) if body else body
 
@@ -470,11 +477,13 @@ def try_all(rows, program):
             rows_of_outputs(builds)
             rows_of_streams(builds)
             rows_of_two_steps(builds)
+            rows_of_given(builds)
+            rows_of_ended(builds)
+            rows_of_two_builds(builds)
             rows_of_merges(builds)
             rows_of_the_folder(builds)
             rows_of_the_record(builds)
             rows_of_hints(builds)
-            rows_of_trees(builds)
             rows_of_replies(builds)
         finally:
             builds.server.end()

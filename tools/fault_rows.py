@@ -22,12 +22,12 @@ import tempfile
 import time
 from typing import NamedTuple
 
-import build_rows
 import harness
 import server_rows
 import stores
 from messages import EMPTY, Digest, File, action_message, command_message, directory_message, result_message, tree_message
-from server_rows import ABSENT, BAD, DONE, FEED, found, get, put
+from harness import get, put
+from server_rows import ABSENT, BAD, DONE, FEED, found
 
 TOOLS = os.path.dirname(os.path.realpath(__file__))
 KINDS = {
@@ -145,7 +145,7 @@ class Commands:
         words = ["get", "--server", self.server.address, "--into", into, self.sources.text()]
         wrong = wrong_of(done := self.run(fault, *words), b"", 0)
         whole, left = {"a": server_rows.NINE, "b": None, "b/a": server_rows.NINE}, {}
-        for name, entry in build_rows.standing_at(into).items():
+        for name, entry in harness.standing_at(into).items():
             left[name] = entry and entry[0]
         shutil.rmtree(into, ignore_errors=True)
         is_part = all(name in whole and (it is whole[name] or whole[name] and it is not None and whole[name].startswith(it))

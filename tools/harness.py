@@ -90,6 +90,15 @@ def run(program, *words, seconds=60, env=None):
         return subprocess.CompletedProcess(late.cmd, None, late.stdout or b"", late.stderr or b"")
 
 
+def get(path):
+    """A request, as clients send it."""
+    return f"GET {path} HTTP/1.1\r\nHost: x\r\n\r\n".encode()
+
+
+def put(path, body):
+    return f"PUT {path} HTTP/1.1\r\nHost: x\r\nContent-Length: {len(body)}\r\n\r\n".encode() + body
+
+
 def is_error(told):
     """Whether that is one line of an error."""
     return told.startswith(b"error: ") and told.endswith(b"\n") and told.count(b"\n") == 1
@@ -101,16 +110,35 @@ def is_told(told, status):
     return is_error(told) if status > 1 else told == b"" or status == 1 and is_note
 
 
-class Server:
-    """The program's own server on a free port, with its errors where they are to go. At the end it is awaited where it serves so
-    many connections, or else ended."""
+def standing_at(folder):
+    """What stands below a folder: `None` for a folder, a link's target, or a file's bytes and whether it may be run."""
+    found = {}
+    for above, folders, files in os.walk(folder):
+        for name in folders + files:
+            path = os.path.join(above, name)
+            below = os.path.relpath(path, folder)
+            if os.path.islink(path):
+                found[below] = os.readlink(path)
+            elif os.path.isdir(path):
+                found[below] = None
+            else:
+                with open(path, "rb") as it:
+                    found[below] = (it.read(), os.access(path, os.X_OK))
+    return found
 
-    def __init__(self, program, connections=None, limit=1 << 30, result_limit=1 << 20, more=(), errors=subprocess.DEVNULL):
+
+class Server:
+    """The program's own server, on a free port where no address is given, with its errors where they are to go. At the end it is
+    awaited where it serves so many connections, or else ended. The program may be words that end in it."""
+
+    def __init__(self, program, connections=None, limit=1 << 30, result_limit=1 << 20, more=(), errors=subprocess.DEVNULL,
+                 address=f"{LOCAL}:0"):
         self.is_counted = connections is not None
-        words = ["serve", "--listen", f"{LOCAL}:0", "--connections", str(MANY if connections is None else connections)]
+        words = [program] if isinstance(program, str) else list(program)
+        words += ["serve", "--listen", address, "--connections", str(MANY if connections is None else connections)]
         words += ["--limit", str(limit), "--result-limit", str(result_limit), *more]
         how = {"stdin": subprocess.DEVNULL, "stdout": subprocess.PIPE, "stderr": errors, "text": True}
-        self.process = subprocess.Popen([program, *words], **how)
+        self.process = subprocess.Popen(words, **how)
         said = self.process.stdout.readline()
         found = re.fullmatch(r"listening 127\.0\.0\.1:(\d+)\n", said)
         if not found:

@@ -29,6 +29,16 @@ import harness
 import stores
 from messages import EMPTY, Digest, File, action_message, command_message, directory_message, result_message, tree_message
 
+# Runs a program, and tells its seconds, status and greatest memory. What the system tells of a child's memory is never less
+# than its parent's at the start, so the parent is an interpreter that has loaded nothing.
+WATCH = """
+import os, sys, time
+start = time.monotonic()
+child = os.posix_spawn(sys.argv[1], sys.argv[1:], os.environ)
+_, status, usage = os.wait4(child, 0)
+print(time.monotonic() - start, status, usage.ru_maxrss, file=sys.stderr)
+"""
+
 
 class Build:
     """A store folder, and the texts of a plan and a record."""
@@ -68,15 +78,13 @@ class Build:
         for _ in range(3):
             hashed = self.sha256sum()
             beside = hashed if beside is None else min(beside, hashed)
-            start = time.monotonic()
-            process = subprocess.Popen(words, cwd=self.folder, stdout=subprocess.PIPE)
-            printed = process.stdout.read()
-            _, status, usage = os.wait4(process.pid, 0)
-            seconds = time.monotonic() - start
-            if status != 0:
-                sys.exit(f"not a yes: {printed!r}")
-            least = seconds if least is None else min(least, seconds)
-            memory = max(memory, usage.ru_maxrss)
+            watched = [sys.executable, "-ISc", WATCH, *words]
+            ran = subprocess.run(watched, cwd=self.folder, capture_output=True, text=True)
+            seconds, status, used = ran.stderr.splitlines()[-1].split()
+            if status != "0":
+                sys.exit(f"not a yes: {ran.stdout!r}")
+            least = float(seconds) if least is None else min(least, float(seconds))
+            memory = max(memory, int(used))
         return least, memory, beside
 
     def sha256sum(self):

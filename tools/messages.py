@@ -79,9 +79,9 @@ def settings(number, pairs):
     return b"".join(bytes_field(number, text_field(1, name) + text_field(2, value)) for name, value in pairs)
 
 
-def command_message(arguments, outputs, environment=()):
+def command_message(arguments, outputs, environment=(), folder=""):
     words = b"".join(bytes_field(1, it.encode()) for it in arguments)
-    return words + settings(2, environment) + b"".join(text_field(7, it) for it in outputs)
+    return words + settings(2, environment) + text_field(6, folder) + b"".join(text_field(7, it) for it in outputs)
 
 
 def action_message(command, input_root=None, is_cacheable=True, platform=()):

@@ -17,7 +17,7 @@ import socket
 import subprocess
 import time
 
-from harness import LOCAL, Nginx, Server, need, numbers_of, program_at, words_of
+from harness import LOCAL, Nginx, Server, get, need, numbers_of, program_at, put, words_of
 
 SIZES = [1 << 10, 64 << 10, 1 << 20, 16 << 20]
 TURNS = 10
@@ -57,12 +57,8 @@ def path(blob):
     return "/cas/" + hashlib.sha256(blob).hexdigest()
 
 
-def get_text(blob):
-    return f"GET {path(blob)} HTTP/1.1\r\nHost: x\r\n\r\n".encode()
-
-
 def put_text(blob):
-    return f"PUT {path(blob)} HTTP/1.1\r\nHost: x\r\nContent-Length: {len(blob)}\r\n\r\n".encode() + blob
+    return put(path(blob), blob)
 
 
 class Blobs:
@@ -106,7 +102,7 @@ def measure(clients, seconds, store):
             client.ask(put_text(held), (200, 201, 204))
         for _ in range(TURNS):
             for name, client in clients.items():
-                for kind, make in (("GET", lambda: get_text(held)), ("PUT", lambda: put_text(blobs.next()))):
+                for kind, make in (("GET", lambda: get(path(held))), ("PUT", lambda: put_text(blobs.next()))):
                     rate = turn(client, make, seconds / TURNS, (200, 201, 204))
                     best[name, kind] = max(rate, best.get((name, kind), 0))
                     client.ask(put_text(held), (200, 201, 204))

@@ -17,8 +17,8 @@ TOOLS = sorted(
 )
 # A program that isn't there, and a file; each with the other words that the tool wants.
 NEEDS_A_PROGRAM = {
-    "build_rows.py": [], "server_rows.py": [], "fault_rows.py": [], "soak.py": ["1"], "measure_build.py": [],
-    "measure_verify.py": ["steps", "1"], "serve_speed.py": ["1"],
+    "build_rows.py": [], "client_rows.py": [], "server_rows.py": [], "fault_rows.py": [], "soak.py": ["1"], "measure_build.py": [],
+    "measure_verify.py": ["steps", "1"], "measure_all.py": ["put"], "serve_speed.py": ["1"],
 }
 NEEDS_A_FILE = {"bazel_plan.py": ["asked"], "make_plan.py": ["asked"], "verify_stages.py": [], "tests/trim_log.py": ["/base"]}
 WRONG_NUMBERS = {"soak.py": ["x"], "measure_build.py": ["0"], "measure_verify.py": ["steps", "-"], "serve_speed.py": ["x"]}

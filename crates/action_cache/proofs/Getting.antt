@@ -1,12 +1,12 @@
 -- To get a result moves it, and then all to which it refers.
-use Rattle.std.proofs.Common.{◌≡◌, ℕ, true, false, not, List, [], ◌∷◌, ◌++◌, bytes_eq, Some, None, option_map, refl, ap, sym, ◌∙◌}
+use Rattle.std.proofs.Common.{◌≡◌, ℕ, true, false, not, List, [], ◌∷◌, ◌++◌, bytes_eq, Option, Some, None, is_some, is_none, option_map, refl, ap, sym, ◌∙◌}
 use Rattle.std.specs.List.{filter, fold}
 use Rattle.std.specs.Map.{lookup}
 use Rattle.std.proofs.lemmas.List.{map-append}
 use Rattle.blob_digest.specs.DigestValue.{DigestValue}
 use Rattle.eviction.specs.Kept.{Held, moved_to_front}
 use Rattle.eviction.proofs.Filters.{filter-map}
-use Rattle.action_cache.specs.References.{Reader, references, outputs_of, is_complete}
+use Rattle.action_cache.specs.References.{Reader, references, outputs_of, first_fault, is_complete}
 use Rattle.action_cache.specs.Machine.{CacheState, given, nothing, fronted, get_result, got_result}
 use Rattle.action_cache.specs.Tied.{plain, marks, found_in, IsTied}
 use Rattle.action_cache.specs.State.{state_of, moved_each}
@@ -14,6 +14,7 @@ use Rattle.action_cache.proofs.Pins.{kept_tied}
 use Rattle.action_cache.proofs.Changes.{moved_keeps, moved_results}
 use Rattle.action_cache.proofs.Mirrors.{fronted-plain}
 use Rattle.action_cache.proofs.Unpinning.{mark, under-marks}
+use Rattle.action_cache.proofs.Pinning.{and_false}
 
 pub fronted-marks : (h : List ℕ) (es : List (List ℕ × Held)) → fronted h (marks es) ≡ marks (moved_to_front bytes_eq h es)
 fronted-marks h es =
@@ -32,7 +33,7 @@ module _ (reader : Reader) (limit rl : ℕ) (blobs results : List (List ℕ × H
   abbrev st : CacheState
   st = state_of limit rl blobs results
 
-  pub none_got : lookup (bytes_eq h) results ≡ None → get_result reader st h ≡ (nothing, st)
+  none_got : lookup (bytes_eq h) results ≡ None → get_result reader st h ≡ (nothing, st)
   none_got none = ap (got_result reader st h) (under-marks h results ∙ ap (option_map mark) none)
 
   module _ (v : Held) (held : lookup (bytes_eq h) results ≡ Some v) where
@@ -48,3 +49,11 @@ module _ (reader : Reader) (limit rl : ℕ) (blobs results : List (List ℕ × H
 
     pub still_tied : (ds : List DigestValue) → IsTied reader blobs results → IsTied reader (moved_each ds blobs) (moved_to_front bytes_eq h results)
     still_tied ds t = moved_results reader (moved_each ds blobs) results h (tied-moved_each reader results ds blobs t)
+
+  -- a result without a survey isn't held, or is none
+  pub unread_got : ((v : Held) → lookup (bytes_eq h) results ≡ Some v → is_some (reader.outputs v.bytes) ≡ false) → get_result reader st h ≡ (nothing, st)
+  unread_got unread = by_entry (lookup (bytes_eq h) results) refl
+    where
+      by_entry : (o : Option Held) → lookup (bytes_eq h) results ≡ o → get_result reader st h ≡ (nothing, st)
+      by_entry None e = none_got e
+      by_entry (Some v) e = part_got v e (and_false (is_some (reader.outputs v.bytes)) (is_none (first_fault (found_in blobs) reader (outputs_of reader v.bytes))) (unread v e))

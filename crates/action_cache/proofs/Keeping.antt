@@ -44,10 +44,6 @@ no_value : {X : Type 0} (o : Option X) → is_none o ≡ true → o ≡ None
 no_value None e = refl
 no_value (Some x) e = absurd cc
 
-no_such : {X : Type 0} (o : Option X) → is_some o ≡ false → o ≡ None
-no_such None e = refl
-no_such (Some x) e = absurd cc
-
 -- ---- look-ups
 
 module _ {X : Type 0} where

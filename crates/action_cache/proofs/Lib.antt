@@ -7,6 +7,7 @@ pub mod Mirrors
 pub mod Unpinning
 pub mod Pinning
 pub mod Getting
+pub mod Surveyed
 pub mod Replacing
 pub mod Said
 pub mod Learned

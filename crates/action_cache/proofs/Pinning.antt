@@ -122,7 +122,7 @@ module _ (reader : Reader) (limit rl : ℕ) (blobs results : List (List ℕ × H
   abbrev st : CacheState
   st = state_of limit rl blobs results
 
-  pub none_pinned : lookup (bytes_eq h) results ≡ None → pin reader st h ≡ (refused not_held, st)
+  none_pinned : lookup (bytes_eq h) results ≡ None → pin reader st h ≡ (refused not_held, st)
   none_pinned none = ap (pinned_now reader st h) (under-marks h results ∙ ap (option_map mark) none)
 
   module _ (v : Held) (held : lookup (bytes_eq h) results ≡ Some v) where
@@ -170,7 +170,7 @@ module _ (reader : Reader) (limit rl : ℕ) (blobs results : List (List ℕ × H
             ∙ (λ i. (done, let s : CacheState = record { blobs = sym (plain-repinned (one_more bytes_eq ks) blobs) i; results = (marks-more h results ∙ ap marks (sym (one_key h results))) i; limit = limit; result_limit = rl } in s))
 
 -- why a result isn't pinned
-pub why_none : (reader : Reader) (s : CacheState) (bytes : List ℕ) → is_some (reader.outputs bytes) ≡ false → why_incomplete reader s bytes ≡ not_held
+why_none : (reader : Reader) (s : CacheState) (bytes : List ℕ) → is_some (reader.outputs bytes) ≡ false → why_incomplete reader s bytes ≡ not_held
 why_none reader s bytes e = by (reader.outputs bytes) e
   where
     by : (o : Option (List Reference)) → is_some o ≡ false → option_map_or incomplete (first_fault (found reader s) reader (unwrap_or o [])) not_held ≡ not_held
@@ -192,3 +192,15 @@ pub faulty : (a : Bool) (o : Option DigestValue) (x : DigestValue) → o ≡ Som
 faulty true None x e = absurd cc
 faulty true (Some y) x e = refl
 faulty false o x e = refl
+
+-- a result without a survey isn't held, or is none
+pub unread_pinned : (reader : Reader) (limit rl : ℕ) (blobs results : List (List ℕ × Held)) (d : IsDistinct bytes_eq (keys_of results)) (tied : IsTied reader blobs results) (h : List ℕ)
+    → ((v : Held) → lookup (bytes_eq h) results ≡ Some v → is_some (reader.outputs v.bytes) ≡ false)
+    → pin reader (state_of limit rl blobs results) h ≡ (refused not_held, state_of limit rl blobs results)
+unread_pinned reader limit rl blobs results d tied h unread = by_entry (lookup (bytes_eq h) results) refl
+  where
+    by_entry : (o : Option Held) → lookup (bytes_eq h) results ≡ o → pin reader (state_of limit rl blobs results) h ≡ (refused not_held, state_of limit rl blobs results)
+    by_entry None e = none_pinned reader limit rl blobs results d tied h e
+    by_entry (Some v) e =
+        let part = and_false (is_some (reader.outputs v.bytes)) (is_none (first_fault (found_in blobs) reader (outputs_of reader v.bytes))) (unread v e) in
+        part_pinned reader limit rl blobs results d tied h v e part ∙ ap (λ r. (refused r, state_of limit rl blobs results)) (why_none reader (state_of limit rl blobs results) v.bytes (unread v e))

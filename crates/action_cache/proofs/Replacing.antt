@@ -8,7 +8,7 @@ use Rattle.std.proofs.lemmas.Bool.Decides.{nat_tests}
 use Rattle.std.proofs.lemmas.Slice.Eq.{bytes_eq-Decides}
 use Rattle.std.proofs.lemmas.List.{length-map, reverse-reverse}
 use Rattle.std.proofs.lemmas.List.Elements.{filter-append}
-use Rattle.eviction.specs.Kept.{Held, Kept, is_pinned, cost_of, others, moved_to_front, bytes_under}
+use Rattle.eviction.specs.Kept.{Held, Kept, is_pinned, cost_of, others, moved_to_front}
 use Rattle.eviction.specs.Entering.{enter, spared, spared_last, new_entry, evicted, entered, can_enter}
 use Rattle.eviction.specs.Pinning.{pins_of}
 use Rattle.eviction.proofs.Filters.{filter-map, filter-reverse}
@@ -20,7 +20,7 @@ use Rattle.eviction.proofs.Entered.{entered_is, with_entries}
 use Rattle.action_cache.specs.References.{Reader, refers, is_complete}
 use Rattle.action_cache.specs.Machine.{CacheState, Answer, Marked, done, refused, bad_result, pinned_differs, full, under, results_entered, with_results, or_full, differs_pinned, put_result}
 use Rattle.action_cache.specs.Tied.{how_many, marks, found_in, IsTied}
-use Rattle.action_cache.specs.State.{state_of, is_other}
+use Rattle.action_cache.specs.State.{state_of}
 use Rattle.action_cache.proofs.Changes.{moved_results}
 use Rattle.action_cache.proofs.Unpinning.{mark, under-marks}
 
@@ -149,13 +149,6 @@ module _ (reader : Reader) (limit : ℕ) (blobs : List (List ℕ × Held)) (s : 
       by_test true true f t e = f refl
       by_test true false f t e = absurd cc
       by_test false q f t e = absurd cc
-
-  pub other_is : is_other b (bytes_under bytes_eq s.entries h) (pins_of bytes_eq s.entries h) ≡ differs_pinned reader st b (under h (marks s.entries))
-  other_is = by_case (lookup (bytes_eq h) s.entries) ∙ ap (differs_pinned reader st b) (sym (under-marks h s.entries))
-    where
-      by_case : (o : Option Held) → is_other b (option_map (λ (x : Held). x.bytes) o) (option_map_or (λ (x : Held). x.pins) o 0) ≡ differs_pinned reader st b (option_map mark o)
-      by_case None = refl
-      by_case (Some v) = refl
 
 pub entered_overhead : (s t : Kept (List ℕ)) (h b : List ℕ) → entered bytes_eq s h b ≡ Some t → t.overhead ≡ s.overhead
 entered_overhead s t h b e = (entered_is bytes_eq s t h b e).overhead

@@ -1,5 +1,5 @@
 -- To unpin a result, in the stores and in the machine.
-use Rattle.std.proofs.Common.{◌≡◌, ℕ, ◌+◌, ◌-◌, ◌<◌, ◌≤◌, Bool, true, false, cond, ◌&&◌, ◌||◌, nat_lt, List, [], ◌∷◌, map, bytes_eq, Option, Some, None, option_map, refl, ap, sym, ◌∙◌, subst, arith}
+use Rattle.std.proofs.Common.{◌≡◌, ℕ, ◌+◌, ◌-◌, ◌<◌, ◌≤◌, Bool, true, false, cond, ◌&&◌, ◌||◌, nat_lt, List, [], ◌∷◌, map, bytes_eq, Option, Some, None, is_some, is_none, option_map, refl, ap, sym, ◌∙◌, subst, arith}
 use Rattle.std.specs.Prelude.{Result, Ok, Err, OnOk, OnErr, IsSome, IsSomeAnd}
 use Rattle.std.specs.List.{filter, list_all, AllByRecursion, IsDistinct}
 use Rattle.std.specs.Option.{option_map_or}
@@ -9,7 +9,7 @@ use Rattle.std.proofs.lemmas.Bool.Decides.{nat_tests}
 use Rattle.eviction.specs.Kept.{Held, is_pinned}
 use Rattle.eviction.specs.Pinning.{repinned, is_among, pins_of, one_less, all_pinned}
 use Rattle.eviction.proofs.Repins.{repinned_same}
-use Rattle.action_cache.specs.References.{Reader, refers, is_complete}
+use Rattle.action_cache.specs.References.{Reader, refers, is_complete, first_fault, outputs_of}
 use Rattle.action_cache.specs.Machine.{CacheState, Answer, Marked, done, refused, not_pinned, under, unpin, unpinned_now, with_results, marked}
 use Rattle.action_cache.specs.Tied.{how_many, marks, found_in, IsTied}
 use Rattle.action_cache.specs.State.{state_of}
@@ -67,9 +67,6 @@ module _ (reader : Reader) (limit rl : ℕ) (blobs results : List (List ℕ × H
   abbrev st : CacheState
   st = state_of limit rl blobs results
 
-  pub without_pins : v.pins ≡ 0 → unpin reader st h ≡ (refused not_pinned, st)
-  without_pins none = ap (unpinned_now reader st h) (under-marks h results ∙ ap (option_map mark) held) ∙ (λ i. cond (nat_lt 0 (none i)) (done, with_results reader st (marked reader st false h)) (refused not_pinned, st))
-
   module _ (pinned : 0 < v.pins) where
     one : v.pins ≡ 1
     one = let most = once_of h results v held tied.once in omega arith
@@ -77,6 +74,13 @@ module _ (reader : Reader) (limit rl : ℕ) (blobs results : List (List ℕ × H
     -- a pinned result was read and found complete when it was pinned
     pub was_complete : is_complete (found_in blobs) reader v.bytes ≡ true
     was_complete = (toggled_down (λ _. true) (λ bytes. is_complete (found_in blobs) reader bytes ≡ true) h results v d held one).here tied.complete
+
+    pub was_read : is_some (reader.outputs v.bytes) ≡ false → ⊥
+    was_read none = read_once (is_some (reader.outputs v.bytes)) (is_none (first_fault (found_in blobs) reader (outputs_of reader v.bytes))) was_complete none
+      where
+        read_once : (a b : Bool) → (a && b) ≡ true → a ≡ false → ⊥
+        read_once true b t f = cc
+        read_once false b t f = cc
 
     module _ (ks : List (List ℕ)) (names : (b : List ℕ) → is_among bytes_eq ks b ≡ refers (found_in blobs) reader v.bytes b) where
       counted : (b : List ℕ) → is_among bytes_eq ks b ≡ true → 0 < pins_of bytes_eq blobs b
@@ -144,13 +148,10 @@ no_pins reader limit rl blobs results h none = ap (unpinned_now reader (state_of
     by_entry None e = refl
     by_entry (Some v) e = λ i. cond (nat_lt 0 (e i)) (done, with_results reader (state_of limit rl blobs results) (marked reader (state_of limit rl blobs results) false h)) (refused not_pinned, state_of limit rl blobs results)
 
-pub pins_found : (es : List (List ℕ × Held)) (h : List ℕ) (v : Held) → lookup (bytes_eq h) es ≡ Some v → pins_of bytes_eq es h ≡ v.pins
-pins_found es h v e = ap (λ o. option_map_or (λ (x : Held). x.pins) o 0) e
+-- a count that is told is that of the entry
+pub pins_found : (es : List (List ℕ × Held)) (h : List ℕ) (v : Held) (n : ℕ) → lookup (bytes_eq h) es ≡ Some v → n ≡ pins_of bytes_eq es h → n ≡ v.pins
+pins_found es h v n e told = told ∙ ap (λ o. option_map_or (λ (x : Held). x.pins) o 0) e
 
 pub one_distinct : (h : List ℕ) → IsDistinct bytes_eq (h ∷ [])
 unfolding IsDistinct
 one_distinct h = (tt, tt)
-
-pub read_once : (a b : Bool) → (a && b) ≡ true → a ≡ false → ⊥
-read_once true b t f = cc
-read_once false b t f = cc

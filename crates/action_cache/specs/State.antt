@@ -1,5 +1,5 @@
 -- The state of the machine that a cache stands for.
-use Rattle.std.specs.Prelude.{ℕ, Bool, false, not, ◌&&◌, nat_lt, List, bytes_eq, Option, Some, None}
+use Rattle.std.specs.Prelude.{ℕ, List, bytes_eq, Option, Some, None}
 use Rattle.std.specs.List.{fold}
 use Rattle.blob_digest.specs.DigestValue.{DigestValue}
 use Rattle.eviction.specs.Kept.{Held, Kept, moved_to_front}
@@ -29,11 +29,6 @@ touched_each s ds =
 abbrev pub answer_of : Option (List ℕ) → Answer
 answer_of None = nothing
 answer_of (Some b) = given b
-
--- other bytes than those that are held, if they are pinned
-abbrev pub is_other : List ℕ → Option (List ℕ) → ℕ → Bool
-is_other bytes None pins = false
-is_other bytes (Some held) pins = nat_lt 0 pins && not (bytes_eq held bytes)
 
 -- the bytes that an answer gives
 abbrev pub bytes_given : Answer → Option (List ℕ)

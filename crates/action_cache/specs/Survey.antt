@@ -2,13 +2,15 @@
 use Rattle.std.specs.Prelude.{◌≡◌, ℕ, true, false, List, bytes_eq, Option, Some, None, is_some}
 use Rattle.std.specs.Prelude.{option_map, IfSome, Bool}
 use Rattle.std.specs.List.{IsDistinct, list_any, AllByRecursion}
+use Rattle.std.specs.Map.{lookup}
 use Rattle.std.specs.Option.{option_and_then}
 use Rattle.std.specs.BTreeMap.{BTreeMap, get}
 use Rattle.std.specs.declared.vec.Vec.{Vec}
 use Rattle.blob_digest.specs.Digest.{digest_cmp}
 use Rattle.blob_digest.specs.DigestValue.{DigestValue}
+use Rattle.eviction.specs.Kept.{Held}
 use Rattle.eviction.specs.Pinning.{is_among}
-use Rattle.blob_store.specs.Blobs.{hashes_of, all_held}
+use Rattle.blob_store.specs.Blobs.{hashes_of, all_held, found_in}
 use Rattle.action_cache.specs.References.{Reference, Reader, names_hash, files_of}
 use Rattle.action_cache.specs.References.{references, outputs_of, first_fault}
 use Rattle.action_cache.specs.Reading.{by_messages}
@@ -35,6 +37,16 @@ abbrev pub IsSurvey : {A : Type 0} → Reader → (List ℕ → Option (List ℕ
     → Option (Survey A) → Type 0
 IsSurvey reader found bytes None = is_some (reader.outputs bytes) ≡ false
 IsSurvey reader found bytes (Some s) = Surveys reader found bytes s
+
+-- that of the result under a hash: none just where none is held, or its bytes are no result
+abbrev pub IsSurveyUnder : {A : Type 0} → List (List ℕ × Held) → List (List ℕ × Held) → List ℕ
+    → Option (Survey A) → Type 0
+IsSurveyUnder blobs results h None =
+    (v : Held) → lookup (bytes_eq h) results ≡ Some v
+    → is_some (by_messages.outputs v.bytes) ≡ false
+IsSurveyUnder blobs results h (Some s) =
+    (v : Held) × (lookup (bytes_eq h) results ≡ Some v)
+    × Surveys by_messages (found_in blobs) v.bytes s
 
 -- ---- Trees that were read
 

@@ -2,15 +2,16 @@ ghost use Rattle.std.specs.Prelude.{◌≡◌, ℕ, ◌+◌, ◌<◌, ◌≤◌,
 ghost use Rattle.std.specs.Prelude.{OnOk, OnErr, Err, IsSome, IsSomeAnd, is_some, true, false};
 ghost use Rattle.std.specs.Prelude.{option_map, option_copied, bytes_eq};
 ghost use Rattle.std.specs.Borrow.{sem};
-ghost use Rattle.eviction.specs.Kept.{bytes_under, total};
-ghost use Rattle.eviction.specs.Pinning.{pins_of};
+ghost use Rattle.std.specs.Map.{lookup};
+ghost use Rattle.eviction.specs.Kept.{total};
 ghost use Rattle.blob_store.specs.Blobs.{HasHash};
 ghost use Rattle.blob_store.specs.Storing.{used};
 ghost use Rattle.messages.specs.declared.error.MessageError.{MessageError};
 ghost use Rattle.action_messages.specs.Refused.{IsRefusedResult as IsRefusedAs};
-ghost use Rattle.action_cache.specs.State.{touched_each, answer_of, is_other, bytes_given};
+ghost use Rattle.action_cache.specs.State.{touched_each, answer_of, bytes_given};
 ghost use Rattle.action_cache.specs.Reading.{by_messages, references_in};
-ghost use Rattle.action_cache.specs.Machine.{CacheState, opened, done, under};
+ghost use Rattle.action_cache.specs.Survey.{IsSurveyUnder};
+ghost use Rattle.action_cache.specs.Machine.{CacheState, opened, done, under, differs_pinned};
 ghost use Rattle.action_cache.specs.Machine.{put_blob as blob_put};
 ghost use Rattle.action_cache.specs.Machine.{get_blob as blob_got, unpin as take_off};
 ghost use Rattle.action_cache.specs.Machine.{pin as put_on, get_result as result_got};
@@ -19,8 +20,8 @@ ghost use Rattle.action_cache.specs.CacheError.{IsRefused};
 
 use crate::error::CacheError;
 use crate::reference::read_result;
-use crate::survey::walk;
-use blob_digest::{Digest, Sealed};
+use crate::survey::{Survey, walk};
+use blob_digest::{Digest, GREATEST_BLOB, Sealed};
 use blob_store::BlobStore;
 use eviction::{Bounded, Shared};
 use std::alloc::{AllocError, Allocator};
@@ -52,18 +53,19 @@ impl<A: Allocator> Model for ActionCache<A> {
         × (c.results.overhead ≡ 64) };
 }
 
-/// Whether the result under the hash is pinned, and has other bytes.
-fn differs<A: Allocator + Copy>(
+/// What the result under the hash refers to; `None` where none is held, or its bytes are no result.
+fn survey_of<A: Allocator + Copy>(
+    alloc: A,
+    blobs: &BlobStore<A>,
     results: &Bounded<[u8; 32], A>,
     hash: &[u8; 32],
-    bytes: &[u8],
-) -> bool
-    ensures { result ≡ is_other bytes.now (bytes_under bytes_eq results.now.entries hash.now)
-        (pins_of bytes_eq results.now.entries hash.now) }
+) -> Result<Option<Survey<A>>, AllocError>
+    ensures ok { IfOk result (IsSurveyUnder blobs.now.entries results.now.entries hash.now) }
+    ensures err { OnErr result (IsSome (lookup (bytes_eq hash.now) results.now.entries)) }
 {
     match results.peek(hash) {
-        Some(held) => results.pins(hash) > 0 && held != bytes,
-        None => false,
+        Some(bytes) => walk(alloc, blobs, bytes),
+        None => Ok(None),
     }
 }
 
@@ -120,9 +122,10 @@ impl<A: Allocator + Copy> ActionCache<A> {
             → (blob_put by_messages self.old hash bytes.items).0 ≡ done }
         ensures err { OnErr result (self.new ≡ self.old) }
     {
-        let _held = self.blobs.held_bytes();
-        self.blobs.put(hash, bytes)?;
-        Ok(())
+        if bytes.len() > GREATEST_BLOB {
+            return Err(CacheError::TooLarge);
+        }
+        self.put_sealed(hash, Sealed::of(bytes))
     }
 
     /// Puts a blob whose digest is known already, as `put_blob` does. It hashes nothing again.
@@ -186,6 +189,17 @@ impl<A: Allocator + Copy> ActionCache<A> {
         self.put_read(hash, bytes)
     }
 
+    /// Whether the result under the hash is pinned, and has other bytes.
+    fn differs(&self, hash: &[u8; 32], bytes: &[u8]) -> bool
+        ensures { result ≡ differs_pinned by_messages self.now bytes.now
+            (under hash.now self.now.results) }
+    {
+        match self.results.peek(hash) {
+            Some(held) => self.results.pins(hash) > 0 && held != bytes,
+            None => false,
+        }
+    }
+
     /// Puts bytes that are read as a result. Only where they are put is memory wanting.
     fn put_read(&mut self, hash: [u8; 32], bytes: Vec<u8, A>) -> Result<(), CacheError>
         requires { is_some (references_in bytes.items) ≡ true }
@@ -199,7 +213,7 @@ impl<A: Allocator + Copy> ActionCache<A> {
         ensures err { OnErr result (self.new ≡ self.old) }
     {
         let _held = self.results.held_bytes();
-        if differs(&self.results, &hash, &bytes) {
+        if self.differs(&hash, &bytes) {
             return Err(CacheError::PinnedDiffers);
         }
         self.results.put(hash, bytes)?;
@@ -219,18 +233,16 @@ impl<A: Allocator + Copy> ActionCache<A> {
         ensures memory { OnErr result (IsSome (under hash.now self.old.results)) }
         ensures err { OnErr result (self.new ≡ self.old) }
     {
+        let Some(survey) = survey_of(alloc, &self.blobs, &self.results, hash)? else {
+            return Ok(None);
+        };
+        if survey.fault.is_some() {
+            return Ok(None);
+        }
         let copy = match self.results.peek(hash) {
             Some(bytes) => Vec::from_slice(alloc, bytes)?,
             None => return Ok(None),
         };
-        let survey = match walk(alloc, &self.blobs, &copy)? {
-            Some(survey) => survey,
-            None => return Ok(None),
-        };
-        match survey.fault {
-            Some(_) => return Ok(None),
-            None => (),
-        }
         let _held = self.results.touch(hash);
         touch_each(&mut self.blobs, &survey.references);
         Ok(Some(copy))
@@ -251,17 +263,11 @@ impl<A: Allocator + Copy> ActionCache<A> {
         if self.results.pins(hash) > 0 {
             return Ok(());
         }
-        let survey = match self.results.peek(hash) {
-            Some(bytes) => walk(alloc, &self.blobs, bytes)?,
-            None => return Err(CacheError::NotHeld),
+        let Some(survey) = survey_of(alloc, &self.blobs, &self.results, hash)? else {
+            return Err(CacheError::NotHeld);
         };
-        let survey = match survey {
-            Some(survey) => survey,
-            None => return Err(CacheError::NotHeld),
-        };
-        match survey.fault {
-            Some(digest) => return Err(CacheError::Incomplete(digest)),
-            None => (),
+        if let Some(digest) = survey.fault {
+            return Err(CacheError::Incomplete(digest));
         }
         self.blobs.pin_all(alloc, &survey.once)?;
         // It isn't refused: the result is held.
@@ -283,13 +289,8 @@ impl<A: Allocator + Copy> ActionCache<A> {
         if self.results.pins(hash) == 0 {
             return Err(CacheError::NotPinned);
         }
-        let survey = match self.results.peek(hash) {
-            Some(bytes) => walk(alloc, &self.blobs, bytes)?,
-            None => return Err(CacheError::NotPinned),
-        };
-        let survey = match survey {
-            Some(survey) => survey,
-            None => return Err(CacheError::NotPinned),
+        let Some(survey) = survey_of(alloc, &self.blobs, &self.results, hash)? else {
+            return Err(CacheError::NotPinned);
         };
         self.blobs.unpin(alloc, &survey.once)?;
         // It isn't refused: the result is pinned.

@@ -1,4 +1,4 @@
-ghost use Rattle.std.specs.Prelude.{◌≡◌, ℕ, true, List, ◌++◌, Some, None};
+ghost use Rattle.std.specs.Prelude.{◌≡◌, ℕ, true, List, [], ◌∷◌, ◌++◌, Some, None};
 ghost use Rattle.std.specs.List.{AllByRecursion};
 ghost use Rattle.sha2.specs.Sha256.{sha256};
 ghost use Rattle.wire.specs.Bytes.{IsBytes, AreBytes};
@@ -12,8 +12,8 @@ ghost use Rattle.action_cache.specs.References.{Reader, Reference};
 ghost use Rattle.action_cache.specs.Reading.{referred_to, references_in, files_in, files_in_tree};
 ghost use Rattle.action_cache.specs.Machine.{Marked, given, opened, under, get_blob};
 ghost use Rattle.action_cache.specs.Machine.{get_result};
-ghost use Rattle.action_cache.specs.Asking.{CacheAsk, Unpin, after, AreWhole, StaysPinned};
-ghost use Rattle.action_cache.specs.Asking.{IsWithin};
+ghost use Rattle.action_cache.specs.Asking.{CacheAsk, PutResult, GetResult, Pin, Unpin, after};
+ghost use Rattle.action_cache.specs.Asking.{AreWhole, StaysPinned, IsWithin};
 
 /// What the bytes of a result refer to. A law: it does nothing.
 pub fn results_refer_to_what_is_read()
@@ -66,4 +66,14 @@ pub fn caches_keep_what_is_pinned()
     // Costs stay within the limits.
     ensures within { (reader : Reader) (limit result_limit : ℕ) (asks : List CacheAsk)
         → IsWithin (after reader (opened limit result_limit) asks) }
+{}
+
+/// Asks that meet the premises of `caches_keep_what_is_pinned`: a result that refers to nothing is
+/// put and pinned, and then looked up. An example: it does nothing.
+pub fn a_pinned_result_meets_the_premises()
+    ensures { let reader : Reader = record { outputs = λ _. Some []; files = λ _. None } in
+        let s = after reader (opened 0 64) (PutResult [] [] ∷ Pin [] ∷ []) in
+        (under [] s.results ≡ Some (record { bytes = []; pinned = true }))
+        × AllByRecursion (λ ask. ask ≡ Unpin [] → ⊥) (GetResult [] ∷ [])
+        × ((get_result reader s []).0 ≡ given []) }
 {}

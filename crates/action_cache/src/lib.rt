@@ -12,5 +12,6 @@ mod trees;
 pub use cache::ActionCache;
 pub use error::CacheError;
 pub use laws::{
-    caches_keep_what_is_pinned, results_refer_to_what_is_read, trees_have_the_files_that_are_read,
+    a_pinned_result_meets_the_premises, caches_keep_what_is_pinned, results_refer_to_what_is_read,
+    trees_have_the_files_that_are_read,
 };

@@ -23,3 +23,4 @@ pub mod NestedOrder
 pub mod Agreeing
 pub mod Pairs
 pub mod Decoding
+mod Examples

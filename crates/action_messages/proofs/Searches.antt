@@ -85,9 +85,6 @@ equal_name t text Less e h = absurd cc
 equal_name t text Equal e h = exact_bytes t text e
 equal_name t text Greater e h = absurd cc
 
-first_true : (b : Bool) → (true || b) ≡ true
-first_true b = refl
-
 under_one : (texts : List (List ℕ)) (front more : List ℕ) (b : Bool) (t : List ℕ) → is_equal (bytes_cmp t front) ≡ b → (b || has_name texts front) ≡ true → (has_name texts front ≡ true → list_any (is_under (front ++ 47 ∷ more)) texts ≡ true) → (is_under (front ++ 47 ∷ more) t || list_any (is_under (front ++ 47 ∷ more)) texts) ≡ true
 under_one texts front more true t e h rest =
     let same : t ≡ front = equal_name t front (bytes_cmp t front) refl e in

@@ -1,9 +1,7 @@
 -- A list whose neighbours ascend.
-use Rattle.std.proofs.Common.{◌≡◌, List, [], ◌∷◌, Some, None, Result, Ok, Err, refl, sym, ◌∙◌, Less, Equal, Greater}
-use Rattle.std.specs.Prelude.{◌↔◌, IsOk}
+use Rattle.std.proofs.Common.{◌≡◌, List, [], ◌∷◌, Some, None, Ok, Err, refl, sym, ◌∙◌, Less, Equal, Greater}
 use Rattle.std.specs.declared.cmp.Ordering.{Ordering}
 use Rattle.std.specs.List.{AllByRecursion}
-use Rattle.wire.specs.Steps.{Gives}
 use Rattle.wire.proofs.Steps.{bind_ok}
 use Rattle.messages.specs.declared.error.MessageError.{MessageError}
 use Rattle.action_messages.specs.Ascending.{IsAscendingBy, pair_ascends, is_ascending_past}
@@ -42,11 +40,6 @@ before_all cmp before (x ∷ xs) all h =
 pub is_ascending_past-from : {X : Type 0} (cmp : X → X → Ordering) (xs : List X) → IsAscendingBy cmp xs → is_ascending_past cmp None xs ≡ Ok tt
 is_ascending_past-from cmp [] h = refl
 is_ascending_past-from cmp (x ∷ xs) h = before_all cmp x xs h.0 h.1
-
--- what the walk over neighbours answers
-pub ascending_answer : {X : Type 0} (cmp : X → X → Ordering) → IsTransitive cmp → (xs : List X) (r : Result (Unit {0}) MessageError) → Gives (λ x. x) r (is_ascending_past cmp None xs) → IsOk r ↔ IsAscendingBy cmp xs
-ascending_answer cmp trans xs (Ok tt) given = (λ _. ascending cmp trans xs given, λ _. refl)
-ascending_answer cmp trans xs (Err e) given = (λ h. absurd (cc h), λ up. let o = is_ascending_past-from cmp xs up in absurd (cc (sym o ∙ given)))
 
 -- a walk that is refused is one over a list that doesn't ascend
 pub not_ascending : {X : Type 0} (cmp : X → X → Ordering) (xs : List X) (e : MessageError) → is_ascending_past cmp None xs ≡ Err e → IsAscendingBy cmp xs → ⊥

@@ -74,18 +74,6 @@ impl<A: Allocator> Action<A> {
         &self.frame
     }
 
-    /// The same, where the action is given up.
-    pub fn into_frame(self) -> Frame<A>
-        ensures value { result ≡ self.frame }
-        ensures back { with_input result self.input ≡ self }
-    {
-        let Action {
-            frame,
-            input_root_digest: _,
-        } = self;
-        frame
-    }
-
     /// The digest of the root directory of the inputs.
     pub fn input_root_digest(&self) -> Digest
         ensures value { result ≡ self.now.input }

@@ -17,7 +17,7 @@ use std::alloc::{AllocError, Allocator};
 use wire::Field;
 
 /// The value of the field of this number, which has to be there.
-pub fn required<T>(number: u32, value: Option<T>) -> Result<T, MessageError>
+pub(crate) fn required<T>(number: u32, value: Option<T>) -> Result<T, MessageError>
     ensures { Gives (λ x. x) result (required number value) }
 {
     match value {
@@ -50,7 +50,7 @@ fn strings_of<A: Allocator + Copy>(
 }
 
 /// The strings of the repeated field of this number, in order.
-pub fn read_strings<A: Allocator + Copy>(
+pub(crate) fn read_strings<A: Allocator + Copy>(
     alloc: A,
     fields: &[Field<'_>],
     number: u32,
@@ -75,7 +75,7 @@ fn paths_of<A: Allocator + Copy>(
 }
 
 /// The paths of the repeated field of this number, in order.
-pub fn read_paths<A: Allocator + Copy>(
+pub(crate) fn read_paths<A: Allocator + Copy>(
     alloc: A,
     fields: &[Field<'_>],
     number: u32,
@@ -87,7 +87,7 @@ pub fn read_paths<A: Allocator + Copy>(
 }
 
 /// Writes the strings as the elements of a field, in order.
-pub fn write_strings<A: Allocator>(
+pub(crate) fn write_strings<A: Allocator>(
     out: &mut Vec<u8, A>,
     number: u32,
     strings: &[String<A>],
@@ -105,7 +105,7 @@ pub fn write_strings<A: Allocator>(
 }
 
 /// Writes the texts of the paths as the elements of a field, in order.
-pub fn write_paths<A: Allocator>(
+pub(crate) fn write_paths<A: Allocator>(
     out: &mut Vec<u8, A>,
     number: u32,
     paths: &[Path<A>],

@@ -54,7 +54,7 @@ impl<A: Allocator, V> Listed for (Path<A>, V) {
 }
 
 /// Puts the items in the order of their paths' texts.
-pub fn sort_by_path<L: Listed, A: Allocator>(items: &mut Vec<L, A>)
+pub(crate) fn sort_by_path<L: Listed, A: Allocator>(items: &mut Vec<L, A>)
     ensures same { IsPermutation items.old.items items.new.items }
     ensures sorted { IsSortedByText L.path_in items.new.items }
 {
@@ -62,7 +62,7 @@ pub fn sort_by_path<L: Listed, A: Allocator>(items: &mut Vec<L, A>)
 }
 
 /// Whether the paths strictly ascend by their texts.
-pub fn check_paths<L: Listed>(items: &[L]) -> Result<(), MessageError>
+pub(crate) fn check_paths<L: Listed>(items: &[L]) -> Result<(), MessageError>
     ensures exact { Gives (λ x. x) result
         (is_ascending_past bytes_cmp None (texts_of (map L.path_in items.now))) }
     ensures kept { OnOk result (AllByRecursion L.keeps items.now) }
@@ -100,7 +100,7 @@ pub fn place_of<L: Listed>(items: &[L], text: &[u8]) -> Result<usize, usize>
 }
 
 /// Whether a path of ascending ones has this text, by binary search.
-pub fn has_text<L: Listed>(items: &[L], text: &[u8]) -> bool
+pub(crate) fn has_text<L: Listed>(items: &[L], text: &[u8]) -> bool
     requires { IsAscendingBy bytes_cmp (texts_of (map L.path_in items.now)) }
     ensures { result ≡ has_name (texts_of (map L.path_in items.now)) text.now }
 {
@@ -121,7 +121,7 @@ pub fn lies_under_some<L: Listed>(text: &[u8], items: &[L]) -> bool
 }
 
 /// Whether a path lies under one of the others, which ascend.
-pub fn some_under<L: Listed, M: Listed>(items: &[L], others: &[M]) -> bool
+pub(crate) fn some_under<L: Listed, M: Listed>(items: &[L], others: &[M]) -> bool
     requires { IsAscendingBy bytes_cmp (texts_of (map M.path_in others.now)) }
     ensures { result
         ≡ some_under (texts_of (map L.path_in items.now)) (texts_of (map M.path_in others.now)) }
@@ -149,7 +149,7 @@ fn some_shared<L: Listed, M: Listed>(items: &[L], others: &[M]) -> bool
 }
 
 /// Whether a path of one ascending list overlaps one of another.
-pub fn some_cross<L: Listed, M: Listed>(items: &[L], others: &[M]) -> bool
+pub(crate) fn some_cross<L: Listed, M: Listed>(items: &[L], others: &[M]) -> bool
     requires items { IsAscendingBy bytes_cmp (texts_of (map L.path_in items.now)) }
     requires others { IsAscendingBy bytes_cmp (texts_of (map M.path_in others.now)) }
     ensures { result

@@ -10,229 +10,93 @@ ghost use Rattle.action_messages.specs.OutputSymlink.{output_symlink_shape};
 ghost use Rattle.action_messages.specs.ActionResult.{action_result_shape};
 
 use canonical::{Entry, Kind, Shape};
+use messages::{repeated, single};
 
 /// `EnvironmentVariable` and `Property`: name, value.
-pub fn setting_shape() -> Shape<'static>
+pub(crate) fn setting_shape() -> Shape<'static>
     ensures { result ≡ setting_shape }
 {
-    Shape::new(&[
-        Entry {
-            number: 1,
-            kind: Kind::String,
-            repeated: false,
-        },
-        Entry {
-            number: 2,
-            kind: Kind::String,
-            repeated: false,
-        },
-    ])
+    Shape::new(&[single!(1, String), single!(2, String)])
 }
 
 /// `Platform`: properties.
-pub fn platform_shape() -> Shape<'static>
+pub(crate) fn platform_shape() -> Shape<'static>
     ensures { result ≡ platform_shape }
 {
-    Shape::new(&[Entry {
-        number: 1,
-        kind: Kind::Message,
-        repeated: true,
-    }])
+    Shape::new(&[repeated!(1, Message)])
 }
 
 /// `Command`: arguments, environment_variables, working_directory, output_paths.
-pub fn command_shape() -> Shape<'static>
+pub(crate) fn command_shape() -> Shape<'static>
     ensures { result ≡ command_shape }
 {
     Shape::new(&[
-        Entry {
-            number: 1,
-            kind: Kind::String,
-            repeated: true,
-        },
-        Entry {
-            number: 2,
-            kind: Kind::Message,
-            repeated: true,
-        },
-        Entry {
-            number: 6,
-            kind: Kind::String,
-            repeated: false,
-        },
-        Entry {
-            number: 7,
-            kind: Kind::String,
-            repeated: true,
-        },
+        repeated!(1, String),
+        repeated!(2, Message),
+        single!(6, String),
+        repeated!(7, String),
     ])
 }
 
 /// `Action` without input_root_digest: command_digest, do_not_cache, salt, platform.
-pub fn frame_shape() -> Shape<'static>
+pub(crate) fn frame_shape() -> Shape<'static>
     ensures { result ≡ frame_shape }
 {
     Shape::new(&[
-        Entry {
-            number: 1,
-            kind: Kind::Message,
-            repeated: false,
-        },
-        Entry {
-            number: 7,
-            kind: Kind::Bool,
-            repeated: false,
-        },
-        Entry {
-            number: 9,
-            kind: Kind::Bytes,
-            repeated: false,
-        },
-        Entry {
-            number: 10,
-            kind: Kind::Message,
-            repeated: false,
-        },
+        single!(1, Message),
+        single!(7, Bool),
+        single!(9, Bytes),
+        single!(10, Message),
     ])
 }
 
 /// `Action`: command_digest, input_root_digest, do_not_cache, salt, platform.
-pub fn action_shape() -> Shape<'static>
+pub(crate) fn action_shape() -> Shape<'static>
     ensures { result ≡ action_shape }
 {
     Shape::new(&[
-        Entry {
-            number: 1,
-            kind: Kind::Message,
-            repeated: false,
-        },
-        Entry {
-            number: 2,
-            kind: Kind::Message,
-            repeated: false,
-        },
-        Entry {
-            number: 7,
-            kind: Kind::Bool,
-            repeated: false,
-        },
-        Entry {
-            number: 9,
-            kind: Kind::Bytes,
-            repeated: false,
-        },
-        Entry {
-            number: 10,
-            kind: Kind::Message,
-            repeated: false,
-        },
+        single!(1, Message),
+        single!(2, Message),
+        single!(7, Bool),
+        single!(9, Bytes),
+        single!(10, Message),
     ])
 }
 
 /// `OutputFile`: path, digest, is_executable.
-pub fn output_file_shape() -> Shape<'static>
+pub(crate) fn output_file_shape() -> Shape<'static>
     ensures { result ≡ output_file_shape }
 {
-    Shape::new(&[
-        Entry {
-            number: 1,
-            kind: Kind::String,
-            repeated: false,
-        },
-        Entry {
-            number: 2,
-            kind: Kind::Message,
-            repeated: false,
-        },
-        Entry {
-            number: 4,
-            kind: Kind::Bool,
-            repeated: false,
-        },
-    ])
+    Shape::new(&[single!(1, String), single!(2, Message), single!(4, Bool)])
 }
 
 /// `OutputDirectory`: path, tree_digest.
-pub fn output_directory_shape() -> Shape<'static>
+pub(crate) fn output_directory_shape() -> Shape<'static>
     ensures { result ≡ output_directory_shape }
 {
-    Shape::new(&[
-        Entry {
-            number: 1,
-            kind: Kind::String,
-            repeated: false,
-        },
-        Entry {
-            number: 3,
-            kind: Kind::Message,
-            repeated: false,
-        },
-    ])
+    Shape::new(&[single!(1, String), single!(3, Message)])
 }
 
 /// `OutputSymlink`: path, target.
-pub fn output_symlink_shape() -> Shape<'static>
+pub(crate) fn output_symlink_shape() -> Shape<'static>
     ensures { result ≡ output_symlink_shape }
 {
-    Shape::new(&[
-        Entry {
-            number: 1,
-            kind: Kind::String,
-            repeated: false,
-        },
-        Entry {
-            number: 2,
-            kind: Kind::String,
-            repeated: false,
-        },
-    ])
+    Shape::new(&[single!(1, String), single!(2, String)])
 }
 
 /// `ActionResult`: output_files, output_directories, exit_code, stdout_raw, stdout_digest,
 /// stderr_raw, stderr_digest, output_symlinks.
-pub fn action_result_shape() -> Shape<'static>
+pub(crate) fn action_result_shape() -> Shape<'static>
     ensures { result ≡ action_result_shape }
 {
     Shape::new(&[
-        Entry {
-            number: 2,
-            kind: Kind::Message,
-            repeated: true,
-        },
-        Entry {
-            number: 3,
-            kind: Kind::Message,
-            repeated: true,
-        },
-        Entry {
-            number: 4,
-            kind: Kind::Int32,
-            repeated: false,
-        },
-        Entry {
-            number: 5,
-            kind: Kind::Bytes,
-            repeated: false,
-        },
-        Entry {
-            number: 6,
-            kind: Kind::Message,
-            repeated: false,
-        },
-        Entry {
-            number: 7,
-            kind: Kind::Bytes,
-            repeated: false,
-        },
-        Entry {
-            number: 8,
-            kind: Kind::Message,
-            repeated: false,
-        },
-        Entry {
-            number: 12,
-            kind: Kind::Message,
-            repeated: true,
-        },
+        repeated!(2, Message),
+        repeated!(3, Message),
+        single!(4, Int32),
+        single!(5, Bytes),
+        single!(6, Message),
+        single!(7, Bytes),
+        single!(8, Message),
+        repeated!(12, Message),
     ])
 }

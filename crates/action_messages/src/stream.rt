@@ -81,7 +81,7 @@ fn write_digest<A: Allocator + Copy>(
 }
 
 /// Writes the bytes as the field of this number, and the digest as the next.
-pub fn write_stream<A: Allocator + Copy>(
+pub(crate) fn write_stream<A: Allocator + Copy>(
     alloc: A,
     out: &mut Vec<u8, A>,
     number: u32,

@@ -154,13 +154,13 @@ fn check_nested<A: Allocator + Copy>(alloc: A, fields: &[Field<'_>]) -> Result<(
 
 /// What a result's fields say, its outputs in the order of the bytes.
 #[derive(Drop)]
-pub struct Unordered<A: Allocator> {
-    pub files: Vec<OutputFile<A>, A>,
-    pub directories: Vec<OutputDirectory<A>, A>,
-    pub symlinks: Vec<OutputSymlink<A>, A>,
-    pub exit_code: i32,
-    pub stdout: Stream<A>,
-    pub stderr: Stream<A>,
+pub(crate) struct Unordered<A: Allocator> {
+    pub(crate) files: Vec<OutputFile<A>, A>,
+    pub(crate) directories: Vec<OutputDirectory<A>, A>,
+    pub(crate) symlinks: Vec<OutputSymlink<A>, A>,
+    pub(crate) exit_code: i32,
+    pub(crate) stdout: Stream<A>,
+    pub(crate) stderr: Stream<A>,
 }
 
 impl<A: Allocator> Model for Unordered<A> {
@@ -204,7 +204,7 @@ fn read_unordered_in<A: Allocator + Copy>(
 /// What the bytes of a result say, its outputs in their order. The first refusal is looked for only
 /// where there is one.
 #[tactic(auto, unfolding(crate::specs::Unordered::unordered))]
-pub fn read_unordered<A: Allocator + Copy>(
+pub(crate) fn read_unordered<A: Allocator + Copy>(
     alloc: A,
     bytes: &[u8],
 ) -> Result<Unordered<A>, MessageError>

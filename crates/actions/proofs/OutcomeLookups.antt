@@ -1,19 +1,22 @@
 -- A look-up in an outcome, as the code has it.
-use Rattle.std.proofs.Common.{◌≡◌, ℕ, ◌<◌, List, [], ◌∷◌, ◌++◌, length, map, drop, get_or, Some, refl, sym, ap, subst, ◌∙◌, inl, inr, arith}
-use Rattle.std.specs.Prelude.{Contains, slice_get, option_map}
+use Rattle.std.proofs.Common.{◌≡◌, ℕ, ◌<◌, true, List, [], ◌∷◌, ◌++◌, length, map, get_or, Option, Some, None, refl, sym, ap, subst, ◌∙◌, inl, inr, arith}
+use Rattle.std.specs.Prelude.{Contains, slice_get, option_map, is_some}
+use Rattle.std.specs.Borrow.{Bor}
 use Rattle.std.specs.List.{AllByRecursion}
 use Rattle.std.proofs.lemmas.List.{length-map}
 use Rattle.std.proofs.lemmas.Option.{slice_get-map, slice_get_within, slice_get_read}
 use Rattle.messages.specs.Order.{bytes_cmp}
-use Rattle.messages.specs.Path.{IsPath}
+use Rattle.messages.specs.Path.{IsPath, parts_of}
+use Rattle.messages.specs.Tree.{TreeValue}
 use Rattle.tree.specs.Lookup.{Looked, nothing}
 use Rattle.tree.specs.Merging.{WithinValue}
 use Rattle.actions.specs.declared.outcome.Output.{Output}
+use Rattle.actions.specs.declared.outcome.Output.TheVariants.{File, Link, Tree}
 use Rattle.action_messages.specs.Ascending.{IsAscendingBy}
 use Rattle.action_messages.specs.Overlaps.{texts_of}
 use Rattle.actions.specs.Outcome.{OutcomeValue, IsOutcome, output_value, outputs_in, output_paths}
-use Rattle.actions.specs.OutcomeLookup.{StandsOver, LooksBelow, LooksIn, within_output, LiesWithin}
-use Rattle.actions.proofs.TreeLookups.{holds_mapped}
+use Rattle.actions.specs.OutcomeLookup.{StandsOver, LooksBelow, LooksIn, names_left, within_output, LiesWithin}
+use Rattle.actions.proofs.TreeLookups.{holds_mapped, some_part}
 
 module _ {A : Type 0} where
   abbrev pub paths_in : List (List (List ℕ) × Output A) → List (List (List ℕ))
@@ -42,8 +45,20 @@ module _ {A : Type 0} where
       each [] k = tt
       each (d ∷ ds) k = (k.0, each ds k.1)
 
-  module _ (o : OutcomeValue) (path rest : List (List ℕ)) (es : List (List (List ℕ) × Output A)) (place names : ℕ) (item : List (List ℕ) × Output A) (above : List (List ℕ))
-      (e : outputs_in es ≡ o.outputs) (at : slice_get (paths_in es) place ≡ Some above) (is : item ≡ get_or es place item) (split : path ≡ above ++ drop names path) (left : rest ≡ drop names path) where
+  -- a file or a link has nothing below it
+  pub looks_nowhere : (x : Output A) (below : Option (Bor (List ℕ))) → ((t : TreeValue) → x ≡ Tree t → ⊥) → is_some below ≡ true → LooksBelow (output_value x) (names_left below) nothing
+  looks_nowhere x None other some = absurd cc
+  looks_nowhere x (Some text) other some = nowhere x other (parts_of text.now) (some_part text.now)
+    where
+      nowhere : (y : Output A) → ((t : TreeValue) → y ≡ Tree t → ⊥) → (names : List (List ℕ)) → (names ≡ [] → ⊥) → LooksBelow (output_value y) names nothing
+      nowhere (Tree t) none names s = absurd (none t refl)
+      nowhere (File d e) none [] s = absurd (s refl)
+      nowhere (File d e) none (n ∷ names) s = refl
+      nowhere (Link l) none [] s = absurd (s refl)
+      nowhere (Link l) none (n ∷ names) s = refl
+
+  module _ (o : OutcomeValue) (path rest : List (List ℕ)) (es : List (List (List ℕ) × Output A)) (place : ℕ) (item : List (List ℕ) × Output A) (above : List (List ℕ))
+      (e : outputs_in es ≡ o.outputs) (at : slice_get (paths_in es) place ≡ Some above) (is : item ≡ get_or es place item) (split : path ≡ above ++ rest) where
     inside : place < length es
     inside = within es place above at
 
@@ -54,7 +69,7 @@ module _ {A : Type 0} where
 
     -- the output is one of the outcome's, and the path is what comes after its names
     pub path_is : path ≡ item.0 ++ rest
-    path_is = split ∙ ap (λ p. p ++ drop names path) (sym one) ∙ ap (λ p. item.0 ++ p) (sym left)
+    path_is = split ∙ ap (λ p. p ++ rest) (sym one)
 
     pub output_there : Contains o.outputs (item.0, output_value item.1)
     output_there = subst (λ l. Contains l (item.0, output_value item.1)) e (holds_mapped (λ (d : List (List ℕ) × Output A). (d.0, output_value d.1)) es item (place, inside, sym is))

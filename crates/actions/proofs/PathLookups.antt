@@ -1,30 +1,17 @@
 -- The output at or above a path, by the beginnings of the path's text.
-use Rattle.std.proofs.Common.{◌≡◌, ◌≢◌, ℕ, zero, suc, ◌+◌, ◌<◌, ◌≤◌, false, eqb, List, [], ◌∷◌, ◌++◌, length, take, drop, get_or, Some, None, Result, Ok, Err, refl, sym, ap, subst, ◌∙◌, arith, count_by, below_more}
-use Rattle.std.specs.Prelude.{◌==◌, slice_get}
+use Rattle.std.proofs.Common.{◌≡◌, ◌≢◌, ℕ, zero, suc, ◌+◌, ◌<◌, false, List, [], ◌∷◌, ◌++◌, length, take, drop, get_or, Some, None, Result, Ok, Err, refl, sym, ap, subst, ◌∙◌, below_more}
+use Rattle.std.specs.Prelude.{slice_get}
 use Rattle.std.specs.List.{AllByRecursion}
-use Rattle.std.proofs.lemmas.List.{length-append, append-nil}
-use Rattle.std.proofs.lemmas.List.Sums.{count_by_more_yes, count_by_more_no}
-use Rattle.std.proofs.lemmas.Bool.{eq-eqb}
-use Rattle.messages.proofs.Choices.{differ}
-use Rattle.std.proofs.lemmas.List.Splits.{length-slice_split}
-use Rattle.std.proofs.Math.Seq.{drop-append_seam}
+use Rattle.std.proofs.lemmas.List.{append-nil}
 use Rattle.messages.specs.Order.{has_name}
 use Rattle.messages.specs.Path.{IsPath, LiesUnder, parts_of, path_text}
 use Rattle.messages.proofs.Orders.{has_none}
 use Rattle.messages.proofs.Paths.{parts-seam, parts_of_path}
 use Rattle.action_messages.specs.Overlaps.{IsPlace, lies_under_some, texts_of}
-use Rattle.actions.specs.declared.looking_up.Over.{Over}
 use Rattle.actions.specs.OutcomeLookup.{StandsOver, IsOver}
 use Rattle.action_messages.proofs.Searches.{cut, under_not_found}
 use Rattle.action_messages.proofs.Places.{place_test}
 use Rattle.action_messages.proofs.Apart.{ArePaths, row_none}
-
--- how many slashes a text has
-abbrev pub slashes : List ℕ → ℕ
-slashes text = count_by (λ b. b == 47) text
-
-parts_counted : (text : List ℕ) → length (parts_of text) ≡ slashes text + 1
-parts_counted text = length-slice_split (λ b. b == 47) text
 
 -- ---- the path that stands at a place
 
@@ -38,24 +25,19 @@ path_at (p ∷ paths) (suc n) text all e = path_at paths n text all.1 e
 
 -- ---- a beginning that is listed
 
-pub over_front : (paths : List (List (List ℕ))) (path : List (List ℕ)) (text : List ℕ) (index names : ℕ) (over : Over) → ArePaths paths → parts_of text ≡ path → index < length text → get_or text index 0 ≡ 47 → names ≡ slashes (take index text) → IsPlace (texts_of paths) (take index text) (Ok over.place) → over.names ≡ names + 1 → IsOver paths path (Some over)
-over_front paths path text index names over all parts lt slash counted there is =
-    let front = parts_of (take index text) in
-    let rest = parts_of (drop (index + 1) text) in
-    let split : path ≡ front ++ rest = sym parts ∙ ap parts_of (sym (cut index text lt slash)) ∙ parts-seam (take index text) (drop (index + 1) text) in
-    let many : over.names ≡ length front = is ∙ ap (λ n. n + 1) counted ∙ sym (parts_counted (take index text)) in
-    let left : drop over.names path ≡ rest = ap (λ n. drop n path) many ∙ ap (drop (length front)) split ∙ drop-append_seam front rest in
-    (front, (path_at paths over.place (take index text) all there).0, split ∙ ap (λ l. front ++ l) (sym left), omega (arith, many, ap length split, length-append front rest))
+-- a path that is there, and the names that are left of another
+abbrev pub IsLeft : List (List (List ℕ)) → List (List ℕ) → ℕ → List (List ℕ) → Type 0
+IsLeft paths path place names = (above : List (List ℕ)) × (slice_get paths place ≡ Some above) × (path ≡ above ++ names)
 
-pub over_whole : (paths : List (List (List ℕ))) (path : List (List ℕ)) (text : List ℕ) (names : ℕ) (over : Over) → ArePaths paths → parts_of text ≡ path → names ≡ slashes text → IsPlace (texts_of paths) text (Ok over.place) → over.names ≡ names + 1 → IsOver paths path (Some over)
-over_whole paths path text names over all parts counted there is =
-    let many : over.names ≡ length path = is ∙ ap (λ n. n + 1) counted ∙ sym (parts_counted text) ∙ ap length parts in
-    let left : drop over.names path ≡ [] = ap (λ n. drop n path) many ∙ past path in
-    (path, (path_at paths over.place text all there).0 ∙ ap Some parts, sym (append-nil path) ∙ ap (λ l. path ++ l) (sym left), omega (arith, many))
-  where
-    past : (p : List (List ℕ)) → drop (length p) p ≡ []
-    past [] = refl
-    past (n ∷ p) = past p
+pub over_front : (paths : List (List (List ℕ))) (path : List (List ℕ)) (text rest : List ℕ) (index place : ℕ) → ArePaths paths → parts_of text ≡ path → index < length text → get_or text index 0 ≡ 47 → IsPlace (texts_of paths) (take index text) (Ok place) → rest ≡ drop (index + 1) text
+    → IsLeft paths path place (parts_of rest)
+over_front paths path text rest index place all parts lt slash there left =
+    let front = parts_of (take index text) in
+    let split : path ≡ front ++ parts_of (drop (index + 1) text) = sym parts ∙ ap parts_of (sym (cut index text lt slash)) ∙ parts-seam (take index text) (drop (index + 1) text) in
+    (front, (path_at paths place (take index text) all there).0, split ∙ ap (λ l. front ++ parts_of l) (sym left))
+
+pub over_whole : (paths : List (List (List ℕ))) (path : List (List ℕ)) (text : List ℕ) (place : ℕ) → ArePaths paths → parts_of text ≡ path → IsPlace (texts_of paths) text (Ok place) → IsLeft paths path place []
+over_whole paths path text place all parts there = (path, (path_at paths place text all there).0 ∙ ap Some parts, sym (append-nil path))
 
 -- ---- no beginning is listed
 
@@ -95,28 +77,8 @@ missed : (texts : List (List ℕ)) (text : List ℕ) (place : Result ℕ ℕ) �
 missed texts text (Ok n) other h = absurd (other n refl)
 missed texts text (Err n) other h = not_listed texts text n h
 
--- what is known of the text up to an index
-pub record Passed (texts : List (List ℕ)) (text : List ℕ) (names index : ℕ) : Type 0 where
-  pub counted : names ≡ slashes (take index text)
-  pub few : names ≤ index
-  pub none : NoneListed texts text index
+pub passed_slash : (texts : List (List ℕ)) (text : List ℕ) (index : ℕ) (place : Result ℕ ℕ) → NoneListed texts text index → ((n : ℕ) → place ≡ Ok n → ⊥) → IsPlace texts (take index text) place → NoneListed texts text (index + 1)
+passed_slash texts text index place none other at = below_more (λ k. get_or text k 0 ≡ 47 → has_name texts (take k text) ≡ false) index none (λ s. missed texts (take index text) place other at)
 
-pub passed_slash : (texts : List (List ℕ)) (text : List ℕ) (names index : ℕ) (place : Result ℕ ℕ) → index < length text → get_or text index 0 ≡ 47 → Passed texts text names index → ((n : ℕ) → place ≡ Ok n → ⊥) → IsPlace texts (take index text) place → Passed texts text (names + 1) (index + 1)
-passed_slash texts text names index place lt slash h other at = record {
-  counted = ap (λ n. n + 1) h.counted ∙ sym (count_by_more_yes (λ b. b == 47) text index 0 lt (eq-eqb (get_or text index 0) 47 slash));
-  few = omega (arith, h.few);
-  none = below_more (λ k. get_or text k 0 ≡ 47 → has_name texts (take k text) ≡ false) index h.none (λ s. missed texts (take index text) place other at);
-}
-
-pub passed_other : (texts : List (List ℕ)) (text : List ℕ) (names index : ℕ) → index < length text → get_or text index 0 ≢ 47 → Passed texts text names index → Passed texts text names (index + 1)
-passed_other texts text names index lt isnt h = record {
-  counted = h.counted ∙ sym (count_by_more_no (λ b. b == 47) text index 0 lt (differ (get_or text index 0) 47 (eqb (get_or text index 0) 47) refl isnt));
-  few = omega (arith, h.few);
-  none = below_more (λ k. get_or text k 0 ≡ 47 → has_name texts (take k text) ≡ false) index h.none (λ s. absurd (isnt s));
-}
-
-pub past : (text : List ℕ) (n : ℕ) → length text ≤ n → take n text ≡ text
-past [] zero h = refl
-past [] (suc n) h = refl
-past (b ∷ text) zero h = absurd (omega arith)
-past (b ∷ text) (suc n) h = ap (λ l. b ∷ l) (past text n (omega (arith, h)))
+pub passed_other : (texts : List (List ℕ)) (text : List ℕ) (index : ℕ) → get_or text index 0 ≢ 47 → NoneListed texts text index → NoneListed texts text (index + 1)
+passed_other texts text index isnt none = below_more (λ k. get_or text k 0 ≡ 47 → has_name texts (take k text) ≡ false) index none (λ s. absurd (isnt s))

@@ -1,13 +1,14 @@
 -- A look-up in a tree, name by name: each directory that a node names is one of the tree's children.
-use Rattle.std.proofs.Common.{◌≡◌, ◌≢◌, ℕ, true, false, eqb, ◌&&◌, zero, suc, ◌+◌, ◌<◌, ◌≤◌, List, [], ◌∷◌, ◌++◌, length, map, take, drop, get_or, Option, Some, None, option_map, refl, sym, ap, subst, ◌∙◌, inl, arith, drop-cons}
-use Rattle.std.specs.Prelude.{Contains, slice_get, MatchOption, IsSome, IfSome, Result, Ok, Err, IfOk, nat_eq}
+use Rattle.std.proofs.Common.{◌≡◌, ◌≢◌, ℕ, true, false, eqb, ◌&&◌, zero, suc, ◌+◌, ◌<◌, List, [], ◌∷◌, ◌++◌, length, map, take, drop, get_or, Option, Some, None, option_map, refl, sym, ap, subst, ◌∙◌, inl, arith}
+use Rattle.std.specs.Prelude.{◌==◌, Contains, slice_get, MatchOption, IsSome, IfSome, Result, Ok, Err, IfOk, nat_eq}
 use Rattle.std.specs.Cmp.Lexicographic.{pointwise, bytes_decides}
 use Rattle.std.proofs.lemmas.Bool.{eq-eqb}
 use Rattle.std.proofs.lemmas.Option.{slice_get_read}
 use Rattle.messages.proofs.Choices.{and_both}
 use Rattle.std.specs.Borrow.{Bor}
 use Rattle.std.specs.List.{AllByRecursion}
-use Rattle.std.proofs.lemmas.List.{take_more, drop_more, take-map, length-map}
+use Rattle.std.proofs.lemmas.List.{take_more, take-map, length-map}
+use Rattle.std.proofs.lemmas.List.Splits.{length-slice_split}
 use Rattle.std.proofs.lemmas.List.Elements.{Contains-append_left, Contains-append_right}
 use Rattle.blob_digest.specs.Digest.{DigestValue, digest_of}
 use Rattle.messages.specs.declared.node.Node.{Node}
@@ -16,12 +17,14 @@ use Rattle.messages.specs.DirectoryRules.{DirectoryValue}
 use Rattle.messages.specs.Directory.{directory_bytes}
 use Rattle.messages.specs.Tree.{TreeValue, IsTree, node_digests, named_by, named_in, digests_of, child_digests}
 use Rattle.messages.specs.Node.{IsChild, child}
+use Rattle.messages.specs.Path.{parts_of}
+use Rattle.messages.proofs.Paths.{parts-seam, parts-one}
 use Rattle.messages.proofs.Children.{child_stands}
 use Rattle.tree.specs.Form.{NodeValue, node_value}
-use Rattle.tree.specs.Lookup.{Looked, nothing, found, LooksFrom}
+use Rattle.tree.specs.Lookup.{Looked, nothing, looked, LooksFrom}
 use Rattle.tree.specs.Merging.{in_tree, IsHeldIn}
 use Rattle.tree.proofs.Children.{child_value}
-use Rattle.actions.specs.OutcomeLookup.{IsFirstChild, NoFault, IsChildOf}
+use Rattle.actions.specs.OutcomeLookup.{IsFirstChild, NoFault, IsChildOf, LooksInTree, LooksUnder}
 
 -- ---- what lists hold
 
@@ -112,50 +115,67 @@ child_at t i lt none = missing t.children i (omega (arith, same_length t, lt)) n
 abbrev pub LooksOn : TreeValue → List (List ℕ) → Option NodeValue → Looked → Type 0
 LooksOn t names o r = LooksFrom (IsFirstChild t) NoFault names o r
 
--- a look-up of the rest from here ends the look-up of all names from the start
-pub record Descends (t : TreeValue) (start : NodeValue) (names : List (List ℕ)) (o : Option NodeValue) (rest : List (List ℕ)) : Type 0 where
-  pub ends : (r : Looked) → LooksOn t rest o r → LooksOn t names (Some start) r
+no_slash : (text : List ℕ) → (Contains text 47 → ⊥) → AllByRecursion (λ b. b ≢ 47) text
+no_slash [] none = tt
+no_slash (b ∷ text) none = ((λ e. none (0, omega arith, e)), no_slash text (λ h. none (behind b text 47 h)))
 
-pub descends_first : (t : TreeValue) (start : NodeValue) (names : List (List ℕ)) → Descends t start names (Some start) names
-descends_first t start names = record { ends = λ r h. h }
+-- the names of a text with a slash
+first_part : (text front more : List ℕ) → text ≡ front ++ 47 ∷ more → (Contains front 47 → ⊥) → parts_of text ≡ front ∷ parts_of more
+first_part text front more e none = ap parts_of e ∙ parts-seam front more ∙ ap (λ (l : List (List ℕ)). l ++ parts_of more) (parts-one front (no_slash front none))
 
-pub descends_child : {A : Type 0} (t : TreeValue) (start : NodeValue) (names : List (List ℕ)) (i : ℕ) (name : List ℕ) (node : Node A) (d : DigestValue) (m : DirectoryValue) (o : Option (Node A)) → i < length names → name ≡ get_or names i name → node ≡ Dir d → Descends t start names (Some (node_value node)) (drop i names) → IsFirstChild t d m → o ≡ child name m
-    → Descends t start names (option_map node_value o) (drop (i + 1) names)
-descends_child {A} t start names i name node d m o lt is dir goes first stands =
-    let split : drop i names ≡ name ∷ drop (i + 1) names = drop_more names i name lt ∙ ap (λ n. n ∷ drop (i + 1) names) (sym is) in
-    let from : Descends t start names (Some (Dir d)) (name ∷ drop (i + 1) names) = subst (Descends t start names (Some (Dir d))) split (subst (λ x. Descends t start names (Some (node_value x)) (drop i names)) dir goes) in
-    let same : option_map node_value o ≡ child name m = ap (option_map node_value) stands ∙ child_value A name m in
-    subst (λ x. Descends t start names x (drop (i + 1) names)) (sym same) (record { ends = λ r h. from.ends r (inl (m, first, h)) })
+pub some_part : (text : List ℕ) → parts_of text ≡ [] → ⊥
+some_part text e = omega (arith, ap length e, length-slice_split (λ b. b == 47) text)
 
-pub descends_nowhere : (t : TreeValue) (start : NodeValue) (names rest : List (List ℕ)) → Descends t start names None rest → LooksOn t names (Some start) nothing
-descends_nowhere t start names rest goes = goes.ends nothing refl
-
--- a file or a link has nothing below it
-pub descends_leaf : {A : Type 0} (t : TreeValue) (start : NodeValue) (names : List (List ℕ)) (i : ℕ) (node : Node A) → i < length names → ((d : DigestValue) → node ≡ Dir d → ⊥) → Descends t start names (Some (node_value node)) (drop i names) → LooksOn t names (Some start) nothing
-descends_leaf {A} t start names i node lt dir goes = goes.ends nothing (leaf node dir (drop i names) some)
+-- the last name
+looks_last : {A : Type 0} (t : TreeValue) (m : DirectoryValue) (text : List ℕ) (o : Option (Node A)) → (Contains text 47 → ⊥) → o ≡ child text m → LooksUnder t m (parts_of text) (looked o)
+looks_last {A} t m text o none stands =
+    let same : option_map node_value o ≡ child text m = ap (option_map node_value) stands ∙ child_value A text m in
+    subst (λ names. LooksUnder t m names (looked o)) (sym (parts-one text (no_slash text none))) (subst (λ x. LooksOn t [] x (looked o)) same (ends o))
   where
-    some : drop i names ≡ [] → ⊥
-    some e = let split : drop i names ≡ get_or names i [] ∷ drop (suc i) names = drop-cons names i [] lt in cc
+    ends : (x : Option (Node A)) → LooksOn t [] (option_map node_value x) (looked x)
+    ends None = refl
+    ends (Some x) = refl
 
+pub look_ends : {A E : Type 0} (t : TreeValue) (m : DirectoryValue) (text : List ℕ) (r : Result (Option (Node A)) E) → (Contains text 47 → ⊥) → IfOk r (λ o. o ≡ child text m) → IfOk r (λ o. LooksUnder t m (parts_of text) (looked o))
+look_ends t m text (Ok o) none h = looks_last t m text o none h
+look_ends t m text (Err e) none h = tt
+
+pub held_last : {A E : Type 0} (t : TreeValue) (m : DirectoryValue) (name : List ℕ) (r : Result (Option (Node A)) E) → IsTree t → Contains (t.root ∷ t.children) m → IfOk r (λ o. o ≡ child name m) → IfOk r (λ o. IfSome o (IsChildOf t))
+held_last t m name (Ok None) is here h = tt
+held_last t m name (Ok (Some node)) is here h = child_named t m name node is here h
+held_last t m name (Err e) is here h = tt
+
+-- a name before others: from what stands under it they are looked up
+pub looks_first : {A : Type 0} (t : TreeValue) (m : DirectoryValue) (text front more : List ℕ) (o : Option (Node A)) (r : Looked) → text ≡ front ++ 47 ∷ more → (Contains front 47 → ⊥) → o ≡ child front m
+    → LooksOn t (parts_of more) (option_map node_value o) r → LooksUnder t m (parts_of text) r
+looks_first {A} t m text front more o r e none stands below =
+    let same : option_map node_value o ≡ child front m = ap (option_map node_value) stands ∙ child_value A front m in
+    subst (λ names. LooksUnder t m names r) (sym (first_part text front more e none)) (subst (λ x. LooksOn t (parts_of more) x r) same below)
+
+pub looks_leaf : {A : Type 0} (t : TreeValue) (more : List ℕ) (node : Node A) → ((d : DigestValue) → node ≡ Dir d → ⊥) → LooksOn t (parts_of more) (Some (node_value node)) nothing
+looks_leaf {A} t more node none = leaf node none (parts_of more) (some_part more)
+  where
     leaf : (x : Node A) → ((d : DigestValue) → x ≡ Dir d → ⊥) → (rest : List (List ℕ)) → (rest ≡ [] → ⊥) → LooksOn t rest (Some (node_value x)) nothing
-    leaf (File e b) none [] s = absurd (s refl)
-    leaf (Link e) none [] s = absurd (s refl)
-    leaf (Dir e) none rest s = absurd (none e refl)
-    leaf (File e b) none (n ∷ rest) s = refl
-    leaf (Link e) none (n ∷ rest) s = refl
+    leaf (File e b) other [] s = absurd (s refl)
+    leaf (Link e) other [] s = absurd (s refl)
+    leaf (Dir e) other rest s = absurd (other e refl)
+    leaf (File e b) other (n ∷ rest) s = refl
+    leaf (Link e) other (n ∷ rest) s = refl
 
-pub descends_end : (t : TreeValue) (start : NodeValue) (names : List (List ℕ)) (i : ℕ) (x : NodeValue) → length names ≤ i → Descends t start names (Some x) (drop i names) → LooksOn t names (Some start) (found x)
-descends_end t start names i x le goes = goes.ends (found x) (last (drop i names) (past names i le))
-  where
-    past : (ns : List (List ℕ)) (j : ℕ) → length ns ≤ j → drop j ns ≡ []
-    past [] zero h = refl
-    past [] (suc j) h = refl
-    past (n ∷ ns) zero h = absurd (omega arith)
-    past (n ∷ ns) (suc j) h = past ns j (omega (arith, h))
+looks_next : (t : TreeValue) (d : DigestValue) (m : DirectoryValue) (names : List (List ℕ)) (r : Looked) → IsFirstChild t d m → LooksUnder t m names r → LooksOn t names (Some (Dir d)) r
+looks_next t d m [] r first h = elim h [ ]
+looks_next t d m (name ∷ names) r first h = inl (m, first, h)
 
-    last : (rest : List (List ℕ)) → rest ≡ [] → LooksOn t rest (Some x) (found x)
-    last [] e = refl
-    last (n ∷ rest) e = cc
+pub looks_deeper : {A E : Type 0} (t : TreeValue) (m : DirectoryValue) (text front more : List ℕ) (node : Node A) (d : DigestValue) (next : DirectoryValue) (r : Result (Option (Node A)) E) → text ≡ front ++ 47 ∷ more → (Contains front 47 → ⊥) → Some node ≡ child front m → node ≡ Dir d → IsFirstChild t d next
+    → IfOk r (λ o. LooksUnder t next (parts_of more) (looked o)) → IfOk r (λ o. LooksUnder t m (parts_of text) (looked o))
+looks_deeper t m text front more node d next (Ok o) e none stands dir first h =
+    looks_first t m text front more (Some node) (looked o) e none stands (subst (λ x. LooksOn t (parts_of more) (Some (node_value x)) (looked o)) (sym dir) (looks_next t d next (parts_of more) (looked o) first h))
+looks_deeper t m text front more node d next (Err e) is none stands dir first h = tt
+
+-- below the root
+pub looks_root : (t : TreeValue) (names : List (List ℕ)) (r : Looked) → LooksUnder t t.root names r → LooksInTree t names r
+looks_root t [] r h = elim h [ ]
+looks_root t (name ∷ names) r h = h
 
 -- ---- as the code has it
 

@@ -1,10 +1,12 @@
 -- Looking up a path in an outcome: at an output's path, or below that of a whole directory.
-use Rattle.std.specs.Prelude.{◌≤◌, drop, length, slice_get, Option, Some, None, ◌≡◌, ◌≢◌, ◌⊎◌, ℕ}
-use Rattle.std.specs.Prelude.{List, [], ◌∷◌, ◌++◌, Contains}
+use Rattle.std.specs.Prelude.{slice_get, Option, Some, None, ◌≡◌, ◌≢◌, ◌⊎◌, ℕ, List, [], ◌∷◌, ◌++◌}
+use Rattle.std.specs.Prelude.{Contains}
+use Rattle.std.specs.Borrow.{Bor}
 use Rattle.std.specs.List.{AllByRecursion}
 use Rattle.blob_digest.specs.Digest.{DigestValue, digest_of}
 use Rattle.messages.specs.DirectoryRules.{DirectoryValue}
 use Rattle.messages.specs.Directory.{directory_bytes}
+use Rattle.messages.specs.Path.{parts_of}
 use Rattle.messages.specs.declared.node.Node.{Node}
 use Rattle.messages.specs.declared.node.Node.TheVariants.{Dir}
 use Rattle.messages.specs.Tree.{TreeValue, child_digests}
@@ -66,13 +68,23 @@ LiesWithin o path within =
 
 -- ---- what the private functions of a look-up speak of
 
--- where the path at or above another stands, and that the rest is what comes after as many names as
--- it has
+-- the names of the text that is left of a path, if some is left
+abbrev pub names_left : Option (Bor (List ℕ)) → List (List ℕ)
+names_left None = []
+names_left (Some text) = parts_of text.now
+
+-- where the path at or above another stands, and that what is left of the other comes after its
+-- names
 abbrev pub IsOver : List (List (List ℕ)) → List (List ℕ) → Option Over → Type 0
 IsOver paths path None = AllByRecursion (λ above. ¬ StandsOver above path) paths
 IsOver paths path (Some over) =
     (above : List (List ℕ)) × (slice_get paths over.place ≡ Some above)
-    × (path ≡ above ++ drop over.names path) × (over.names ≤ length path)
+    × (path ≡ above ++ names_left over.below)
+
+-- what stands below a directory of a tree, name by name
+abbrev pub LooksUnder : TreeValue → DirectoryValue → List (List ℕ) → Looked → Type 0
+LooksUnder t m [] r = ⊥
+LooksUnder t m (name ∷ names) r = LooksFrom (IsFirstChild t) NoFault names (child name m) r
 
 -- a node that is a directory has the digest of one of the tree's children
 abbrev pub IsChildOf : {A : Type 0} → TreeValue → Node A → Type 0

@@ -1,54 +1,52 @@
-ghost use Rattle.std.specs.Prelude.{◌≡◌, Some, Contains, IfOk, IfSome, MatchOption, map, option_map};
+ghost use Rattle.std.specs.Prelude.{◌≡◌, ◌∷◌, ◌++◌, Some, Contains, IfOk, IfSome, MatchOption, map};
+ghost use Rattle.std.specs.Prelude.{option_map};
 ghost use Rattle.std.specs.List.{AllByRecursion};
 ghost use Rattle.messages.specs.Order.{bytes_cmp};
-ghost use Rattle.messages.specs.Path.{IsPath};
+ghost use Rattle.messages.specs.Path.{IsPath, parts_of};
 ghost use Rattle.messages.specs.Tree.{IsTree, child_digests};
 ghost use Rattle.tree.specs.Form.{node_value};
-ghost use Rattle.tree.specs.Lookup.{LooksFrom, looked};
+ghost use Rattle.tree.specs.Lookup.{looked};
 ghost use Rattle.tree.specs.Merging.{IsHeldIn, in_tree, within_value};
 ghost use Rattle.action_messages.specs.Ascending.{IsAscendingBy};
 ghost use Rattle.action_messages.specs.Overlaps.{texts_of};
 ghost use Rattle.actions.specs.Outcome.{output_value};
-ghost use Rattle.actions.specs.OutcomeLookup.{IsFirstChild, NoFault, LooksInTree, LooksBelow};
+ghost use Rattle.actions.specs.OutcomeLookup.{IsFirstChild, LooksInTree, LooksBelow, LooksUnder};
 ghost use Rattle.actions.specs.OutcomeLookup.{LooksIn, LiesWithin, IsOver, IsChildOf};
-ghost use Rattle.actions.specs.OutcomeLookup.{within_output};
+ghost use Rattle.actions.specs.OutcomeLookup.{within_output, names_left};
 
 use crate::outcome::{Outcome, Output};
 use action_messages::{Listed, place_of};
 use blob_digest::Digest;
-use messages::{Directory, Name, Node, Path, Target, Tree};
+use messages::{Directory, Node, Path, Target, Tree};
 use std::alloc::{AllocError, Allocator};
 use tree::Within;
 
-/// Where in a list the path stands that is at or above another, and how many names it has.
+/// Where in a list the path stands that is at or above another, and the text of the names that are
+/// left of that.
 #[derive(Clone, Copy)]
-struct Over {
+struct Over<'p> {
     place: usize,
-    names: usize,
+    below: Option<&'p [u8]>,
 }
 
 /// The one of ascending paths that is at or above a path: each beginning of the path's text is
 /// searched for.
-fn find_over<A: Allocator, L: Listed>(items: &[L], path: &Path<A>) -> Option<Over>
+fn find_over<'p, A: Allocator, L: Listed>(items: &[L], path: &'p Path<A>) -> Option<Over<'p>>
     requires ascend { IsAscendingBy bytes_cmp (texts_of (map L.path_in items.now)) }
     requires valid { AllByRecursion IsPath (map L.path_in items.now) }
     ensures { IsOver (map L.path_in items.now) path.now result }
 {
     let text = path.as_bytes();
-    let mut names = 0;
     for (index, byte) in text.iter().enumerate() {
         if *byte == b'/' {
-            names += 1;
             if let Ok(place) = place_of(items, &text[..index]) {
-                return Some(Over { place, names });
+                let below = Some(&text[index + 1..]);
+                return Some(Over { place, below });
             }
         }
     }
     match place_of(items, text) {
-        Ok(place) => Some(Over {
-            place,
-            names: names + 1,
-        }),
+        Ok(place) => Some(Over { place, below: None }),
         Err(_) => None,
     }
 }
@@ -67,65 +65,72 @@ fn first_child<'a, A: Allocator>(tree: &'a Tree<A>, digest: &Digest) -> Option<&
     None
 }
 
-/// The node at the end of the names below a node of a tree.
+/// What stands before the first slash of a text, and what after it.
+fn split_name(text: &[u8]) -> Option<(&[u8], &[u8])>
+    ensures { MatchOption result (¬ Contains text.now 47)
+        (λ parts. (text.now ≡ parts.0.now ++ 47 ∷ parts.1.now) × ¬ Contains parts.0.now 47) }
+{
+    let place = text.iter().position(|byte| *byte == b'/')?;
+    let (name, rest) = text.split_at(place);
+    Some((name, &rest[1..]))
+}
+
+/// The node at the end of a text's names, of which the first is one in a directory of a tree.
 fn descend<A: Allocator + Copy>(
     alloc: A,
     tree: &Tree<A>,
-    mut node: Node<A>,
-    names: &[Name<A>],
+    directory: &Directory<A>,
+    text: &[u8],
 ) -> Result<Option<Node<A>>, AllocError>
-    requires { IsChildOf tree.now node }
+    requires valid { IsTree tree.now }
+    requires there { Contains (tree.now.root ∷ tree.now.children) directory.now }
     ensures looked { IfOk result
-        (λ o. LooksFrom (IsFirstChild tree.now) NoFault names.now (Some (node_value node))
-        (looked o)) }
+        (λ o. LooksUnder tree.now directory.now (parts_of text.now) (looked o)) }
     ensures held { IfOk result (λ o. IfSome o (IsChildOf tree.now)) }
 {
-    for name in names {
-        let Node::Dir(digest) = node else {
-            return Ok(None);
-        };
-        let Some(directory) = first_child(tree, &digest) else {
-            return Ok(None);
-        };
-        match directory.child(alloc, name.as_bytes())? {
-            Some(next) => node = next,
-            None => return Ok(None),
-        }
+    let Some((name, rest)) = split_name(text) else {
+        return directory.child(alloc, text);
+    };
+    let Some(node) = directory.child(alloc, name)? else {
+        return Ok(None);
+    };
+    let Node::Dir(digest) = node else {
+        return Ok(None);
+    };
+    match first_child(tree, &digest) {
+        Some(next) => descend(alloc, tree, next, rest),
+        None => unreachable!(),
     }
-    Ok(Some(node))
 }
 
 fn look_in_tree<A: Allocator + Copy>(
     alloc: A,
     tree: &Tree<A>,
-    names: &[Name<A>],
+    below: Option<&[u8]>,
 ) -> Result<Option<Node<A>>, AllocError>
-    ensures looked { IfOk result (λ o. LooksInTree tree.now names.now (looked o)) }
+    ensures looked { IfOk result (λ o. LooksInTree tree.now (names_left below.entry) (looked o)) }
     ensures held { IfOk result
         (λ o. IfSome o (λ x. IsHeldIn (in_tree tree.now) (node_value x))) }
 {
-    match names.split_first() {
+    match below {
         None => Ok(Some(Node::Dir(Digest::of(&tree.root().encode(alloc)?)))),
-        Some((name, names)) => match tree.root().child(alloc, name.as_bytes())? {
-            Some(node) => descend(alloc, tree, node, names),
-            None => Ok(None),
-        },
+        Some(text) => descend(alloc, tree, tree.root(), text),
     }
 }
 
 fn look_below<A: Allocator + Copy>(
     alloc: A,
     output: &Output<A>,
-    names: &[Name<A>],
+    below: Option<&[u8]>,
 ) -> Result<Option<Node<A>>, AllocError>
     ensures looked { IfOk result
-        (λ o. LooksBelow (output_value output.now) names.now (looked o)) }
+        (λ o. LooksBelow (output_value output.now) (names_left below.entry) (looked o)) }
     ensures held { IfOk result (λ o. IfSome o
         (λ x. IsHeldIn (within_output (output_value output.now)) (node_value x))) }
 {
     match output {
-        Output::Tree(tree) => look_in_tree(alloc, tree, names),
-        _ if !names.is_empty() => Ok(None),
+        Output::Tree(tree) => look_in_tree(alloc, tree, below),
+        _ if below.is_some() => Ok(None),
         Output::File { digest, executable } => Ok(Some(Node::File {
             digest: *digest,
             executable: *executable,
@@ -178,9 +183,8 @@ impl<A: Allocator + Copy> Outcome<A> {
         let Some(over) = find_over(outputs, path) else {
             return Ok(None);
         };
-        let names = path.to_names(alloc)?;
         let output = &outputs[over.place].1;
-        match look_below(alloc, output, &names[over.names..])? {
+        match look_below(alloc, output, over.below)? {
             Some(node) => Ok(Some((node, within(output)))),
             None => Ok(None),
         }

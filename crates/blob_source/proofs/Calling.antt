@@ -6,8 +6,7 @@ use Rattle.std.proofs.lemmas.Result.{err_from_is_err_and}
 use Rattle.blob_digest.specs.Digest.{DigestValue}
 use Rattle.blob_source.specs.Source.{Telling, Asks, AsksBlob, AsksResult}
 use Rattle.blob_source.specs.Called.{Calls, Called}
-use Rattle.blob_source.proofs.Asking.{asks_none, asks_blob, asks_result, ok_no_error}
-use Rattle.blob_source.proofs.Asking.{asks_some_more}
+use Rattle.blob_source.proofs.Asking.{asks_none, asks_blob, asks_result, some_then, ok_no_error}
 
 -- errors that make one answer are one
 pub err_injective : {T E : Type 0} (x y : E) → ◌≡◌ {A = Result T E} (Err x) (Err y) → x ≡ y
@@ -51,7 +50,7 @@ module _ {first next both : Telling → Telling → Type 0} {old mid new : Telli
       → Calls both old new fails'
   calls_then {fails} {fails'} joins none h k = record {
     asked = joins h.asked k.asked;
-    failed = λ f. let rises = k.failed f in let same = h.unfailed none in omega (arith, rises, same);
+    failed = λ f. let one = k.failed f in let same = h.unfailed none in omega (arith, one, same);
     unfailed = λ other. k.unfailed other ∙ h.unfailed none;
   }
 
@@ -93,23 +92,19 @@ calls_result h = calls_more asks_result h
 
 pub calls_some : {most : ℕ} {fails : Type 0} {old new : Telling}
     → Calls (Asks most) old new fails → Called old new fails
-calls_some {most} h = calls_more (λ asks. record { most = most; asks = asks }) h
+calls_some {most} h = calls_more (λ asks. asks.some) h
 
 pub called_none : {fails : Type 0} {t : Telling} → (fails → ⊥) → Called t t fails
 called_none none = calls_some {most = 0} (calls_none none)
 
-pub called_result : {fails : Type 0} {old new : Telling} {d : DigestValue}
-    → Calls (AsksResult d) old new fails → Called old new fails
-called_result h = calls_some (calls_result h)
-
 pub called_then : {fails fails' : Type 0} {old mid new : Telling} → (fails → ⊥)
     → Called old mid fails → Called mid new fails' → Called old new fails'
-called_then none h k = calls_then asks_some_more none h k
+called_then none h k = calls_then some_then none h k
 
 pub called_ok : {T E : Type 0} {x : T} {e : E} {fails : Type 0} {old mid new : Telling}
     → Called old mid (IsErrOf (Ok x) e) → Called mid new fails → Called old new fails
-called_ok h k = calls_ok asks_some_more h k
+called_ok h k = calls_ok some_then h k
 
 pub called_on : {fails : Type 0} {old mid new : Telling} → Called old mid ⊥
     → Called mid new fails → Called old new fails
-called_on h k = calls_on asks_some_more h k
+called_on h k = calls_on some_then h k

@@ -5,9 +5,9 @@ use Rattle.std.specs.Ordering.{is_eq}
 use Rattle.std.specs.declared.vec.Vec.{Vec}
 use Rattle.std.specs.BTreeMap.{BTreeMap, get}
 use Rattle.blob_digest.specs.Digest.{DigestValue, digest_cmp}
-use Rattle.blob_source.specs.Source.{Blobs, Telling, Grows, bytes_of}
+use Rattle.blob_source.specs.Source.{Blobs, Grows, bytes_of}
 use Rattle.blob_source.specs.Memory.{told_by}
-use Rattle.blob_source.specs.Sink.{PutsAt, PutsResult, HasRight, KeepsRight}
+use Rattle.blob_source.specs.Sink.{PutsAt, HasRight, KeepsRight}
 use Rattle.blob_source.proofs.Digests.{other_digests}
 
 module _ {A : Type 0} (old new : BTreeMap DigestValue (Vec ℕ A)) (d : DigestValue) {v : Vec ℕ A} {bytes : List ℕ} where
@@ -41,7 +41,3 @@ module _ {old new : Blobs} where
 
 pub right_then : {old mid new : Blobs} → KeepsRight old mid → KeepsRight mid new → KeepsRight old new
 right_then first next e b told right = next e b (first e b told right) right
-
--- a result that is put leaves the blobs alone
-pub right_result : {d : DigestValue} {bytes : List ℕ} {old new : Telling} → PutsResult d bytes old new → KeepsRight old.blobs new.blobs
-right_result puts e b told right = ap (λ B. B e) puts.blobs ∙ told

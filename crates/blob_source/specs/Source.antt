@@ -53,19 +53,18 @@ pub record AsksResult (d : DigestValue) (old new : Telling) : Type 0 where
   pub puts : new.puts ≡ old.puts
   pub counts : CountsCall old new
 
--- any calls, one after another, and at most this many
-pub record Asks (most : ℕ) (old new : Telling) : Type 0 where
+-- some calls, one after another: what was told stays, nothing is put, and no count falls
+pub record AsksSome (old new : Telling) : Type 0 where
   pub blobs : Grows old.blobs new.blobs
   pub results : Grows old.results new.results
+  pub puts : new.puts ≡ old.puts
   pub failures : old.failures ≤ new.failures
   pub risen : old.calls ≤ new.calls
-  pub most_calls : new.calls ≤ old.calls + most
-  pub puts : new.puts ≡ old.puts
 
--- some calls, one after another
-pub record AsksSome (old new : Telling) : Type 0 where
-  pub most : ℕ
-  pub asks : Asks most old new
+-- at most so many
+pub record Asks (most : ℕ) (old new : Telling) : Type 0 where
+  pub some : AsksSome old new
+  pub most_calls : new.calls ≤ old.calls + most
 
 -- the bytes of an answer
 abbrev pub bytes_of : {A : Type 0} → Option (Vec ℕ A) → Option (List ℕ)

@@ -1,11 +1,10 @@
 -- Blobs stay under their hashes.
-use Rattle.std.proofs.Common.{◌≡◌, ℕ, zero, suc, ◌<◌, Bool, true, false, cond, not, List, [], ◌∷◌, ◌++◌, reverse, map, length, take, get_or, ◌+◌, bytes_eq, Option, Some, None, option_map, refl, ap, sym, ◌∙◌, subst}
+use Rattle.std.proofs.Common.{◌≡◌, ℕ, zero, suc, Bool, true, false, cond, not, List, [], ◌∷◌, ◌++◌, reverse, map, length, bytes_eq, Option, Some, None, option_map, refl, ap, sym, ◌∙◌, subst}
 use Rattle.std.specs.List.{filter, list_all, AllByRecursion}
 use Rattle.std.specs.Map.{lookup, lookup_entry}
 use Rattle.std.specs.Option.{option_map_or}
 use Rattle.std.proofs.lemmas.Slice.Eq.{bytes_eq-Decides}
 use Rattle.std.proofs.lemmas.Bool.{eqb-true, eq-eqb}
-use Rattle.std.proofs.lemmas.List.{take_more}
 use mathlib.Core.List.{reverse_aux}
 use Rattle.sha2.specs.Sha256.{sha256}
 use Rattle.lru.proofs.CallerLemmas.{Contains-lookup_entry}
@@ -173,12 +172,6 @@ held_is_found found d t h = (elim (bytes_eq (sha256 []) d.hash) as (λ b. bytes_
   | false ↦ λ q held. sized_some d.size (found d.hash) held
 ]) refl h
 
-pub same_hash : (a b : List ℕ) → false ≡ not (bytes_eq a b) → a ≡ b
-same_hash a b h = (elim (bytes_eq a b) as (λ y. bytes_eq a b ≡ y → a ≡ b) [
-  | true ↦ λ t. (bytes_eq-Decides a b).0 t
-  | false ↦ λ t. let h' = rw t at h in absurd cc
-]) refl
-
 -- the hashes of the digests and one more
 pub hashes_push : (ds : List DigestValue) (d : DigestValue) → hashes_of (ds ++ d ∷ []) ≡ hashes_of ds ++ cond (is_empty d) [] (d.hash ∷ [])
 hashes_push [] d = elim (is_empty d) as (λ b. map (λ (x : DigestValue). x.hash) (cond (not b) (d ∷ []) []) ≡ cond b [] (d.hash ∷ [])) [ true ↦ refl | false ↦ refl ]
@@ -186,10 +179,6 @@ hashes_push (e ∷ ds) d = elim (is_empty e) as (λ b. map (λ (x : DigestValue)
   | true ↦ hashes_push ds d
   | false ↦ ap (λ l. e.hash ∷ l) (hashes_push ds d)
 ]
-
--- one more digest of the list, by its index
-pub hashes_more : (ds : List DigestValue) (i : ℕ) (d : DigestValue) → i < length ds → d ≡ get_or ds i d → hashes_of (take (i + 1) ds) ≡ hashes_of (take i ds) ++ cond (is_empty d) [] (d.hash ∷ [])
-hashes_more ds i d h at = ap hashes_of (take_more ds i d h ∙ ap (λ y. take i ds ++ y ∷ []) (sym at)) ∙ hashes_push (take i ds) d
 
 -- what is held is stored, but for no bytes
 pub held_stored : (es : List (List ℕ × Held)) (ds : List DigestValue) → all_held (found_in es) ds ≡ true → all_stored bytes_eq es (hashes_of ds) ≡ true

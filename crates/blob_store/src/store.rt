@@ -3,7 +3,7 @@ ghost use Rattle.std.specs.Prelude.{Err};
 ghost use Rattle.std.specs.Prelude.{IsSome, IfOk, IfErr, OnOk, OnErr, Some, None, option_copied};
 ghost use Rattle.std.specs.Borrow.{sem};
 ghost use Rattle.std.specs.List.{IsDistinct, list_all};
-ghost use Rattle.eviction.specs.Kept.{IsKept, total_cost, touched};
+ghost use Rattle.eviction.specs.Kept.{IsWellKept, total_cost, touched};
 ghost use Rattle.eviction.specs.Pinning.{CanPinMore, pins_of, is_stored, all_pinned};
 ghost use Rattle.eviction.specs.Pinning.{pinned_all, unpinned_all};
 ghost use Rattle.blob_store.specs.Blobs.{is_empty, is_held, all_held, held_under, hashes_of};
@@ -119,7 +119,7 @@ impl<A: Allocator + Copy> BlobStore<A> {
     /// How many bytes the blobs have together. Each stands under its hash.
     pub fn held_bytes(&self) -> u64
         ensures value { result ≡ total_cost 0 self.now.entries }
-        ensures valid { IsKept bytes_eq self.now }
+        ensures valid { IsWellKept bytes_eq self.now }
         ensures hashes { AreBlobs self.now.entries }
     {
         self.blobs.held_bytes()

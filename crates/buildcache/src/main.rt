@@ -5,6 +5,7 @@ use cli::run_words;
 use commands::System;
 use std::alloc::AllocError;
 use std::env;
+use std::fs::File;
 use std::io::{ErrorKind, IsTerminal};
 use std::process::ExitCode;
 
@@ -18,6 +19,13 @@ fn words(rt: &HostRuntime) -> Result<Option<Vec<String>>, AllocError> {
 }
 
 fn main(rt: HostRuntime) -> ExitCode {
+    // The next file gets the number of a closed standard stream: one of these, not a connection, so
+    // that what is written there is refused.
+    let _held = [
+        File::open(&rt, "/dev/null"),
+        File::open(&rt, "/dev/null"),
+        File::open(&rt, "/dev/null"),
+    ];
     match words(&rt) {
         Ok(Some(words)) => ExitCode::from(run_words(
             &rt,

@@ -60,6 +60,9 @@ module _ {A : Type 0} (place : Place) where
   device_refusal r h = subst (λ F. F) (tells r).1 h
 
 module _ {A : Type 0} {a b : ℕ} where
+  pub counts_device : (place : Place) (r : Refusal A) → Counts a b (IsDevice r) → Counts a b (IsRunnerFailure (of_refusal place r))
+  counts_device place r h = subst (λ F. Counts a b F) (sym (tells place r).1) h
+
   pub counts_opening : {T : Type 0} (e : OpenError A) → Counts a b ((i : ℕ) × IsErrOf {T = T} (Err e) (opening.Source i tree.Fetch)) → Counts a b (IsStoreFailure (of_opening e))
   counts_opening (opening.Source i tree.Fetch) h = counts_as (λ f. (i, refl)) (λ e. tt) h
   counts_opening (opening.Source i (tree.Absent p)) h = counts_no (λ e. let is = e.1 in cc) (λ f. f) h

@@ -7,7 +7,7 @@ use Rattle.std.specs.Result.{IsErrAnd}
 use Rattle.std.proofs.lemmas.Result.{err_from_is_err_and}
 use Rattle.blob_digest.specs.Digest.{DigestValue}
 use Rattle.blob_source.specs.Source.{AsksSome, Telling}
-use Rattle.blob_source.proofs.Asking.{asks_none}
+use Rattle.blob_source.proofs.Asking.{some_none}
 use Rattle.plan.specs.Record.{RecordValue, names_of}
 use Rattle.plan.specs.Values.{PlanValue}
 use Rattle.runs.specs.Calls.{HaveAllFinished, IsOpened, kept_digests, record_of}
@@ -52,7 +52,7 @@ module _ {A : Type 0} (y : Yields) (most : ℕ) (plan : PlanValue) (sources : Di
       let p = err_from_is_err_and r exit in
       rw (p.1, p.2) (record {
         came = Err (Opening opening.Memory);
-        builds = record { asked = record { most = 0; asks = asks_none seen.store }; stands = tt; none = λ before h. h; unfailed = refl; unheard = refl };
+        builds = record { asked = some_none seen.store; stands = tt; none = λ before h. h; unfailed = refl; unheard = refl };
         tells = tt;
       })
 

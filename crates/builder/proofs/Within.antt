@@ -14,7 +14,7 @@ use Rattle.builder.specs.declared.fault.Fault.{Fault}
 use Rattle.builder.specs.declared.telling.Told.{Told}
 
 module _ {A : Type 0} (z y : Yields) (most : ℕ) (plan : PlanValue) (sources : DigestValue) (old new : Seen) (within : YieldsNoMore z y) where
-  ran_within : (first last : EngineValue) → Ran A z most plan sources old new first last → Ran A y most plan sources (store_alone old.store) (store_alone new.store) first last
+  abbrev ran_within : (first last : EngineValue) → Ran A z most plan sources old new first last → Ran A y most plan sources (store_alone old.store) (store_alone new.store) first last
   ran_within first last r =
       let built = r.led.built in
       record {

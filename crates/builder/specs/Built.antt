@@ -100,7 +100,7 @@ module _ (A : Type 0) (yields : Yields) (most : ℕ) (plan : PlanValue) (sources
 
   -- A build came to its root: each step has finished, and the store has what it came to. The root
   -- and the record are answered yes by what the store told, and the watcher was told of the end.
-  pub record IsRootOf (first last : EngineValue) (ending : Telling) (b : BuiltValue)
+  pub record ReachesRoot (first last : EngineValue) (ending : Telling) (b : BuiltValue)
       : Type 0 where
     pub end : IsEnd A last new.store b
     pub stored : IsStored new.store last
@@ -122,17 +122,17 @@ module _ (A : Type 0) (yields : Yields) (most : ℕ) (plan : PlanValue) (sources
     pub unfailed : new.failed ≡ old.failed
     pub unheard : new.heard ≡ old.heard
 
-  -- what a build came to: its root, or the refusal of a step or of the root
-  abbrev pub EndsWith : EngineValue → EngineValue → Telling
+  -- what a build came to: its root, or the refusal of a step, met by its own calls, or of the root
+  abbrev pub EndsWith : (first last : EngineValue) → Ran first last
       → Result BuiltValue (BuildPlanError A) → Type 0
-  EndsWith first last ending (Ok b) = IsRootOf first last ending b
-  EndsWith first last ending (Err (Opening error)) = ⊥
-  EndsWith first last ending (Err (Step error)) =
-      IsRefusedBuild A yields new.store most first error.step error.refusal
-  EndsWith first last ending (Err (Root error)) = RefusesRoot last error
+  EndsWith first last ran (Ok b) = ReachesRoot first last ran.ending b
+  EndsWith first last ran (Err (Opening error)) = ⊥
+  EndsWith first last ran (Err (Step error)) = IsRefusedBuild A yields new.store most
+      ran.led.built.led.calls first last error.step error.refusal
+  EndsWith first last ran (Err (Root error)) = RefusesRoot last error
 
   -- what came of the plan: it was refused, or one build of it ran and came to this
   abbrev pub Builds : Result BuiltValue (BuildPlanError A) → Type 0
   Builds (Err (Opening error)) = RefusesPlan error
   Builds came = (first : EngineValue) × (last : EngineValue) × (ran : Ran first last)
-      × EndsWith first last ran.ending came
+      × EndsWith first last ran came

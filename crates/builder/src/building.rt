@@ -93,6 +93,8 @@ pub fn build_plan<A: Allocator + Copy, S: BlobSink<A>, N: Runner<A>, W: Watcher>
         (IsErrAnd result (λ e. IsStoreFailure (fault_of e))) }
     ensures device { IsErrAnd result (λ e. IsRunnerFailure (fault_of e))
         → N.failures runner.old < N.failures runner.new }
+    ensures alone { jobs ≡ 1 → Counts (N.failures runner.old) (N.failures runner.new)
+        (IsErrAnd result (λ e. IsRunnerFailure (fault_of e))) }
 {
     let mut engine = Engine::new(alloc, plan, sources, sink)?;
     build(alloc, &mut engine, sink, runner, watcher, jobs)?;

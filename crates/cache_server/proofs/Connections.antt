@@ -74,15 +74,14 @@ module _ (prefix : List ℕ) (old : CacheValue) (input left more written_before 
   -- at the end of the input
   pub runs_ended : (count : ℕ) (buffer : List ℕ) → count ≡ 0 → Consumes left more (take count buffer) → IsAtEnd more → Runs prefix old input more written_before written now
   runs_ended count buffer zero_is c end =
-      let d : (rest : Option (List ℕ)) × Cuts session.prefix r.read r.before rest = stands_cut session r.read r.before r.stands in
       let e : Consumes left more [] = subst (λ n. Consumes left more (take n buffer)) zero_is c in (
-        d.0,
+        Some r.goes_on.rest,
         record {
           front = r.read;
           told = r.text;
           consumes = Consumes-trans input left more r.read [] r.consumes e;
           appends = r.appends;
-          answered = record { events = r.before; cut = subst (λ z. Cuts z r.read r.before d.0) r.same d.1; answers = subst (λ z. ServesAll old r.before z now) (sym (append-nil r.text)) r.answers };
+          answered = record { events = r.before; cut = r.goes_on.cut; answers = subst (λ z. ServesAll old r.before z now) (sym (append-nil r.text)) r.answers };
           no_further = nothing_further prefix r.read r.before r.goes_on;
           few_left = omega arith;
         },
@@ -90,37 +89,32 @@ module _ (prefix : List ℕ) (old : CacheValue) (input left more written_before 
       )
 
   -- given up between two pieces
-  pub runs_stopped : Keeps left more → (rest : Option (List ℕ)) × RunsBut prefix old input more written_before written now [] [] rest
-  runs_stopped kept =
-      let c : (rest : Option (List ℕ)) × Cuts session.prefix r.read r.before rest = stands_cut session r.read r.before r.stands in (
-        c.0,
-        record {
-          front = r.read;
-          told = r.text;
-          consumes = subst (Consumes input more) (sym (append-nil r.read)) (Consumes-kept input left more r.read r.consumes kept);
-          appends = r.appends;
-          answered = record { events = r.before; cut = subst (λ z. Cuts z r.read r.before c.0) r.same c.1; answers = subst (λ z. ServesAll old r.before z now) (sym (append-nil r.text)) r.answers };
-          no_further = nothing_further prefix r.read r.before r.goes_on;
-          few_left = omega arith;
-        },
-      )
+  pub runs_stopped : Keeps left more → (begun : List ℕ) × RunsBut prefix old input more written_before written now [] [] (Some begun)
+  runs_stopped kept = (
+    r.goes_on.rest,
+    record {
+      front = r.read;
+      told = r.text;
+      consumes = subst (Consumes input more) (sym (append-nil r.read)) (Consumes-kept input left more r.read r.consumes kept);
+      appends = r.appends;
+      answered = record { events = r.before; cut = r.goes_on.cut; answers = subst (λ z. ServesAll old r.before z now) (sym (append-nil r.text)) r.answers };
+      no_further = nothing_further prefix r.read r.before r.goes_on;
+      few_left = omega arith;
+    },
+  )
 
   module _ (piece : List ℕ) (few : length piece ≤ 65536) (read : Consumes left more piece) where
     -- given up before the piece was cut
-    pub runs_unfed : (rest : Option (List ℕ)) × RunsBut prefix old input more written_before written now piece [] rest
-    runs_unfed =
-        let c : (rest : Option (List ℕ)) × Cuts session.prefix r.read r.before rest = stands_cut session r.read r.before r.stands in (
-          c.0,
-          record {
-            front = r.read;
-            told = r.text;
-            consumes = Consumes-trans input left more r.read piece r.consumes read;
-            appends = r.appends;
-            answered = record { events = r.before; cut = subst (λ z. Cuts z r.read r.before c.0) r.same c.1; answers = subst (λ z. ServesAll old r.before z now) (sym (append-nil r.text)) r.answers };
-            no_further = piece_further prefix r.read piece (r.read ++ piece) r.before r.goes_on few refl;
-            few_left = few;
-          },
-        )
+    pub runs_unfed : RunsBut prefix old input more written_before written now piece [] (Some r.goes_on.rest)
+    runs_unfed = record {
+      front = r.read;
+      told = r.text;
+      consumes = Consumes-trans input left more r.read piece r.consumes read;
+      appends = r.appends;
+      answered = record { events = r.before; cut = r.goes_on.cut; answers = subst (λ z. ServesAll old r.before z now) (sym (append-nil r.text)) r.answers };
+      no_further = piece_further prefix r.read piece (r.read ++ piece) r.before r.goes_on few refl;
+      few_left = few;
+    }
 
     module _ (new : SessionValue) (after : CacheValue) (written_more : Option (List ℕ)) (events : List EventValue) (feeds : Feeds session piece events new) where
       -- a piece whose events are all answered
@@ -203,10 +197,3 @@ runs_none prefix old input written = record {
   no_further = nothing_further prefix [] [] (record { rest = []; cut = nothing_cut prefix });
   few_left = omega arith;
 }
-
--- whatever ended a run, some of what was read is answered
-pub some_answered : (prefix : List ℕ) (old : CacheValue) (input left before after : Option (List ℕ)) (new : CacheValue) (e : ConnError) → BreaksOff prefix old input left before after new e
-    → (rest : List ℕ) × (lost : List ℕ) × (cut : Option (List ℕ)) × RunsBut prefix old input left before after new rest lost cut
-some_answered prefix old input left before after new ReadFault (cut, r) = ([], [], cut, r)
-some_answered prefix old input left before after new Memory (rest, cut, r) = (rest, [], cut, r)
-some_answered prefix old input left before after new WriteFault (rest, lost, cut, r) = (rest, lost, cut, r)

@@ -4,7 +4,7 @@ use Rattle.std.proofs.lemmas.List.{append-nil}
 use Rattle.http_core.specs.Event.{EventValue}
 use Rattle.http_core.specs.Stream.{Cuts}
 use Rattle.cache_server.specs.Cache.{CacheValue}
-use Rattle.cache_server.specs.History.{HistoryEntry, Piece, Fail, End, is_end, is_fail, bytes_over, stream_of, has_failed, Gains, Brings, BringsAll, CacheAfter, AnswersTo}
+use Rattle.cache_server.specs.History.{HistoryEntry, Piece, Fail, End, is_end, is_fail, bytes_over, stream_of, has_failed, GainsEvents, Brings, BringsAll, CacheAfter, AnswersTo}
 use Rattle.cache_server.proofs.Histories.{stream_more}
 use Rattle.cache_server.proofs.Serving.{ServesAll, serves_join}
 
@@ -61,11 +61,11 @@ stream_shut k history bytes shut =
 
 pub gains_open : (prefix : List ℕ) (k : ℕ) (history : List HistoryEntry) (bytes : List ℕ) (earlier events : List EventValue) (a b : Option (List ℕ))
     → has_failed k history ≡ false → Cuts prefix (stream_of k history) earlier a → Cuts prefix (stream_of k history ++ bytes) (earlier ++ events) b
-    → Gains prefix k history (Piece k bytes) events
+    → GainsEvents prefix k history (Piece k bytes) events
 gains_open prefix k history bytes earlier events a b open_ c d = (earlier, a, b, c, subst (λ z. Cuts prefix z (earlier ++ events) b) (sym (stream_open k history bytes open_)) d)
 
 -- a piece that adds nothing
 pub gains_none : (prefix : List ℕ) (k : ℕ) (history : List HistoryEntry) (bytes : List ℕ) (earlier : List EventValue) (a : Option (List ℕ))
-    → stream_of k (history ++ Piece k bytes ∷ []) ≡ stream_of k history → Cuts prefix (stream_of k history) earlier a → Gains prefix k history (Piece k bytes) []
+    → stream_of k (history ++ Piece k bytes ∷ []) ≡ stream_of k history → Cuts prefix (stream_of k history) earlier a → GainsEvents prefix k history (Piece k bytes) []
 gains_none prefix k history bytes earlier a same c =
     (earlier, a, a, c, subst (λ z. Cuts prefix z (earlier ++ []) a) (sym same) (subst (λ z. Cuts prefix (stream_of k history) z a) (sym (append-nil earlier)) c))

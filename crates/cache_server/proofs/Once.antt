@@ -5,10 +5,10 @@ use Rattle.http_core.specs.Event.{EventValue}
 use Rattle.http_core.proofs.Cutting.{cut_once}
 use Rattle.cache_server.specs.Cache.{CacheValue}
 use Rattle.cache_server.specs.Answering.{answered_all}
-use Rattle.cache_server.specs.History.{HistoryEntry, Piece, Fail, End, stream_of, Gains, Brings, BringsAll, CacheAfter, AnswersTo}
+use Rattle.cache_server.specs.History.{HistoryEntry, Piece, Fail, End, stream_of, GainsEvents, Brings, BringsAll, CacheAfter, AnswersTo}
 use Rattle.cache_server.proofs.Serving.{ServesAll, text_is, cache_is}
 
-gains_once : (prefix : List ℕ) (k : ℕ) (before : List HistoryEntry) (entry : HistoryEntry) (x y : List EventValue) → Gains prefix k before entry x → Gains prefix k before entry y → x ≡ y
+gains_once : (prefix : List ℕ) (k : ℕ) (before : List HistoryEntry) (entry : HistoryEntry) (x y : List EventValue) → GainsEvents prefix k before entry x → GainsEvents prefix k before entry y → x ≡ y
 gains_once prefix k before entry x y (e, a, b, c, d) (f, g, h, i, j) =
     let s : (e ≡ f) × (a ≡ g) = cut_once prefix (stream_of k before) e f a g c i in
     let t : (e ++ x ≡ f ++ y) × (b ≡ h) = cut_once prefix (stream_of k (before ++ entry ∷ [])) (e ++ x) (f ++ y) b h d j in

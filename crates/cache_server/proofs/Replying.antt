@@ -13,11 +13,11 @@ use Rattle.http_core.specs.Event.{Get, Put}
 use Rattle.action_cache.specs.State.{answer_of}
 use Rattle.cache_server.specs.Cache.{step, found_reply, reply_to, replied, without_body}
 use Rattle.action_cache.specs.declared.error.CacheError.TheVariants as cache
-use Rattle.cache_server.specs.Status.{status_of, IsToldBy, WantsMemory}
+use Rattle.cache_server.specs.Status.{status_of, IsStatusOf, WantsMemory}
 
 -- a change that was made or refused
 pub changed : {T : Type 0} (r : Result T CacheError) (old new : CacheState) (out : Answer × CacheState) (status : ℕ)
-    → OnOk r (out ≡ (done, new)) → IfErr r (IsRefused old out) → OnErr r (new ≡ old) → IsToldBy r status → replied out ≡ (bare status, new)
+    → OnOk r (out ≡ (done, new)) → IfErr r (IsRefused old out) → OnErr r (new ≡ old) → IsStatusOf r status → replied out ≡ (bare status, new)
 changed (Ok x) old new out status made why kept told = ap replied made ∙ ap (λ z. (bare z, new)) (sym told)
 changed (Err e) old new out status made why kept told = by (refusal_of e) why told
   where
@@ -35,25 +35,25 @@ found_result (Some b) = refl
 -- steps of the cache, by what its calls promise
 module _ (old new : CacheState) (h b : List ℕ) where
   pub put_blob_steps : {T : Type 0} (r : Result T CacheError) (area : Area) (status : ℕ) → area ≡ Cas
-      → OnOk r (machine.put_blob by_messages old h b ≡ (done, new)) → IfErr r (IsRefused old (machine.put_blob by_messages old h b)) → OnErr r (new ≡ old) → IsToldBy r status
+      → OnOk r (machine.put_blob by_messages old h b ≡ (done, new)) → IfErr r (IsRefused old (machine.put_blob by_messages old h b)) → OnErr r (new ≡ old) → IsStatusOf r status
       → step old (Put area h b) ≡ (bare status, new)
   unfolding step
   put_blob_steps r area status is made why kept told = ap (λ a. step old (Put a h b)) is ∙ changed r old new (machine.put_blob by_messages old h b) status made why kept told
 
   pub put_result_steps : {T : Type 0} (r : Result T CacheError) (area : Area) (status : ℕ) → area ≡ Ac
-      → OnOk r (machine.put_result by_messages old h b ≡ (done, new)) → IfErr r (IsRefused old (machine.put_result by_messages old h b)) → OnErr r (new ≡ old) → IsToldBy r status
+      → OnOk r (machine.put_result by_messages old h b ≡ (done, new)) → IfErr r (IsRefused old (machine.put_result by_messages old h b)) → OnErr r (new ≡ old) → IsStatusOf r status
       → step old (Put area h b) ≡ (bare status, new)
   unfolding step
   put_result_steps r area status is made why kept told = ap (λ a. step old (Put a h b)) is ∙ changed r old new (machine.put_result by_messages old h b) status made why kept told
 
   pub pin_steps : {T : Type 0} (r : Result T CacheError) (area : Area) (status : ℕ) → area ≡ Pin → b ≡ []
-      → OnOk r (machine.pin by_messages old h ≡ (done, new)) → IfErr r (IsRefused old (machine.pin by_messages old h)) → OnErr r (new ≡ old) → IsToldBy r status
+      → OnOk r (machine.pin by_messages old h ≡ (done, new)) → IfErr r (IsRefused old (machine.pin by_messages old h)) → OnErr r (new ≡ old) → IsStatusOf r status
       → step old (Put area h b) ≡ (bare status, new)
   unfolding step
   pin_steps r area status is none made why kept told = ap (λ a. step old (Put a h b)) is ∙ ap (λ z. step old (Put Pin h z)) none ∙ changed r old new (machine.pin by_messages old h) status made why kept told
 
   pub unpin_steps : {T : Type 0} (r : Result T CacheError) (area : Area) (status : ℕ) → area ≡ Unpin → b ≡ []
-      → OnOk r (machine.unpin by_messages old h ≡ (done, new)) → IfErr r (IsRefused old (machine.unpin by_messages old h)) → OnErr r (new ≡ old) → IsToldBy r status
+      → OnOk r (machine.unpin by_messages old h ≡ (done, new)) → IfErr r (IsRefused old (machine.unpin by_messages old h)) → OnErr r (new ≡ old) → IsStatusOf r status
       → step old (Put area h b) ≡ (bare status, new)
   unfolding step
   unpin_steps r area status is none made why kept told = ap (λ a. step old (Put a h b)) is ∙ ap (λ z. step old (Put Unpin h z)) none ∙ changed r old new (machine.unpin by_messages old h) status made why kept told

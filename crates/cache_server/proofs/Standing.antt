@@ -7,7 +7,7 @@ use Rattle.http_core.specs.Stream.{Cuts}
 use Rattle.http_core.specs.Session.{SessionValue, IsClosed, Leaves}
 use Rattle.http_core.specs.Session as sessions
 use Rattle.cache_server.specs.Cache.{CacheValue}
-use Rattle.cache_server.specs.History.{HistoryEntry, Piece, Fail, End, is_end, is_fail, bytes_over, since_end, until_fail, stream_of, has_failed, Gains, BringsAll, CacheAfter, AnswersTo}
+use Rattle.cache_server.specs.History.{HistoryEntry, Piece, Fail, End, is_end, is_fail, bytes_over, since_end, until_fail, stream_of, has_failed, GainsEvents, BringsAll, CacheAfter, AnswersTo}
 use Rattle.cache_server.specs.Server.{ServerValue, session_at, StandsSo, KeepsSession, ServerStands, StandsOrFails, KeepsOthers, IsSessionFor}
 use Rattle.cache_server.specs.Sessions.{IsClosedAt, ClosesAt}
 use Rattle.cache_server.proofs.Histories.{stream_aside, failed_more, failed_now, stream_ended, failed_ended}
@@ -40,7 +40,7 @@ keeps_cut prefix session k history (same, stands) = subst (λ p. IsCut p (stream
 
 -- a session took a piece
 pub record IsFed (prefix : List ℕ) (k : ℕ) (history : List HistoryEntry) (piece : List ℕ) (events : List EventValue) (after : SessionValue) : Type 0 where
-  pub gains : Gains prefix k history (Piece k piece) events
+  pub gains : GainsEvents prefix k history (Piece k piece) events
   pub keeps : KeepsSession prefix (Some after) k (history ++ Piece k piece ∷ [])
 
 fed_open : (prefix : List ℕ) (k : ℕ) (history : List HistoryEntry) (piece : List ℕ) (earlier events : List EventValue) (before after : SessionValue)
@@ -64,7 +64,7 @@ fed_shut prefix k history piece events before after shut same (closed, (earlier,
     let f : has_failed k (history ++ Piece k piece ∷ []) ≡ true = failed_more k history (Piece k piece) refl refl ∙ shut in
     let c : Cuts prefix (stream_of k history) earlier left = subst (λ z. Cuts z (stream_of k history) earlier left) same cut in
     record {
-      gains = subst (Gains prefix k history (Piece k piece)) (sym t.1) (gains_none prefix k history piece earlier left (stream_shut k history piece shut) c);
+      gains = subst (GainsEvents prefix k history (Piece k piece)) (sym t.1) (gains_none prefix k history piece earlier left (stream_shut k history piece shut) c);
       keeps = (
         p,
         subst (λ b. StandsSo b after (stream_of k (history ++ Piece k piece ∷ []))) (sym f)
@@ -163,11 +163,11 @@ fails_own prefix k history after closed same cut =
     let s : stream_of k (history ++ Fail k ∷ []) ≡ stream_of k history = stream_aside k history (Fail k) refl refl in
     (same, subst (λ b. StandsSo b after (stream_of k (history ++ Fail k ∷ []))) (sym f) (closed, (cut.events, cut.left, subst (λ z. Cuts z (stream_of k (history ++ Fail k ∷ [])) cut.events cut.left) (sym same) (subst (λ z. Cuts prefix z cut.events cut.left) (sym s) cut.cut))))
 
-gains_cut : (prefix : List ℕ) (k : ℕ) (history : List HistoryEntry) (entry : HistoryEntry) (events : List EventValue) → Gains prefix k history entry events → IsCut prefix (stream_of k (history ++ entry ∷ []))
+gains_cut : (prefix : List ℕ) (k : ℕ) (history : List HistoryEntry) (entry : HistoryEntry) (events : List EventValue) → GainsEvents prefix k history entry events → IsCut prefix (stream_of k (history ++ entry ∷ []))
 gains_cut prefix k history entry events (earlier, a, b, c, d) = record { events = earlier ++ events; left = b; cut = d }
 
 pub stands_failed : (opening : CacheValue) (old new : ServerValue) (k : ℕ) (history : List HistoryEntry) (front : List ℕ) (done : List EventValue) (text : List ℕ) (after : SessionValue)
-    → Gains old.prefix k history (Piece k front) done → ServesAll old.cache done text new.cache → new.prefix ≡ old.prefix
+    → GainsEvents old.prefix k history (Piece k front) done → ServesAll old.cache done text new.cache → new.prefix ≡ old.prefix
     → ((j : ℕ) → (j ≡ k → ⊥) → session_at new j ≡ session_at old j) → session_at new k ≡ Some after → after.prefix ≡ old.prefix → IsClosed after
     → ServerStands opening old history → ServerStands opening new (history ++ (Piece k front ∷ Fail k ∷ []))
 stands_failed opening old new k history front done text after gains serves p others at same closed stands =

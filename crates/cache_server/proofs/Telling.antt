@@ -1,18 +1,12 @@
 -- Events answered on a writer.
-use Rattle.std.proofs.Common.{◌≡◌, ℕ, Option, Some, None, List, [], ◌∷◌, ◌++◌, refl, sym, ◌∙◌, ap, subst, append_assoc}
+use Rattle.std.proofs.Common.{◌≡◌, ℕ, Option, List, [], ◌∷◌, ◌++◌, refl, sym, ◌∙◌, ap, subst, append_assoc}
 use Rattle.std.proofs.lemmas.List.{append-nil}
-use Rattle.std.specs.Io.KnownBytes.{Appends, Keeps}
+use Rattle.std.specs.Io.KnownBytes.{Appends}
 use Rattle.std.proofs.KnownBytes.{Appends-nil, Appends-trans}
 use Rattle.http_core.specs.Event.{EventValue}
 use Rattle.cache_server.specs.Cache.{CacheValue}
 use Rattle.cache_server.specs.Writing.{WritesSome, TellsBut}
 use Rattle.cache_server.proofs.Serving.{ServesAll, ServesOne, serves_none, serves_more}
-
-pub appends_kept : (a b c : Option (List ℕ)) (bytes : List ℕ) → Appends a b bytes → Keeps b c → Appends a c bytes
-appends_kept None b c bytes p q = tt
-appends_kept (Some x) None c bytes p q = absurd p
-appends_kept (Some x) (Some y) None bytes p q = absurd q
-appends_kept (Some x) (Some y) (Some z) bytes p q = q ∙ p
 
 -- the first of two texts in part
 pub writes_front : (a b : Option (List ℕ)) (x y : List ℕ) → WritesSome a b x → WritesSome a b (x ++ y)
@@ -62,7 +56,3 @@ told_so_far old now new events left before after t e = record {
   answers = subst (λ z. ServesAll old t.done z new) (sym (append-nil t.text)) (subst (ServesAll old t.done t.text) (sym e) t.answers);
   appends = t.appends;
 }
-
--- what was told is flushed
-unfoldable pub tells_kept : (old new : CacheValue) (events others : List EventValue) (lost : List ℕ) (before mid after : Option (List ℕ)) → TellsBut old events before mid new others lost → Keeps mid after → TellsBut old events before after new others lost
-tells_kept old new events others lost before mid after t k = record { done = t.done; told = t.told; whole = t.whole; answers = t.answers; appends = appends_kept before mid after t.told t.appends k }

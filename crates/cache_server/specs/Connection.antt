@@ -44,10 +44,10 @@ module _ (prefix : List ℕ) (old : CacheValue) (input input_left before after :
   abbrev pub Runs : Type 0
   Runs = (left : Option (List ℕ)) × RunsBut [] [] left × (IsAtEnd input_left ⊎ (left ≡ None))
 
-  -- Where the reader failed all that was read is answered, and without memory only whole answers
-  -- are written.
+  -- Where the reader failed all that was read is answered, and nothing in it closes; without memory
+  -- only whole answers are written.
   abbrev pub BreaksOff : ConnError → Type 0
-  BreaksOff ReadFault = (left : Option (List ℕ)) × RunsBut [] [] left
+  BreaksOff ReadFault = (begun : List ℕ) × RunsBut [] [] (Some begun)
   BreaksOff Memory = (rest : List ℕ) × (left : Option (List ℕ)) × RunsBut rest [] left
   BreaksOff WriteFault =
       (rest : List ℕ) × (lost : List ℕ) × (left : Option (List ℕ)) × RunsBut rest lost left

@@ -50,15 +50,15 @@ unfoldable pub has_failed : ℕ → List HistoryEntry → Bool
 has_failed k history = list_any (is_fail k) (since_end k history)
 
 -- the events that the stream of the connection has with the entry, and hadn't before it
-abbrev pub Gains : List ℕ → ℕ → List HistoryEntry → HistoryEntry → List EventValue → Type 0
-Gains prefix k before entry events =
+abbrev pub GainsEvents : List ℕ → ℕ → List HistoryEntry → HistoryEntry → List EventValue → Type 0
+GainsEvents prefix k before entry events =
     (earlier : List EventValue) × (a : Option (List ℕ)) × (b : Option (List ℕ))
     × Cuts prefix (stream_of k before) earlier a
     × Cuts prefix (stream_of k (before ++ entry ∷ [])) (earlier ++ events) b
 
 -- the events that the entry completes, after the history before it
 abbrev pub Brings : List ℕ → List HistoryEntry → HistoryEntry → List EventValue → Type 0
-Brings prefix before (Piece k bytes) events = Gains prefix k before (Piece k bytes) events
+Brings prefix before (Piece k bytes) events = GainsEvents prefix k before (Piece k bytes) events
 Brings prefix before (Fail k) events = events ≡ []
 Brings prefix before (End k) events = events ≡ []
 

@@ -18,9 +18,9 @@ status_of (incomplete digest) = 404
 
 module _ {T : Type 0} where
   -- the status tells of the change: it was made, or why it was refused
-  abbrev pub IsToldBy : Result T CacheError → ℕ → Type 0
-  IsToldBy (Ok x) status = status ≡ 200
-  IsToldBy (Err e) status = option_map status_of (refusal_of e) ≡ Some status
+  abbrev pub IsStatusOf : Result T CacheError → ℕ → Type 0
+  IsStatusOf (Ok x) status = status ≡ 200
+  IsStatusOf (Err e) status = option_map status_of (refusal_of e) ≡ Some status
 
   -- the change wanted memory
   abbrev pub WantsMemory : Result T CacheError → Type 0

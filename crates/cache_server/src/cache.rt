@@ -7,7 +7,7 @@ ghost use Rattle.http_core.specs.declared.event.Area.TheVariants.{Ac, Cas};
 ghost use Rattle.cache_server.specs.Answer.{text_of};
 ghost use Rattle.cache_server.specs.Answering.{answered};
 ghost use Rattle.cache_server.specs.Cache.{MayWant, applied, empty_cache, found_reply, step};
-ghost use Rattle.cache_server.specs.Status.{IsToldBy, WantsMemory};
+ghost use Rattle.cache_server.specs.Status.{IsStatusOf, WantsMemory};
 
 use crate::answer::Answer;
 use crate::counts::Counts;
@@ -36,7 +36,7 @@ impl<A: Allocator> Model for Cache<A> {
 
 /// The status of a change that was made or refused.
 fn status_of(changed: Result<(), CacheError>) -> Result<u16, AllocError>
-    ensures ok { IfOk result (λ status. IsToldBy changed status) }
+    ensures ok { IfOk result (λ status. IsStatusOf changed status) }
     ensures err { OnErr result (WantsMemory changed) }
 {
     match changed {

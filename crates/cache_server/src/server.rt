@@ -70,6 +70,7 @@ impl<A: Allocator + Copy> Server<A> {
         ensures err { OnErr result ((opening : CacheValue) (history : List HistoryEntry)
             → ServerStands opening self.old history
             → StandsOrFails opening self.old connection piece.now self.new history) }
+        ensures prefix { self.new.prefix ≡ self.old.prefix }
     {
         self.open(alloc, connection)?;
         let mut text = Vec::new(alloc);

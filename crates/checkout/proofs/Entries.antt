@@ -1,6 +1,7 @@
 -- What is written, entry by entry.
-use Rattle.std.proofs.Common.{◌≡◌, ℕ, List, [], ◌∷◌, ◌++◌, refl, sym, ◌∙◌, subst, append_assoc, append-nil, arith, length}
+use Rattle.std.proofs.Common.{◌≡◌, ℕ, List, [], ◌∷◌, ◌++◌, refl, sym, ◌∙◌, subst, append_assoc, append-nil, arith, length, inl, inr}
 use Rattle.std.specs.Prelude.{Result, Ok, Err, OnOk, IfOk}
+use Rattle.blob_digest.specs.Digest.{DigestValue}
 use Rattle.messages.specs.Path.{path_text}
 use Rattle.messages.specs.declared.node.Node.TheVariants.{File, Link, Dir}
 use Rattle.blob_source.specs.Source.{Blobs, Grows}
@@ -9,10 +10,10 @@ use Rattle.tree.specs.Form.{NodeValue}
 use Rattle.tree.specs.FlatTree.{FlatValue}
 use Rattle.tree.proofs.Descent.{under_still}
 use Rattle.checkout.specs.declared.error.CheckoutError.{CheckoutError}
-use Rattle.checkout.specs.Refused.{Refuses, FailsEntry, FailsEntries}
-use Rattle.checkout.specs.Folder.{Works, Written, with_written}
+use Rattle.checkout.specs.Refused.{Refuses, FailsEntry, FailsEntries, FailsCheckout}
+use Rattle.checkout.specs.Folder.{Works, FolderValue, Written, with_written}
 use Rattle.checkout.specs.Folder.Written.{a_folder, a_file, a_link}
-use Rattle.checkout.specs.Written.{place_below, IsWrittenFor, AreWritten, MakesEntry, MakesEntries}
+use Rattle.checkout.specs.Written.{place_below, IsWrittenFor, AreWritten, IsGained, MakesEntry, MakesEntries}
 
 -- what was told stays told
 pub written_still : {B C : Blobs} → Grows B C → (s : Standing NodeValue) (w : Written) → IsWrittenFor B s w → IsWrittenFor C s w
@@ -78,7 +79,7 @@ module _ {F : Type 0} (works : Works F) (folder : List ℕ) (all : FlatValue) wh
 
   -- the next one isn't written
   pub next_fails : {B C : Blobs} {A : Type 0} (refuses : Refuses) (old mid : F) (p : List Name) (s : Standing NodeValue) (left : FlatValue) (e : CheckoutError A) → Grows B C
-      → SoFar works B old mid folder all ((p, s) ∷ left) → FailsEntry refuses C (place_below folder (path_text p)) s e → FailsEntries refuses C folder all e
+      → SoFar works B old mid folder all ((p, s) ∷ left) → FailsEntry refuses C (place_below folder (path_text p)) s e → FailsEntries (IsGained works old) refuses C folder all e
   next_fails refuses old mid p s left e grows so_far fails = record {
     done = so_far.done;
     path = p;
@@ -86,12 +87,35 @@ module _ {F : Type 0} (works : Works F) (folder : List ℕ) (all : FlatValue) wh
     left = left;
     whole = so_far.split;
     written = so_far.made.written;
-    before = all_still grows folder so_far.done so_far.made.written so_far.made.of_entries;
+    of_done = all_still grows folder so_far.done so_far.made.written so_far.made.of_entries;
+    before = (mid, so_far.made.gains);
     fails = fails;
   }
 
   pub all_done : {B : Blobs} (old now : F) → SoFar works B old now folder all [] → MakesEntries works B old now folder all
   all_done {B} old now so_far = subst (MakesEntries works B old now folder) (sym (so_far.split ∙ append-nil so_far.done)) so_far.made
+
+-- ---- what a folder has when an entry isn't written, said otherwise
+
+pub fails_had : {A : Type 0} {has has' : List (List ℕ × Written) → Type 0} {refuses : Refuses} {B : Blobs} {folder : List ℕ} {es : FlatValue} {e : CheckoutError A}
+    → ((ws : List (List ℕ × Written)) → has ws → has' ws) → FailsEntries has refuses B folder es e → FailsEntries has' refuses B folder es e
+fails_had by h = record {
+  done = h.done;
+  path = h.path;
+  standing = h.standing;
+  left = h.left;
+  whole = h.whole;
+  written = h.written;
+  of_done = h.of_done;
+  before = by h.written h.before;
+  fails = h.fails;
+}
+
+pub checkout_had : {A : Type 0} {has has' : FolderValue → Type 0} {refuses : Refuses} {B : Blobs} {d : DigestValue} {folder : List ℕ} {e : CheckoutError A}
+    → ((v : FolderValue) → has v → has' v) → FailsCheckout has refuses B d folder e → FailsCheckout has' refuses B d folder e
+checkout_had by (inl fails) = inl fails
+checkout_had by (inr (es, told, inl fails)) = inr (es, told, inl fails)
+checkout_had {folder = folder} by (inr (es, told, inr fails)) = inr (es, told, inr (fails_had (λ ws. by (record { path = folder; written = ws })) fails))
 
 -- what was made, where the call that made it came to a value
 pub where_ok : {T E F : Type 0} {P Q : Type 0} (r : Result T E) (made : Result T F) → IfOk r (λ value. made ≡ Ok value) → OnOk made P → (P → Q) → OnOk r Q

@@ -29,6 +29,10 @@ pub record Works (Folder : Type 0) : Type 1 where
   -- nothing could be made at the path, for this
   pub refuses : List ℕ → Error → Type 0
 
+-- some folder has this and nothing else
+abbrev pub IsHad : {F : Type 0} → Works F → FolderValue → Type 0
+IsHad {F} works v = (folder : F) × works.has folder v
+
 -- what the folder has becomes this and one thing more
 abbrev pub Gains : {F : Type 0} → Works F → F → F → List ℕ → Written → Type 0
 Gains works old new path w =

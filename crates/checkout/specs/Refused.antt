@@ -12,7 +12,7 @@ use Rattle.tree.specs.Tree.{Name, Standing, a_leaf}
 use Rattle.tree.specs.Form.{NodeValue}
 use Rattle.tree.specs.FlatTree.{FlatValue}
 use Rattle.tree.specs.Unfolded.{IsUnfolded, IsDeep, IsFaultBelow}
-use Rattle.checkout.specs.Folder.{Written}
+use Rattle.checkout.specs.Folder.{FolderValue, Written}
 use Rattle.checkout.specs.Written.{place_below, AreWritten}
 use Rattle.checkout.specs.declared.error.CheckoutError.{CheckoutError}
 use Rattle.checkout.specs.declared.error.CheckoutError.TheVariants.{Missing, Wrong, Malformed}
@@ -37,12 +37,12 @@ FailsContent B d Fetch = Unit {0}
 FailsContent B d Memory = Unit {0}
 FailsContent B d e = ⊥
 
--- why a tree isn't had: a Directory of it isn't told, or it is too deep, unless the source failed
--- or memory ran out
+-- why a tree isn't had, the first reason in the order of paths: a Directory of it isn't told, or it
+-- is too deep, unless the source failed or memory ran out
 abbrev pub FailsTree : {A : Type 0} → Blobs → DigestValue → CheckoutError A → Type 0
-FailsTree B d (Missing e) = IsFaultBelow B d e (missing e)
-FailsTree B d (Wrong e) = IsFaultBelow B d e (wrong e)
-FailsTree B d (Malformed e) = IsFaultBelow B d e (malformed e)
+FailsTree B d (Missing e) = IsFaultBelow B d [] e (missing e)
+FailsTree B d (Wrong e) = IsFaultBelow B d [] e (wrong e)
+FailsTree B d (Malformed e) = IsFaultBelow B d [] e (malformed e)
 FailsTree B d (TooDeep path) = IsDeep B d [] path
 FailsTree B d Fetch = Unit {0}
 FailsTree B d Memory = Unit {0}
@@ -66,22 +66,25 @@ abbrev pub FailsEntry : {A : Type 0} → Refuses → Blobs → List ℕ → Stan
 FailsEntry refuses B place s e = FailsPlace refuses place e
     ⊎ ((d : DigestValue) × (x : Bool) × (s ≡ a_leaf (File d x)) × FailsContent B d e)
 
--- Why entries aren't written: one isn't, and those before it are.
-pub record FailsEntries {A : Type 0} (refuses : Refuses) (B : Blobs) (folder : List ℕ)
-    (entries : FlatValue) (e : CheckoutError A) : Type 0 where
+-- Why entries aren't written: one isn't, and those before it are. `has` says what a folder has
+-- after these.
+pub record FailsEntries {A : Type 0} (has : List (List ℕ × Written) → Type 0) (refuses : Refuses)
+    (B : Blobs) (folder : List ℕ) (entries : FlatValue) (e : CheckoutError A) : Type 0 where
   pub done : FlatValue
   pub path : List Name
   pub standing : Standing NodeValue
   pub left : FlatValue
   pub whole : entries ≡ done ++ (path, standing) ∷ left
   pub written : List (List ℕ × Written)
-  pub before : AreWritten B folder done written
+  pub of_done : AreWritten B folder done written
+  pub before : has written
   pub fails : FailsEntry refuses B (place_below folder (path_text path)) standing e
 
 -- Why the tree under a digest isn't written, the first reason: it isn't had, or the folder isn't
--- taken, or one of the tree's entries isn't written.
-abbrev pub FailsCheckout : {A : Type 0} → Refuses → Blobs → DigestValue → List ℕ → CheckoutError A
-    → Type 0
-FailsCheckout refuses B d folder e = FailsTree B d e
+-- taken, or one of the tree's entries isn't written, while the folder has those before it.
+abbrev pub FailsCheckout : {A : Type 0} → (FolderValue → Type 0) → Refuses → Blobs → DigestValue
+    → List ℕ → CheckoutError A → Type 0
+FailsCheckout has refuses B d folder e = FailsTree B d e
     ⊎ ((entries : FlatValue) × IsUnfolded B d entries
-    × (FailsPlace refuses folder e ⊎ FailsEntries refuses B folder entries e))
+    × (FailsPlace refuses folder e ⊎ FailsEntries
+    (λ written. has (record { path = folder; written = written })) refuses B folder entries e))

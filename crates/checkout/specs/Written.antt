@@ -49,6 +49,11 @@ pub record MakesEntry {F : Type 0} (works : Works F) (B : Blobs) (old new : F) (
   pub gains : (v : FolderValue) → works.has old v
       → works.has new (with_written ((place, written) ∷ []) v)
 
+-- some folder has what the old one has, and this besides
+abbrev pub IsGained : {F : Type 0} → Works F → F → List (List ℕ × Written) → Type 0
+IsGained {F} works old written =
+    (new : F) × ((v : FolderValue) → works.has old v → works.has new (with_written written v))
+
 -- entries were
 pub record MakesEntries {F : Type 0} (works : Works F) (B : Blobs) (old new : F)
     (folder : List ℕ) (entries : FlatValue) : Type 0 where

@@ -3,9 +3,10 @@ ghost use Rattle.blob_digest.specs.Digest.{DigestValue};
 ghost use Rattle.blob_source.specs.Called.{Called, Calls};
 ghost use Rattle.blob_source.specs.Source.{Asks, Blobs, IsBlobUnder};
 ghost use Rattle.tree.specs.FlatTree.{entry_value, path_values};
+ghost use Rattle.tree.specs.TreeError.{Explains, FailsBlob};
 ghost use Rattle.tree.specs.Unfolded.{ExplainsUnfold, IsUnfolded};
-ghost use Rattle.checkout.specs.Folder.{empty_folder};
-ghost use Rattle.checkout.specs.Written.{HoldsTree, MakesEntry, MakesEntries, place_below};
+ghost use Rattle.checkout.specs.Folder.{IsHad, empty_folder};
+ghost use Rattle.checkout.specs.Written.{HoldsTree, IsGained, MakesEntry, MakesEntries, place_below};
 ghost use Rattle.checkout.specs.Refused.{FailsAt, FailsContent, FailsEntry, FailsEntries};
 ghost use Rattle.checkout.specs.Refused.{FailsTree, FailsCheckout, StopsUnfold};
 
@@ -16,7 +17,7 @@ use messages::Path;
 use std::alloc::{AllocError, Allocator};
 use std::io;
 use std::io::ErrorKind;
-use tree::{BlobSource, FetchError, Fetched, FlatEntry, FlatTree, TreeError, fetch_blob, unfold};
+use tree::{BlobSource, FlatEntry, FlatTree, TreeError, fetch_content, unfold};
 
 /// What was made at a path, or why nothing was.
 fn made_at<A: Allocator, T: Drop>(
@@ -38,7 +39,7 @@ fn made_at<A: Allocator, T: Drop>(
 }
 
 /// The content with a digest. Refusals: `Missing` and `Wrong`.
-fn fetch_content<A: Allocator + Copy, S: BlobSource<A>>(
+fn read_content<A: Allocator + Copy, S: BlobSource<A>>(
     alloc: A,
     digest: &Digest,
     source: &mut S,
@@ -49,20 +50,19 @@ fn fetch_content<A: Allocator + Copy, S: BlobSource<A>>(
     ensures called { Calls (Asks 1) (S.tells source.old) (S.tells source.new)
         (IsErrOf result CheckoutError.Fetch) }
 {
-    match fetch_blob(alloc, source, digest) {
-        Ok(Fetched::Missing) => Err(CheckoutError::Missing(*digest)),
-        Ok(Fetched::Wrong) => Err(CheckoutError::Wrong(*digest)),
-        Ok(Fetched::Right(content)) => Ok(content),
-        Err(FetchError::Failed) => Err(CheckoutError::Fetch),
-        Err(FetchError::Memory) => Err(CheckoutError::Memory),
+    match fetch_content(alloc, source, digest) {
+        Ok(content) => Ok(content),
+        Err(error) => Err(error_of(error)),
     }
 }
 
-/// The error that one of unfolding a tree is.
+/// The error that one of unfolding a tree, or of fetching a content, is.
 fn error_of<A: Allocator>(error: TreeError<A>) -> CheckoutError<A>
     requires { StopsUnfold error }
     ensures fails { (B : Blobs) (d : DigestValue)
         → ExplainsUnfold B d [] error → FailsTree B d result }
+    ensures lacks { (B : Blobs) (d : DigestValue)
+        → Explains (FailsBlob B d) error → FailsContent B d result }
     ensures fetch { (result ≡ CheckoutError.Fetch) ↔ (error ≡ TreeError.Fetch) }
 {
     match error {
@@ -123,7 +123,7 @@ fn write_entry<A: Allocator + Copy, S: BlobSource<A>, W: FolderWriter>(
             made_at(alloc, place, made)
         }
         FlatEntry::File { digest, executable } => {
-            let content = fetch_content(alloc, digest, source)?;
+            let content = read_content(alloc, digest, source)?;
             let made = writer.write_file(folder, place, &content, *executable);
             made_at(alloc, place, made)
         }
@@ -141,8 +141,8 @@ fn write_entries<A: Allocator + Copy, S: BlobSource<A>, W: FolderWriter>(
 ) -> Result<(), CheckoutError<A>>
     ensures made { OnOk result (MakesEntries W.works (S.tells source.new).blobs folder.old
         folder.new path.now (path_values entries.items)) }
-    ensures refused { IfErr result (FailsEntries W.works.refuses (S.tells source.new).blobs
-        path.now (path_values entries.items)) }
+    ensures refused { IfErr result (FailsEntries (IsGained W.works folder.old) W.works.refuses
+        (S.tells source.new).blobs path.now (path_values entries.items)) }
     ensures called { Called (S.tells source.old) (S.tells source.new)
         (IsErrOf result CheckoutError.Fetch) }
 {
@@ -169,7 +169,8 @@ pub fn check_out<A: Allocator + Copy, S: BlobSource<A>, W: FolderWriter>(
     ensures written { IfOk result (λ folder.
         HoldsTree (W.works.has folder) (S.tells source.new).blobs root.now path.now) }
     ensures refused { IfErr result
-        (FailsCheckout W.works.refuses (S.tells source.new).blobs root.now path.now) }
+        (FailsCheckout (IsHad W.works) W.works.refuses (S.tells source.new).blobs
+        root.now path.now) }
     ensures called { Called (S.tells source.old) (S.tells source.new)
         (IsErrOf result CheckoutError.Fetch) }
 {

@@ -10,8 +10,6 @@ ghost use Rattle.command_lines.specs.CommandLine.{serve_line, verify_line};
 use clap::{Arg, ArgAction, ArgMatches, Command, Error};
 use std::alloc::{AllocError, Global};
 
-const VERSION: &str = "0.2.0";
-
 /// An option.
 fn optional<'a>(alloc: Global, name: &'static str, value: &'static str) -> Arg<'a>
     ensures rule { rule_of result ≡ optional_option name.now }
@@ -129,7 +127,8 @@ fn program<'a>(alloc: Global) -> Result<Command<'a>, AllocError>
 {
     Command::new(alloc, "buildcache")
         .bin_name("buildcache")?
-        .version(VERSION)
+        // Clap has it to know of `--version`; what is shown is another crate's.
+        .version("")
         .no_binary_name(true)
         .subcommand_required(true)
         .disable_help_subcommand(true)

@@ -28,7 +28,7 @@ on_err (Ok x) h by = h
 on_err (Err e) h by = by h
 
 pub tree_fails : (sees : Sight) (start : ConnectionValue) (address : List ℕ) (digest : DigestValue) (folder : List ℕ) (told : Telling)
-    (error : CheckoutError Global) (e : CommandError) → ∥ IsToldOver start told ∥₁ → FailsCheckout sees.unwritten told.blobs digest folder error
+    (error : CheckoutError Global) (e : CommandError) → ∥ IsToldOver start told ∥₁ → FailsCheckout sees.holds sees.unwritten told.blobs digest folder error
     → (e ≡ Memory) ⊎ TellsTree start address error e → FailsGetTree sees start address digest folder e
 tree_fails sees start address digest folder told error e over fails (inl memory) = in_memory memory
 tree_fails sees start address digest folder told error e over fails (inr tells) = in_tree told error over fails tells

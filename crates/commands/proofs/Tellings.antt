@@ -14,7 +14,7 @@ use Rattle.blob_source.specs.Source.{Blobs, GrowsAt, bytes_of}
 use Rattle.blob_source.specs.Sink.{IsPut, PutsAt}
 use Rattle.blob_source.specs.declared.source.FetchError.{FetchError}
 use Rattle.http_core.specs.declared.event.Area.{Area}
-use Rattle.remote.specs.Folder.{FailsAt, IsNothingAt, IsReadAt, LooksInFolder, entry_path}
+use Rattle.remote.specs.Folder.{IsNothingAt, IsReadAt, LooksInFolder, entry_path}
 use Rattle.blob_source.specs.declared.source.FetchError.TheVariants.{Failed, Memory}
 use Rattle.remote.specs.Line.{ConnectionValue, Gets, Puts, get, put}
 use Rattle.remote.specs.Remote.{LooksUp, Stores}
@@ -272,4 +272,4 @@ pub failed_on : (sees : Sight) (folder part : List ℕ) (d : DigestValue) (error
 failed_on sees folder part d error new_error before after (Ok answer) looks was e is = was e (sym (looks.unfailed (answered answer)) ∙ is)
 failed_on sees folder part d error new_error before after (Err Memory) looks was e is = was e (sym (looks.unfailed refused_otherwise) ∙ is)
 failed_on sees folder part d error new_error before after (Err Failed) looks was e is =
-    record { part = part; digest = d; fails = of_some (FailsAt sees.fails (entry_path folder part d)) new_error e (looks.fault refl) is }
+    record { part = part; digest = d; fails = of_some (sees.fails (entry_path folder part d)) new_error e (looks.fault refl) is }

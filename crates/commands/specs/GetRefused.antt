@@ -78,7 +78,7 @@ pub data FailsGetTree (sees : Sight) (start : ConnectionValue) (address : List �
     (digest : DigestValue) (folder : List ℕ) (e : CommandError) : Type 0 where
   in_memory : e ≡ Memory → FailsGetTree sees start address digest folder e
   in_tree : (told : Telling) (error : CheckoutError Global) → ∥ IsToldOver start told ∥₁
-      → FailsCheckout sees.unwritten told.blobs digest folder error
+      → FailsCheckout sees.holds sees.unwritten told.blobs digest folder error
       → TellsTree start address error e → FailsGetTree sees start address digest folder e
 
 -- ---- the command

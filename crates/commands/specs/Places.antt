@@ -8,7 +8,7 @@ use Rattle.blob_source.specs.declared.source.FetchError.{FetchError}
 use Rattle.http_core.specs.declared.event.Area.{Area}
 use Rattle.http_core.specs.declared.event.Area.TheVariants.{Ac, Cas}
 use Rattle.remote.specs.Flow.{unknown}
-use Rattle.remote.specs.Folder.{FailsAt, IsNothingAt, entry_path}
+use Rattle.remote.specs.Folder.{IsNothingAt, entry_path}
 use Rattle.remote.specs.Folder as folders
 use Rattle.remote.specs.Line.{ConnectionValue, Gets, Puts, RefusesRequest, Request}
 use Rattle.remote.specs.Remote.{blobs_of, results_of}
@@ -71,7 +71,7 @@ LacksInFolder sees folder (ActionResult d) =
 pub record FailsInStore (sees : Sight) (folder : List ℕ) (e : FileError Global) : Type 0 where
   pub part : List ℕ
   pub digest : DigestValue
-  pub fails : FailsAt sees.fails (entry_path folder part digest) e
+  pub fails : sees.fails (entry_path folder part digest) e
 
 -- What a store in this folder tells, what it keeps as nothing, and its last failure are of files
 -- there.

@@ -44,7 +44,7 @@ pub record LacksTree (sees : Sight) (start : ConnectionValue) (digest : DigestVa
   pub told : Telling
   pub over : ∥ IsToldOver start told ∥₁
   pub error : CheckoutError Global
-  pub fails : FailsCheckout sees.unwritten told.blobs digest folder error
+  pub fails : FailsCheckout sees.holds sees.unwritten told.blobs digest folder error
   pub lacks : PrintsLack start error old new
 
 -- one of both, and the line of a blob stands without a note

@@ -114,7 +114,8 @@ pub trait World {
         ensures written { OnOk result
             (HoldsTree sees.holds (S.tells source.new).blobs root.now path.now) }
         ensures refused { IfErr result
-            (FailsCheckout sees.unwritten (S.tells source.new).blobs root.now path.now) }
+            (FailsCheckout sees.holds sees.unwritten (S.tells source.new).blobs
+            root.now path.now) }
         ensures called { Called (S.tells source.old) (S.tells source.new)
             (IsErrOf result CheckoutError.Fetch) };
 
@@ -214,7 +215,7 @@ where
         root: &Digest,
         source: &mut S,
     ) -> Result<(), CheckoutError<Global>> {
-        let _folder = check_out(alloc, &SystemWriter(self.0), path, root, source)?;
+        check_out(alloc, &SystemWriter(self.0), path, root, source)?;
         Ok(())
     }
 

@@ -13,7 +13,7 @@ use Rattle.std.proofs.lemmas.Map.Keys.{IsDistinct-head, IsDistinct-tail}
 use Rattle.eviction.specs.Kept.{Held, Kept, IsTallied, is_pinned, cost_of, total_cost, pinned_cost, others}
 use Rattle.eviction.specs.Entering.{least, without_first, without_last, new_entry, can_enter, evicted, entered}
 use Rattle.eviction.specs.Pinning.{is_among}
-use Rattle.eviction.specs.Victims.{Stands, part_if_pinned, victims, without_keys}
+use Rattle.eviction.specs.Victims.{IsStanding, part_if_pinned, victims, without_keys}
 use Rattle.eviction.proofs.Filters.{filter_all, filter-reverse}
 use Rattle.eviction.proofs.Distinct.{filter_distinct, reverse_distinct}
 use Rattle.eviction.proofs.Costs.{total-reverse, pinned_le}
@@ -297,7 +297,7 @@ module _ {K : Type 0} (eq : K → K → Bool) (laws : IsEquivalence eq) (s : Kep
         ∙ total-reverse s.overhead (filter is_pinned (reverse rest)) ∙ pinned_rest
 
   -- the rest of a step, by plain numbers and lists
-  module _ (d : IsDistinct eq (keys_of s.entries)) (held pinned old_cost : ℕ) (t : IsTallied s.entries s.limit s.overhead held pinned) (st : Stands eq k s.overhead s.entries old_cost new.1.pins)
+  module _ (d : IsDistinct eq (keys_of s.entries)) (held pinned old_cost : ℕ) (t : IsTallied s.entries s.limit s.overhead held pinned) (st : IsStanding eq k s.overhead s.entries old_cost new.1.pins)
       (fits : length bytes + s.overhead ≤ s.limit - (pinned - part_if_pinned new.1.pins old_cost)) where
     rest_pinned : pinned - part_if_pinned new.1.pins old_cost ≡ pinned_cost s.overhead rest
     rest_pinned = let a = t.pinned_is in let b = st.pinned_are in omega arith
@@ -354,10 +354,10 @@ module _ {K : Type 0} (eq : K → K → Bool) (laws : IsEquivalence eq) (s : Kep
       }
 
   -- the same, as the code's numbers are
-  module _ (d : IsDistinct eq (keys_of s.entries)) (held pinned old_cost pins part cost : ℕ) (t : IsTallied s.entries s.limit s.overhead held pinned) (st : Stands eq k s.overhead s.entries old_cost pins)
+  module _ (d : IsDistinct eq (keys_of s.entries)) (held pinned old_cost pins part cost : ℕ) (t : IsTallied s.entries s.limit s.overhead held pinned) (st : IsStanding eq k s.overhead s.entries old_cost pins)
       (part_is : part ≡ part_if_pinned pins old_cost) (cost_is : cost ≡ length bytes + s.overhead) (fits : cost ≤ s.limit - (pinned - part)) where
-    st' : Stands eq k s.overhead s.entries old_cost new.1.pins
-    st' = subst (Stands eq k s.overhead s.entries old_cost) st.pins_are st
+    st' : IsStanding eq k s.overhead s.entries old_cost new.1.pins
+    st' = subst (IsStanding eq k s.overhead s.entries old_cost) st.pins_are st
 
     fits' : length bytes + s.overhead ≤ s.limit - (pinned - part_if_pinned new.1.pins old_cost)
     fits' = rw (← cost_is, ← st.pins_are, ← part_is) fits
@@ -378,7 +378,7 @@ module _ {K : Type 0} (eq : K → K → Bool) (laws : IsEquivalence eq) (s : Kep
       tallied = rw (part_is, part'_is, cost_is, st.pins_are) (tallied_after d held pinned old_cost t st' fits' x freed after (rw (← cost_is) excess) left sum)
 
 -- where the costs of a new entry and the pinned others don't fit
-pub refused : {K : Type 0} (eq : K → K → Bool) (s : Kept K) (k : K) (bytes : List ℕ) (held pinned old_cost pins part cost : ℕ) → IsTallied s.entries s.limit s.overhead held pinned → Stands eq k s.overhead s.entries old_cost pins
+pub refused : {K : Type 0} (eq : K → K → Bool) (s : Kept K) (k : K) (bytes : List ℕ) (held pinned old_cost pins part cost : ℕ) → IsTallied s.entries s.limit s.overhead held pinned → IsStanding eq k s.overhead s.entries old_cost pins
     → part ≡ part_if_pinned pins old_cost → cost ≤ length bytes + s.overhead → s.limit - (pinned - part) < cost → can_enter eq s k bytes ≡ false
 refused eq s k bytes held pinned old_cost pins part cost t st part_is cost_is over =
     let a = st.pinned_are in

@@ -10,7 +10,7 @@ use Rattle.eviction.specs.Kept.{Held, moved_to_front, others, total_cost, bytes_
 use Rattle.eviction.specs.Entering.{stored_key, cost_under}
 use Rattle.eviction.proofs.Costs.{total_others, pinned_others}
 use Rattle.eviction.specs.Pinning.{is_among, is_stored, pins_of}
-use Rattle.eviction.specs.Victims.{Stands, without_keys}
+use Rattle.eviction.specs.Victims.{IsStanding, without_keys}
 use Rattle.eviction.specs.View.{held, held_all}
 use Rattle.eviction.proofs.Filters.{filter-map, filter-filter, filter_same}
 use Rattle.eviction.proofs.Distinct.{remove_others, others_absent, promoted_front}
@@ -111,7 +111,7 @@ module _ {K A : Type 0} where
   cost_found overhead eq k es = ap (λ o. option_map_or (λ (h : Held). length h.bytes + overhead) o 0) (lookup_held (eq k) es) ∙ found_cost overhead (lookup (eq k) es)
 
   pub stands : (eq : K → K → Bool) (laws : IsEquivalence eq) (k : K) (overhead : ℕ) (es : List (K × Entry A)) (o : Option (Entry A)) → IsDistinct eq (keys_of es) → o ≡ lookup (eq k) es
-      → Stands eq k overhead (held_all es) (option_map_or (λ (v : Entry A). length v.bytes + overhead) o 0) (option_map_or (λ (v : Entry A). v.pins) o 0)
+      → IsStanding eq k overhead (held_all es) (option_map_or (λ (v : Entry A). length v.bytes + overhead) o 0) (option_map_or (λ (v : Entry A). v.pins) o 0)
   stands eq laws k overhead es o d e =
       let d' = distinct_held eq es d in
       let pins : option_map_or (λ (v : Entry A). v.pins) o 0 ≡ pins_of eq (held_all es) k = pins_found o ∙ ap (λ q. option_map_or (λ (h : Held). h.pins) (option_map held q) 0) e ∙ ap (λ q. option_map_or (λ (h : Held). h.pins) q 0) (sym (lookup_held (eq k) es)) in

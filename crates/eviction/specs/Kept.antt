@@ -60,7 +60,7 @@ module _ {K : Type 0} where
     bytes_under es k = option_map (λ h. h.bytes) (lookup (eq k) es)
 
     -- what holds of every store: no two keys are equal, and the costs fit the limit
-    pub record IsKept (s : Kept K) : Type 0 where
+    pub record IsWellKept (s : Kept K) : Type 0 where
       pub distinct : IsDistinct eq (keys_of s.entries)
       pub fits : total_cost s.overhead s.entries ≤ s.limit
 

@@ -30,7 +30,7 @@ module _ {K : Type 0} (eq : K → K → Bool) where
 
 module _ {K : Type 0} where
   -- what stands under a key, and what the others cost
-  pub record Stands (eq : K → K → Bool) (k : K) (overhead : ℕ) (es : List (K × Held))
+  pub record IsStanding (eq : K → K → Bool) (k : K) (overhead : ℕ) (es : List (K × Held))
       (cost pins : ℕ) : Type 0 where
     pub pins_are : pins ≡ pins_of eq es k
     pub rest_are : cost + total_cost overhead (others eq k es) ≡ total_cost overhead es

@@ -2,7 +2,7 @@ ghost use Rattle.std.specs.Prelude.{◌≡◌, ◌↔◌, ◌⊎◌, ◌<◌, �
 ghost use Rattle.std.specs.Prelude.{IsSome, IfErr, OnOk, OnErr, option_copied};
 ghost use Rattle.std.specs.Borrow.{sem};
 ghost use Rattle.std.specs.List.{IsDistinct};
-ghost use Rattle.eviction.specs.Kept.{IsKept, total_cost, touched, bytes_under};
+ghost use Rattle.eviction.specs.Kept.{IsWellKept, total_cost, touched, bytes_under};
 ghost use Rattle.eviction.specs.Entering.{entered, can_enter};
 ghost use Rattle.eviction.specs.Pinning.{CanPinMore, pins_of, is_stored, all_stored, all_pinned};
 ghost use Rattle.eviction.specs.Pinning.{pinned_all, unpinned_all};
@@ -69,7 +69,7 @@ impl<K: Copy + Eq + Hash, A: Allocator + Copy> Bounded<K, A> {
     /// The sum of the entries' costs. It is never above the limit, and no two keys are equal.
     pub fn held_bytes(&self) -> u64
         ensures value { result ≡ total_cost self.now.overhead self.now.entries }
-        ensures valid { IsKept K.eq self.now }
+        ensures valid { IsWellKept K.eq self.now }
     {
         let _distinct = self.cache.len();
         self.held

@@ -2,7 +2,7 @@ ghost use Rattle.std.specs.Prelude.{◌≡◌, ◌<◌, ◌^◌};
 ghost use Rattle.std.specs.Map.{keys_of};
 ghost use Rattle.std.specs.List.{IsDistinct};
 ghost use Rattle.eviction.specs.Kept.{total_cost};
-ghost use Rattle.eviction.specs.Victims.{Stands, part_if_pinned};
+ghost use Rattle.eviction.specs.Victims.{IsStanding, part_if_pinned};
 ghost use Rattle.eviction.specs.View.{held_all};
 
 use crate::shared::Shared;
@@ -34,7 +34,7 @@ pub(crate) fn standing_under<K: Copy + Eq + Hash, A: Allocator>(
     overhead: u64,
 ) -> Standing
     requires { total_cost overhead (held_all cache.now.entries) < 2 ^ 63 }
-    ensures stands { Stands K.eq key.now overhead (held_all cache.now.entries)
+    ensures stands { IsStanding K.eq key.now overhead (held_all cache.now.entries)
         result.cost result.pins }
     ensures distinct { IsDistinct K.eq (keys_of (held_all cache.now.entries)) }
 {

@@ -14,8 +14,8 @@ use Rattle.canonical.proofs.Codec.{IsMessage, codec, codec_as}
 use Rattle.messages.specs.declared.error.MessageError.{MessageError}
 use Rattle.messages.specs.Told.{told}
 use Rattle.std.proofs.Common.{cond}
-use Rattle.wire.specs.Steps.{◌>>=◌, Gives}
-use Rattle.std.specs.Prelude.{◌↔◌, IsOk, IsErr}
+use Rattle.wire.specs.Steps.{◌>>=◌}
+use Rattle.std.specs.Prelude.{IsOk, IsErr}
 use Rattle.canonical.specs.Told.{each}
 use Rattle.canonical.specs.Fields.{element_fields, elements_at}
 use Rattle.canonical.proofs.FieldKinds.{elements_column, elements_again, elements_are}
@@ -73,10 +73,6 @@ ordered_of_names files directories symlinks h =
     rw (a, b, c, n1, n2, n3) refl
 
 -- what the names' rules answer
-pub names_answer : (files directories symlinks : List (List ℕ)) (r : Result (Unit {0}) MessageError) → Gives (λ x. x) r (names_ordered files directories symlinks) → IsOk r ↔ AreNames files directories symlinks
-names_answer files directories symlinks (Ok tt) given = (λ _. names_of_ordered files directories symlinks given, λ _. refl)
-names_answer files directories symlinks (Err e) given = (λ h. absurd (cc h), λ n. let o = ordered_of_names files directories symlinks n in absurd (cc (sym o ∙ given)))
-
 pub err_not_ok : {A E : Type 0} (r : Result A E) → IsErr r → IsOk r → ⊥
 err_not_ok (Ok x) e o = cc e
 err_not_ok (Err x) e o = cc o

@@ -1,6 +1,6 @@
 -- Names, by their test and by their rules.
-use Rattle.std.proofs.Common.{◌≡◌, ◌≢◌, ℕ, ◌<◌, ◌≤◌, Bool, true, false, ltb, eqb, not, ◌&&◌, List, [], ◌∷◌, length, ◌+◌, Result, Ok, Err, refl, sym, ap, subst, ◌∙◌, arith}
-use Rattle.std.specs.Prelude.{◌↔◌, IsTrue, IfOk}
+use Rattle.std.proofs.Common.{◌≡◌, ◌≢◌, ℕ, ◌<◌, ◌≤◌, Bool, true, false, ltb, eqb, not, ◌&&◌, List, [], ◌∷◌, length, ◌+◌, Result, Ok, Err, refl, ap, subst, arith}
+use Rattle.std.specs.Prelude.{IfOk}
 use Rattle.std.proofs.lemmas.Bool.{eqb-true}
 use Rattle.std.proofs.lemmas.Bool.Decides.{nat_tests}
 use Rattle.std.specs.List.{list_any}
@@ -33,16 +33,16 @@ not_dots (a ∷ []) h k = one_dot a (eqb a 46) refl h
 not_dots (a ∷ b ∷ []) h k = two_dots a b (eqb a 46) (eqb b 46) refl refl k
 not_dots (a ∷ b ∷ c ∷ rest) h k = refl
 
-some_byte : (n : ℕ) → not (eqb n 0) ≡ true → 0 < n
+pub some_byte : (n : ℕ) → not (eqb n 0) ≡ true → 0 < n
 some_byte n h = grind (arith, nat_tests)
 
-byte_some : (n : ℕ) → 0 < n → not (eqb n 0) ≡ true
+pub byte_some : (n : ℕ) → 0 < n → not (eqb n 0) ≡ true
 byte_some n h = grind (arith, nat_tests)
 
-few : (n m : ℕ) → ltb n (m + 1) ≡ true → n ≤ m
+pub few : (n m : ℕ) → ltb n (m + 1) ≡ true → n ≤ m
 few n m h = grind (arith, nat_tests)
 
-few_test : (n m : ℕ) → n ≤ m → ltb n (m + 1) ≡ true
+pub few_test : (n m : ℕ) → n ≤ m → ltb n (m + 1) ≡ true
 few_test n m h = grind (arith, nat_tests)
 
 pub IsSegment-from : (text : List ℕ) → is_segment text ≡ true → IsSegment text
@@ -71,13 +71,6 @@ name_test text h = and_both _ _ h.utf8 (is_segment-from text h.segment)
 
 pub IsName-from : (text : List ℕ) → (is_utf8 text && is_segment text) ≡ true → IsName text
 IsName-from text h = record { utf8 = and_first (is_utf8 text) (is_segment text) h; segment = IsSegment-from text (and_second (is_utf8 text) (is_segment text) h) }
-
--- what the test of a text says
-pub name_answer : (text : List ℕ) (b : Bool) → IsUtf8 text → b ≡ is_segment text → IsTrue b ↔ IsName text
-name_answer text b utf8 e = (
-  λ t. record { utf8 = is_utf8-from_IsUtf8 text utf8; segment = IsSegment-from text (sym e ∙ t) },
-  λ h. e ∙ is_segment-from text h.segment,
-)
 
 -- ---- a name that is read
 

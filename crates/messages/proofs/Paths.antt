@@ -1,32 +1,27 @@
 -- Paths, by their text and by their names.
-use Rattle.std.proofs.Common.{◌≡◌, ◌≢◌, ℕ, suc, ◌+◌, ◌<◌, ◌≤◌, Bool, true, false, cond, ltb, eqb, ◌&&◌, List, [], ◌∷◌, ◌++◌, length, take, drop, get_or, Result, Ok, Err, refl, sym, ap, subst, ◌∙◌, append_assoc, add-one, arith, lit<, lit≤}
-use Rattle.std.specs.Prelude.{◌↔◌, IsTrue, IfOk, nat_eq}
-use Rattle.std.specs.Cmp.Lexicographic.{pointwise, bytes_decides}
-use Rattle.std.proofs.lemmas.Bool.{eqb-true, eq-eqb}
-use Rattle.std.proofs.lemmas.Bool.Decides.{nat_tests}
+use Rattle.std.proofs.Common.{◌≡◌, ◌≢◌, ℕ, suc, ◌+◌, ◌<◌, ◌≤◌, Bool, true, false, cond, ltb, eqb, ◌&&◌, List, [], ◌∷◌, ◌++◌, length, take, drop, get_or, Result, Ok, Err, refl, sym, ap, subst, ◌∙◌, add-one, arith, lit<, lit≤}
+use Rattle.std.specs.Prelude.{◌↔◌, IsTrue, IfOk}
+use Rattle.std.proofs.lemmas.Bool.{eqb-true}
 use Rattle.std.specs.List.{All, AllByRecursion, list_all, onto_first}
 use Rattle.std.proofs.lemmas.List.Splits.{join_with_byte-slice_split}
 use Rattle.std.specs.Str.{IsUtf8, is_utf8}
 use Rattle.std.proofs.lemmas.Str.{is_utf8-from_IsUtf8, IsUtf8-from_is_utf8, IsUtf8-append, IsUtf8-nil, IsUtf8-from_ascii, IsUtf8-take, IsUtf8-drop, IsCharBoundary-at_seam, IsCharBoundary-after_ascii}
-use Rattle.std.proofs.Math.Seq.{take-append_seam, drop-append_seam, get_or-append_seam}
-use Rattle.std.proofs.lemmas.List.{length-append, take-append-drop}
+use Rattle.std.proofs.Math.Seq.{take-append_seam, get_or-append_seam}
+use Rattle.std.proofs.lemmas.List.{length-append}
 use Rattle.std.proofs.lemmas.List.Elements.{All-cons, All-nil}
 use Rattle.std.proofs.lemmas.Str.Ascii.{IsAscii-from_all}
 use Rattle.messages.specs.Gives.{GivesUnlessMemory}
 use Rattle.messages.specs.declared.error.MessageError.{MessageError}
 use Rattle.messages.specs.declared.error.MessageError.TheVariants.{BadPath}
 use Rattle.messages.specs.Name.{IsName, is_segment}
-use Rattle.messages.specs.Path.{IsPath, LiesUnder, is_path, parts_of, path_of, path_text, path_below, begins_with_slash}
+use Rattle.messages.specs.Path.{IsPath, is_path, parts_of, path_of, path_text, path_below}
 use Rattle.messages.proofs.Choices.{chosen_ok, and_first, and_second, and_both, differ}
-use Rattle.messages.proofs.Names.{IsSegment-from, is_segment-from, utf8_test}
+use Rattle.messages.proofs.Names.{IsSegment-from, is_segment-from, utf8_test, few, few_test}
 
 -- ---- cutting and joining
 
 pub text_of_parts : (text : List ℕ) → path_text (parts_of text) ≡ text
 text_of_parts text = join_with_byte-slice_split 47 text
-
-onto : (b : ℕ) (xs ys : List (List ℕ)) (x : List ℕ) → onto_first b ((x ∷ xs) ++ ys) ≡ onto_first b (x ∷ xs) ++ ys
-onto b xs ys x = refl
 
 pub data Some_part (parts : List (List ℕ)) : Type 0 where
   some_part : (first : List ℕ) (rest : List (List ℕ)) → parts ≡ first ∷ rest → Some_part parts
@@ -131,12 +126,6 @@ each_segment : (names : List (List ℕ)) → AllByRecursion IsName names → lis
 each_segment [] h = refl
 each_segment (name ∷ names) h = and_both (is_segment name) (list_all is_segment names) (is_segment-from name h.0.segment) (each_segment names h.1)
 
-few : (n m : ℕ) → ltb n (m + 1) ≡ true → n ≤ m
-few n m h = grind (arith, nat_tests)
-
-pub few_test : (n m : ℕ) → n ≤ m → ltb n (m + 1) ≡ true
-few_test n m h = grind (arith, nat_tests)
-
 count_some : (parts : List (List ℕ)) → Some_part parts → 0 < length parts
 count_some parts (some_part first rest e) = let l = ap length e in omega arith
 
@@ -188,50 +177,6 @@ path_read_found text (Err e) given = tt
 pub one_name : (name : List ℕ) → IsName name → IsPath (name ∷ [])
 one_name name h = record { some = lit< tt; few = lit≤ tt; each = (h, tt) }
 
--- ---- paths under paths
-
-bytes_same : (xs ys : List ℕ) → pointwise nat_eq xs ys ≡ true → xs ≡ ys
-bytes_same xs ys h = (bytes_decides xs ys).0 h
-
-same_bytes : (xs ys : List ℕ) → xs ≡ ys → pointwise nat_eq xs ys ≡ true
-same_bytes xs ys h = (bytes_decides xs ys).1 h
-
-slash_first : (rest : List ℕ) → begins_with_slash rest ≡ true → rest ≡ 47 ∷ drop 1 rest
-slash_first [] h = absurd cc
-slash_first (b ∷ rest) h = ap (λ (x : ℕ). x ∷ rest) (eqb-true b 47 h)
-
-path_text-append : (above : List (List ℕ)) (name : List ℕ) (rest : List (List ℕ)) → Some_part above → path_text (above ++ name ∷ rest) ≡ path_text above ++ 47 ∷ path_text (name ∷ rest)
-path_text-append [] name rest (some_part first more e) = absurd cc
-path_text-append (x ∷ []) name rest s = refl
-path_text-append (x ∷ y ∷ above) name rest s =
-    ap (λ (l : List ℕ). x ++ (47 ∷ l)) (path_text-append (y ∷ above) name rest (some_part y above refl)) ∙ sym (append_assoc x (47 ∷ path_text (y ∷ above)) (47 ∷ path_text (name ∷ rest)))
-
-under_text : (text above : List ℕ) → LiesUnder (parts_of text) (parts_of above) → (more : List ℕ) × (text ≡ above ++ 47 ∷ more)
-under_text text above (name, rest, e) =
-    (path_text (name ∷ rest), sym (text_of_parts text) ∙ ap path_text e ∙ path_text-append (parts_of above) name rest (part_there above) ∙ ap (λ (l : List ℕ). l ++ 47 ∷ path_text (name ∷ rest)) (text_of_parts above))
-
-text_under : (text above more : List ℕ) → text ≡ above ++ 47 ∷ more → LiesUnder (parts_of text) (parts_of above)
-text_under text above more e = elim (part_there more) [ some_part name rest is ↦ (name, rest, ap parts_of e ∙ parts-seam above more ∙ ap (λ (l : List (List ℕ)). parts_of above ++ l) is) ]
-
-pub under_answer : (text above rest : List ℕ) (b : Bool) → pointwise nat_eq (take (length above) text) above ≡ true → rest ≡ drop (length above) text → b ≡ begins_with_slash rest → IsTrue b ↔ LiesUnder (parts_of text) (parts_of above)
-under_answer text above rest b begins behind e = (
-  λ t.
-      let front = bytes_same (take (length above) text) above begins in
-      let slash = slash_first rest (sym e ∙ t) in
-      let whole : text ≡ above ++ rest = sym (take-append-drop (length above) text) ∙ rw (front, ← behind) refl in
-      text_under text above (drop 1 rest) (whole ∙ ap (λ (l : List ℕ). above ++ l) slash),
-  λ u.
-      let w = under_text text above u in
-      let tail : rest ≡ 47 ∷ w.0 = behind ∙ ap (drop (length above)) w.1 ∙ drop-append_seam above (47 ∷ w.0) in
-      e ∙ ap begins_with_slash tail,
-)
-
-pub not_under : (text above : List ℕ) → pointwise nat_eq (take (length above) text) above ≡ false → LiesUnder (parts_of text) (parts_of above) → ⊥
-not_under text above other u =
-    let w = under_text text above u in
-    let front : take (length above) text ≡ above = ap (take (length above)) w.1 ∙ take-append_seam above (47 ∷ w.0) in
-    cc (sym (same_bytes (take (length above) text) above front) ∙ other)
-
 -- ---- one more name
 
 more_names : (path : List (List ℕ)) (name : List ℕ) → AllByRecursion IsName path → IsName name → AllByRecursion IsName (path ++ name ∷ [])
@@ -250,6 +195,3 @@ parts_below path text name e is = parts-seam text name ∙ rw (e, parts-one name
 
 pub below_given : (path : List (List ℕ)) (name : List ℕ) → length path ≢ 64 → path_below path name ≡ Ok (path ++ name ∷ [])
 below_given path name room = let t = differ (length path) 64 (eqb (length path) 64) refl room in rw t refl
-
-pub below_full : (path : List (List ℕ)) (name : List ℕ) → length path ≡ 64 → path_below path name ≡ Err BadPath
-below_full path name full = let t = eq-eqb (length path) 64 full in rw t refl

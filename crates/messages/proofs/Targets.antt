@@ -1,7 +1,6 @@
 -- Targets, by their test and by their rules.
-use Rattle.std.proofs.Common.{◌≡◌, ℕ, ◌<◌, ◌≤◌, Bool, true, false, ltb, eqb, not, ◌&&◌, List, length, ◌+◌, Result, Ok, Err, refl, sym, subst, ◌∙◌, arith}
-use Rattle.std.specs.Prelude.{◌↔◌, IsTrue, IfOk}
-use Rattle.std.proofs.lemmas.Bool.Decides.{nat_tests}
+use Rattle.std.proofs.Common.{◌≡◌, ℕ, true, false, ltb, eqb, not, ◌&&◌, List, length, Result, Ok, Err, refl, subst}
+use Rattle.std.specs.Prelude.{IfOk}
 use Rattle.std.specs.List.{list_any}
 use Rattle.std.specs.Str.{IsUtf8, is_utf8}
 use Rattle.std.proofs.lemmas.Str.{is_utf8-from_IsUtf8}
@@ -10,19 +9,7 @@ use Rattle.messages.specs.declared.error.MessageError.TheVariants.{BadPath}
 use Rattle.messages.specs.Gives.{GivesUnlessMemory}
 use Rattle.messages.specs.Target.{IsTarget, IsLink, is_link, target_of}
 use Rattle.messages.proofs.Choices.{chosen_ok, and_first, and_second, and_both, not_true, false_not, none_is, none_found}
-use Rattle.messages.proofs.Names.{utf8_test}
-
-some_byte : (n : ℕ) → not (eqb n 0) ≡ true → 0 < n
-some_byte n h = grind (arith, nat_tests)
-
-byte_some : (n : ℕ) → 0 < n → not (eqb n 0) ≡ true
-byte_some n h = grind (arith, nat_tests)
-
-few : (n m : ℕ) → ltb n (m + 1) ≡ true → n ≤ m
-few n m h = grind (arith, nat_tests)
-
-few_test : (n m : ℕ) → n ≤ m → ltb n (m + 1) ≡ true
-few_test n m h = grind (arith, nat_tests)
+use Rattle.messages.proofs.Names.{utf8_test, some_byte, byte_some, few, few_test}
 
 pub IsLink-from : (text : List ℕ) → is_link text ≡ true → IsLink text
 IsLink-from text h =
@@ -43,13 +30,6 @@ target_test text h = and_both _ _ h.utf8 (is_link-from text h.link)
 
 IsTarget-from : (text : List ℕ) → (is_utf8 text && is_link text) ≡ true → IsTarget text
 IsTarget-from text h = record { utf8 = and_first (is_utf8 text) (is_link text) h; link = IsLink-from text (and_second (is_utf8 text) (is_link text) h) }
-
--- what the test of a text says
-pub target_answer : (text : List ℕ) (b : Bool) → IsUtf8 text → b ≡ is_link text → IsTrue b ↔ IsTarget text
-target_answer text b utf8 e = (
-  λ t. record { utf8 = is_utf8-from_IsUtf8 text utf8; link = IsLink-from text (sym e ∙ t) },
-  λ h. e ∙ is_link-from text h.link,
-)
 
 -- ---- a target that is read
 

@@ -25,9 +25,9 @@ pub use laws::clones_are_equal;
 pub use message::{
     Encode, Message, decode, encodes_one_value, read_each, read_fields, read_optional, write_each,
 };
-pub use name::{Name, is_name};
+pub use name::Name;
 pub use node::{DirectoryNode, FileNode, Node, SymlinkNode};
 pub use path::{Path, is_path};
-pub use target::{Target, is_target};
+pub use target::Target;
 pub use tolerant::{Tolerant, read_any_each, read_any_fields, read_any_optional};
 pub use tree::Tree;

@@ -1,6 +1,6 @@
-ghost use Rattle.std.specs.Prelude.{◌≡◌, ◌↔◌, IsTrue, IfOk, Ok};
+ghost use Rattle.std.specs.Prelude.{◌≡◌, IfOk, Ok};
 ghost use Rattle.messages.specs.Gives.{GivesUnlessMemory, RefusesBeforeMemory};
-ghost use Rattle.messages.specs.Name.{is_dots, is_segment, IsSegment, IsName, name_of};
+ghost use Rattle.messages.specs.Name.{is_dots, is_segment, IsName, name_of};
 
 use crate::error::MessageError;
 use std::alloc::{AllocError, Allocator};
@@ -93,7 +93,7 @@ fn is_dots(text: &[u8]) -> bool
 }
 
 /// Whether the bytes are those of a name, but for UTF-8.
-pub fn is_segment(bytes: &[u8]) -> bool
+pub(crate) fn is_segment(bytes: &[u8]) -> bool
     ensures { result ≡ is_segment bytes.now }
 {
     !bytes.is_empty()
@@ -101,13 +101,6 @@ pub fn is_segment(bytes: &[u8]) -> bool
         && !bytes.contains(&b'/')
         && !bytes.contains(&0)
         && !is_dots(bytes)
-}
-
-/// Whether the text is a name. It takes no memory.
-pub fn is_name(text: &str) -> bool
-    ensures { IsTrue result ↔ IsName text.now }
-{
-    is_segment(text.as_bytes())
 }
 
 fn read_name<A: Allocator>(alloc: A, text: &[u8]) -> Result<Name<A>, MessageError>

@@ -9,7 +9,7 @@ use crate::error::MessageError;
 use std::cmp::Ordering;
 
 /// What has a name in a directory.
-pub trait Named {
+pub(crate) trait Named {
     /// Its name.
     ghost name_in: { Self → List ℕ };
 
@@ -22,7 +22,7 @@ pub trait Named {
 }
 
 /// Whether the names strictly ascend. If not, the first pair of neighbours that doesn't decides.
-pub fn check_order<N: Named>(nodes: &[N]) -> Result<(), MessageError>
+pub(crate) fn check_order<N: Named>(nodes: &[N]) -> Result<(), MessageError>
     ensures exact { Gives (λ x. x) result (ordered_behind None (map N.name_in nodes.now)) }
     ensures kept { OnOk result (AllByRecursion N.keeps nodes.now) }
 {
@@ -42,7 +42,7 @@ pub fn check_order<N: Named>(nodes: &[N]) -> Result<(), MessageError>
 }
 
 /// Whether two ascending lists share a name: one walk over both.
-pub fn share_a_name<N: Named, M: Named>(nodes: &[N], others: &[M]) -> bool
+pub(crate) fn share_a_name<N: Named, M: Named>(nodes: &[N], others: &[M]) -> bool
     requires nodes { IsAscending (map N.name_in nodes.now) }
     requires others { IsAscending (map M.name_in others.now) }
     ensures { result ≡ share_name (map N.name_in nodes.now) (map M.name_in others.now) }
@@ -61,7 +61,7 @@ pub fn share_a_name<N: Named, M: Named>(nodes: &[N], others: &[M]) -> bool
 
 /// The element of this name, of a list in the order of names: each step drops half of what is
 /// left.
-pub fn find_named<'a, N: Named>(nodes: &'a [N], name: &[u8]) -> Option<&'a N>
+pub(crate) fn find_named<'a, N: Named>(nodes: &'a [N], name: &[u8]) -> Option<&'a N>
     requires { IsAscending (map N.name_in nodes.now) }
     ensures { option_copied result ≡ find (λ n. is_same (N.name_in n) name.now) nodes.now }
 {

@@ -1,12 +1,12 @@
-ghost use Rattle.std.specs.Prelude.{◌≡◌, ◌↔◌, ℕ, List, [], ◌∷◌, ◌++◌, IsTrue, IfOk, Ok, Err};
-ghost use Rattle.std.specs.Prelude.{nat_lt, length, if◌then◌else◌};
+ghost use Rattle.std.specs.Prelude.{◌≡◌, ◌↔◌, ℕ, List, [], ◌∷◌, IsTrue, IfOk, Ok, Err};
+ghost use Rattle.std.specs.Prelude.{length};
 ghost use Rattle.std.specs.List.{list_all};
 ghost use Rattle.messages.specs.declared.error.MessageError.TheVariants as errors;
 ghost use Rattle.messages.specs.Gives.{GivesUnlessMemory, RefusesBeforeMemory};
 ghost use Rattle.messages.specs.Name.{is_segment};
 ghost use Rattle.std.specs.Str.Iter.{split_text, split_has_more, split_pattern};
-ghost use Rattle.messages.specs.Path.{path_below, IsPath, LiesUnder, Overlap, is_path, parts_of};
-ghost use Rattle.messages.specs.Path.{path_of, path_text, text_cmp};
+ghost use Rattle.messages.specs.Path.{path_below, IsPath, is_path, parts_of, path_of, path_text};
+ghost use Rattle.messages.specs.Path.{text_cmp};
 
 use crate::error::MessageError;
 use crate::name::{Name, is_segment};
@@ -157,30 +157,6 @@ impl<A: Allocator> Path<A> {
         self.text.as_bytes()
     }
 
-    /// Whether this path lies under the other: the other's names are a proper beginning of its own.
-    pub fn lies_under<B: Allocator>(&self, above: &Path<B>) -> bool
-        ensures { IsTrue result ↔ LiesUnder self.now above.now }
-    {
-        match self.as_bytes().strip_prefix(above.as_bytes()) {
-            Some(rest) => begins_with_slash(rest),
-            None => false,
-        }
-    }
-
-    /// Whether the two paths are equal, or one lies under the other.
-    pub fn overlaps<B: Allocator>(&self, other: &Path<B>) -> bool
-        ensures { IsTrue result ↔ Overlap self.now other.now }
-    {
-        self.is_same(other) || self.lies_under(other) || other.lies_under(self)
-    }
-
-    /// Whether the two paths are equal.
-    pub fn is_same<B: Allocator>(&self, other: &Path<B>) -> bool
-        ensures { IsTrue result ↔ (self.now ≡ other.now) }
-    {
-        self.as_bytes() == other.as_bytes()
-    }
-
     /// The order of the two texts by their bytes, in which messages list paths. It is not that of
     /// the names.
     pub fn compare_text<B: Allocator>(&self, other: &Path<B>) -> Ordering
@@ -189,14 +165,3 @@ impl<A: Allocator> Path<A> {
         self.as_bytes().cmp(other.as_bytes())
     }
 }
-
-fn begins_with_slash(bytes: &[u8]) -> bool
-    ensures { result ≡ begins_with_slash bytes.now }
-{
-    match bytes {
-        [b'/', ..] => true,
-        _ => false,
-    }
-}
-
-ghost use Rattle.messages.specs.Path.{begins_with_slash};

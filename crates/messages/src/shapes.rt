@@ -8,120 +8,72 @@ ghost use Rattle.messages.specs.Tree.{tree_shape};
 
 use canonical::{Entry, Kind, Shape};
 
+/// A field that comes once at most, by its number and kind: an entry of a shape.
+#[macro_export]
+macro_rules! single {
+    ($number:literal, $kind:ident) => {
+        Entry {
+            number: $number,
+            kind: Kind::$kind,
+            repeated: false,
+        }
+    };
+}
+
+/// A field that may come again.
+#[macro_export]
+macro_rules! repeated {
+    ($number:literal, $kind:ident) => {
+        Entry {
+            number: $number,
+            kind: Kind::$kind,
+            repeated: true,
+        }
+    };
+}
+
 /// `Digest`: hash, size_bytes.
-pub fn digest_shape() -> Shape<'static>
+pub(crate) fn digest_shape() -> Shape<'static>
     ensures { result ≡ digest_shape }
 {
-    Shape::new(&[
-        Entry {
-            number: 1,
-            kind: Kind::String,
-            repeated: false,
-        },
-        Entry {
-            number: 2,
-            kind: Kind::Int64,
-            repeated: false,
-        },
-    ])
+    Shape::new(&[single!(1, String), single!(2, Int64)])
 }
 
 /// `FileNode`: name, digest, is_executable.
-pub fn file_node_shape() -> Shape<'static>
+pub(crate) fn file_node_shape() -> Shape<'static>
     ensures { result ≡ file_node_shape }
 {
-    Shape::new(&[
-        Entry {
-            number: 1,
-            kind: Kind::String,
-            repeated: false,
-        },
-        Entry {
-            number: 2,
-            kind: Kind::Message,
-            repeated: false,
-        },
-        Entry {
-            number: 4,
-            kind: Kind::Bool,
-            repeated: false,
-        },
-    ])
+    Shape::new(&[single!(1, String), single!(2, Message), single!(4, Bool)])
 }
 
 /// `DirectoryNode`: name, digest.
-pub fn directory_node_shape() -> Shape<'static>
+pub(crate) fn directory_node_shape() -> Shape<'static>
     ensures { result ≡ directory_node_shape }
 {
-    Shape::new(&[
-        Entry {
-            number: 1,
-            kind: Kind::String,
-            repeated: false,
-        },
-        Entry {
-            number: 2,
-            kind: Kind::Message,
-            repeated: false,
-        },
-    ])
+    Shape::new(&[single!(1, String), single!(2, Message)])
 }
 
 /// `SymlinkNode`: name, target.
-pub fn symlink_node_shape() -> Shape<'static>
+pub(crate) fn symlink_node_shape() -> Shape<'static>
     ensures { result ≡ symlink_node_shape }
 {
-    Shape::new(&[
-        Entry {
-            number: 1,
-            kind: Kind::String,
-            repeated: false,
-        },
-        Entry {
-            number: 2,
-            kind: Kind::String,
-            repeated: false,
-        },
-    ])
+    Shape::new(&[single!(1, String), single!(2, String)])
 }
 
 /// `Directory`: files, directories, symlinks.
-pub fn directory_shape() -> Shape<'static>
+pub(crate) fn directory_shape() -> Shape<'static>
     ensures { result ≡ directory_shape }
 {
     Shape::new(&[
-        Entry {
-            number: 1,
-            kind: Kind::Message,
-            repeated: true,
-        },
-        Entry {
-            number: 2,
-            kind: Kind::Message,
-            repeated: true,
-        },
-        Entry {
-            number: 3,
-            kind: Kind::Message,
-            repeated: true,
-        },
+        repeated!(1, Message),
+        repeated!(2, Message),
+        repeated!(3, Message),
     ])
 }
 
 /// `Tree`: root, children.
-pub fn tree_shape() -> Shape<'static>
+pub(crate) fn tree_shape() -> Shape<'static>
     ensures { result ≡ tree_shape }
 {
-    Shape::new(&[
-        Entry {
-            number: 1,
-            kind: Kind::Message,
-            repeated: false,
-        },
-        Entry {
-            number: 2,
-            kind: Kind::Message,
-            repeated: true,
-        },
-    ])
+    Shape::new(&[single!(1, Message), repeated!(2, Message)])
 }

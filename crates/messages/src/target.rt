@@ -1,4 +1,4 @@
-ghost use Rattle.std.specs.Prelude.{◌≡◌, ◌↔◌, IsTrue, IfOk, Ok};
+ghost use Rattle.std.specs.Prelude.{◌≡◌, IfOk, Ok};
 ghost use Rattle.messages.specs.Gives.{GivesUnlessMemory, RefusesBeforeMemory};
 ghost use Rattle.messages.specs.Target.{is_link, IsTarget, target_of};
 
@@ -53,13 +53,6 @@ fn is_link(bytes: &[u8]) -> bool
     ensures { result ≡ is_link bytes.now }
 {
     !bytes.is_empty() && bytes.len() < 4097 && !bytes.contains(&0)
-}
-
-/// Whether the text is a target. It takes no memory.
-pub fn is_target(text: &str) -> bool
-    ensures { IsTrue result ↔ IsTarget text.now }
-{
-    is_link(text.as_bytes())
 }
 
 fn read_target<A: Allocator>(alloc: A, text: &[u8]) -> Result<Target<A>, MessageError>

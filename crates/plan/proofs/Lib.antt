@@ -3,6 +3,7 @@ mod Chains
 mod Directories
 mod Entries
 mod Escapes
+mod Examples
 mod Follows
 mod Lines
 mod NamesOrder

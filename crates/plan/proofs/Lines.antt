@@ -13,7 +13,7 @@ use Rattle.blob_digest.specs.DigestValue.{greatest_size}
 use Rattle.blob_digest.specs.Text.{digest_text, is_lower_hex}
 use Rattle.blob_digest.proofs.DigestTexts.{all_pass-without, digest_text-without, in_tail}
 use Rattle.blob_digest.proofs.HexTexts.{lower-encode, hash_given}
-use Rattle.plan.specs.Line.{Begins, IsStepName, is_step_name_byte, step_words, line_text}
+use Rattle.plan.specs.Line.{IsStepName, is_step_name_byte, step_words, line_text}
 
 within : (h c : ℕ) (xs : List ℕ) → Contains xs c → Contains (h ∷ xs) c
 within h c xs (k, lt, e) = (suc k, omega arith, e)
@@ -32,10 +32,6 @@ once c (h ∷ a) (k ∷ b) x y p q e =
 -- no space and no newline stands in a step's name
 pub name-without : (name : List ℕ) (c : ℕ) → IsStepName name → is_step_name_byte c ≡ false → ¬ Contains name c
 name-without name c h out = all_pass-without is_step_name_byte name c h.bytes out
-
--- what stands at the front of what is left stands behind what is cut off
-pub cut_front : (front next rest : List ℕ) → Begins (front ++ next) (front ++ rest) → Begins next rest
-cut_front front next rest (more, e) = (more, append_cancel_left front rest (next ++ more) (e ∙ append_assoc front next more))
 
 -- a space stands behind a word
 pub has_space : (word rest : List ℕ) → Contains (word ++ 32 ∷ rest) 32

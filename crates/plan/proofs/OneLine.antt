@@ -1,5 +1,5 @@
 -- What the words of a line of a directory say.
-use Rattle.std.proofs.Common.{◌≡◌, ℕ, zero, suc, ◌<◌, List, [], ◌∷◌, ◌++◌, length, get_or, refl, ap, sym, ◌∙◌, subst, arith, codes}
+use Rattle.std.proofs.Common.{◌≡◌, ℕ, zero, suc, ◌<◌, List, [], ◌∷◌, ◌++◌, length, get_or, ap, sym, ◌∙◌, subst, arith, codes}
 use Rattle.std.specs.List.{Contains, AllByRecursion}
 use Rattle.std.proofs.lemmas.List.{append_cancel_left}
 use Rattle.messages.specs.Path.{IsPath}
@@ -14,10 +14,6 @@ use Rattle.plan.proofs.Lines.{has_space, line_front}
 use Rattle.plan.proofs.Written.{in_parts, output_parts, source_is_no_output, first_words}
 
 -- ---- an origin
-
-pub source_words : (path : List (List ℕ)) → IsPath path → written_origin_words (from_source path) ≡ codes "src " ++ escaped_path path
-source_words [] is = let some = is.some in absurd (omega arith)
-source_words (name ∷ path) is = refl
 
 -- words behind `out ` have the step's name before their first space, and the path behind it
 pub output_written : (words name path : List ℕ) (origin : WrittenOrigin) → words ≡ name ++ 32 ∷ path → ¬ Contains name 32 → IsWrittenOrigin origin → codes "out " ++ words ≡ written_origin_words origin

@@ -13,11 +13,11 @@ use Rattle.tree.specs.Form.{NodeValue}
 use Rattle.tree.specs.Folded.{first_visits}
 use Rattle.tree.specs.FlatTree.{FlatValue, standing_in, IsAdded, IsTaken, IsListOf}
 use Rattle.tree.proofs.FlatTrees.{list_maps}
-use Rattle.worker.specs.Stored.{directories_of}
+use Rattle.worker.specs.Outcomes.{directories_of}
 use Rattle.processes.specs.declared.workshop.Standing.TheVariants as standings
 use Rattle.processes.specs.Workshop.{Works}
 use Rattle.processes.specs.Laying.{place_below}
-use Rattle.processes.specs.Collected.{AreKept, IsFileAt, place_at, HasNames, StandsAs, IsContentAt, IsTreeAt}
+use Rattle.processes.specs.Collected.{AreKept, IsFileAt, place_at, HasNames, IsStandingOf, IsContentAt, IsTreeAt}
 use Rattle.processes.specs.Walking.{HasAbove, IsBare, LeavesOthers, IsWalked}
 use Rattle.processes.proofs.Lists.{map_taken}
 
@@ -58,7 +58,7 @@ module _ {R C E : Type 0} (works : Works R C E) (ended : E) where
   }
 
   stands_same : (blobs : List (List ℕ)) (place : List ℕ) (f g : List Name → Standing NodeValue) (p q : List Name) (s : Standing NodeValue)
-      → ((m : Name) → f (p ++ m ∷ []) ≡ g (q ++ m ∷ [])) → StandsAs works ended blobs place f p s → StandsAs works ended blobs place g q s
+      → ((m : Name) → f (p ++ m ∷ []) ≡ g (q ++ m ∷ [])) → IsStandingOf works ended blobs place f p s → IsStandingOf works ended blobs place g q s
   stands_same blobs place f g p q nothing same h = tt
   stands_same blobs place f g p q (a_leaf (nodes.File d x)) same h = h
   stands_same blobs place f g p q (a_leaf (nodes.Link t)) same h = h
@@ -69,7 +69,7 @@ module _ {R C E : Type 0} (works : Works R C E) (ended : E) where
   file_kept before after k place d x (bit, stands, (b, holds, is, held)) = (bit, stands, (b, holds, is, k.kept b held))
 
   stands_kept : (before after : List (List ℕ)) → AreKept before after → (place : List ℕ) (f : List Name → Standing NodeValue) (p : List Name) (s : Standing NodeValue)
-      → StandsAs works ended before place f p s → StandsAs works ended after place f p s
+      → IsStandingOf works ended before place f p s → IsStandingOf works ended after place f p s
   stands_kept before after k place f p nothing h = tt
   stands_kept before after k place f p (a_leaf (nodes.File d x)) h = file_kept before after k place d x h
   stands_kept before after k place f p (a_leaf (nodes.Link t)) h = h
@@ -81,12 +81,12 @@ module _ {R C E : Type 0} (works : Works R C E) (ended : E) where
     pub record IsPartly (seen : List Name) (at : List Name → Standing NodeValue) (blobs : List (List ℕ)) : Type 0 where
       pub names : (n : Name) → Contains seen n ↔ (at (n ∷ []) ≢ nothing)
       pub none : (n : Name) (p : List Name) → (Contains seen n → ⊥) → at (n ∷ p) ≡ nothing
-      pub below : (n : Name) (p : List Name) → StandsAs works ended blobs (place_at place (n ∷ p)) at (n ∷ p) (at (n ∷ p))
+      pub below : (n : Name) (p : List Name) → IsStandingOf works ended blobs (place_at place (n ∷ p)) at (n ∷ p) (at (n ∷ p))
       pub only : (b : List ℕ) → Contains blobs b → IsContentAt works ended place at b
 
     module _ (n : Name) (f g : List Name → Standing NodeValue) (seen : List Name) (before own : List (List ℕ))
         (unseen : Contains seen n → ⊥) (same : (m : Name) (p : List Name) → m ≢ n → g (m ∷ p) ≡ f (m ∷ p)) (some : g (n ∷ []) ≢ nothing)
-        (mine : (p : List Name) → StandsAs works ended own (place_at place (n ∷ p)) g (n ∷ p) (g (n ∷ p)))
+        (mine : (p : List Name) → IsStandingOf works ended own (place_at place (n ∷ p)) g (n ∷ p) (g (n ∷ p)))
         (content : (b : List ℕ) → Contains own b → IsContentAt works ended place g b) (s : IsPartly seen f before) where
       names_more : (m : Name) (b : Bool) → bytes_eq m n ≡ b → Contains (seen ++ n ∷ []) m ↔ (g (m ∷ []) ≢ nothing)
       names_more m true e =
@@ -103,14 +103,14 @@ module _ {R C E : Type 0} (works : Works R C E) (ended : E) where
           forth other (inr c) z = other (sym (contains_one n m c))
 
       below_more : (m : Name) (p : List Name) (b : Bool) → bytes_eq m n ≡ b
-          → StandsAs works ended (before ++ own) (place_at place (m ∷ p)) g (m ∷ p) (g (m ∷ p))
+          → IsStandingOf works ended (before ++ own) (place_at place (m ∷ p)) g (m ∷ p) (g (m ∷ p))
       below_more m p true e =
           let is : m ≡ n = (bytes_eq-Decides m n).0 e in
-          subst (λ x. StandsAs works ended (before ++ own) (place_at place (x ∷ p)) g (x ∷ p) (g (x ∷ p))) (sym is)
+          subst (λ x. IsStandingOf works ended (before ++ own) (place_at place (x ∷ p)) g (x ∷ p) (g (x ∷ p))) (sym is)
           (stands_kept own (before ++ own) (kept_right before own) (place_at place (n ∷ p)) g (n ∷ p) (g (n ∷ p)) (mine p))
       below_more m p false e =
           let other : m ≢ n = λ q. let yes : bytes_eq m n ≡ true = (bytes_eq-Decides m n).1 q in cc in
-          subst (λ v. StandsAs works ended (before ++ own) (place_at place (m ∷ p)) g (m ∷ p) v) (sym (same m p other))
+          subst (λ v. IsStandingOf works ended (before ++ own) (place_at place (m ∷ p)) g (m ∷ p) v) (sym (same m p other))
           (stands_same (before ++ own) (place_at place (m ∷ p)) f g (m ∷ p) (m ∷ p) (f (m ∷ p)) (λ k. sym (same m (p ++ k ∷ []) other))
           (stands_kept before (before ++ own) (kept_left before own) (place_at place (m ∷ p)) f (m ∷ p) (f (m ∷ p)) (s.below m p)))
 
@@ -193,7 +193,7 @@ module _ {R C E : Type 0} (works : Works R C E) (ended : E) (place : List ℕ) (
     found = record {
       names = λ n. ((λ (k, lt, at). absurd (omega (arith, lt))), (λ h. absurd (h (bare.none n []))));
       none = λ n p h. bare.none n p;
-      below = λ n p. subst (λ v. StandsAs works ended [] (place_at place (n ∷ p)) (λ q. standing_in old (path ++ q)) (n ∷ p) v) (sym (bare.none n p)) tt;
+      below = λ n p. subst (λ v. IsStandingOf works ended [] (place_at place (n ∷ p)) (λ q. standing_in old (path ++ q)) (n ∷ p) v) (sym (bare.none n p)) tt;
       only = λ b (k, lt, at). absurd (omega (arith, lt));
     };
   }
@@ -234,10 +234,10 @@ module _ {R C E : Type 0} (works : Works R C E) (ended : E) (place : List ℕ) (
         some : standing_in mid (path ++ n ∷ []) ≢ nothing
         some e = let h = at in cc
 
-        mine : (p : List Name) → StandsAs works ended (b ∷ []) (place_at place (n ∷ p)) (λ q. standing_in mid (path ++ q)) (n ∷ p) (standing_in mid (path ++ n ∷ p))
-        mine [] = subst (λ v. StandsAs works ended (b ∷ []) (place_at place (n ∷ [])) (λ q. standing_in mid (path ++ q)) (n ∷ []) v) (sym at)
+        mine : (p : List Name) → IsStandingOf works ended (b ∷ []) (place_at place (n ∷ p)) (λ q. standing_in mid (path ++ q)) (n ∷ p) (standing_in mid (path ++ n ∷ p))
+        mine [] = subst (λ v. IsStandingOf works ended (b ∷ []) (place_at place (n ∷ [])) (λ q. standing_in mid (path ++ q)) (n ∷ []) v) (sym at)
             (refl, stands, (b, holds, digest, (0, omega arith, refl)))
-        mine (k ∷ p) = subst (λ v. StandsAs works ended (b ∷ []) (place_at place (n ∷ k ∷ p)) (λ q. standing_in mid (path ++ q)) (n ∷ k ∷ p) v)
+        mine (k ∷ p) = subst (λ v. IsStandingOf works ended (b ∷ []) (place_at place (n ∷ k ∷ p)) (λ q. standing_in mid (path ++ q)) (n ∷ k ∷ p) v)
             (sym (added_below path n standing was mid add k p ∙ s.found.none n (k ∷ p) unseen)) tt
 
         content : (x : List ℕ) → Contains (b ∷ []) x → IsContentAt works ended place (λ q. standing_in mid (path ++ q)) x
@@ -285,10 +285,10 @@ module _ {R C E : Type 0} (works : Works R C E) (ended : E) (place : List ℕ) (
         some : standing_in new (path ++ n ∷ []) ≢ nothing
         some e = let h = at in cc
 
-        mine : (p : List Name) → StandsAs works ended w.more (place_at place (n ∷ p)) (λ q. standing_in new (path ++ q)) (n ∷ p) (standing_in new (path ++ n ∷ p))
-        mine [] = subst (λ v. StandsAs works ended w.more (place_below place n) (λ q. standing_in new (path ++ q)) (n ∷ []) v) (sym at)
+        mine : (p : List Name) → IsStandingOf works ended w.more (place_at place (n ∷ p)) (λ q. standing_in new (path ++ q)) (n ∷ p) (standing_in new (path ++ n ∷ p))
+        mine [] = subst (λ v. IsStandingOf works ended w.more (place_below place n) (λ q. standing_in new (path ++ q)) (n ∷ []) v) (sym at)
             (stands, names_same works ended (place_below place n) (λ q. standing_in new ((path ++ n ∷ []) ++ q)) (λ q. standing_in new (path ++ q)) [] (n ∷ []) (λ m. inner (m ∷ [])) w.folder.names)
-        mine (k ∷ p) = subst (λ v. StandsAs works ended w.more (place_at place (n ∷ k ∷ p)) (λ q. standing_in new (path ++ q)) (n ∷ k ∷ p) v) (inner (k ∷ p))
+        mine (k ∷ p) = subst (λ v. IsStandingOf works ended w.more (place_at place (n ∷ k ∷ p)) (λ q. standing_in new (path ++ q)) (n ∷ k ∷ p) v) (inner (k ∷ p))
             (stands_same works ended w.more (place_at place (n ∷ k ∷ p)) (λ q. standing_in new ((path ++ n ∷ []) ++ q)) (λ q. standing_in new (path ++ q)) (k ∷ p) (n ∷ k ∷ p)
             (standing_in new ((path ++ n ∷ []) ++ k ∷ p)) (λ m. inner (k ∷ p ++ m ∷ [])) (w.folder.below k p))
 
@@ -327,36 +327,21 @@ module _ {R C E : Type 0} (works : Works R C E) (ended : E) (place : List ℕ) (
 
 -- ---- the Tree of a folder
 
-module _ {R C E : Type 0} (works : Works R C E) (ended : E) (place : List ℕ) (old entries : FlatValue) (tree : Tree NodeValue) (list : IsListOf entries tree)
-    (m : TreeValue) (directories : directories_of m ≡ first_visits tree) (before after all : List (List ℕ))
-    (walked : IsWalked works ended place [] old entries before after) (blobs : all ≡ after ++ directories_of m) where
-  read_below : (n : Name) (p : List Name) → StandsAs works ended (walked.more ++ directories_of m) (place_at place (n ∷ p)) (stands_at tree) (n ∷ p) (stands_at tree (n ∷ p))
-  read_below n p =
-      subst (λ v. StandsAs works ended (walked.more ++ directories_of m) (place_at place (n ∷ p)) (stands_at tree) (n ∷ p) v) (list_maps entries tree list n p)
-      (stands_same works ended (walked.more ++ directories_of m) (place_at place (n ∷ p)) (λ q. standing_in entries q) (stands_at tree) (n ∷ p) (n ∷ p) (standing_in entries (n ∷ p))
-      (λ k. list_maps entries tree list n (p ++ k ∷ []))
-      (stands_kept works ended walked.more (walked.more ++ directories_of m) (kept_left walked.more (directories_of m)) (place_at place (n ∷ p)) (λ q. standing_in entries q) (n ∷ p)
-      (standing_in entries (n ∷ p)) (walked.folder.below n p)))
-
-  read_only : (b : List ℕ) → Contains walked.more b ⊎ Contains (directories_of m) b → IsContentAt works ended place (stands_at tree) b ⊎ Contains (directories_of m) b
-  read_only b (inr h) = inr h
-  read_only b (inl h) =
-      let c = walked.only b h in
-      inl (record { name = c.name; path = c.path; file = sym (list_maps entries tree list c.name c.path) ∙ c.file; holds = c.holds })
-
-  pub folder_tree : (more : List (List ℕ)) × IsTreeAt works ended place m more × (all ≡ before ++ more)
-  folder_tree = (
-    walked.more ++ directories_of m,
+module _ {R C E : Type 0} (works : Works R C E) (ended : E) (place : List ℕ) (entries : FlatValue) (tree : Tree NodeValue) (list : IsListOf entries tree) (m : TreeValue) (directories : directories_of m ≡ first_visits tree) where
+  pub folder_tree : (old : FlatValue) (before after : List (List ℕ)) → IsWalked works ended place [] old entries before after → (more : List (List ℕ)) × IsTreeAt works ended place m more × (after ≡ before ++ more)
+  folder_tree old before after walked = (
+    walked.more,
     record {
       tree = tree;
       ordered = list.ordered;
       folder = record {
         names = names_same works ended place (λ q. standing_in entries q) (stands_at tree) [] [] (λ k. list_maps entries tree list k []) walked.folder.names;
-        below = read_below;
+        below = λ n p.
+            subst (λ v. IsStandingOf works ended walked.more (place_at place (n ∷ p)) (stands_at tree) (n ∷ p) v) (list_maps entries tree list n p)
+            (stands_same works ended walked.more (place_at place (n ∷ p)) (λ q. standing_in entries q) (stands_at tree) (n ∷ p) (n ∷ p) (standing_in entries (n ∷ p)) (λ k. list_maps entries tree list n (p ++ k ∷ [])) (walked.folder.below n p));
       };
       directories = directories;
-      held = kept_right walked.more (directories_of m);
-      only = λ b h. read_only b (Contains-append_cases walked.more (directories_of m) b h);
+      only = λ b h. let c = walked.only b h in record { name = c.name; path = c.path; file = sym (list_maps entries tree list c.name c.path) ∙ c.file; holds = c.holds };
     },
-    blobs ∙ ap (λ xs. xs ++ directories_of m) walked.blobs ∙ append_assoc before walked.more (directories_of m),
+    walked.blobs,
   )

@@ -11,7 +11,7 @@ use Rattle.tree.specs.Form.{NodeValue}
 use Rattle.tree.specs.Folded.{first_visits}
 use Rattle.actions.specs.declared.outcome.Output.TheVariants as outputs
 use Rattle.actions.specs.Outcome.{OutputValue, OutcomeValue, AddsOutput, output_paths}
-use Rattle.worker.specs.Stored.{directories_of}
+use Rattle.worker.specs.Outcomes.{directories_of}
 use Rattle.processes.specs.declared.workshop.Standing.{Standing as PlaceStanding}
 use Rattle.processes.specs.declared.workshop.Standing.TheVariants as standings
 use Rattle.processes.specs.Workshop.{Works}
@@ -45,14 +45,14 @@ pub record HasNames {R C E : Type 0} (works : Works R C E) (ended : E) (place : 
 
 -- What a tree has at a path stands at a place: a file, or a folder with the names that the tree has
 -- below the path.
-abbrev pub StandsAs : {R C E : Type 0} → Works R C E → E → List (List ℕ) → List ℕ
+abbrev pub IsStandingOf : {R C E : Type 0} → Works R C E → E → List (List ℕ) → List ℕ
     → (List Name → Standing NodeValue) → List Name → Standing NodeValue → Type 0
-StandsAs works ended blobs place at path nothing = Unit {0}
-StandsAs works ended blobs place at path (a_leaf (nodes.File d x)) =
+IsStandingOf works ended blobs place at path nothing = Unit {0}
+IsStandingOf works ended blobs place at path (a_leaf (nodes.File d x)) =
     IsFileAt works ended blobs place d x
-StandsAs works ended blobs place at path (a_leaf (nodes.Link t)) = ⊥
-StandsAs works ended blobs place at path (a_leaf (nodes.Dir d)) = ⊥
-StandsAs works ended blobs place at path a_directory =
+IsStandingOf works ended blobs place at path (a_leaf (nodes.Link t)) = ⊥
+IsStandingOf works ended blobs place at path (a_leaf (nodes.Dir d)) = ⊥
+IsStandingOf works ended blobs place at path a_directory =
     works.stands ended place standings.Folder × HasNames works ended place at path
 
 -- The folder at a place has what a tree has at each path below it, and nothing else.
@@ -60,7 +60,7 @@ pub record IsFolderAt {R C E : Type 0} (works : Works R C E) (ended : E) (blobs 
     (place : List ℕ) (at : List Name → Standing NodeValue) : Type 0 where
   pub names : HasNames works ended place at []
   pub below : (n : Name) (p : List Name)
-      → StandsAs works ended blobs (place_at place (n ∷ p)) at (n ∷ p) (at (n ∷ p))
+      → IsStandingOf works ended blobs (place_at place (n ∷ p)) at (n ∷ p) (at (n ∷ p))
 
 -- bytes that a file of a tree was read to have below a place
 pub record IsContentAt {R C E : Type 0} (works : Works R C E) (ended : E) (place : List ℕ)
@@ -70,17 +70,14 @@ pub record IsContentAt {R C E : Type 0} (works : Works R C E) (ended : E) (place
   pub file : at (name ∷ path) ≡ a_leaf (nodes.File (digest_of b) false)
   pub holds : works.holds ended (place_at place (name ∷ path)) (Some b)
 
--- The Tree of what is in the folder at a place. The blobs are its Directories and the contents of
--- the files below it.
+-- The Tree of what is in the folder at a place. The blobs are the contents of the files below it.
 pub record IsTreeAt {R C E : Type 0} (works : Works R C E) (ended : E) (place : List ℕ)
     (m : TreeValue) (blobs : List (List ℕ)) : Type 0 where
   pub tree : Tree NodeValue
   pub ordered : IsOrdered tree
   pub folder : IsFolderAt works ended blobs place (stands_at tree)
   pub directories : directories_of m ≡ first_visits tree
-  pub held : AreKept (directories_of m) blobs
-  pub only : (b : List ℕ) → Contains blobs b
-      → IsContentAt works ended place (stands_at tree) b ⊎ Contains (directories_of m) b
+  pub only : (b : List ℕ) → Contains blobs b → IsContentAt works ended place (stands_at tree) b
 
 -- ---- the outputs
 

@@ -43,7 +43,7 @@ WasLeft works end start paths code (bad_at path) =
 
 -- A child ended so: it was waited for and ended with a code, and this stood after that at the paths
 -- below the folder that it started in.
-pub record CameTo {R C E : Type 0} (works : Works R C E) (child : C) (start : List ℕ)
+pub record EndedWith {R C E : Type 0} (works : Works R C E) (child : C) (start : List ℕ)
     (paths : List (List (List ℕ))) (e : EndValue) : Type 0 where
   pub end : E
   pub code : ℤ
@@ -70,8 +70,8 @@ pub record IsJobRun {R C E : Type 0} (works : Works R C E) (l : LayoutValue) (c 
   pub child : C
   pub start : List ℕ
   pub launched : IsJobLaunched works folder l c child start
-  pub came : CameTo works child start c.output_paths e
+  pub came : EndedWith works child start c.output_paths e
 
 -- what may come of a job
 abbrev pub may_come : {R C E A : Type 0} → Works R C E → ProcessJob C A → EndValue → Type 0
-may_come works job = CameTo works job.child (string_bytes job.start) job.outputs.items
+may_come works job = EndedWith works job.child (string_bytes job.start) job.outputs.items

@@ -3,7 +3,7 @@ ghost use Rattle.std.specs.Prelude.{OnOk};
 ghost use Rattle.blob_digest.specs.Digest.{digest_of};
 ghost use Rattle.messages.specs.Directory.{directory_bytes};
 ghost use Rattle.tree.specs.Lookup.{names_in};
-ghost use Rattle.worker.specs.Stored.{directories_of};
+ghost use Rattle.worker.specs.Outcomes.{directories_of};
 ghost use Rattle.worker.specs.Values.{blobs_of};
 ghost use Rattle.processes.specs.Collected.{IsTreeAt};
 ghost use Rattle.processes.specs.Walking.{IsBare, IsWalked};
@@ -133,8 +133,7 @@ fn tree_of<A: Allocator + Copy>(alloc: A, encodings: &[Vec<u8, A>]) -> Result<Tr
     Ok(Tree::new(alloc, root, directories)?)
 }
 
-/// Reads the folder at a place as a Tree, and keeps the contents of the files in it and the
-/// encodings of the Directories.
+/// Reads the folder at a place as a Tree, and keeps the contents of the files in it.
 pub(crate) fn keep_folder<A: Allocator + Copy, W: Workshop>(
     alloc: A,
     workshop: &W,
@@ -157,8 +156,6 @@ pub(crate) fn keep_folder<A: Allocator + Copy, W: Workshop>(
         &mut tree,
         blobs,
     )?;
-    let mut directories = fold(alloc, &tree)?.directories;
-    let made = tree_of(alloc, &directories)?;
-    blobs.append(&mut directories)?;
-    Ok(made)
+    let folded = fold(alloc, &tree)?;
+    tree_of(alloc, &folded.directories)
 }

@@ -8,7 +8,7 @@ use Rattle.http_core.proofs.Blocks.{one_block}
 use Rattle.http_core.proofs.Lists.{same_fronts}
 use Rattle.http_core.proofs.Replies.{reply_head_once}
 use Rattle.std.proofs.lemmas.List.{append_cancel_left}
-use Rattle.remote.specs.Flow.{Flow, Receives}
+use Rattle.remote.specs.Flow.{Flow, MayHaveStopped, Receives}
 use Rattle.remote.specs.Reply.{ReceivedReply, IsReply, NextReply, NextInPart}
 use Rattle.remote.specs.Steps.{ReceivesFewer}
 use Rattle.remote.specs.declared.fault.Refusal.TheVariants.{Io, BadReply, Memory}
@@ -56,8 +56,8 @@ bad_memory e = cc
 
 -- the stream failed within a body
 pub reply_in_part : (old mid new : Flow) (block shown : List ℕ) (head : ReplyHead) (size : ℕ) → Receives old mid block → IsBlock block → shown ≡ block → IsReplyHead shown head → size ≡ head.length
-    → ReceivesFewer mid new size → NextInPart old new
-reply_in_part old mid new block shown head size first ends same valid is (body, short, second) = record {
+    → ReceivesFewer mid new size → MayHaveStopped new → NextInPart old new
+reply_in_part old mid new block shown head size first ends same valid is (body, short, second) stopped = record {
   text = block ++ body;
   part = inr (record {
     block = block;
@@ -69,11 +69,12 @@ reply_in_part old mid new block shown head size first ends same valid is (body, 
     short = subst (λ n. length body < n) is short;
   });
   read = receives_then old mid new block body first second;
+  stopped = stopped;
 }
 
 -- the stream failed within a block
-pub block_in_part : (old mid new : Flow) (block : List ℕ) → Receives old mid block → Receives mid new [] → length block < 16384 → HasNoBlock block → NextInPart old new
-block_in_part old mid new block first none short open_ = record { text = block; part = inl (short, open_); read = receives_no_more old mid new block first none }
+pub block_in_part : (old mid new : Flow) (block : List ℕ) → Receives old mid block → Receives mid new [] → MayHaveStopped new → length block < 16384 → HasNoBlock block → NextInPart old new
+block_in_part old mid new block first none stopped short open_ = record { text = block; part = inl (short, open_); read = receives_no_more old mid new block first none; stopped = stopped }
 
 -- an error that is handed on
 pub told : {T E : Type 0} (r : Result T E) (e : E) (P : E → Type 0) → IsErrAnd r (λ x. x ≡ e) → P e → IfErr r P

@@ -1,6 +1,7 @@
 -- What a stream of both directions gives and takes.
 use Rattle.std.specs.Prelude.{◌≡◌, ◌≢◌, ℕ, ◌+◌, ◌<◌, Bool, true, false, List, [], ◌∷◌, ◌++◌, length}
-use Rattle.std.specs.Prelude.{Option, Some, None}
+use Rattle.std.specs.Prelude.{Option, Some, None, Result, Ok, Err, ⊤, ◌↔◌, IfSome, IsTrue}
+use Rattle.std.specs.declared.io.Error.{Error}
 use Rattle.std.specs.Io.KnownBytes.{Appends, Consumes}
 use Rattle.http_core.specs.FailStream.{FailStreamValue}
 
@@ -20,6 +21,21 @@ pub record Flow : Type 0 where
   pub openings : Option ℕ
   -- how often it couldn't be opened anew
   pub refusals : Option ℕ
+  -- whether the last read or write moved no byte
+  pub has_stopped : Option Bool
+
+-- so it is, where that is known
+abbrev pub MayHaveStopped : Flow → Type 0
+MayHaveStopped flow = IfSome flow.has_stopped (λ has. has ≡ true)
+
+-- a read or a write that moved no byte
+abbrev pub MovesNone : Result ℕ Error → Type 0
+MovesNone (Ok count) = count ≡ 0
+MovesNone (Err e) = ⊤
+
+-- the flow tells, where it knows, whether this read or write moved no byte
+abbrev pub TellsStop : Result ℕ Error → Flow → Type 0
+TellsStop result flow = IfSome flow.has_stopped (λ has. IsTrue has ↔ MovesNone result)
 
 abbrev pub IsOneMore : Option ℕ → Option ℕ → Type 0
 IsOneMore None new = new ≡ None
@@ -63,13 +79,14 @@ pub record SendsFront (old new : Flow) (bytes : List ℕ) : Type 0 where
   pub whole : bytes ≡ front ++ rest
   pub sent : Appends old.sent new.sent front
 
--- these bytes were sent but for some at their end, and nothing was read
+-- these bytes were sent but for some at their end, of which none was taken, and nothing was read
 pub record SendsPart (old new : Flow) (bytes : List ℕ) : Type 0 where
   pub front : List ℕ
   pub rest : List ℕ
   pub some : rest ≢ []
   pub whole : bytes ≡ front ++ rest
   pub sends : Sends old new front
+  pub stopped : MayHaveStopped new
 
 -- these bytes came over the stream, and nothing was sent
 pub record Receives (old new : Flow) (bytes : List ℕ) : Type 0 where
@@ -93,6 +110,7 @@ unknown = record {
   is_renewable = None;
   openings = None;
   refusals = None;
+  has_stopped = None;
 }
 
 -- where a stream in memory stands, which isn't opened anew
@@ -105,4 +123,5 @@ flow_of s = record {
   is_renewable = Some false;
   openings = Some 0;
   refusals = None;
+  has_stopped = None;
 }

@@ -113,14 +113,11 @@ abbrev pub IsReadAt : {A : Type 0} → (List ℕ → List ℕ → Type 0)
 IsReadAt reads fails path None = IsNothingAt fails path
 IsReadAt reads fails path (Some bytes) = reads path bytes
 
--- the file at a path couldn't be read, for this, or memory ran out
-abbrev pub FailsAt : {A : Type 0} → (List ℕ → FileError A → Type 0) → List ℕ → FileError A → Type 0
-FailsAt fails path e = (e ≡ Memory) ⊎ fails path e
-
 -- A call that asked for the file at a path, of this digest. What is kept is told without the file,
 -- so that no fault of it is a failure, and else it is told what was read.
 pub record LooksInFolder {A : Type 0}
-    (reads : List ℕ → List ℕ → Type 0) (fails : List ℕ → FileError A → Type 0) (path : List ℕ) (d : DigestValue) (old new : Option (FileError A)) (before after : Table A)
+    (reads : List ℕ → List ℕ → Type 0) (fails : List ℕ → FileError A → Type 0) (path : List ℕ)
+    (d : DigestValue) (old new : Option (FileError A)) (before after : Table A)
     (result : Result (Option (Vec ℕ A)) FetchError) : Type 0 where
   pub kept : HasAnswer before d → IsErrOf result Failed → ⊥
   pub absent : HasAnswer before d → told_by before d ≡ None → result ≡ Ok None
@@ -131,5 +128,5 @@ pub record LooksInFolder {A : Type 0}
   pub read : (HasAnswer before d → ⊥)
       → IfOk result (λ answer. IsReadAt reads fails path (bytes_of answer))
   pub failed : IsErrOf result Failed → IsSomeAnd new (IsFaultAt path)
-  pub fault : IsErrOf result Failed → IsSomeAnd new (FailsAt fails path)
+  pub fault : IsErrOf result Failed → IsSomeAnd new (fails path)
   pub unfailed : (IsErrOf result Failed → ⊥) → new ≡ old

@@ -84,7 +84,7 @@ pub record Stores {A T : Type 0}
   pub others : IsSameBut d before after
 
 -- A call that put the blob under its digest, and kept nothing of that.
-pub record Sends {S A T : Type 0}
+pub record SendsBlob {S A T : Type 0}
     (flow : S → Flow) (bytes : List ℕ) (old new : Remote S A) (result : Result T FetchError)
     : Type 0 where
   pub taken : OnOk result (Puts (connection_of flow old) (connection_of flow new) Cas

@@ -4,7 +4,7 @@ use Rattle.http_core.specs.Block.{HasNoBlock, IsBlock}
 use Rattle.http_core.specs.ReplyHead.{IsReplyHead}
 use Rattle.http_core.specs.declared.reply_head.ReplyHead.{ReplyHead}
 use Rattle.remote.specs.declared.reply.Reply.{Reply}
-use Rattle.remote.specs.Flow.{Flow, Sends, Receives, ReceivesSome}
+use Rattle.remote.specs.Flow.{Flow, MayHaveStopped, Sends, Receives, ReceivesSome}
 
 pub record ReceivedReply : Type 0 where
   pub status : ℕ
@@ -68,11 +68,12 @@ pub record IsHeadAndPart (bytes : List ℕ) : Type 0 where
 abbrev pub IsPartOfReply : List ℕ → Type 0
 IsPartOfReply bytes = ((length bytes < 16384) × HasNoBlock bytes) ⊎ IsHeadAndPart bytes
 
--- part of the next reply was read, and nothing else
+-- part of the next reply was read, and nothing else, and then no byte came
 pub record NextInPart (old new : Flow) : Type 0 where
   pub text : List ℕ
   pub part : IsPartOfReply text
   pub read : Receives old new text
+  pub stopped : MayHaveStopped new
 
 -- the one request was sent, and then part of the next reply in the stream was read
 pub record RoundTripInPart (old new : Flow) (request : List ℕ) : Type 0 where

@@ -11,7 +11,7 @@ use Rattle.remote.specs.declared.fault.Fault.TheVariants.{Io, BadReply, Status, 
 use Rattle.remote.specs.declared.fault.Refusal.{Refusal}
 use Rattle.remote.specs.declared.fault.Refusal.TheVariants as refusals
 use Rattle.remote.specs.declared.table.Table.{Table}
-use Rattle.remote.specs.Flow.{Flow, SendsFront, SendsPart, Receives, ReceivesSome}
+use Rattle.remote.specs.Flow.{Flow, MayHaveStopped, SendsFront, SendsPart, Receives, ReceivesSome}
 use Rattle.remote.specs.Line.{ConnectionValue, IsNextStream, IsSameServer, IsUncounted, IsUnopened}
 use Rattle.remote.specs.Line.{MayStayShut}
 use Rattle.remote.specs.Reply.{RoundTripForNone, RoundTripForSome, RoundTripInPart, NextIsNoReply}
@@ -41,6 +41,7 @@ pub record Adds (old new : Flow) (most : ℕ) (before after : List ℕ) : Type 0
 pub record Interrupts (old new : Flow) (e : Refusal) : Type 0 where
   pub other : e ≡ refusals.BadReply → ⊥
   pub none : e ≡ refusals.Io → Receives old new []
+  pub stopped : e ≡ refusals.Io → MayHaveStopped new
   pub some : e ≡ refusals.Memory → ReceivesSome old new
   pub sent : new.sent ≡ old.sent
 
@@ -53,6 +54,7 @@ ReceivesFewer old new size =
 pub record InterruptsBody (old new : Flow) (size : ℕ) (e : Refusal) : Type 0 where
   pub other : e ≡ refusals.BadReply → ⊥
   pub part : e ≡ refusals.Io → ReceivesFewer old new size
+  pub stopped : e ≡ refusals.Io → MayHaveStopped new
   pub some : e ≡ refusals.Memory → ReceivesSome old new
   pub sent : new.sent ≡ old.sent
 

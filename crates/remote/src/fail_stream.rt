@@ -2,7 +2,7 @@ ghost use Rattle.std.specs.Prelude.{◌≡◌, ◌≢◌, IsErr, OnErr, OnOk};
 ghost use Rattle.std.specs.Io.{ReadsAtMost, WritesAtMost};
 ghost use Rattle.std.specs.Io.KnownBytes.{ReadConsumes, WriteAppends};
 ghost use Rattle.http_core.specs.FailStream.{FailsCall, GivesNext, TakesFront};
-ghost use Rattle.remote.specs.Flow.{IsOpenedAnew, IsSameStream, StaysClosed, flow_of};
+ghost use Rattle.remote.specs.Flow.{IsOpenedAnew, IsSameStream, StaysClosed, TellsStop, flow_of};
 
 use crate::stream::Stream;
 use http_core::FailStream;
@@ -19,6 +19,7 @@ impl<A: Allocator> Stream for FailStream<A> {
         ensures bytes { ReadConsumes (flow_of self.old).coming (flow_of self.new).coming
             result buf.new }
         ensures kept { (flow_of self.new).sent ≡ (flow_of self.old).sent }
+        ensures stop { TellsStop result (flow_of self.new) }
         ensures same { IsSameStream (flow_of self.old) (flow_of self.new) }
         ensures fails { self.old.until_failure ≡ 1 → FailsCall self.old self.new result }
         ensures gives { self.old.until_failure ≢ 1
@@ -32,6 +33,7 @@ impl<A: Allocator> Stream for FailStream<A> {
         ensures bytes { WriteAppends (flow_of self.old).sent (flow_of self.new).sent
             result buf.now }
         ensures kept { (flow_of self.new).coming ≡ (flow_of self.old).coming }
+        ensures stop { TellsStop result (flow_of self.new) }
         ensures same { IsSameStream (flow_of self.old) (flow_of self.new) }
         ensures fails { self.old.until_failure ≡ 1 → FailsCall self.old self.new result }
         ensures takes { self.old.until_failure ≢ 1

@@ -4,8 +4,7 @@ ghost use Rattle.std.specs.Prelude.{◌↔◌, IsTrue, codes, string_bytes};
 ghost use Rattle.blob_source.specs.Called.{Calls};
 ghost use Rattle.blob_source.specs.Source.{AsksBlob, AsksResult, GrowsAt, bytes_of, greatest_count};
 ghost use Rattle.remote.specs.Folder.{IsErrorOf, IsFaultAt, IsFreshFolder, IsNotThere, IsReadAs};
-ghost use Rattle.remote.specs.Folder.{FailsAt, IsReadAt, LooksInFolder};
-ghost use Rattle.remote.specs.Folder.{entry_path};
+ghost use Rattle.remote.specs.Folder.{IsReadAt, LooksInFolder, entry_path};
 ghost use Rattle.remote.specs.Folder.{blobs_of, error_of, place_of, results_of, telling_of};
 ghost use Rattle.remote.specs.Table.{HasAnswer, IsSameBut, KeepsAnswers, KeepsNone, told_by};
 ghost use Rattle.remote.specs.declared.files.FileError.TheVariants as errors;
@@ -109,8 +108,8 @@ impl<'r, F: FileReader<A>, A: Allocator + Copy> Folder<'r, F, A> {
             (entry_path (string_bytes self.now.place) part.now digest.now) (bytes_of answer)) }
         ensures error { IfErr result
             (IsErrorOf (entry_path (string_bytes self.now.place) part.now digest.now)) }
-        ensures fault { IfErr result (FailsAt F.fails
-            (entry_path (string_bytes self.now.place) part.now digest.now)) }
+        ensures fault { IfErr result (λ e. e ≢ errors.Memory
+            → F.fails (entry_path (string_bytes self.now.place) part.now digest.now) e) }
     {
         let path = entry_path(alloc, self.place.as_str(), part, digest)?;
         answer_of(self.files.read_at(alloc, path.as_str()))
@@ -139,7 +138,7 @@ impl<'r, F: FileReader<A>, A: Allocator + Copy> Folder<'r, F, A> {
         ensures failed { IsErrOf result FetchError.Failed → IsSomeAnd self.new.error
             (IsFaultAt (entry_path (string_bytes self.old.place) part.now digest.now)) }
         ensures fault { IsErrOf result FetchError.Failed → IsSomeAnd self.new.error
-            (FailsAt F.fails (entry_path (string_bytes self.old.place) part.now digest.now)) }
+            (F.fails (entry_path (string_bytes self.old.place) part.now digest.now)) }
         ensures counted { IsErrOf result FetchError.Failed
             → self.new.failures ≡ self.old.failures + 1 }
         ensures unfailed { (IsErrOf result FetchError.Failed → ⊥) → self.new ≡ self.old }

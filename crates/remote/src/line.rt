@@ -17,13 +17,13 @@ use std::alloc::Allocator;
 /// reply that closes it, it is shut, and opened anew for the next request.
 #[derive(Drop)]
 pub(crate) struct Line<S: Drop, A: Allocator> {
-    pub stream: S,
-    pub host: Host<A>,
-    pub prefix: Prefix<A>,
-    pub broken: bool,
-    pub shut: bool,
-    pub failures: u64,
-    pub fault: Option<Fault>,
+    pub(crate) stream: S,
+    pub(crate) host: Host<A>,
+    pub(crate) prefix: Prefix<A>,
+    pub(crate) broken: bool,
+    pub(crate) shut: bool,
+    pub(crate) failures: u64,
+    pub(crate) fault: Option<Fault>,
 }
 
 impl<S: Stream + Drop, A: Allocator + Copy> Line<S, A> {

@@ -3,8 +3,8 @@ ghost use Rattle.blob_digest.specs.Digest.{digest_of};
 ghost use Rattle.blob_source.specs.Called.{Calls};
 ghost use Rattle.blob_source.specs.Sink.{PutsBlob, PutsResult, IsPut};
 ghost use Rattle.blob_source.specs.Source.{AsksBlob, AsksResult, bytes_of};
-ghost use Rattle.remote.specs.Remote.{IsFreshRemote, LooksUp, Sends, Stores, blobs_of};
-ghost use Rattle.remote.specs.Remote.{connection_of, results_of, telling_of};
+ghost use Rattle.remote.specs.Remote.{IsFreshRemote, LooksUp, SendsBlob, Stores};
+ghost use Rattle.remote.specs.Remote.{blobs_of, connection_of, results_of, telling_of};
 
 use crate::asking::{keep_bytes, look_up};
 use crate::fault::Fault;
@@ -65,7 +65,7 @@ impl<S: Stream + Drop, A: Allocator + Copy> Remote<S, A> {
     /// asked for again.
     pub fn send_blob(&mut self, alloc: A, bytes: &[u8]) -> Result<Digest, FetchError>
         ensures named { IfOk result (λ digest. digest ≡ digest_of bytes.now) }
-        ensures sent { Sends S.flow bytes.now self.old self.new result }
+        ensures sent { SendsBlob S.flow bytes.now self.old self.new result }
     {
         let _count = self.line.failures;
         self.calls = self.calls.saturating_add(1);

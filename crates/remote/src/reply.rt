@@ -20,9 +20,9 @@ const PIECE: usize = 16384;
 /// What a server answered.
 #[derive(Drop)]
 pub(crate) struct Reply<A: Allocator> {
-    pub status: u16,
-    pub body: Vec<u8, A>,
-    pub close: bool,
+    pub(crate) status: u16,
+    pub(crate) body: Vec<u8, A>,
+    pub(crate) close: bool,
 }
 
 /// Sends a request, and reads its reply.

@@ -2,7 +2,8 @@ ghost use Rattle.std.specs.Prelude.{◌≡◌, ◌↔◌, false, IfSome, IsTrue,
 ghost use Rattle.std.specs.Io.{ReadsAtMost, WritesAtMost};
 ghost use Rattle.std.specs.Io.KnownBytes.{ReadConsumes, WriteAppends};
 ghost use Rattle.std.specs.IoError.{error_kind};
-ghost use Rattle.remote.specs.Flow.{Flow, IsOpenedAnew, IsSameStream, StaysClosed, unknown};
+ghost use Rattle.remote.specs.Flow.{Flow, IsOpenedAnew, IsSameStream, StaysClosed, TellsStop};
+ghost use Rattle.remote.specs.Flow.{unknown};
 
 use std::io;
 use std::io::{ErrorKind, Read, Write};
@@ -11,7 +12,8 @@ use std::net::TcpStream;
 /// What gives and takes bytes, each direction apart from the other.
 pub trait Stream {
     /// The bytes that are to come, also once it is opened anew, those sent, whether it is open and
-    /// can be opened anew, and how often it was and couldn't be, where that is known.
+    /// can be opened anew, how often it was and couldn't be, and whether it has stopped, where that
+    /// is known.
     ghost flow: { Self → Flow };
 
     /// Reads some bytes, none only at the end or with no room.
@@ -19,6 +21,7 @@ pub trait Stream {
         ensures bound { ReadsAtMost result buf.new }
         ensures bytes { ReadConsumes (flow self.old).coming (flow self.new).coming result buf.new }
         ensures kept { (flow self.new).sent ≡ (flow self.old).sent }
+        ensures stop { TellsStop result (flow self.new) }
         ensures same { IsSameStream (flow self.old) (flow self.new) };
 
     /// Writes some of the bytes.
@@ -26,6 +29,7 @@ pub trait Stream {
         ensures bound { WritesAtMost result buf.now }
         ensures bytes { WriteAppends (flow self.old).sent (flow self.new).sent result buf.now }
         ensures kept { (flow self.new).coming ≡ (flow self.old).coming }
+        ensures stop { TellsStop result (flow self.new) }
         ensures same { IsSameStream (flow self.old) (flow self.new) };
 
     /// Whether the other side hasn't closed it, so far as that can be told.

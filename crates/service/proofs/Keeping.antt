@@ -9,7 +9,7 @@ use Rattle.cache_server.specs.History.{HistoryEntry, End}
 use Rattle.std.specs.Prelude.{Ok, Err}
 use Rattle.cache_server.specs.Server.{ServerValue, ServerStands, IsOpenAt, session_at}
 use Rattle.cache_server.specs.declared.error.ConnError.TheVariants.{Memory}
-use Rattle.service.specs.Sockets.{EndsAs, Why}
+use Rattle.service.specs.Sockets.{Cause, EndsAs, Failed, Finished, Shut, Silent, Why}
 use Rattle.service.specs.Talks.{entry_number, Answered, Talks, IsShut, MayEnd, Unless, HasEnded, AreBelow, ServesEach}
 use Rattle.service.specs.Talks as talks
 use Rattle.service.specs.Member.{MemberValue, TalksOn, MayEndNow, TalksOnUnless, AreOf, HasMovedOn, MovesOn, new_member}
@@ -43,14 +43,15 @@ uncut : (cut : Bool) (P : Type 0) → P → Unless cut P
 uncut true P h = tt
 uncut false P h = h
 
-lost_may : (cut : Bool) (over : Why → Type 0) (shut : Type 0) (lost : Why → Type 0) (left unsent : List ℕ) (why : Why) → ((cause : Why) → over cause → lost cause) → Unless cut (MayEnd over shut left unsent why) → Unless cut (MayEnd lost shut left unsent why)
+lost_may : (cut : Bool) (over : Cause → Type 0) (shut : Type 0) (lost : Cause → Type 0) (left unsent : List ℕ) (why : Why) → ((cause : Cause) → over cause → lost cause) → Unless cut (MayEnd over shut left unsent why) → Unless cut (MayEnd lost shut left unsent why)
 lost_may true over shut lost left unsent why f h = tt
-lost_may false over shut lost left unsent (Ok done) f (inl (o, p, q)) = inl (f (Ok done) o, p, q)
-lost_may false over shut lost left unsent (Ok done) f (inr h) = inr h
+lost_may false over shut lost left unsent (Ok done) f (inl (o, p, q)) = inl (f Finished o, p, q)
+lost_may false over shut lost left unsent (Ok done) f (inr (h, o, q)) = inr (h, f Shut o, q)
 lost_may false over shut lost left unsent (Err e) f (inl none) = inl none
-lost_may false over shut lost left unsent (Err e) f (inr o) = inr (f (Err e) o)
+lost_may false over shut lost left unsent (Err e) f (inr (inl o)) = inr (inl (f (Failed e) o))
+lost_may false over shut lost left unsent (Err e) f (inr (inr (o, q))) = inr (inr (f Silent o, q))
 
-module _ {S : Type 0} (cut : Bool) (spoke : ℕ → S → List ℕ → List ℕ → Type 0) (ended : ℕ → List ℕ → List ℕ → Why → Type 0) (lost : ℕ → Why → Type 0) where
+module _ {S : Type 0} (cut : Bool) (spoke : ℕ → S → List ℕ → List ℕ → Type 0) (ended : ℕ → List ℕ → List ℕ → Why → Type 0) (lost : ℕ → Cause → Type 0) where
   abbrev KeepsSo : List (ℕ × MemberValue S) → ℕ → ServerValue → List (ℕ × MemberValue S) → ℕ → ServerValue → Type 0
   KeepsSo members accepted server members' accepted' server' =
       (prefix : List ℕ) (opening : CacheValue) (history : List HistoryEntry)
@@ -117,7 +118,7 @@ module _ {S : Type 0} (cut : Bool) (spoke : ℕ → S → List ℕ → List ℕ 
             subst (TalksOrEnded cut spoke ended lost prefix opening history (keeps.entries ++ more) j) (sym (others j n))
             (either_apart j (member_at members j) more keeps.entries (apart_from_own k j more n own) (keeps.each j below))
 
-    moved_at : (over : S → Why → Type 0) (b : Option Why) (members members' : List (ℕ × MemberValue S)) (accepted : ℕ) (old new : ServerValue) (k : ℕ)
+    moved_at : (over : S → Cause → Type 0) (b : Option Why) (members members' : List (ℕ × MemberValue S)) (accepted : ℕ) (old new : ServerValue) (k : ℕ)
         → (moves : MovesOnAt b spoke over k old members new members') → (keeps : KeepsTogether cut spoke ended lost prefix opening history members accepted old)
         → HasMovedOn b spoke over prefix opening history keeps.entries k moves.after new
     moved_at over b members members' accepted old new k moves keeps =
@@ -125,7 +126,7 @@ module _ {S : Type 0} (cut : Bool) (spoke : ℕ → S → List ℕ → List ℕ 
         (moves.moves.on opening history keeps.entries keeps.stands
         (subst (λ (z : List ℕ). TalksOn spoke z opening history keeps.entries k moves.before) (sym keeps.same) (holds_at members accepted old k moves.before keeps moves.held)))
 
-    has_ended : (over : S → Why → Type 0) (entries : List HistoryEntry) (k : ℕ) (stream : S) (why : Why) → EndsAs spoke over stream why ended lost → MayEndNow spoke over prefix opening history entries k stream why
+    has_ended : (over : S → Cause → Type 0) (entries : List HistoryEntry) (k : ℕ) (stream : S) (why : Why) → EndsAs spoke over stream why ended lost → MayEndNow spoke over prefix opening history entries k stream why
         → HasEnded cut ended lost prefix opening history (entries ++ End k ∷ []) k
     has_ended over entries k stream why ends l = record {
       before = entries;
@@ -142,7 +143,7 @@ module _ {S : Type 0} (cut : Bool) (spoke : ℕ → S → List ℕ → List ℕ 
           (uncut cut (MayEnd (over stream) (IsShut prefix k (history ++ entries)) l.left l.unsent why) l.may);
     }
 
-  keeps_moved_so : (over : S → Why → Type 0) (members members' : List (ℕ × MemberValue S)) (accepted : ℕ) (old new : ServerValue) (k : ℕ)
+  keeps_moved_so : (over : S → Cause → Type 0) (members members' : List (ℕ × MemberValue S)) (accepted : ℕ) (old new : ServerValue) (k : ℕ)
       → MovesOnAt None spoke over k old members new members' → KeepsSo members accepted old members' accepted new
   keeps_moved_so over members members' accepted old new k moves prefix opening history keeps =
       let x : HasMovedOn None spoke over prefix opening history keeps.entries k moves.after new = moved_at prefix opening history over None members members' accepted old new k moves keeps in
@@ -150,12 +151,12 @@ module _ {S : Type 0} (cut : Bool) (spoke : ℕ → S → List ℕ → List ℕ 
       (is_open prefix opening history members accepted old k moves.before keeps moves.held) x.theirs moves.others x.stands x.same
       (subst (TalksOrEnded cut spoke ended lost prefix opening history (keeps.entries ++ x.more) k) (sym moves.at) x.holds)
 
-  pub keeps_moved : (over : S → Why → Type 0) (members members' : List (ℕ × MemberValue S)) (accepted : ℕ) (old new : ServerValue) (k : ℕ)
+  pub keeps_moved : (over : S → Cause → Type 0) (members members' : List (ℕ × MemberValue S)) (accepted : ℕ) (old new : ServerValue) (k : ℕ)
       → MovesOnAt None spoke over k old members new members' → GoesOnTogether cut spoke ended lost members accepted old members' accepted new
   keeps_moved over members members' accepted old new k moves = record { on = keeps_moved_so over members members' accepted old new k moves }
 
   -- it moved on, and was ended then
-  left_so : (over : S → Why → Type 0) (why : Why) (members mid members' : List (ℕ × MemberValue S)) (accepted : ℕ) (old between new : ServerValue) (k : ℕ)
+  left_so : (over : S → Cause → Type 0) (why : Why) (members mid members' : List (ℕ × MemberValue S)) (accepted : ℕ) (old between new : ServerValue) (k : ℕ)
       → MovesOnAt (Some why) spoke over k old members between mid → EndsIfAny spoke over ended lost k why between mid new members' → KeepsSo members accepted old members' accepted new
   left_so over why members mid members' accepted old between new k moves (inr (none, same, all)) prefix opening history keeps = none_is_some (member_at mid k) moves.after moves.at none
   left_so over why members mid members' accepted old between new k moves (inl ends) prefix opening history keeps =
@@ -177,17 +178,17 @@ module _ {S : Type 0} (cut : Bool) (spoke : ℕ → S → List ℕ → List ℕ 
       same_member : (o : Option (MemberValue S)) → o ≡ Some moves.after → o ≡ Some ends.m → moves.after ≡ ends.m
       same_member o p q = cc
 
-  pub keeps_left : (over : S → Why → Type 0) (why : Why) (members mid members' : List (ℕ × MemberValue S)) (accepted : ℕ) (old between new : ServerValue) (k : ℕ)
+  pub keeps_left : (over : S → Cause → Type 0) (why : Why) (members mid members' : List (ℕ × MemberValue S)) (accepted : ℕ) (old between new : ServerValue) (k : ℕ)
       → MovesOnAt (Some why) spoke over k old members between mid → EndsIfAny spoke over ended lost k why between mid new members' → GoesOnTogether cut spoke ended lost members accepted old members' accepted new
   keeps_left over why members mid members' accepted old between new k moves ends = record { on = left_so over why members mid members' accepted old between new k moves ends }
 
   -- it may end so, whatever led to the server
-  abbrev MayEndSo : (S → Why → Type 0) → ℕ → ServerValue → MemberValue S → Why → Type 0
+  abbrev MayEndSo : (S → Cause → Type 0) → ℕ → ServerValue → MemberValue S → Why → Type 0
   MayEndSo over k server m why =
       (prefix : List ℕ) (opening : CacheValue) (history entries : List HistoryEntry) → ServerStands opening server (history ++ entries) → server.prefix ≡ prefix
       → Unless cut (MayEnd (over m.stream) (IsShut prefix k (history ++ entries)) m.left m.unsent why)
 
-  ended_so : (over : S → Why → Type 0) (why : Why) (members members' : List (ℕ × MemberValue S)) (accepted : ℕ) (old new : ServerValue) (k : ℕ)
+  ended_so : (over : S → Cause → Type 0) (why : Why) (members members' : List (ℕ × MemberValue S)) (accepted : ℕ) (old new : ServerValue) (k : ℕ)
       → (ends : EndsAt spoke over ended lost k why old members new members') → MayEndSo over k old ends.m why → KeepsSo members accepted old members' accepted new
   ended_so over why members members' accepted old new k ends may prefix opening history keeps =
       let h : TalksOn spoke prefix opening history keeps.entries k ends.m = holds_at prefix opening history members accepted old k ends.m keeps ends.held in
@@ -210,14 +211,14 @@ module _ {S : Type 0} (cut : Bool) (spoke : ℕ → S → List ℕ → List ℕ 
         may = lost_may cut (over ends.m.stream) (IsShut prefix k (history ++ keeps.entries)) (lost k) ends.m.left ends.m.unsent why (λ cause. ends.ends.found k h.read h.sent cause h.said) m;
       }))
 
-  keeps_ended_so : (over : S → Why → Type 0) (why : Why) (members members' : List (ℕ × MemberValue S)) (accepted : ℕ) (old new : ServerValue) (k : ℕ)
+  keeps_ended_so : (over : S → Cause → Type 0) (why : Why) (members members' : List (ℕ × MemberValue S)) (accepted : ℕ) (old new : ServerValue) (k : ℕ)
       → ((m : MemberValue S) → member_at members k ≡ Some m → MayEndSo over k old m why) → EndsIfAny spoke over ended lost k why old members new members' → GoesOnTogether cut spoke ended lost members accepted old members' accepted new
   keeps_ended_so over why members members' accepted old new k may (inr (none, same, all)) =
       subst (λ (z : ServerValue). GoesOnTogether cut spoke ended lost members accepted old members' accepted z) (sym same) (keeps_same members members' accepted old all)
   keeps_ended_so over why members members' accepted old new k may (inl ends) = record { on = ended_so over why members members' accepted old new k ends (may ends.m ends.held) }
 
   -- it is ended as it may be
-  pub keeps_ended : (over : S → Why → Type 0) (why : Why) (members members' : List (ℕ × MemberValue S)) (accepted : ℕ) (old new : ServerValue) (k : ℕ)
+  pub keeps_ended : (over : S → Cause → Type 0) (why : Why) (members members' : List (ℕ × MemberValue S)) (accepted : ℕ) (old new : ServerValue) (k : ℕ)
       → MayEndAt over k old members why → EndsIfAny spoke over ended lost k why old members new members' → GoesOnTogether cut spoke ended lost members accepted old members' accepted new
   keeps_ended over why members members' accepted old new k may ends = keeps_ended_so over why members members' accepted old new k so ends
     where
@@ -231,7 +232,7 @@ module _ {S : Type 0} (cut : Bool) (spoke : ℕ → S → List ℕ → List ℕ 
           (subst (λ (z : MemberValue S). MayEnd (over z.stream) (IsOpenAt (session_at old k) → ⊥) z.left z.unsent why) (same_member (member_at members k) m may.held e) may.may))
 
   -- without memory it may end at any time
-  pub keeps_lost : (over : S → Why → Type 0) (members mid members' : List (ℕ × MemberValue S)) (accepted : ℕ) (old between new : ServerValue) (k : ℕ)
+  pub keeps_lost : (over : S → Cause → Type 0) (members mid members' : List (ℕ × MemberValue S)) (accepted : ℕ) (old between new : ServerValue) (k : ℕ)
       → MovesOnAt None spoke over k old members between mid → EndsIfAny spoke over ended lost k (Err Memory) between mid new members' → GoesOnTogether cut spoke ended lost members accepted old members' accepted new
   keeps_lost over members mid members' accepted old between new k moves ends =
       keeps_further members mid members' accepted accepted accepted old between new (keeps_moved over members mid accepted old between k moves)
@@ -303,7 +304,7 @@ module _ {S : Type 0} (cut : Bool) (spoke : ℕ → S → List ℕ → List ℕ 
 
 -- ---- the run is cut off
 
-cut_talks : {S : Type 0} (spoke : ℕ → S → List ℕ → List ℕ → Type 0) (ended : ℕ → List ℕ → List ℕ → Why → Type 0) (lost : ℕ → Why → Type 0) (prefix : List ℕ) (opening : CacheValue) (history entries : List HistoryEntry) (k : ℕ) (o : Option (MemberValue S))
+cut_talks : {S : Type 0} (spoke : ℕ → S → List ℕ → List ℕ → Type 0) (ended : ℕ → List ℕ → List ℕ → Why → Type 0) (lost : ℕ → Cause → Type 0) (prefix : List ℕ) (opening : CacheValue) (history entries : List HistoryEntry) (k : ℕ) (o : Option (MemberValue S))
     → TalksOrEnded false spoke ended lost prefix opening history entries k o → TalksOrEnded true spoke ended lost prefix opening history entries k o
 cut_talks spoke ended lost prefix opening history entries k (Some m) h = h
 cut_talks spoke ended lost prefix opening history entries k None h = record {
@@ -320,7 +321,7 @@ cut_talks spoke ended lost prefix opening history entries k None h = record {
   may = tt;
 }
 
-pub keeps_cut : {S : Type 0} (spoke : ℕ → S → List ℕ → List ℕ → Type 0) (ended : ℕ → List ℕ → List ℕ → Why → Type 0) (lost : ℕ → Why → Type 0) (prefix : List ℕ) (opening : CacheValue) (history : List HistoryEntry) (members : List (ℕ × MemberValue S)) (accepted : ℕ) (server : ServerValue)
+pub keeps_cut : {S : Type 0} (spoke : ℕ → S → List ℕ → List ℕ → Type 0) (ended : ℕ → List ℕ → List ℕ → Why → Type 0) (lost : ℕ → Cause → Type 0) (prefix : List ℕ) (opening : CacheValue) (history : List HistoryEntry) (members : List (ℕ × MemberValue S)) (accepted : ℕ) (server : ServerValue)
     → KeepsTogether false spoke ended lost prefix opening history members accepted server → KeepsTogether true spoke ended lost prefix opening history members accepted server
 keeps_cut spoke ended lost prefix opening history members accepted server keeps = record {
   entries = keeps.entries;
@@ -332,6 +333,6 @@ keeps_cut spoke ended lost prefix opening history members accepted server keeps 
 }
 
 -- any of them is ended
-pub cut_ended : {S : Type 0} (spoke : ℕ → S → List ℕ → List ℕ → Type 0) (ended : ℕ → List ℕ → List ℕ → Why → Type 0) (lost : ℕ → Why → Type 0) (over : S → Why → Type 0) (why : Why) (members members' : List (ℕ × MemberValue S)) (accepted : ℕ) (old new : ServerValue) (k : ℕ)
+pub cut_ended : {S : Type 0} (spoke : ℕ → S → List ℕ → List ℕ → Type 0) (ended : ℕ → List ℕ → List ℕ → Why → Type 0) (lost : ℕ → Cause → Type 0) (over : S → Cause → Type 0) (why : Why) (members members' : List (ℕ × MemberValue S)) (accepted : ℕ) (old new : ServerValue) (k : ℕ)
     → EndsIfAny spoke over ended lost k why old members new members' → GoesOnTogether true spoke ended lost members accepted old members' accepted new
 cut_ended spoke ended lost over why members members' accepted old new k ends = keeps_ended_so true spoke ended lost over why members members' accepted old new k (λ m e prefix opening history entries stands same. tt) ends

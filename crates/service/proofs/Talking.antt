@@ -2,7 +2,7 @@
 use Rattle.std.proofs.Common.{◌≡◌, ℕ, ◌<◌, ◌≤◌, ◌⊎◌, inl, inr, Bool, true, false, Option, Some, None, List, [], ◌∷◌, ◌++◌, take, drop, length, refl, sym, ◌∙◌, ap, subst, append_assoc, arith, ◌+◌, ◌-◌, zero, suc, drop_of_length-le, length-take}
 use Rattle.std.specs.Prelude.{option_map}
 use Rattle.std.specs.Option.{unwrap_or}
-use Rattle.std.proofs.lemmas.List.{append-nil, take-append-drop, take-append-le, drop-drop, drop_at, drop-append-le, take-take}
+use Rattle.std.proofs.lemmas.List.{append-nil, length-append, length-drop, take-append-drop, take-append-le, drop-drop, drop_at, drop-append-le, take-take}
 use Rattle.std.specs.Prelude.{Ok, Err}
 use Rattle.http_core.specs.Event.{EventValue}
 use Rattle.http_core.specs.Session.{SessionValue, Closed}
@@ -14,12 +14,13 @@ use Rattle.cache_server.specs.Cache.{CacheValue}
 use Rattle.cache_server.specs.History.{HistoryEntry, Piece, Fail, End, stream_of, has_failed}
 use Rattle.cache_server.specs.Server.{ServerValue, ServerStands, StandsOrFails, StandsSo, KeepsSession, IsOpenAt, session_at}
 use Rattle.cache_server.specs.Turn.{IsOneAnswerTo}
-use Rattle.cache_server.specs.declared.error.ConnError.TheVariants.{WriteFault, Memory}
-use Rattle.service.specs.Sockets.{ReadsFrom, SendsTo, Stays, Why}
-use Rattle.service.specs.Talks.{entry_number, Answered, Talks, IsShut, MayEnd, HasEnded}
+use Rattle.cache_server.specs.declared.error.ConnError.TheVariants.{ReadFault, WriteFault, Memory}
+use Rattle.cache_server.specs.declared.error.ConnError.{ConnError}
+use Rattle.service.specs.Sockets.{Cause, Failed, Finished, IsBroken, ReadsFrom, SendsTo, Shut, Stays, Why}
+use Rattle.std.specs.declared.io.Error.{Error}
+use Rattle.service.specs.Talks.{entry_number, fault_of_silence, Answered, Talks, IsShut, MayEnd, HasEnded}
 use Rattle.service.specs.Talks as talks
-use Rattle.service.specs.declared.turn.Turn.{Turn}
-use Rattle.service.specs.Member.{MemberValue, unsent_of, TalksOn, MayEndNow, FailsFor, EndsWell, end_of, TalksOnUnless, AreOf, HasMovedOn, MovesOn, Passes, PassesSent}
+use Rattle.service.specs.Member.{MemberValue, unsent_of, TalksOn, MayEndNow, FailsFor, EndsFor, EndsWell, TalksOnUnless, AreOf, HasMovedOn, MovesOn, Passes, PassesSent}
 
 -- ---- entries of other connections
 
@@ -60,7 +61,7 @@ module _ (prefix : List ℕ) (opening : CacheValue) (history : List HistoryEntry
   }
 
   -- whatever comes after its end
-  pub ended_before : (cut : Bool) (ended : ℕ → List ℕ → List ℕ → Why → Type 0) (lost : ℕ → Why → Type 0) (j : ℕ) (more entries : List HistoryEntry)
+  pub ended_before : (cut : Bool) (ended : ℕ → List ℕ → List ℕ → Why → Type 0) (lost : ℕ → Cause → Type 0) (j : ℕ) (more entries : List HistoryEntry)
       → HasEnded cut ended lost prefix opening history entries j → HasEnded cut ended lost prefix opening history (entries ++ more) j
   ended_before cut ended lost j more entries h = record {
     before = h.before;
@@ -79,11 +80,12 @@ module _ (prefix : List ℕ) (opening : CacheValue) (history : List HistoryEntry
   -- ---- one connection
 
   -- it may end for a fault, as where it is over or memory is wanting
-  fault_may : (over : Why → Type 0) (shut : Type 0) (left unsent : List ℕ) (why : Why) → FailsFor over (Some why) → MayEnd over shut left unsent why
+  fault_may : (over : Cause → Type 0) (shut : Type 0) (left unsent : List ℕ) (why : Why) → FailsFor (λ e. over (Failed e)) (Some why) → MayEnd over shut left unsent why
   fault_may over shut left unsent (Ok done) f = absurd f
-  fault_may over shut left unsent (Err e) f = f
+  fault_may over shut left unsent (Err e) (inl none) = inl none
+  fault_may over shut left unsent (Err e) (inr o) = inr (inl o)
 
-  pub leaves : {S : Type 0} (spoke : ℕ → S → List ℕ → List ℕ → Type 0) (over : S → Why → Type 0) (entries : List HistoryEntry) (k : ℕ) (m : MemberValue S) (why : Why)
+  pub leaves : {S : Type 0} (spoke : ℕ → S → List ℕ → List ℕ → Type 0) (over : S → Cause → Type 0) (entries : List HistoryEntry) (k : ℕ) (m : MemberValue S) (why : Why)
       → TalksOn spoke prefix opening history entries k m → MayEnd (over m.stream) (IsShut prefix k (history ++ entries)) m.left m.unsent why
       → MayEndNow spoke over prefix opening history entries k m.stream why
   leaves spoke over entries k m why h may = record {
@@ -96,8 +98,8 @@ module _ (prefix : List ℕ) (opening : CacheValue) (history : List HistoryEntry
     may = may;
   }
 
-  pub unless : {S : Type 0} (e : Option Why) (spoke : ℕ → S → List ℕ → List ℕ → Type 0) (over : S → Why → Type 0) (entries : List HistoryEntry) (k : ℕ) (m : MemberValue S)
-      → FailsFor (over m.stream) e → TalksOn spoke prefix opening history entries k m → TalksOnUnless e spoke over prefix opening history entries k m
+  pub unless : {S : Type 0} (e : Option Why) (spoke : ℕ → S → List ℕ → List ℕ → Type 0) (over : S → Cause → Type 0) (entries : List HistoryEntry) (k : ℕ) (m : MemberValue S)
+      → FailsFor (λ e. over m.stream (Failed e)) e → TalksOn spoke prefix opening history entries k m → TalksOnUnless e spoke over prefix opening history entries k m
   unless None spoke over entries k m f h = h
   unless (Some why) spoke over entries k m f h = leaves spoke over entries k m why h (fault_may (over m.stream) (IsShut prefix k (history ++ entries)) m.left m.unsent why f)
 
@@ -164,21 +166,34 @@ unsent_more (Some a) s count = sym (drop-drop count s (text_of a))
 pub all_sent : (a : AnswerValue) (s : ℕ) → length a.head ≤ s → length a.body ≤ s - length a.head → unsent_of (Some a) s ≡ []
 all_sent a s h b = drop_past s a.head a.body h ∙ drop_of_length-le a.body b
 
+pub whole_sent : (a : AnswerValue) (s : ℕ) → unsent_of (Some a) s ≡ [] → (length a.head ≤ s) × (length a.body ≤ s - length a.head)
+whole_sent a s e =
+    let n : length (drop s (a.head ++ a.body)) ≡ length (a.head ++ a.body) - s = length-drop s (a.head ++ a.body) in
+    let m : length (a.head ++ a.body) ≡ length a.head + length a.body = length-append a.head a.body in
+    let z : length (drop s (a.head ++ a.body)) ≡ 0 = ap length e in
+    (omega (arith, n, m, z), omega (arith, n, m, z))
+
 text_unsent : (answer : Option AnswerValue) → unwrap_or (option_map text_of answer) [] ≡ unsent_of answer 0
 text_unsent None = refl
 text_unsent (Some a) = refl
 
 -- ---- faults
 
-fails_so : (P Q : Why → Type 0) (e : Option Why) → ((why : Why) → P why → Q why) → FailsFor P e → FailsFor Q e
-fails_so P Q None f h = tt
-fails_so P Q (Some (Ok done)) f h = h
-fails_so P Q (Some (Err e)) f (inl none) = inl none
-fails_so P Q (Some (Err e)) f (inr h) = inr (f (Err e) h)
+-- the fault after which it ends is one for which it is over
+pub fails_for : (Q : ConnError → Type 0) (fault : Error) (cause : ConnError) (end : Option Why) → (IsBroken fault → Q cause) → EndsFor fault cause end → FailsFor Q end
+fails_for Q fault cause None f h = tt
+fails_for Q fault cause (Some (Ok done)) f h = h
+fails_for Q fault cause (Some (Err e)) f (inl (room, none)) = inl none
+fails_for Q fault cause (Some (Err e)) f (inr (broken, is)) = inr (subst Q (sym is) (f broken))
 
--- the fault after which the turn ends is one for which it is over
-pub fails_for : {P : Type 0} (Q : Why → Type 0) (cause : Why) (turn : Turn) → (P → Q cause) → FailsFor (λ why. P × (why ≡ cause)) (end_of turn) → FailsFor Q (end_of turn)
-fails_for {P} Q cause turn f h = fails_so (λ why. P × (why ≡ cause)) Q (end_of turn) (λ why p. subst Q (sym p.1) (f p.0)) h
+-- ---- silence
+
+pub sender_silent : (unsent : List ℕ) → (unsent ≡ [] → ⊥) → WriteFault ≡ fault_of_silence unsent
+sender_silent [] some = absurd (some refl)
+sender_silent (byte ∷ unsent) some = refl
+
+pub reader_silent : (unsent : List ℕ) → unsent ≡ [] → ReadFault ≡ fault_of_silence unsent
+reader_silent unsent none = ap fault_of_silence (sym none)
 
 -- ---- no more can be answered
 
@@ -205,13 +220,13 @@ pub shut_is : (opening : CacheValue) (server : ServerValue) (k : ℕ) (history :
 shut_is opening server k history stands shut = shut_session server.prefix (session_at server k) k history (stands.sessions k) shut
 
 -- why it may end, by the server's session and by what came before
-pub may_end : (opening : CacheValue) (server : ServerValue) (k : ℕ) (history : List HistoryEntry) (prefix : List ℕ) (over : Why → Type 0) (left unsent : List ℕ) (why : Why) → ServerStands opening server history → server.prefix ≡ prefix
+pub may_end : (opening : CacheValue) (server : ServerValue) (k : ℕ) (history : List HistoryEntry) (prefix : List ℕ) (over : Cause → Type 0) (left unsent : List ℕ) (why : Why) → ServerStands opening server history → server.prefix ≡ prefix
     → MayEnd over (IsOpenAt (session_at server k) → ⊥) left unsent why → MayEnd over (IsShut prefix k history) left unsent why
 may_end opening server k history prefix over left unsent (Ok done) stands same (inl all) = inl all
-may_end opening server k history prefix over left unsent (Ok done) stands same (inr (shut, none)) = inr (subst (λ z. IsShut z k history) same (shut_is opening server k history stands shut), none)
+may_end opening server k history prefix over left unsent (Ok done) stands same (inr (shut, o, none)) = inr (subst (λ z. IsShut z k history) same (shut_is opening server k history stands shut), o, none)
 may_end opening server k history prefix over left unsent (Err e) stands same f = f
 
-module _ {S : Type 0} (spoke : ℕ → S → List ℕ → List ℕ → Type 0) (over : S → Why → Type 0) where
+module _ {S : Type 0} (spoke : ℕ → S → List ℕ → List ℕ → Type 0) (over : S → Cause → Type 0) where
   abbrev MovesSo : Option Why → ℕ → ServerValue → MemberValue S → ServerValue → MemberValue S → Type 0
   MovesSo e k old before new after =
       (opening : CacheValue) (history entries : List HistoryEntry) → ServerStands opening old (history ++ entries)
@@ -219,7 +234,7 @@ module _ {S : Type 0} (spoke : ℕ → S → List ℕ → List ℕ → Type 0) (
 
   -- ---- nothing comes to the server
 
-  pub stays_passes : (e : Option Why) (before after : MemberValue S) → Stays spoke before.stream after.stream → after.left ≡ before.left → after.unsent ≡ before.unsent → FailsFor (over after.stream) e → Passes e spoke over before after
+  pub stays_passes : (e : Option Why) (before after : MemberValue S) → Stays spoke before.stream after.stream → after.left ≡ before.left → after.unsent ≡ before.unsent → FailsFor (λ e. over after.stream (Failed e)) e → Passes e spoke over before after
   stays_passes e before after stays p q f = record {
     on = λ prefix opening history entries k h. unless prefix opening history e spoke over entries k after f (record {
       read = h.read;
@@ -274,7 +289,7 @@ module _ {S : Type 0} (spoke : ℕ → S → List ℕ → List ℕ → Type 0) (
   pub sends_lost : (count : ℕ) (before after : MemberValue S) → Stays spoke before.stream after.stream → PassesSent (Some (Err Memory)) spoke over count before after
   sends_lost count before after stays = record { left = λ e. cc; unsent = λ e. cc; stays = stays; fails = inl refl }
 
-  pub sends_over : (count : ℕ) (before after : MemberValue S) → Stays spoke before.stream after.stream → over after.stream (Err WriteFault) → PassesSent (Some (Err WriteFault)) spoke over count before after
+  pub sends_over : (count : ℕ) (before after : MemberValue S) → Stays spoke before.stream after.stream → over after.stream (Failed WriteFault) → PassesSent (Some (Err WriteFault)) spoke over count before after
   sends_over count before after stays o = record { left = λ e. cc; unsent = λ e. cc; stays = stays; fails = inr o }
 
   pub sends_more : (count : ℕ) (before after : MemberValue S) → Stays spoke before.stream after.stream → after.left ≡ before.left → after.unsent ≡ drop count before.unsent → PassesSent None spoke over count before after
@@ -297,7 +312,7 @@ module _ {S : Type 0} (spoke : ℕ → S → List ℕ → List ℕ → Type 0) (
   reads_none before after bytes e reads k read sent h = subst (λ z. spoke k after z sent) (ap (λ z. read ++ z) e ∙ append-nil read) (reads k read sent h)
 
   -- the peer has ended it, and nothing is left
-  pub reads_end : (before after : MemberValue S) → Stays spoke before.stream after.stream → before.left ≡ [] → before.unsent ≡ [] → over after.stream (Ok tt) → Passes (Some (Ok tt)) spoke over before after
+  pub reads_end : (before after : MemberValue S) → Stays spoke before.stream after.stream → before.left ≡ [] → before.unsent ≡ [] → over after.stream Finished → Passes (Some (Ok tt)) spoke over before after
   reads_end before after stays left unsent o = record {
     on = λ prefix opening history entries k h. record {
       read = h.read;
@@ -311,7 +326,7 @@ module _ {S : Type 0} (spoke : ℕ → S → List ℕ → List ℕ → Type 0) (
   }
 
   -- no more can be answered
-  pub lingers_moves : (e : Option Why) (k : ℕ) (server : ServerValue) (before after : MemberValue S) → EndsWell e → (IsOpenAt (session_at server k) → ⊥) → Stays spoke before.stream after.stream → after.left ≡ before.left → after.unsent ≡ before.unsent → before.unsent ≡ []
+  pub lingers_moves : (e : Option Why) (k : ℕ) (server : ServerValue) (before after : MemberValue S) → EndsWell (over after.stream Shut) e → (IsOpenAt (session_at server k) → ⊥) → Stays spoke before.stream after.stream → after.left ≡ before.left → after.unsent ≡ before.unsent → before.unsent ≡ []
       → MovesOn e spoke over k server before server after
   lingers_moves None k server before after well shut stays p q none = passes_moves None k server before after (stays_passes None before after stays p q tt)
   lingers_moves (Some (Err e)) k server before after well shut stays p q none = absurd well
@@ -328,7 +343,7 @@ module _ {S : Type 0} (spoke : ℕ → S → List ℕ → List ℕ → Type 0) (
         unsent = before.unsent;
         said = stays k h.read h.sent h.said;
         talks = h.talks;
-        may = inr (shut_is opening server k (history ++ entries) stands shut, none);
+        may = inr (shut_is opening server k (history ++ entries) stands shut, well, none);
       });
     };
   }
@@ -350,7 +365,7 @@ module _ {S : Type 0} (spoke : ℕ → S → List ℕ → List ℕ → Type 0) (
   pub moves_from : (e : Option Why) (k : ℕ) (s t : ServerValue) (l l' n : MemberValue S) → l' ≡ l → MovesOn e spoke over k s l' t n → MovesOn e spoke over k s l t n
   moves_from e k s t l l' n q p = subst (λ (z : MemberValue S). MovesOn e spoke over k s z t n) q p
 
-  pub stays_moves : (e : Option Why) (k : ℕ) (server : ServerValue) (before after : MemberValue S) → Stays spoke before.stream after.stream → after.left ≡ before.left → after.unsent ≡ before.unsent → FailsFor (over after.stream) e
+  pub stays_moves : (e : Option Why) (k : ℕ) (server : ServerValue) (before after : MemberValue S) → Stays spoke before.stream after.stream → after.left ≡ before.left → after.unsent ≡ before.unsent → FailsFor (λ e. over after.stream (Failed e)) e
       → MovesOn e spoke over k server before server after
   stays_moves e k server before after stays p q f = passes_moves e k server before after (stays_passes e before after stays p q f)
 

@@ -7,13 +7,13 @@ use Rattle.std.proofs.lemmas.List.{append-nil}
 use Rattle.cache_server.specs.Cache.{CacheValue}
 use Rattle.cache_server.specs.History.{HistoryEntry}
 use Rattle.cache_server.specs.Server.{ServerValue, ServerStands}
-use Rattle.service.specs.Sockets.{Why}
+use Rattle.service.specs.Sockets.{Cause, Why}
 use Rattle.service.specs.Talks.{ServesEach}
 use Rattle.service.specs.Member.{MemberValue}
 use Rattle.service.specs.Together.{member_at, EndsIfAny, GoesOnTogether}
 use Rattle.service.proofs.Keeping.{keeps_first, keeps_all, keeps_cut}
 
-pub serves_none : (cut : Bool) (ended : ℕ → List ℕ → List ℕ → Why → Type 0) (lost : ℕ → Why → Type 0) (opening : CacheValue) (history : List HistoryEntry) (server : ServerValue)
+pub serves_none : (cut : Bool) (ended : ℕ → List ℕ → List ℕ → Why → Type 0) (lost : ℕ → Cause → Type 0) (opening : CacheValue) (history : List HistoryEntry) (server : ServerValue)
     → ServerStands opening server history → ServesEach cut ended lost server.prefix opening history 0 server
 serves_none cut ended lost opening history server stands = record {
   entries = [];
@@ -22,7 +22,7 @@ serves_none cut ended lost opening history server stands = record {
   each = λ k h. absurd (omega arith);
 }
 
-pub serves_all : {S : Type 0} (spoke : ℕ → S → List ℕ → List ℕ → Type 0) (ended : ℕ → List ℕ → List ℕ → Why → Type 0) (lost : ℕ → Why → Type 0)
+pub serves_all : {S : Type 0} (spoke : ℕ → S → List ℕ → List ℕ → Type 0) (ended : ℕ → List ℕ → List ℕ → Why → Type 0) (lost : ℕ → Cause → Type 0)
     (opening : CacheValue) (history : List HistoryEntry) (none all : List (ℕ × MemberValue S)) (accepted : ℕ) (s u : ServerValue)
     → none ≡ [] → GoesOnTogether false spoke ended lost none 0 s all accepted u
     → ((k : ℕ) → member_at all k ≡ None) → ServerStands opening s history → ServesEach false ended lost s.prefix opening history accepted u
@@ -30,7 +30,7 @@ serves_all spoke ended lost opening history none all accepted s u e p gone stand
     keeps_all false spoke ended lost s.prefix opening history all accepted u (λ k h. gone k)
     (p.on s.prefix opening history (keeps_first false spoke ended lost opening history none s e stands))
 
-pub serves_cut : {S : Type 0} (spoke : ℕ → S → List ℕ → List ℕ → Type 0) (ended : ℕ → List ℕ → List ℕ → Why → Type 0) (lost : ℕ → Why → Type 0)
+pub serves_cut : {S : Type 0} (spoke : ℕ → S → List ℕ → List ℕ → Type 0) (ended : ℕ → List ℕ → List ℕ → Why → Type 0) (lost : ℕ → Cause → Type 0)
     (opening : CacheValue) (history : List HistoryEntry) (none some all : List (ℕ × MemberValue S)) (accepted : ℕ) (s t u : ServerValue)
     → none ≡ [] → GoesOnTogether false spoke ended lost none 0 s some accepted t → GoesOnTogether true spoke ended lost some accepted t all accepted u
     → ((k : ℕ) → k < accepted → member_at all k ≡ None) → ServerStands opening s history → ServesEach true ended lost s.prefix opening history accepted u
@@ -39,7 +39,7 @@ serves_cut spoke ended lost opening history none some all accepted s t u e p q g
     (q.on s.prefix opening history (keeps_cut spoke ended lost s.prefix opening history some accepted t (p.on s.prefix opening history (keeps_first false spoke ended lost opening history none s e stands))))
 
 -- one more connection isn't open
-pub gone_more : {S : Type 0} (spoke : ℕ → S → List ℕ → List ℕ → Type 0) (over : S → Why → Type 0) (ended : ℕ → List ℕ → List ℕ → Why → Type 0) (lost : ℕ → Why → Type 0) (number : ℕ) (why : Why) (s t : ServerValue) (old new : List (ℕ × MemberValue S))
+pub gone_more : {S : Type 0} (spoke : ℕ → S → List ℕ → List ℕ → Type 0) (over : S → Cause → Type 0) (ended : ℕ → List ℕ → List ℕ → Why → Type 0) (lost : ℕ → Cause → Type 0) (number : ℕ) (why : Why) (s t : ServerValue) (old new : List (ℕ × MemberValue S))
     → EndsIfAny spoke over ended lost number why s old t new → ((k : ℕ) → k < number → member_at old k ≡ None) → (k : ℕ) → k < number + 1 → member_at new k ≡ None
 gone_more {S} spoke over ended lost number why s t old new ends gone k h = by_test (eqb_tells k number)
   where

@@ -1,11 +1,15 @@
 -- An open connection, one of many.
 use Rattle.std.specs.Prelude.{◌≡◌, ◌⊎◌, ℕ, ⊤, List, [], ◌∷◌, ◌++◌, Option, Some, None, Ok, Err}
 use Rattle.std.specs.Prelude.{drop}
+use Rattle.std.specs.IoError.{error_kind}
+use Rattle.std.specs.declared.io.Error.{Error}
+use Rattle.std.specs.declared.io.ErrorKind.TheVariants.{Interrupted, OutOfMemory, WouldBlock}
 use Rattle.cache_server.specs.Answer.{AnswerValue, text_of}
 use Rattle.cache_server.specs.Cache.{CacheValue}
 use Rattle.cache_server.specs.History.{HistoryEntry}
 use Rattle.cache_server.specs.Server.{ServerValue, ServerStands}
-use Rattle.service.specs.Sockets.{Stays, Why}
+use Rattle.service.specs.Sockets.{Cause, Failed, IsBroken, Stays, Why}
+use Rattle.cache_server.specs.declared.error.ConnError.{ConnError}
 use Rattle.cache_server.specs.declared.error.ConnError.TheVariants.{Memory}
 use Rattle.service.specs.Talks.{IsShut, MayEnd, Talks, entry_number}
 use Rattle.service.specs.declared.turn.Turn.{Turn}
@@ -42,7 +46,7 @@ pub record TalksOn
 
 -- it may end, for this reason
 pub record MayEndNow
-    {S : Type 0} (spoke : ℕ → S → List ℕ → List ℕ → Type 0) (over : S → Why → Type 0)
+    {S : Type 0} (spoke : ℕ → S → List ℕ → List ℕ → Type 0) (over : S → Cause → Type 0)
     (prefix : List ℕ) (opening : CacheValue) (history entries : List HistoryEntry) (k : ℕ)
     (stream : S) (why : Why) : Type 0 where
   pub read : List ℕ
@@ -61,21 +65,29 @@ end_of Held = None
 end_of (Ends why) = Some why
 
 -- it ends only with a fault: memory is wanting, or this holds of it
-abbrev pub FailsFor : (Why → Type 0) → Option Why → Type 0
-FailsFor over None = ⊤
-FailsFor over (Some (Ok done)) = ⊥
-FailsFor over (Some (Err e)) = (e ≡ Memory) ⊎ over (Err e)
+abbrev pub FailsFor : (ConnError → Type 0) → Option Why → Type 0
+FailsFor fails None = ⊤
+FailsFor fails (Some (Ok done)) = ⊥
+FailsFor fails (Some (Err e)) = (e ≡ Memory) ⊎ fails e
 
--- it ends only without a fault
-abbrev pub EndsWell : Option Why → Type 0
-EndsWell None = ⊤
-EndsWell (Some (Ok done)) = ⊤
-EndsWell (Some (Err e)) = ⊥
+-- After a call failed with this fault: it ends without memory or as broken, with this error, and
+-- goes on where the system has nothing for it or it was interrupted.
+abbrev pub EndsFor : Error → ConnError → Option Why → Type 0
+EndsFor fault other None = (error_kind fault ≡ WouldBlock) ⊎ (error_kind fault ≡ Interrupted)
+EndsFor fault other (Some (Ok done)) = ⊥
+EndsFor fault other (Some (Err e)) =
+    ((error_kind fault ≡ OutOfMemory) × (e ≡ Memory)) ⊎ (IsBroken fault × (e ≡ other))
+
+-- it ends only without a fault, where this holds
+abbrev pub EndsWell : Type 0 → Option Why → Type 0
+EndsWell holds None = ⊤
+EndsWell holds (Some (Ok done)) = holds
+EndsWell holds (Some (Err e)) = ⊥
 
 -- it goes on, or ends for this reason
 abbrev pub TalksOnUnless :
     {S : Type 0} → Option Why → (ℕ → S → List ℕ → List ℕ → Type 0)
-    → (S → Why → Type 0) → List ℕ → CacheValue → List HistoryEntry → List HistoryEntry → ℕ
+    → (S → Cause → Type 0) → List ℕ → CacheValue → List HistoryEntry → List HistoryEntry → ℕ
     → MemberValue S → Type 0
 TalksOnUnless None spoke over prefix opening history entries k m =
     TalksOn spoke prefix opening history entries k m
@@ -90,7 +102,7 @@ AreOf k (entry ∷ entries) = (entry_number entry ≡ k) × AreOf k entries
 -- entries of the connection alone led to the server, and it goes on, or ends
 pub record HasMovedOn
     {S : Type 0} (end : Option Why)
-    (spoke : ℕ → S → List ℕ → List ℕ → Type 0) (over : S → Why → Type 0) (prefix : List ℕ)
+    (spoke : ℕ → S → List ℕ → List ℕ → Type 0) (over : S → Cause → Type 0) (prefix : List ℕ)
     (opening : CacheValue) (history entries : List HistoryEntry) (k : ℕ) (m : MemberValue S)
     (server : ServerValue) : Type 0 where
   pub more : List HistoryEntry
@@ -102,7 +114,7 @@ pub record HasMovedOn
 -- so it is whatever history had led to the server
 pub record MovesOn
     {S : Type 0} (end : Option Why)
-    (spoke : ℕ → S → List ℕ → List ℕ → Type 0) (over : S → Why → Type 0) (k : ℕ)
+    (spoke : ℕ → S → List ℕ → List ℕ → Type 0) (over : S → Cause → Type 0) (k : ℕ)
     (old : ServerValue) (before : MemberValue S) (new : ServerValue) (after : MemberValue S)
     : Type 0 where
   pub on : (opening : CacheValue) (history entries : List HistoryEntry)
@@ -113,7 +125,7 @@ pub record MovesOn
 -- some was read or sent, and nothing came to the server
 pub record Passes
     {S : Type 0} (end : Option Why)
-    (spoke : ℕ → S → List ℕ → List ℕ → Type 0) (over : S → Why → Type 0)
+    (spoke : ℕ → S → List ℕ → List ℕ → Type 0) (over : S → Cause → Type 0)
     (before after : MemberValue S) : Type 0 where
   pub on : (prefix : List ℕ) (opening : CacheValue) (history entries : List HistoryEntry) (k : ℕ)
       → TalksOn spoke prefix opening history entries k before
@@ -122,9 +134,9 @@ pub record Passes
 -- so it is, where so many bytes of what wasn't sent were sent before it
 pub record PassesSent
     {S : Type 0} (end : Option Why)
-    (spoke : ℕ → S → List ℕ → List ℕ → Type 0) (over : S → Why → Type 0) (count : ℕ)
+    (spoke : ℕ → S → List ℕ → List ℕ → Type 0) (over : S → Cause → Type 0) (count : ℕ)
     (before after : MemberValue S) : Type 0 where
   pub left : end ≡ None → after.left ≡ before.left
   pub unsent : end ≡ None → after.unsent ≡ drop count before.unsent
   pub stays : Stays spoke before.stream after.stream
-  pub fails : FailsFor (over after.stream) end
+  pub fails : FailsFor (λ e. over after.stream (Failed e)) end

@@ -9,6 +9,14 @@ use Rattle.cache_server.specs.declared.error.ConnError.{ConnError}
 abbrev pub Why : Type 0
 Why = Result (Unit {0}) ConnError
 
+-- Why a stream is over: its peer has ended it, its writing side was ended, it was silent for too
+-- long, or a call on it failed so.
+pub data Cause : Type 0 where
+  Finished : Cause
+  Shut : Cause
+  Silent : Cause
+  Failed : ConnError → Cause
+
 -- these bytes were read of the stream
 abbrev pub ReadsFrom : {S : Type 0} → (ℕ → S → List ℕ → List ℕ → Type 0) → S → List ℕ → S → Type 0
 ReadsFrom spoke old bytes new =
@@ -24,6 +32,10 @@ abbrev pub Stays : {S : Type 0} → (ℕ → S → List ℕ → List ℕ → Typ
 Stays spoke old new =
     (k : ℕ) (read sent : List ℕ) → spoke k old read sent → spoke k new read sent
 
+-- its writing side stays ended, where it was
+abbrev pub StaysShut : {S : Type 0} → (S → Cause → Type 0) → S → S → Type 0
+StaysShut over old new = over old Shut → over new Shut
+
 -- a fault of the stream: not that it has nothing yet, was interrupted, or found no memory
 pub record IsBroken (e : Error) : Type 0 where
   pub has : error_kind e ≡ WouldBlock → ⊥
@@ -32,10 +44,10 @@ pub record IsBroken (e : Error) : Type 0 where
 
 -- what was said of the stream is said of a connection that has ended, for this reason
 pub record EndsAs
-    {S : Type 0} (spoke : ℕ → S → List ℕ → List ℕ → Type 0) (over : S → Why → Type 0) (stream : S)
+    {S : Type 0} (spoke : ℕ → S → List ℕ → List ℕ → Type 0) (over : S → Cause → Type 0) (stream : S)
     (why : Why)
-    (ended : ℕ → List ℕ → List ℕ → Why → Type 0) (lost : ℕ → Why → Type 0)
+    (ended : ℕ → List ℕ → List ℕ → Why → Type 0) (lost : ℕ → Cause → Type 0)
     : Type 0 where
   pub said : (k : ℕ) (read sent : List ℕ) → spoke k stream read sent → ended k read sent why
-  pub found : (k : ℕ) (read sent : List ℕ) (cause : Why)
+  pub found : (k : ℕ) (read sent : List ℕ) (cause : Cause)
       → spoke k stream read sent → over stream cause → lost k cause

@@ -7,8 +7,9 @@ use Rattle.cache_server.specs.Cache.{CacheValue}
 use Rattle.cache_server.specs.History.{HistoryEntry, Piece, Fail, End, stream_of, has_failed}
 use Rattle.cache_server.specs.Server.{ServerValue, ServerStands}
 use Rattle.cache_server.specs.Turn.{IsOneAnswerTo}
-use Rattle.cache_server.specs.declared.error.ConnError.TheVariants.{Memory}
-use Rattle.service.specs.Sockets.{Why}
+use Rattle.cache_server.specs.declared.error.ConnError.{ConnError}
+use Rattle.cache_server.specs.declared.error.ConnError.TheVariants.{Memory, ReadFault, WriteFault}
+use Rattle.service.specs.Sockets.{Cause, Failed, Finished, Shut, Silent, Why}
 
 -- which connection an entry of a history is of
 abbrev pub entry_number : HistoryEntry → ℕ
@@ -54,13 +55,19 @@ IsShut prefix k history =
     (has_failed k history ≡ true)
     ⊎ ((events : List EventValue) × Cuts prefix (stream_of k history) events None)
 
+-- the fault of one that was silent: it took nothing of what isn't sent, or sent nothing
+abbrev pub fault_of_silence : List ℕ → ConnError
+fault_of_silence [] = ReadFault
+fault_of_silence (byte ∷ unsent) = WriteFault
+
 -- Why a connection may end. Without a fault its peer has ended it, and all that was read is
--- answered and sent, or no more can be answered, and the last answer is sent. With one memory is
--- wanting, or the connection is over for it.
-abbrev pub MayEnd : (Why → Type 0) → Type 0 → List ℕ → List ℕ → Why → Type 0
+-- answered and sent, or no more can be answered, the last answer is sent, and the writing side was
+-- ended. With one memory is wanting, a call on its stream failed so, or it was silent for too long.
+abbrev pub MayEnd : (Cause → Type 0) → Type 0 → List ℕ → List ℕ → Why → Type 0
 MayEnd over shut left unsent (Ok done) =
-    (over (Ok done) × (left ≡ []) × (unsent ≡ [])) ⊎ (shut × (unsent ≡ []))
-MayEnd over shut left unsent (Err e) = (e ≡ Memory) ⊎ over (Err e)
+    (over Finished × (left ≡ []) × (unsent ≡ [])) ⊎ (shut × over Shut × (unsent ≡ []))
+MayEnd over shut left unsent (Err e) =
+    (e ≡ Memory) ⊎ (over (Failed e) ⊎ (over Silent × (e ≡ fault_of_silence unsent)))
 
 -- so it is, unless the whole run was cut off
 abbrev pub Unless : Bool → Type 0 → Type 0
@@ -71,7 +78,7 @@ Unless true P = ⊤
 -- to the server, and a beginning of the answers to that was sent, to the last one at least.
 pub record HasEnded
     (cut : Bool) (ended : ℕ → List ℕ → List ℕ → Why → Type 0)
-    (lost : ℕ → Why → Type 0) (prefix : List ℕ) (opening : CacheValue)
+    (lost : ℕ → Cause → Type 0) (prefix : List ℕ) (opening : CacheValue)
     (history entries : List HistoryEntry) (k : ℕ) : Type 0 where
   pub before : List HistoryEntry
   pub after : List HistoryEntry
@@ -94,7 +101,7 @@ AreBelow count (entry ∷ entries) = (entry_number entry < count) × AreBelow co
 -- to the server.
 pub record ServesEach
     (cut : Bool) (ended : ℕ → List ℕ → List ℕ → Why → Type 0)
-    (lost : ℕ → Why → Type 0) (prefix : List ℕ) (opening : CacheValue)
+    (lost : ℕ → Cause → Type 0) (prefix : List ℕ) (opening : CacheValue)
     (history : List HistoryEntry) (count : ℕ) (new : ServerValue) : Type 0 where
   pub entries : List HistoryEntry
   pub stands : ServerStands opening new (history ++ entries)
@@ -103,7 +110,7 @@ pub record ServesEach
 
 -- so it is, whatever history had led to the server
 abbrev pub Serves :
-    Bool → (ℕ → List ℕ → List ℕ → Why → Type 0) → (ℕ → Why → Type 0)
+    Bool → (ℕ → List ℕ → List ℕ → Why → Type 0) → (ℕ → Cause → Type 0)
     → ServerValue → ℕ → ServerValue → Type 0
 Serves cut ended over old count new =
     (opening : CacheValue) (history : List HistoryEntry)

@@ -7,7 +7,7 @@ use Rattle.cache_server.specs.Cache.{CacheValue}
 use Rattle.cache_server.specs.History.{HistoryEntry, End}
 use Rattle.cache_server.specs.Server.{ServerValue, ServerStands, IsOpenAt, session_at}
 use Rattle.service.specs.Talks.{HasEnded, MayEnd, AreBelow}
-use Rattle.service.specs.Sockets.{EndsAs, Why}
+use Rattle.service.specs.Sockets.{Cause, EndsAs, Why}
 use Rattle.service.specs.Member.{MemberValue, TalksOn, MovesOn, new_member}
 
 -- the open connection with the number, if there is one
@@ -17,7 +17,7 @@ member_at members k = lookup (is_at (nat_cmp k)) members
 -- a connection is open and goes on, or has ended
 abbrev pub TalksOrEnded :
     {S : Type 0} → Bool → (ℕ → S → List ℕ → List ℕ → Type 0)
-    → (ℕ → List ℕ → List ℕ → Why → Type 0) → (ℕ → Why → Type 0) → List ℕ
+    → (ℕ → List ℕ → List ℕ → Why → Type 0) → (ℕ → Cause → Type 0) → List ℕ
     → CacheValue → List HistoryEntry → List HistoryEntry → ℕ → Option (MemberValue S) → Type 0
 TalksOrEnded cut spoke ended lost prefix opening history entries k None =
     HasEnded cut ended lost prefix opening history entries k
@@ -27,7 +27,7 @@ TalksOrEnded cut spoke ended lost prefix opening history entries k (Some m) =
 -- so many connections were accepted, and the entries are of these alone
 pub record KeepsTogether
     {S : Type 0} (cut : Bool) (spoke : ℕ → S → List ℕ → List ℕ → Type 0)
-    (ended : ℕ → List ℕ → List ℕ → Why → Type 0) (lost : ℕ → Why → Type 0)
+    (ended : ℕ → List ℕ → List ℕ → Why → Type 0) (lost : ℕ → Cause → Type 0)
     (prefix : List ℕ) (opening : CacheValue) (history : List HistoryEntry)
     (members : List (ℕ × MemberValue S)) (accepted : ℕ) (server : ServerValue) : Type 0 where
   pub entries : List HistoryEntry
@@ -41,7 +41,7 @@ pub record KeepsTogether
 -- so it is afterwards, where it was so before
 pub record GoesOnTogether
     {S : Type 0} (cut : Bool) (spoke : ℕ → S → List ℕ → List ℕ → Type 0)
-    (ended : ℕ → List ℕ → List ℕ → Why → Type 0) (lost : ℕ → Why → Type 0)
+    (ended : ℕ → List ℕ → List ℕ → Why → Type 0) (lost : ℕ → Cause → Type 0)
     (members : List (ℕ × MemberValue S)) (accepted : ℕ) (server : ServerValue)
     (members' : List (ℕ × MemberValue S)) (accepted' : ℕ) (server' : ServerValue) : Type 0 where
   pub on : (prefix : List ℕ) (opening : CacheValue) (history : List HistoryEntry)
@@ -60,7 +60,7 @@ OthersAreSame k old new = (j : ℕ) → (j ≡ k → ⊥) → member_at new j �
 -- the connection with the number has moved on
 pub record MovesOnAt
     {S : Type 0} (end : Option Why)
-    (spoke : ℕ → S → List ℕ → List ℕ → Type 0) (over : S → Why → Type 0) (k : ℕ)
+    (spoke : ℕ → S → List ℕ → List ℕ → Type 0) (over : S → Cause → Type 0) (k : ℕ)
     (old : ServerValue) (members : List (ℕ × MemberValue S))
     (new : ServerValue) (members' : List (ℕ × MemberValue S)) : Type 0 where
   pub before : MemberValue S
@@ -79,7 +79,7 @@ pub record EntersAt
 
 -- the connection with the number may end for this reason
 pub record MayEndAt
-    {S : Type 0} (over : S → Why → Type 0) (k : ℕ) (server : ServerValue)
+    {S : Type 0} (over : S → Cause → Type 0) (k : ℕ) (server : ServerValue)
     (members : List (ℕ × MemberValue S)) (why : Why) : Type 0 where
   pub m : MemberValue S
   pub held : member_at members k ≡ Some m
@@ -87,8 +87,8 @@ pub record MayEndAt
 
 -- the connection with the number was ended for this reason, and the server was told
 pub record EndsAt
-    {S : Type 0} (spoke : ℕ → S → List ℕ → List ℕ → Type 0) (over : S → Why → Type 0)
-    (ended : ℕ → List ℕ → List ℕ → Why → Type 0) (lost : ℕ → Why → Type 0)
+    {S : Type 0} (spoke : ℕ → S → List ℕ → List ℕ → Type 0) (over : S → Cause → Type 0)
+    (ended : ℕ → List ℕ → List ℕ → Why → Type 0) (lost : ℕ → Cause → Type 0)
     (k : ℕ) (why : Why)
     (old : ServerValue) (members : List (ℕ × MemberValue S))
     (new : ServerValue) (members' : List (ℕ × MemberValue S)) : Type 0 where
@@ -104,8 +104,8 @@ pub record EndsAt
 
 -- it was ended, or there was none
 abbrev pub EndsIfAny :
-    {S : Type 0} → (ℕ → S → List ℕ → List ℕ → Type 0) → (S → Why → Type 0)
-    → (ℕ → List ℕ → List ℕ → Why → Type 0) → (ℕ → Why → Type 0)
+    {S : Type 0} → (ℕ → S → List ℕ → List ℕ → Type 0) → (S → Cause → Type 0)
+    → (ℕ → List ℕ → List ℕ → Why → Type 0) → (ℕ → Cause → Type 0)
     → ℕ → Why → ServerValue → List (ℕ × MemberValue S)
     → ServerValue → List (ℕ × MemberValue S) → Type 0
 EndsIfAny spoke over ended lost k why old members new members' =

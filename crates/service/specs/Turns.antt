@@ -1,8 +1,14 @@
 -- What connections do to a cache that are served one after another.
-use Rattle.std.specs.Prelude.{ℕ, ◌+◌, List, Option, MatchResult}
+use Rattle.std.specs.Prelude.{ℕ, zero, suc, ◌+◌, List, Option, MatchResult}
 use Rattle.cache_server.specs.Cache.{CacheValue}
 use Rattle.cache_server.specs.Connection.{Runs, BreaksOff}
 use Rattle.service.specs.Sockets.{Why}
+
+-- After so many connections so many accepts in a row have failed, and besides them, where there was
+-- none, those before.
+abbrev pub FailsAfter : {L : Type 0} → (L → ℕ → Type 0) → ℕ → ℕ → L → L → Type 0
+FailsAfter failed zero tries old new = (n : ℕ) → failed old n → failed new (n + tries)
+FailsAfter failed (suc number) tries old new = failed new tries
 
 -- The connection with the number was opened, its requests were answered under the prefix, to its
 -- end or to a fault, and it has ended.

@@ -4,6 +4,8 @@
 
 mod closing;
 mod desk;
+mod door;
+mod ending;
 mod epoll;
 mod error;
 mod listening;
@@ -11,12 +13,16 @@ mod load;
 mod member;
 mod metered;
 mod part;
+mod queue;
 mod serving;
+mod silence;
 mod sockets;
 mod status;
 mod telling;
+mod timer;
 mod together;
 mod turn;
+mod turns;
 
 pub use error::NotAccepted;
 pub use listening::{Accepted, Listener};

@@ -1,5 +1,6 @@
-ghost use Rattle.std.specs.Prelude.{ℕ, List, Option, IfOk};
+ghost use Rattle.std.specs.Prelude.{ℕ, List, Option, IfOk, OnErr, OnOk};
 ghost use Rattle.service.specs.Sockets.{Why};
+ghost use Rattle.service.specs.Turns.{FailsAfter};
 
 use crate::closing::close;
 use crate::metered::Metered;
@@ -34,10 +35,15 @@ pub trait Listener {
     /// opened it and ended it say so.
     ghost ended: { ℕ → Option (List ℕ) → Option (List ℕ) → Why → Type 0 };
 
+    /// That so many accepts in a row have failed, up to the last. Only calls say so.
+    ghost failed: { Self → ℕ → Type 0 };
+
     /// Waits for the next connection, under this number.
     fn accept(&mut self, number: u64) -> io::Result<Accepted<Self::Reader, Self::Writer>>
-        ensures { IfOk result (λ it. opened number
-            (Self.Reader.remaining it.reader) (Self.Writer.contents it.writer)) };
+        ensures opens { IfOk result (λ it. opened number
+            (Self.Reader.remaining it.reader) (Self.Writer.contents it.writer)) }
+        ensures again { OnOk result (failed self.new 0) }
+        ensures fails { OnErr result (FailsAfter failed 0 1 self.old self.new) };
 
     /// Ends a connection, is told why, and tells how many bytes were read and written.
     fn end(
@@ -47,7 +53,9 @@ pub trait Listener {
         writer: Self::Writer,
         why: Result<(), ConnError>,
     ) -> (u64, u64)
-        ensures { ended number (Self.Reader.remaining reader) (Self.Writer.contents writer) why };
+        ensures ends { ended number
+            (Self.Reader.remaining reader) (Self.Writer.contents writer) why }
+        ensures keeps { FailsAfter failed 0 0 self.old self.new };
 }
 
 /// A listener of the system. A connection that is silent for `idle`, or takes no answer for so
@@ -67,6 +75,8 @@ impl<'r, R: AllocGlobal + Clock> Listener for System<'r, R> {
     ghost opened = { λ _ _ _. Unit {0} };
 
     ghost ended = { λ _ _ _ _. Unit {0} };
+
+    ghost failed = { λ _ _. Unit {0} };
 
     fn accept(&mut self, number: u64) -> io::Result<Accepted<Metered, BufWriter<Metered, Global>>> {
         let _number = number;

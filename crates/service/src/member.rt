@@ -1,9 +1,8 @@
-ghost use Rattle.std.specs.Prelude.{◌≡◌, [], take, drop, true, Err, IfErr, IfOk, IfSome, IsTrue};
-ghost use Rattle.std.specs.Prelude.{OnErr};
+ghost use Rattle.std.specs.Prelude.{◌≡◌, ◌↔◌, [], take, drop, IfErr, IfOk, IfSome, IsTrue, OnErr};
 ghost use Rattle.cache_server.specs.Server.{IsOpenAt, session_at};
-ghost use Rattle.service.specs.Member.{EndsWell, FailsFor, MovesOn, Passes, PassesSent, end_of};
-ghost use Rattle.service.specs.Member.{new_member, unsent_of};
-ghost use Rattle.service.specs.Sockets.{IsBroken, SendsTo, Stays};
+ghost use Rattle.service.specs.Member.{EndsFor, EndsWell, MovesOn, Passes, PassesSent};
+ghost use Rattle.service.specs.Member.{end_of, new_member, unsent_of};
+ghost use Rattle.service.specs.Sockets.{Failed, IsBroken, SendsTo, Shut, Stays};
 ghost use Rattle.service.specs.Talks.{MayEnd};
 
 use crate::desk::Desk;
@@ -46,7 +45,7 @@ struct Lingering {
 /// An open connection, one of many. Clauses see its stream, what was read and hasn't come to the
 /// server, and what of the answers isn't sent.
 #[derive(Drop)]
-pub(crate) struct Member<S> {
+pub(crate) struct Member<S: Peer> {
     stream: S,
     peer: SocketAddr,
     traffic: Traffic,
@@ -61,6 +60,7 @@ pub(crate) struct Member<S> {
     // There may be something to read; the peer will send no more.
     readable: bool,
     read_closed: bool,
+    // Its writing side was ended.
     lingering: Option<Lingering>,
     // When a byte was moved last.
     moved: u64,
@@ -68,9 +68,10 @@ pub(crate) struct Member<S> {
     is_held: bool,
 }
 
-impl<S> Model for Member<S> {
+impl<S: Peer> Model for Member<S> {
     ghost use Rattle.service.specs.Member.{MemberValue, unsent_of};
-    ghost use Rattle.std.specs.Prelude.{drop};
+    ghost use Rattle.service.specs.Sockets.{Shut};
+    ghost use Rattle.std.specs.Prelude.{IsSome, drop};
 
     ghost Value = { MemberValue S };
 
@@ -79,6 +80,8 @@ impl<S> Model for Member<S> {
       left = drop m.at m.input.items;
       unsent = unsent_of m.answer m.sent;
     } };
+
+    ghost invariant = { λ m. IsSome m.lingering → S.over m.stream Shut };
 }
 
 impl<S: Peer + Drop> Member<S> {
@@ -179,6 +182,8 @@ impl<S: Peer + Drop> Member<S> {
     }
 
     /// Why it ends, where it was silent for too long: its deadline is over, and so says its stream.
+    /// After the last answer that is no fault.
+    #[tactic(auto, using(crate::proofs::Talking::sender_silent, crate::proofs::Talking::reader_silent))]
     pub(crate) fn silence(
         &self,
         is_open: bool,
@@ -190,18 +195,17 @@ impl<S: Peer + Drop> Member<S> {
             self.now.left self.now.unsent why) }
     {
         let allowed = self.deadline(idle, pressed)?.saturating_sub(self.moved);
-        if self.answer.is_none() && !is_open {
-            return Some(Ok(()));
-        }
         let silent = now.saturating_sub(self.moved);
         if !self.stream.is_silent(silent, allowed) {
             return None;
         }
-        if self.answer.is_some() {
-            Some(Err(ConnError::WriteFault))
-        } else {
-            Some(Err(ConnError::ReadFault))
+        if !self.is_sent() {
+            return Some(Err(ConnError::WriteFault));
         }
+        if self.lingering.is_some() && !is_open {
+            return Some(Ok(()));
+        }
+        Some(Err(ConnError::ReadFault))
     }
 
     /// Does what can be done without waiting and with this leave, up to so many steps.
@@ -250,11 +254,10 @@ impl<S: Peer + Drop> Member<S> {
         ensures { MovesOn (end_of result) S.spoke S.over number
             server.old self.old server.new self.new }
     {
-        let is_last = !server.is_open(number);
         if self.answer.is_some() {
-            return self.send(is_last, desk, now);
+            return self.send(desk, now);
         }
-        if is_last {
+        if !server.is_open(number) {
             return self.linger(desk, now);
         }
         if !leave.answers {
@@ -273,11 +276,11 @@ impl<S: Peer + Drop> Member<S> {
     }
 
     /// Sends some of the answer.
-    fn send(&mut self, is_last: bool, desk: &mut Desk, now: u64) -> Turn
+    fn send(&mut self, desk: &mut Desk, now: u64) -> Turn
         ensures { Passes (end_of result) S.spoke S.over self.old self.new }
     {
         match self.write_some(desk) {
-            Ok(count) => self.pass(count, is_last, now),
+            Ok(count) => self.pass(count, now),
             Err(fault) => after_fault(&fault, ConnError::WriteFault),
         }
     }
@@ -290,9 +293,9 @@ impl<S: Peer + Drop> Member<S> {
             SendsTo S.spoke self.old.stream (take count self.old.unsent) self.new.stream) }
         ensures fault { OnErr result (Stays S.spoke self.old.stream self.new.stream) }
         ensures end { IfOk result (λ count. count ≡ 0
-            → S.over self.new.stream (Err ConnError.WriteFault)) }
+            → S.over self.new.stream (Failed ConnError.WriteFault)) }
         ensures broken { IfErr result (λ e. IsBroken e
-            → S.over self.new.stream (Err ConnError.WriteFault)) }
+            → S.over self.new.stream (Failed ConnError.WriteFault)) }
     {
         let Some(answer) = &self.answer else {
             return Err(io::Error::from(ErrorKind::Interrupted));
@@ -307,8 +310,8 @@ impl<S: Peer + Drop> Member<S> {
 
     /// So much more of the answer is sent.
     #[tactic(auto, using(crate::proofs::Talking::sends_lost, crate::proofs::Talking::sends_over, crate::proofs::Talking::sends_more))]
-    fn pass(&mut self, count: usize, is_last: bool, now: u64) -> Turn
-        requires { count ≡ 0 → S.over self.old.stream (Err ConnError.WriteFault) }
+    fn pass(&mut self, count: usize, now: u64) -> Turn
+        requires { count ≡ 0 → S.over self.old.stream (Failed ConnError.WriteFault) }
         ensures { PassesSent (end_of result) S.spoke S.over count self.old self.new }
     {
         let Some(sent) = self.sent.checked_add(count) else {
@@ -321,14 +324,14 @@ impl<S: Peer + Drop> Member<S> {
         self.moved = now;
         self.sent = sent;
         if self.is_sent() {
-            self.finish(is_last, now);
+            self.finish();
         }
         Turn::Again
     }
 
     /// Whether nothing is left to be sent.
     fn is_sent(&self) -> bool
-        ensures { result ≡ true → self.now.unsent ≡ [] }
+        ensures { IsTrue result ↔ (self.now.unsent ≡ []) }
     {
         match &self.answer {
             Some(answer) => {
@@ -339,36 +342,41 @@ impl<S: Peer + Drop> Member<S> {
         }
     }
 
-    /// The answer is sent. After the last one the writing side is ended, and what still comes is
-    /// dropped for a while: a client that is still sending would lose that answer to a reset if the
-    /// stream were closed at once.
-    fn finish(&mut self, is_last: bool, now: u64)
+    /// The answer is sent.
+    fn finish(&mut self)
         requires { self.old.unsent ≡ [] }
-        ensures left { self.new.left ≡ self.old.left }
-        ensures unsent { self.new.unsent ≡ [] }
-        ensures stays { Stays S.spoke self.old.stream self.new.stream }
+        ensures { self.new ≡ self.old }
     {
         self.answer = None;
         self.sent = 0;
-        if is_last {
-            self.stream.shut();
-            self.lingering = Some(Lingering {
-                begun: now,
-                reads: 0,
-            });
-            self.readable = true;
-        }
     }
 
-    /// Drops some of what still comes.
+    /// Ends the writing side after the last answer.
+    fn shut(&mut self, now: u64)
+        ensures left { self.new.left ≡ self.old.left }
+        ensures unsent { self.new.unsent ≡ self.old.unsent }
+        ensures stays { Stays S.spoke self.old.stream self.new.stream }
+    {
+        self.stream.shut();
+        self.lingering = Some(Lingering {
+            begun: now,
+            reads: 0,
+        });
+        self.readable = true;
+    }
+
+    /// After the last answer: ends the writing side, and drops what still comes for a while. A
+    /// client that is still sending would lose that answer to a reset if the stream were closed at
+    /// once.
     fn linger(&mut self, desk: &mut Desk, now: u64) -> Turn
-        ensures end { EndsWell (end_of result) }
+        ensures end { EndsWell (S.over self.new.stream Shut) (end_of result) }
         ensures left { self.new.left ≡ self.old.left }
         ensures unsent { self.new.unsent ≡ self.old.unsent }
         ensures stays { Stays S.spoke self.old.stream self.new.stream }
     {
         let Some(lingering) = self.lingering else {
-            return Turn::Ends(Ok(()));
+            self.shut(now);
+            return Turn::Again;
         };
         if !self.readable {
             return Turn::Waits;
@@ -492,7 +500,7 @@ impl<S: Peer + Drop> Member<S> {
 /// What comes of a call that failed: without memory, where the system has nothing for it, where it
 /// was interrupted, and otherwise.
 fn after_fault(fault: &io::Error, other: ConnError) -> Turn
-    ensures { FailsFor (λ why. IsBroken fault.now × (why ≡ Err other)) (end_of result) }
+    ensures { EndsFor fault.now other (end_of result) }
 {
     match fault.kind() {
         ErrorKind::OutOfMemory => Turn::Ends(Err(ConnError::Memory)),

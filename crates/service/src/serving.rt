@@ -1,5 +1,5 @@
-ghost use Rattle.std.specs.Prelude.{◌<◌, IfErr, IfOk, OnOk};
-ghost use Rattle.service.specs.Turns.{ServesInTurn, ServesNext};
+ghost use Rattle.std.specs.Prelude.{◌<◌, IfErr, IfOk, OnErr, OnOk};
+ghost use Rattle.service.specs.Turns.{FailsAfter, ServesInTurn, ServesNext};
 
 use crate::error::NotAccepted;
 use crate::listening::{Accepted, Listener, System};
@@ -52,6 +52,8 @@ pub fn serve_listener<R: AllocGlobal + Log, L: Listener>(
     ensures err { IfErr result (λ fault.
         ServesInTurn L.opened L.ended prefix.now cache.old fault.accepted cache.new) }
     ensures few { IfErr result (λ fault. fault.accepted < connections) }
+    ensures tried { IfErr result (λ fault.
+        FailsAfter L.failed fault.accepted 100 listener.old listener.new) }
 {
     for number in 0..connections {
         let accepted = match accept(rt, listener, number) {
@@ -72,13 +74,15 @@ fn accept<R: Log, L: Listener>(
     listener: &mut L,
     number: u64,
 ) -> io::Result<Accepted<L::Reader, L::Writer>>
-    ensures { IfOk result (λ it. L.opened number
+    ensures opens { IfOk result (λ it. L.opened number
         (L.Reader.remaining it.reader) (L.Writer.contents it.writer)) }
+    ensures again { OnOk result (L.failed listener.new 0) }
+    ensures fails { OnErr result (FailsAfter L.failed 0 100 listener.old listener.new) }
 {
-    for _ in 1..TRIES {
+    for tried in 1..TRIES {
         match listener.accept(number) {
             Ok(accepted) => return Ok(accepted),
-            Err(fault) => warn!(rt; "{number}: not accepted: {fault}"),
+            Err(fault) => warn!(rt; "{number}: not accepted, try {tried}: {fault}"),
         }
     }
     listener.accept(number)
@@ -95,7 +99,8 @@ fn serve_next<R: AllocGlobal + Log, L: Listener>(
 )
     requires { L.opened number
         (L.Reader.remaining accepted.reader) (L.Writer.contents accepted.writer) }
-    ensures { ServesNext L.opened L.ended prefix.now number cache.old cache.new }
+    ensures serves { ServesNext L.opened L.ended prefix.now number cache.old cache.new }
+    ensures keeps { FailsAfter L.failed 0 0 listener.old listener.new }
 {
     let Accepted {
         reader,

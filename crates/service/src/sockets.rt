@@ -1,7 +1,8 @@
-ghost use Rattle.std.specs.Prelude.{◌≡◌, ℕ, List, [], take, Ok, Err, IfErr, IfOk, IsTrue, OnErr};
+ghost use Rattle.std.specs.Prelude.{◌≡◌, ◌≤◌, ◌↔◌, ℕ, List, [], take, IfErr, IfOk, IsTrue, OnErr};
 ghost use Rattle.cache_server.specs.declared.error.ConnError.{ConnError};
 ghost use Rattle.std.specs.Io.{ReadsAtMost, WritesAtMost};
-ghost use Rattle.service.specs.Sockets.{EndsAs, IsBroken, ReadsFrom, SendsTo, Stays, Why};
+ghost use Rattle.service.specs.Sockets.{Cause, EndsAs, Failed, Finished, IsBroken, ReadsFrom};
+ghost use Rattle.service.specs.Sockets.{SendsTo, Shut, Silent, Stays, StaysShut, Why};
 
 use cache_server::ConnError;
 use std::alloc::Global;
@@ -24,9 +25,8 @@ pub trait Peer {
     /// That it is the connection with this number, and that so much was read of it and sent to it.
     ghost spoke: { ℕ → Self → List ℕ → List ℕ → Type 0 };
 
-    /// That it is over, and why: its peer has ended it, a read or a write failed, or it was silent
-    /// for too long. Only the calls that found it so say it.
-    ghost over: { Self → Why → Type 0 };
+    /// That it is over, and why. Only the calls that found it so, or made it so, say it.
+    ghost over: { Self → Cause → Type 0 };
 
     /// Reads some bytes into a buffer that has room, none only at the end.
     fn read(&mut self, buffer: &mut [u8]) -> io::Result<usize>
@@ -34,9 +34,10 @@ pub trait Peer {
         ensures read { IfOk result (λ count.
             ReadsFrom spoke self.old (take count buffer.new) self.new) }
         ensures fault { OnErr result (Stays spoke self.old self.new) }
-        ensures end { IfOk result (λ count. count ≡ 0 → over self.new (Ok tt)) }
+        ensures shut { StaysShut over self.old self.new }
+        ensures end { IfOk result (λ count. count ≡ 0 → over self.new Finished) }
         ensures broken { IfErr result (λ e. IsBroken e
-            → over self.new (Err ConnError.ReadFault)) };
+            → over self.new (Failed ConnError.ReadFault)) };
 
     /// Sends some of the bytes, of which there are some, and none only where it is over.
     fn write(&mut self, bytes: &[u8]) -> io::Result<usize>
@@ -44,22 +45,26 @@ pub trait Peer {
         ensures sent { IfOk result (λ count.
             SendsTo spoke self.old (take count bytes.now) self.new) }
         ensures fault { OnErr result (Stays spoke self.old self.new) }
+        ensures shut { StaysShut over self.old self.new }
         ensures end { IfOk result (λ count. count ≡ 0
-            → over self.new (Err ConnError.WriteFault)) }
+            → over self.new (Failed ConnError.WriteFault)) }
         ensures broken { IfErr result (λ e. IsBroken e
-            → over self.new (Err ConnError.WriteFault)) };
+            → over self.new (Failed ConnError.WriteFault)) };
 
     /// Whether it was silent for too long: for so many milliseconds, where so many are allowed.
     fn is_silent(&self, silent: u64, allowed: u64) -> bool
-        ensures { IsTrue result → (fault : ConnError) → over self.now (Err fault) };
+        ensures is { IsTrue result ↔ (allowed ≤ silent) }
+        ensures found { IsTrue result → over self.now Silent };
 
     /// Ends the writing side.
     fn shut(&mut self)
-        ensures { Stays spoke self.old self.new };
+        ensures stays { Stays spoke self.old self.new }
+        ensures shut { over self.new Shut };
 
     /// Drops some of what still comes, none only at the end or with no room.
     fn discard(&mut self, buffer: &mut [u8]) -> io::Result<usize>
-        ensures { Stays spoke self.old self.new };
+        ensures stays { Stays spoke self.old self.new }
+        ensures shut { StaysShut over self.old self.new };
 }
 
 /// Where connections come from.
@@ -71,7 +76,7 @@ pub trait Sockets {
     ghost ended: { ℕ → List ℕ → List ℕ → Why → Type 0 };
 
     /// That it was over then, and why.
-    ghost lost: { ℕ → Why → Type 0 };
+    ghost lost: { ℕ → Cause → Type 0 };
 
     /// The next connection, under this number.
     fn accept(&mut self, number: u64) -> io::Result<(Self::Stream, SocketAddr)>

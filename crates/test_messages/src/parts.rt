@@ -108,13 +108,7 @@ fn frame_in<A: Allocator + Copy>(alloc: A, bytes: &[u8]) -> Result<Vec<u8, A>, M
 /// The encoding of an action with the frame of these bytes and no input.
 fn action_of<A: Allocator + Copy>(alloc: A, bytes: &[u8]) -> Result<Vec<u8, A>, MessageError> {
     let frame = Frame::decode(alloc, bytes)?;
-    let action = frame.with_input(Digest::empty());
-    Ok(
-        action
-            .into_frame()
-            .with_input(Digest::empty())
-            .encode(alloc)?,
-    )
+    Ok(frame.with_input(Digest::empty()).encode(alloc)?)
 }
 
 /// Whether a command with the output paths `a-b`, `a/b` and `a0` lists this one.

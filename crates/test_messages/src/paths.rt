@@ -44,16 +44,12 @@ fn made_of<A: Allocator + Copy>(alloc: A, text: &[u8]) -> Result<[bool; 3], Mess
 /// Whether the text is a name, a target and a path.
 fn text<A: Allocator + Copy>(global: Global, alloc: A, bytes: &[u8]) -> Answer {
     let made = made_of(alloc, bytes)?;
-    let is = match str::from_utf8(bytes) {
-        Ok(text) => [is_name(text), is_target(text), is_path(text)],
-        Err(_) => [false, false, false],
-    };
-    if is != made {
+    if made[2] != str::from_utf8(bytes).is_ok_and(|text| is_path(text)) {
         return said(global, "made otherwise");
     }
     said(
         global,
-        match is {
+        match made {
             [true, true, true] => "name target path",
             [false, true, true] => "target path",
             [false, true, false] => "target",
@@ -63,22 +59,21 @@ fn text<A: Allocator + Copy>(global: Global, alloc: A, bytes: &[u8]) -> Answer {
     )
 }
 
-/// How the first path lies to the second, which takes no memory.
+/// The order of two paths by their texts, which takes no memory.
 fn pair(global: Global, first: &[u8], second: &[u8]) -> Answer {
     let heap = Refusing::new(global, 0);
     let path = Path::new(&heap, first)?;
     let other = Path::new(&heap, second)?;
     heap.refuse(1);
-    let is_same = path.is_same(&other) == (first == second);
-    let is_text = path.as_bytes() == first && path.names().all(|name| is_name(name));
-    let (place, order) = (place_of(&path, &other), order_of(&path, &other));
+    let is_text = path.as_bytes() == first && path.names().all(|name| is_path(name));
+    let order = order_of(&path, &other);
     if heap.has_refused() {
         return said(global, "compared with memory");
     }
-    if !is_same || !is_text {
+    if !is_text {
         return said(global, "other names");
     }
-    Ok(format!(in global; "{place} {order}")?.into_bytes())
+    said(global, order)
 }
 
 fn order_of<A: Allocator>(path: &Path<A>, other: &Path<A>) -> &'static str {
@@ -86,15 +81,6 @@ fn order_of<A: Allocator>(path: &Path<A>, other: &Path<A>) -> &'static str {
         Ordering::Less => "before",
         Ordering::Equal => "same",
         Ordering::Greater => "after",
-    }
-}
-
-fn place_of<A: Allocator>(path: &Path<A>, other: &Path<A>) -> &'static str {
-    match (path.lies_under(other), path.overlaps(other)) {
-        (true, true) => "under",
-        (false, true) => "overlaps",
-        (false, false) => "apart",
-        (true, false) => "strange",
     }
 }
 

@@ -5,7 +5,9 @@ use crate::nodes::{node_told, phrase, refusal_told};
 use blob_digest::Digest;
 use messages::Path;
 use std::alloc::{AllocError, Allocator, Global};
-use tree::{Difference, Folded, MemorySource, TreeError, first_difference, fold, lookup, unfold};
+use tree::{
+    Difference, Folded, Memo, MemorySource, TreeError, first_difference, fold, lookup, unfold,
+};
 
 pub fn answer<A: Allocator + Copy>(
     global: Global,
@@ -229,7 +231,8 @@ fn difference<A: Allocator + Copy>(
         Ok(made) => made,
         Err(error) => return refusal_told(global, error),
     };
-    let told = match first_difference(alloc, &made, &recorded, source) {
+    let mut memo = Memo::new(alloc);
+    let told = match first_difference(alloc, &made, &recorded, &mut memo, source) {
         Ok(difference) => difference_told(global, &difference),
         Err(error) => refusal_told(global, error),
     };

@@ -1,9 +1,9 @@
 -- A look-up name by name, while the source tells more and more.
-use Rattle.std.proofs.Common.{◌≡◌, ℕ, zero, suc, ◌+◌, ◌<◌, ◌≤◌, List, [], ◌∷◌, length, drop, get_or, refl, subst, sym, ◌∙◌, ap, arith, inl, inr, add-one, drop-cons}
+use Rattle.std.proofs.Common.{◌≡◌, ℕ, suc, ◌+◌, ◌<◌, ◌≤◌, List, [], ◌∷◌, length, drop, get_or, refl, subst, sym, ◌∙◌, ap, inl, inr, add-one, drop-cons}
 use Rattle.std.specs.Prelude.{Option, Some, None, option_map}
 use Rattle.blob_digest.specs.Digest.{DigestValue}
 use Rattle.messages.specs.declared.node.Node.{Node}
-use Rattle.messages.specs.declared.node.Node.TheVariants.{File, Link, Dir}
+use Rattle.messages.specs.declared.node.Node.TheVariants.{Dir}
 use Rattle.messages.specs.DirectoryRules.{DirectoryValue}
 use Rattle.messages.specs.Node.{child}
 use Rattle.tree.specs.declared.error.TreeError.{TreeError}
@@ -12,7 +12,7 @@ use Rattle.tree.specs.Tree.{Name}
 use Rattle.tree.specs.Form.{NodeValue, node_value}
 use Rattle.blob_source.specs.Source.{Blobs, Grows, IsUnder}
 use Rattle.blob_source.specs.Told.{IsTold, Fault, missing, wrong, malformed, TellsDirectory, FailsDirectory}
-use Rattle.tree.specs.Lookup.{Looked, fault, nothing, found, LooksFrom, Looks}
+use Rattle.tree.specs.Lookup.{Looked, fault, nothing, LooksFrom, Looks}
 use Rattle.tree.specs.TreeError.{Explains, ExplainsLookup}
 use Rattle.tree.proofs.Children.{child_value}
 
@@ -32,9 +32,6 @@ LooksOn B p o r = LooksFrom (TellsDirectory B) (FailsDirectory B) p o r
 pub record GoesOn (B : Blobs) (d : DigestValue) (p : List Name) (o : Option NodeValue) (rest : List Name) : Type 0 where
   pub ends : (later : Blobs) → Grows B later → (r : Looked) → LooksOn later rest o r → Looks later d p r
 
-pub goes_first : (B : Blobs) (d : DigestValue) (p : List Name) → GoesOn B d p (Some (Dir d)) p
-goes_first B d p = record { ends = λ later g r h. h }
-
 pub goes_next : (B C : Blobs) (d e : DigestValue) (p : List Name) (n : Name) (rest : List Name) (m : DirectoryValue) → GoesOn B d p (Some (Dir e)) (n ∷ rest) → Grows B C → TellsDirectory C e m → GoesOn C d p (child n m) rest
 goes_next B C d e p n rest m goes grows told = record { ends = λ later g r h. goes.ends later (λ f b q. g f b (grows f b q)) r (inl (m, told_still g told, h)) }
 
@@ -45,32 +42,6 @@ goes_at B C d e p i x m o lt goes grows told is =
 
 pub goes_nowhere : (B : Blobs) (d : DigestValue) (p rest : List Name) → GoesOn B d p None rest → Looks B d p nothing
 goes_nowhere B d p rest goes = goes.ends B (λ e b h. h) nothing refl
-
--- a file or a link has nothing below it
-pub goes_leaf : (B : Blobs) (d : DigestValue) (p : List Name) (i : ℕ) (x : NodeValue) → i < length p → ((e : DigestValue) → x ≡ Dir e → ⊥) → GoesOn B d p (Some x) (drop i p) → Looks B d p nothing
-goes_leaf B d p i x lt dir goes = goes.ends B (λ e b h. h) nothing (leaf (drop i p) x dir some)
-  where
-    some : drop i p ≡ [] → ⊥
-    some e = let split : drop i p ≡ get_or p i [] ∷ drop (suc i) p = drop-cons p i [] lt in cc
-
-    leaf : (rest : List Name) (y : NodeValue) → ((e : DigestValue) → y ≡ Dir e → ⊥) → (rest ≡ [] → ⊥) → LooksOn B rest (Some y) nothing
-    leaf [] y dir s = absurd (s refl)
-    leaf (n ∷ rest) (File e b) dir s = refl
-    leaf (n ∷ rest) (Link t) dir s = refl
-    leaf (n ∷ rest) (Dir e) dir s = absurd (dir e refl)
-
-drop_past : (i : ℕ) (p : List Name) → length p ≤ i → drop i p ≡ []
-drop_past zero [] h = refl
-drop_past zero (n ∷ p) h = absurd (omega arith)
-drop_past (suc i) [] h = refl
-drop_past (suc i) (n ∷ p) h = drop_past i p (omega arith)
-
-pub goes_end : (B : Blobs) (d : DigestValue) (p : List Name) (i : ℕ) (x : NodeValue) → length p ≤ i → GoesOn B d p (Some x) (drop i p) → Looks B d p (found x)
-goes_end B d p i x le goes = goes.ends B (λ e b h. h) (found x) (last (drop i p) (drop_past i p le))
-  where
-    last : (rest : List Name) → rest ≡ [] → LooksOn B rest (Some x) (found x)
-    last [] e = refl
-    last (n ∷ rest) e = cc
 
 pub goes_wrong : {A : Type 0} (B C : Blobs) (d e : DigestValue) (p : List Name) (i : ℕ) (why : TreeError A) → i < length p → GoesOn B d p (Some (Dir e)) (drop i p) → Grows B C → Explains (FailsDirectory C e) why → ExplainsLookup C d p why
 goes_wrong {A} B C d e p i why lt goes grows h = by why h

@@ -147,7 +147,3 @@ side_next g r n m x y cs ds h names nodes =
       grafted = subst (λ es. AreChildren es g) (sym (append_assoc h.same ((n, x) ∷ []) cs)) h.grafted;
       recorded = subst (λ es. AreChildren es r) recorded h.recorded;
     }
-
--- two lists that end together are of one Directory
-pub side_end : (g r : DirectoryValue) → SideBySide g r [] [] → g ≡ r
-side_end g r h = sym h.grafted.directory ∙ h.recorded.directory

@@ -1,6 +1,6 @@
 -- A flat tree with one entry more.
 use Rattle.std.proofs.Common.{◌≡◌, ◌≢◌, ℕ, zero, suc, ◌+◌, ◌-◌, ◌<◌, ◌≤◌, List, [], ◌∷◌, ◌++◌, refl, ap, sym, ◌∙◌, subst, Bool, true, false, cond, length, take, drop, inl, inr, arith}
-use Rattle.std.specs.Prelude.{◌⊎◌, Option, Some, None}
+use Rattle.std.specs.Prelude.{◌⊎◌, Option, Some}
 use Rattle.std.specs.List.{AllByRecursion}
 use Rattle.std.specs.Map.{lookup, remove_entry}
 use Rattle.std.specs.Ordering.{is_eq, match_ordering}
@@ -317,9 +317,6 @@ module _ {A : Type 0} where
   -- what a look-up in the map answers
   pub found_at : (es : List (Vec Name A × FlatEntry A)) (now : FlatValue) (p : List Name) (o : Option (FlatEntry A)) → flat_value es ≡ now → o ≡ lookup (λ (k : Vec Name A). is_eq (path_cmp p k.items)) es → standing_in now p ≡ found_value o
   found_at es now p o view is = ap (λ l. standing_in l p) (sym view) ∙ flat_standing es p ∙ ap found_value (sym is)
-
-  pub missing_at : (es : FlatValue) (p : List Name) (o : Option (FlatEntry A)) → standing_in es p ≡ found_value o → o ≡ None → standing_in es p ≡ nothing
-  missing_at es p o h is = h ∙ ap found_value is
 
   pub entry_at : (es : FlatValue) (p : List Name) (o : Option (FlatEntry A)) (e : FlatEntry A) → standing_in es p ≡ found_value o → o ≡ Some e → standing_in es p ≡ entry_value e
   entry_at es p o e h is = h ∙ ap found_value is

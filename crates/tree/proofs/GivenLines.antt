@@ -23,11 +23,6 @@ any_pushed test (y ∷ xs) x = ap (λ b. test y || b) (any_pushed test xs x) ∙
 given_with : (earlier : MergeLines) (l : List Name × NodeWithin) (x : NodeValue) → list_any (λ k. gives_node x k.0 k.1) (earlier ++ l ∷ []) ≡ (list_any (λ k. gives_node x k.0 k.1) earlier || gives_node x l.0 l.1)
 given_with earlier l x = any_pushed (λ k. gives_node x k.0 k.1) earlier l
 
--- a line that goes on below the path
-pub below_counts : (earlier : MergeLines) (names : List Name) (g : NodeWithin) (given : List NodeValue) → length names ≢ 0 → CountsAfter earlier (names, g) given given true
-below_counts earlier [] g given some = absurd (some refl)
-below_counts earlier (n ∷ p) g given some = λ h. (refl, λ x. h x ∙ sym (given_with earlier (n ∷ p, g) x ∙ or_false (list_any (λ k. gives_node x k.0 k.1) earlier)))
-
 -- a line that gives a node at the path itself
 pub here_counts : (earlier : MergeLines) (names : List Name) (g : NodeWithin) (old new : List NodeValue) (taken : Bool) → length names ≡ 0 → taken ≡ not (list_any (same_node g.node) old)
     → OnTrue taken ((x : NodeValue) → list_any (same_node x) new ≡ (list_any (same_node x) old || same_node x g.node)) → OnFalse taken (new ≡ old)

@@ -118,11 +118,6 @@ graft_lines (l ∷ ls) h = (
     both [] p t o x a h = tt
     both (k ∷ ks) p t o x a h = (at_other p k.0 x (Some (whole t)) o a.0.0 ∙ h.0, both ks p t o x a.1 h.1)
 
--- nothing stands apart from all targets
-pub graft_nothing : {X : Type 0} (ls : List (List Name × X)) (n : Name) (q : List Name) → AllByRecursion (λ (l : List Name × X). Apart l.0 (n ∷ q)) ls → tree_at (graft ls) (n ∷ q) ≡ None
-graft_nothing [] n q h = none_within q
-graft_nothing (l ∷ ls) n q h = at_other l.0 (n ∷ q) l.1 (Some (whole (graft ls))) (ordered-graft ls) h.0 ∙ graft_nothing ls n q h.1
-
 -- each path above a target is a directory
 pub graft_parents : {X : Type 0} (ls : List (List Name × X)) → HaveApart ls → AllByRecursion (λ (l : List Name × X). (q : List Name) (n : Name) (r : List Name) → l.0 ≡ q ++ n ∷ r → (u : Tree X) × (tree_at (graft ls) q ≡ Some (whole u))) ls
 graft_parents [] h = tt

@@ -1,41 +1,16 @@
 -- A graft doesn't depend on the order of its lines, and one of lines in the order of paths goes name by name.
 use Rattle.std.proofs.Common.{◌≡◌, ◌≢◌, List, [], ◌∷◌, ◌++◌, refl, ap, sym, ◌∙◌, subst, inl, inr}
 use Rattle.std.specs.Prelude.{◌⊎◌, Option, Some, None}
-use Rattle.std.specs.List.{AllByRecursion}
-use Rattle.std.specs.FinMap.Entries.{by_order}
-use Rattle.tree.specs.Tree.{Name, Tree, empty, leaf, folder, Entry, single, whole, entry_of, IsBelowAll, IsOrdered}
-use Rattle.tree.specs.Graft.{sole, put, graft}
+use Rattle.tree.specs.Tree.{Name, Tree, empty, Entry, single, whole, entry_of, IsOrdered}
+use Rattle.tree.specs.Graft.{put}
 use Rattle.tree.specs.Visiting.{Apart}
-use Rattle.tree.proofs.TreeLemmas.{name_itself, one_or_two, entry-put, entry-put_other, put_entry, ordered-put}
+use Rattle.tree.proofs.TreeLemmas.{one_or_two, entry-put, entry-put_other, put_entry, ordered-put}
 use Rattle.tree.proofs.GraftLaws.{IsInOrder, in_order}
 use Rattle.tree.proofs.SameTree.{same_tree}
-
--- a name before all others
-put_first : {X : Type 0} (n : Name) (p : List Name) (x : X) (t : Tree X) → IsBelowAll n t → put (n ∷ p) x t ≡ sole (n ∷ p) x t
-put_first n p x empty h = refl
-put_first n p x (leaf m y rest) h = ap (λ o. by_order o (sole (n ∷ p) x (leaf m y rest)) (leaf m y rest) (leaf m y (put (n ∷ p) x rest))) h.0
-put_first n p x (folder m below rest) h = ap (λ o. by_order o (sole (n ∷ p) x (folder m below rest)) (folder m (put p x below) rest) (folder m below (put (n ∷ p) x rest))) h.0
-
-put_within : {X : Type 0} (n : Name) (p : List Name) (x : X) (below rest : Tree X) → put (n ∷ p) x (folder n below rest) ≡ folder n (put p x below) rest
-put_within n p x below rest = ap (λ o. by_order o (sole (n ∷ p) x (folder n below rest)) (folder n (put p x below) rest) (folder n below (put (n ∷ p) x rest))) (name_itself n)
 
 abbrev pub under : {X : Type 0} → Name → List (List Name × X) → List (List Name × X)
 under n [] = []
 under n (l ∷ ls) = (n ∷ l.0, l.1) ∷ under n ls
-
--- one leaf, then lines of later names
-pub graft-leaf : {X : Type 0} (n : Name) (x : X) (ls : List (List Name × X)) → IsBelowAll n (graft ls) → graft ((n ∷ [], x) ∷ ls) ≡ leaf n x (graft ls)
-graft-leaf n x ls h = put_first n [] x (graft ls) h
-
--- the lines below one name, then lines of later names
-pub graft-under : {X : Type 0} (n : Name) (l : List Name × X) (group ls : List (List Name × X)) → AllByRecursion (λ (k : List Name × X). k.0 ≢ []) (l ∷ group) → IsBelowAll n (graft ls)
-    → graft (under n (l ∷ group) ++ ls) ≡ folder n (graft (l ∷ group)) (graft ls)
-graft-under n l [] ls some h = put_first n l.0 l.1 (graft ls) h ∙ at l.0 some.0
-  where
-    at : (p : List Name) → p ≢ [] → sole (n ∷ p) l.1 (graft ls) ≡ folder n (put p l.1 empty) (graft ls)
-    at [] s = absurd (s refl)
-    at (m ∷ p) s = refl
-graft-under n l (k ∷ group) ls some h = ap (put (n ∷ l.0) l.1) (graft-under n k group ls some.1 h) ∙ put_within n l.0 l.1 (graft (k ∷ group)) (graft ls)
 
 -- leaves put at paths apart, in either order
 pub put-put : {X : Type 0} (p q : List Name) (x y : X) (t : Tree X) → IsOrdered t → Apart p q → put p x (put q y t) ≡ put q y (put p x t)

@@ -27,6 +27,7 @@ pub mod Listings
 pub mod FlatTrees
 pub mod FoldSteps
 pub mod ChildOrder
+pub mod FirstFaults
 pub mod UnfoldSteps
 pub mod ByPath
 pub mod ValidTrees

@@ -96,7 +96,7 @@ module _ {d : DigestValue} {old new : Known} {before after : Telling} (known : I
   }
     where
       still : IsKnownOf old after
-      still = known_still asks.blobs asks.results known
+      still = known_still asks.some.blobs asks.some.results known
 
       kept_at : (e : DigestValue) (x : List ℕ) → old (blob e) ≡ Some x → (e ≡ d) ⊎ (e ≢ d) → new (blob e) ≡ Some x
       kept_at e x is (inr n) = too.others (blob e) (other_blob n) ∙ is
@@ -136,7 +136,7 @@ module _ {d : DigestValue} {old new : Known} {before after : Telling} (known : I
 module _ {old new : Known} {before after : Telling} (known : IsKnownOf old before) (asks : Asks 1 before after) (same : IsSame old new) where
   same_known : IsKnownOf new after
   same_known =
-      let still : IsKnownOf old after = known_still {old = before} {new = after} asks.blobs asks.results known in
+      let still : IsKnownOf old after = known_still {old = before} {new = after} asks.some.blobs asks.some.results known in
       record {
         blobs = λ e x is. still.blobs e x (sym (same (blob e)) ∙ is);
         results = λ e x is. still.results e x (sym (same (result e)) ∙ is);
@@ -184,7 +184,7 @@ learns_result {d} {old} {new} {before} {after} {b} known asks none held too = re
 }
   where
     still : IsKnownOf old after
-    still = known_still asks.blobs asks.results known
+    still = known_still asks.some.blobs asks.some.results known
 
     some_is : {x y : List ℕ} → ◌≡◌ {A = Option (List ℕ)} (Some x) (Some y) → x ≡ y
     some_is e = cc

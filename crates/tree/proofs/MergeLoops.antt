@@ -40,20 +40,11 @@ mapped : {X Y : Type 0} (f : X → Y) (P : Y → Type 0) (xs : List X) → AllBy
 mapped f P [] h = tt
 mapped f P (x ∷ xs) h = (h.0, mapped f P xs h.1)
 
-mapped_back : {X Y : Type 0} (f : X → Y) (P : Y → Type 0) (xs : List X) → AllByRecursion (λ x. P (f x)) xs → AllByRecursion P (map f xs)
-mapped_back f P [] h = tt
-mapped_back f P (x ∷ xs) h = (h.0, mapped_back f P xs h.1)
-
 module _ {A : Type 0} (W : ℕ → WithinValue) where
   -- ---- whether they meet
 
   abbrev Meets : Part A → Type 0
   Meets p = CanMeetAt p.names.items (record { node = node_value p.node; within = W p.line })
-
-  pub meets_more : (parts : List (Part A)) (i : ℕ) (part : Part A) → i < length parts → part ≡ get_or parts i part → AllByRecursion (λ q. CanMeetAt q.0 q.1) (part_values W (take i parts)) → CanMeetAt part.names.items (record { node = node_value part.node; within = W part.line })
-      → AllByRecursion (λ q. CanMeetAt q.0 q.1) (part_values W (take (i + 1) parts))
-  meets_more parts i part lt is h here =
-      mapped_back (part_value W) (λ q. CanMeetAt q.0 q.1) (take (i + 1) parts) (all_more Meets parts i part lt is (mapped (part_value W) (λ q. CanMeetAt q.0 q.1) (take i parts) h) here)
 
   pub meets_all : (deeper : ℕ) (parts : List (Part A)) (i : ℕ) → deeper ≢ 0 → length parts ≤ i → AllByRecursion (λ q. CanMeetAt q.0 q.1) (part_values W (take i parts)) → CanMeet deeper (part_values W parts)
   meets_all zero parts i some le h = absurd (some refl)

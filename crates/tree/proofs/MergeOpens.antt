@@ -15,7 +15,7 @@ use Rattle.tree.specs.Tree.{Name}
 use Rattle.tree.specs.Memo.{Asked, LooksAtBlob}
 use Rattle.tree.specs.Stage.{◌and_then◌}
 use Rattle.tree.specs.TreeError.{Explains}
-use Rattle.tree.specs.Merging.{WithinValue, in_source, in_tree, NodeWithin, MergeLines, MergeFault, conflict, unreadable, IsHeldIn, IsFirstIn, child_lines, node_opened, line_opened, opened, ExplainsMerge}
+use Rattle.tree.specs.Merging.{WithinValue, in_source, in_tree, NodeWithin, MergeLines, MergeFault, conflict, unreadable, IsFirstIn, child_lines, node_opened, line_opened, opened, ExplainsMerge}
 use Rattle.tree.specs.MergeLooks.{NodeLooksAt, LineLooksAt, OpenedLooksAt}
 use Rattle.tree.proofs.MergeLooking.{OpensLooking, opens_looking_on, opens_looking_at}
 use Rattle.tree.proofs.MergeStages.{stable_line}
@@ -55,9 +55,6 @@ module _ {A : Type 0} (B : Blobs) (x : Node A) (d : DigestValue) (is : x ≡ nod
   pub tree_opens : (t : TreeValue) (m : DirectoryValue) → within ≡ in_tree t → IsFirstIn (t.root ∷ t.children) d m → (node_opened B (node_value x) within).passes (child_lines within m)
   unfolding ◌and_then◌
   tree_opens t m inside first = as_given (λ y w. (node_opened B y w).passes (child_lines w m)) (in_tree t) inside (m, first, refl)
-
-  pub held_there : (t : TreeValue) → within ≡ in_tree t → IsHeldIn within (node_value x) → IsHeldIn (in_tree t) (Dir d)
-  held_there t inside h = subst (λ w. IsHeldIn w (Dir d)) inside (subst (λ (y : NodeValue). IsHeldIn within y) (ap node_value is) h)
 
 -- a file or a link has no children
 pub leaf_opens : {A : Type 0} (B : Blobs) (x : Node A) (within : WithinValue) → ((d : DigestValue) → x ≡ nodes.Dir d → ⊥) → (node_opened B (node_value x) within).passes []

@@ -90,9 +90,6 @@ none_given : (xs : Pairs) → given xs ≡ [] → stood xs ≡ []
 none_given [] is = refl
 none_given (x ∷ xs) is = absurd (let both : ◌≡◌ {A = MergeLines} ((x.0, x.1.0) ∷ given xs) [] = is in cc)
 
-still_some : (xs : Pairs) → given xs ≢ [] → xs ≢ []
-still_some xs some = λ e. some (ap given e)
-
 module _ (k : ℕ) (es : TreeLines) where
   so_far_none : IsSoFar k es [] empty
   so_far_none = record { tree = empty; ordered = tt; below = λ m h. tt; there = tt; other = λ n h. refl; same = refl }

@@ -8,8 +8,13 @@ use Rattle.std.specs.FinMap.Entries.{by_order}
 use Rattle.std.specs.FinMap.{slice_cmp-IsAntisymmetric, nat_cmp-IsAntisymmetric}
 use Rattle.std.specs.Cmp.{tied_itself}
 use Rattle.std.specs.Cmp.Lexicographic.{nat_list_cmp_total}
-use Rattle.tree.specs.Tree.{Name, name_cmp, Tree, empty, leaf, folder, Entry, single, whole, entry_of, IsBelowAll, IsOrdered}
+use Rattle.tree.specs.Tree.{Name, name_cmp, path_cmp, Tree, empty, leaf, folder, Entry, single, whole, entry_of, IsBelowAll, IsOrdered}
 use Rattle.tree.specs.Graft.{sole, put, graft}
+
+-- the path without names is the first
+pub never_less : (q : List Name) → path_cmp q [] ≡ Less → ⊥
+never_less [] h = cc
+never_less (a ∷ q) h = cc
 
 pub name_itself : (n : Name) → name_cmp n n ≡ Equal
 name_itself n = tied_itself nat_list_cmp_total n

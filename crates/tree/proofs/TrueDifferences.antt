@@ -1,6 +1,6 @@
 -- What is found as the first difference is one.
 use Rattle.std.proofs.Common.{◌≡◌, ◌≢◌, ℕ, zero, suc, List, [], ◌∷◌, ◌++◌, refl, ap, sym, ◌∙◌, subst, inl, inr, append_assoc}
-use Rattle.std.specs.Prelude.{Option, Some, None}
+use Rattle.std.specs.Prelude.{◌⊎◌, Option, Some, None}
 use Rattle.std.specs.Ordering.{ordering_then}
 use Rattle.std.specs.declared.cmp.Ordering.{Ordering}
 use Rattle.std.specs.declared.cmp.Ordering.TheVariants.{Less, Equal, Greater}
@@ -11,15 +11,12 @@ use Rattle.messages.specs.Node.{child}
 use Rattle.tree.specs.Tree.{Name, name_cmp, path_cmp}
 use Rattle.tree.specs.Form.{NodeValue}
 use Rattle.blob_source.specs.Source.{Blobs}
+use Rattle.blob_source.specs.Told.{Fault}
 use Rattle.tree.specs.Lookup.{Looked, fault, nothing, found, LooksFrom}
 use Rattle.tree.specs.Difference.{ReadsDirectory, FailsToRead, Differing, unexplained, absent, differs, unread, child_of, IsFirstName, FindsAt, Finds, FindsFirst}
-use Rattle.tree.specs.TrueDifference.{LooksBeside, AreAlike, StandFirst, IsTrueDifference}
-use Rattle.tree.proofs.TreeLemmas.{name_same}
+use Rattle.tree.specs.TrueDifference.{LooksBeside, AreAlike, StandFirst, StandUnread, IsTrueDifference}
+use Rattle.tree.proofs.TreeLemmas.{name_same, never_less}
 use Rattle.tree.proofs.DifferenceOnce.{reads_once, reads_or_fails, fails_once}
-
-never_less : (q : List Name) → path_cmp q [] ≡ Less → ⊥
-never_less [] h = cc
-never_less (a ∷ q) h = cc
 
 module _ (own : List (List ℕ)) (B : Blobs) where
   -- a look-up from a node
@@ -71,20 +68,35 @@ module _ (own : List (List ℕ)) (B : Blobs) where
       before = before_at p (λ q v w less i j. h.before q v w less (subst (λ o. LooksOn q o v) e i) (subst (λ o. LooksOn q o w) f j));
     }
 
+  unread_here : (g r : DigestValue) (f : Fault) → FailsToRead own B r f ⊎ ((m : DirectoryValue) × ReadsDirectory own B r m × FailsToRead own B g f) → StandUnread own B g r f
+  unread_here g r f fails = record {
+    path = [];
+    grafted = g;
+    recorded = r;
+    first = record { grafted = refl; recorded = refl; before = λ q v w less i j. absurd (never_less q less) };
+    fails = fails;
+  }
+
   -- ---- below a path
 
   abbrev IsTrueBelow : List Name → DigestValue → DigestValue → Differing → Type 0
   IsTrueBelow above g r (unexplained path) = (p : List Name) × (path ≡ above ++ p) × (y : NodeValue) × StandFirst own B g r p nothing (found y)
   IsTrueBelow above g r (absent path) = (p : List Name) × (path ≡ above ++ p) × (x : NodeValue) × StandFirst own B g r p (found x) nothing
   IsTrueBelow above g r (differs path) = (p : List Name) × (path ≡ above ++ p) × (x y : NodeValue) × (x ≢ y) × StandFirst own B g r p (found x) (found y)
-  IsTrueBelow above g r (unread f) = (d : DigestValue) × FailsToRead own B d f
+  IsTrueBelow above g r (unread f) = StandUnread own B g r f
 
   module _ (above : List Name) (g r : DigestValue) (c m : DirectoryValue) (grafted : ReadsDirectory own B g c) (recorded : ReadsDirectory own B r m) (n : Name) (first : IsFirstName c m n) where
     true_below : (a b : DigestValue) (x : Differing) → child_of n c ≡ Some (Dir a) → child_of n m ≡ Some (Dir b) → IsTrueBelow (above ++ n ∷ []) a b x → IsTrueBelow above g r x
     true_below a b (unexplained path) e f h = (n ∷ h.0, h.1 ∙ append_assoc above (n ∷ []) h.0, h.2, stands_below g r c m grafted recorded n first a b h.0 _ _ e f h.3)
     true_below a b (absent path) e f h = (n ∷ h.0, h.1 ∙ append_assoc above (n ∷ []) h.0, h.2, stands_below g r c m grafted recorded n first a b h.0 _ _ e f h.3)
     true_below a b (differs path) e f h = (n ∷ h.0, h.1 ∙ append_assoc above (n ∷ []) h.0, h.2, h.3, h.4, stands_below g r c m grafted recorded n first a b h.0 _ _ e f h.5)
-    true_below a b (unread why) e f h = h
+    true_below a b (unread why) e f h = record {
+      path = n ∷ h.path;
+      grafted = h.grafted;
+      recorded = h.recorded;
+      first = stands_below g r c m grafted recorded n first a b h.path _ _ e f h.first;
+      fails = h.fails;
+    }
 
     only_recorded : (y : NodeValue) (x : Differing) → child_of n c ≡ None → child_of n m ≡ Some y → x ≡ unexplained (above ++ n ∷ []) → IsTrueBelow above g r x
     only_recorded y x e f is = subst (IsTrueBelow above g r) (sym is) (
@@ -129,8 +141,8 @@ module _ (own : List (List ℕ)) (B : Blobs) where
 
   finds_true : (deeper : ℕ) (above : List Name) (g r : DigestValue) (x : Differing) → Finds own B deeper above g r x → IsTrueBelow above g r x
   finds_true zero above g r x h = elim h [ ]
-  finds_true (suc deeper) above g r x (inl h) = subst (IsTrueBelow above g r) (sym h.2) (r, h.1)
-  finds_true (suc deeper) above g r x (inr (m, recorded, inl h)) = subst (IsTrueBelow above g r) (sym h.2) (g, h.1)
+  finds_true (suc deeper) above g r x (inl h) = subst (IsTrueBelow above g r) (sym h.2) (unread_here g r h.0 (inl h.1))
+  finds_true (suc deeper) above g r x (inr (m, recorded, inl h)) = subst (IsTrueBelow above g r) (sym h.2) (unread_here g r h.0 (inr (m, recorded, h.1)))
   finds_true (suc deeper) above g r x (inr (m, recorded, inr (c, grafted, n, first, h))) =
       true_at above g r c m grafted recorded n first deeper x (λ a b k. finds_true deeper (above ++ n ∷ []) a b x k) (child_of n c) (child_of n m) refl refl h
 

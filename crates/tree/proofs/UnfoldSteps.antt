@@ -1,9 +1,10 @@
 -- One child more of a directory that is being unfolded.
-use Rattle.std.proofs.Common.{◌≡◌, ◌≢◌, ◌+◌, List, [], ◌∷◌, ◌++◌, refl, ap, sym, ◌∙◌, subst, append_assoc, arith, cond, length, inl}
-use Rattle.std.specs.Prelude.{Option, Some, None}
+use Rattle.std.proofs.Common.{◌≡◌, ◌≢◌, ◌+◌, ◌≤◌, List, [], ◌∷◌, ◌++◌, refl, ap, sym, ◌∙◌, subst, append_assoc, arith, cond, length, length-append, inl, inr}
+use Rattle.std.specs.Prelude.{◌⊎◌, Option, Some, None}
 use Rattle.std.specs.List.{AllByRecursion}
-use Rattle.std.specs.Ordering.{is_eq}
-use Rattle.std.specs.declared.cmp.Ordering.TheVariants.{Less}
+use Rattle.std.specs.Ordering.{eq_by_cmp, is_eq, ordering_then}
+use Rattle.std.specs.declared.cmp.Ordering.{Ordering}
+use Rattle.std.specs.declared.cmp.Ordering.TheVariants.{Less, Equal, Greater}
 use Rattle.blob_digest.specs.Digest.{DigestValue}
 use Rattle.messages.specs.declared.node.Node.TheVariants.{File, Link, Dir}
 use Rattle.messages.specs.DirectoryRules.{DirectoryValue, IsDirectory}
@@ -12,20 +13,21 @@ use Rattle.messages.specs.Node.{child}
 use Rattle.messages.specs.Path.{IsPath}
 use Rattle.tree.specs.declared.error.TreeError.{TreeError}
 use Rattle.tree.specs.declared.error.TreeError.TheVariants.{Absent, BlobMissing, BlobWrong, BlobMalformed, TooDeep, Conflict, Fetch, Memory}
-use Rattle.tree.specs.Tree.{Name, name_cmp, Tree, empty, leaf, folder, a_leaf, a_directory, IsBelowAll, IsOrdered}
+use Rattle.tree.specs.Tree.{Name, name_cmp, path_cmp, Tree, empty, leaf, folder, a_leaf, a_directory, IsBelowAll, IsOrdered}
 use Rattle.tree.specs.Form.{NodeValue, no_children, with_child, directory_of, root}
 use Rattle.blob_source.specs.Source.{Blobs, Grows, IsMissing, IsWrong}
 use Rattle.blob_source.specs.Told.{IsMalformed, Fault, missing, wrong, malformed, TellsDirectory, FailsDirectory}
 use Rattle.tree.specs.TreeError.{Explains}
-use Rattle.tree.specs.Lookup.{Looked, found, LooksFrom, Looks, names_in}
+use Rattle.tree.specs.Lookup.{found, Looks, names_in}
 use Rattle.std.specs.declared.vec.Vec.{Vec}
 use Rattle.tree.specs.declared.flat_tree.FlatEntry.{FlatEntry}
 use Rattle.tree.specs.FlatTree.{under, listed, FlatValue, IsFlatTree, entry_value, flat_value}
-use Rattle.tree.specs.Unfolded.{TellsBelow, IsUnfolded, IsFaultBelow, ExplainsUnfold, directories_at, directories_in}
-use Rattle.tree.specs.Unfolding.{leaves, AreChildren, IsFull, ExplainsChild, prefixed, Appends}
-use Rattle.tree.proofs.Children.{child-with_child, child-below}
+use Rattle.tree.specs.Unfolded.{TellsBelow, IsUnfolded, IsFineAt, AreFineBefore, IsFaultBelow, ExplainsUnfold, directories_at, directories_in}
+use Rattle.tree.specs.Unfolding.{leaves, AreChildren, IsFull, ExplainsChild, prefixed, AreFine, Appends}
+use Rattle.tree.proofs.Children.{child-with_child, child-below, same_name}
 use Rattle.tree.proofs.Descent.{told_still}
-use Rattle.tree.proofs.TreeLemmas.{name_itself, apart_cmp}
+use Rattle.tree.proofs.FirstFaults.{same_found, same_dir, same_some, looks_below, through, fine_still}
+use Rattle.tree.proofs.TreeLemmas.{name_itself, name_same, never_less, apart_cmp, one_or_two, below_trans}
 use Rattle.tree.proofs.Listings.{all_join}
 use Rattle.tree.proofs.VisitSteps.{none_after}
 
@@ -111,6 +113,53 @@ some_children empty n x u = with_some n x (directory_of u)
 some_children (leaf m y rest) n x u = with_some m y (directory_of (beside rest (leaf n x u)))
 some_children (folder m c rest) n x u = with_some m (Dir (root c)) (directory_of (beside rest (leaf n x u)))
 
+-- ---- the children of the trees side by side
+
+below_front : {L : Type 0} (k : Name) (t u : Tree L) → IsBelowAll k (beside t u) → IsBelowAll k t
+below_front k empty u h = tt
+below_front k (leaf n x rest) u h = (h.0, below_front k rest u h.1)
+below_front k (folder n below rest) u h = (h.0, below_front k rest u h.1)
+
+ordered_front : {L : Type 0} (t u : Tree L) → IsOrdered (beside t u) → IsOrdered t
+ordered_front empty u h = tt
+ordered_front (leaf n x rest) u h = (below_front n rest u h.0, ordered_front rest u h.1)
+ordered_front (folder n below rest) u h = (below_front n rest u h.0, h.1, ordered_front rest u h.2)
+
+below_back : (t : Tree NodeValue) (n : Name) (x : NodeValue) (u : Tree NodeValue) → IsOrdered (beside t (leaf n x u)) → IsBelowAll n u
+below_back empty n x u h = h.0
+below_back (leaf m y rest) n x u h = below_back rest n x u h.1
+below_back (folder m c rest) n x u h = below_back rest n x u h.2
+
+-- a child of the first tree's Directory, where the second has none of its name
+child_first : (k n : Name) (x : NodeValue) (t u : Tree NodeValue) → (k ≡ n → ⊥) → child {A = Unit {0}} k (directory_of u) ≡ None → IsOrdered (beside t (leaf n x u))
+    → child {A = Unit {0}} k (directory_of (beside t (leaf n x u))) ≡ child k (directory_of t)
+child_first k n x empty u other none h = child-with_child k n x (directory_of u) (λ _. none) ∙ ap (λ b. cond b (Some x) (child k (directory_of u))) (apart_cmp k n other) ∙ none
+child_first k n x (leaf m y rest) u other none h =
+    let all = beside rest (leaf n x u) in
+    child-with_child k m y (directory_of all) (λ e. let same = same_name k m e in rw same (child-below m all h.0))
+    ∙ ap (cond (eq_by_cmp name_cmp k m) (Some y)) (child_first k n x rest u other none h.1)
+    ∙ sym (child-with_child k m y (directory_of rest) (λ e. let same = same_name k m e in rw same (child-below m rest (below_front m rest (leaf n x u) h.0))))
+child_first k n x (folder m c rest) u other none h =
+    let all = beside rest (leaf n x u) in
+    child-with_child k m (Dir (root c)) (directory_of all) (λ e. let same = same_name k m e in rw same (child-below m all h.0))
+    ∙ ap (cond (eq_by_cmp name_cmp k m) (Some (Dir (root c)))) (child_first k n x rest u other none h.2)
+    ∙ sym (child-with_child k m (Dir (root c)) (directory_of rest) (λ e. let same = same_name k m e in rw same (child-below m rest (below_front m rest (leaf n x u) h.0))))
+
+-- a name before one that is left
+child_before : (k n : Name) (x : NodeValue) (t u : Tree NodeValue) → name_cmp k n ≡ Less → IsOrdered (beside t (leaf n x u)) → child {A = Unit {0}} k (directory_of (beside t (leaf n x u))) ≡ child k (directory_of t)
+child_before k n x t u less h = child_first k n x t u (λ same. less_apart n k less (sym same)) (child-below k u (below_trans k n u less (below_back t n x u h))) h
+
+-- a child that is there once one more is
+child_more : (done : Tree NodeValue) (n : Name) (x : NodeValue) (rest : Tree NodeValue) → IsOrdered (beside done (leaf n x rest)) → (k : Name) (z : NodeValue) → child {A = Unit {0}} k (directory_of (beside done (leaf n x empty))) ≡ Some z
+    → ((k ≡ n) × (x ≡ z)) ⊎ (child {A = Unit {0}} k (directory_of done) ≡ Some z)
+child_more done n x rest h k z is =
+    let one : Tree NodeValue = leaf n x empty in
+    let ordered = ordered_front (beside done one) rest (subst IsOrdered (sym (beside_assoc done one rest)) h) in
+    elim (one_or_two k n) [
+      | inl same ↦ inl (same, same_some (sym (child_in done n x empty ordered) ∙ subst (λ j. child {A = Unit {0}} j (directory_of (beside done one)) ≡ Some z) same is))
+      | inr other ↦ inr (sym (child_first k n x done empty other refl ordered) ∙ is)
+    ]
+
 -- ---- entries below a path
 
 prefixed_join : (above : List Name) (es fs : FlatValue) → prefixed above (es ++ fs) ≡ prefixed above es ++ prefixed above fs
@@ -135,9 +184,11 @@ pub record Unfolds (B : Blobs) (d : DigestValue) (above : List Name) (old new : 
   pub told : TellsBelow B done
   pub entries : new ≡ old ++ prefixed above (listed done)
   pub paths : AllByRecursion (λ e. IsPath e.0) (prefixed above (listed done))
+  -- what is below the children that are done
+  pub fine : (n : Name) (e : DigestValue) → child {A = Unit {0}} n (directory_of done) ≡ Some (Dir e) → AreFine B e (above ++ n ∷ [])
 
 pub unfolds_first : (B : Blobs) (d : DigestValue) (m : DirectoryValue) (above : List Name) (old : FlatValue) (rest : List (Name × NodeValue)) → TellsDirectory B d m → AreChildren rest m → Unfolds B d above old old rest
-unfolds_first B d m above old rest told h = record { read = m; read_told = told; done = empty; directory = h.directory; ordered = h.ordered; told = tt; entries = sym (none_after old); paths = tt }
+unfolds_first B d m above old rest told h = record { read = m; read_told = told; done = empty; directory = h.directory; ordered = h.ordered; told = tt; entries = sym (none_after old); paths = tt; fine = λ n e is. absurd (let i = is in cc) }
 
 -- the next child, with its entries
 more_entries : (above : List Name) (done more : Tree NodeValue) (old mid new fs : FlatValue) → mid ≡ old ++ prefixed above (listed done) → fs ≡ prefixed above (listed more) → new ≡ mid ++ fs → new ≡ old ++ prefixed above (listed (beside done more))
@@ -152,8 +203,8 @@ more_paths above done more h k =
     (all_join (λ e. IsPath e.0) (prefixed above (listed done)) (prefixed above (listed more)) h k)
 
 pub unfolds_leaf : (B C : Blobs) (d : DigestValue) (above : List Name) (old mid new : FlatValue) (n : Name) (x : NodeValue) (path : List Name) (rest : List (Name × NodeValue)) → Grows B C
-    → Unfolds B d above old mid ((n, x) ∷ rest) → path ≡ above ++ n ∷ [] → IsPath path → new ≡ mid ++ (path, a_leaf x) ∷ [] → Unfolds C d above old new rest
-unfolds_leaf B C d above old mid new n x path rest g h is valid at =
+    → Unfolds B d above old mid ((n, x) ∷ rest) → ((e : DigestValue) → x ≡ Dir e → ⊥) → path ≡ above ++ n ∷ [] → IsPath path → new ≡ mid ++ (path, a_leaf x) ∷ [] → Unfolds C d above old new rest
+unfolds_leaf B C d above old mid new n x path rest g h other is valid at =
     let one : Tree NodeValue = leaf n x empty in
     let same = beside_assoc h.done one (leaves rest) in
     record {
@@ -165,6 +216,10 @@ unfolds_leaf B C d above old mid new n x path rest g h is valid at =
       told = tells_beside C h.done one (tells_still B C h.done g h.told) tt;
       entries = more_entries above h.done one old mid new ((path, a_leaf x) ∷ []) h.entries (ap (λ p. (p, a_leaf x) ∷ []) is) at;
       paths = more_paths above h.done one h.paths (subst IsPath is valid, tt);
+      fine = λ k e found_it. elim (child_more h.done n x (leaves rest) h.ordered k (Dir e) found_it) [
+        | inl here ↦ absurd (other e here.1)
+        | inr was ↦ fine_still B C g e (above ++ k ∷ []) (h.fine k e was)
+      ];
     }
 
 pub unfolds_folder : (B C : Blobs) (top : DigestValue) (above : List Name) (old mid pushed new : FlatValue) (n : Name) (d : DigestValue) (path : List Name) (rest : List (Name × NodeValue)) → Grows B C
@@ -186,32 +241,68 @@ unfolds_folder B C top above old mid pushed new n d path rest g h is valid at in
       told = tells_beside C h.done one (tells_still B C h.done g h.told) ((subst (λ e. TellsDirectory C e (directory_of inside.tree)) (sym inside.told.root) inside.told.top, inside.told.below), tt);
       entries = more_entries above h.done one old mid new fs h.entries listing split;
       paths = more_paths above h.done one h.paths (subst (λ l. AllByRecursion (λ e. IsPath e.0) l) listing (valid, inside.paths));
+      fine = λ k e found_it. elim (child_more h.done n (Dir d) (leaves rest) h.ordered k (Dir e) (ap (child k) (sym (directory_opened h.done n d inside.tree empty inside.told.root)) ∙ found_it)) [
+        | inl here ↦ subst (λ f. AreFine C f (above ++ k ∷ [])) (same_dir here.1) (subst (λ j. AreFine C d (above ++ j ∷ [])) (sym here.0) (subst (AreFine C d) is inside.fine))
+        | inr was ↦ fine_still B C g e (above ++ k ∷ []) (h.fine k e was)
+      ];
     }
+
+-- where paths have 64 names there are no children
+none_at_depth : (above : List Name) (t : Tree NodeValue) → AllByRecursion (λ e. IsPath e.0) (prefixed above (listed t)) → length above ≡ 64 → directory_of t ≡ no_children
+none_at_depth above empty h full = refl
+none_at_depth above (leaf n x rest) h full = absurd (let few = h.0.few in let longer = length-append above (n ∷ []) in omega (arith, few, longer, full))
+none_at_depth above (folder n below rest) h full = absurd (let few = h.0.few in let longer = length-append above (n ∷ []) in omega (arith, few, longer, full))
 
 pub unfolds_end : (B : Blobs) (d : DigestValue) (above : List Name) (old new : FlatValue) → Unfolds B d above old new [] → Appends B d above old new
 unfolds_end B d above old new h =
-    let directory : directory_of h.done ≡ h.read = ap directory_of (sym (beside_none h.done)) ∙ h.directory in
-    let top : TellsDirectory B d (directory_of h.done) = subst (TellsDirectory B d) (sym directory) h.read_told in
+    let top : TellsDirectory B d (directory_of h.done) = subst (TellsDirectory B d) (sym own) h.read_told in
     record {
       tree = h.done;
       ordered = subst IsOrdered (beside_none h.done) h.ordered;
       told = record { root = top.blob.right; top = top; below = h.told };
       entries = h.entries;
       paths = h.paths;
+      fine = all_fine;
     }
+  where
+    own : directory_of h.done ≡ h.read
+    own = ap directory_of (sym (beside_none h.done)) ∙ h.directory
+
+    all_fine : AreFine B d above
+    all_fine [] c looks = subst (IsFineAt B (above ++ [])) (same_found looks) (h.read, h.read_told, λ full. sym own ∙ none_at_depth above h.done h.paths (ap length (sym (none_after above)) ∙ full))
+    all_fine (n ∷ q) c looks =
+        let on = through B d h.read h.read_told n q c looks in
+        subst (λ p. IsFineAt B p c) (append_assoc above (n ∷ []) q) (h.fine n on.0 (ap (child n) own ∙ on.1) q c on.2)
 
 -- ---- why a tree isn't unfolded
 
--- a look-up goes through the child
-pub looks_below : (B : Blobs) (d e : DigestValue) (m : DirectoryValue) (n : Name) (q : List Name) (r : Looked) → TellsDirectory B d m → child {A = Unit {0}} n m ≡ Some (Dir e) → Looks B e q r → Looks B d (n ∷ q) r
-looks_below B d e m n q r told is h = inl (m, told, subst (λ o. LooksFrom (TellsDirectory B) (FailsDirectory B) q o r) (sym is) h)
-
+-- below a child, where all is fine below those before it
 pub fault_below : {A : Type 0} (B : Blobs) (d e : DigestValue) (m : DirectoryValue) (n : Name) (above path : List Name) (why : TreeError A) → TellsDirectory B d m → child {A = Unit {0}} n m ≡ Some (Dir e) → path ≡ above ++ n ∷ []
-    → ExplainsUnfold B e path why → ExplainsUnfold B d above why
-fault_below {A} B d e m n above path why told is at h = by why h
+    → length path ≤ 64 → ((k : Name) (f : DigestValue) → name_cmp k n ≡ Less → child {A = Unit {0}} k m ≡ Some (Dir f) → AreFine B f (above ++ k ∷ [])) → ExplainsUnfold B e path why → ExplainsUnfold B d above why
+fault_below {A} B d e m n above path why told is at few fine h = by why h
   where
-    below : (f : DigestValue) (g : Fault) → IsFaultBelow B e f g → IsFaultBelow B d f g
-    below f g h = record { path = n ∷ h.path; reached = looks_below B d e m n h.path (found (Dir f)) told is h.reached; fault = h.fault }
+    before : (p : List Name) → AreFineBefore B e path p → AreFineBefore B d above (n ∷ p)
+    before p first [] c less looks =
+        let longer = ap length at ∙ length-append above (n ∷ []) in
+        subst (IsFineAt B (above ++ [])) (same_found looks) (m, told, λ full. absurd (let same = ap length (sym (none_after above)) ∙ full in omega (arith, few, longer, same)))
+    before p first (k ∷ q) c less looks = on (name_cmp k n) refl (through B d m told k q c looks)
+      where
+        on : (o : Ordering) → name_cmp k n ≡ o → (f : DigestValue) × (child {A = Unit {0}} k m ≡ Some (Dir f)) × Looks B f q (found (Dir c)) → IsFineAt B (above ++ k ∷ q) c
+        on Less o x = subst (λ r. IsFineAt B r c) (append_assoc above (k ∷ []) q) (fine k x.0 o x.1 q c x.2)
+        on Equal o x =
+            let same = name_same k n o in
+            let rest : path_cmp q p ≡ Less = sym (ap (λ r. ordering_then r (path_cmp q p)) o) ∙ less in
+            let here : x.0 ≡ e = same_dir (same_some (sym x.1 ∙ ap (λ j. child {A = Unit {0}} j m) same ∙ is)) in
+            subst (λ r. IsFineAt B r c) (ap (λ a. a ++ q) at ∙ append_assoc above (n ∷ []) q ∙ ap (λ j. above ++ j ∷ q) (sym same)) (first q c rest (subst (λ f. Looks B f q (found (Dir c))) here x.2))
+        on Greater o x = absurd (let more : Greater ≡ Less = sym (ap (λ r. ordering_then r (path_cmp q p)) o) ∙ less in cc)
+
+    below : (f : DigestValue) (g : Fault) → IsFaultBelow B e path f g → IsFaultBelow B d above f g
+    below f g h = record {
+      path = n ∷ h.path;
+      reached = looks_below B d e m n h.path (found (Dir f)) told is h.reached;
+      fault = h.fault;
+      first = before h.path h.first;
+    }
 
     by : (why : TreeError A) → ExplainsUnfold B e path why → ExplainsUnfold B d above why
     by (Absent p) h = h
@@ -228,6 +319,7 @@ fault_below {A} B d e m n above path why told is at h = by why h
       directory = h.directory;
       told = h.told;
       some = h.some;
+      first = before h.below h.first;
     }
     by Fetch h = tt
     by Memory h = tt
@@ -236,13 +328,13 @@ pub fault_here : {A : Type 0} (B : Blobs) (d : DigestValue) (above : List Name) 
 fault_here B d above (Absent p) h = h
 fault_here B d above (BlobMissing f) h =
     let fault : FailsDirectory B f (missing f) = (refl, subst (IsMissing B) (sym h.0) h.1) in
-    record { path = []; reached = ap (λ e. found (Dir e)) h.0; fault = fault }
+    record { path = []; reached = ap (λ e. found (Dir e)) h.0; fault = fault; first = λ q e less looks. absurd (never_less q less) }
 fault_here B d above (BlobWrong f) h =
     let fault : FailsDirectory B f (wrong f) = (refl, subst (IsWrong B) (sym h.0) h.1) in
-    record { path = []; reached = ap (λ e. found (Dir e)) h.0; fault = fault }
+    record { path = []; reached = ap (λ e. found (Dir e)) h.0; fault = fault; first = λ q e less looks. absurd (never_less q less) }
 fault_here B d above (BlobMalformed f) h =
     let fault : FailsDirectory B f (malformed f) = (refl, subst (IsMalformed IsDirectory directory_bytes B) (sym h.0) h.1) in
-    record { path = []; reached = ap (λ e. found (Dir e)) h.0; fault = fault }
+    record { path = []; reached = ap (λ e. found (Dir e)) h.0; fault = fault; first = λ q e less looks. absurd (never_less q less) }
 fault_here B d above (TooDeep p) h = absurd h
 fault_here B d above (Conflict p) h = absurd h
 fault_here B d above Fetch h = tt
@@ -257,7 +349,7 @@ too_deep B d m above names (BlobMalformed e) told some full h = absurd h
 too_deep B d m above names (Conflict p) told some full h = absurd h
 too_deep B d m above names (TooDeep p) told some full h =
     let is = full p h in
-    record { below = []; split = is.0 ∙ sym (none_after names); names = is.1; digest = d; reached = refl; directory = m; told = told; some = some }
+    record { below = []; split = is.0 ∙ sym (none_after names); names = is.1; digest = d; reached = refl; directory = m; told = told; some = some; first = λ q e less looks. absurd (never_less q less) }
 too_deep B d m above names Fetch told some full h = absurd h
 too_deep B d m above names Memory told some full h = tt
 
@@ -273,9 +365,10 @@ child_too_deep B d above old new n x rest why h e =
 
 -- a fault below a child
 pub child_fault : {A : Type 0} (B C : Blobs) (d e : DigestValue) (above path : List Name) (old new : FlatValue) (n : Name) (rest : List (Name × NodeValue)) (why : TreeError A) → Grows B C
-    → Unfolds B d above old new ((n, Dir e) ∷ rest) → path ≡ above ++ n ∷ [] → ExplainsUnfold C e path why → ExplainsUnfold C d above why
-child_fault B C d e above path old new n rest why g h is at =
-    fault_below C d e h.read n above path why (told_still g h.read_told) (ap (child n) (sym h.directory) ∙ child_in h.done n (Dir e) (leaves rest) h.ordered) is at
+    → Unfolds B d above old new ((n, Dir e) ∷ rest) → path ≡ above ++ n ∷ [] → length path ≤ 64 → ExplainsUnfold C e path why → ExplainsUnfold C d above why
+child_fault B C d e above path old new n rest why g h is few at =
+    fault_below C d e h.read n above path why (told_still g h.read_told) (ap (child n) (sym h.directory) ∙ child_in h.done n (Dir e) (leaves rest) h.ordered) is few
+    (λ k f less there. fine_still B C g f (above ++ k ∷ []) (h.fine k f (sym (child_before k n (Dir e) h.done (leaves rest) less h.ordered) ∙ ap (child k) h.directory ∙ there))) at
 
 -- ---- what the code keeps
 

@@ -1,26 +1,21 @@
--- The Directories of a valid tree keep their rules, and a graft of valid lines is such a tree.
-use Rattle.std.proofs.Common.{◌≡◌, ◌≢◌, ℕ, List, [], ◌∷◌, ◌++◌, refl, ap, sym, ◌∙◌, subst, true, false, cond, map, length, take, get_or, ◌+◌, ◌<◌, ◌≤◌}
+-- The Directories of a valid tree keep their rules.
+use Rattle.std.proofs.Common.{◌≡◌, ◌≢◌, ℕ, List, [], ◌∷◌, ◌++◌, refl, ap, sym, ◌∙◌, subst, true, false, cond, map, ◌+◌, ◌<◌, ◌≤◌}
 use Rattle.std.specs.Prelude.{bytes_eq}
 use Rattle.std.specs.List.{AllByRecursion, list_any}
-use Rattle.std.specs.FinMap.Entries.{by_order}
-use Rattle.std.specs.declared.cmp.Ordering.TheVariants.{Less, Equal, Greater}
-use Rattle.std.proofs.lemmas.List.{take_all}
-use Rattle.messages.specs.declared.node.Node.{Node}
+use Rattle.std.specs.declared.cmp.Ordering.TheVariants.{Less}
 use Rattle.messages.specs.declared.node.Node.TheVariants.{File, Link, Dir}
 use Rattle.messages.specs.DirectoryRules.{DirectoryValue, IsDirectory}
 use Rattle.messages.specs.Name.{IsName}
 use Rattle.messages.specs.Order.{ShareNone}
 use Rattle.tree.specs.Tree.{Name, name_cmp, Tree, empty, leaf, folder, IsBelowAll, IsOrdered}
-use Rattle.tree.specs.Form.{NodeValue, node_value, with_child, directory_of, top, root}
+use Rattle.tree.specs.Form.{NodeValue, with_child, directory_of, top, root}
 use Rattle.tree.specs.declared.folding.Folded.{Folded}
-use Rattle.tree.specs.Folded.{IsNode, AreValid, IsFoldOfValid, IsFoldOf, tops_below, unseen, first_visits}
-use Rattle.tree.specs.Graft.{sole, put, graft}
-use Rattle.tree.specs.Lines.{lines_of, IsGraftLine}
+use Rattle.tree.specs.Folded.{IsNode, AreValid, IsFoldOfValid, tops_below, unseen, first_visits}
 use Rattle.tree.specs.Difference.{made_by}
 use Rattle.tree.specs.Comparing.{IsEncoding}
-use Rattle.tree.proofs.TreeLemmas.{name_itself, ordered-graft}
+use Rattle.tree.proofs.TreeLemmas.{name_itself}
 use Rattle.tree.proofs.TreeDigests.{IsDigest-digest_of}
-use Rattle.tree.proofs.ChildOrder.{AreLater, later_child, take_one}
+use Rattle.tree.proofs.ChildOrder.{AreLater, later_child}
 use Rattle.tree.proofs.Listings.{all_join}
 
 -- ---- names
@@ -136,56 +131,4 @@ visits_valid t ordered h = all_unseen IsEncoding [] (top t ∷ tops_below t) (va
 
 -- and so are those that were made
 pub valid_own : {A : Type 0} (f : Folded A) → IsFoldOfValid f → AllByRecursion IsEncoding (made_by f)
-valid_own f h = subst (AllByRecursion IsEncoding) (sym h.fold.directories) (visits_valid h.tree h.ordered h.valid)
-
--- ---- grafts
-
-valid_sole : (p : List Name) (x : NodeValue) (rest : Tree NodeValue) → AllByRecursion IsName p → IsNode x → AreValid rest → AreValid (sole p x rest)
-valid_sole [] x rest p_is x_is h = h
-valid_sole (n ∷ []) x rest p_is x_is h = ((p_is.0, x_is), h)
-valid_sole (n ∷ m ∷ p) x rest p_is x_is h = ((p_is.0, valid_sole (m ∷ p) x empty p_is.1 x_is tt), h)
-
-valid_put : (p : List Name) (x : NodeValue) (t : Tree NodeValue) → AllByRecursion IsName p → IsNode x → AreValid t → AreValid (put p x t)
-valid_put [] x t p_is x_is h = h
-valid_put (n ∷ p) x empty p_is x_is h = valid_sole (n ∷ p) x empty p_is x_is tt
-valid_put (n ∷ p) x (leaf m y rest) p_is x_is h =
-    elim (name_cmp n m) as (λ o. AreValid (by_order o (sole (n ∷ p) x (leaf m y rest)) (leaf m y rest) (leaf m y (put (n ∷ p) x rest)))) [
-      | Less ↦ valid_sole (n ∷ p) x (leaf m y rest) p_is x_is h
-      | Equal ↦ h
-      | Greater ↦ (h.0, valid_put (n ∷ p) x rest p_is x_is h.1)
-    ]
-valid_put (n ∷ p) x (folder m below rest) p_is x_is h =
-    elim (name_cmp n m) as (λ o. AreValid (by_order o (sole (n ∷ p) x (folder m below rest)) (folder m (put p x below) rest) (folder m below (put (n ∷ p) x rest)))) [
-      | Less ↦ valid_sole (n ∷ p) x (folder m below rest) p_is x_is h
-      | Equal ↦ ((h.0.0, valid_put p x below p_is.1 x_is h.0.1), h.1)
-      | Greater ↦ (h.0, valid_put (n ∷ p) x rest p_is x_is h.1)
-    ]
-
-valid_graft : (ls : List (List Name × NodeValue)) → AllByRecursion IsGraftLine ls → AreValid (graft ls)
-valid_graft [] h = tt
-valid_graft (l ∷ ls) h = valid_put l.0 l.1 (graft ls) h.0.0 h.0.1 (valid_graft ls h.1)
-
--- what such a graft made are encodings of Directories
-pub valid_visits : (ls : List (List Name × NodeValue)) → AllByRecursion IsGraftLine ls → AllByRecursion IsEncoding (first_visits (graft ls))
-valid_visits ls h = visits_valid (graft ls) (ordered-graft ls) (valid_graft ls h)
-
-pub fold_of_valid : {A : Type 0} (f : Folded A) (ls : List (List Name × NodeValue)) → AllByRecursion IsGraftLine ls → IsFoldOf (graft ls) f → IsFoldOfValid f
-fold_of_valid f ls h fold = record { tree = graft ls; ordered = ordered-graft ls; valid = valid_graft ls h; fold = fold }
-
--- ---- lines, one after another
-
-all_pushed : {X : Type 0} (P : X → Type 0) (xs : List X) (x : X) → AllByRecursion P xs → P x → AllByRecursion P (xs ++ x ∷ [])
-all_pushed P [] x h k = (k, tt)
-all_pushed P (y ∷ xs) x h k = (h.0, all_pushed P xs x h.1 k)
-
-lines_pushed : {A : Type 0} (ls : List (List Name × Node A)) (l : List Name × Node A) → lines_of (ls ++ l ∷ []) ≡ lines_of ls ++ (l.0, node_value l.1) ∷ []
-lines_pushed [] l = refl
-lines_pushed (k ∷ ls) l = ap (λ r. (k.0, node_value k.1) ∷ r) (lines_pushed ls l)
-
-pub valid_more : {A : Type 0} (ls : List (List Name × Node A)) (i : ℕ) (l : List Name × Node A) → i < length ls → l ≡ get_or ls i l → AllByRecursion IsGraftLine (lines_of (take i ls)) → IsGraftLine (l.0, node_value l.1) → AllByRecursion IsGraftLine (lines_of (take (i + 1) ls))
-valid_more ls i l lt is h k =
-    let split : take i ls ++ l ∷ [] ≡ take (i + 1) ls = ap (λ x. take i ls ++ x ∷ []) is ∙ take_one ls i l lt in
-    subst (AllByRecursion IsGraftLine) (sym (lines_pushed (take i ls) l) ∙ ap lines_of split) (all_pushed IsGraftLine (lines_of (take i ls)) (l.0, node_value l.1) h k)
-
-pub valid_all : {A : Type 0} (ls : List (List Name × Node A)) (i : ℕ) → length ls ≤ i → AllByRecursion IsGraftLine (lines_of (take i ls)) → AllByRecursion IsGraftLine (lines_of ls)
-valid_all ls i le h = subst (λ k. AllByRecursion IsGraftLine (lines_of k)) (take_all i ls le) h
+valid_own f h = subst (AllByRecursion IsEncoding) (sym h.1.fold.directories) (visits_valid h.0 h.1.ordered h.1.valid)

@@ -1,9 +1,9 @@
 -- One child more of a directory that is being made.
-use Rattle.std.proofs.Common.{◌≡◌, ℕ, zero, suc, ◌+◌, ◌-◌, ◌<◌, ◌≤◌, List, [], ◌∷◌, ◌++◌, refl, ap, sym, ◌∙◌, subst, arith, Bool, true, false, cond, append_assoc, length, take, drop, map, get_or, drop-cons}
-use Rattle.std.proofs.lemmas.List.{drop-map, drop-drop, take_all, length-drop}
+use Rattle.std.proofs.Common.{◌≡◌, ℕ, zero, suc, ◌+◌, ◌-◌, ◌<◌, ◌≤◌, List, [], ◌∷◌, ◌++◌, refl, ap, sym, ◌∙◌, arith, Bool, true, false, cond, append_assoc, length, take, drop, map, get_or, drop-cons}
+use Rattle.std.proofs.lemmas.List.{drop-map, take_all, length-drop}
 use Rattle.std.specs.Prelude.{Result, Ok, Err, IfOk, nat_eq}
 use Rattle.std.specs.Cmp.Lexicographic.{pointwise}
-use Rattle.blob_digest.specs.Digest.{DigestValue, digest_of}
+use Rattle.blob_digest.specs.Digest.{digest_of}
 use Rattle.messages.specs.declared.node.Node.TheVariants.{File, Link, Dir}
 use Rattle.messages.specs.DirectoryRules.{DirectoryValue}
 use Rattle.messages.specs.FileNode.{file_node_bytes}
@@ -14,15 +14,13 @@ use Rattle.canonical.specs.Fields.{element_fields}
 use Rattle.wire.specs.Spelling.{spelling}
 use Rattle.messages.specs.Directory.{directory_bytes}
 use Rattle.tree.specs.Tree.{Name, Tree}
-use Rattle.messages.specs.declared.node.Node.{Node}
 use Rattle.tree.specs.Form.{NodeValue, no_children, with_child, directory_of, root}
-use Rattle.tree.specs.Folded.{tops_below, visited}
+use Rattle.tree.specs.Folded.{tops_below}
 use Rattle.tree.specs.Graft.{graft}
 use Rattle.tree.specs.Visiting.{HaveApart}
 use Rattle.tree.specs.declared.visiting.Line.{Line}
 use Rattle.tree.specs.declared.visiting.Visited.{Visited}
-use Rattle.tree.specs.Visiting.{Ascend, first_under, led, total, items_of, lines_seen, line_values, joined, IsVisitOf}
-use Rattle.tree.proofs.Sorted.{step_leaf, step_under, total_under, total_drop, length_led}
+use Rattle.tree.specs.Visiting.{Ascend, first_under, led, items_of, lines_seen, joined, IsVisitOf}
 
 -- ---- children behind children
 
@@ -57,33 +55,6 @@ pub record Makes (made : DirectoryValue) (encodings : List (List ℕ)) (rest all
   pub ascend : Ascend rest
   pub apart : HaveApart rest
 
-pub makes_first : (all : List (List Name × NodeValue)) → Ascend all → HaveApart all → Makes no_children [] all all
-makes_first all up apart = record { directory = refl; tops = refl; ascend = up; apart = apart }
-
-pub makes_leaf : (made : DirectoryValue) (tops : List (List ℕ)) (n : Name) (x : NodeValue) (rest all : List (List Name × NodeValue)) → Makes made tops ((n ∷ [], x) ∷ rest) all → Makes (joined made (with_child n x no_children)) tops rest all
-makes_leaf made tops n x rest all h =
-    let step = step_leaf n x rest h.ascend h.apart in
-    record {
-      directory = joined_assoc made (with_child n x no_children) (directory_of (graft rest)) ∙ ap (joined made) (child_joined n x (directory_of (graft rest))) ∙ ap (λ t. joined made (directory_of t)) (sym step) ∙ h.directory;
-      tops = ap (λ t. tops ++ tops_below t) (sym step) ∙ h.tops;
-      ascend = h.ascend.1;
-      apart = h.apart.2;
-    }
-
-pub makes_folder : (made : DirectoryValue) (tops below : List (List ℕ)) (d : DigestValue) (n m : Name) (p : List Name) (x : NodeValue) (rest all : List (List Name × NodeValue))
-    → Makes made tops ((n ∷ m ∷ p, x) ∷ rest) all → d ≡ root (graft (led n ((n ∷ m ∷ p, x) ∷ rest))) → below ≡ visited (graft (led n ((n ∷ m ∷ p, x) ∷ rest)))
-    → Makes (joined made (with_child n (Dir d) no_children)) (tops ++ below) (drop (length (led n ((n ∷ m ∷ p, x) ∷ rest))) ((n ∷ m ∷ p, x) ∷ rest)) all
-makes_folder made tops below d n m p x rest all h digest visits =
-    let step = step_under n m p x rest h.ascend h.apart in
-    let later = drop (length (led n ((n ∷ m ∷ p, x) ∷ rest))) ((n ∷ m ∷ p, x) ∷ rest) in
-    record {
-      directory = joined_assoc made (with_child n (Dir d) no_children) (directory_of (graft later)) ∙ ap (joined made) (child_joined n (Dir d) (directory_of (graft later)))
-          ∙ ap (λ e. joined made (with_child n (Dir e) (directory_of (graft later)))) digest ∙ ap (λ t. joined made (directory_of t)) (sym step.grafts) ∙ h.directory;
-      tops = append_assoc tops below (tops_below (graft later)) ∙ ap (λ b. tops ++ (b ++ tops_below (graft later))) visits ∙ ap (λ t. tops ++ tops_below t) (sym step.grafts) ∙ h.tops;
-      ascend = step.later_ascend;
-      apart = step.later_apart;
-    }
-
 -- ---- lines by their index
 
 pub drop_line : {A B : Type 0} (f : A → B) (k : ℕ) (xs : List A) (d : A) → k < length xs → drop k (map f xs) ≡ f (get_or xs k d) ∷ drop (k + 1) (map f xs)
@@ -109,56 +80,6 @@ line_at f k xs d n p names lt is seen split =
 pub no_names : {A : Type 0} (p : List A) → length p < 1 → p ≡ []
 no_names [] lt = refl
 no_names (n ∷ p) lt = absurd (omega arith)
-
-pub record Folds (n : Name) (p : List Name) (x : NodeValue) (k : ℕ) (all under : List (List Name × NodeValue)) : Type 0 where
-  pub is_led : under ≡ led n (drop k all)
-  pub ascend : Ascend under
-  pub apart : HaveApart under
-  pub fewer : total under < total all
-  pub some : 0 < length under
-  pub within : length under ≤ length (drop k all)
-
-some_names : {A : Type 0} {P : Type 0} (p : List A) → 1 ≤ length p → ((m : A) (q : List A) → p ≡ m ∷ q → P) → P
-some_names [] le f = absurd (omega arith)
-some_names (m ∷ q) le f = f m q refl
-
--- the lines under the name of the line at k
-pub folds_at : (made : DirectoryValue) (tops : List (List ℕ)) (n : Name) (p : List Name) (x : NodeValue) (k : ℕ) (later all under : List (List Name × NodeValue))
-    → 1 ≤ length p → drop k all ≡ (n ∷ p, x) ∷ later → Makes made tops (drop k all) all → under ≡ led n (drop k all) → Folds n p x k all under
-folds_at made tops n p x k later all under le here h is = some_names p le (λ m q e.
-    let seen : drop k all ≡ (n ∷ m ∷ q, x) ∷ later = here ∙ ap (λ r. (n ∷ r, x) ∷ later) e in
-    let step = step_under n m q x later (subst Ascend seen h.ascend) (subst HaveApart seen h.apart) in
-    let led_is : under ≡ led n ((n ∷ m ∷ q, x) ∷ later) = is ∙ ap (led n) seen in
-    let less = total_under n (m ∷ q) x later in
-    let all_less = total_drop k all in
-    let seen_total : total (drop k all) ≡ total ((n ∷ m ∷ q, x) ∷ later) = ap total seen in
-    let under_total : total under ≡ total (led n ((n ∷ m ∷ q, x) ∷ later)) = ap total led_is in
-    record {
-      is_led = is;
-      ascend = subst Ascend (sym led_is) step.ascend;
-      apart = subst HaveApart (sym led_is) step.apart;
-      fewer = omega (arith, less, all_less, seen_total, under_total);
-      some = subst (λ u. 0 < length u) (sym led_is) step.some;
-      within = subst (λ u. length u ≤ length (drop k all)) (sym is) (length_led n (drop k all));
-    })
-
-pub makes_at : (made : DirectoryValue) (tops below : List (List ℕ)) (d : DigestValue) (n : Name) (p : List Name) (x : NodeValue) (k count : ℕ) (later all under : List (List Name × NodeValue))
-    → 1 ≤ length p → drop k all ≡ (n ∷ p, x) ∷ later → Makes made tops (drop k all) all → under ≡ led n (drop k all) → length under ≡ count
-    → d ≡ root (graft under) → below ≡ visited (graft under)
-    → Makes (joined made (with_child n (Dir d) no_children)) (tops ++ below) (drop (k + count) all) all
-makes_at made tops below d n p x k count later all under le here h is taken digest visits = some_names p le (λ m q e.
-    let seen : drop k all ≡ (n ∷ m ∷ q, x) ∷ later = here ∙ ap (λ r. (n ∷ r, x) ∷ later) e in
-    let led_is : under ≡ led n ((n ∷ m ∷ q, x) ∷ later) = is ∙ ap (led n) seen in
-    let made_more = makes_folder made tops below d n m q x later all (subst (λ r. Makes made tops r all) seen h) (digest ∙ ap (λ u. root (graft u)) led_is) (visits ∙ ap (λ u. visited (graft u)) led_is) in
-    let rest : drop (length (led n ((n ∷ m ∷ q, x) ∷ later))) ((n ∷ m ∷ q, x) ∷ later) ≡ drop (k + count) all =
-    ap (λ u. drop (length u) ((n ∷ m ∷ q, x) ∷ later)) (sym led_is) ∙ ap (drop (length under)) (sym seen) ∙ drop-drop (length under) k all ∙ ap (λ j. drop (k + j) all) taken in
-    subst (λ r. Makes (joined made (with_child n (Dir d) no_children)) (tops ++ below) r all) rest made_more)
-
-pub makes_end : (made : DirectoryValue) (tops : List (List ℕ)) (all : List (List Name × NodeValue)) → Makes made tops [] all → (made ≡ directory_of (graft all)) × (tops ≡ tops_below (graft all))
-makes_end made tops all h = (sym (joined_none made) ∙ h.directory, sym (none_after tops) ∙ h.tops)
-
-pub makes_same : {made other : DirectoryValue} {tops others : List (List ℕ)} {rest all : List (List Name × NodeValue)} → other ≡ made → others ≡ tops → Makes made tops rest all → Makes other others rest all
-makes_same {made} {other} {tops} {others} {rest} {all} d e h = subst (λ m. Makes m others rest all) (sym d) (subst (λ t. Makes made t rest all) (sym e) h)
 
 pub rest_of : {A : Type 0} (k : ℕ) (xs : List A) → take (length xs - k) (drop k xs) ≡ drop k xs
 rest_of k xs = take_all (length xs - k) (drop k xs) (let len = length-drop k xs in omega (arith, len))
@@ -192,20 +113,11 @@ module _ {A T X : Type 0} (f : T → X) where
   pub led_values : (n : Name) (under lines : List (Line A T)) → lines_seen under ≡ led n (lines_seen lines) → seen_as under ≡ led n (seen_as lines)
   led_values n under lines h = values_seen under ∙ ap (seen_by f) h ∙ sym (led_seen f n (lines_seen lines)) ∙ ap (led n) (sym (values_seen lines))
 
--- no line is without names
-pub no_line : {A B : Type 0} (f : A → List Name × B) (k : ℕ) (xs : List A) (d : A) (names : List Name) → k < length xs → d ≡ get_or xs k d → (f d).0 ≡ names → length names ≡ 0 → HaveApart (drop k (map f xs)) → ⊥
-no_line f k xs d [] lt is seen none apart = (subst HaveApart (drop_line f k xs d lt ∙ ap (λ a. f a ∷ drop (k + 1) (map f xs)) (sym is)) apart).0 seen
-no_line f k xs d (n ∷ p) lt is seen none apart = absurd (omega arith)
-
 -- the Directory that is made is the tree's
 pub visit_of : {A E : Type 0} (r : Result (Visited A) E) (t : Tree NodeValue) (made : DirectoryValue) (tops : List (List ℕ)) → made ≡ directory_of t → tops ≡ tops_below t
     → IfOk r (λ v. v.root ≡ digest_of (directory_bytes made)) → IfOk r (λ v. items_of v.encodings.items ≡ directory_bytes made ∷ tops) → IfOk r (λ v. IsVisitOf t v)
 visit_of (Ok v) t made tops m e h k = record { root = h ∙ ap (λ d. digest_of (directory_bytes d)) m; encodings = k ∙ ap (λ d. directory_bytes d ∷ tops) m ∙ ap (λ q. directory_bytes (directory_of t) ∷ q) e }
 visit_of (Err e) t made tops m q h k = tt
-
-pub values_length : {A : Type 0} (lines : List (Line A (Node A))) → length (line_values lines) ≡ length lines
-values_length [] = refl
-values_length (l ∷ lines) = ap suc (values_length lines)
 
 -- ---- what is written
 

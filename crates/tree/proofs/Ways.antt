@@ -37,9 +37,6 @@ way_still B C d p a g h = way_still_from a p (Some (Dir d)) g h
 pub record WayGoesOn (B : Blobs) (d : DigestValue) (p : List Name) (o : Option NodeValue) (rest : List Name) : Type 0 where
   pub looks : (later : Blobs) → Grows B later → (a : Asked) → OnWayFrom later rest o a → OnWay later d p a
 
-pub way_first : (B : Blobs) (d : DigestValue) (p : List Name) → WayGoesOn B d p (Some (Dir d)) p
-way_first B d p = record { looks = λ later g a h. h }
-
 pub way_dir : {A : Type 0} (B : Blobs) (d e : DigestValue) (p rest : List Name) (x : Node A) → x ≡ Dir e → WayGoesOn B d p (Some (node_value x)) rest → WayGoesOn B d p (Some (Dir e)) rest
 way_dir B d e p rest x is goes = subst (λ y. WayGoesOn B d p (Some (node_value y)) rest) is goes
 

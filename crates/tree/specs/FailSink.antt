@@ -48,9 +48,9 @@ pub record FailsOnce {S T : Type 0} (tells : S → Telling) (does : Telling → 
 
 -- ---- steps of a call
 
--- A failure was counted where one is told, which it is while the count isn't full.
+-- One failure was counted where one is told, which it is while the count isn't full.
 pub record CountsFailure {T : Type 0} (old new : ℕ) (result : Result T FetchError) : Type 0 where
-  pub failed : IsErrOf result Failed → old < new
+  pub failed : IsErrOf result Failed → new ≡ old + 1
   pub unfailed : (IsErrOf result Failed → ⊥) → new ≡ old
   pub risen : old ≤ new
   pub bounded : new ≤ greatest_count

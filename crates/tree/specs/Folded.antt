@@ -9,6 +9,7 @@ use Rattle.messages.specs.Target.{IsTarget}
 use Rattle.tree.specs.declared.folding.Folded.{Folded}
 use Rattle.tree.specs.Tree.{Tree, empty, leaf, folder, IsOrdered}
 use Rattle.tree.specs.Form.{NodeValue, top, root}
+use Rattle.tree.specs.Stage.{Stage}
 
 -- The encodings in the order of a visit: a directory before what is below it, names in order, each
 -- with all that is below it before the next.
@@ -48,9 +49,15 @@ AreValid empty = Unit {0}
 AreValid (leaf n x rest) = (IsName n × IsNode x) × AreValid rest
 AreValid (folder n below rest) = (IsName n × AreValid below) × AreValid rest
 
--- the fold of a tree whose Directories are valid
-pub record IsFoldOfValid {A : Type 0} (f : Folded A) : Type 0 where
-  pub tree : Tree NodeValue
-  pub ordered : IsOrdered tree
-  pub valid : AreValid tree
-  pub fold : IsFoldOf tree f
+-- the tree's Directories are valid, and this is its fold
+pub record IsValidFold {A : Type 0} (t : Tree NodeValue) (f : Folded A) : Type 0 where
+  pub ordered : IsOrdered t
+  pub valid : AreValid t
+  pub fold : IsFoldOf t f
+
+abbrev pub IsFoldOfValid : {A : Type 0} → Folded A → Type 0
+IsFoldOfValid f = (t : Tree NodeValue) × IsValidFold t f
+
+-- the same, of a tree with which a check passes
+abbrev pub IsFoldOfPassed : {A E : Type 0} → Stage E (Tree NodeValue) → Folded A → Type 0
+IsFoldOfPassed check f = (t : Tree NodeValue) × check.passes t × IsValidFold t f

@@ -4,6 +4,7 @@ pub mod Form
 pub mod Lookup
 pub mod TreeError
 pub mod Memo
+pub mod Stage
 pub mod Folded
 pub mod Lines
 pub mod Visiting
@@ -15,7 +16,6 @@ pub mod Comparing
 pub mod TrueDifference
 pub mod LooksAt
 pub mod Merge
-pub mod Stage
 pub mod Merging
 pub mod MergeLooks
 pub mod Given

@@ -22,8 +22,6 @@ use Rattle.tree.specs.Tree.{Name, name_cmp, Tree, empty, Entry, single, whole}
 use Rattle.tree.specs.Form.{NodeValue, node_value}
 use Rattle.tree.specs.Graft.{with_entry}
 use Rattle.tree.specs.Merge.{same_bit}
-use Rattle.tree.specs.declared.folding.Folded.{Folded}
-use Rattle.tree.specs.Folded.{IsFoldOf}
 use Rattle.tree.specs.Stage.{Stage, ◌and_then◌, demands, comes_to}
 
 -- ---- what is merged
@@ -247,10 +245,6 @@ node_within x w = record { node = node_value x; within = within_value w }
 
 abbrev pub merge_lines : {A : Type 0} → List (List Name × Node A × Within A) → MergeLines
 merge_lines lines = map (λ l. (l.0, node_within l.1 l.2)) lines
-
--- the fold of the tree that lines come to
-abbrev pub IsFoldOfMerged : {A : Type 0} → Stage MergeFault (Tree NodeValue) → Folded A → Type 0
-IsFoldOfMerged check f = (t : Tree NodeValue) × check.passes t × IsFoldOf t f
 
 -- Why lines weren't merged: their first fault, unless the source failed or memory ran out.
 abbrev pub ExplainsMerge : {A : Type 0} → (MergeFault → Type 0) → TreeError A → Type 0

@@ -11,7 +11,7 @@ use Rattle.tree.specs.declared.error.AddError.TheVariants as adding
 use Rattle.tree.specs.declared.error.TreeError.TheVariants.{Absent, BlobMissing, BlobWrong}
 use Rattle.tree.specs.declared.error.TreeError.TheVariants.{BlobMalformed, TooDeep, Conflict, Fetch, Memory}
 use Rattle.tree.specs.Tree.{Name}
-use Rattle.blob_source.specs.Source.{Blobs}
+use Rattle.blob_source.specs.Source.{Blobs, IsMissing, IsWrong}
 use Rattle.blob_source.specs.Told.{Fault, missing, wrong, malformed}
 use Rattle.tree.specs.Lookup.{Looks, fault, nothing}
 
@@ -37,6 +37,12 @@ Explains Fails (TooDeep path) = ⊥
 Explains Fails (Conflict path) = ⊥
 Explains Fails Fetch = Unit {0}
 Explains Fails Memory = Unit {0}
+
+-- why no blob is told under a digest: nothing is, or other bytes are
+abbrev pub FailsBlob : Blobs → DigestValue → Fault → Type 0
+FailsBlob B d (missing e) = (e ≡ d) × IsMissing B d
+FailsBlob B d (wrong e) = (e ≡ d) × IsWrong B d
+FailsBlob B d (malformed e) = ⊥
 
 -- Why a look-up answered no node: nothing stands at the path, or a fault stands on the way, unless
 -- the source failed or memory ran out.

@@ -1,12 +1,14 @@
 -- The tree that a source tells under a digest, Directory by Directory, and why there is none.
 use Rattle.std.specs.Prelude.{◌≡◌, ◌≢◌, ℕ, ◌+◌, List, [], ◌∷◌, ◌++◌, length}
+use Rattle.std.specs.declared.cmp.Ordering.TheVariants.{Less}
 use Rattle.blob_digest.specs.Digest.{DigestValue}
 use Rattle.messages.specs.declared.node.Node.TheVariants.{Dir}
 use Rattle.messages.specs.DirectoryRules.{DirectoryValue}
 use Rattle.tree.specs.declared.error.TreeError.{TreeError}
 use Rattle.tree.specs.declared.error.TreeError.TheVariants.{Absent, BlobMissing, BlobWrong}
 use Rattle.tree.specs.declared.error.TreeError.TheVariants.{BlobMalformed, TooDeep, Conflict, Fetch, Memory}
-use Rattle.tree.specs.Tree.{Name, Tree, empty, leaf, folder, Standing, nothing, a_leaf, a_directory}
+use Rattle.tree.specs.Tree.{Name, path_cmp, Tree, empty, leaf, folder}
+use Rattle.tree.specs.Tree.{Standing, nothing, a_leaf, a_directory}
 use Rattle.tree.specs.Form.{NodeValue, no_children, directory_of, root}
 use Rattle.blob_source.specs.Source.{Blobs}
 use Rattle.blob_source.specs.Told.{Fault, missing, wrong, malformed, TellsDirectory, FailsDirectory}
@@ -44,13 +46,25 @@ directories_in (e ∷ entries) = directories_at e.1 + directories_in entries
 
 -- ---- why there is none
 
--- a directory that a look-up finds, whose Directory isn't told
-pub record IsFaultBelow (B : Blobs) (d e : DigestValue) (f : Fault) : Type 0 where
+-- the Directory of a directory at a path is told, and is empty where the path has 64 names
+abbrev pub IsFineAt : Blobs → List Name → DigestValue → Type 0
+IsFineAt B path d =
+    (m : DirectoryValue) × TellsDirectory B d m × (length path ≡ 64 → m ≡ no_children)
+
+-- so it is at each path before this one, in the order of paths; `above` are above the digest
+abbrev pub AreFineBefore : Blobs → DigestValue → List Name → List Name → Type 0
+AreFineBefore B d above path = (q : List Name) (e : DigestValue) → path_cmp q path ≡ Less
+    → Looks B d q (found (Dir e)) → IsFineAt B (above ++ q) e
+
+-- the first directory of which that isn't so: its Directory isn't told
+pub record IsFaultBelow (B : Blobs) (d : DigestValue) (above : List Name) (e : DigestValue)
+    (f : Fault) : Type 0 where
   pub path : List Name
   pub reached : Looks B d path (found (Dir e))
   pub fault : FailsDirectory B e f
+  pub first : AreFineBefore B d above path
 
--- a directory with an entry at a path of 64 names, of which `above` are above the digest
+-- or it has an entry, at a path of 64 names
 pub record IsDeep (B : Blobs) (d : DigestValue) (above path : List Name) : Type 0 where
   pub below : List Name
   pub split : path ≡ above ++ below
@@ -60,12 +74,13 @@ pub record IsDeep (B : Blobs) (d : DigestValue) (above path : List Name) : Type 
   pub directory : DirectoryValue
   pub told : TellsDirectory B digest directory
   pub some : directory ≢ no_children
+  pub first : AreFineBefore B d above below
 
 abbrev pub ExplainsUnfold : {A : Type 0} → Blobs → DigestValue → List Name → TreeError A → Type 0
 ExplainsUnfold B d above (Absent path) = ⊥
-ExplainsUnfold B d above (BlobMissing e) = IsFaultBelow B d e (missing e)
-ExplainsUnfold B d above (BlobWrong e) = IsFaultBelow B d e (wrong e)
-ExplainsUnfold B d above (BlobMalformed e) = IsFaultBelow B d e (malformed e)
+ExplainsUnfold B d above (BlobMissing e) = IsFaultBelow B d above e (missing e)
+ExplainsUnfold B d above (BlobWrong e) = IsFaultBelow B d above e (wrong e)
+ExplainsUnfold B d above (BlobMalformed e) = IsFaultBelow B d above e (malformed e)
 ExplainsUnfold B d above (TooDeep path) = IsDeep B d above path
 ExplainsUnfold B d above (Conflict path) = ⊥
 ExplainsUnfold B d above Fetch = Unit {0}

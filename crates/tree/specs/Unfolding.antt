@@ -3,6 +3,7 @@
 use Rattle.std.specs.Prelude.{◌≡◌, List, [], ◌∷◌, ◌++◌, length, map, Option, Some, None}
 use Rattle.std.specs.List.{AllByRecursion}
 use Rattle.messages.specs.declared.node.Node.{Node}
+use Rattle.messages.specs.declared.node.Node.TheVariants.{Dir}
 use Rattle.messages.specs.DirectoryRules.{DirectoryValue}
 use Rattle.messages.specs.Path.{IsPath}
 use Rattle.tree.specs.declared.error.TreeError.{TreeError}
@@ -13,7 +14,8 @@ use Rattle.blob_digest.specs.Digest.{DigestValue}
 use Rattle.tree.specs.Tree.{Name, Tree, empty, leaf, IsOrdered}
 use Rattle.tree.specs.Form.{NodeValue, node_value, directory_of}
 use Rattle.tree.specs.FlatTree.{FlatValue, listed}
-use Rattle.tree.specs.Unfolded.{TellsTree}
+use Rattle.tree.specs.Lookup.{Looks, found}
+use Rattle.tree.specs.Unfolded.{TellsTree, IsFineAt}
 
 -- names with their nodes, as a tree
 abbrev pub leaves : List (Name × NodeValue) → Tree NodeValue
@@ -52,6 +54,11 @@ ExplainsChild above Memory = Unit {0}
 abbrev pub prefixed : List Name → FlatValue → FlatValue
 prefixed above entries = map (λ e. (above ++ e.0, e.1)) entries
 
+-- all directories are told, and those at paths of 64 names are empty
+abbrev pub AreFine : Blobs → DigestValue → List Name → Type 0
+AreFine B d above =
+    (q : List Name) (e : DigestValue) → Looks B d q (found (Dir e)) → IsFineAt B (above ++ q) e
+
 -- after the entries that were there stand those of the tree that is told under a digest, below a
 -- path
 pub record Appends (B : Blobs) (d : DigestValue) (above : List Name)
@@ -60,4 +67,5 @@ pub record Appends (B : Blobs) (d : DigestValue) (above : List Name)
   pub ordered : IsOrdered tree
   pub told : TellsTree B d tree
   pub entries : new ≡ old ++ prefixed above (listed tree)
+  pub fine : AreFine B d above
   pub paths : AllByRecursion (λ e. IsPath e.0) (prefixed above (listed tree))

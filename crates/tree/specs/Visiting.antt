@@ -6,13 +6,12 @@ use Rattle.std.specs.List.{AllByRecursion}
 use Rattle.std.specs.Cmp.Lexicographic.{pointwise}
 use Rattle.std.specs.declared.cmp.Ordering.TheVariants.{Less}
 use Rattle.std.specs.declared.vec.Vec.{Vec}
-use Rattle.messages.specs.declared.node.Node.{Node}
 use Rattle.messages.specs.DirectoryRules.{DirectoryValue}
 use Rattle.tree.specs.declared.visiting.Line.{Line}
 use Rattle.tree.specs.declared.visiting.Children.{Children}
 use Rattle.tree.specs.declared.visiting.Visited.{Visited}
 use Rattle.tree.specs.Tree.{Name, path_cmp, Tree}
-use Rattle.tree.specs.Form.{NodeValue, node_value, root}
+use Rattle.tree.specs.Form.{NodeValue, root}
 use Rattle.tree.specs.Folded.{visited}
 use Rattle.tree.specs.FlatTree.{FlatValue, entry_value}
 use Rattle.tree.specs.declared.flat_tree.FlatEntry.{FlatEntry}
@@ -55,14 +54,8 @@ total (l ∷ ls) = length l.0 + total ls
 abbrev pub lines_seen : {A T : Type 0} → List (Line A T) → List (List Name × T)
 lines_seen lines = map (λ l. (l.names.now, l.item.now)) lines
 
-abbrev pub line_values : {A : Type 0} → List (Line A (Node A)) → List (List Name × NodeValue)
-line_values lines = map (λ l. (l.names.now, node_value l.item.now)) lines
-
 abbrev pub line_entries : {A : Type 0} → List (Line A (FlatEntry A)) → FlatValue
 line_entries lines = map (λ l. (l.names.now, entry_value l.item.now)) lines
-
-abbrev pub entry_lines : {A : Type 0} → List (Vec Name A × Node A) → List (List Name × NodeValue)
-entry_lines entries = map (λ e. (e.0.items, node_value e.1)) entries
 
 -- ---- directories
 

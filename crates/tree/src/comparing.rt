@@ -142,10 +142,11 @@ fn difference_below<A: Allocator + Copy, S: BlobSource<A>>(
     }
 }
 
-/// The first difference of a graft and the directory with a digest, as `first_difference` answers
-/// it, over what was told before: a Directory that is kept isn't asked for. Refusals:
-/// `BlobMissing`, `BlobWrong` and `BlobMalformed`.
-pub fn first_difference_with<A: Allocator + Copy, S: BlobSource<A>>(
+/// The first difference of a graft and the directory with a digest, Directory by Directory, names
+/// in their order: `None` where the digest is the graft's. The recorded Directory is read before
+/// the grafted one; one that the graft made is never fetched, nor one that is kept, and nothing is
+/// that isn't compared. Refusals: `BlobMissing`, `BlobWrong` and `BlobMalformed`.
+pub fn first_difference<A: Allocator + Copy, S: BlobSource<A>>(
     alloc: A,
     grafted: &Folded<A>,
     recorded: &Digest,
@@ -179,29 +180,4 @@ pub fn first_difference_with<A: Allocator + Copy, S: BlobSource<A>>(
     let root = &grafted.root;
     let first = difference_below(alloc, &own, &None, 64, root, recorded, memo, source)?;
     Ok(Some(first))
-}
-
-/// The first difference of a graft and the directory with a digest, Directory by Directory, names
-/// in their order: `None` where the digest is the graft's. The recorded Directory is read before
-/// the grafted one; one that the graft made is never fetched, and nothing is that isn't compared.
-/// Refusals: `BlobMissing`, `BlobWrong` and `BlobMalformed`.
-pub fn first_difference<A: Allocator + Copy, S: BlobSource<A>>(
-    alloc: A,
-    grafted: &Folded<A>,
-    recorded: &Digest,
-    source: &mut S,
-) -> Result<Option<Difference<A>>, TreeError<A>>
-    requires { IsFoldOfValid grafted.now }
-    ensures same { IfOk result (λ o. IsNone o ↔ (recorded.now ≡ grafted.now.root)) }
-    ensures found { IfOk result (λ o. IfSome o (λ x. FindsFirst (made_by grafted.now)
-        (S.tells source.new).blobs grafted.now.root recorded.now (differing x))) }
-    ensures refused { IfErr result (ExplainsDifference (FindsFirst (made_by grafted.now)
-        (S.tells source.new).blobs grafted.now.root recorded.now)) }
-    ensures called { Calls (Asks 128) (S.tells source.old) (S.tells source.new)
-        (IsErrOf result TreeError.Fetch) }
-    ensures unasked { recorded.now ≡ grafted.now.root → S.tells source.new ≡ S.tells source.old }
-    ensures unasked_own { LeavesOwn (made_by grafted.now)
-        (S.tells source.old).blobs (S.tells source.new).blobs }
-{
-    first_difference_with(alloc, grafted, recorded, &mut Memo::new(alloc), source)
 }

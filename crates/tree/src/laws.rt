@@ -87,8 +87,8 @@ pub fn answers_are_always_there()
 {}
 
 /// What is found as the first difference is one: by look-ups, the graft and the recorded directory
-/// don't have the same at its path; at each path before it they do, or both have directories. A
-/// law: it does nothing.
+/// don't have the same at its path, or have directories there of which one can't be read; at each
+/// path before it they have the same, or directories. A law: it does nothing.
 pub fn differences_are_true()
     ensures { (own : List (List ℕ)) (blobs : Blobs) (g r : DigestValue) (x : Differing)
         → FindsFirst own blobs g r x → IsTrueDifference own blobs g r x }

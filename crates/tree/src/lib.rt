@@ -21,11 +21,11 @@ mod visiting;
 pub use blob_source::{
     BlobSink, BlobSource, FetchError, Fetched, MemorySource, MessageFetchError, fetch_blob,
 };
-pub use comparing::{first_difference, first_difference_with};
+pub use comparing::first_difference;
 pub use difference::Difference;
 pub use error::{AddError, TreeError};
 pub use fail_sink::FailSink;
-pub use fetching::fetch_message;
+pub use fetching::{fetch_content, fetch_message};
 pub use flat_tree::{FlatEntry, FlatTree};
 pub use folding::{Folded, fold};
 pub use laws::{

@@ -7,13 +7,13 @@ ghost use Rattle.tree.specs.Tree.{name_cmp};
 ghost use Rattle.blob_source.specs.Called.{Called};
 ghost use Rattle.messages.specs.Path.{IsPath};
 ghost use Rattle.messages.specs.declared.node.Node.TheVariants.{Dir};
-ghost use Rattle.tree.specs.Folded.{IsFoldOfValid, IsNode};
+ghost use Rattle.tree.specs.Folded.{IsFoldOfPassed, IsNode};
 ghost use Rattle.tree.specs.Form.{node_value};
 ghost use Rattle.tree.specs.Lookup.{names_in};
 ghost use Rattle.tree.specs.Memo.{IsKnownOf, WasRefused, Learns, known_by};
 ghost use Rattle.tree.specs.Merging.{AreHeld, CanMeet, ExplainsMerge, IsFirstIn, IsHeldIn};
 ghost use Rattle.tree.specs.Merging.{counted, grouped, lone, merge_lines, merged, merged_in};
-ghost use Rattle.tree.specs.Merging.{node_opened, opened, IsFoldOfMerged, MergeLines, CanMeetAt};
+ghost use Rattle.tree.specs.Merging.{node_opened, opened, MergeLines, CanMeetAt};
 ghost use Rattle.tree.specs.Merging.{child_lines};
 ghost use Rattle.tree.specs.Merging.{WithinValue, in_source, in_tree};
 ghost use Rattle.tree.specs.MergeLooks.{MergeLooksAt, MergeLooksIn, NodeLooksAt, OpenedLooksAt};
@@ -423,8 +423,7 @@ pub fn merge<A: Allocator + Copy, S: BlobSource<A>>(
     requires known { IsKnownOf (known_by memo.old) (S.tells source.old) }
     requires held { AreHeld (merge_lines lines.now) }
     ensures merged { IfOk result
-        (IsFoldOfMerged (merged (S.tells source.new).blobs (merge_lines lines.now))) }
-    ensures valid { IfOk result (λ folded. IsFoldOfValid folded) }
+        (IsFoldOfPassed (merged (S.tells source.new).blobs (merge_lines lines.now))) }
     ensures refused { IfErr result (ExplainsMerge
         (merged (S.tells source.new).blobs (merge_lines lines.now)).fails) }
     ensures called { Called (S.tells source.old) (S.tells source.new)

@@ -19,7 +19,7 @@ use Rattle.tree.specs.Memo.{Asked, Known, IsKnownOf, WasRefused, Learns, LooksAt
 use Rattle.tree.proofs.Descent.{told_still}
 use Rattle.tree.proofs.Learning.{learns_none, learns_then, learns_more, learns_refused, refused_exit}
 use Rattle.tree.proofs.Ways.{compares_still}
-use Rattle.tree.specs.Folded.{first_visits}
+use Rattle.tree.specs.Folded.{first_visits, IsFoldOfPassed}
 use Rattle.tree.specs.declared.folding.Folded.{Folded}
 use Rattle.tree.specs.MergeLooks.{looks}
 use Rattle.tree.specs.Stage.{Stage, ◌and_then◌}
@@ -33,7 +33,7 @@ use Rattle.verifier.specs.Checks.{Checks}
 use Rattle.verifier.specs.declared.verifying.Checked.{Checked}
 use Rattle.verifier.specs.Stage.{Explains, Answers}
 use Rattle.verifier.specs.StepChecks.{message, together, grafted, held, read, step_check}
-use Rattle.verifier.specs.Together.{Earlier, IsFoldOfPassed, put_together, TogetherLooksAt}
+use Rattle.verifier.specs.Together.{Earlier, put_together, TogetherLooksAt}
 use Rattle.verifier.specs.LooksAt.{InputLooksAt, ResultLooksAt, StepLooksAt, StepsLookAt}
 use Rattle.verifier.specs.Verdict.{located, steps_check}
 use Rattle.verifier.proofs.Looking.{together_still, together_looks_still, outputs_look_still}
@@ -172,8 +172,8 @@ module _ {A V W : Type 0} where
       {r : Result W (Fault A)} → IsStable first → IsSteady here → Checks first here k0 k1 old mid (Ok v) → Checks (λ t. next t v) (λ t. further t v) k1 k2 mid new r
       → Checks (λ t. first t and_then next t) (λ t. looks (first t) (here t) (further t)) k0 k2 old new r
   checks_then {first} next {here = here} further {old = old} {mid = mid} {new = new} {v = v} {r = r} stable steady h k =
-      let blobs = k.called.asked.asks.blobs in
-      let results = k.called.asked.asks.results in
+      let blobs = k.called.asked.blobs in
+      let results = k.called.asked.results in
       let passes = stable.still mid new blobs results v h.checked in
       record {
         checked = then_answers (first new) (next new) v r passes k.checked;

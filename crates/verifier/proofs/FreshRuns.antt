@@ -410,11 +410,6 @@ module _ (S : List ℕ → Type 0) (apart : NoClash S) where
           let g = grafts end keeps plan.root_lines paths h.root.nodes h.root.resolved h.root.tree h.root.put_together (finished_all end all plan.root_lines h.root.nodes h.root.resolved) in
           (g.0, g.1, g.2 ∙ h.root.same, g.3)
 
-      pub ends_in_claim : (end : State) → Keeps end → HasFinishedAll plan end → IsSomeAnd (graft_of t end plan.root_lines) (λ g. root (form g) ≡ claim)
-      ends_in_claim end keeps all =
-          let g = end_tree end keeps all in
-          subst (λ o. IsSomeAnd o (λ g. root (form g) ≡ claim)) (sym g.1) g.2
-
       -- Nothing is stuck.
       pub nothing_is_stuck : (now : State) → Keeps now → IsNotStuck X plan meaning t now
       nothing_is_stuck now keeps = record {

@@ -6,8 +6,8 @@ use Rattle.tree.specs.Tree.{Tree, Leaf, IsOrdered}
 use Rattle.tree.specs.Form.{form, root}
 use Rattle.verifier.specs.AsRecorded.{IsPlanAsRecorded}
 use Rattle.verifier.specs.Build.{HasFinishedAll, graft_of}
-use Rattle.verifier.specs.BuildStages.{BuildStage, IsYesFrom, AreYes, last_claim, StageRun, RunsFrom, EndsIn, RunInTurn}
-use Rattle.verifier.specs.Headline.{IsNotStuck}
+use Rattle.verifier.specs.BuildStages.{BuildStage, IsYesFrom, AreYes, last_claim, RunsStage, EndsIn, RunInTurn}
+use Rattle.verifier.specs.Headline.{PlanRun, IsNotStuck}
 use Rattle.verifier.proofs.Holds.{recorded_tree, recorded_unstuck}
 use Rattle.verifier.proofs.Passing.{yes_recorded}
 
@@ -21,21 +21,21 @@ module _ (A : Type 0) where
     pub ordered : IsOrdered t
     pub same : root (form t) ≡ digest
 
-  ended : (sources : DigestValue) (s : BuildStage) → IsYesFrom A sources s → (t : Tree Leaf) → IsStart sources t → (r : StageRun) → RunsFrom t s r → HasFinishedAll s.plan r.now
+  ended : (sources : DigestValue) (s : BuildStage) → IsYesFrom A sources s → (t : Tree Leaf) → IsStart sources t → (r : PlanRun) → RunsStage t s r → HasFinishedAll s.plan r.now
       → (g : Tree Leaf) × (graft_of t r.now s.plan.root_lines ≡ Some g) × (root (form g) ≡ s.claim) × IsOrdered g
   ended sources s y t at r runs all =
-      recorded_tree s.tells.blobs s.tells.results sources s.plan s.recorded s.claim y.planned (as_recorded sources s y) t r.meaning r.table r.chosen r.events r.now at.ordered at.same runs.fits runs.table runs.agrees runs.apart runs.happened all
+      recorded_tree s.tells.blobs s.tells.results sources s.plan s.recorded s.claim y.planned (as_recorded sources s y) t r at.ordered at.same runs all
 
   one_tree : (t u : Tree Leaf) → ◌≡◌ {A = Option (Tree Leaf)} (Some t) (Some u) → t ≡ u
   one_tree t u is = cc
 
-  goes_on : (sources : DigestValue) (s : BuildStage) → IsYesFrom A sources s → (t : Tree Leaf) → IsStart sources t → (r : StageRun) (next : Tree Leaf) → EndsIn t s r next → IsStart s.claim next
+  goes_on : (sources : DigestValue) (s : BuildStage) → IsYesFrom A sources s → (t : Tree Leaf) → IsStart sources t → (r : PlanRun) (next : Tree Leaf) → EndsIn t s r next → IsStart s.claim next
   goes_on sources s y t at r next e =
       let g = ended sources s y t at r e.runs e.finished in
       let same : g.0 ≡ next = one_tree g.0 next (sym g.1 ∙ e.made) in
       subst (IsStart s.claim) same (record { ordered = g.3; same = g.2 })
 
-  pub ends_in_last : (sources : DigestValue) (ss : List BuildStage) (rs : List StageRun) (t end : Tree Leaf) → AreYes A sources ss → IsStart sources t → RunInTurn t ss rs end
+  pub ends_in_last : (sources : DigestValue) (ss : List BuildStage) (rs : List PlanRun) (t end : Tree Leaf) → AreYes A sources ss → IsStart sources t → RunInTurn t ss rs end
       → IsStart (last_claim sources ss) end
   ends_in_last sources [] [] t end y at r = subst (IsStart sources) (sym r) at
   ends_in_last sources [] (x ∷ rs) t end y at r = elim r [ ]
@@ -54,16 +54,16 @@ module _ (A : Type 0) where
   pub starts : (sources : DigestValue) (t : Tree Leaf) → IsOrdered t → root (form t) ≡ sources → IsStart sources t
   starts sources t ordered same = record { ordered = ordered; same = same }
 
-  pub never_stuck : (sources : DigestValue) (ss : List BuildStage) (rs : List StageRun) (t between : Tree Leaf) (s : BuildStage) (r : StageRun) → AreYes A sources (ss ++ s ∷ [])
-      → IsStart sources t → RunInTurn t ss rs between → RunsFrom between s r → IsNotStuck r.table s.plan r.meaning between r.now
+  pub never_stuck : (sources : DigestValue) (ss : List BuildStage) (rs : List PlanRun) (t between : Tree Leaf) (s : BuildStage) (r : PlanRun) → AreYes A sources (ss ++ s ∷ [])
+      → IsStart sources t → RunInTurn t ss rs between → RunsStage between s r → IsNotStuck r.table s.plan r.meaning between r.now
   never_stuck sources ss rs t between s r y at before runs =
       let here = ends_in_last sources ss rs t between (before_yes sources ss s y) at before in
       let yes = last_yes sources ss s y in
       (recorded_unstuck s.tells.blobs s.tells.results (last_claim sources ss) s.plan s.recorded s.claim yes.planned (as_recorded (last_claim sources ss) s yes)).of_run
-      between r.meaning r.table r.chosen r.events r.now here.ordered here.same runs.fits runs.table runs.agrees runs.apart runs.happened
+      between r here.ordered here.same runs
 
-  pub is_made : (sources : DigestValue) (ss : List BuildStage) (rs : List StageRun) (t between : Tree Leaf) (s : BuildStage) (r : StageRun) → AreYes A sources (ss ++ s ∷ [])
-      → IsStart sources t → RunInTurn t ss rs between → RunsFrom between s r → HasFinishedAll s.plan r.now → (end : Tree Leaf) × EndsIn between s r end
+  pub is_made : (sources : DigestValue) (ss : List BuildStage) (rs : List PlanRun) (t between : Tree Leaf) (s : BuildStage) (r : PlanRun) → AreYes A sources (ss ++ s ∷ [])
+      → IsStart sources t → RunInTurn t ss rs between → RunsStage between s r → HasFinishedAll s.plan r.now → (end : Tree Leaf) × EndsIn between s r end
   is_made sources ss rs t between s r y at before runs all =
       let here = ends_in_last sources ss rs t between (before_yes sources ss s y) at before in
       let g = ended (last_claim sources ss) s (last_yes sources ss s y) between here r runs all in

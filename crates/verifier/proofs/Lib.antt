@@ -4,6 +4,7 @@ pub mod TwoSteps
 pub mod TwoStepsRecorded
 pub mod TwoStepsRun
 pub mod TwoStepsBlobs
+pub mod TwoStages
 pub mod Lines
 pub mod Targets
 pub mod SameDigests

@@ -51,9 +51,10 @@ others =
     top (form data_directory) ∷
     codes "123456789" ∷
     (10 ∷ []) ∷
+    top (form two.built) ∷
     []
 
-abbrev all_blobs : List (List ℕ)
+abbrev pub all_blobs : List (List ℕ)
 all_blobs = map (λ (e : DigestValue × List ℕ). e.1) two.kept_blobs ++ others
 
 abbrev all_digests : List DigestValue
@@ -71,10 +72,11 @@ all_digests =
     two.digest_named (codes "2b127d56dfb9a5f0dc5f3ef28b22d5dda3fa6e156c4bed3f304e23b21ae8136b") 75 ∷
     two.digest_named (codes "15e2b0d3c33891ebb0f1ef609ec419420c20e320ce94c65fbc8c3312448eb225") 9 ∷
     two.newline_digest ∷
+    two.claim ∷
     []
 
 digests_are : map digest_of all_blobs ≡ all_digests
-unfolding two.sources two.gen_command_digest two.use_command_digest two.gen_frame_digest two.use_frame_digest two.input_digest two.tree_digest two.gen_action_digest two.use_action_digest two.newline_digest first_words schedule rounds compress hash_after digest_bytes sha256 digest_of groups varint directory_bytes tree_bytes command_bytes frame_bytes action_bytes encode_with decode_pairs
+unfolding two.sources two.claim two.gen_command_digest two.use_command_digest two.gen_frame_digest two.use_frame_digest two.input_digest two.tree_digest two.gen_action_digest two.use_action_digest two.newline_digest first_words schedule rounds compress hash_after digest_bytes sha256 digest_of groups varint directory_bytes tree_bytes command_bytes frame_bytes action_bytes encode_with decode_pairs
 digests_are = refl
 
 -- whether all hashes of the list differ
@@ -83,7 +85,7 @@ all_distinct [] = true
 all_distinct (d ∷ ds) = list_all (λ (e : DigestValue). not (bytes_eq d.hash e.hash)) ds && all_distinct ds
 
 are_distinct : all_distinct all_digests ≡ true
-unfolding two.sources two.gen_command_digest two.use_command_digest two.gen_frame_digest two.use_frame_digest two.input_digest two.tree_digest two.gen_action_digest two.use_action_digest two.newline_digest decode_pairs
+unfolding two.sources two.claim two.gen_command_digest two.use_command_digest two.gen_frame_digest two.use_frame_digest two.input_digest two.tree_digest two.gen_action_digest two.use_action_digest two.newline_digest decode_pairs
 are_distinct = refl
 
 both_true : (a b : Bool) → (a && b) ≡ true → (a ≡ true) × (b ≡ true)
@@ -253,9 +255,14 @@ in_tree b (t, valid, v, m, inside, is) = by (keeping_one two.kept_blobs v.0 (tre
 
 -- ---- the blobs of actions and outcomes
 
-of_nothing : (b : List ℕ) → IsBlobOf empty b → Contains all_blobs b
+pub of_nothing : (b : List ℕ) → IsBlobOf empty b → Contains all_blobs b
 of_nothing b (inl is) = same_blob (top (form empty)) b (7, omega arith, refl) is
 of_nothing b (inr none) = absurd none
+
+pub of_built : (b : List ℕ) → IsBlobOf two.built b → Contains all_blobs b
+of_built b (inl is) = same_blob (top (form two.built)) b (13, omega arith, refl) is
+of_built b (inr (inl is)) = same_blob (10 ∷ []) b (12, omega arith, refl) is
+of_built b (inr (inr none)) = absurd none
 
 of_made : (b : List ℕ) → IsBlobOf two.made b → Contains all_blobs b
 of_made b (inl is) = same_blob (top (form two.made)) b made_blob is
@@ -312,33 +319,6 @@ of_meaning b (inr (c, (suc (suc k), lt, at), is)) = absurd (omega (arith, lt))
 
 -- ---- the blobs of the run
 
-abbrev OfEvent : State → Event → List ℕ → Type 0
-OfEvent s e b = IsBlobOfEvent two.plan two.meaning empty s e b
-
-abbrev OfEvents : State → List Event → List ℕ → Type 0
-OfEvents s es b = IsBlobOfEvents two.plan two.meaning empty s es b
-
--- those of an event, and those of what happens in the state that it leads to
-and_then : (b : List ℕ) (s next : State) (e : Event) (es : List Event) → happens two.plan two.meaning empty s e ≡ Some next → (OfEvent s e b → Contains all_blobs b) → (OfEvents next es b → Contains all_blobs b)
-    → OfEvents s (e ∷ es) b → Contains all_blobs b
-and_then b s next e es is first rest (inl h) = first h
-and_then b s next e es is first rest (inr (mid, at, h)) =
-    let both : ◌≡◌ {A = Option State} (Some mid) (Some next) = sym at ∙ is in
-    let same : mid ≡ next = cc in
-    rest (subst (λ s. OfEvents s es b) same h)
-
-starts_gen : (b : List ℕ) (s : State) (w : ℕ) → action_of two.plan two.meaning empty s 0 ≡ Some two.gen.0 → OfEvent s (start 0 w) b → Contains all_blobs b
-starts_gen b s w is (a, at, h) =
-    let both : ◌≡◌ {A = Option ActionMeaning} (Some a) (Some two.gen.0) = sym at ∙ is in
-    let same : a ≡ two.gen.0 = cc in
-    of_gen b (subst (λ (a : ActionMeaning). IsBlobOfAction a b) same h)
-
-starts_use : (b : List ℕ) (s : State) (w : ℕ) → action_of two.plan two.meaning empty s 1 ≡ Some two.uses.0 → OfEvent s (start 1 w) b → Contains all_blobs b
-starts_use b s w is (a, at, h) =
-    let both : ◌≡◌ {A = Option ActionMeaning} (Some a) (Some two.uses.0) = sym at ∙ is in
-    let same : a ≡ two.uses.0 = cc in
-    of_uses b (subst (λ (a : ActionMeaning). IsBlobOfAction a b) same h)
-
 abbrev e7 : List Event
 e7 = finish 0 two.uses.1 ∷ []
 
@@ -360,27 +340,58 @@ e2 = lose 0 ∷ e3
 abbrev e1 : List Event
 e1 = start 0 1 ∷ e2
 
-of_run : (b : List ℕ) → OfEvents opening two.events b → Contains all_blobs b
-unfolding merge
-of_run b =
-    and_then b opening s1 (start 0 0) e1 refl (starts_gen b opening 0 refl)
-    (and_then b s1 s2 (start 0 1) e2 refl (starts_gen b s1 1 refl)
-    (and_then b s2 s3 (lose 0) e3 refl (λ none. absurd none)
-    (and_then b s3 s4 (finish 1 two.gen.1) e4 refl (made_by_gen b)
-    (and_then b s4 s5 (start 1 0) e5 refl (starts_use b s4 0 refl)
-    (and_then b s5 s6 (start 0 1) e6 refl (starts_gen b s5 1 refl)
-    (and_then b s6 s7 (finish 1 two.gen.1) e7 refl (made_by_gen b)
-    (and_then b s7 two.end (finish 0 two.uses.1) [] refl (made_by_uses b) (λ none. absurd none))))))))
+module _ (t : Tree Leaf) where
+  abbrev OfEvent : State → Event → List ℕ → Type 0
+  OfEvent s e b = IsBlobOfEvent two.plan two.meaning t s e b
 
--- ---- no clash
+  abbrev OfEvents : State → List Event → List ℕ → Type 0
+  OfEvents s es b = IsBlobOfEvents two.plan two.meaning t s es b
 
-concerned_one : (b : List ℕ) → IsConcerned two.blobs two.plan two.meaning empty two.table two.events b → Contains all_blobs b
-concerned_one b (inl (inl v)) = kept_one b v
-concerned_one b (inl (inr h)) = in_tree b h
-concerned_one b (inr (inl (inl h))) = of_nothing b h
-concerned_one b (inr (inl (inr h))) = of_meaning b h
-concerned_one b (inr (inr (inl h))) = of_chosen b h
-concerned_one b (inr (inr (inr h))) = of_run b h
+  -- those of an event, and those of what happens in the state that it leads to
+  and_then : (b : List ℕ) (s next : State) (e : Event) (es : List Event) → happens two.plan two.meaning t s e ≡ Some next → (OfEvent s e b → Contains all_blobs b) → (OfEvents next es b → Contains all_blobs b)
+      → OfEvents s (e ∷ es) b → Contains all_blobs b
+  and_then b s next e es is first rest (inl h) = first h
+  and_then b s next e es is first rest (inr (mid, at, h)) =
+      let both : ◌≡◌ {A = Option State} (Some mid) (Some next) = sym at ∙ is in
+      let same : mid ≡ next = cc in
+      rest (subst (λ s. OfEvents s es b) same h)
+
+  starts_gen : (b : List ℕ) (s : State) (w : ℕ) → action_of two.plan two.meaning t s 0 ≡ Some two.gen.0 → OfEvent s (start 0 w) b → Contains all_blobs b
+  starts_gen b s w is (a, at, h) =
+      let both : ◌≡◌ {A = Option ActionMeaning} (Some a) (Some two.gen.0) = sym at ∙ is in
+      let same : a ≡ two.gen.0 = cc in
+      of_gen b (subst (λ (a : ActionMeaning). IsBlobOfAction a b) same h)
+
+  starts_use : (b : List ℕ) (s : State) (w : ℕ) → action_of two.plan two.meaning t s 1 ≡ Some two.uses.0 → OfEvent s (start 1 w) b → Contains all_blobs b
+  starts_use b s w is (a, at, h) =
+      let both : ◌≡◌ {A = Option ActionMeaning} (Some a) (Some two.uses.0) = sym at ∙ is in
+      let same : a ≡ two.uses.0 = cc in
+      of_uses b (subst (λ (a : ActionMeaning). IsBlobOfAction a b) same h)
+
+  of_run : (b : List ℕ) → OfEvents opening two.events b → Contains all_blobs b
+  unfolding merge
+  of_run b =
+      and_then b opening s1 (start 0 0) e1 refl (starts_gen b opening 0 refl)
+      (and_then b s1 s2 (start 0 1) e2 refl (starts_gen b s1 1 refl)
+      (and_then b s2 s3 (lose 0) e3 refl (λ none. absurd none)
+      (and_then b s3 s4 (finish 1 two.gen.1) e4 refl (made_by_gen b)
+      (and_then b s4 s5 (start 1 0) e5 refl (starts_use b s4 0 refl)
+      (and_then b s5 s6 (start 0 1) e6 refl (starts_gen b s5 1 refl)
+      (and_then b s6 s7 (finish 1 two.gen.1) e7 refl (made_by_gen b)
+      (and_then b s7 two.end (finish 0 two.uses.1) [] refl (made_by_uses b) (λ none. absurd none))))))))
+
+  -- ---- no clash
+
+  concerned_one : ((b : List ℕ) → IsBlobOf t b → Contains all_blobs b) → (b : List ℕ) → IsConcerned two.blobs two.plan two.meaning t two.table two.events b → Contains all_blobs b
+  concerned_one own b (inl (inl v)) = kept_one b v
+  concerned_one own b (inl (inr h)) = in_tree b h
+  concerned_one own b (inr (inl (inl h))) = own b h
+  concerned_one own b (inr (inl (inr h))) = of_meaning b h
+  concerned_one own b (inr (inr (inl h))) = of_chosen b h
+  concerned_one own b (inr (inr (inr h))) = of_run b h
+
+  pub no_clash_from : ((b : List ℕ) → IsBlobOf t b → Contains all_blobs b) → NoClash (IsConcerned two.blobs two.plan two.meaning t two.table two.events)
+  no_clash_from own x y c d e = none_clash x y (concerned_one own x c) (concerned_one own y d) e
 
 pub no_clash : NoClash (IsConcerned two.blobs two.plan two.meaning empty two.table two.events)
-no_clash x y c d e = none_clash x y (concerned_one x c) (concerned_one y d) e
+no_clash = no_clash_from empty of_nothing

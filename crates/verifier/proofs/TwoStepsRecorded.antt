@@ -67,7 +67,7 @@ unfolding two.gen_action_digest two.use_action_digest decode_pairs
 use_result_kept = refl
 
 -- a digest with another size than 0 is not that of no bytes
-sized : (d : DigestValue) (n : ℕ) → d.size ≡ suc n → d ≡ digest_of [] → ⊥
+pub sized : (d : DigestValue) (n : ℕ) → d.size ≡ suc n → d ≡ digest_of [] → ⊥
 unfolding digest_of
 sized d n is e = let size = ap (λ (x : DigestValue). x.size) e in absurd (omega (arith, size, is))
 
@@ -212,8 +212,8 @@ result_lines = (codes "result" ∷ [], result_file) ∷ []
 result_merges : (merged two.blobs result_lines).passes (graft (nodes_in result_lines))
 result_merges = alone (codes "result" ∷ []) result_file (λ e. cc) (omega arith)
 
-gen_passes : IsAsRecorded two.blobs two.results two.sources [] (record { name = codes "gen"; frame = two.gen_frame_digest; lines = [] }) two.gen_action_digest gen_outcome
-gen_passes = record {
+gen_passes : (sources : DigestValue) → IsAsRecorded two.blobs two.results sources [] (record { name = codes "gen"; frame = two.gen_frame_digest; lines = [] }) two.gen_action_digest gen_outcome
+gen_passes sources = record {
   action = with_input two.gen.0.frame two.sources;
   command = two.gen.0.command;
   nodes = [];
@@ -232,8 +232,8 @@ gen_passes = record {
   listed = ((0, omega arith, refl), tt);
 }
 
-use_passes : IsAsRecorded two.blobs two.results two.sources (gen_outcome ∷ []) (record { name = codes "use"; frame = two.use_frame_digest; lines = record { target = codes "data" ∷ codes "x" ∷ []; origin = output 0 (codes "out" ∷ codes "a" ∷ []) } ∷ [] }) two.use_action_digest use_outcome
-use_passes = record {
+use_passes : (sources : DigestValue) → IsAsRecorded two.blobs two.results sources (gen_outcome ∷ []) (record { name = codes "use"; frame = two.use_frame_digest; lines = record { target = codes "data" ∷ codes "x" ∷ []; origin = output 0 (codes "out" ∷ codes "a" ∷ []) } ∷ [] }) two.use_action_digest use_outcome
+use_passes sources = record {
   action = with_input two.uses.0.frame two.input_digest;
   command = two.uses.0.command;
   nodes = data_lines;
@@ -261,10 +261,11 @@ use_passes = record {
   listed = ((0, omega arith, refl), tt);
 }
 
-pub as_recorded : IsPlanAsRecorded two.blobs two.results two.sources two.plan two.recorded two.claim
-as_recorded = record {
+-- no line reads the sources
+pub as_recorded : (sources : DigestValue) → IsPlanAsRecorded two.blobs two.results sources two.plan two.recorded two.claim
+as_recorded sources = record {
   outcomes = gen_outcome ∷ use_outcome ∷ [];
-  steps = (gen_outcome, gen_passes, (use_outcome, use_passes, refl));
+  steps = (gen_outcome, gen_passes sources, (use_outcome, use_passes sources, refl));
   root = record {
     nodes = result_lines;
     tree = graft (nodes_in result_lines);

@@ -9,7 +9,7 @@ use Rattle.actions.specs.Outcome.{tree_node}
 use Rattle.action_messages.specs.OutputFile.{OutputFileValue}
 use Rattle.action_messages.specs.OutputDirectory.{OutputDirectoryValue}
 use Rattle.actions.proofs.TreeBytes.{tree_bytes_injective}
-use Rattle.tree.specs.Tree.{Name, empty}
+use Rattle.tree.specs.Tree.{Name, Tree, Leaf, empty}
 use Rattle.tree.specs.Merge.{merge}
 use Rattle.tree.specs.Form.{NodeValue}
 use Rattle.blob_source.specs.Told.{IsTold}
@@ -57,9 +57,10 @@ gen_inside = (0, omega arith, refl)
 uses_inside : Contains two.table two.uses
 uses_inside = (1, omega arith, refl)
 
-pub is_run : IsRun two.table two.plan two.meaning empty opening two.events two.end
+-- of any sources, which no line reads
+pub is_run_from : (t : Tree Leaf) → IsRun two.table two.plan two.meaning t opening two.events two.end
 unfolding merge
-is_run = (
+is_run_from t = (
   tt,
   s1,
   refl,
@@ -80,6 +81,9 @@ is_run = (
     ),
   ),
 )
+
+pub is_run : IsRun two.table two.plan two.meaning empty opening two.events two.end
+is_run = is_run_from empty
 
 pub is_complete : HasFinishedAll two.plan two.end
 is_complete zero step at = (two.gen.1, refl)

@@ -1,16 +1,14 @@
 -- Builds in stages: plans that are built one after another, each from the tree in which the one
 -- before ended.
 use Rattle.std.specs.Prelude.{◌≡◌, List, [], ◌∷◌, Some}
-use Rattle.blob_digest.specs.Digest.{DigestValue, NoClash}
+use Rattle.blob_digest.specs.Digest.{DigestValue}
 use Rattle.blob_source.specs.Source.{Telling}
 use Rattle.plan.specs.Plan.{IsPlan}
 use Rattle.plan.specs.Values.{PlanValue}
 use Rattle.tree.specs.Tree.{Tree, Leaf}
 use Rattle.verifier.specs.declared.verdict.Verdict.{Verdict}
-use Rattle.verifier.specs.Build.{Meaning, ActionMeaning, Outcome, Event, State, opening}
-use Rattle.verifier.specs.Build.{MeaningFits, IsTable, IsRun, HasFinishedAll, graft_of}
-use Rattle.verifier.specs.Headline.{IsConcerned}
-use Rattle.verifier.specs.Recorded.{Agrees}
+use Rattle.verifier.specs.Build.{HasFinishedAll, graft_of}
+use Rattle.verifier.specs.Headline.{PlanRun, RunsFrom}
 use Rattle.verifier.specs.Verdict.{IsVerdict, IsYes}
 
 -- a plan, the recorded digests of its actions, the root that is claimed of it, and what a source
@@ -38,33 +36,20 @@ abbrev pub last_claim : DigestValue → List BuildStage → DigestValue
 last_claim sources [] = sources
 last_claim sources (stage ∷ stages) = last_claim stage.claim stages
 
--- a run of a stage: what its plan means, what actions come to, those that were recorded, what
--- happened, and where it led
-pub record StageRun : Type 0 where
-  pub meaning : Meaning
-  pub table : List (ActionMeaning × Outcome)
-  pub chosen : List (ActionMeaning × Outcome)
-  pub events : List Event
-  pub now : State
-
--- It is a run of the stage from this tree of sources, and keeps the premises of a yes.
-pub record RunsFrom (t : Tree Leaf) (stage : BuildStage) (run : StageRun) : Type 0 where
-  pub fits : MeaningFits stage.plan run.meaning
-  pub table : IsTable run.table
-  pub agrees : Agrees stage.tells.blobs stage.tells.results run.table run.chosen stage.recorded
-  pub apart : NoClash (IsConcerned stage.tells.blobs stage.plan run.meaning t run.chosen run.events)
-  pub happened : IsRun run.table stage.plan run.meaning t opening run.events run.now
+-- a run of the stage from this tree of sources, which keeps the premises of a yes
+abbrev pub RunsStage : Tree Leaf → BuildStage → PlanRun → Type 0
+RunsStage t stage = RunsFrom stage.tells.blobs stage.tells.results stage.plan stage.recorded t
 
 -- It is complete, and what it made is this tree.
-pub record EndsIn (t : Tree Leaf) (stage : BuildStage) (run : StageRun) (end : Tree Leaf)
+pub record EndsIn (t : Tree Leaf) (stage : BuildStage) (run : PlanRun) (end : Tree Leaf)
     : Type 0 where
-  pub runs : RunsFrom t stage run
+  pub runs : RunsStage t stage run
   pub finished : HasFinishedAll stage.plan run.now
   pub made : graft_of t run.now stage.plan.root_lines ≡ Some end
 
 -- The runs are of the stages in their order, complete, each from the tree in which the one before
 -- ended; the last ends in the last tree.
-abbrev pub RunInTurn : Tree Leaf → List BuildStage → List StageRun → Tree Leaf → Type 0
+abbrev pub RunInTurn : Tree Leaf → List BuildStage → List PlanRun → Tree Leaf → Type 0
 RunInTurn t [] [] end = end ≡ t
 RunInTurn t (stage ∷ stages) (run ∷ runs) end =
     (between : Tree Leaf) × EndsIn t stage run between × RunInTurn between stages runs end

@@ -74,22 +74,38 @@ IsConcerned blobs plan meaning t chosen es b =
     ⊎ ((IsBlobOf t b ⊎ IsBlobOfMeaning meaning b)
     ⊎ (IsBlobOfChosen chosen b ⊎ IsBlobOfEvents plan meaning t opening es b))
 
+-- ---- the premises
+
+-- a run of a plan: what its steps mean, what actions come to, those that were recorded, what
+-- happened, and where it led
+pub record PlanRun : Type 0 where
+  pub meaning : Meaning
+  pub table : List (ActionMeaning × Outcome)
+  pub chosen : List (ActionMeaning × Outcome)
+  pub events : List Event
+  pub now : State
+
+-- It is a run of the plan from this tree of sources, and keeps the premises of a yes: whatever
+-- frames and commands the plan means; whatever actions come to, as long as equal actions come to
+-- the same and the recorded ones to what was recorded; whatever steps overlap, are lost or are
+-- repeated; no two different blobs concerned share a digest.
+pub record RunsFrom (blobs results : Blobs) (plan : PlanValue) (recorded : List DigestValue)
+    (t : Tree Leaf) (run : PlanRun) : Type 0 where
+  pub fits : MeaningFits plan run.meaning
+  pub table : IsTable run.table
+  pub agrees : Agrees blobs results run.table run.chosen recorded
+  pub apart : NoClash (IsConcerned blobs plan run.meaning t run.chosen run.events)
+  pub happened : IsRun run.table plan run.meaning t opening run.events run.now
+
 -- ---- the headline
 
--- Whatever tree the sources are, as long as it has their digest; whatever frames and commands the
--- plan means; whatever actions come to, as long as equal actions come to the same and the recorded
--- ones to what was recorded; whatever steps overlap, are lost or are repeated: if no two different
--- blobs concerned share a digest, a run after which every step has finished ends in a tree with
--- exactly the claimed root.
+-- Whatever tree the sources are, as long as it has their digest: a run that keeps the premises, and
+-- after which every step has finished, ends in a tree with exactly the claimed root.
 pub record EveryRunEndsIn (blobs results : Blobs) (sources : DigestValue) (plan : PlanValue)
     (recorded : List DigestValue) (claim : DigestValue) : Type 0 where
-  pub of_run : (t : Tree Leaf) (meaning : Meaning) (X chosen : List (ActionMeaning × Outcome))
-      (es : List Event) (end : State)
-      → IsOrdered t → root (form t) ≡ sources → MeaningFits plan meaning → IsTable X
-      → Agrees blobs results X chosen recorded
-      → NoClash (IsConcerned blobs plan meaning t chosen es)
-      → IsRun X plan meaning t opening es end → HasFinishedAll plan end
-      → IsSomeAnd (graft_of t end plan.root_lines) (λ g. root (form g) ≡ claim)
+  pub of_run : (t : Tree Leaf) (run : PlanRun) → IsOrdered t → root (form t) ≡ sources
+      → RunsFrom blobs results plan recorded t run → HasFinishedAll plan run.now
+      → IsSomeAnd (graft_of t run.now plan.root_lines) (λ g. root (form g) ≡ claim)
 
 -- ---- runs do what was recorded
 
@@ -105,12 +121,8 @@ pub record IsAsChosen (chosen : List (ActionMeaning × Outcome)) (s : State) : T
 -- complete or not.
 pub record EveryRunIsAsChosen (blobs results : Blobs) (sources : DigestValue) (plan : PlanValue)
     (recorded : List DigestValue) : Type 0 where
-  pub of_run : (t : Tree Leaf) (meaning : Meaning) (X chosen : List (ActionMeaning × Outcome))
-      (es : List Event) (now : State)
-      → IsOrdered t → root (form t) ≡ sources → MeaningFits plan meaning → IsTable X
-      → Agrees blobs results X chosen recorded
-      → NoClash (IsConcerned blobs plan meaning t chosen es)
-      → IsRun X plan meaning t opening es now → IsAsChosen chosen now
+  pub of_run : (t : Tree Leaf) (run : PlanRun) → IsOrdered t → root (form t) ≡ sources
+      → RunsFrom blobs results plan recorded t run → IsAsChosen run.chosen run.now
 
 -- ---- no run is stuck
 
@@ -134,9 +146,6 @@ pub record IsNotStuck (X : List (ActionMeaning × Outcome)) (plan : PlanValue) (
 -- Under the same premises no run is stuck, complete or not.
 pub record NoRunIsStuck (blobs results : Blobs) (sources : DigestValue) (plan : PlanValue)
     (recorded : List DigestValue) : Type 0 where
-  pub of_run : (t : Tree Leaf) (meaning : Meaning) (X chosen : List (ActionMeaning × Outcome))
-      (es : List Event) (now : State)
-      → IsOrdered t → root (form t) ≡ sources → MeaningFits plan meaning → IsTable X
-      → Agrees blobs results X chosen recorded
-      → NoClash (IsConcerned blobs plan meaning t chosen es)
-      → IsRun X plan meaning t opening es now → IsNotStuck X plan meaning t now
+  pub of_run : (t : Tree Leaf) (run : PlanRun) → IsOrdered t → root (form t) ≡ sources
+      → RunsFrom blobs results plan recorded t run
+      → IsNotStuck run.table plan run.meaning t run.now

@@ -10,8 +10,6 @@ use Rattle.tree.specs.Tree.{Name, Tree}
 use Rattle.tree.specs.Form.{NodeValue}
 use Rattle.tree.specs.declared.error.TreeError.{TreeError}
 use Rattle.tree.specs.declared.error.TreeError.TheVariants as errors
-use Rattle.tree.specs.declared.folding.Folded.{Folded}
-use Rattle.tree.specs.Folded.{IsFoldOf}
 use Rattle.tree.specs.Lookup.{Looked, fault, nothing, found, Looks}
 use Rattle.tree.specs.LooksAt.{OnWay}
 use Rattle.tree.specs.Memo.{Asked}
@@ -115,10 +113,6 @@ abbrev pub put_together : Blobs → DigestValue → Earlier → List LineValue
     → Stage LinesFault (Tree NodeValue)
 put_together blobs sources earlier lines =
     resolved blobs sources earlier lines and_then λ nodes. named of_merge (merged blobs nodes)
-
--- a fold of a tree with which a check passes
-abbrev pub IsFoldOfPassed : {A E : Type 0} → Stage E (Tree NodeValue) → Folded A → Type 0
-IsFoldOfPassed check f = (t : Tree NodeValue) × check.passes t × IsFoldOf t f
 
 -- Why lines weren't put together: their first fault, unless the source failed or memory ran out.
 abbrev pub ExplainsLines : {A : Type 0} → (LinesFault → Type 0) → TreeError A → Type 0

@@ -17,8 +17,10 @@ use Rattle.plan.specs.declared.version.Version.TheVariants.{One}
 use Rattle.plan.specs.Values.{output, PlanValue}
 use Rattle.tree.specs.Tree.{Tree, empty, leaf, folder, Leaf, file, single, whole}
 use Rattle.tree.specs.Form.{form, directory_of}
-use Rattle.blob_source.specs.Source.{Blobs}
+use Rattle.blob_source.specs.Source.{Blobs, Telling}
 use Rattle.verifier.specs.Build.{Meaning, ActionMeaning, Outcome, Event, start, finish, lose, State}
+use Rattle.verifier.specs.BuildStages.{BuildStage}
+use Rattle.verifier.specs.Headline.{PlanRun}
 
 -- ---- digests, by their texts
 
@@ -206,3 +208,22 @@ events = start 0 0 ∷ start 0 1 ∷ lose 0 ∷ finish 1 gen.1 ∷ start 1 0 ∷
 
 abbrev pub end : State
 end = record { done = (1, uses.1) ∷ (0, gen.1) ∷ (0, gen.1) ∷ []; jobs = [] }
+
+abbrev pub run : PlanRun
+run = record { meaning = meaning; table = table; chosen = table; events = events; now = end }
+
+-- ---- stages: the build, and then the same from what it made
+
+abbrev pub built : Tree Leaf
+built = leaf (codes "result") (file (10 ∷ []) false) empty
+
+abbrev pub telling : Telling
+telling = record { blobs = blobs; results = results; failures = 0; calls = 0; puts = [] }
+
+abbrev pub stage : BuildStage
+stage = record { tells = telling; plan = plan; recorded = recorded; claim = claim }
+
+-- ---- a source that has told nothing
+
+abbrev pub silent : Telling
+silent = record { blobs = λ d. None; results = λ d. None; failures = 0; calls = 0; puts = [] }

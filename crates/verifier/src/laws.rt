@@ -1,5 +1,6 @@
-ghost use Rattle.std.specs.Prelude.{◌≡◌, ◌↔◌, ℕ, List, [], length, ◌++◌, ◌∷◌, Some, Contains, option_map};
-ghost use Rattle.blob_digest.specs.Digest.{DigestValue, NoClash};
+ghost use Rattle.std.specs.Prelude.{◌≡◌, ◌↔◌, ℕ, List, [], length, ◌++◌, ◌∷◌, Some, Contains};
+ghost use Rattle.std.specs.Prelude.{codes, option_map};
+ghost use Rattle.blob_digest.specs.Digest.{DigestValue};
 ghost use Rattle.blob_digest.specs.DigestValue.{IsDigest};
 ghost use Rattle.plan.specs.Plan.{IsPlan};
 ghost use Rattle.plan.specs.Values.{LineValue, StepValue, PlanValue};
@@ -11,7 +12,7 @@ ghost use Rattle.tree.specs.Graft.{graft, expand};
 ghost use Rattle.tree.specs.Memo.{Asked};
 ghost use Rattle.tree.specs.Merging.{MergeLines, merged, nodes_in};
 ghost use Rattle.tree.specs.MergeLooks.{MergeLooksAt};
-ghost use Rattle.verifier.specs.declared.verdict.Cause.TheVariants.{RootDiffers};
+ghost use Rattle.verifier.specs.declared.verdict.Cause.TheVariants.{BlobMissing, RootDiffers};
 ghost use Rattle.verifier.specs.declared.verdict.Place.TheVariants.{Root, Step};
 ghost use Rattle.verifier.specs.declared.verdict.Verdict.{Verdict};
 ghost use Rattle.verifier.specs.declared.verdict.Verdict.TheVariants.{Yes, No};
@@ -24,14 +25,13 @@ ghost use Rattle.verifier.specs.AsRecorded.{IsAccepted, IsPlanAsRecorded};
 ghost use Rattle.verifier.specs.Together.{Earlier, Resolves};
 ghost use Rattle.verifier.specs.StepChecks.{step_check};
 ghost use Rattle.verifier.specs.declared.verdict.Cause.{Cause};
-ghost use Rattle.verifier.specs.Build.{Outcome, IsTreeOutcome, output_at, opening, MeaningFits};
-ghost use Rattle.verifier.specs.Build.{State, IsTable, IsRun, HasFinishedAll, AreLinesOf, graft_of};
-ghost use Rattle.verifier.specs.Build.{origins};
-ghost use Rattle.verifier.specs.Headline.{IsConcerned, EveryRunEndsIn, EveryRunIsAsChosen};
+ghost use Rattle.verifier.specs.Build.{Outcome, IsTreeOutcome, output_at, State, HasFinishedAll};
+ghost use Rattle.verifier.specs.Build.{AreLinesOf, graft_of, origins};
+ghost use Rattle.verifier.specs.Headline.{PlanRun, RunsFrom, EveryRunEndsIn, EveryRunIsAsChosen};
 ghost use Rattle.verifier.specs.Headline.{NoRunIsStuck, IsNotStuck};
-ghost use Rattle.verifier.specs.BuildStages.{BuildStage, AreYes, last_claim, StageRun, RunsFrom};
+ghost use Rattle.verifier.specs.BuildStages.{BuildStage, AreYes, last_claim, RunsStage};
 ghost use Rattle.verifier.specs.BuildStages.{EndsIn, RunInTurn};
-ghost use Rattle.verifier.specs.Recorded.{RecordsAt, Agrees};
+ghost use Rattle.verifier.specs.Recorded.{RecordsAt};
 ghost use Rattle.verifier.specs.TwoSteps as two;
 ghost use Rattle.verifier.specs.Verdict.{IsVerdict, IsYes};
 
@@ -59,27 +59,27 @@ pub fn recorded_plans_end_in_the_claim()
 /// of them, one after another, end in a tree with the last claim. No run of a stage is ever stuck,
 /// and what a complete one made is there, for the next to begin from. A law: it does nothing.
 pub fn stages_end_in_the_last_claim<A: Allocator>()
-    ensures ends { (sources : DigestValue) (stages : List BuildStage) (runs : List StageRun)
+    ensures ends { (sources : DigestValue) (stages : List BuildStage) (runs : List PlanRun)
         (t end : Tree Leaf) → AreYes A sources stages
         → IsOrdered t → root (form t) ≡ sources → RunInTurn t stages runs end
         → root (form end) ≡ last_claim sources stages }
-    ensures unstuck { (sources : DigestValue) (stages : List BuildStage) (runs : List StageRun)
-        (t between : Tree Leaf) (stage : BuildStage) (run : StageRun)
+    ensures unstuck { (sources : DigestValue) (stages : List BuildStage) (runs : List PlanRun)
+        (t between : Tree Leaf) (stage : BuildStage) (run : PlanRun)
         → AreYes A sources (stages ++ stage ∷ [])
         → IsOrdered t → root (form t) ≡ sources → RunInTurn t stages runs between
-        → RunsFrom between stage run
+        → RunsStage between stage run
         → IsNotStuck run.table stage.plan run.meaning between run.now }
-    ensures made { (sources : DigestValue) (stages : List BuildStage) (runs : List StageRun)
-        (t between : Tree Leaf) (stage : BuildStage) (run : StageRun)
+    ensures made { (sources : DigestValue) (stages : List BuildStage) (runs : List PlanRun)
+        (t between : Tree Leaf) (stage : BuildStage) (run : PlanRun)
         → AreYes A sources (stages ++ stage ∷ [])
         → IsOrdered t → root (form t) ≡ sources → RunInTurn t stages runs between
-        → RunsFrom between stage run → HasFinishedAll stage.plan run.now
+        → RunsStage between stage run → HasFinishedAll stage.plan run.now
         → (end : Tree Leaf) × EndsIn between stage run end }
 {}
 
 /// What lines of a plan of version 1 put together is their graft. A law: it does nothing.
 pub fn version_one_is_grafted()
-    // By digests it is that of the nodes that stand at the origins, and nothing is looked at for it.
+    // By digests it is that of the nodes at the origins, and nothing is looked at for it.
     ensures nodes { (blobs : Blobs) (sources : DigestValue) (earlier : Earlier)
         (plan : PlanValue) (lines : List LineValue) (nodes : MergeLines)
         → IsPlan plan → plan.version ≡ One → AreLinesOf plan lines
@@ -168,13 +168,25 @@ pub fn a_build_meets_the_premises()
     ensures accepted { IsPlanAsRecorded two.blobs two.results two.sources two.plan
         two.recorded two.claim }
     ensures tree { IsOrdered two.tree × (root (form two.tree) ≡ two.sources) }
-    ensures meaning { MeaningFits two.plan two.meaning }
-    ensures table { IsTable two.table }
-    ensures agrees { Agrees two.blobs two.results two.table two.table two.recorded }
-    ensures apart { NoClash (IsConcerned two.blobs two.plan two.meaning two.tree two.table
-        two.events) }
-    ensures run { IsRun two.table two.plan two.meaning two.tree opening two.events two.end }
+    ensures run { RunsFrom two.blobs two.results two.plan two.recorded two.tree two.run }
     ensures complete { HasFinishedAll two.plan two.end }
+{}
+
+/// So can the premises of what is said of stages: by that build, and the same once more from what
+/// it made. A law: it does nothing.
+pub fn stages_meet_the_premises<A: Allocator>()
+    ensures yes { AreYes A two.sources (two.stage ∷ two.stage ∷ []) }
+    ensures runs { RunInTurn two.tree (two.stage ∷ two.stage ∷ []) (two.run ∷ two.run ∷ [])
+        two.built }
+{}
+
+/// And so can those of what a no says: by that build, where the source has told nothing, and where
+/// another root is claimed. A law: it does nothing.
+pub fn a_no_meets_the_premises<A: Allocator>()
+    ensures step { IsVerdict {A = A} two.silent two.sources two.plan two.recorded two.claim
+        (No (Step (codes "gen")) (BlobMissing two.gen_action_digest)) }
+    ensures root { IsVerdict {A = A} two.telling two.sources two.plan two.recorded two.sources
+        (No Root (RootDiffers two.claim)) }
 {}
 
 /// What the words of a record and of outcomes come to. A law: it does nothing.

@@ -3,7 +3,7 @@ ghost use Rattle.std.specs.List.{AllByRecursion};
 ghost use Rattle.std.specs.Option.{option_copied};
 ghost use Rattle.plan.specs.Lines.{origin_value};
 ghost use Rattle.plan.specs.Values.{IsLine};
-ghost use Rattle.tree.specs.Folded.{IsFoldOfValid};
+ghost use Rattle.tree.specs.Folded.{IsFoldOfPassed};
 ghost use Rattle.tree.specs.Form.{node_value};
 ghost use Rattle.tree.specs.Merging.{AreHeld, IsHeldIn, merge_lines, node_within, within_value};
 ghost use Rattle.blob_source.specs.Called.{Called};
@@ -11,7 +11,7 @@ ghost use Rattle.tree.specs.Memo.{IsKnownOf, WasRefused, Learns, known_by};
 ghost use Rattle.verifier.specs.Stage.{Explains};
 ghost use Rattle.verifier.specs.StepChecks.{together};
 ghost use Rattle.verifier.specs.Together.{AreThere, Earlier, ExplainsLines, FirstFault, IsThere};
-ghost use Rattle.verifier.specs.Together.{IsFoldOfPassed, LineFault, LinesLookAt, OriginLooksAt};
+ghost use Rattle.verifier.specs.Together.{LineFault, LinesLookAt, OriginLooksAt};
 ghost use Rattle.verifier.specs.Together.{Resolves, StandsAtOrigin, TogetherLooksAt, put_together};
 
 use crate::fault::{Fault, fault_of};
@@ -126,7 +126,6 @@ pub fn put_together<A: Allocator + Copy, O: Outcomes<A>, S: BlobSource<A>>(
     requires known { IsKnownOf (known_by memo.old) (S.tells source.old) }
     ensures told { IfOk result (IsFoldOfPassed (put_together (S.tells source.new).blobs sources.now
         (O.came_to outcomes.now) lines.now)) }
-    ensures valid { IfOk result (λ made. IsFoldOfValid made) }
     ensures faulty { IfErr result (ExplainsLines (put_together (S.tells source.new).blobs
         sources.now (O.came_to outcomes.now) lines.now).fails) }
     ensures called { Called (S.tells source.old) (S.tells source.new)
@@ -155,7 +154,6 @@ pub(crate) fn together<A: Allocator + Copy, S: BlobSource<A>>(
     requires known { IsKnownOf (known_by memo.old) (S.tells source.old) }
     ensures told { IfOk result (IsFoldOfPassed (put_together (S.tells source.new).blobs sources.now
         (slice_get outcomes.now) lines.now)) }
-    ensures valid { IfOk result (λ made. IsFoldOfValid made) }
     ensures faulty { IfErr result (Explains (together (S.tells source.new).blobs sources.now
         outcomes.now lines.now).fails) }
     ensures called { Called (S.tells source.old) (S.tells source.new) (IsErrOf result Fault.Fetch) }

@@ -32,7 +32,7 @@ use blob_digest::Digest;
 use messages::{MessageError, Path};
 use plan::Step;
 use std::alloc::Allocator;
-use tree::{BlobSource, Difference, Folded, Memo, first_difference_with};
+use tree::{BlobSource, Difference, Folded, Memo, first_difference};
 
 /// The outcome that was recorded of a step, or its first fault. The steps before it came to these
 /// outcomes.
@@ -129,7 +129,7 @@ fn explain_difference<A: Allocator + Copy, S: BlobSource<A>>(
         grafted.now.root input.now) (Unit {0})
         (known_by memo.old) (known_by memo.new) (S.tells source.old) (S.tells source.new) }
 {
-    match first_difference_with(alloc, grafted, input, memo, source) {
+    match first_difference(alloc, grafted, input, memo, source) {
         Ok(Some(difference)) => Fault::Cause(cause_of_difference(difference)),
         Ok(None) => unreachable!(),
         Err(error) => fault_of(error),

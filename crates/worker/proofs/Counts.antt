@@ -12,7 +12,7 @@ use Rattle.worker.specs.declared.turns.Turn.TheVariants as turns
 use Rattle.worker.specs.Values.{EndValue, Starts}
 use Rattle.worker.specs.Outcomes.{Yields}
 use Rattle.worker.specs.Calls.{WasStarted}
-use Rattle.worker.specs.Going.{IsJobOf, AreJobsOf, IsLaunched, IsBegun, EndsWell, HasEndedFirst, FinishesOnly, one_if, step_of, taken_in}
+use Rattle.worker.specs.Going.{IsJobOf, AreJobsOf, IsLaunched, IsBegun, EndedWell, HasEndedFirst, FinishesOnly, one_if, step_of, taken_in}
 use Rattle.worker.specs.Watching.{finished_count}
 use Rattle.worker.proofs.Lefts.{one_there}
 use Rattle.worker.proofs.Started.{job_of, job_is, after}
@@ -192,13 +192,13 @@ module _ (A J : Type 0) (y : Yields) (may : J → EndValue → Type 0) (from to 
   start_only (Ok x) i cs ds b = begun_only i cs ds b
   start_only (Err x) i cs ds b = tt
 
-  ended_only : (c : Child J) (ds : List (Child J)) → AreJobsOf IsJobOf now.jobs (c ∷ ds) → EndsWell may t u c now new → FinishesOnly c.step now new
+  ended_only : (c : Child J) (ds : List (Child J)) → AreJobsOf IsJobOf now.jobs (c ∷ ds) → EndedWell may t u c now new → FinishesOnly c.step now new
   ended_only c ds jobs e =
       let f = e.finished in
       let same : f.job ≡ jobs.0 = one_answer (job_in c.id now) f.job jobs.0 f.is jobs.1 in
       subst (λ n. FinishesOnly n now new) (ap (λ (j : JobValue). j.step) same ∙ jobs.2.step) (finishes_only f)
 
-  pub finish_only : {T E : Type 0} (r : Result T E) (cs ds : List (Child J)) → AreJobsOf IsJobOf now.jobs cs → OnOk r (HasEndedFirst (EndsWell may t u) now new cs ds) → OnOk r (FinishesOnly (step_of turns.Finish cs) now new)
+  pub finish_only : {T E : Type 0} (r : Result T E) (cs ds : List (Child J)) → AreJobsOf IsJobOf now.jobs cs → OnOk r (HasEndedFirst (EndedWell may t u) now new cs ds) → OnOk r (FinishesOnly (step_of turns.Finish cs) now new)
   finish_only (Ok x) cs ds jobs h =
       subst (λ xs. FinishesOnly (step_of turns.Finish xs) now new) (sym h.is) (ended_only h.child ds (subst (AreJobsOf IsJobOf now.jobs) h.is jobs) h.end)
   finish_only (Err x) cs ds jobs h = tt

@@ -52,7 +52,7 @@ pub counts_none : {n : ℕ} {F : Type 0} → (F → ⊥) → Counts n n F
 counts_none none = record { failed = λ f. absurd (none f); unfailed = λ other. refl }
 
 pub counts_calls : {does : Telling → Telling → Type 0} {t u : Telling} {F : Type 0} → Calls does t u F → Counts t.failures u.failures F
-counts_calls h = record { failed = h.failed; unfailed = h.unfailed }
+counts_calls {does} {t} {u} h = record { failed = λ f. let one = h.failed f in omega (arith, one); unfailed = h.unfailed }
 
 module _ {a b : ℕ} where
   -- nothing was counted

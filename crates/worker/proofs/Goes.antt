@@ -15,10 +15,10 @@ use Rattle.worker.specs.declared.child.Child.{Child}
 use Rattle.worker.specs.Layout.{IsLayoutOf}
 use Rattle.worker.specs.Values.{EndValue, made, StartValue, Starts, StartsOne, StartsAll, StartsNone}
 use Rattle.worker.specs.Stored.{IsKept}
-use Rattle.worker.specs.Storing.{Stands, IsKeptBut}
+use Rattle.worker.specs.Storing.{HasAt, IsKeptBut}
 use Rattle.worker.specs.Outcomes.{Yields, YieldsNoMore, IsYielded}
-use Rattle.worker.specs.Calls.{running, Call, started, launched, ran, taken, lost, CameTo, HasChild, children_of, IsResultFor, HasChildsResult, WasStarted, FinishedByChild, Does, Leads, IsLed, PutsOf, TakesRecorded, IsBuiltWith}
-use Rattle.worker.specs.Going.{HasNoneToTake, IsJobOf, AreJobsOf, IsOwnJob, IsGoing, HasChildFor, IsBegun, CameToNothing, IsLaunched, job_value, EndsWell, Ends, GoesOnBy, jobs_with, one_if, taken_in}
+use Rattle.worker.specs.Calls.{running, Call, started, launched, ran, taken, lost, CameTo, HasChild, children_of, IsResultFor, HasChildsResult, WasStarted, FinishedByChild, IsLost, Does, Leads, IsLed, PutsOf, TakesRecorded, IsBuiltWith}
+use Rattle.worker.specs.Going.{HasNoneToTake, IsJobOf, AreJobsOf, IsOwnJob, IsGoing, HasChildFor, IsBegun, IsLaunched, job_value, EndedWell, GoesOnBy, jobs_with, one_if, taken_in}
 use Rattle.worker.specs.Watching.{taken_count, without_number, jobs_after}
 use Rattle.std.specs.List.{AllByRecursion}
 use Rattle.worker.proofs.Keeping.{kept_none, right_trans}
@@ -30,27 +30,27 @@ use Rattle.worker.proofs.Started.{job_of, after, least, job_is, one_more, was_st
 -- ---- calls
 
 -- what the store told stays, but for results that were put as some calls say
-record Moves (t u : Telling) (more : List Call) : Type 0 where
-  blobs : KeepsRight t.blobs u.blobs
-  puts : PutsOf more t u
+pub record Moves (t u : Telling) (more : List Call) : Type 0 where
+  pub blobs : KeepsRight t.blobs u.blobs
+  pub puts : PutsOf more t u
 
 pub puts_none : (t u : Telling) (more : List Call) → IsKept t u → PutsOf more t u
 puts_none t u more k = record { put = []; are = k.puts ∙ sym (append-nil t.puts); each = tt; others = λ e b at. inl (k.results e b at) }
 
-moves_kept : (t u : Telling) (more : List Call) → IsKept t u → Moves t u more
+pub moves_kept : (t u : Telling) (more : List Call) → IsKept t u → Moves t u more
 moves_kept t u more k = record { blobs = k.blobs; puts = puts_none t u more k }
 
 moves_ran : (t u : Telling) (id : ℕ) (d : DigestValue) (v : OutcomeValue) → IsKeptBut d (IsResultFor v) t u → Moves t u (ran id d v ∷ [])
 moves_ran t u id d v k = record { blobs = k.blobs; puts = of k.puts }
   where
-    has : Stands (IsResultFor v) u.results d → HasChildsResult (ran id d v ∷ []) u.results d
+    has : HasAt (IsResultFor v) u.results d → HasChildsResult (ran id d v ∷ []) u.results d
     has h = record { outcome = v; came = inl (refl, refl); bytes = h.0; held = h.1; is = h.2 }
 
-    by : (e : DigestValue) (b : List ℕ) → (u.results e ≡ Some b) ⊎ ((e ≡ d) × Stands (IsResultFor v) u.results d) → (u.results e ≡ Some b) ⊎ HasChildsResult (ran id d v ∷ []) u.results e
+    by : (e : DigestValue) (b : List ℕ) → (u.results e ≡ Some b) ⊎ ((e ≡ d) × HasAt (IsResultFor v) u.results d) → (u.results e ≡ Some b) ⊎ HasChildsResult (ran id d v ∷ []) u.results e
     by e b (inl at) = inl at
     by e b (inr h) = inr (subst (HasChildsResult (ran id d v ∷ []) u.results) (sym h.0) (has h.1))
 
-    of : (u.puts ≡ t.puts) ⊎ ((u.puts ≡ t.puts ++ d ∷ []) × Stands (IsResultFor v) u.results d) → PutsOf (ran id d v ∷ []) t u
+    of : (u.puts ≡ t.puts) ⊎ ((u.puts ≡ t.puts ++ d ∷ []) × HasAt (IsResultFor v) u.results d) → PutsOf (ran id d v ∷ []) t u
     of (inl same) = record { put = []; are = same ∙ sym (append-nil t.puts); each = tt; others = λ e b at. by e b (k.results e b at) }
     of (inr h) = record { put = d ∷ []; are = h.0; each = (has h.1, tt); others = λ e b at. by e b (k.results e b at) }
 
@@ -106,7 +106,7 @@ module _ (A : Type 0) (y : Yields) (t u : Telling) (more : List Call) (m : Moves
           next (inr h) = inr (childs_behind later more u.results d h)
   does_moved later (lost id) old new w = w
 
-  leads_moved : (most : ℕ) (cs : List Call) (old mid new : EngineValue) → Leads A y t most cs old mid → Leads A y u most more mid new → Leads A y u most (cs ++ more) old new
+  pub leads_moved : (most : ℕ) (cs : List Call) (old mid new : EngineValue) → Leads A y t most cs old mid → Leads A y u most more mid new → Leads A y u most (cs ++ more) old new
   leads_moved most [] old mid new same rest = subst (λ e. Leads A y u most more e new) same rest
   leads_moved most (c ∷ cs) old mid new (next, does, few, first) rest = (next, does_moved cs c old next does, few, leads_moved most cs next mid new first rest)
 
@@ -142,6 +142,10 @@ puts_moved s t u cs more p m = record {
         next : (u.results d ≡ Some b) ⊎ HasChildsResult more u.results d → (u.results d ≡ Some b) ⊎ HasChildsResult (cs ++ more) u.results d
         next (inl is) = inl is
         next (inr h) = inr (childs_behind cs more u.results d h)
+
+-- a child's job ended, well or lost
+abbrev pub Ends : {J : Type 0} → (J → EndValue → Type 0) → Telling → Telling → Child J → EngineValue → EngineValue → Type 0
+Ends may s t c old new = EndedWell may s t c old new ⊎ (IsLost c.id old new × IsKept s t)
 
 -- what a turn puts
 pub puts_kept : {t u : Telling} → IsKept t u → PutsOf [] t u
@@ -206,7 +210,7 @@ built_moved A y from mid to s t u more m starts none most old now new h rest = r
 
 -- ---- what is counted
 
-taken_join : (cs more : List Call) → taken_count (cs ++ more) ≡ taken_count cs + taken_count more
+pub taken_join : (cs more : List Call) → taken_count (cs ++ more) ≡ taken_count cs + taken_count more
 taken_join [] more = omega arith
 taken_join (taken id d v ∷ cs) more = let rest = taken_join cs more in omega (arith, rest)
 taken_join (started i id ∷ cs) more = taken_join cs more
@@ -250,20 +254,30 @@ module _ (A J : Type 0) (y : Yields) (may : J → EndValue → Type 0) (from : S
   abbrev On : Starts → Telling → EngineValue → List (Child J) → List Call → ℕ → Type 0
   On to t now cs calls n = GoesOnBy A y may from to s t most old now cs calls n
 
+  -- it went on from the first calls by some more
+  pub record Went (to : Starts) (t : Telling) (now : EngineValue) (cs : List (Child J)) (calls more : List Call) : Type 0 where
+    pub going : Goes to t now cs
+    pub are : going.led.built.led.calls ≡ calls ++ more
+
+  abbrev pub on_by : (to : Starts) (t : Telling) (now : EngineValue) (cs : List (Child J)) (calls more : List Call) (n : ℕ) → Went to t now cs calls more → taken_count more ≡ n → On to t now cs calls n
+  on_by to t now cs calls more n w counted = record { going = w.going; taken = ap taken_count w.are ∙ taken_join calls more ∙ ap (λ m. taken_count calls + m) counted }
+
+  pub few_jobs : (to : Starts) (t : Telling) (now : EngineValue) (cs : List (Child J)) → Goes to t now cs → running now.jobs ≤ most
+  few_jobs to t now cs g = let count = jobs_count (IsOwnJob y may t.blobs now) cs now.jobs g.jobs in let few = g.few in omega (arith, count, few)
+
   module _ (a b : Starts) where
     -- only the store was called
-    going_kept : (t u : Telling) (now : EngineValue) (cs : List (Child J)) → IsKept t u → StartsNone a b → (g : Goes a t now cs) → On b u now cs g.led.built.led.calls 0
+    pub going_kept : (t u : Telling) (now : EngineValue) (cs : List (Child J)) → IsKept t u → StartsNone a b → (g : Goes a t now cs) → Went b u now cs g.led.built.led.calls []
     going_kept t u now cs k quiet g =
-        let calls = g.led.built.led.calls in
         let going : Goes b u now cs = record {
           led = built_moved A y from a b s t u [] (moves_kept t u [] k) (none_starts a b quiet) (λ d x child. absurd child) most old now now g.led refl;
           jobs = jobs_map (IsOwnJob y may t.blobs now) (IsOwnJob y may u.blobs now) (own_still (λ l c p h. h) k.blobs refl) cs now.jobs g.jobs;
-          order = jobs_join [] calls [] ∙ g.order;
+          order = jobs_join [] g.led.built.led.calls [] ∙ g.order;
           few = g.few;
         } in
-        record { going = going; taken = taken_join calls [] }
+        record { going = going; are = refl }
 
-    pub led_kept : (t u : Telling) (now : EngineValue) (cs : List (Child J)) → IsKept t u → Goes a t now cs → IsLed A y u most old now
+    abbrev pub led_kept : (t u : Telling) (now : EngineValue) (cs : List (Child J)) → IsKept t u → Goes a t now cs → IsLed A y u most old now
     led_kept t u now cs k g = led_moved A y t u [] (moves_kept t u [] k) most old now now g.led.built.led refl
 
     -- the first child's job is gone
@@ -272,7 +286,7 @@ module _ (A J : Type 0) (y : Yields) (may : J → EndValue → Type 0) (from : S
       fewer = let few = g.few in omega (arith, few)
 
       gone : (more : List Call) → Moves t u more → StartsAll (children_of more) a b → HadNone t more → ((js : List (ℕ × ℕ)) → jobs_after js more ≡ without_number c.id js)
-          → new.jobs ≡ set now.jobs c.id None → new.commands ≡ now.commands → (running new.jobs ≤ most → Leads A y u most more now new) → On b u new cs g.led.built.led.calls (taken_count more)
+          → new.jobs ≡ set now.jobs c.id None → new.commands ≡ now.commands → (running new.jobs ≤ most → Leads A y u most more now new) → Went b u new cs g.led.built.led.calls more
       gone more m starts none ends jobs commands leads =
           let calls = g.led.built.led.calls in
           let rest : AreJobsOf (IsOwnJob y may t.blobs now) (set now.jobs c.id None) cs = g.jobs.3 in
@@ -286,9 +300,9 @@ module _ (A J : Type 0) (y : Yields) (may : J → EndValue → Type 0) (from : S
             order = jobs_join [] calls more ∙ ap (λ js. jobs_after js more) g.order ∙ ends (jobs_with (c ∷ cs)) ∙ first_goes (IsOwnJob y may t.blobs now) c cs now.jobs g.jobs;
             few = fewer;
           } in
-          record { going = going; taken = taken_join calls more }
+          record { going = going; are = refl }
 
-      ran_child : (e : EndsWell may t u c now new) → FinishedByChild y u c.id c.action e.produced.outcome now new
+      ran_child : (e : EndedWell may t u c now new) → FinishedByChild y u c.id c.action e.produced.outcome now new
       ran_child e =
           let same : e.finished.job ≡ g.jobs.0 = one_answer (job_in c.id now) e.finished.job g.jobs.0 e.finished.is g.jobs.1 in
           record {
@@ -299,22 +313,25 @@ module _ (A J : Type 0) (y : Yields) (may : J → EndValue → Type 0) (from : S
               outcome = refl;
               may = end_still now now (λ l d x h. h) e.kept.blobs refl g.jobs.0 (made e.produced) (owed_ends g.jobs.2.owed (made e.produced) e.came);
               blobs = e.blobs;
+              trees = e.trees;
             });
           }
 
-      pub going_ended : Ends may t u c now new → On b u new cs g.led.built.led.calls 0
-      going_ended (inl e) = gone (ran c.id c.action e.produced.outcome ∷ []) (moves_ran t u c.id c.action e.produced.outcome e.kept)
+      pub going_ran : (e : EndedWell may t u c now new) → Went b u new cs g.led.built.led.calls (ran c.id c.action e.produced.outcome ∷ [])
+      going_ran e = gone (ran c.id c.action e.produced.outcome ∷ []) (moves_ran t u c.id c.action e.produced.outcome e.kept)
           (none_starts a b quiet) (λ d x child. absurd child) (λ js. refl)
           (ap (λ (e : EngineValue). e.jobs) e.finished.after) (ap (λ (e : EngineValue). e.commands) e.finished.after)
           (λ few. (new, ran_child e, few, refl))
-      going_ended (inr ((j, at, after), k)) = gone (lost c.id ∷ []) (moves_kept t u (lost c.id ∷ []) k)
+
+      pub going_lost : IsLost c.id now new → IsKept t u → Went b u new cs g.led.built.led.calls (lost c.id ∷ [])
+      going_lost (j, at, after) k = gone (lost c.id ∷ []) (moves_kept t u (lost c.id ∷ []) k)
           (none_starts a b quiet) (λ d x child. absurd child) (λ js. refl)
           (ap (λ (e : EngineValue). e.jobs) after) (ap (λ (e : EngineValue). e.commands) after)
           (λ few. (new, (j, at, after), few, refl))
 
     -- a step was started
     module _ (t u : Telling) (now mid : EngineValue) (cs : List (Child J)) (i id : ℕ) (k : IsKept t u) (g : Goes a t now cs) (room : length cs < most) (w : WasStarted A u.blobs i id now mid) where
-      few_mid : running mid.jobs ≤ most
+      pub few_mid : running mid.jobs ≤ most
       few_mid = let more = one_more w in let count = jobs_count (IsOwnJob y may t.blobs now) cs now.jobs g.jobs in omega (arith, more, count, room)
 
       commands_mid : mid.commands ≡ now.commands
@@ -323,11 +340,11 @@ module _ (A J : Type 0) (y : Yields) (may : J → EndValue → Type 0) (from : S
       there : AreJobsOf (IsOwnJob y may u.blobs mid) now.jobs cs
       there = jobs_map (IsOwnJob y may t.blobs now) (IsOwnJob y may u.blobs mid) (own_still (λ l c p h. h) k.blobs commands_mid) cs now.jobs g.jobs
 
-      pub led_started : IsLed A y u most old mid
+      abbrev pub led_started : IsLed A y u most old mid
       led_started = led_moved A y t u (started i id ∷ []) (moves_kept t u (started i id ∷ []) k) most old now mid g.led.built.led (mid, w, few_mid, refl)
 
       going_started : (c : Child J) → c.id ≡ id → IsOwnJob y may u.blobs mid c (job_of w) → (x : StartValue) → IsLayoutOf u.blobs (job_of w).input x.layout → slice_get mid.commands i ≡ Some x.command
-          → StartsOne a b x → HasNoneToTake t (job_of w).action x.command → On b u mid (cs ++ c ∷ []) g.led.built.led.calls 0
+          → StartsOne a b x → HasNoneToTake t (job_of w).action x.command → Went b u mid (cs ++ c ∷ []) g.led.built.led.calls (started i id ∷ launched id (job_of w).action x ∷ [])
       going_started c same is x laid command starts none =
           let calls = g.led.built.led.calls in
           let more : List Call = started i id ∷ launched id (job_of w).action x ∷ [] in
@@ -339,7 +356,7 @@ module _ (A J : Type 0) (y : Yields) (may : J → EndValue → Type 0) (from : S
             order = jobs_join [] calls more ∙ ap (λ js. js ++ (id, i) ∷ []) g.order ∙ ap (λ (j : ℕ × ℕ). jobs_with cs ++ j ∷ []) pair ∙ sym (map-append (λ (c : Child J). (c.id, c.step)) cs (c ∷ []));
             few = let n = length-append cs (c ∷ []) in omega (arith, n, room);
           } in
-          record { going = going; taken = taken_join calls more }
+          record { going = going; are = refl }
         where
           pair : ◌≡◌ {A = ℕ × ℕ} (id, i) (c.id, c.step)
           pair = let number = same in let step = is.of_child.step in cc
@@ -349,9 +366,9 @@ module _ (A J : Type 0) (y : Yields) (may : J → EndValue → Type 0) (from : S
           had d z (inr h) = absurd h
 
       -- its job is gone again: nothing runs that didn't run before
-      going_back : (new : EngineValue) (call : Call) → StartsAll (children_of (call ∷ [])) a b → HadNone t (call ∷ []) → ((js : List (ℕ × ℕ)) → jobs_after js (call ∷ []) ≡ without_number id js)
-          → new.jobs ≡ set mid.jobs id None → new.commands ≡ mid.commands → Does A y u [] call mid new → (n : ℕ) → taken_count (call ∷ []) ≡ n → On b u new cs g.led.built.led.calls n
-      going_back new call starts none ends jobs commands does n counted =
+      pub going_back : (new : EngineValue) (call : Call) → StartsAll (children_of (call ∷ [])) a b → HadNone t (call ∷ []) → ((js : List (ℕ × ℕ)) → jobs_after js (call ∷ []) ≡ without_number id js)
+          → new.jobs ≡ set mid.jobs id None → new.commands ≡ mid.commands → Does A y u [] call mid new → Went b u new cs g.led.built.led.calls (started i id ∷ call ∷ [])
+      going_back new call starts none ends jobs commands does =
           let calls = g.led.built.led.calls in
           let more : List Call = started i id ∷ call ∷ [] in
           let back : AreJobsOf (IsOwnJob y may u.blobs mid) (set mid.jobs id None) cs
@@ -367,7 +384,7 @@ module _ (A J : Type 0) (y : Yields) (may : J → EndValue → Type 0) (from : S
             order = jobs_join [] calls more ∙ ap (λ js. jobs_after (js ++ (id, i) ∷ []) (call ∷ [])) g.order ∙ ends (jobs_with cs ++ (id, i) ∷ []) ∙ placed_goes (IsOwnJob y may u.blobs mid) cs now.jobs id i (least w).free there;
             few = g.few;
           } in
-          record { going = going; taken = taken_join calls more ∙ ap (λ m. taken_count calls + m) counted }
+          record { going = going; are = refl }
 
     -- a step that hasn't finished is started
     module _ (t u : Telling) (now new : EngineValue) (i : ℕ) (cs : List (Child J)) (k : IsKept t u) (g : Goes a t now cs) (room : length cs < most) (unfinished : finished_in i now ≡ None) where
@@ -394,13 +411,15 @@ module _ (A J : Type 0) (y : Yields) (may : J → EndValue → Type 0) (from : S
               let own : HasChildFor z may a b t u begun.mid (job_of w) c = subst (λ j. HasChildFor z may a b t u begun.mid j c) one child in
               subst (On b u new ds g.led.built.led.calls) (sym (none_in (ap (λ (e : EngineValue). finished_in i e) same ∙ mid_none begun.id begun.mid w)))
               (subst (λ (e : EngineValue). On b u e ds g.led.built.led.calls 0) (sym same)
-              (subst (λ xs. On b u begun.mid xs g.led.built.led.calls 0) (sym grown) (going_started t u now begun.mid cs i begun.id k g room w c id
+              (subst (λ xs. On b u begun.mid xs g.led.built.led.calls 0) (sym grown) (on_by b u begun.mid (cs ++ c ∷ []) g.led.built.led.calls (started i begun.id ∷ launched begun.id (job_of w).action (record { layout = own.own.owed.layout; command = own.own.owed.command }) ∷ []) 0
+              (going_started t u now begun.mid cs i begun.id k g room w c id
               (own_still within (λ e b at right. at) refl c (job_of w) own.own)
-              (record { layout = own.own.owed.layout; command = own.own.owed.command }) own.own.owed.laid own.own.owed.of_step own.started own.none)))
+              (record { layout = own.own.owed.layout; command = own.own.owed.command }) own.own.owed.laid own.own.owed.of_step own.started own.none) refl)))
           by (inr (v, f, held, same, quiet)) =
               let of_job : f.job ≡ begun.job = one_answer (job_in begun.id begun.mid) f.job begun.job f.is begun.is in
               let within_mid : i < length begun.mid.finished = subst (λ (e : EngineValue). i < length e.finished) (sym (after w)) lt in
-              subst (λ xs. On b u new xs g.led.built.led.calls (taken_in true i now new)) (sym same) (going_back t u now begun.mid cs i begun.id k g room w new (taken begun.id begun.job.action v)
+              let call : Call = taken begun.id begun.job.action v in
+              subst (λ xs. On b u new xs g.led.built.led.calls (taken_in true i now new)) (sym same) (on_by b u new cs g.led.built.led.calls (started i begun.id ∷ call ∷ []) (taken_in true i now new) (going_back t u now begun.mid cs i begun.id k g room w new call
               (none_starts a b quiet) (λ d x child. absurd child) (λ js. refl)
               (ap (λ (e : EngineValue). e.jobs) f.after) (ap (λ (e : EngineValue). e.commands) f.after)
               (record {
@@ -411,15 +430,13 @@ module _ (A J : Type 0) (y : Yields) (may : J → EndValue → Type 0) (from : S
                 result = held.held.result;
                 reads = held.held.reads;
                 recorded = held.held.recorded;
-              }) (taken_in true i now new) (sym (one_in (finished_at begun.mid new begun.id i v (job_of w) within_mid f (job_is w) refl))))
+              })) (sym (one_in (finished_at begun.mid new begun.id i v (job_of w) within_mid f (job_is w) refl))))
 
-      pub going_refused : StartsNone a b → CameToNothing A u.blobs i now new → On b u new cs g.led.built.led.calls (taken_in true i now new)
-      going_refused quiet (inl same) =
-          subst (On b u new cs g.led.built.led.calls) (sym (none_in (ap (λ (e : EngineValue). finished_in i e) same ∙ unfinished)))
-          (subst (λ (e : EngineValue). On b u e cs g.led.built.led.calls 0) (sym same) (going_kept t u now cs k quiet g))
-      going_refused quiet (inr (id, mid, w, gone)) =
-          going_back t u now mid cs i id k g room w new (lost id) (none_starts a b quiet) (λ d x child. absurd child) (λ js. refl) (ap (λ (e : EngineValue). e.jobs) gone) (ap (λ (e : EngineValue). e.commands) gone) (job_of w, job_is w, gone)
-          (taken_in true i now new) (sym (none_in (ap (λ (e : EngineValue). finished_in i e) gone ∙ mid_none id mid w)))
+      pub none_kept : new ≡ now → 0 ≡ taken_in true i now new
+      none_kept same = sym (none_in (ap (λ (e : EngineValue). finished_in i e) same ∙ unfinished))
+
+      pub none_lost : (id : ℕ) (mid : EngineValue) → WasStarted A u.blobs i id now mid → new ≡ without_job id mid → 0 ≡ taken_in true i now new
+      none_lost id mid w gone = sym (none_in (ap (λ (e : EngineValue). finished_in i e) gone ∙ mid_none id mid w))
 
 -- the children's jobs
 pub own_jobs : {J : Type 0} (A : Type 0) (y : Yields) (may : J → EndValue → Type 0) (from to : Starts) (s t : Telling) (most : ℕ) (old now : EngineValue) (cs : List (Child J)) → IsGoing A y may from to s t most old now cs → AreJobsOf IsJobOf now.jobs cs
@@ -446,8 +463,8 @@ pub lose_goes : {T E : Type 0} (r : Result T E) (id : ℕ) (old new : EngineValu
 lose_goes (Ok x) id old new j none gone at = gone
 lose_goes (Err x) id old new j none gone at = absurd (some_none (job_in id old) j at (none.0 refl))
 
-pub refused : {A T E : Type 0} {B C : Blobs} {i : ℕ} {old mid now new : EngineValue} {job : Job A} (r : Result T E) → IsStarted B i old mid job → KeepsRight B C → now ≡ mid
-    → IsErr r ↔ (job_in job.id now ≡ None) → OnOk r (new ≡ without_job job.id now) → CameToNothing A C i old new
-refused {A} {T} {E} {B} {C} {i} {old} {mid} {now} {new} {job} r s keeps same none gone =
+pub job_gone : {A T E : Type 0} {B : Blobs} {i : ℕ} {old mid now new : EngineValue} {job : Job A} (r : Result T E) → IsStarted B i old mid job → now ≡ mid
+    → IsErr r ↔ (job_in job.id now ≡ None) → OnOk r (new ≡ without_job job.id now) → new ≡ without_job job.id mid
+job_gone {A} {T} {E} {B} {i} {old} {mid} {now} {new} {job} r s same none gone =
     let at : job_in job.id now ≡ Some (job_value job) = subst (λ (e : EngineValue). job_in job.id e ≡ Some (job_value job)) (sym same) (started_value s) in
-    inr (job.id, mid, was_started s C keeps, lose_goes r job.id now new (job_value job) none gone at ∙ ap (without_job job.id) same)
+    lose_goes r job.id now new (job_value job) none gone at ∙ ap (without_job job.id) same

@@ -9,12 +9,13 @@ use Rattle.blob_digest.specs.Digest.{DigestValue, digest_of}
 use Rattle.blob_source.specs.Source.{Blobs, Telling, Grows, AsksResult, Asks, AsksSome}
 use Rattle.blob_source.specs.Sink.{PutsBlob, PutsResult, HasRight, IsPut, KeepsRight}
 use Rattle.blob_source.specs.Called.{Calls}
+use Rattle.blob_source.proofs.Calling.{calls_some}
 use Rattle.blob_source.specs.declared.source.FetchError.{FetchError}
 use Rattle.blob_source.specs.declared.source.FetchError.TheVariants as fetching
 use Rattle.worker.specs.Refusals.{of_fetch}
 use Rattle.worker.specs.Stopped.{IsStoreFault}
 use Rattle.worker.specs.Stored.{IsKept}
-use Rattle.worker.specs.Storing.{Stands, IsKeptBut}
+use Rattle.worker.specs.Storing.{HasAt, IsKeptBut}
 use Rattle.worker.specs.Outcomes.{HasAllRight}
 
 grown_same : (B C : Blobs) → C ≡ B → Grows B C
@@ -32,11 +33,11 @@ kept_none {t} = record { blobs = λ e b at right. at; results = λ e b at. at; p
 pub kept_trans : {t u v : Telling} → IsKept t u → IsKept u v → IsKept t v
 kept_trans {t} {u} {v} f g = record { blobs = λ e b at right. g.blobs e b (f.blobs e b at right) right; results = λ e b at. g.results e b (f.results e b at); puts = g.puts ∙ f.puts }
 
-pub kept_asks : {n : ℕ} {t u : Telling} {F : Type 0} → Calls (Asks n) t u F → IsKept t u
-kept_asks {n} {t} {u} {F} a = record { blobs = λ e b at right. a.asked.blobs e b at; results = λ e b at. a.asked.results e b at; puts = a.asked.puts }
-
 pub kept_some : {t u : Telling} {F : Type 0} → Calls AsksSome t u F → IsKept t u
-kept_some {t} {u} {F} a = record { blobs = λ e b at right. a.asked.asks.blobs e b at; results = λ e b at. a.asked.asks.results e b at; puts = a.asked.asks.puts }
+kept_some {t} {u} {F} a = record { blobs = λ e b at right. a.asked.blobs e b at; results = λ e b at. a.asked.results e b at; puts = a.asked.puts }
+
+pub kept_asks : {n : ℕ} {t u : Telling} {F : Type 0} → Calls (Asks n) t u F → IsKept t u
+kept_asks a = kept_some (calls_some a)
 
 pub kept_blob : {t u : Telling} {bytes : List ℕ} {F : Type 0} → Calls (PutsBlob bytes) t u F → IsKept t u
 kept_blob {t} {u} {bytes} {F} p = record { blobs = p.asked.right; results = grown_same t.results u.results p.asked.results; puts = p.asked.puts }
@@ -50,7 +51,7 @@ kept_but {t} {u} {d} {Is} k = record { blobs = k.blobs; results = λ e b at. inl
 pub kept_then : {t u v : Telling} {d : DigestValue} {Is : List ℕ → Type 0} → IsKept t u → IsKeptBut d Is u v → IsKeptBut d Is t v
 kept_then {t} {u} {v} {d} {Is} f g = record { blobs = λ e b at right. g.blobs e b (f.blobs e b at right) right; results = λ e b at. g.results e b (f.results e b at); puts = by g.puts }
   where
-    by : (v.puts ≡ u.puts) ⊎ ((v.puts ≡ u.puts ++ d ∷ []) × Stands Is v.results d) → (v.puts ≡ t.puts) ⊎ ((v.puts ≡ t.puts ++ d ∷ []) × Stands Is v.results d)
+    by : (v.puts ≡ u.puts) ⊎ ((v.puts ≡ u.puts ++ d ∷ []) × HasAt Is v.results d) → (v.puts ≡ t.puts) ⊎ ((v.puts ≡ t.puts ++ d ∷ []) × HasAt Is v.results d)
     by (inl same) = inl (same ∙ f.puts)
     by (inr (more, stands)) = inr (more ∙ ap (λ ds. ds ++ d ∷ []) f.puts, stands)
 
@@ -58,14 +59,14 @@ kept_then {t} {u} {v} {d} {Is} f g = record { blobs = λ e b at right. g.blobs e
 pub kept_as : {t u : Telling} {d : DigestValue} {Is So : List ℕ → Type 0} → ((b : List ℕ) → Is b → So b) → IsKeptBut d Is t u → IsKeptBut d So t u
 kept_as {t} {u} {d} {Is} {So} to k = record { blobs = k.blobs; results = λ e b at. by e b (k.results e b at); puts = of k.puts }
   where
-    stands : Stands Is u.results d → Stands So u.results d
+    stands : HasAt Is u.results d → HasAt So u.results d
     stands h = (h.0, h.1, to h.0 h.2)
 
-    by : (e : DigestValue) (b : List ℕ) → (u.results e ≡ Some b) ⊎ ((e ≡ d) × Stands Is u.results d) → (u.results e ≡ Some b) ⊎ ((e ≡ d) × Stands So u.results d)
+    by : (e : DigestValue) (b : List ℕ) → (u.results e ≡ Some b) ⊎ ((e ≡ d) × HasAt Is u.results d) → (u.results e ≡ Some b) ⊎ ((e ≡ d) × HasAt So u.results d)
     by e b (inl at) = inl at
     by e b (inr h) = inr (h.0, stands h.1)
 
-    of : (u.puts ≡ t.puts) ⊎ ((u.puts ≡ t.puts ++ d ∷ []) × Stands Is u.results d) → (u.puts ≡ t.puts) ⊎ ((u.puts ≡ t.puts ++ d ∷ []) × Stands So u.results d)
+    of : (u.puts ≡ t.puts) ⊎ ((u.puts ≡ t.puts ++ d ∷ []) × HasAt Is u.results d) → (u.puts ≡ t.puts) ⊎ ((u.puts ≡ t.puts ++ d ∷ []) × HasAt So u.results d)
     of (inl same) = inl same
     of (inr h) = inr (h.0, stands h.1)
 
@@ -126,12 +127,12 @@ same_digest d e = by (same_bytes d.hash e.hash) (eqb_tells d.size e.size)
 pub kept_put : {t u : Telling} {d : DigestValue} {bytes : List ℕ} {F : Type 0} → (u.puts ≡ t.puts) ⊎ ((u.puts ≡ t.puts ++ d ∷ []) × (u.results d ≡ Some bytes)) → Calls (PutsResult d bytes) t u F → IsKeptBut d (λ b. b ≡ bytes) t u
 kept_put {t} {u} {d} {bytes} {F} puts p = record { blobs = right_same t.blobs u.blobs p.asked.blobs; results = λ e b at. by e b at (same_digest e d) p.asked.results.there; puts = of puts }
   where
-    by : (e : DigestValue) (b : List ℕ) → t.results e ≡ Some b → (e ≡ d) ⊎ (e ≢ d) → (u.results d ≡ t.results d) ⊎ (u.results d ≡ Some bytes) → (u.results e ≡ Some b) ⊎ ((e ≡ d) × Stands (λ c. c ≡ bytes) u.results d)
+    by : (e : DigestValue) (b : List ℕ) → t.results e ≡ Some b → (e ≡ d) ⊎ (e ≢ d) → (u.results d ≡ t.results d) ⊎ (u.results d ≡ Some bytes) → (u.results e ≡ Some b) ⊎ ((e ≡ d) × HasAt (λ c. c ≡ bytes) u.results d)
     by e b at (inl is) (inl same) = inl (ap u.results is ∙ same ∙ sym (ap t.results is) ∙ at)
     by e b at (inl is) (inr there) = inr (is, (bytes, there, refl))
     by e b at (inr n) there = inl (p.asked.results.others e n ∙ at)
 
-    of : (u.puts ≡ t.puts) ⊎ ((u.puts ≡ t.puts ++ d ∷ []) × (u.results d ≡ Some bytes)) → (u.puts ≡ t.puts) ⊎ ((u.puts ≡ t.puts ++ d ∷ []) × Stands (λ c. c ≡ bytes) u.results d)
+    of : (u.puts ≡ t.puts) ⊎ ((u.puts ≡ t.puts ++ d ∷ []) × (u.results d ≡ Some bytes)) → (u.puts ≡ t.puts) ⊎ ((u.puts ≡ t.puts ++ d ∷ []) × HasAt (λ c. c ≡ bytes) u.results d)
     of (inl same) = inl same
     of (inr h) = inr (h.0, (bytes, h.1, refl))
 

@@ -12,7 +12,7 @@ use Rattle.worker.specs.declared.child.Child.{Child}
 use Rattle.worker.specs.Values.{EndValue, Starts}
 use Rattle.worker.specs.Outcomes.{Yields}
 use Rattle.worker.specs.Calls.{WasStarted, IsStartable}
-use Rattle.worker.specs.Going.{IsLaunched, IsBegun, EndsWell, HasEndedFirst, one_if, weight, waiting_among, turns_left}
+use Rattle.worker.specs.Going.{IsLaunched, IsBegun, EndedWell, HasEndedFirst, one_if, weight, waiting_among, turns_left}
 use Rattle.worker.proofs.Jobs.{least_within}
 use Rattle.worker.proofs.Started.{job_of, job_is, after as started_after, least as started_least}
 
@@ -177,7 +177,7 @@ module _ (A J : Type 0) (y : Yields) (may : J → EndValue → Type 0) (from to 
   start_less (Ok x) i cs ds lt s b = begun_less i cs ds lt s b
   start_less (Err x) i cs ds lt s b = tt
 
-  ended_less : (cs ds : List (Child J)) → HasEndedFirst (EndsWell may t u) now new cs ds → turns_left new ds < turns_left now cs
+  ended_less : (cs ds : List (Child J)) → HasEndedFirst (EndedWell may t u) now new cs ds → turns_left new ds < turns_left now cs
   ended_less cs ds h =
       let f = h.end.finished in
       let v = h.end.produced.outcome in
@@ -192,6 +192,6 @@ module _ (A J : Type 0) (y : Yields) (may : J → EndValue → Type 0) (from to 
       let whole : waiting_among (length new.plan.steps) new ≡ waiting_among (length now.plan.steps) (with_finished h.child.id f.job v now) = ap (λ (e : EngineValue). waiting_among (length e.plan.steps) e) f.after in
       omega (arith, less, len, whole)
 
-  pub finish_less : {T E : Type 0} (r : Result T E) (cs ds : List (Child J)) → OnOk r (HasEndedFirst (EndsWell may t u) now new cs ds) → OnOk r (turns_left new ds < turns_left now cs)
+  pub finish_less : {T E : Type 0} (r : Result T E) (cs ds : List (Child J)) → OnOk r (HasEndedFirst (EndedWell may t u) now new cs ds) → OnOk r (turns_left new ds < turns_left now cs)
   finish_less (Ok x) cs ds h = ended_less cs ds h
   finish_less (Err x) cs ds h = tt

@@ -1,5 +1,6 @@
 pub mod Keeping
 pub mod Knowing
+pub mod PutOnce
 pub mod Telling
 pub mod Untaken
 pub mod Sorting

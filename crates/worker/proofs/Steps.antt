@@ -49,8 +49,8 @@ module _ (A : Type 0) (y : Yields) (t : Telling) (most : ℕ) where
     abbrev AreFrom : EngineValue → Type 0
     AreFrom e = (i : ℕ) (f : FinishedValue) → finished_in i e ≡ Some f → IsFrom f
 
-    abbrev Stands : List ℕ → DigestValue → Type 0
-    Stands bytes d = ((t.results d ≡ Some bytes) × (Contains put d → ⊥)) ⊎ ((v : OutcomeValue) × CameTo all d v)
+    abbrev HasAt : List ℕ → DigestValue → Type 0
+    HasAt bytes d = ((t.results d ≡ Some bytes) × (Contains put d → ⊥)) ⊎ ((v : OutcomeValue) × CameTo all d v)
 
     of_ran : (id : ℕ) (d : DigestValue) (v : OutcomeValue) (old new : EngineValue) → (w : FinishedByChild y t id d v old new) → last.commands ≡ old.commands → IsFrom (record { action = w.finished.job.action; outcome = v })
     of_ran id d v old new w same = inl (w.finished.job, refl, yielded_still old last (λ l c e h. h) (λ e b at right. at) same w.finished.job w.yielded)
@@ -62,14 +62,14 @@ module _ (A : Type 0) (y : Yields) (t : Telling) (most : ℕ) where
       result = w.result;
       reads = w.reads;
       recorded = w.recorded;
-      stands = subst (Stands w.bytes) (sym w.action) (by w.held);
+      stands = subst (HasAt w.bytes) (sym w.action) (by w.held);
     })
       where
-        by : (t.results d ≡ Some w.bytes) ⊎ HasChildsResult later t.results d → Stands w.bytes d
+        by : (t.results d ≡ Some w.bytes) ⊎ HasChildsResult later t.results d → HasAt w.bytes d
         by (inr h) = inr (h.outcome, up d h.outcome h.came)
         by (inl at) = next (put_or_not all t.results d put each)
           where
-            next : AllByRecursion (λ e. e ≢ d) put ⊎ HasChildsResult all t.results d → Stands w.bytes d
+            next : AllByRecursion (λ e. e ≢ d) put ⊎ HasChildsResult all t.results d → HasAt w.bytes d
             next (inl none) = inl (at, λ there. all_at (λ e. e ≢ d) put d none there refl)
             next (inr h) = inr (h.outcome, h.came)
 

@@ -1,6 +1,6 @@
 -- Why a build ends at a step.
-use Rattle.std.proofs.Common.{◌≡◌, ◌<◌, ℕ, List, [], ◌∷◌, length, refl, sym, ap, subst, inl, inr}
-use Rattle.std.specs.Prelude.{Result, Ok, Err, OnErr, IfErr}
+use Rattle.std.proofs.Common.{◌≡◌, ◌<◌, ◌≤◌, ℕ, true, List, [], ◌∷◌, ◌++◌, append_assoc, append-nil, length, map, refl, sym, ap, ◌∙◌, subst, arith, inl, inr}
+use Rattle.std.specs.Prelude.{Result, Ok, Err, OnOk, OnErr, IfErr}
 use Rattle.blob_source.specs.Source.{Blobs, Telling}
 use Rattle.plan.specs.Values.{PlanValue}
 use Rattle.runs.specs.Engine.{EngineValue, IsEngine}
@@ -12,16 +12,16 @@ use Rattle.worker.specs.declared.error.BuildError.{BuildError}
 use Rattle.worker.specs.declared.child.Child.{Child}
 use Rattle.worker.specs.declared.turns.Turn.{Turn}
 use Rattle.worker.specs.declared.turns.Turn.TheVariants as turns
-use Rattle.worker.specs.Calls.{Call, started, launched, ran, taken, lost, Does, Leads, IsLed}
-use Rattle.worker.specs.Going.{AreJobsOf, IsJobIn, job_value, IsOwnJob, IsGoing, IsTurn, Ends, HasEndedFirst}
+use Rattle.worker.specs.Calls.{Call, started, launched, ran, taken, lost, IsLost, Does, Leads}
+use Rattle.worker.specs.Going.{IsJobIn, job_value, IsGoing, IsBegun, IsTurn, EndedWell, HasEndedFirst, GoesOnBy, taken_in}
 use Rattle.worker.specs.Outcomes.{Yields, YieldsNoMore, MayComeTo}
 use Rattle.worker.specs.Stored.{IsKept}
 use Rattle.worker.specs.Stopped.{ComesTo, StopsStep, IsRefusedBuild, IsStoreFault}
-use Rattle.worker.specs.Stopping.{StopsChild, StopsCollecting, StopsEnd, StopsSettling, StopsFirst, StopsBeginning}
+use Rattle.worker.specs.Stopping.{StopsChild, StopsCollecting, StopsEnd, StopsSettling, StopsBeginning}
 use Rattle.worker.specs.Values.{EndValue, made, bad_at, Starts, StartsNone}
-use Rattle.worker.proofs.Goes.{led_kept, led_started}
-use Rattle.worker.proofs.Started.{after}
-use Rattle.worker.proofs.Taking.{ended_goes}
+use Rattle.worker.proofs.Goes.{Ends, Went, on_by, few_jobs, going_kept, led_kept, going_ran, going_lost, led_started, going_back, going_begun, none_kept, none_lost, none_starts}
+use Rattle.worker.proofs.Started.{after, job_of, job_is}
+use Rattle.worker.proofs.Taking.{loses_none}
 use Rattle.worker.proofs.Telling.{end_still, yielded_still, owed_ends}
 
 module _ {A : Type 0} (y : Yields) (t : Telling) (e : EngineValue) where
@@ -65,81 +65,123 @@ stops_within z y t e i (refusals.Run children.Memory) within h = tt
 stops_within z y t e i refusals.Fetch within h = tt
 stops_within z y t e i refusals.Memory within h = tt
 
--- ---- a turn that is refused
+-- ---- a turn that is taken or refused
 
-module _ (A J : Type 0) (may : J → EndValue → Type 0) (a b : Starts) (t u : Telling) (now new : EngineValue) (cs ds : List (Child J)) where
-  begun_refused : (z y : Yields) (i : ℕ) (e : BuildError A) → (e.step ≡ i) × StopsBeginning z u now i e.refusal → IsKept t u → (from : Starts) (s : Telling) (most : ℕ) (first : EngineValue) → YieldsNoMore z y → length cs < most → i < length now.plan.steps
-      → IsGoing A y may from a s t most first now cs → IsRefusedBuild A y u most first e.step e.refusal
-  begun_refused z y i e (same, inl stops) k from s most first within room planned g = record {
-    at = now;
-    led = led_kept A J y may from s most first a a t u now cs k g;
-    planned = subst (λ n. n < length now.plan.steps) (sym same) planned;
-    stops = subst (λ n. StopsStep y u now n e.refusal) (sym same) (stops_within z y u now i e.refusal within stops);
-  }
-  begun_refused z y i e (same, inr (id, mid, w, stops)) k from s most first within room planned g = record {
-    at = mid;
-    led = led_started A J y may from s most first a a t u now mid cs i id k g room w;
-    planned = subst (λ n. n < length mid.plan.steps) (sym same) (subst (λ (e : EngineValue). i < length e.plan.steps) (sym (after w)) planned);
-    stops = subst (λ n. StopsStep y u mid n e.refusal) (sym same) (stops_within z y u mid i e.refusal within stops);
-  }
+module _ (A J : Type 0) (y : Yields) (may : J → EndValue → Type 0) (from a b : Starts) (s t u : Telling) (most : ℕ) (first now new : EngineValue) (cs ds : List (Child J)) (g : IsGoing A y may from a s t most first now cs) where
+  -- a build went on, or the refusal stands
+  abbrev Goes : {T : Type 0} → List (Child J) → Result T (BuildError A) → List Call → ℕ → Type 0
+  Goes xs r calls n = (on : GoesOnBy A y may from b s u most first new xs calls n) × IfErr r (λ e. IsRefusedBuild A y u most on.going.led.built.led.calls first new e.step e.refusal)
 
-  pub start_refused : {T N : Type 0} (ys : N → Yields) (fs : N → Starts) (z : Yields) (i : ℕ) (turn : Turn) → turn ≡ turns.Start i → (r : Result T (BuildError A)) → IfErr r (λ e. (e.step ≡ i) × StopsBeginning z u now i e.refusal) → IsKept t u
-      → IfErr r (λ e. (entry : N) (s : Telling) (most : ℕ) (first : EngineValue) → YieldsNoMore z (ys entry) → IsTurn most now cs turn → IsGoing A (ys entry) may (fs entry) a s t most first now cs → IsRefusedBuild A (ys entry) u most first e.step e.refusal)
-  start_refused ys fs z i turn is (Ok x) stops k = tt
-  start_refused ys fs z i turn is (Err e) stops k = λ entry s most first within can g. begun_refused z (ys entry) i e stops k (fs entry) s most first within (subst (IsTurn most now cs) is can).0 (subst (IsTurn most now cs) is can).1 g
+  begun_refused : (z : Yields) (i : ℕ) (e : BuildError A) → YieldsNoMore z y → IsKept t u → StartsNone a b → (turn : IsTurn most now cs (turns.Start i)) → (e.step ≡ i) × StopsBeginning A z u i now new e.refusal
+      → Goes {T = Unit {0}} cs (Err e) g.led.built.led.calls (taken_in true i now new)
+  begun_refused z i e within k quiet turn (step, inl (same, stops)) =
+      let calls = g.led.built.led.calls in
+      let w : Went A J y may from s most first b u new cs calls [] = subst (λ (e : EngineValue). Went A J y may from s most first b u e cs calls []) (sym same) (going_kept A J y may from s most first a b t u now cs k quiet g) in (
+        on_by A J y may from s most first b u new cs calls [] (taken_in true i now new) w (none_kept A J y may from s most first a b t u now new i cs k g turn.0 turn.2.waiting.unfinished same),
+        record {
+          at = now;
+          led = led_kept A J y may from s most first a b t u now cs k g;
+          rest = record { ids = []; calls = w.are ∙ sym (append-nil (calls ++ [])); leads = same };
+          planned = subst (λ n. n < length now.plan.steps) (sym step) turn.1;
+          stops = subst (λ n. StopsStep y u now n e.refusal) (sym step) (stops_within z y u now i e.refusal within stops);
+        },
+      )
+  begun_refused z i e within k quiet turn (step, inr (id, mid, is, gone, stops)) =
+      let calls = g.led.built.led.calls in
+      let gone_job : IsLost id mid new = (job_of is, job_is is, gone) in
+      let w = going_back A J y may from s most first a b t u now mid cs i id k g turn.0 is new (lost id) (none_starts a b quiet) (λ d x child. absurd child) (λ js. refl) (ap (λ (e : EngineValue). e.jobs) gone) (ap (λ (e : EngineValue). e.commands) gone) gone_job in (
+        on_by A J y may from s most first b u new cs calls (started i id ∷ lost id ∷ []) (taken_in true i now new) w (none_lost A J y may from s most first a b t u now new i cs k g turn.0 turn.2.waiting.unfinished id mid is gone),
+        record {
+          at = mid;
+          led = led_started A J y may from s most first a b t u now mid cs i id k g turn.0 is;
+          rest = record { ids = id ∷ []; calls = w.are ∙ sym (append_assoc calls (started i id ∷ []) (lost id ∷ [])); leads = (new, gone_job, few_jobs A J y may from s most first b u new cs w.going, refl) };
+          planned = subst (λ n. n < length mid.plan.steps) (sym step) (subst (λ (e : EngineValue). i < length e.plan.steps) (sym (after is)) turn.1);
+          stops = subst (λ n. StopsStep y u mid n e.refusal) (sym step) (stops_within z y u mid i e.refusal within stops);
+        },
+      )
 
-  module _ (y : Yields) (from : Starts) (s : Telling) (most : ℕ) (first : EngineValue) (g : IsGoing A y may from a s t most first now cs) (c : Child J) (is : cs ≡ c ∷ ds) where
+  pub start_goes : {T : Type 0} (r : Result T (BuildError A)) (z : Yields) (i : ℕ) → YieldsNoMore z y → IsKept t u → OnErr r (StartsNone a b) → IsTurn most now cs (turns.Start i) → IsEngine now → OnOk r (IsBegun A z may a b t u i now new cs ds)
+      → IfErr r (λ e. (e.step ≡ i) × StopsBeginning A z u i now new e.refusal) → OnErr r (ds ≡ cs) → Goes ds r g.led.built.led.calls (taken_in true i now new)
+  start_goes (Ok x) z i within k quiet turn valid begun stop same =
+      let count = valid.count in
+      let lt = turn.1 in
+      (going_begun A J y may from s most first a b t u now new i cs k g turn.0 turn.2.waiting.unfinished z within ds (omega (arith, count, lt)) begun, tt)
+  start_goes (Err e) z i within k quiet turn valid begun stop same =
+      subst (λ xs. Goes {T = Unit {0}} xs (Err e) g.led.built.led.calls (taken_in true i now new)) (sym same) (begun_refused z i e within k quiet turn stop)
+
+  -- the first child is waited for
+  module _ (c : Child J) (quiet : StartsNone a b) (f : IsGoing A y may from a s t most first now (c ∷ ds)) where
     step_planned : IsEngine now → c.step < length now.plan.steps
-    step_planned valid =
-        let jobs = subst (AreJobsOf (IsOwnJob y may t.blobs now) now.jobs) is g.jobs in
-        subst (λ n. n < length now.plan.steps) jobs.2.of_child.step (valid.running c.id jobs.0 jobs.1)
+    step_planned valid = subst (λ n. n < length now.plan.steps) f.jobs.2.of_child.step (valid.running c.id f.jobs.0 f.jobs.1)
 
-  module _ (y : Yields) (from : Starts) (s : Telling) (most : ℕ) (first : EngineValue) (g : IsGoing A y may from a s t most first now cs) (c : Child J) (is : cs ≡ c ∷ ds) (k : IsKept t u) where
-    jobs : AreJobsOf (IsOwnJob y may t.blobs now) now.jobs (c ∷ ds)
-    jobs = subst (AreJobsOf (IsOwnJob y may t.blobs now) now.jobs) is g.jobs
+    ends : IsKept t u → (end : EndValue) → may c.job end → MayComeTo y u.blobs now f.jobs.0 end
+    ends k end came = end_still now now (λ l d x h. h) k.blobs refl f.jobs.0 end (owed_ends f.jobs.2.owed end came)
 
-    ends : (end : EndValue) → may c.job end → MayComeTo y u.blobs now jobs.0 end
-    ends end came = end_still now now (λ l d x h. h) k.blobs refl jobs.0 end (owed_ends jobs.2.owed end came)
+    end_stops : IsKept t u → (r : Refusal A) → StopsEnd may u.blobs c now r → StopsStep y u now c.step r
+    end_stops k (refusals.Engine why) (p, came, blobs, trees, fault) =
+        inr (c.id, f.jobs.0, f.jobs.1, f.jobs.2.of_child.step, (p.outcome, inl (record { produced = p; outcome = refl; may = ends k (made p) came; blobs = blobs; trees = trees }), fault))
+    end_stops k (refusals.Layout why) h = absurd h
+    end_stops k (refusals.Run children.NotAbsolute) h = absurd h
+    end_stops k (refusals.Run children.Device) h = (c.id, f.jobs.0, f.jobs.1, f.jobs.2.of_child.step, tt)
+    end_stops k (refusals.Run (children.BadOutput path)) h = (c.id, f.jobs.0, f.jobs.1, f.jobs.2.of_child.step, ends k (bad_at path) h)
+    end_stops k (refusals.Run children.Memory) h = tt
+    end_stops k refusals.Fetch h = tt
+    end_stops k refusals.Memory h = tt
 
-    end_stops : (r : Refusal A) → StopsEnd may u.blobs c now r → StopsStep y u now c.step r
-    end_stops (refusals.Engine why) (p, came, blobs, fault) =
-        inr (c.id, jobs.0, jobs.1, jobs.2.of_child.step, (p.outcome, inl (record { produced = p; outcome = refl; may = ends (made p) came; blobs = blobs }), fault))
-    end_stops (refusals.Layout why) h = absurd h
-    end_stops (refusals.Run children.NotAbsolute) h = absurd h
-    end_stops (refusals.Run children.Device) h = (c.id, jobs.0, jobs.1, jobs.2.of_child.step, tt)
-    end_stops (refusals.Run (children.BadOutput path)) h = (c.id, jobs.0, jobs.1, jobs.2.of_child.step, ends (bad_at path) h)
-    end_stops (refusals.Run children.Memory) h = tt
-    end_stops refusals.Fetch h = tt
-    end_stops refusals.Memory h = tt
+    ended_well : EndedWell may t u c now new → GoesOnBy A y may from b s u most first new ds f.led.built.led.calls 0
+    ended_well e = on_by A J y may from s most first b u new ds f.led.built.led.calls (ran c.id c.action e.produced.outcome ∷ []) 0 (going_ran A J y may from s most first a b t u now new c ds quiet f e) refl
 
-  ends_plan : (c : Child J) → Ends may t u c now new → new.plan ≡ now.plan
-  ends_plan c (inl e) = ap (λ (e : EngineValue). e.plan) e.finished.after
-  ends_plan c (inr (l, k)) = ap (λ (e : EngineValue). e.plan) l.2
+    end_refused : IsEngine now → (e : BuildError A) → (e.step ≡ c.step) × StopsSettling may t u c now new e.refusal → Goes {T = Unit {0}} ds (Err e) f.led.built.led.calls 0
+    end_refused valid e (step, inl (gone, k, stop)) =
+        let calls = f.led.built.led.calls in
+        let w = going_lost A J y may from s most first a b t u now new c ds quiet f gone k in (
+          on_by A J y may from s most first b u new ds calls (lost c.id ∷ []) 0 w refl,
+          record {
+            at = now;
+            led = led_kept A J y may from s most first a b t u now (c ∷ ds) k f;
+            rest = record { ids = c.id ∷ []; calls = w.are ∙ sym (append_assoc calls [] (lost c.id ∷ [])); leads = (new, gone, few_jobs A J y may from s most first b u new ds w.going, refl) };
+            planned = subst (λ n. n < length now.plan.steps) (sym step) (step_planned valid);
+            stops = subst (λ n. StopsStep y u now n e.refusal) (sym step) (end_stops k e.refusal stop);
+          },
+        )
+    end_refused valid e (step, inr (well, store)) =
+        let on = ended_well well in (
+          on,
+          record {
+            at = new;
+            led = on.going.led.built.led;
+            rest = loses_none;
+            planned = subst (λ n. n < length new.plan.steps) (sym step) (subst (λ (p : PlanValue). c.step < length p.steps) (sym (ap (λ (e : EngineValue). e.plan) well.finished.after)) (step_planned valid));
+            stops = store_stops y u new e.step e.refusal store;
+          },
+        )
 
-  ended_refused : IsEngine now → (y : Yields) (from : Starts) (s : Telling) (most : ℕ) (first : EngineValue) → IsGoing A y may from a s t most first now cs → IsGoing A y may from b s u most first new ds → (c : Child J) → cs ≡ c ∷ ds → Ends may t u c now new → (i : ℕ) (r : Refusal A) → i ≡ c.step → StopsSettling may t u c now r
-      → IsRefusedBuild A y u most first i r
-  ended_refused valid y from s most first g went c is end i r same (inl store) = record {
-    at = new;
-    led = went.led.built.led;
-    planned = subst (λ n. n < length new.plan.steps) (sym same) (subst (λ (p : PlanValue). c.step < length p.steps) (sym (ends_plan c end)) (step_planned y from s most first g c is valid));
-    stops = store_stops y u new i r store;
-  }
-  ended_refused valid y from s most first g went c is end i r same (inr (k, stop)) = record {
-    at = now;
-    led = led_kept A J y may from s most first a a t u now cs k g;
-    planned = subst (λ n. n < length now.plan.steps) (sym same) (step_planned y from s most first g c is valid);
-    stops = subst (λ n. StopsStep y u now n r) (sym same) (end_stops y from s most first g c is k r stop);
-  }
+  pub finish_goes : {T : Type 0} (r : Result T (BuildError A)) → IsEngine now → StartsNone a b → OnOk r (HasEndedFirst (EndedWell may t u) now new cs ds)
+      → IfErr r (λ e. HasEndedFirst (λ c old new. (e.step ≡ c.step) × StopsSettling may t u c old new e.refusal) now new cs ds) → Goes ds r g.led.built.led.calls 0
+  finish_goes {T} (Ok x) valid quiet well stop =
+      subst (λ xs. (f : IsGoing A y may from a s t most first now xs) → Goes {T = T} ds (Ok x) f.led.built.led.calls 0) (sym well.is) (λ f. (ended_well well.child quiet f well.end, tt)) g
+  finish_goes {T} (Err e) valid quiet well stop =
+      subst (λ xs. (f : IsGoing A y may from a s t most first now xs) → Goes {T = T} ds (Err e) f.led.built.led.calls 0) (sym stop.is) (λ f. end_refused stop.child quiet f valid e stop.end) g
 
-  first_refused : IsEngine now → (y : Yields) (from : Starts) → StartsNone a b → (s : Telling) (most : ℕ) (first : EngineValue) (e : BuildError A) → StopsFirst may t u cs now e.step e.refusal → HasEndedFirst (Ends may t u) now new cs ds → IsGoing A y may from a s t most first now cs → IsRefusedBuild A y u most first e.step e.refusal
-  first_refused valid y from quiet s most first e stops h g =
-      let stop : StopsFirst may t u (h.child ∷ ds) now e.step e.refusal = subst (λ xs. StopsFirst may t u xs now e.step e.refusal) h.is stops in
-      ended_refused valid y from s most first g (ended_goes A J y may from a b s t u most first now new cs ds g quiet h).going h.child h.is h.end e.step e.refusal stop.0 stop.1
+-- fewer children are left after a refusal than may run
+pub start_room : {J T E : Type 0} (r : Result T E) (now : EngineValue) (cs ds : List (Child J)) (turn : Turn) (i : ℕ) → turn ≡ turns.Start i → OnErr r (ds ≡ cs) → OnErr r ((most : ℕ) → IsTurn most now cs turn → length cs ≤ most → length ds < most)
+start_room (Ok x) now cs ds turn i is same = tt
+start_room (Err e) now cs ds turn i is same = λ most can few. subst (λ xs. length xs < most) (sym same) (subst (IsTurn most now cs) is can).0
 
-  pub finish_refused : {T N : Type 0} → IsEngine now → StartsNone a b → (ys : N → Yields) (fs : N → Starts) (z : Yields) (turn : Turn) (r : Result T (BuildError A)) → IfErr r (λ e. StopsFirst may t u cs now e.step e.refusal) → OnErr r (HasEndedFirst (Ends may t u) now new cs ds)
-      → IfErr r (λ e. (entry : N) (s : Telling) (most : ℕ) (first : EngineValue) → YieldsNoMore z (ys entry) → IsTurn most now cs turn → IsGoing A (ys entry) may (fs entry) a s t most first now cs → IsRefusedBuild A (ys entry) u most first e.step e.refusal)
-  finish_refused valid quiet ys fs z turn (Ok x) stops h = tt
-  finish_refused valid quiet ys fs z turn (Err e) stops h = λ entry s most first within can g. first_refused valid (ys entry) (fs entry) quiet s most first e stops h g
+pub finish_room : {J T E : Type 0} (r : Result T E) (ends : Child J → EngineValue → EngineValue → Type 0) (now new : EngineValue) (cs ds : List (Child J)) (turn : Turn) → OnErr r (HasEndedFirst ends now new cs ds)
+    → OnErr r ((most : ℕ) → IsTurn most now cs turn → length cs ≤ most → length ds < most)
+finish_room (Ok x) ends now new cs ds turn h = tt
+finish_room (Err e) ends now new cs ds turn h = λ most can few. let len = ap length h.is in omega (arith, few, len)
+
+-- a child's job ended so
+pub ended_of : {A J T : Type 0} (may : J → EndValue → Type 0) (t u : Telling) (now new : EngineValue) (cs ds : List (Child J)) (r : Result T (BuildError A)) → IfErr r (λ e. HasEndedFirst (λ c old new. (e.step ≡ c.step) × StopsSettling may t u c old new e.refusal) now new cs ds)
+    → OnErr r (HasEndedFirst (Ends may t u) now new cs ds)
+ended_of may t u now new cs ds (Ok x) stop = tt
+ended_of may t u now new cs ds (Err e) stop = record { child = stop.child; is = stop.is; end = by stop.end.1 }
+  where
+    by : StopsSettling may t u stop.child now new e.refusal → Ends may t u stop.child now new
+    by (inl (gone, k, why)) = inr (gone, k)
+    by (inr (well, store)) = inl well
 
 -- ---- a runner that yields more
 
@@ -155,8 +197,11 @@ module _ (A : Type 0) (z y : Yields) (t : Telling) (within : YieldsNoMore z y) w
   leads_within most [] old new same = same
   leads_within most (c ∷ cs) old new (mid, does, few, rest) = (mid, does_within cs c old mid does, few, leads_within most cs mid new rest)
 
-  pub led_within : {most : ℕ} {old new : EngineValue} → IsLed A z t most old new → IsLed A y t most old new
-  led_within {most} {old} {new} h = record { calls = h.calls; leads = leads_within most h.calls old new h.leads }
-
-  pub refused_within : {most i : ℕ} {old : EngineValue} {r : Refusal A} → IsRefusedBuild A z t most old i r → IsRefusedBuild A y t most old i r
-  refused_within {most} {i} {old} {r} h = record { at = h.at; led = led_within h.led; planned = h.planned; stops = stops_within z y t h.at i r within h.stops }
+  pub refused_within : {most i : ℕ} {calls : List Call} {old new : EngineValue} {r : Refusal A} → IsRefusedBuild A z t most calls old new i r → IsRefusedBuild A y t most calls old new i r
+  refused_within {most} {i} {calls} {old} {new} {r} h = record {
+    at = h.at;
+    led = record { calls = h.led.calls; leads = leads_within most h.led.calls old h.at h.led.leads };
+    rest = record { ids = h.rest.ids; calls = h.rest.calls; leads = leads_within most (map lost h.rest.ids) h.at new h.rest.leads };
+    planned = h.planned;
+    stops = stops_within z y t h.at i r within h.stops;
+  }

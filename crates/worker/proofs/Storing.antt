@@ -23,11 +23,12 @@ use Rattle.runs.specs.Results.{result_of}
 use Rattle.runs.specs.Served.{Keeps, HoldsTrees, IsKeptOf}
 use Rattle.runs.proofs.Places.{set_other}
 use Rattle.verifier.proofs.FreshRuns.{one_answer}
-use Rattle.worker.specs.Storing.{Stands, IsKeptBut, HasResultOf, IsResultOfStep, IsForForm, StoresStep, StoresSteps, IsHeldWhole}
+use Rattle.worker.specs.Storing.{HasAt, IsKeptBut, HasResultOf, IsResultOfStep, IsForForm, StoresStep, StoresSteps, IsHeldWhole}
 use Rattle.worker.specs.Calls.{IsResultFor}
-use Rattle.worker.specs.Stored.{IsKept, directories_of, IsToldOrTree, IsStored, HasTree, HasTrees}
+use Rattle.worker.specs.Outcomes.{directories_of, HasTree, HasTrees}
+use Rattle.worker.specs.Stored.{IsKept, IsToldOrTree, IsStored}
 use Rattle.worker.proofs.Keeping.{right_still, all_right_still, same_bytes, same_digest}
-use Rattle.worker.proofs.Telling.{recorded_still}
+use Rattle.worker.proofs.Telling.{recorded_still, trees_still}
 
 -- ---- one form
 
@@ -187,12 +188,6 @@ module _ {w : ℕ} {v : OutcomeValue} {old new : EngineValue} (h : IsFinished w 
 
 -- ---- what stays
 
-pub trees_still : (B C : Blobs) (es : List (List Name × OutputValue)) → KeepsRight B C → AllByRecursion (HasTree B) es → AllByRecursion (HasTree C) es
-trees_still B C [] keeps h = tt
-trees_still B C ((p, outputs.File d x) ∷ es) keeps h = (tt, trees_still B C es keeps h.1)
-trees_still B C ((p, outputs.Link t) ∷ es) keeps h = (tt, trees_still B C es keeps h.1)
-trees_still B C ((p, outputs.Tree t) ∷ es) keeps h = ((right_still keeps h.0.0, all_right_still B C (directories_of t) keeps h.0.1), trees_still B C es keeps h.1)
-
 -- one output more
 trees_more : (B : Blobs) (es : List (List Name × OutputValue)) (e : List Name × OutputValue) → AllByRecursion (HasTree B) es → HasTree B e → AllByRecursion (HasTree B) (es ++ e ∷ [])
 trees_more B [] e h one = (one, tt)
@@ -279,7 +274,7 @@ steps_ran {s} {t} {w} {v} {old} {new} {Is} h kept action trees put all i f at = 
         step : StoresStep s old f
         step = all i f before
 
-        next : (t.results f.action ≡ Some step.bytes) ⊎ ((f.action ≡ h.job.action) × Stands Is t.results h.job.action) → StoresStep t new f
+        next : (t.results f.action ≡ Some step.bytes) ⊎ ((f.action ≡ h.job.action) × HasAt Is t.results h.job.action) → StoresStep t new f
         next (inl there) = step_later {old = old} {new = new} (grows h) s t f kept.blobs step there
         next (inr (same, stands_there)) = record {
           action = right_still kept.blobs step.action;

@@ -1,57 +1,57 @@
 -- A turn that is taken goes on.
-use Rattle.std.proofs.Common.{◌≡◌, ℕ, ◌+◌, ◌-◌, true, List, ◌∷◌, length, Some, None, ap, sym, ◌∙◌, subst, arith, inl, inr}
+use Rattle.std.proofs.Common.{◌≡◌, ℕ, ◌+◌, ◌-◌, ◌<◌, ◌≤◌, List, [], ◌∷◌, ◌++◌, append_assoc, append-nil, length, map, Some, None, refl, ap, sym, ◌∙◌, subst, arith, inl, inr}
 use Rattle.std.specs.Prelude.{◌↔◌, Result, Ok, Err, IsErr, OnOk, OnErr}
+use Rattle.std.proofs.lemmas.List.{map-append}
 use Rattle.blob_source.specs.Source.{Telling}
 use Rattle.blob_source.specs.Sink.{HasRight, KeepsRight}
-use Rattle.runs.specs.Engine.{JobValue, EngineValue, IsEngine, job_in}
+use Rattle.runs.specs.Engine.{JobValue, EngineValue, job_in}
 use Rattle.runs.specs.Calls.{without_job}
 use Rattle.worker.specs.declared.child.Child.{Child}
-use Rattle.worker.specs.declared.turns.Turn.TheVariants as turns
 use Rattle.worker.specs.Values.{EndValue, Starts, StartsNone}
 use Rattle.worker.specs.Stored.{IsKept}
 use Rattle.worker.specs.Storing.{IsKeptBut, HasResultOf, IsResultOfStep, StoresSteps, IsHeldWhole}
-use Rattle.worker.specs.Outcomes.{Yields, YieldsNoMore}
-use Rattle.worker.specs.Calls.{Call, IsResultFor, PutsOf}
-use Rattle.worker.specs.Going.{IsJobOf, AreJobsOf, IsOwnJob, IsGoing, IsBegun, IsLaunched, IsTurn, CameToNothing, EndsWell, Ends, HasEndedFirst, HasResultOfFirst, GoesOnBy, taken_in}
+use Rattle.worker.specs.Outcomes.{Yields}
+use Rattle.worker.specs.Calls.{running, Call, lost, IsLost, Leads, IsResultFor, PutsOf}
+use Rattle.worker.specs.Stopped.{LosesRest}
+use Rattle.worker.specs.Going.{IsJobOf, AreJobsOf, IsOwnJob, IsGoing, IsBegun, IsLaunched, EndedWell, HasEndedFirst, HasResultOfFirst}
 use Rattle.verifier.proofs.FreshRuns.{one_answer}
 use Rattle.worker.proofs.Started.{after}
 use Rattle.worker.proofs.Keeping.{kept_none, kept_as, kept_then, right_still, all_right_still}
-use Rattle.worker.proofs.Storing.{result_for, trees_still, steps_kept, steps_taken, steps_ran}
-use Rattle.worker.proofs.Goes.{going_begun, going_refused, going_ended, lose_goes, puts_ended}
-
-module _ (A J : Type 0) (y : Yields) (may : J → EndValue → Type 0) (from a b : Starts) (s t u : Telling) (most : ℕ) (first now new : EngineValue) (cs ds : List (Child J)) (g : IsGoing A y may from a s t most first now cs) where
-  abbrev On : List (Child J) → ℕ → Type 0
-  On xs n = GoesOnBy A y may from b s u most first new xs g.led.built.led.calls n
-
-  pub start_goes : {T E : Type 0} (r : Result T E) (z : Yields) (i : ℕ) → YieldsNoMore z y → IsKept t u → OnErr r (StartsNone a b) → IsTurn most now cs (turns.Start i) → IsEngine now → OnOk r (IsBegun A z may a b t u i now new cs ds) → OnErr r (CameToNothing A u.blobs i now new) → OnErr r (ds ≡ cs)
-      → On ds (taken_in true i now new)
-  start_goes (Ok x) z i within k quiet turn valid begun refused same =
-      let count = valid.count in
-      let lt = turn.1 in
-      going_begun A J y may from s most first a b t u now new i cs k g turn.0 turn.2.waiting.unfinished z within ds (omega (arith, count, lt)) begun
-  start_goes (Err x) z i within k quiet turn valid begun refused same =
-      subst (λ xs. On xs (taken_in true i now new)) (sym same) (going_refused A J y may from s most first a b t u now new i cs k g turn.0 turn.2.waiting.unfinished quiet refused)
-
-  pub ended_goes : StartsNone a b → HasEndedFirst (Ends may t u) now new cs ds → On ds 0
-  ended_goes quiet h =
-      subst (λ xs. (f : IsGoing A y may from a s t most first now xs) → GoesOnBy A y may from b s u most first new ds f.led.built.led.calls 0) (sym h.is)
-      (λ f. going_ended A J y may from s most first a b t u now new h.child ds quiet f h.end) g
-
-  pub finish_goes : {T E : Type 0} (r : Result T E) → StartsNone a b → OnOk r (HasEndedFirst (EndsWell may t u) now new cs ds) → OnErr r (HasEndedFirst (Ends may t u) now new cs ds) → On ds 0
-  finish_goes (Ok x) quiet well ended = ended_goes quiet (record { child = well.child; is = well.is; end = inl well.end })
-  finish_goes (Err x) quiet well ended = ended_goes quiet ended
+use Rattle.worker.proofs.Storing.{result_for, steps_kept, steps_taken, steps_ran}
+use Rattle.worker.proofs.Telling.{trees_still}
+use Rattle.worker.proofs.Goes.{Ends, few_jobs, going_lost, lose_goes, puts_ended}
 
 ends_right : {J : Type 0} (may : J → EndValue → Type 0) (t u : Telling) (c : Child J) (now new : EngineValue) → Ends may t u c now new → KeepsRight t.blobs u.blobs
 ends_right may t u c now new (inl e) = e.kept.blobs
 ends_right may t u c now new (inr (l, k)) = k.blobs
 
-pub finish_right : {J T E : Type 0} (may : J → EndValue → Type 0) (t u : Telling) (now new : EngineValue) (cs ds : List (Child J)) (r : Result T E) → OnOk r (HasEndedFirst (EndsWell may t u) now new cs ds) → OnErr r (HasEndedFirst (Ends may t u) now new cs ds) → KeepsRight t.blobs u.blobs
+pub finish_right : {J T E : Type 0} (may : J → EndValue → Type 0) (t u : Telling) (now new : EngineValue) (cs ds : List (Child J)) (r : Result T E) → OnOk r (HasEndedFirst (EndedWell may t u) now new cs ds) → OnErr r (HasEndedFirst (Ends may t u) now new cs ds) → KeepsRight t.blobs u.blobs
 finish_right may t u now new cs ds (Ok x) well ended = well.end.kept.blobs
 finish_right may t u now new cs ds (Err x) well ended = ends_right may t u ended.child now new ended.end
 
-pub finish_puts : {J T E : Type 0} (may : J → EndValue → Type 0) (t u : Telling) (now new : EngineValue) (cs ds : List (Child J)) (r : Result T E) → OnOk r (HasEndedFirst (EndsWell may t u) now new cs ds) → OnErr r (HasEndedFirst (Ends may t u) now new cs ds) → (more : List Call) × PutsOf more t u
+pub finish_puts : {J T E : Type 0} (may : J → EndValue → Type 0) (t u : Telling) (now new : EngineValue) (cs ds : List (Child J)) (r : Result T E) → OnOk r (HasEndedFirst (EndedWell may t u) now new cs ds) → OnErr r (HasEndedFirst (Ends may t u) now new cs ds) → (more : List Call) × PutsOf more t u
 finish_puts may t u now new cs ds (Ok x) well ended = puts_ended may t u well.child now new (inl well.end)
 finish_puts may t u now new cs ds (Err x) well ended = puts_ended may t u ended.child now new ended.end
+
+-- ---- jobs that are lost
+
+loses_leads : (A : Type 0) (y : Yields) (t : Telling) (most : ℕ) (xs ys : List ℕ) (old mid new : EngineValue) → Leads A y t most (map lost xs) old mid → Leads A y t most (map lost ys) mid new → Leads A y t most (map lost (xs ++ ys)) old new
+loses_leads A y t most [] ys old mid new same rest = subst (λ e. Leads A y t most (map lost ys) e new) same rest
+loses_leads A y t most (x ∷ xs) ys old mid new (next, gone, few, more) rest = (next, gone, few, loses_leads A y t most xs ys next mid new more rest)
+
+module _ {A : Type 0} {y : Yields} {t : Telling} {most : ℕ} where
+  pub loses_then : {first mid all : List Call} {old now new : EngineValue} → LosesRest A y t most first mid old now → LosesRest A y t most mid all now new → LosesRest A y t most first all old new
+  loses_then {first} {mid} {all} {old} {now} {new} r q = record {
+    ids = r.ids ++ q.ids;
+    calls = q.calls ∙ ap (λ cs. cs ++ map lost q.ids) r.calls ∙ append_assoc first (map lost r.ids) (map lost q.ids) ∙ ap (λ cs. first ++ cs) (sym (map-append lost r.ids q.ids));
+    leads = loses_leads A y t most r.ids q.ids old now new r.leads q.leads;
+  }
+
+  pub loses_none : {calls : List Call} {e : EngineValue} → LosesRest A y t most calls calls e e
+  loses_none {calls} {e} = record { ids = []; calls = sym (append-nil calls); leads = refl }
+
+  loses_one : {first all : List Call} {old now new : EngineValue} (id : ℕ) → LosesRest A y t most first all old now → IsLost id now new → running new.jobs ≤ most → LosesRest A y t most first (all ++ lost id ∷ []) old new
+  loses_one {first} {all} {old} {now} {new} id r gone few = loses_then r (record { ids = id ∷ []; calls = refl; leads = (new, gone, few, refl) })
 
 -- a child is waited for and its job is lost
 module _ {J : Type 0} (now new : EngineValue) (c : Child J) (cs ds : List (Child J)) (is : cs ≡ c ∷ ds) (jobs : AreJobsOf IsJobOf now.jobs cs) where
@@ -62,17 +62,25 @@ module _ {J : Type 0} (now new : EngineValue) (c : Child J) (cs ds : List (Child
   lost_child r none gone = lose_goes r c.id now new jobs_now.0 none gone jobs_now.1
 
   pub lost_jobs : new ≡ without_job c.id now → AreJobsOf IsJobOf new.jobs ds
-  lost_jobs lost = subst (λ (e : EngineValue). AreJobsOf IsJobOf e.jobs ds) (sym lost) jobs_now.3
+  lost_jobs gone = subst (λ (e : EngineValue). AreJobsOf IsJobOf e.jobs ds) (sym gone) jobs_now.3
 
-  pub lost_goes : (A : Type 0) (y : Yields) (may : J → EndValue → Type 0) → new ≡ without_job c.id now → (from a b : Starts) → StartsNone a b → (s t : Telling) (most : ℕ) (first : EngineValue) → IsGoing A y may from a s t most first now cs → IsGoing A y may from b s t most first new ds
-  lost_goes A y may lost from a b quiet s t most first g = (going_ended A J y may from s most first a b t t now new c ds quiet (subst (IsGoing A y may from a s t most first now) is g) (inr ((jobs_now.0, jobs_now.1, lost), kept_none))).going
+  -- what was so far, with this job lost too
+  pub lost_goes : (A : Type 0) (y : Yields) (may : J → EndValue → Type 0) → new ≡ without_job c.id now → (from a b : Starts) → StartsNone a b → (s t : Telling) (most : ℕ) (first : EngineValue) (old : EngineValue) (calls : List Call)
+      → (g : IsGoing A y may from a s t most first now cs) → LosesRest A y t most calls g.led.built.led.calls old now → (h : IsGoing A y may from b s t most first new ds) × LosesRest A y t most calls h.led.built.led.calls old new
+  lost_goes A y may gone from a b quiet s t most first old calls g rest =
+      subst (λ xs. (f : IsGoing A y may from a s t most first now xs) → LosesRest A y t most calls f.led.built.led.calls old now → (h : IsGoing A y may from b s t most first new ds) × LosesRest A y t most calls h.led.built.led.calls old new) (sym is) by g rest
+    where
+      by : (f : IsGoing A y may from a s t most first now (c ∷ ds)) → LosesRest A y t most calls f.led.built.led.calls old now → (h : IsGoing A y may from b s t most first new ds) × LosesRest A y t most calls h.led.built.led.calls old new
+      by f r =
+          let w = going_lost A J y may from s most first a b t t now new c ds quiet f (jobs_now.0, jobs_now.1, gone) kept_none in
+          (w.going, subst (λ cs. LosesRest A y t most calls cs old new) (sym w.are) (loses_one c.id r (jobs_now.0, jobs_now.1, gone) (few_jobs A J y may from s most first b t new ds w.going)))
 
 pub lost_count : {J : Type 0} (c : Child J) (cs ds : List (Child J)) → cs ≡ c ∷ ds → (n old after : ℕ) → old ≡ n + length cs → after ≡ old - 1 → after ≡ n + length ds
 lost_count c cs ds is n old after all one = let len = ap length is in omega (arith, all, one, len)
 
 -- a result was put
-pub ends_put : {J : Type 0} (may : J → EndValue → Type 0) (s t u : Telling) (c : Child J) (old new : EngineValue) (j : JobValue) → job_in c.id old ≡ Some j → IsJobOf c j → IsKept s t → EndsWell may s t c old new → IsKeptBut c.action (IsResultOfStep new c.step) t u
-    → EndsWell may s u c old new
+pub ends_put : {J : Type 0} (may : J → EndValue → Type 0) (s t u : Telling) (c : Child J) (old new : EngineValue) (j : JobValue) → job_in c.id old ≡ Some j → IsJobOf c j → IsKept s t → EndedWell may s t c old new → IsKeptBut c.action (IsResultOfStep new c.step) t u
+    → EndedWell may s u c old new
 ends_put may s t u c old new j at of none e k =
     let same : e.finished.job ≡ j = one_answer (job_in c.id old) e.finished.job j e.finished.is at in
     let step : c.step ≡ e.finished.job.step = sym (ap (λ (i : JobValue). i.step) same ∙ of.step) in
@@ -85,13 +93,17 @@ ends_put may s t u c old new j at of none e k =
       kept = kept_then none (kept_as (result_for e.finished c.step step) k);
     }
 
+pub no_child : {X : Type 0} (xs : List X) (jobs : ℕ) → jobs ≡ 1 → length xs < jobs → xs ≡ []
+no_child [] jobs one few = refl
+no_child (x ∷ xs) jobs one few = absurd (omega (arith, one, few))
+
 pub on_ok : {T E : Type 0} {X : Type 0} (r : Result T E) → X → OnOk r X
 on_ok (Ok y) x = x
 on_ok (Err y) x = tt
 
-pub on_err : {T E : Type 0} {X : Type 0} (r : Result T E) → X → OnErr r X
-on_err (Ok y) x = tt
-on_err (Err y) x = x
+-- a job that runs is lost
+pub lost_job : {T E : Type 0} (mid : EngineValue) (id : ℕ) (old new : EngineValue) (j : JobValue) (r : Result T E) → mid ≡ old → IsErr r ↔ (job_in id mid ≡ None) → OnOk r (new ≡ without_job id mid) → job_in id old ≡ Some j → new ≡ without_job id old
+lost_job mid id old new j r same none gone at = lose_goes r id mid new j none gone (subst (λ (e : EngineValue). job_in id e ≡ Some j) (sym same) at) ∙ ap (without_job id) same
 
 -- ---- what the store has
 
@@ -113,7 +125,7 @@ module _ (A J : Type 0) (y : Yields) (may : J → EndValue → Type 0) (a b : St
   start_stored ys fs (Ok x) i k begun = λ entry s most first going. begun_stored i k begun
   start_stored ys fs (Err x) i k begun = tt
 
-  ended_stored : HasEndedFirst (EndsWell may t u) now new cs ds → HasResultOfFirst u new cs → (z : Yields) (from : Starts) (s : Telling) (most : ℕ) (first : EngineValue) → IsGoing A z may from a s t most first now cs → StoresSteps t now → StoresSteps u new
+  ended_stored : HasEndedFirst (EndedWell may t u) now new cs ds → HasResultOfFirst u new cs → (z : Yields) (from : Starts) (s : Telling) (most : ℕ) (first : EngineValue) → IsGoing A z may from a s t most first now cs → StoresSteps t now → StoresSteps u new
   ended_stored e put z from s most first going h =
       let jobs : AreJobsOf (IsOwnJob z may t.blobs now) now.jobs (e.child ∷ ds) = subst (AreJobsOf (IsOwnJob z may t.blobs now) now.jobs) e.is going.jobs in
       let f = e.end.finished in
@@ -125,7 +137,7 @@ module _ (A J : Type 0) (y : Yields) (may : J → EndValue → Type 0) (a b : St
       steps_ran f (subst (λ d. IsKeptBut d (IsResultFor e.end.produced.outcome) t u) (sym action) e.end.kept) held e.end.trees
       (subst (λ i. HasResultOf u new i f.job.action) (sym step) (subst (HasResultOf u new e.child.step) (sym action) result)) h
 
-  pub finish_stored : {T E N : Type 0} (ys : N → Yields) (fs : N → Starts) (r : Result T E) → OnOk r (HasEndedFirst (EndsWell may t u) now new cs ds) → OnOk r (HasResultOfFirst u new cs)
+  pub finish_stored : {T E N : Type 0} (ys : N → Yields) (fs : N → Starts) (r : Result T E) → OnOk r (HasEndedFirst (EndedWell may t u) now new cs ds) → OnOk r (HasResultOfFirst u new cs)
       → OnOk r ((entry : N) (s : Telling) (most : ℕ) (first : EngineValue) → IsGoing A (ys entry) may (fs entry) a s t most first now cs → StoresSteps t now → StoresSteps u new)
   finish_stored ys fs (Ok x) ended put = λ entry. ended_stored ended put (ys entry) (fs entry)
   finish_stored ys fs (Err x) ended put = tt

@@ -8,6 +8,8 @@ use Rattle.blob_source.specs.Sink.{KeepsRight}
 use Rattle.blob_source.specs.Told.{IsTold}
 use Rattle.action_messages.specs.ActionResult.{ActionResultValue}
 use Rattle.action_messages.specs.Outputs.{RecordedValue, file, directory, link}
+use Rattle.std.specs.List.{AllByRecursion}
+use Rattle.actions.specs.declared.outcome.Output.TheVariants as outputs
 use Rattle.actions.specs.Outcome.{OutputValue, OutcomeValue}
 use Rattle.actions.specs.Recorded.{StandsFor, StandForAll, IsRecorded}
 use Rattle.tree.specs.Tree.{Name, Tree, empty, leaf, folder, nothing, a_leaf, a_directory}
@@ -17,7 +19,7 @@ use Rattle.tree.specs.Unfolded.{TellsBelow, IsUnfolded}
 use Rattle.runs.specs.Engine.{JobValue, EngineValue}
 use Rattle.worker.specs.Values.{LayoutValue, EndValue, made}
 use Rattle.worker.specs.Stored.{IsKept}
-use Rattle.worker.specs.Outcomes.{Yields, YieldsNoMore, MayComeTo, IsYielded, IsHeld}
+use Rattle.worker.specs.Outcomes.{Yields, YieldsNoMore, MayComeTo, directories_of, HasTree, IsYielded, IsHeld}
 use Rattle.worker.specs.Going.{IsOwed}
 use Rattle.worker.proofs.Keeping.{right_still, all_right_still}
 use Rattle.worker.specs.Layout.{AreFiles, IsLayoutOf}
@@ -87,6 +89,12 @@ held_kept {t} {u} {d} {v} k h = record {
   recorded = recorded_still k.blobs h.result v h.recorded;
 }
 
+pub trees_still : (B C : Blobs) (es : List (List Name × OutputValue)) → KeepsRight B C → AllByRecursion (HasTree B) es → AllByRecursion (HasTree C) es
+trees_still B C [] keeps h = tt
+trees_still B C ((p, outputs.File d x) ∷ es) keeps h = (tt, trees_still B C es keeps h.1)
+trees_still B C ((p, outputs.Link t) ∷ es) keeps h = (tt, trees_still B C es keeps h.1)
+trees_still B C ((p, outputs.Tree t) ∷ es) keeps h = ((right_still keeps h.0.0, all_right_still B C (directories_of t) keeps h.0.1), trees_still B C es keeps h.1)
+
 -- ---- how a child may end
 
 -- a runner that yields more, a store that keeps right bytes, and an engine with the same commands
@@ -102,11 +110,12 @@ module _ {y z : Yields} {B C : Blobs} (old new : EngineValue) (within : YieldsNo
   }
 
   pub yielded_still : {v : OutcomeValue} → IsYielded y B old j v → IsYielded z C new j v
-  yielded_still h = record {
+  yielded_still {v} h = record {
     produced = h.produced;
     outcome = h.outcome;
     may = end_still (made h.produced) h.may;
     blobs = all_right_still B C h.produced.blobs keeps h.blobs;
+    trees = trees_still B C v.outputs keeps h.trees;
   }
 
   pub owed_still : {may : EndValue → Type 0} → IsOwed y may B old j → IsOwed z may C new j

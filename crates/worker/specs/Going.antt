@@ -9,7 +9,7 @@ use Rattle.actions.specs.Outcome.{OutcomeValue}
 use Rattle.blob_source.specs.Source.{Blobs, Telling}
 use Rattle.blob_source.specs.Sink.{HasRight}
 use Rattle.runs.specs.Engine.{FinishedValue, JobValue, EngineValue, at_number, finished_in, job_in}
-use Rattle.runs.specs.Calls.{IsFinished, without_job, jobs_of}
+use Rattle.runs.specs.Calls.{IsFinished, jobs_of}
 use Rattle.runs.specs.declared.starting.Job.{Job}
 use Rattle.worker.specs.declared.child.Child.{Child}
 use Rattle.worker.specs.declared.turns.Turn.{Turn}
@@ -18,9 +18,9 @@ use Rattle.worker.specs.Layout.{IsLayoutOf}
 use Rattle.worker.specs.Values.{LayoutValue, ProducedValue, EndValue, made, Starts, StartsOne}
 use Rattle.worker.specs.Values.{StartsNone}
 use Rattle.worker.specs.Storing.{IsKeptBut, HasResultOf, IsHeldWhole}
-use Rattle.worker.specs.Outcomes.{Yields, HasAllRight, IsHeld, CanBeTaken}
-use Rattle.worker.specs.Stored.{IsKept, HasTrees}
-use Rattle.worker.specs.Calls.{running, Call, WasStarted, IsLost, IsBuiltWith, IsResultFor}
+use Rattle.worker.specs.Outcomes.{Yields, HasAllRight, HasTrees, IsHeld, CanBeTaken}
+use Rattle.worker.specs.Stored.{IsKept}
+use Rattle.worker.specs.Calls.{running, Call, WasStarted, IsBuiltWith, IsResultFor}
 use Rattle.worker.specs.Calls.{IsStartable}
 use Rattle.worker.specs.Watching.{taken_count, jobs_after}
 
@@ -112,14 +112,9 @@ pub record IsBegun (A : Type 0) {J : Type 0} (yields : Yields) (may : J → EndV
   pub is : job_in id mid ≡ Some job
   pub goes : IsLaunched yields may from to s t id job mid new before after
 
--- A step was refused: it wasn't started, or its job was lost.
-abbrev pub CameToNothing : (A : Type 0) → Blobs → ℕ → EngineValue → EngineValue → Type 0
-CameToNothing A B i old new = (new ≡ old)
-    ⊎ ((id : ℕ) × (mid : EngineValue) × WasStarted A B i id old mid × (new ≡ without_job id mid))
-
 -- A child's job finished with what the child came to, whose blobs and Trees are in the store, where
 -- a result may have been put.
-pub record EndsWell {J : Type 0} (may : J → EndValue → Type 0) (s t : Telling) (c : Child J)
+pub record EndedWell {J : Type 0} (may : J → EndValue → Type 0) (s t : Telling) (c : Child J)
     (old new : EngineValue) : Type 0 where
   pub produced : ProducedValue
   pub came : may c.job (made produced)
@@ -127,11 +122,6 @@ pub record EndsWell {J : Type 0} (may : J → EndValue → Type 0) (s t : Tellin
   pub blobs : HasAllRight t.blobs produced.blobs
   pub trees : HasTrees t.blobs produced.outcome
   pub kept : IsKeptBut c.action (IsResultFor produced.outcome) s t
-
--- A child's job ended, well or lost.
-abbrev pub Ends : {J : Type 0} → (J → EndValue → Type 0) → Telling → Telling → Child J
-    → EngineValue → EngineValue → Type 0
-Ends may s t c old new = EndsWell may s t c old new ⊎ (IsLost c.id old new × IsKept s t)
 
 -- The first child was waited for, and its job ended so.
 pub record HasEndedFirst {J : Type 0} (ends : Child J → EngineValue → EngineValue → Type 0)

@@ -1,14 +1,18 @@
 -- Where what a job comes to is from.
-use Rattle.std.specs.Prelude.{◌≡◌, ℕ, pos, List, Some, slice_get, Contains}
+use Rattle.std.specs.Prelude.{◌≡◌, ℕ, pos, List, ◌∷◌, map, Some, slice_get, Contains}
 use Rattle.std.specs.List.{AllByRecursion}
 use Rattle.blob_digest.specs.Digest.{DigestValue, digest_of}
+use Rattle.messages.specs.Directory.{directory_bytes}
+use Rattle.messages.specs.Tree.{TreeValue, tree_bytes}
 use Rattle.action_messages.specs.ActionResult.{ActionResultValue}
 use Rattle.action_messages.specs.Command.{CommandValue}
 use Rattle.action_messages.specs.Reads.{Reads}
-use Rattle.actions.specs.Outcome.{OutcomeValue, output_paths}
+use Rattle.actions.specs.declared.outcome.Output.TheVariants as outputs
+use Rattle.actions.specs.Outcome.{OutputValue, OutcomeValue, output_paths}
 use Rattle.actions.specs.Recorded.{IsRecorded}
 use Rattle.blob_source.specs.Source.{Blobs, Telling}
 use Rattle.blob_source.specs.Sink.{HasRight}
+use Rattle.tree.specs.Tree.{Name}
 use Rattle.runs.specs.Engine.{JobValue, EngineValue}
 use Rattle.worker.specs.Values.{LayoutValue, ProducedValue, EndValue, made}
 use Rattle.worker.specs.Layout.{IsLayoutOf}
@@ -37,14 +41,29 @@ pub record MayComeTo (yields : Yields) (B : Blobs) (e : EngineValue) (j : JobVal
 abbrev pub HasAllRight : Blobs → List (List ℕ) → Type 0
 HasAllRight B = AllByRecursion (λ b. HasRight B (digest_of b))
 
--- A job came to an outcome to which its child may come, and the blobs that the child made are in
--- the store.
+-- the encodings of the Directories of a Tree
+abbrev pub directories_of : TreeValue → List (List ℕ)
+directories_of t = map directory_bytes (t.root ∷ t.children)
+
+-- bytes with the digest of a Tree stand under it, and with those of its Directories
+abbrev pub HasTree : Blobs → List Name × OutputValue → Type 0
+HasTree B (p, outputs.File d executable) = Unit {0}
+HasTree B (p, outputs.Link target) = Unit {0}
+HasTree B (p, outputs.Tree t) =
+    HasRight B (digest_of (tree_bytes t)) × HasAllRight B (directories_of t)
+
+abbrev pub HasTrees : Blobs → OutcomeValue → Type 0
+HasTrees B o = AllByRecursion (HasTree B) o.outputs
+
+-- A job came to an outcome to which its child may come. The blobs that the child made are in the
+-- store, and the Trees of the outcome with their Directories.
 pub record IsYielded (yields : Yields) (B : Blobs) (e : EngineValue) (j : JobValue)
     (v : OutcomeValue) : Type 0 where
   pub produced : ProducedValue
   pub outcome : v ≡ produced.outcome
   pub may : MayComeTo yields B e j (made produced)
   pub blobs : HasAllRight B produced.blobs
+  pub trees : HasTrees B v
 
 -- an outcome that a build takes: its exit code is 0, and the command lists each output
 abbrev pub CanBeTaken : CommandValue → OutcomeValue → Type 0

@@ -2,13 +2,12 @@
 use Rattle.std.specs.Prelude.{◌≡◌, ◌⊎◌, Bool, List, [], Contains}
 use Rattle.blob_digest.specs.Digest.{DigestValue}
 use Rattle.messages.specs.declared.node.Node.TheVariants as nodes
-use Rattle.blob_source.specs.Source.{Blobs, IsMissing, IsWrong}
-use Rattle.blob_source.specs.Told.{Fault, missing, wrong, malformed}
+use Rattle.blob_source.specs.Source.{Blobs}
 use Rattle.blob_source.specs.declared.source.FetchError.{FetchError}
 use Rattle.blob_source.specs.declared.source.FetchError.TheVariants as fetching
 use Rattle.tree.specs.Tree.{Name, a_leaf}
 use Rattle.tree.specs.FlatTree.{FlatValue}
-use Rattle.tree.specs.TreeError.{Explains}
+use Rattle.tree.specs.TreeError.{Explains, FailsBlob}
 use Rattle.tree.specs.Unfolded.{IsUnfolded, ExplainsUnfold}
 use Rattle.worker.specs.declared.error.Refusal.{Refusal}
 use Rattle.worker.specs.declared.error.Refusal.TheVariants as refusals
@@ -21,12 +20,6 @@ of_fetch fetching.Failed = refusals.Fetch
 of_fetch fetching.Memory = refusals.Memory
 
 -- ---- why nothing is laid out
-
--- why a blob isn't told under a digest
-abbrev pub FailsBlob : Blobs → DigestValue → Fault → Type 0
-FailsBlob B d (missing e) = (e ≡ d) × IsMissing B d
-FailsBlob B d (wrong e) = (e ≡ d) × IsWrong B d
-FailsBlob B d (malformed e) = ⊥
 
 -- Why entries aren't laid out: the content of a file among them isn't fetched, or a link is among
 -- them.

@@ -1,5 +1,5 @@
 -- Why a build ends at a step.
-use Rattle.std.specs.Prelude.{◌≡◌, ◌⊎◌, ◌<◌, ℕ, length, Some, slice_get}
+use Rattle.std.specs.Prelude.{◌≡◌, ◌⊎◌, ◌<◌, ◌++◌, ℕ, List, length, map, Some, slice_get}
 use Rattle.action_messages.specs.Command.{CommandValue}
 use Rattle.actions.specs.Outcome.{OutcomeValue}
 use Rattle.blob_source.specs.Source.{Telling}
@@ -8,7 +8,7 @@ use Rattle.runs.specs.Calls.{IsFinishFault, IsStartFault}
 use Rattle.worker.specs.declared.error.Refusal.{Refusal}
 use Rattle.worker.specs.declared.error.Refusal.TheVariants as refusals
 use Rattle.worker.specs.declared.runner.RunError.TheVariants as children
-use Rattle.worker.specs.Calls.{IsLed, IsStartable}
+use Rattle.worker.specs.Calls.{Call, lost, Leads, IsLed, IsStartable}
 use Rattle.worker.specs.Outcomes.{Yields, MayComeTo, IsYielded, CanBeTakenFor}
 use Rattle.worker.specs.Refusals.{IsLayoutFault}
 use Rattle.worker.specs.Values.{IsAbsolute, bad_at}
@@ -41,11 +41,20 @@ StopsStep yields t e i (refusals.Run children.Memory) = Unit {0}
 StopsStep yields t e i refusals.Fetch = Unit {0}
 StopsStep yields t e i refusals.Memory = Unit {0}
 
--- Calls led to an engine of which a step of its plan is refused.
+-- after the first calls of all, jobs alone were lost
+pub record LosesRest (A : Type 0) (yields : Yields) (t : Telling) (most : ℕ)
+    (first all : List Call) (old new : EngineValue) : Type 0 where
+  pub ids : List ℕ
+  pub calls : all ≡ first ++ map lost ids
+  pub leads : Leads A yields t most (map lost ids) old new
+
+-- The first of the calls led to an engine of which a step of its plan is refused, and after them
+-- jobs alone were lost.
 pub record IsRefusedBuild (A : Type 0) (yields : Yields) (t : Telling) (most : ℕ)
-    (old : EngineValue) (i : ℕ) (r : Refusal A) : Type 0 where
+    (calls : List Call) (old new : EngineValue) (i : ℕ) (r : Refusal A) : Type 0 where
   pub at : EngineValue
   pub led : IsLed A yields t most old at
+  pub rest : LosesRest A yields t most led.calls calls at new
   pub planned : i < length at.plan.steps
   pub stops : StopsStep yields t at i r
 

@@ -1,20 +1,21 @@
 -- Why a turn of a build is refused: words of private functions.
-use Rattle.std.specs.Prelude.{◌≡◌, ◌⊎◌, ℕ, List, [], ◌∷◌}
+use Rattle.std.specs.Prelude.{◌≡◌, ◌⊎◌, ℕ}
 use Rattle.blob_digest.specs.Digest.{DigestValue}
 use Rattle.action_messages.specs.Command.{CommandValue}
 use Rattle.blob_source.specs.Source.{Blobs, Telling}
 use Rattle.runs.specs.Engine.{EngineValue}
-use Rattle.runs.specs.Calls.{IsFinishFault}
-use Rattle.tree.specs.TreeError.{Explains}
+use Rattle.runs.specs.Calls.{IsFinishFault, without_job}
+use Rattle.tree.specs.TreeError.{Explains, FailsBlob}
 use Rattle.worker.specs.declared.error.Refusal.{Refusal}
 use Rattle.worker.specs.declared.error.Refusal.TheVariants as refusals
 use Rattle.worker.specs.declared.laid.LayoutError.{LayoutError}
 use Rattle.worker.specs.declared.laid.LayoutError.TheVariants as laying
 use Rattle.worker.specs.declared.runner.RunError.TheVariants as children
 use Rattle.worker.specs.declared.child.Child.{Child}
-use Rattle.worker.specs.Calls.{WasStarted}
-use Rattle.worker.specs.Outcomes.{Yields, HasAllRight}
-use Rattle.worker.specs.Refusals.{FailsBlob, IsLayoutFault}
+use Rattle.worker.specs.Calls.{IsLost, WasStarted}
+use Rattle.worker.specs.Going.{EndedWell}
+use Rattle.worker.specs.Outcomes.{Yields, HasAllRight, HasTrees}
+use Rattle.worker.specs.Refusals.{IsLayoutFault}
 use Rattle.worker.specs.Stopped.{StopsStep, IsStoreFault}
 use Rattle.worker.specs.Stored.{IsKept}
 use Rattle.worker.specs.Values.{ProducedValue, EndValue, made, bad_at, IsAbsolute}
@@ -46,21 +47,20 @@ StopsCollecting may r = Unit {0}
 abbrev pub StopsEnd : {A J : Type 0} → (J → EndValue → Type 0) → Blobs → Child J → EngineValue
     → Refusal A → Type 0
 StopsEnd may B c e (refusals.Engine why) = (p : ProducedValue) × may c.job (made p)
-    × HasAllRight B p.blobs × IsFinishFault e c.id p.outcome why
+    × HasAllRight B p.blobs × HasTrees B p.outcome × IsFinishFault e c.id p.outcome why
 StopsEnd may B c e r = StopsCollecting (may c.job) r
 
--- the store failed or memory ran out; or the first child's job didn't finish, and no result was put
+-- A child's job didn't finish, and no result was put; or it did, and then its result wasn't put, as
+-- the store failed or memory ran out.
 abbrev pub StopsSettling : {A J : Type 0} → (J → EndValue → Type 0) → Telling → Telling
-    → Child J → EngineValue → Refusal A → Type 0
-StopsSettling may s t c e r = IsStoreFault r ⊎ (IsKept s t × StopsEnd may t.blobs c e r)
+    → Child J → EngineValue → EngineValue → Refusal A → Type 0
+StopsSettling may s t c old new r =
+    (IsLost c.id old new × IsKept s t × StopsEnd may t.blobs c old r)
+    ⊎ (EndedWell may s t c old new × IsStoreFault r)
 
-abbrev pub StopsFirst : {A J : Type 0} → (J → EndValue → Type 0) → Telling → Telling
-    → List (Child J) → EngineValue → ℕ → Refusal A → Type 0
-StopsFirst may s t [] e i r = ⊥
-StopsFirst may s t (c ∷ cs) e i r = (i ≡ c.step) × StopsSettling may s t c e r
-
--- a step is refused as it is started, or as its job goes on
-abbrev pub StopsBeginning : {A : Type 0} → Yields → Telling → EngineValue → ℕ → Refusal A → Type 0
-StopsBeginning {A} yields t e i r = StopsStep yields t e i r
-    ⊎ ((id : ℕ) × (mid : EngineValue) × WasStarted A t.blobs i id e mid
-    × StopsStep yields t mid i r)
+-- A step is refused as it is started; or as its job goes on, which is lost then.
+abbrev pub StopsBeginning : (A : Type 0) → Yields → Telling → ℕ → EngineValue → EngineValue
+    → Refusal A → Type 0
+StopsBeginning A yields t i old new r = ((new ≡ old) × StopsStep yields t old i r)
+    ⊎ ((id : ℕ) × (mid : EngineValue) × WasStarted A t.blobs i id old mid
+    × (new ≡ without_job id mid) × StopsStep yields t mid i r)

@@ -1,17 +1,15 @@
 -- What a store has of the steps that a build has finished.
-use Rattle.std.specs.Prelude.{◌≡◌, ◌⊎◌, ℕ, List, ◌∷◌, map, Some, None, Contains}
-use Rattle.std.specs.List.{AllByRecursion}
-use Rattle.blob_digest.specs.Digest.{DigestValue, digest_of, NoClash}
-use Rattle.messages.specs.Directory.{directory_bytes}
+use Rattle.std.specs.Prelude.{◌≡◌, ◌⊎◌, ℕ, List, Some, None, Contains}
+use Rattle.blob_digest.specs.Digest.{DigestValue, NoClash}
 use Rattle.messages.specs.Tree.{TreeValue, tree_bytes}
 use Rattle.actions.specs.declared.outcome.Output.TheVariants as outputs
-use Rattle.actions.specs.Outcome.{OutputValue, OutcomeValue}
+use Rattle.actions.specs.Outcome.{OutcomeValue}
 use Rattle.blob_source.specs.Source.{Blobs, Telling, Grows}
 use Rattle.blob_source.specs.Sink.{HasRight, KeepsRight}
 use Rattle.tree.specs.Tree.{Name}
 use Rattle.runs.specs.Engine.{FinishedValue, EngineValue, finished_in}
 use Rattle.runs.specs.Served.{Keeps}
-use Rattle.worker.specs.Outcomes.{HasAllRight}
+use Rattle.worker.specs.Outcomes.{HasTrees}
 
 -- the encoding of a Tree among the outputs of an outcome
 abbrev pub IsTreeOf : OutcomeValue → List ℕ → Type 0
@@ -22,20 +20,6 @@ IsTreeOf o b =
 abbrev pub IsToldOrTree : Blobs → EngineValue → List ℕ → Type 0
 IsToldOrTree B e b = ((d : DigestValue) × (B d ≡ Some b))
     ⊎ ((i : ℕ) × (f : FinishedValue) × (finished_in i e ≡ Some f) × IsTreeOf f.outcome b)
-
--- the encodings of the Directories of a Tree
-abbrev pub directories_of : TreeValue → List (List ℕ)
-directories_of t = map directory_bytes (t.root ∷ t.children)
-
--- bytes with the digest of a Tree stand under it, and with those of its Directories
-abbrev pub HasTree : Blobs → List Name × OutputValue → Type 0
-HasTree B (p, outputs.File d executable) = Unit {0}
-HasTree B (p, outputs.Link target) = Unit {0}
-HasTree B (p, outputs.Tree t) =
-    HasRight B (digest_of (tree_bytes t)) × HasAllRight B (directories_of t)
-
-abbrev pub HasTrees : Blobs → OutcomeValue → Type 0
-HasTrees B o = AllByRecursion (HasTree B) o.outputs
 
 -- A store has what an engine has finished. Bytes with the digest of each step's action stand under
 -- it, and with those of its Trees and of their Directories. Under the action stands a result too,

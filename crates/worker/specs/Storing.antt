@@ -1,37 +1,47 @@
 -- What a store has while a build goes on: words of private functions.
-use Rattle.std.specs.Prelude.{◌≡◌, ◌⊎◌, ℕ, List, [], ◌∷◌, ◌++◌, Some, None}
-use Rattle.blob_digest.specs.Digest.{DigestValue}
+use Rattle.std.specs.Prelude.{◌≡◌, ◌⊎◌, ℕ, List, [], ◌∷◌, ◌++◌, true, Some, None}
+use Rattle.std.specs.BTreeSet.{BTreeSet, contains}
+use Rattle.blob_digest.specs.Digest.{DigestValue, digest_cmp}
 use Rattle.action_messages.specs.ActionResult.{ActionResultValue}
 use Rattle.action_messages.specs.Reads.{Reads}
 use Rattle.actions.specs.Outcome.{OutcomeValue}
 use Rattle.actions.specs.Recorded.{IsRecorded}
 use Rattle.blob_source.specs.Source.{Blobs, Telling, IsBlobUnder}
 use Rattle.blob_source.specs.Sink.{HasRight, KeepsRight}
-use Rattle.tree.specs.Memo.{Known, blob, result}
+use Rattle.tree.specs.Memo.{Known, blob, result, known_by}
 use Rattle.runs.specs.Calls.{HaveOneForm}
 use Rattle.runs.specs.Engine.{FinishedValue, EngineValue, finished_in}
 use Rattle.runs.specs.Results.{result_of}
 use Rattle.runs.specs.Served.{IsKeptOf}
-use Rattle.worker.specs.Outcomes.{IsHeld}
-use Rattle.worker.specs.Stored.{HasTrees}
+use Rattle.worker.specs.declared.remembering.Remembered.{Remembered}
+use Rattle.worker.specs.Outcomes.{HasTrees, IsHeld}
 
 -- bytes of which this is so stand under a digest
-abbrev pub Stands : (List ℕ → Type 0) → Blobs → DigestValue → Type 0
-Stands Is C d = (b : List ℕ) × (C d ≡ Some b) × Is b
+abbrev pub HasAt : (List ℕ → Type 0) → Blobs → DigestValue → Type 0
+HasAt Is C d = (b : List ℕ) × (C d ≡ Some b) × Is b
 
 -- calls that put bytes of which this is so under one digest, or put none: all others stay
 pub record IsKeptBut (d : DigestValue) (Is : List ℕ → Type 0) (old new : Telling) : Type 0 where
   pub blobs : KeepsRight old.blobs new.blobs
   pub results : (e : DigestValue) (b : List ℕ) → old.results e ≡ Some b
-      → (new.results e ≡ Some b) ⊎ ((e ≡ d) × Stands Is new.results d)
+      → (new.results e ≡ Some b) ⊎ ((e ≡ d) × HasAt Is new.results d)
   pub puts : (new.puts ≡ old.puts)
-      ⊎ ((new.puts ≡ old.puts ++ d ∷ []) × Stands Is new.results d)
+      ⊎ ((new.puts ≡ old.puts ++ d ∷ []) × HasAt Is new.results d)
 
 -- Blobs alone are known, and each is one that is told. Right bytes stay told when others are put,
 -- and so what is known stays so; a result may give way to another.
 pub record KnowsBlobs (known : Known) (B : Blobs) : Type 0 where
   pub blobs : (d : DigestValue) (b : List ℕ) → known (blob d) ≡ Some b → IsBlobUnder B d b
   pub results : (d : DigestValue) → known (result d) ≡ None
+
+-- each blob that was put stands there
+abbrev pub WerePut : BTreeSet DigestValue → Blobs → Type 0
+WerePut put B = (d : DigestValue) → contains digest_cmp put d ≡ true → HasRight B d
+
+-- what is remembered is so
+pub record Remembers {A : Type 0} (r : Remembered A) (B : Blobs) : Type 0 where
+  pub memo : KnowsBlobs (known_by r.memo) B
+  pub put : WerePut r.put B
 
 -- under a digest stands a result of a step that has finished
 pub record HasResultOf (t : Telling) (e : EngineValue) (i : ℕ) (d : DigestValue) : Type 0 where

@@ -1,14 +1,13 @@
 ghost use Rattle.std.specs.Prelude.{◌≡◌, ◌+◌, ◌-◌, ◌<◌, Some, IfErr, IfOk, OnOk, OnErr, length};
 ghost use Rattle.worker.specs.Layout.{IsLayoutOf};
-ghost use Rattle.tree.specs.Memo.{known_by};
 ghost use Rattle.std.specs.Result.{IsErrAnd};
 ghost use Rattle.worker.specs.Counted.{Counts, IsDevice, IsFetch};
 ghost use Rattle.worker.specs.Stored.{IsKept};
-ghost use Rattle.worker.specs.Storing.{KnowsBlobs};
+ghost use Rattle.worker.specs.Storing.{Remembers, WerePut};
 ghost use Rattle.worker.specs.Calls.{IsStartable};
 ghost use Rattle.worker.specs.Outcomes.{YieldsNoMore};
 ghost use Rattle.worker.specs.Values.{LayoutValue, EndValue, StartsNone, StartsOne};
-ghost use Rattle.worker.specs.Going.{IsJobIn, job_value, IsBegun, CameToNothing, IsLaunched};
+ghost use Rattle.worker.specs.Going.{IsJobIn, job_value, IsBegun, IsLaunched};
 ghost use Rattle.worker.specs.Stopping.{StopsChild, StopsBeginning};
 ghost use Rattle.worker.specs.Stopped.{StopsStep};
 
@@ -17,11 +16,13 @@ use crate::error::{BuildError, Refusal};
 use crate::laying_out::layout;
 use crate::putting::{put_input, put_trees};
 use crate::recorded::recorded_outcome;
+use crate::remembering::Remembered;
 use crate::runner::Runner;
+use blob_digest::Digest;
 use runs::{Engine, Job};
 use std::alloc::Allocator;
-use std::collections::VecDeque;
-use tree::{BlobSink, Memo};
+use std::collections::{BTreeSet, VecDeque};
+use tree::BlobSink;
 
 /// Lays out the input of a job and starts its child.
 fn start_child<A: Allocator + Copy, S: BlobSink<A>, N: Runner<A>>(
@@ -58,10 +59,13 @@ fn launch<A: Allocator + Copy, S: BlobSink<A>, N: Runner<A>>(
     engine: &mut Engine<A>,
     sink: &mut S,
     runner: &mut N,
+    put: &mut BTreeSet<Digest, A>,
     children: &mut VecDeque<Child<N::Job>, A>,
     job: &Job<A>,
 ) -> Result<(), Refusal<A>>
-    requires { IsJobIn engine.old job.now }
+    requires job { IsJobIn engine.old job.now }
+    requires put { WerePut put.old (S.tells sink.old).blobs }
+    ensures put { WerePut put.new (S.tells sink.new).blobs }
     ensures kept { IsKept (S.tells sink.old) (S.tells sink.new) }
     ensures launched { OnOk result (IsLaunched (N.yields runner.old) N.may_give
         (N.starts runner.old) (N.starts runner.new) (S.tells sink.old) (S.tells sink.new)
@@ -80,7 +84,7 @@ fn launch<A: Allocator + Copy, S: BlobSink<A>, N: Runner<A>>(
     ensures device { Counts (N.failures runner.old) (N.failures runner.new)
         (IsErrAnd result IsDevice) }
 {
-    put_input(alloc, sink, job)?;
+    put_input(alloc, sink, put, job)?;
     if let Some(outcome) = recorded_outcome(alloc, sink, job)? {
         put_trees(alloc, sink, &outcome)?;
         engine.finish(alloc, job.id, outcome)?;
@@ -103,23 +107,21 @@ pub(crate) fn begin<A: Allocator + Copy, S: BlobSink<A>, N: Runner<A>>(
     engine: &mut Engine<A>,
     sink: &mut S,
     runner: &mut N,
-    memo: &mut Memo<A>,
+    remembered: &mut Remembered<A>,
     children: &mut VecDeque<Child<N::Job>, A>,
     step: usize,
 ) -> Result<(), BuildError<A>>
     requires within { step < length engine.old.plan.steps }
     requires startable { IsStartable engine.old step }
-    requires knows { KnowsBlobs (known_by memo.old) (S.tells sink.old).blobs }
-    ensures knows { KnowsBlobs (known_by memo.new) (S.tells sink.new).blobs }
+    requires knows { Remembers remembered.old (S.tells sink.old).blobs }
+    ensures knows { Remembers remembered.new (S.tells sink.new).blobs }
     ensures kept { IsKept (S.tells sink.old) (S.tells sink.new) }
     ensures begun { OnOk result (IsBegun A (N.yields runner.old) N.may_give
         (N.starts runner.old) (N.starts runner.new) (S.tells sink.old) (S.tells sink.new) step
         engine.old engine.new children.old.items children.new.items) }
     ensures unlisted { OnErr result (StartsNone (N.starts runner.old) (N.starts runner.new)) }
-    ensures refused { OnErr result
-        (CameToNothing A (S.tells sink.new).blobs step engine.old engine.new) }
-    ensures stopped { IfErr result (λ e. (e.step ≡ step) × StopsBeginning (N.yields runner.old)
-        (S.tells sink.new) engine.old step e.refusal) }
+    ensures stopped { IfErr result (λ e. (e.step ≡ step) × StopsBeginning A (N.yields runner.old)
+        (S.tells sink.new) step engine.old engine.new e.refusal) }
     ensures same { OnErr result (children.new.items ≡ children.old.items) }
     ensures within { YieldsNoMore (N.yields runner.new) (N.yields runner.old) }
     ensures alive { N.alive runner.new + length children.old.items
@@ -129,7 +131,7 @@ pub(crate) fn begin<A: Allocator + Copy, S: BlobSink<A>, N: Runner<A>>(
     ensures device { Counts (N.failures runner.old) (N.failures runner.new)
         (IsErrAnd result (λ e. IsDevice e.refusal)) }
 {
-    let job = match engine.start(alloc, step, memo, sink) {
+    let job = match engine.start(alloc, step, &mut remembered.memo, sink) {
         Ok(job) => job,
         Err(error) => {
             return Err(BuildError {
@@ -138,7 +140,8 @@ pub(crate) fn begin<A: Allocator + Copy, S: BlobSink<A>, N: Runner<A>>(
             });
         }
     };
-    match launch(alloc, engine, sink, runner, children, &job) {
+    let put = &mut remembered.put;
+    match launch(alloc, engine, sink, runner, put, children, &job) {
         Ok(()) => Ok(()),
         Err(refusal) => {
             let _ = engine.lose(job.id);

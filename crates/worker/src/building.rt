@@ -3,25 +3,25 @@ ghost use Rattle.blob_source.specs.Source.{Telling};
 ghost use Rattle.blob_source.specs.Sink.{KeepsRight};
 ghost use Rattle.runs.specs.Engine.{EngineValue};
 ghost use Rattle.runs.specs.Calls.{HaveAllFinished};
-ghost use Rattle.tree.specs.Memo.{known_by};
 ghost use Rattle.std.specs.Result.{IsErrAnd};
 ghost use Rattle.worker.specs.Counted.{Counts, IsDevice, IsFetch};
-ghost use Rattle.worker.specs.Storing.{KnowsBlobs, StoresSteps};
+ghost use Rattle.worker.specs.Storing.{Remembers, StoresSteps};
 ghost use Rattle.worker.specs.Calls.{running, IsBuiltWith};
 ghost use Rattle.worker.specs.Going.{AreJobsOf, IsJobOf, IsGoing};
-ghost use Rattle.worker.specs.Stopped.{IsRefusedBuild};
+ghost use Rattle.worker.specs.Stopped.{IsRefusedBuild, LosesRest};
 ghost use Rattle.worker.specs.Stored.{HasNoneFinished, IsStored};
 ghost use Rattle.worker.specs.Watching.{IsProgress, IsUpToDate, IsWatched};
 
 use crate::child::Child;
 use crate::counting::{before_turn, first_progress, progress_after};
 use crate::error::BuildError;
+use crate::remembering::Remembered;
 use crate::runner::Runner;
 use crate::turns::{next_turn, take_turn};
 use crate::watching::Watcher;
 use runs::Engine;
 use std::alloc::Allocator;
-use std::collections::VecDeque;
+use std::collections::{BTreeSet, VecDeque};
 use tree::{BlobSink, Memo};
 
 /// Waits for all children, and loses their jobs.
@@ -33,14 +33,17 @@ fn end_all<A: Allocator + Copy, N: Runner<A>>(
 )
     requires there { AreJobsOf IsJobOf engine.old.jobs children.items }
     ensures led { (entry : N) (before t : Telling) (most : ℕ) (first : EngineValue)
-        → IsGoing A (N.yields entry) N.may_give (N.starts entry) (N.starts runner.old) before t
-        most first engine.old children.items
-        → IsBuiltWith A (N.yields entry) (N.starts entry) (N.starts runner.new) before t most first
+        → (g : IsGoing A (N.yields entry) N.may_give (N.starts entry) (N.starts runner.old) before
+        t most first engine.old children.items)
+        → (b : IsBuiltWith A (N.yields entry) (N.starts entry) (N.starts runner.new) before t most
+        first engine.new)
+        × LosesRest A (N.yields entry) t most g.led.built.led.calls b.built.led.calls engine.old
         engine.new }
     ensures idle { running engine.new.jobs ≡ 0 }
     ensures alive { (count : ℕ) → N.alive runner.old ≡ count + length children.items
         → N.alive runner.new ≡ count }
     ensures device { N.failures runner.old ≤ N.failures runner.new }
+    ensures none { children.items ≡ [] → N.failures runner.new ≡ N.failures runner.old }
 {
     let mut rest = children;
     while let Some(child) = rest.pop_front() {
@@ -57,21 +60,22 @@ fn take_turns<A: Allocator + Copy, S: BlobSink<A>, N: Runner<A>, W: Watcher>(
     sink: &mut S,
     runner: &mut N,
     watcher: &mut W,
-    memo: &mut Memo<A>,
+    remembered: &mut Remembered<A>,
     children: &mut VecDeque<Child<N::Job>, A>,
     jobs: usize,
 ) -> Result<(), BuildError<A>>
     requires some { 0 < jobs }
-    requires knows { KnowsBlobs (known_by memo.old) (S.tells sink.old).blobs }
+    requires knows { Remembers remembered.old (S.tells sink.old).blobs }
     requires idle { running engine.old.jobs ≡ 0 }
     requires none { children.old.items ≡ [] }
-    ensures going { IsGoing A (N.yields runner.old) N.may_give (N.starts runner.old)
+    ensures going { (g : IsGoing A (N.yields runner.old) N.may_give (N.starts runner.old)
         (N.starts runner.new) (S.tells sink.old) (S.tells sink.new) jobs engine.old engine.new
-        children.new.items }
+        children.new.items)
+        × IfErr result (λ e. IsRefusedBuild A (N.yields runner.old) (S.tells sink.new) jobs
+        g.led.built.led.calls engine.old engine.new e.step e.refusal) }
     ensures done { OnOk result (HaveAllFinished engine.new) }
     ensures ended { OnOk result (children.new.items ≡ []) }
-    ensures stopped { IfErr result (λ e. IsRefusedBuild A (N.yields runner.old) (S.tells sink.new)
-        jobs engine.old e.step e.refusal) }
+    ensures few { OnErr result (length children.new.items < jobs) }
     ensures stored { OnOk result (StoresSteps (S.tells sink.old) engine.old
         → StoresSteps (S.tells sink.new) engine.new) }
     ensures right { KeepsRight (S.tells sink.old).blobs (S.tells sink.new).blobs }
@@ -90,7 +94,7 @@ fn take_turns<A: Allocator + Copy, S: BlobSink<A>, N: Runner<A>, W: Watcher>(
     let mut progress = first_progress(engine);
     while let Some(turn) = next_turn(engine, children, jobs) {
         let before = before_turn(engine, children, &turn);
-        take_turn(alloc, engine, sink, runner, memo, children, turn)?;
+        take_turn(alloc, engine, sink, runner, remembered, children, turn)?;
         progress = progress_after(progress, before, engine, children);
         watcher.watch(progress);
     }
@@ -102,8 +106,8 @@ fn take_turns<A: Allocator + Copy, S: BlobSink<A>, N: Runner<A>, W: Watcher>(
 /// has a result for its action, and a child runs for it otherwise. Else the child that was started
 /// first is waited for, its blobs are put and its job finishes, and then the result is put. On a
 /// refusal every child is waited for and its job lost. A Directory of the sources that the starts
-/// look at is fetched once. The watcher is told how far the build is whenever a step was started or
-/// has finished.
+/// look at is fetched once, and one of their inputs is put once. The watcher is told how far the
+/// build is whenever a step was started or has finished.
 pub fn build<A: Allocator + Copy, S: BlobSink<A>, N: Runner<A>, W: Watcher>(
     alloc: A,
     engine: &mut Engine<A>,
@@ -117,12 +121,13 @@ pub fn build<A: Allocator + Copy, S: BlobSink<A>, N: Runner<A>, W: Watcher>(
     // Calls lead to the engine, and at most `jobs` jobs run after each. What a job finishes with is
     // from the runner or from the store. The children that were started are of these jobs, and the
     // results that were put are of what they came to; those under other digests stay.
-    ensures led { IsBuiltWith A (N.yields runner.old) (N.starts runner.old) (N.starts runner.new)
-        (S.tells sink.old) (S.tells sink.new) jobs engine.old engine.new }
+    // Where it is refused, the first of them led to an engine in which the refusal of that step
+    // stands, and after them jobs alone were lost.
+    ensures led { (b : IsBuiltWith A (N.yields runner.old) (N.starts runner.old)
+        (N.starts runner.new) (S.tells sink.old) (S.tells sink.new) jobs engine.old engine.new)
+        × IfErr result (λ e. IsRefusedBuild A (N.yields runner.old) (S.tells sink.new) jobs
+        b.built.led.calls engine.old engine.new e.step e.refusal) }
     ensures done { OnOk result (HaveAllFinished engine.new) }
-    // Where it is refused, calls led to an engine in which the refusal of that step stands.
-    ensures stopped { IfErr result (λ e. IsRefusedBuild A (N.yields runner.old) (S.tells sink.new)
-        jobs engine.old e.step e.refusal) }
     // The store has what each step came to, from the first to the last.
     ensures stored { OnOk result
         (HasNoneFinished engine.old → IsStored (S.tells sink.new) engine.new) }
@@ -138,14 +143,19 @@ pub fn build<A: Allocator + Copy, S: BlobSink<A>, N: Runner<A>, W: Watcher>(
     ensures up_to_date { OnOk result
         (IsUpToDate A (N.yields runner.old) (S.tells sink.new) jobs engine.old engine.new
         (W.told watcher.old) (W.told watcher.new)) }
-    // The store failed exactly where that is told, and the runner at least there.
+    // The store failed exactly where that is told, and the runner at least there. Other children
+    // that are waited for after a refusal may fail too: there is none where `jobs` is 1.
     ensures fetched { Counts (S.tells sink.old).failures (S.tells sink.new).failures
         (IsErrAnd result (λ e. IsFetch e.refusal)) }
     ensures device { IsErrAnd result (λ e. IsDevice e.refusal)
         → N.failures runner.old < N.failures runner.new }
     ensures unfailed { OnOk result (N.failures runner.new ≡ N.failures runner.old) }
+    ensures alone { jobs ≡ 1 → Counts (N.failures runner.old) (N.failures runner.new)
+        (IsErrAnd result (λ e. IsDevice e.refusal)) }
 {
-    let mut memo = Memo::new(alloc);
+    let memo = Memo::new(alloc);
+    let put = BTreeSet::new(alloc);
+    let mut remembered = Remembered { memo, put };
     let mut children = VecDeque::new(alloc);
     match take_turns(
         alloc,
@@ -153,7 +163,7 @@ pub fn build<A: Allocator + Copy, S: BlobSink<A>, N: Runner<A>, W: Watcher>(
         sink,
         runner,
         watcher,
-        &mut memo,
+        &mut remembered,
         &mut children,
         jobs,
     ) {

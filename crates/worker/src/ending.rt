@@ -2,12 +2,12 @@ ghost use Rattle.std.specs.Prelude.{◌≡◌, ◌+◌, ◌-◌, ◌<◌, Some, 
 ghost use Rattle.runs.specs.Engine.{JobValue, job_in};
 ghost use Rattle.std.specs.Result.{IsErrAnd};
 ghost use Rattle.worker.specs.Counted.{Counts, IsDevice, IsFetch};
-ghost use Rattle.worker.specs.Outcomes.{YieldsNoMore, HasAllRight};
+ghost use Rattle.worker.specs.Outcomes.{YieldsNoMore, HasAllRight, HasTrees};
 ghost use Rattle.worker.specs.Values.{ProducedValue, StartsNone, made};
-ghost use Rattle.worker.specs.Going.{AreJobsOf, IsJobOf, HasEndedFirst, EndsWell, Ends};
+ghost use Rattle.worker.specs.Going.{AreJobsOf, IsJobOf, HasEndedFirst, EndedWell};
 ghost use Rattle.worker.specs.Going.{HasResultOfFirst};
-ghost use Rattle.worker.specs.Stopping.{StopsCollecting, StopsEnd, StopsSettling, StopsFirst};
-ghost use Rattle.worker.specs.Stored.{IsKept, HasTrees};
+ghost use Rattle.worker.specs.Stopping.{StopsCollecting, StopsEnd, StopsSettling};
+ghost use Rattle.worker.specs.Stored.{IsKept};
 ghost use Rattle.worker.specs.Storing.{HasResultOf};
 
 use crate::child::Child;
@@ -56,7 +56,7 @@ fn take<A: Allocator + Copy, S: BlobSink<A>, N: Runner<A>>(
 ) -> Result<(), Refusal<A>>
     ensures kept { IsKept (S.tells sink.old) (S.tells sink.new) }
     ensures ended { OnOk result
-        (EndsWell N.may_give (S.tells sink.old) (S.tells sink.new) child engine.old engine.new) }
+        (EndedWell N.may_give (S.tells sink.old) (S.tells sink.new) child engine.old engine.new) }
     ensures refused { IfErr result
         (StopsEnd N.may_give (S.tells sink.new).blobs child engine.old) }
     ensures unchanged { OnErr result (engine.new ≡ engine.old) }
@@ -84,13 +84,11 @@ fn settle<A: Allocator + Copy, S: BlobSink<A>, N: Runner<A>>(
 ) -> Result<(), Refusal<A>>
     requires there { (j : JobValue) × (job_in child.id engine.old ≡ Some j) × IsJobOf child j }
     ensures ended { OnOk result
-        (EndsWell N.may_give (S.tells sink.old) (S.tells sink.new) child engine.old engine.new) }
+        (EndedWell N.may_give (S.tells sink.old) (S.tells sink.new) child engine.old engine.new) }
     ensures put { OnOk result
         (HasResultOf (S.tells sink.new) engine.new child.step child.action) }
-    ensures refused { OnErr result
-        (Ends N.may_give (S.tells sink.old) (S.tells sink.new) child engine.old engine.new) }
     ensures stopped { IfErr result (StopsSettling N.may_give
-        (S.tells sink.old) (S.tells sink.new) child engine.old) }
+        (S.tells sink.old) (S.tells sink.new) child engine.old engine.new) }
     ensures within { YieldsNoMore (N.yields runner.new) (N.yields runner.old) }
     ensures unlisted { StartsNone (N.starts runner.old) (N.starts runner.new) }
     ensures closed { N.alive runner.new ≡ N.alive runner.old - 1 }
@@ -123,15 +121,14 @@ pub(crate) fn finish_first<A: Allocator + Copy, S: BlobSink<A>, N: Runner<A>>(
     requires there { AreJobsOf IsJobOf engine.old.jobs children.old.items }
     requires some { 0 < length children.old.items }
     ensures ended { OnOk result (HasEndedFirst
-        (EndsWell N.may_give (S.tells sink.old) (S.tells sink.new))
+        (EndedWell N.may_give (S.tells sink.old) (S.tells sink.new))
         engine.old engine.new children.old.items children.new.items) }
     ensures put { OnOk result
         (HasResultOfFirst (S.tells sink.new) engine.new children.old.items) }
-    ensures refused { OnErr result (HasEndedFirst
-        (Ends N.may_give (S.tells sink.old) (S.tells sink.new))
+    ensures stopped { IfErr result (λ e. HasEndedFirst
+        (λ c old new. (e.step ≡ c.step) × StopsSettling N.may_give
+        (S.tells sink.old) (S.tells sink.new) c old new e.refusal)
         engine.old engine.new children.old.items children.new.items) }
-    ensures stopped { IfErr result (λ e. StopsFirst N.may_give (S.tells sink.old)
-        (S.tells sink.new) children.old.items engine.old e.step e.refusal) }
     ensures within { YieldsNoMore (N.yields runner.new) (N.yields runner.old) }
     ensures unlisted { StartsNone (N.starts runner.old) (N.starts runner.new) }
     ensures closed { N.alive runner.new ≡ N.alive runner.old - 1 }

@@ -14,6 +14,7 @@ mod laws;
 mod laying_out;
 mod putting;
 mod recorded;
+mod remembering;
 mod runner;
 mod turns;
 mod watching;

@@ -5,12 +5,12 @@ ghost use Rattle.action_messages.specs.Action.{action_bytes};
 ghost use Rattle.wire.specs.Bytes.{IsBytes};
 ghost use Rattle.blob_source.specs.Sink.{HasRight};
 ghost use Rattle.runs.specs.Engine.{finished_in};
-ghost use Rattle.worker.specs.Storing.{IsKeptBut, HasResultOf, IsResultOfStep};
-ghost use Rattle.worker.specs.Outcomes.{HasAllRight};
+ghost use Rattle.worker.specs.Storing.{IsKeptBut, HasResultOf, IsResultOfStep, WerePut};
+ghost use Rattle.worker.specs.Outcomes.{HasAllRight, HasTrees, directories_of};
 ghost use Rattle.worker.specs.Counted.{Counts, IsFetch};
 ghost use Rattle.worker.specs.Values.{blobs_of};
 ghost use Rattle.worker.specs.Stopped.{IsStoreFault};
-ghost use Rattle.worker.specs.Stored.{IsKept, directories_of, HasTrees};
+ghost use Rattle.worker.specs.Stored.{IsKept};
 
 use crate::error::Refusal;
 use actions::{Outcome, Output};
@@ -18,6 +18,7 @@ use blob_digest::Digest;
 use messages::Tree;
 use runs::{Engine, Job};
 use std::alloc::Allocator;
+use std::collections::BTreeSet;
 use tree::BlobSink;
 
 /// Puts blobs, each under its digest. Refusals: `Fetch` and `Memory`; those before it are put.
@@ -39,13 +40,41 @@ pub fn put_all<A: Allocator + Copy, S: BlobSink<A>>(
     Ok(())
 }
 
+/// Puts a blob, unless it was put before.
+#[tactic(auto, using(crate::proofs::Keeping::kept_none, crate::proofs::Keeping::kept_blob))]
+fn put_once<A: Allocator + Copy, S: BlobSink<A>>(
+    alloc: A,
+    sink: &mut S,
+    put: &mut BTreeSet<Digest, A>,
+    blob: &[u8],
+) -> Result<(), Refusal<A>>
+    requires put { WerePut put.old (S.tells sink.old).blobs }
+    ensures put { WerePut put.new (S.tells sink.new).blobs }
+    ensures kept { IsKept (S.tells sink.old) (S.tells sink.new) }
+    ensures held { OnOk result (HasRight (S.tells sink.new).blobs (digest_of blob.now)) }
+    ensures failed { IfErr result IsStoreFault }
+    ensures fetched { Counts (S.tells sink.old).failures (S.tells sink.new).failures
+        (IsErrAnd result IsFetch) }
+{
+    let digest = Digest::of(blob);
+    if put.contains(&digest) {
+        return Ok(());
+    }
+    sink.put_blob(alloc, blob)?;
+    put.insert(digest)?;
+    Ok(())
+}
+
 /// Puts the action of a job and the Directories of its input.
 #[tactic(auto, using(crate::proofs::Keeping::kept_none, crate::proofs::Keeping::kept_trans, crate::proofs::Keeping::kept_blob))]
 pub(crate) fn put_input<A: Allocator + Copy, S: BlobSink<A>>(
     alloc: A,
     sink: &mut S,
+    put: &mut BTreeSet<Digest, A>,
     job: &Job<A>,
 ) -> Result<(), Refusal<A>>
+    requires put { WerePut put.old (S.tells sink.old).blobs }
+    ensures put { WerePut put.new (S.tells sink.new).blobs }
     ensures kept { IsKept (S.tells sink.old) (S.tells sink.new) }
     ensures held { OnOk result
         (HasRight (S.tells sink.new).blobs (digest_of (action_bytes job.now.action))) }
@@ -57,7 +86,10 @@ pub(crate) fn put_input<A: Allocator + Copy, S: BlobSink<A>>(
 {
     let action = job.action.encode(alloc)?;
     sink.put_blob(alloc, &action)?;
-    put_all(alloc, sink, &job.input.directories)
+    for directory in &job.input.directories {
+        put_once(alloc, sink, put, directory)?;
+    }
+    Ok(())
 }
 
 /// Puts the Directories of a Tree.

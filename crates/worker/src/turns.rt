@@ -1,13 +1,12 @@
 ghost use Rattle.std.specs.Prelude.{◌≡◌, ◌↔◌, ◌+◌, ◌-◌, ◌<◌, ◌≤◌, ℕ, [], Some, None, IsTrue};
-ghost use Rattle.std.specs.Prelude.{List, IfSome, IfErr, OnOk, length};
+ghost use Rattle.std.specs.Prelude.{List, IfSome, IfErr, OnOk, OnErr, length};
 ghost use Rattle.blob_source.specs.Sink.{KeepsRight};
 ghost use Rattle.blob_source.specs.Source.{Telling};
 ghost use Rattle.plan.specs.Plan.{IsPlan};
 ghost use Rattle.runs.specs.Engine.{EngineValue, IsEngine};
-ghost use Rattle.tree.specs.Memo.{known_by};
 ghost use Rattle.std.specs.Result.{IsErrAnd};
 ghost use Rattle.worker.specs.Counted.{Counts, IsDevice, IsFetch};
-ghost use Rattle.worker.specs.Storing.{KnowsBlobs, StoresSteps};
+ghost use Rattle.worker.specs.Storing.{Remembers, StoresSteps};
 ghost use Rattle.worker.specs.Outcomes.{YieldsNoMore};
 ghost use Rattle.worker.specs.Calls.{Call, IsStartable, PutsOf};
 ghost use Rattle.worker.specs.Going.{AreJobsOf, IsJobOf, IsTurn, IsNextTurn, IsGoing, turns_left};
@@ -18,11 +17,12 @@ use crate::beginning::begin;
 use crate::child::Child;
 use crate::ending::finish_first;
 use crate::error::BuildError;
+use crate::remembering::Remembered;
 use crate::runner::Runner;
 use runs::{Engine, Job};
 use std::alloc::Allocator;
 use std::collections::VecDeque;
-use tree::{BlobSink, Memo};
+use tree::BlobSink;
 
 /// What a build does next.
 #[derive(Drop)]
@@ -96,33 +96,27 @@ pub(crate) fn take_turn<A: Allocator + Copy, S: BlobSink<A>, N: Runner<A>>(
     engine: &mut Engine<A>,
     sink: &mut S,
     runner: &mut N,
-    memo: &mut Memo<A>,
+    remembered: &mut Remembered<A>,
     children: &mut VecDeque<Child<N::Job>, A>,
     turn: Turn,
 ) -> Result<(), BuildError<A>>
-    requires knows { KnowsBlobs (known_by memo.old) (S.tells sink.old).blobs }
+    requires knows { Remembers remembered.old (S.tells sink.old).blobs }
     requires can { (most : ℕ) × IsTurn most engine.old children.old.items turn }
     requires there { AreJobsOf IsJobOf engine.old.jobs children.old.items }
     requires alive { length children.old.items ≤ N.alive runner.old }
+    // Where the turn is refused, the refusal stands.
     ensures going { (entry : N) (before : Telling) (most : ℕ) (first : EngineValue)
         → YieldsNoMore (N.yields runner.old) (N.yields entry)
         → IsTurn most engine.old children.old.items turn
         → (g : IsGoing A (N.yields entry) N.may_give (N.starts entry) (N.starts runner.old)
         before (S.tells sink.old) most first
         engine.old children.old.items)
-        → GoesOnBy A (N.yields entry) N.may_give (N.starts entry) (N.starts runner.new)
+        → (on : GoesOnBy A (N.yields entry) N.may_give (N.starts entry) (N.starts runner.new)
         before (S.tells sink.new) most first
         engine.new children.new.items g.led.built.led.calls
-        (taken_in (is_start turn) (step_of turn children.old.items) engine.old engine.new) }
-    // Where the turn is refused, the refusal stands.
-    ensures stopped { IfErr result (λ e. (entry : N) (before : Telling) (most : ℕ)
-        (first : EngineValue)
-        → YieldsNoMore (N.yields runner.old) (N.yields entry)
-        → IsTurn most engine.old children.old.items turn
-        → IsGoing A (N.yields entry) N.may_give (N.starts entry) (N.starts runner.old)
-        before (S.tells sink.old) most first
-        engine.old children.old.items
-        → IsRefusedBuild A (N.yields entry) (S.tells sink.new) most first e.step e.refusal) }
+        (taken_in (is_start turn) (step_of turn children.old.items) engine.old engine.new))
+        × IfErr result (λ e. IsRefusedBuild A (N.yields entry) (S.tells sink.new) most
+        on.going.led.built.led.calls first engine.new e.step e.refusal) }
     // What the store has of what has finished, it has of what finishes in this turn too.
     ensures stored { OnOk result ((entry : N) (before : Telling) (most : ℕ) (first : EngineValue)
         → IsGoing A (N.yields entry) N.may_give (N.starts entry) (N.starts runner.old)
@@ -132,8 +126,11 @@ pub(crate) fn take_turn<A: Allocator + Copy, S: BlobSink<A>, N: Runner<A>>(
         → StoresSteps (S.tells sink.new) engine.new) }
     ensures only { OnOk result
         (FinishesOnly (step_of turn children.old.items) engine.old engine.new) }
+    // Where it is refused, fewer children than may run at once are left.
+    ensures room { OnErr result ((most : ℕ) → IsTurn most engine.old children.old.items turn
+        → length children.old.items ≤ most → length children.new.items < most) }
     ensures puts { (more : List Call) × PutsOf more (S.tells sink.old) (S.tells sink.new) }
-    ensures knows { KnowsBlobs (known_by memo.new) (S.tells sink.new).blobs }
+    ensures knows { Remembers remembered.new (S.tells sink.new).blobs }
     ensures fewer { OnOk result
         (turns_left engine.new children.new.items < turns_left engine.old children.old.items) }
     ensures right { KeepsRight (S.tells sink.old).blobs (S.tells sink.new).blobs }
@@ -147,7 +144,7 @@ pub(crate) fn take_turn<A: Allocator + Copy, S: BlobSink<A>, N: Runner<A>>(
 {
     let _ = engine.plan();
     match turn {
-        Turn::Start(step) => begin(alloc, engine, sink, runner, memo, children, step),
+        Turn::Start(step) => begin(alloc, engine, sink, runner, remembered, children, step),
         Turn::Finish => finish_first(alloc, engine, sink, runner, children),
     }
 }

@@ -9,7 +9,7 @@ use Rattle.actions.proofs.recording.read_outputs.Goals as goal
 pub returns-in_err-read-clause-faulty : goal.returns-in_err-read-clause-faulty
 returns-in_err-read-clause-faulty g c =
     let p = err_from_is_err_and c.from_residual.result c.from_residual.ensures.1 in
-    rw (p.1, p.2) (fault_next c.args.recorded.now c.loop-output.output-index c.output-item.result c.loop-output-test.true c.output-item.is _ _ c.loop-output.outputs.items _ c.read.ensures.called.asked.blobs c.loop-output.invariant.read c.in_err-read.ensures.faulty)
+    rw (p.1, p.2) (fault_next c.args.recorded.now c.loop-output.output-index c.output-item.result c.loop-output-test.true c.output-item.is _ _ c.loop-output.outputs.items _ c.read.ensures.called.asked.some.blobs c.loop-output.invariant.read c.in_err-read.ensures.faulty)
 
 pub returns-in_err-read-clause-called : goal.returns-in_err-read-clause-called
 returns-in_err-read-clause-called g c =
@@ -31,7 +31,7 @@ returns-clause-called g c = calls_more (λ h. asks_all c.args.recorded.now c.loo
 
 pub loop-output-preserved : goal.loop-output-preserved
 loop-output-preserved g c = record {
-  read = reads_next c.args.recorded.now c.loop-output.output-index c.output-item.result c.loop-output-test.true c.output-item.is _ _ c.loop-output.outputs.items c.push.new.self.items c.in_ok-copy_of.field-0 c.in_ok-read.read c.read.ensures.called.asked.blobs c.loop-output.invariant.read
+  read = reads_next c.args.recorded.now c.loop-output.output-index c.output-item.result c.loop-output-test.true c.output-item.is _ _ c.loop-output.outputs.items c.push.new.self.items c.in_ok-copy_of.field-0 c.in_ok-read.read c.read.ensures.called.asked.some.blobs c.loop-output.invariant.read
       ((c.in_ok-copy_of.ensures {u = tt}) ∙ c.path.ensures) c.in_ok-read.ensures.found (c.in_ok-push.ensures {u = tt}).items;
   called = calls_on (λ h k. asks_next c.args.recorded.now c.loop-output.output-index c.output-item.result c.loop-output-test.true c.output-item.is _ _ _ h k c.read.ensures.unasked)
       c.loop-output.invariant.called (called_no ok_no_error (λ n. n) c.in_ok-read.ensures.called);

@@ -1,35 +1,34 @@
 use Rattle.std.proofs.Common.{◌∙◌, refl}
 use Rattle.std.proofs.lemmas.Result.{err_from_is_err_and}
-use Rattle.blob_source.specs.Source.{AsksSome}
-use Rattle.blob_source.proofs.Asking.{asks_none}
+use Rattle.blob_source.proofs.Asking.{some_none}
 use Rattle.blob_source.proofs.Puts.{right_grows, right_then}
 use Rattle.worker.specs.Stored.{IsStored}
 use Rattle.worker.specs.declared.error.Refusal.TheVariants as refusals
 use Rattle.worker.proofs.Storing.{stored_grown}
-use Rattle.worker.proofs.Failures.{counts_calls, counts_engine, counts_exit, counts_from, counts_same}
+use Rattle.worker.proofs.Failures.{counts_calls, counts_engine, counts_exit, counts_from, counts_none, counts_same}
 use Rattle.builder.proofs.Refusing.{ran_by}
 use Rattle.builder.proofs.Serving.{none_finished, answered}
 use Rattle.builder.specs.Faults.{IsRunnerFailure, IsStoreFailure, fault_of}
 use Rattle.builder.specs.declared.fault.Place.TheVariants.{Step, Root}
-use Rattle.builder.proofs.Failing.{counts_opening, counts_refusal, device_refusal, opening_no_device, exit_device}
+use Rattle.builder.proofs.Failing.{counts_device, counts_opening, counts_refusal, device_refusal, opening_no_device, exit_device}
 use Rattle.builder.proofs.building.build_plan.Goals as goal
 
 pub returns-in_err-engine-clause-right : goal.returns-in_err-engine-clause-right
-returns-in_err-engine-clause-right g c = right_grows c.new.ensures.called.asked.asks.blobs
+returns-in_err-engine-clause-right g c = right_grows c.new.ensures.called.asked.blobs
 
 pub returns-in_err-build-clause-right : goal.returns-in_err-build-clause-right
 returns-in_err-build-clause-right g c =
-    right_then (right_grows c.new.ensures.called.asked.asks.blobs) c.build.ensures.right
+    right_then (right_grows c.new.ensures.called.asked.blobs) c.build.ensures.right
 
 pub returns-in_err-built-clause-right : goal.returns-in_err-built-clause-right
 returns-in_err-built-clause-right g c = right_then
-    (right_then (right_grows c.new.ensures.called.asked.asks.blobs) c.build.ensures.right)
-    (right_grows c.end.ensures.called.asked.asks.blobs)
+    (right_then (right_grows c.new.ensures.called.asked.blobs) c.build.ensures.right)
+    (right_grows c.end.ensures.called.asked.blobs)
 
 pub returns-clause-right : goal.returns-clause-right
 returns-clause-right g c = right_then
-    (right_then (right_grows c.new.ensures.called.asked.asks.blobs) c.build.ensures.right)
-    (right_grows c.end.ensures.called.asked.asks.blobs)
+    (right_then (right_grows c.new.ensures.called.asked.blobs) c.build.ensures.right)
+    (right_grows c.end.ensures.called.asked.blobs)
 
 pub returns-in_err-engine-clause-build : goal.returns-in_err-engine-clause-build
 returns-in_err-engine-clause-build g c =
@@ -46,12 +45,11 @@ pub returns-in_err-build-clause-build : goal.returns-in_err-build-clause-build
 returns-in_err-build-clause-build g c =
     let p = err_from_is_err_and c.from_residual-in_err-build.result c.from_residual-in_err-build.ensures.1 in
     let ending = g.S.BlobSource.tells c.build.new.sink in
-    let asks : AsksSome ending ending = record { most = 0; asks = asks_none ending } in
     rw (p.1, p.2) (
       c.in_ok-engine.engine,
       c.build.new.engine,
-      ran_by _ _ _ _ _ _ _ _ _ _ _ c.new.ensures.called.asked c.in_ok-engine.ensures.opened c.build.ensures.led c.build.ensures.watched asks,
-      c.in_err-build.ensures.stopped,
+      ran_by _ _ _ _ _ _ _ _ _ _ _ c.new.ensures.called.asked c.in_ok-engine.ensures.opened c.in_err-build.ensures.led.0 c.build.ensures.watched (some_none ending),
+      c.in_err-build.ensures.led.1,
     )
 
 pub returns-in_err-built-clause-build : goal.returns-in_err-built-clause-build
@@ -60,7 +58,7 @@ returns-in_err-built-clause-build g c =
     rw (p.1, p.2) (
       c.in_ok-engine.engine,
       c.build.new.engine,
-      ran_by _ _ _ _ _ _ _ _ _ _ _ c.new.ensures.called.asked c.in_ok-engine.ensures.opened c.build.ensures.led c.build.ensures.watched c.end.ensures.called.asked,
+      ran_by _ _ _ _ _ _ _ _ _ _ _ c.new.ensures.called.asked c.in_ok-engine.ensures.opened c.in_ok-build.ensures.led.0 c.build.ensures.watched c.end.ensures.called.asked,
       record { complete = c.in_ok-build.ensures.done; stands = c.in_err-built.ensures.refused; unfailed = c.in_ok-build.ensures.unfailed },
     )
 
@@ -70,15 +68,15 @@ returns-clause-build g c =
     let ending = g.S.BlobSource.tells c.build.new.sink in
     let told = g.S.BlobSource.tells c.end.new.sink in
     let opened = c.in_ok-engine.ensures.opened in
-    let asks = c.end.ensures.called.asked.asks in
+    let asks = c.end.ensures.called.asked in
     let stored : IsStored told c.build.new.engine = stored_grown asks.blobs asks.results (c.in_ok-build.ensures.stored (none_finished c.in_ok-engine.engine opened.none_finished)) in (
       c.in_ok-engine.engine,
       c.build.new.engine,
-      ran_by _ _ _ _ _ _ _ _ _ _ _ c.new.ensures.called.asked opened c.build.ensures.led c.build.ensures.watched c.end.ensures.called.asked,
+      ran_by _ _ _ _ _ _ _ _ _ _ _ c.new.ensures.called.asked opened c.in_ok-build.ensures.led.0 c.build.ensures.watched c.end.ensures.called.asked,
       record {
         end = c.in_ok-built.ensures.ended;
         stored = stored;
-        answered = answered g.row.A.Denot (g.N.Runner.yields c.args.runner.now) c.args.jobs c.args.plan c.args.sources opening ending told c.in_ok-engine.engine c.build.new.engine c.in_ok-built.built opened c.build.ensures.right c.build.ensures.led.built.led (right_grows asks.blobs) c.plan.ensures.valid stored c.in_ok-built.ensures.ended;
+        answered = answered g.row.A.Denot (g.N.Runner.yields c.args.runner.now) c.args.jobs c.args.plan c.args.sources opening ending told c.in_ok-engine.engine c.build.new.engine c.in_ok-built.built opened c.build.ensures.right c.in_ok-build.ensures.led.0.built.led (right_grows asks.blobs) c.plan.ensures.valid stored c.in_ok-built.ensures.ended;
         heard = c.in_ok-build.ensures.up_to_date;
         unfailed = c.in_ok-build.ensures.unfailed;
       },
@@ -110,3 +108,18 @@ returns-in_err-build-clause-device g c =
 
 pub returns-in_err-built-clause-device : goal.returns-in_err-built-clause-device
 returns-in_err-built-clause-device g c = exit_device (λ e. IsRunnerFailure (fault_of e)) _ c.from_residual-in_err-built.result c.from_residual-in_err-built.ensures.1 (λ f. absurd (device_refusal Root (refusals.Engine c.in_err-built.field-0.0) f))
+
+pub returns-in_err-engine-clause-alone : goal.returns-in_err-engine-clause-alone
+returns-in_err-engine-clause-alone g c one = counts_exit (λ e. IsRunnerFailure (fault_of e)) c.from_residual.result c.from_residual.ensures.1 (counts_none (opening_no_device _))
+
+pub returns-in_err-build-clause-alone : goal.returns-in_err-build-clause-alone
+returns-in_err-build-clause-alone g c one =
+    counts_exit (λ e. IsRunnerFailure (fault_of e)) c.from_residual-in_err-build.result c.from_residual-in_err-build.ensures.1
+    (counts_device (Step c.in_err-build.field-0.0.step) c.in_err-build.field-0.0.refusal (c.in_err-build.ensures.alone one))
+
+pub returns-in_err-built-clause-alone : goal.returns-in_err-built-clause-alone
+returns-in_err-built-clause-alone g c one =
+    counts_from c.in_ok-build.ensures.unfailed (counts_exit (λ e. IsRunnerFailure (fault_of e)) c.from_residual-in_err-built.result c.from_residual-in_err-built.ensures.1 (counts_none (λ f. device_refusal Root (refusals.Engine c.in_err-built.field-0.0) f)))
+
+pub returns-clause-alone : goal.returns-clause-alone
+returns-clause-alone g c one = counts_same (λ f. f) c.in_ok-build.ensures.unfailed

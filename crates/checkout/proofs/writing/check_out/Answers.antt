@@ -6,7 +6,8 @@ use Rattle.blob_source.proofs.Calling.{called_ok, called_no, called_exit}
 use Rattle.blob_source.proofs.Asking.{ok_no_error}
 use Rattle.checkout.specs.Folder.{empty_folder}
 use Rattle.checkout.specs.Refused.{FailsEntries}
-use Rattle.checkout.specs.Written.{AreWritten}
+use Rattle.checkout.specs.Written.{AreWritten, IsGained}
+use Rattle.checkout.proofs.Entries.{fails_had}
 use Rattle.checkout.proofs.Telling.{unfolded_still, place_fails}
 use Rattle.checkout.proofs.writing.check_out.Goals as goal
 
@@ -22,11 +23,15 @@ returns-in_err-folder-clause-refused g c =
 pub returns-in_err-write_entries-clause-refused : goal.returns-in_err-write_entries-clause-refused
 returns-in_err-write_entries-clause-refused g c =
     let p = err_from_is_err_and c.from_residual-in_err-write_entries.result c.from_residual-in_err-write_entries.ensures.1 in
+    let works = g.W.FolderWriter.works in
     let blobs = (g.S.BlobSource.tells c.write_entries.new.source).blobs in
+    let folder = c.in_ok-folder.folder in
+    let taken = subst (λ r. IfOk r (λ f. works.has f (empty_folder c.args.path.now))) c.in_ok-folder.ensures.same c.take.ensures.taken in
     rw (p.1, p.2) (inr (
       c.in_ok-tree.tree,
-      unfolded_still c.write_entries.ensures.called.asked.asks.blobs c.in_ok-tree.ensures.told,
-      inr (subst (λ es. FailsEntries g.W.FolderWriter.works.refuses blobs c.args.path.now es c.in_err-write_entries.field-0.0) c.in_ok-entries.ensures.value c.in_err-write_entries.ensures.refused),
+      unfolded_still c.write_entries.ensures.called.asked.blobs c.in_ok-tree.ensures.told,
+      inr (fails_had (λ ws h. (h.0, h.1 (empty_folder c.args.path.now) taken))
+          (subst (λ es. FailsEntries (IsGained works folder) works.refuses blobs c.args.path.now es c.in_err-write_entries.field-0.0) c.in_ok-entries.ensures.value c.in_err-write_entries.ensures.refused)),
     ))
 
 pub returns-in_err-write_entries-clause-called : goal.returns-in_err-write_entries-clause-called
@@ -40,7 +45,7 @@ returns-clause-written g c =
     let taken = subst (λ r. IfOk r (λ folder. g.W.FolderWriter.works.has folder (empty_folder c.args.path.now))) c.in_ok-folder.ensures.same c.take.ensures.taken in
     record {
       entries = c.in_ok-tree.tree;
-      unfolded = unfolded_still c.write_entries.ensures.called.asked.asks.blobs c.in_ok-tree.ensures.told;
+      unfolded = unfolded_still c.write_entries.ensures.called.asked.blobs c.in_ok-tree.ensures.told;
       written = made.written;
       of_entries = subst (λ es. AreWritten blobs c.args.path.now es made.written) c.in_ok-entries.ensures.value made.of_entries;
       holds = made.gains (empty_folder c.args.path.now) taken;

@@ -47,7 +47,7 @@ returns-in_err-write_entry-clause-refused g c =
     let so_far = subst (λ es. SoFar works blobs c.args.folder.now c.loop-below.folder c.args.path.now all (path_values es)) steps c.loop-below.invariant.so_far in
     let at = c.as_str-in-loop-below.ensures.value ∙ c.in_ok-place.ensures ∙ ap (λ t. place_below c.args.path.now t) c.as_str.ensures.value in
     rw (p.1, p.2) (next_fails works c.args.path.now all works.refuses c.args.folder.now c.loop-below.folder c.in-Some.below (entry_value c.in-Some.entry) (path_values left) c.in_err-write_entry.field-0.0
-    c.write_entry.ensures.called.asked.asks.blobs so_far (subst (λ q. FailsEntry works.refuses after q (entry_value c.in-Some.entry) c.in_err-write_entry.field-0.0) at c.in_err-write_entry.ensures.refused))
+    c.write_entry.ensures.called.asked.blobs so_far (subst (λ q. FailsEntry works.refuses after q (entry_value c.in-Some.entry) c.in_err-write_entry.field-0.0) at c.in_err-write_entry.ensures.refused))
 
 pub returns-in_err-write_entry-clause-called : goal.returns-in_err-write_entry-clause-called
 returns-in_err-write_entry-clause-called g c =
@@ -65,7 +65,7 @@ loop-below-preserved g c =
     record {
       called = called_on c.loop-below.invariant.called (called_no ok_no_error (λ n. n) c.in_ok-write_entry.ensures.called);
       so_far = next_one works c.args.path.now all c.args.folder.now c.loop-below.folder c.write_entry.new.folder c.in-Some.below (entry_value c.in-Some.entry) (path_values left)
-          c.as_str-in-loop-below.result.now c.write_entry.ensures.called.asked.asks.blobs at so_far c.in_ok-write_entry.ensures.made;
+          c.as_str-in-loop-below.result.now c.write_entry.ensures.called.asked.blobs at so_far c.in_ok-write_entry.ensures.made;
     }
 
 pub returns-clause-made : goal.returns-clause-made

@@ -17,7 +17,7 @@ returns-in-Link-clause-made g c =
 pub returns-in_ok-content-in-File-clause-made : goal.returns-in_ok-content-in-File-clause-made
 returns-in_ok-content-in-File-clause-made g c =
     let works = g.W.FolderWriter.works in
-    let B = (g.S.BlobSource.tells c.fetch_content.new.source).blobs in
+    let B = (g.S.BlobSource.tells c.read_content.new.source).blobs in
     let old = c.args.folder.now in
     let new = c.write_file-made.new.folder in
     where_ok c.made_at-in-File.result c.write_file-made.result c.made_at-in-File.ensures.same c.write_file-made.ensures.made

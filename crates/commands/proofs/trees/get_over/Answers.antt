@@ -26,7 +26,7 @@ returns-clause-got g c =
       told = telling_of source.remote;
       over = ∥∥₁_map source.over (λ over. (connection_of g.S.Stream.flow source.remote, over));
       error = c.in-Err.error;
-      fails = subst (λ f. FailsCheckout {A = Global} g.W.World.sees.unwritten (telling_of source.remote).blobs c.args.digest.now f c.in-Err.error) c.as_str.ensures.value c.in-Err.ensures.refused;
+      fails = subst (λ f. FailsCheckout {A = Global} g.W.World.sees.holds g.W.World.sees.unwritten (telling_of source.remote).blobs c.args.digest.now f c.in-Err.error) c.as_str.ensures.value c.in-Err.ensures.refused;
       lacks = c.in_ok-print_lack-in-Err.ensures.printed;
     }
 
@@ -41,5 +41,5 @@ returns-in_err-print_lack-in-Err-clause-fault g c =
     exit_by (FailsGetTree sees start address digest folder) _ c.from_residual.ensures.1
     (tree_fails sees start address digest folder (telling_of source.remote) c.in-Err.error _
     (∥∥₁_map source.over (λ over. (connection_of g.S.Stream.flow source.remote, over)))
-    (subst (λ f. FailsCheckout {A = Global} sees.unwritten (telling_of source.remote).blobs digest f c.in-Err.error) c.as_str.ensures.value c.in-Err.ensures.refused)
+    (subst (λ f. FailsCheckout {A = Global} sees.holds sees.unwritten (telling_of source.remote).blobs digest f c.in-Err.error) c.as_str.ensures.value c.in-Err.ensures.refused)
     c.in_err-print_lack-in-Err.ensures.fault)

@@ -2,7 +2,8 @@ use Rattle.std.proofs.Common.{sym, ◌∙◌, ltb, length, arith}
 use Rattle.std.specs.List.{list_all}
 use Rattle.messages.specs.Name.{is_segment}
 use Rattle.messages.specs.Path.{parts_of}
-use Rattle.messages.proofs.Paths.{path_answer, and_rest, few_test}
+use Rattle.messages.proofs.Names.{few_test}
+use Rattle.messages.proofs.Paths.{path_answer, and_rest}
 use Rattle.messages.proofs.path.is_path.Goals as goal
 
 pub returns-then-part_count-lt65-clause-rule : goal.returns-then-part_count-lt65-clause-rule

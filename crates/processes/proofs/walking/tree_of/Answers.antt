@@ -1,6 +1,6 @@
 use Rattle.std.proofs.Common.{rules, arith, ◌∷◌, ◌<◌, length, map, ap, ◌∙◌}
 use Rattle.messages.specs.Directory.{directory_bytes}
-use Rattle.worker.specs.Stored.{directories_of}
+use Rattle.worker.specs.Outcomes.{directories_of}
 use Rattle.processes.proofs.Lists.{first_removed}
 use Rattle.processes.proofs.walking.tree_of.Goals as goal
 

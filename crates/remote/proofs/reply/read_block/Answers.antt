@@ -37,7 +37,7 @@ returns-in_err-receive_piece-clause-err g c =
     let open_ : HasNoBlock block = none_ended block c.loop-missing.missing c.loop-missing.invariant.last c.loop-missing.invariant.wants c.loop-missing-test.true in
     let ends : (e : Refusal) → Interrupts mid new e → ReadsNone old new e = λ e i. record {
       bad = λ is. absurd (i.other is);
-      part = λ is. block_in_part old mid new block reads (i.none is) short open_;
+      part = λ is. block_in_part old mid new block reads (i.none is) (i.stopped is) short open_;
       some = λ is. some_after old mid new block reads (i.some is);
       sent = i.sent ∙ reads.sent;
     } in

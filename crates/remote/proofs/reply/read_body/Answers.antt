@@ -17,6 +17,7 @@ returns-in_err-receive_piece-clause-err g c =
     let ends : (e : Refusal) → Interrupts mid new e → InterruptsBody old new c.args.size e = λ e i. record {
       other = i.other;
       part = λ is. (body, omega (arith, c.loop-body-test.true, c.len-in-loop-body.ensures), receives_no_more old mid new body reads (i.none is));
+      stopped = i.stopped;
       some = λ is. some_after old mid new body reads (i.some is);
       sent = i.sent ∙ reads.sent;
     } in

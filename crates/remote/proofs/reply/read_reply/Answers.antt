@@ -35,7 +35,7 @@ returns-in_err-body-clause-err g c =
     let ends : ReadsNone old new c.in_err-body.field-0.0 = record {
       bad = λ is. absurd (i.other is);
       some = λ is. some_after old mid new c.in_ok-block.block.items reads (i.some is);
-      part = λ is. reply_in_part old mid new c.in_ok-block.block.items c.deref.result.now head head.length reads c.in_ok-block.ensures.block c.deref.ensures.value c.in-Some.ensures.some refl (i.part is);
+      part = λ is. reply_in_part old mid new c.in_ok-block.block.items c.deref.result.now head head.length reads c.in_ok-block.ensures.block c.deref.ensures.value c.in-Some.ensures.some refl (i.part is) (i.stopped is);
       sent = i.sent ∙ reads.sent;
     } in
     told c.from_residual-in_err-body.result c.in_err-body.field-0.0 (ReadsNone old new) c.from_residual-in_err-body.ensures.1 ends

@@ -17,7 +17,7 @@ returns-in_err-command-clause-faulty g c =
     let tells = g.S.BlobSource.tells c.read_message-2.new.source in
     rw (p.1, p.2) (inr (
       c.in_ok-frame.frame,
-      frame_still (g.S.BlobSource.tells c.read_message.new.source).blobs (g.S.BlobSource.tells c.read_message-2.new.source).blobs c.args.step.now.frame c.in_ok-frame.frame c.read_message-2.ensures.called.asked.asks.blobs (subst (λ (s : StepValue). IsTold IsFrame frame_bytes (g.S.BlobSource.tells c.read_message.new.source).blobs s.frame c.in_ok-frame.frame) c.step.view_is c.in_ok-frame.ensures.told),
+      frame_still (g.S.BlobSource.tells c.read_message.new.source).blobs (g.S.BlobSource.tells c.read_message-2.new.source).blobs c.args.step.now.frame c.in_ok-frame.frame c.read_message-2.ensures.called.asked.blobs (subst (λ (s : StepValue). IsTold IsFrame frame_bytes (g.S.BlobSource.tells c.read_message.new.source).blobs s.frame c.in_ok-frame.frame) c.step.view_is c.in_ok-frame.ensures.told),
       inr (search rules, subst (λ d. IsUntold c.args.number (IsFault IsCommand command_bytes tells.blobs d) c.in_err-command.field-0.0) c.command_digest.ensures.value c.in_err-command.ensures.faulty),
     ))
 
@@ -26,7 +26,7 @@ returns-in_err-command-clause-called g c = opening_ok c.in_ok-frame.ensures.call
 
 pub returns-clause-told : goal.returns-clause-told
 returns-clause-told g c = record {
-  frame = frame_still (g.S.BlobSource.tells c.read_message.new.source).blobs (g.S.BlobSource.tells c.read_message-2.new.source).blobs c.args.step.now.frame c.in_ok-frame.frame c.read_message-2.ensures.called.asked.asks.blobs (subst (λ (s : StepValue). IsTold IsFrame frame_bytes (g.S.BlobSource.tells c.read_message.new.source).blobs s.frame c.in_ok-frame.frame) c.step.view_is c.in_ok-frame.ensures.told);
+  frame = frame_still (g.S.BlobSource.tells c.read_message.new.source).blobs (g.S.BlobSource.tells c.read_message-2.new.source).blobs c.args.step.now.frame c.in_ok-frame.frame c.read_message-2.ensures.called.asked.blobs (subst (λ (s : StepValue). IsTold IsFrame frame_bytes (g.S.BlobSource.tells c.read_message.new.source).blobs s.frame c.in_ok-frame.frame) c.step.view_is c.in_ok-frame.ensures.told);
   command = subst (λ d. IsTold IsCommand command_bytes (g.S.BlobSource.tells c.read_message-2.new.source).blobs d c.in_ok-command.command) c.command_digest.ensures.value c.in_ok-command.ensures.told;
 }
 

@@ -11,7 +11,7 @@ returns-in_err-meaning-clause-faulty g c =
     let p = err_from_is_err_and c.from_residual.result c.from_residual.ensures.1 in
     let old = g.S.BlobSource.tells c.loop-number.source in
     let tells = g.S.BlobSource.tells c.read_step.new.source in
-    rw (p.1, p.2) (open_fault old.blobs tells.blobs c.args.steps.now c.loop-number.number c.loop-number.frames.items c.loop-number.commands.items c.index-steps-number.result c.in_err-meaning.field-0.0 c.loop-number-test.true c.index-steps-number.is c.loop-number.invariant.told c.read_step.ensures.called.asked.asks.blobs c.in_err-meaning.ensures.faulty)
+    rw (p.1, p.2) (open_fault old.blobs tells.blobs c.args.steps.now c.loop-number.number c.loop-number.frames.items c.loop-number.commands.items c.index-steps-number.result c.in_err-meaning.field-0.0 c.loop-number-test.true c.index-steps-number.is c.loop-number.invariant.told c.read_step.ensures.called.asked.blobs c.in_err-meaning.ensures.faulty)
 
 pub loop-number-init : goal.loop-number-init
 loop-number-init g c = record {
@@ -39,5 +39,5 @@ loop-number-preserved g c =
     let commands : c.push-in-loop-number.new.self.items ≡ c.loop-number.commands.items ++ c.in_ok-meaning.meaning.command ∷ [] = search rules in
     record {
       called = opening_on c.loop-number.invariant.called c.in_ok-meaning.ensures.called;
-      told = rw (frames, commands) (told_next old.blobs tells.blobs c.args.steps.now c.loop-number.number c.loop-number.frames.items c.loop-number.commands.items c.index-steps-number.result c.in_ok-meaning.meaning.frame c.in_ok-meaning.meaning.command c.loop-number-test.true c.index-steps-number.is c.loop-number.invariant.told c.read_step.ensures.called.asked.asks.blobs (c.in_ok-meaning.ensures).told c.in_ok-meaning.ensures.cached);
+      told = rw (frames, commands) (told_next old.blobs tells.blobs c.args.steps.now c.loop-number.number c.loop-number.frames.items c.loop-number.commands.items c.index-steps-number.result c.in_ok-meaning.meaning.frame c.in_ok-meaning.meaning.command c.loop-number-test.true c.index-steps-number.is c.loop-number.invariant.told c.read_step.ensures.called.asked.blobs (c.in_ok-meaning.ensures).told c.in_ok-meaning.ensures.cached);
     }

@@ -23,7 +23,7 @@ returns-in_err-there-clause-refused g t c =
 pub returns-in_err-here-clause-refused : goal.returns-in_err-here-clause-refused
 returns-in_err-here-clause-refused g t c =
     let p = err_from_is_err_and c.from_residual-in_err-here.result c.from_residual-in_err-here.ensures.1 in
-    let read = reads_still (encodings_in c.args.own.now) c.args.recorded.now c.in_ok-there.there c.read_directory-2.ensures.called.asked.blobs (c.in_ok-there.ensures {u = tt}).told in
+    let read = reads_still (encodings_in c.args.own.now) c.args.recorded.now c.in_ok-there.there c.read_directory-2.ensures.called.asked.some.blobs (c.in_ok-there.ensures {u = tt}).told in
     rw (p.1, p.2) (grafted_fault _ _ (names_in c.args.above.now) c.args.grafted.now c.args.recorded.now c.args.deeper c.in_ok-there.there _ c.requires.some read (c.in_err-here.ensures {u = tt}).faulty)
 
 pub returns-in_err-path-clause-refused : goal.returns-in_err-path-clause-refused
@@ -40,7 +40,7 @@ returns-in-OnlyRecorded-clause-found g t c =
     let here = c.in_ok-here.here in
     let there = c.in_ok-there.there in
     let own = encodings_in c.args.own.now in
-    let read = reads_still own c.args.recorded.now there c.read_directory-2.ensures.called.asked.blobs (c.in_ok-there.ensures {u = tt}).told in
+    let read = reads_still own c.args.recorded.now there c.read_directory-2.ensures.called.asked.some.blobs (c.in_ok-there.ensures {u = tt}).told in
     let both : ReadsBoth own (g.S.BlobSource.tells c.read_directory-2.new.source).blobs c.args.grafted.now c.args.recorded.now name here there = record { recorded = read; grafted = (c.in_ok-here.ensures {u = tt}).told; first = first.name } in
     let path = c.in_ok-path.ensures.path ∙ ap (λ o. names_in o ++ name ∷ []) c.as_ref.ensures.value in
     finds_recorded own _ (names_in c.args.above.now) c.args.grafted.now c.args.recorded.now c.args.deeper c.in_ok-path.path name here there c.requires.some both path (subst (IsUnlike (child_of name here) (child_of name there)) c.in-OnlyRecorded.is first.unlike)
@@ -52,7 +52,7 @@ returns-in-OnlyGrafted-clause-found g t c =
     let here = c.in_ok-here.here in
     let there = c.in_ok-there.there in
     let own = encodings_in c.args.own.now in
-    let read = reads_still own c.args.recorded.now there c.read_directory-2.ensures.called.asked.blobs (c.in_ok-there.ensures {u = tt}).told in
+    let read = reads_still own c.args.recorded.now there c.read_directory-2.ensures.called.asked.some.blobs (c.in_ok-there.ensures {u = tt}).told in
     let both : ReadsBoth own (g.S.BlobSource.tells c.read_directory-2.new.source).blobs c.args.grafted.now c.args.recorded.now name here there = record { recorded = read; grafted = (c.in_ok-here.ensures {u = tt}).told; first = first.name } in
     let path = c.in_ok-path.ensures.path ∙ ap (λ o. names_in o ++ name ∷ []) c.as_ref.ensures.value in
     finds_grafted own _ (names_in c.args.above.now) c.args.grafted.now c.args.recorded.now c.args.deeper c.in_ok-path.path name here there c.requires.some both path (subst (IsUnlike (child_of name here) (child_of name there)) c.in-OnlyGrafted.is first.unlike)
@@ -64,7 +64,7 @@ returns-in-Others-clause-found g t c =
     let here = c.in_ok-here.here in
     let there = c.in_ok-there.there in
     let own = encodings_in c.args.own.now in
-    let read = reads_still own c.args.recorded.now there c.read_directory-2.ensures.called.asked.blobs (c.in_ok-there.ensures {u = tt}).told in
+    let read = reads_still own c.args.recorded.now there c.read_directory-2.ensures.called.asked.some.blobs (c.in_ok-there.ensures {u = tt}).told in
     let both : ReadsBoth own (g.S.BlobSource.tells c.read_directory-2.new.source).blobs c.args.grafted.now c.args.recorded.now name here there = record { recorded = read; grafted = (c.in_ok-here.ensures {u = tt}).told; first = first.name } in
     let path = c.in_ok-path.ensures.path ∙ ap (λ o. names_in o ++ name ∷ []) c.as_ref.ensures.value in
     finds_others own _ (names_in c.args.above.now) c.args.grafted.now c.args.recorded.now c.args.deeper c.in_ok-path.path name here there c.requires.some both path (subst (IsUnlike (child_of name here) (child_of name there)) c.in-Others.is first.unlike)
@@ -76,7 +76,7 @@ returns-then-deeper-eq1-clause-found g t c =
     let here = c.in_ok-here.here in
     let there = c.in_ok-there.there in
     let own = encodings_in c.args.own.now in
-    let read = reads_still own c.args.recorded.now there c.read_directory-2.ensures.called.asked.blobs (c.in_ok-there.ensures {u = tt}).told in
+    let read = reads_still own c.args.recorded.now there c.read_directory-2.ensures.called.asked.some.blobs (c.in_ok-there.ensures {u = tt}).told in
     let both : ReadsBoth own (g.S.BlobSource.tells c.read_directory-2.new.source).blobs c.args.grafted.now c.args.recorded.now name here there = record { recorded = read; grafted = (c.in_ok-here.ensures {u = tt}).told; first = first.name } in
     let path = c.in_ok-path.ensures.path ∙ ap (λ o. names_in o ++ name ∷ []) c.as_ref.ensures.value in
     finds_last own _ (names_in c.args.above.now) c.args.grafted.now c.args.recorded.now c.args.deeper c.in_ok-path.path name here there c.in-Directories.grafted c.in-Directories.recorded c.if-deeper-eq1.true both path (subst (IsUnlike (child_of name here) (child_of name there)) c.in-Directories.is first.unlike)
@@ -88,11 +88,11 @@ returns-clause-found g t c =
     let here = c.in_ok-here.here in
     let there = c.in_ok-there.there in
     let own = encodings_in c.args.own.now in
-    let read = reads_still own c.args.recorded.now there c.read_directory-2.ensures.called.asked.blobs (c.in_ok-there.ensures {u = tt}).told in
+    let read = reads_still own c.args.recorded.now there c.read_directory-2.ensures.called.asked.some.blobs (c.in_ok-there.ensures {u = tt}).told in
     let both : ReadsBoth own (g.S.BlobSource.tells c.read_directory-2.new.source).blobs c.args.grafted.now c.args.recorded.now name here there = record { recorded = read; grafted = (c.in_ok-here.ensures {u = tt}).told; first = first.name } in
     let path = c.in_ok-path.ensures.path ∙ ap (λ o. names_in o ++ name ∷ []) c.as_ref.ensures.value in
     let B = (g.S.BlobSource.tells c.difference_below.new.source).blobs in
-    let later = reads_both own c.args.grafted.now c.args.recorded.now name here there c.difference_below.ensures.called.asked.blobs both in
+    let later = reads_both own c.args.grafted.now c.args.recorded.now name here there c.difference_below.ensures.called.asked.some.blobs both in
     let unlike = subst (IsUnlike (child_of name here) (child_of name there)) c.in-Directories.is first.unlike in
     let below = Finds own B (c.args.deeper - 1) c.in_ok-path.path c.in-Directories.grafted c.in-Directories.recorded in
     let found = Finds own B c.args.deeper (names_in c.args.above.now) c.args.grafted.now c.args.recorded.now in
@@ -106,11 +106,11 @@ returns-clause-refused g t c =
     let here = c.in_ok-here.here in
     let there = c.in_ok-there.there in
     let own = encodings_in c.args.own.now in
-    let read = reads_still own c.args.recorded.now there c.read_directory-2.ensures.called.asked.blobs (c.in_ok-there.ensures {u = tt}).told in
+    let read = reads_still own c.args.recorded.now there c.read_directory-2.ensures.called.asked.some.blobs (c.in_ok-there.ensures {u = tt}).told in
     let both : ReadsBoth own (g.S.BlobSource.tells c.read_directory-2.new.source).blobs c.args.grafted.now c.args.recorded.now name here there = record { recorded = read; grafted = (c.in_ok-here.ensures {u = tt}).told; first = first.name } in
     let path = c.in_ok-path.ensures.path ∙ ap (λ o. names_in o ++ name ∷ []) c.as_ref.ensures.value in
     let B = (g.S.BlobSource.tells c.difference_below.new.source).blobs in
-    let later = reads_both own c.args.grafted.now c.args.recorded.now name here there c.difference_below.ensures.called.asked.blobs both in
+    let later = reads_both own c.args.grafted.now c.args.recorded.now name here there c.difference_below.ensures.called.asked.some.blobs both in
     let unlike = subst (IsUnlike (child_of name here) (child_of name there)) c.in-Directories.is first.unlike in
     let below = Finds own B (c.args.deeper - 1) c.in_ok-path.path c.in-Directories.grafted c.in-Directories.recorded in
     let found = Finds own B c.args.deeper (names_in c.args.above.now) c.args.grafted.now c.args.recorded.now in
@@ -177,39 +177,39 @@ returns-in_err-there-clause-learned g t c =
 
 pub returns-in_err-here-clause-learned : goal.returns-in_err-here-clause-learned
 returns-in_err-here-clause-learned g t c =
-    let read = reads_still (encodings_in c.args.own.now) c.args.recorded.now c.in_ok-there.there c.read_directory-2.ensures.called.asked.blobs (c.in_ok-there.ensures {u = tt}).told in
+    let read = reads_still (encodings_in c.args.own.now) c.args.recorded.now c.in_ok-there.there c.read_directory-2.ensures.called.asked.some.blobs (c.in_ok-there.ensures {u = tt}).told in
     learns_both (encodings_in c.args.own.now) c.args.grafted.now c.args.recorded.now c.args.deeper c.in_ok-there.there c.requires.some read (λ n. n) (c.in_ok-there.ensures {u = tt}).learned (learns_refused (λ a h. h) (refused_exit _ _ c.from_residual-in_err-here.ensures.1) (c.in_err-here.ensures {u = tt}).learned)
 
 pub returns-in_err-name-clause-learned : goal.returns-in_err-name-clause-learned
 returns-in_err-name-clause-learned g t c =
-    let read = reads_still (encodings_in c.args.own.now) c.args.recorded.now c.in_ok-there.there c.read_directory-2.ensures.called.asked.blobs (c.in_ok-there.ensures {u = tt}).told in
+    let read = reads_still (encodings_in c.args.own.now) c.args.recorded.now c.in_ok-there.there c.read_directory-2.ensures.called.asked.some.blobs (c.in_ok-there.ensures {u = tt}).told in
     learns_refused (λ a h. h) (refused_exit _ _ c.from_residual-in_err-name.ensures.1)
     (learns_both (encodings_in c.args.own.now) c.args.grafted.now c.args.recorded.now c.args.deeper c.in_ok-there.there c.requires.some read (λ n. n) (c.in_ok-there.ensures {u = tt}).learned (c.in_ok-here.ensures {u = tt}).learned)
 
 pub returns-in_err-path-clause-learned : goal.returns-in_err-path-clause-learned
 returns-in_err-path-clause-learned g t c =
-    let read = reads_still (encodings_in c.args.own.now) c.args.recorded.now c.in_ok-there.there c.read_directory-2.ensures.called.asked.blobs (c.in_ok-there.ensures {u = tt}).told in
+    let read = reads_still (encodings_in c.args.own.now) c.args.recorded.now c.in_ok-there.there c.read_directory-2.ensures.called.asked.some.blobs (c.in_ok-there.ensures {u = tt}).told in
     learns_refused (λ a h. h) (refused_exit _ _ c.from_residual-in_err-path.ensures.1)
     (learns_both (encodings_in c.args.own.now) c.args.grafted.now c.args.recorded.now c.args.deeper c.in_ok-there.there c.requires.some read (λ n. n) (c.in_ok-there.ensures {u = tt}).learned (c.in_ok-here.ensures {u = tt}).learned)
 
 pub returns-in-OnlyRecorded-clause-learned : goal.returns-in-OnlyRecorded-clause-learned
 returns-in-OnlyRecorded-clause-learned g t c =
-    let read = reads_still (encodings_in c.args.own.now) c.args.recorded.now c.in_ok-there.there c.read_directory-2.ensures.called.asked.blobs (c.in_ok-there.ensures {u = tt}).told in
+    let read = reads_still (encodings_in c.args.own.now) c.args.recorded.now c.in_ok-there.there c.read_directory-2.ensures.called.asked.some.blobs (c.in_ok-there.ensures {u = tt}).told in
     learns_both (encodings_in c.args.own.now) c.args.grafted.now c.args.recorded.now c.args.deeper c.in_ok-there.there c.requires.some read (λ n. n) (c.in_ok-there.ensures {u = tt}).learned (c.in_ok-here.ensures {u = tt}).learned
 
 pub returns-in-OnlyGrafted-clause-learned : goal.returns-in-OnlyGrafted-clause-learned
 returns-in-OnlyGrafted-clause-learned g t c =
-    let read = reads_still (encodings_in c.args.own.now) c.args.recorded.now c.in_ok-there.there c.read_directory-2.ensures.called.asked.blobs (c.in_ok-there.ensures {u = tt}).told in
+    let read = reads_still (encodings_in c.args.own.now) c.args.recorded.now c.in_ok-there.there c.read_directory-2.ensures.called.asked.some.blobs (c.in_ok-there.ensures {u = tt}).told in
     learns_both (encodings_in c.args.own.now) c.args.grafted.now c.args.recorded.now c.args.deeper c.in_ok-there.there c.requires.some read (λ n. n) (c.in_ok-there.ensures {u = tt}).learned (c.in_ok-here.ensures {u = tt}).learned
 
 pub returns-in-Others-clause-learned : goal.returns-in-Others-clause-learned
 returns-in-Others-clause-learned g t c =
-    let read = reads_still (encodings_in c.args.own.now) c.args.recorded.now c.in_ok-there.there c.read_directory-2.ensures.called.asked.blobs (c.in_ok-there.ensures {u = tt}).told in
+    let read = reads_still (encodings_in c.args.own.now) c.args.recorded.now c.in_ok-there.there c.read_directory-2.ensures.called.asked.some.blobs (c.in_ok-there.ensures {u = tt}).told in
     learns_both (encodings_in c.args.own.now) c.args.grafted.now c.args.recorded.now c.args.deeper c.in_ok-there.there c.requires.some read (λ n. n) (c.in_ok-there.ensures {u = tt}).learned (c.in_ok-here.ensures {u = tt}).learned
 
 pub returns-then-deeper-eq1-clause-learned : goal.returns-then-deeper-eq1-clause-learned
 returns-then-deeper-eq1-clause-learned g t c =
-    let read = reads_still (encodings_in c.args.own.now) c.args.recorded.now c.in_ok-there.there c.read_directory-2.ensures.called.asked.blobs (c.in_ok-there.ensures {u = tt}).told in
+    let read = reads_still (encodings_in c.args.own.now) c.args.recorded.now c.in_ok-there.there c.read_directory-2.ensures.called.asked.some.blobs (c.in_ok-there.ensures {u = tt}).told in
     learns_both (encodings_in c.args.own.now) c.args.grafted.now c.args.recorded.now c.args.deeper c.in_ok-there.there c.requires.some read (λ n. n) (c.in_ok-there.ensures {u = tt}).learned (c.in_ok-here.ensures {u = tt}).learned
 
 pub returns-clause-learned : goal.returns-clause-learned
@@ -219,10 +219,10 @@ returns-clause-learned g t c =
     let here = c.in_ok-here.here in
     let there = c.in_ok-there.there in
     let own = encodings_in c.args.own.now in
-    let read = reads_still own c.args.recorded.now there c.read_directory-2.ensures.called.asked.blobs (c.in_ok-there.ensures {u = tt}).told in
+    let read = reads_still own c.args.recorded.now there c.read_directory-2.ensures.called.asked.some.blobs (c.in_ok-there.ensures {u = tt}).told in
     let both : ReadsBoth own (g.S.BlobSource.tells c.read_directory-2.new.source).blobs c.args.grafted.now c.args.recorded.now name here there = record { recorded = read; grafted = (c.in_ok-here.ensures {u = tt}).told; first = first.name } in
     let B = (g.S.BlobSource.tells c.difference_below.new.source).blobs in
-    let grows = c.difference_below.ensures.called.asked.blobs in
+    let grows = c.difference_below.ensures.called.asked.some.blobs in
     let later = reads_both own c.args.grafted.now c.args.recorded.now name here there grows both in
     let unlike = subst (IsUnlike (child_of name here) (child_of name there)) c.in-Directories.is first.unlike in
     learns_then {t1 = g.S.BlobSource.tells c.read_directory-2.new.source} (λ a. compares_still own grows a c.args.deeper c.args.grafted.now c.args.recorded.now)

@@ -12,7 +12,7 @@ pub returns-in_err-directory-clause-refused : goal.returns-in_err-directory-clau
 returns-in_err-directory-clause-refused g c =
     let p = err_from_is_err_and c.from_residual.result c.from_residual.ensures.1 in
     let goes = goes_dir _ c.args.root.now c.in-Dir.digest c.args.names.now _ c.loop-name.node c.in-Dir.is c.loop-name.invariant.goes in
-    rw (p.1, p.2) (goes_wrong _ _ c.args.root.now _ c.args.names.now c.loop-name.name-index _ c.loop-name-test.true goes c.fetch_message.ensures.called.asked.blobs c.in_err-directory.ensures.faulty)
+    rw (p.1, p.2) (goes_wrong _ _ c.args.root.now _ c.args.names.now c.loop-name.name-index _ c.loop-name-test.true goes c.fetch_message.ensures.called.asked.some.blobs c.in_err-directory.ensures.faulty)
 
 pub returns-in_err-directory-clause-called : goal.returns-in_err-directory-clause-called
 returns-in_err-directory-clause-called g c =
@@ -26,7 +26,7 @@ pub returns-in-None-clause-found : goal.returns-in-None-clause-found
 returns-in-None-clause-found g c =
     let goes = goes_dir _ c.args.root.now c.in-Dir.digest c.args.names.now _ c.loop-name.node c.in-Dir.is c.loop-name.invariant.goes in
     goes_nowhere _ c.args.root.now c.args.names.now _
-    (goes_child _ _ c.args.root.now _ c.args.names.now c.loop-name.name-index c.name-item.result _ None c.loop-name-test.true goes c.fetch_message.ensures.called.asked.blobs c.in_ok-directory.ensures.told c.name-item.is
+    (goes_child _ _ c.args.root.now _ c.args.names.now c.loop-name.name-index c.name-item.result _ None c.loop-name-test.true goes c.fetch_message.ensures.called.asked.some.blobs c.in_ok-directory.ensures.told c.name-item.is
     (sym c.in-None.is ∙ (c.in_ok-next.ensures {u = tt}).exact ∙ ap (λ n. child n c.in_ok-directory.directory) c.as_bytes.ensures.value))
 
 pub returns-in-None-clause-called : goal.returns-in-None-clause-called
@@ -38,6 +38,6 @@ loop-name-preserved g c =
     let goes = goes_dir _ c.args.root.now c.in-Dir.digest c.args.names.now _ c.loop-name.node c.in-Dir.is c.loop-name.invariant.goes in
     record {
       called = calls_on asks_then c.loop-name.invariant.called (called_no ok_no_error (λ n. n) c.in_ok-directory.ensures.called);
-      goes = goes_child _ _ c.args.root.now _ c.args.names.now c.loop-name.name-index c.name-item.result _ (Some c.in-Some.next) c.loop-name-test.true goes c.fetch_message.ensures.called.asked.blobs c.in_ok-directory.ensures.told c.name-item.is
+      goes = goes_child _ _ c.args.root.now _ c.args.names.now c.loop-name.name-index c.name-item.result _ (Some c.in-Some.next) c.loop-name-test.true goes c.fetch_message.ensures.called.asked.some.blobs c.in_ok-directory.ensures.told c.name-item.is
           (sym c.in-Some.is ∙ (c.in_ok-next.ensures {u = tt}).exact ∙ ap (λ n. child n c.in_ok-directory.directory) c.as_bytes.ensures.value);
     }

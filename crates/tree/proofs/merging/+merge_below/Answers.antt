@@ -94,7 +94,6 @@ returns-then-not-can_meet-clause-refused g t c =
     let path = names_in c.args.above.now in
     let ls = part_values W c.args.parts.items in
     let at = at_name (c.args.deeper - 1) path in
-    let look = look_name (c.args.deeper - 1) path in
     let n = c.in-Some.name in
     let given = part_values W c.in-Some.parts.items in
     let left = group_values W c.next.new.self in
@@ -103,8 +102,6 @@ returns-then-not-can_meet-clause-refused g t c =
     let made = children_directory c.loop-name.children in
     let tops = tops_in c.loop-name.children in
     let merges = subst (λ l. MergesOn at B made tops (group_values W l) (grouped ls)) steps c.loop-name.invariant.merges in
-    let looking = subst (λ l. LooksOn at look B (group_values W l) (grouped ls)) steps c.loop-name.invariant.looking in
-    let held = subst (λ l. GroupsHeld (group_values W l)) steps c.loop-name.invariant.held in
     let kept = part_values W c.in_ok-parts.parts.items in
     let same = c.in_ok-parts.ensures {u = tt} W in
     let test = ap (λ ps. is_some (lone (part_values W ps))) (sym c.deref.ensures.value) ∙ sym (c.is_lone.ensures W) ∙ c.if-is_lone.false in
@@ -127,21 +124,9 @@ returns-then-not-can_meet-clause-learned g t c =
 pub open_parts-requires-clause-held : goal.open_parts-requires-clause-held
 open_parts-requires-clause-held g t c =
     let W = within_of c.args.lines.now in
-    let path = names_in c.args.above.now in
-    let ls = part_values W c.args.parts.items in
-    let at = at_name (c.args.deeper - 1) path in
-    let look = look_name (c.args.deeper - 1) path in
-    let n = c.in-Some.name in
     let given = part_values W c.in-Some.parts.items in
-    let left = group_values W c.next.new.self in
-    let B = (g.S.BlobSource.tells c.loop-name.source).blobs in
     let steps = rest_more (λ x. x) c.loop-name.name-iterator c.next.new.self c.next.result (c.in-Some.name, c.in-Some.parts) c.in-Some.is c.next.ensures.steps in
-    let made = children_directory c.loop-name.children in
-    let tops = tops_in c.loop-name.children in
-    let merges = subst (λ l. MergesOn at B made tops (group_values W l) (grouped ls)) steps c.loop-name.invariant.merges in
-    let looking = subst (λ l. LooksOn at look B (group_values W l) (grouped ls)) steps c.loop-name.invariant.looking in
     let held = subst (λ l. GroupsHeld (group_values W l)) steps c.loop-name.invariant.held in
-    let kept = part_values W c.in_ok-parts.parts.items in
     let same = c.in_ok-parts.ensures {u = tt} W in
     subst AreHeld (sym same) (counted_held given held.0)
 
@@ -151,7 +136,6 @@ returns-in_err-parts-2-clause-refused g t c =
     let path = names_in c.args.above.now in
     let ls = part_values W c.args.parts.items in
     let at = at_name (c.args.deeper - 1) path in
-    let look = look_name (c.args.deeper - 1) path in
     let n = c.in-Some.name in
     let given = part_values W c.in-Some.parts.items in
     let left = group_values W c.next.new.self in
@@ -160,8 +144,6 @@ returns-in_err-parts-2-clause-refused g t c =
     let made = children_directory c.loop-name.children in
     let tops = tops_in c.loop-name.children in
     let merges = subst (λ l. MergesOn at B made tops (group_values W l) (grouped ls)) steps c.loop-name.invariant.merges in
-    let looking = subst (λ l. LooksOn at look B (group_values W l) (grouped ls)) steps c.loop-name.invariant.looking in
-    let held = subst (λ l. GroupsHeld (group_values W l)) steps c.loop-name.invariant.held in
     let kept = part_values W c.in_ok-parts.parts.items in
     let same = c.in_ok-parts.ensures {u = tt} W in
     let test = ap (λ ps. is_some (lone (part_values W ps))) (sym c.deref.ensures.value) ∙ sym (c.is_lone.ensures W) ∙ c.if-is_lone.false in
@@ -170,7 +152,7 @@ returns-in_err-parts-2-clause-refused g t c =
     let is : IsTrue c.can_meet.result = search rules in
     let can = subst (λ ps. CanMeet (c.args.deeper - 1) (part_values W ps)) c.deref-else-is_lone.ensures.value ((c.can_meet.ensures W).0 is) in
     let C = (g.S.BlobSource.tells c.open_parts.new.source).blobs in
-    let opens = c.open_parts.ensures.called.asked.asks.blobs in
+    let opens = c.open_parts.ensures.called.asked.blobs in
     let p = err_from_is_err_and c.from_residual-in_err-parts-2.result c.from_residual-in_err-parts-2.ensures.1 in
     rw (p.1, p.2) (merge_explained (opened C kept).fails (merged_in C c.args.deeper path ls).fails _
     (λ f h. whole_fails c.args.deeper path ls c.requires.some C f (merges_fault at n given left (grouped ls) made tops opens merges f
@@ -192,11 +174,7 @@ returns-in_err-parts-2-clause-learned g t c =
     let left = group_values W c.next.new.self in
     let B = (g.S.BlobSource.tells c.loop-name.source).blobs in
     let steps = rest_more (λ x. x) c.loop-name.name-iterator c.next.new.self c.next.result (c.in-Some.name, c.in-Some.parts) c.in-Some.is c.next.ensures.steps in
-    let made = children_directory c.loop-name.children in
-    let tops = tops_in c.loop-name.children in
-    let merges = subst (λ l. MergesOn at B made tops (group_values W l) (grouped ls)) steps c.loop-name.invariant.merges in
     let looking = subst (λ l. LooksOn at look B (group_values W l) (grouped ls)) steps c.loop-name.invariant.looking in
-    let held = subst (λ l. GroupsHeld (group_values W l)) steps c.loop-name.invariant.held in
     let kept = part_values W c.in_ok-parts.parts.items in
     let same = c.in_ok-parts.ensures {u = tt} W in
     let test = ap (λ ps. is_some (lone (part_values W ps))) (sym c.deref.ensures.value) ∙ sym (c.is_lone.ensures W) ∙ c.if-is_lone.false in
@@ -205,7 +183,7 @@ returns-in_err-parts-2-clause-learned g t c =
     let is : IsTrue c.can_meet.result = search rules in
     let can = subst (λ ps. CanMeet (c.args.deeper - 1) (part_values W ps)) c.deref-else-is_lone.ensures.value ((c.can_meet.ensures W).0 is) in
     let C = (g.S.BlobSource.tells c.open_parts.new.source).blobs in
-    let opens = c.open_parts.ensures.called.asked.asks.blobs in
+    let opens = c.open_parts.ensures.called.asked.blobs in
     learns_then {t1 = g.S.BlobSource.tells c.loop-name.source} (λ a. (steady_merged_in c.args.deeper path ls).still B C opens a)
     (λ a h. whole_looks c.args.deeper path ls c.requires.some C a (looks_at at look n given left (grouped ls) opens looking a (opening_looks (c.args.deeper - 1) path n given kept same none c.in_ok-path.path child can C a h))) (λ n. n)
     c.loop-name.invariant.learned (learns_refused (λ a h. h) (refused_exit _ _ c.from_residual-in_err-parts-2.ensures.1) c.in_err-parts-2.ensures.learned)
@@ -214,28 +192,16 @@ pub merge_below-requires : goal.merge_below-requires
 merge_below-requires g t c κs within =
     let W = within_of c.args.lines.now in
     let path = names_in c.args.above.now in
-    let ls = part_values W c.args.parts.items in
-    let at = at_name (c.args.deeper - 1) path in
-    let look = look_name (c.args.deeper - 1) path in
     let n = c.in-Some.name in
     let given = part_values W c.in-Some.parts.items in
-    let left = group_values W c.next.new.self in
-    let B = (g.S.BlobSource.tells c.loop-name.source).blobs in
     let steps = rest_more (λ x. x) c.loop-name.name-iterator c.next.new.self c.next.result (c.in-Some.name, c.in-Some.parts) c.in-Some.is c.next.ensures.steps in
-    let made = children_directory c.loop-name.children in
-    let tops = tops_in c.loop-name.children in
-    let merges = subst (λ l. MergesOn at B made tops (group_values W l) (grouped ls)) steps c.loop-name.invariant.merges in
-    let looking = subst (λ l. LooksOn at look B (group_values W l) (grouped ls)) steps c.loop-name.invariant.looking in
     let held = subst (λ l. GroupsHeld (group_values W l)) steps c.loop-name.invariant.held in
     let kept = part_values W c.in_ok-parts.parts.items in
     let same = c.in_ok-parts.ensures {u = tt} W in
-    let test = ap (λ ps. is_some (lone (part_values W ps))) (sym c.deref.ensures.value) ∙ sym (c.is_lone.ensures W) ∙ c.if-is_lone.false in
-    let none = no_lone (lone kept) test in
     let child = c.in_ok-path.ensures.path ∙ ap (λ o. names_in o ++ n ∷ []) c.as_ref.ensures.value in
     let is : IsTrue c.can_meet.result = search rules in
     let can = subst (λ ps. CanMeet (c.args.deeper - 1) (part_values W ps)) c.deref-else-is_lone.ensures.value ((c.can_meet.ensures W).0 is) in
     let C = (g.S.BlobSource.tells c.open_parts.new.source).blobs in
-    let opens = c.open_parts.ensures.called.asked.asks.blobs in
     let new = part_values W c.in_ok-parts-2.parts.items in
     let read = (c.in_ok-parts-2.ensures {u = tt}).opened in
     let longer = ap length child ∙ length-append path (n ∷ []) in
@@ -259,7 +225,6 @@ returns-in_err-below-clause-refused g t c =
     let path = names_in c.args.above.now in
     let ls = part_values W c.args.parts.items in
     let at = at_name (c.args.deeper - 1) path in
-    let look = look_name (c.args.deeper - 1) path in
     let n = c.in-Some.name in
     let given = part_values W c.in-Some.parts.items in
     let left = group_values W c.next.new.self in
@@ -268,8 +233,6 @@ returns-in_err-below-clause-refused g t c =
     let made = children_directory c.loop-name.children in
     let tops = tops_in c.loop-name.children in
     let merges = subst (λ l. MergesOn at B made tops (group_values W l) (grouped ls)) steps c.loop-name.invariant.merges in
-    let looking = subst (λ l. LooksOn at look B (group_values W l) (grouped ls)) steps c.loop-name.invariant.looking in
-    let held = subst (λ l. GroupsHeld (group_values W l)) steps c.loop-name.invariant.held in
     let kept = part_values W c.in_ok-parts.parts.items in
     let same = c.in_ok-parts.ensures {u = tt} W in
     let test = ap (λ ps. is_some (lone (part_values W ps))) (sym c.deref.ensures.value) ∙ sym (c.is_lone.ensures W) ∙ c.if-is_lone.false in
@@ -278,9 +241,9 @@ returns-in_err-below-clause-refused g t c =
     let is : IsTrue c.can_meet.result = search rules in
     let can = subst (λ ps. CanMeet (c.args.deeper - 1) (part_values W ps)) c.deref-else-is_lone.ensures.value ((c.can_meet.ensures W).0 is) in
     let C = (g.S.BlobSource.tells c.open_parts.new.source).blobs in
-    let opens = c.open_parts.ensures.called.asked.asks.blobs in
+    let opens = c.open_parts.ensures.called.asked.blobs in
     let D = (g.S.BlobSource.tells c.merge_below.new.source).blobs in
-    let grows = c.merge_below.ensures.called.asked.asks.blobs in
+    let grows = c.merge_below.ensures.called.asked.blobs in
     let new = part_values W c.in_ok-parts-2.parts.items in
     let read = (c.in_ok-parts-2.ensures {u = tt}).opened in
     let more : Grows B D = λ e b h. grows e b (opens e b h) in
@@ -306,11 +269,7 @@ returns-in_err-below-clause-learned g t c =
     let left = group_values W c.next.new.self in
     let B = (g.S.BlobSource.tells c.loop-name.source).blobs in
     let steps = rest_more (λ x. x) c.loop-name.name-iterator c.next.new.self c.next.result (c.in-Some.name, c.in-Some.parts) c.in-Some.is c.next.ensures.steps in
-    let made = children_directory c.loop-name.children in
-    let tops = tops_in c.loop-name.children in
-    let merges = subst (λ l. MergesOn at B made tops (group_values W l) (grouped ls)) steps c.loop-name.invariant.merges in
     let looking = subst (λ l. LooksOn at look B (group_values W l) (grouped ls)) steps c.loop-name.invariant.looking in
-    let held = subst (λ l. GroupsHeld (group_values W l)) steps c.loop-name.invariant.held in
     let kept = part_values W c.in_ok-parts.parts.items in
     let same = c.in_ok-parts.ensures {u = tt} W in
     let test = ap (λ ps. is_some (lone (part_values W ps))) (sym c.deref.ensures.value) ∙ sym (c.is_lone.ensures W) ∙ c.if-is_lone.false in
@@ -319,9 +278,9 @@ returns-in_err-below-clause-learned g t c =
     let is : IsTrue c.can_meet.result = search rules in
     let can = subst (λ ps. CanMeet (c.args.deeper - 1) (part_values W ps)) c.deref-else-is_lone.ensures.value ((c.can_meet.ensures W).0 is) in
     let C = (g.S.BlobSource.tells c.open_parts.new.source).blobs in
-    let opens = c.open_parts.ensures.called.asked.asks.blobs in
+    let opens = c.open_parts.ensures.called.asked.blobs in
     let D = (g.S.BlobSource.tells c.merge_below.new.source).blobs in
-    let grows = c.merge_below.ensures.called.asked.asks.blobs in
+    let grows = c.merge_below.ensures.called.asked.blobs in
     let new = part_values W c.in_ok-parts-2.parts.items in
     let read = (c.in_ok-parts-2.ensures {u = tt}).opened in
     let more : Grows B D = λ e b h. grows e b (opens e b h) in
@@ -352,11 +311,7 @@ returns-in_err-push_folder-clause-learned g t c =
     let left = group_values W c.next.new.self in
     let B = (g.S.BlobSource.tells c.loop-name.source).blobs in
     let steps = rest_more (λ x. x) c.loop-name.name-iterator c.next.new.self c.next.result (c.in-Some.name, c.in-Some.parts) c.in-Some.is c.next.ensures.steps in
-    let made = children_directory c.loop-name.children in
-    let tops = tops_in c.loop-name.children in
-    let merges = subst (λ l. MergesOn at B made tops (group_values W l) (grouped ls)) steps c.loop-name.invariant.merges in
     let looking = subst (λ l. LooksOn at look B (group_values W l) (grouped ls)) steps c.loop-name.invariant.looking in
-    let held = subst (λ l. GroupsHeld (group_values W l)) steps c.loop-name.invariant.held in
     let kept = part_values W c.in_ok-parts.parts.items in
     let same = c.in_ok-parts.ensures {u = tt} W in
     let test = ap (λ ps. is_some (lone (part_values W ps))) (sym c.deref.ensures.value) ∙ sym (c.is_lone.ensures W) ∙ c.if-is_lone.false in
@@ -365,9 +320,9 @@ returns-in_err-push_folder-clause-learned g t c =
     let is : IsTrue c.can_meet.result = search rules in
     let can = subst (λ ps. CanMeet (c.args.deeper - 1) (part_values W ps)) c.deref-else-is_lone.ensures.value ((c.can_meet.ensures W).0 is) in
     let C = (g.S.BlobSource.tells c.open_parts.new.source).blobs in
-    let opens = c.open_parts.ensures.called.asked.asks.blobs in
+    let opens = c.open_parts.ensures.called.asked.blobs in
     let D = (g.S.BlobSource.tells c.merge_below.new.source).blobs in
-    let grows = c.merge_below.ensures.called.asked.asks.blobs in
+    let grows = c.merge_below.ensures.called.asked.blobs in
     let new = part_values W c.in_ok-parts-2.parts.items in
     let read = (c.in_ok-parts-2.ensures {u = tt}).opened in
     let more : Grows B D = λ e b h. grows e b (opens e b h) in
@@ -424,11 +379,11 @@ loop-name-preserved g t c =
           let is : IsTrue w.can_meet.result = search rules in
           let can = subst (λ ps. CanMeet (c.args.deeper - 1) (part_values W ps)) w.deref-else-is_lone.ensures.value ((w.can_meet.ensures W).0 is) in
           let C = (g.S.BlobSource.tells w.open_parts.new.source).blobs in
-          let opens = w.open_parts.ensures.called.asked.asks.blobs in
+          let opens = w.open_parts.ensures.called.asked.blobs in
           let new = part_values W w.in_ok-parts-2.parts.items in
           let read = (w.in_ok-parts-2.ensures {u = tt}).opened in
           let D = (g.S.BlobSource.tells w.merge_below.new.source).blobs in
-          let grows = w.merge_below.ensures.called.asked.asks.blobs in
+          let grows = w.merge_below.ensures.called.asked.blobs in
           let more : Grows B D = λ e b h. grows e b (opens e b h) in
           let merged = (w.in_ok-below.ensures {u = tt}).merged in
           let pushed = w.in_ok-push_folder.ensures {u = tt} in
@@ -460,11 +415,11 @@ loop-name-preserved g t c =
           let is : IsTrue w.can_meet.result = search rules in
           let can = subst (λ ps. CanMeet (c.args.deeper - 1) (part_values W ps)) w.deref-else-is_lone.ensures.value ((w.can_meet.ensures W).0 is) in
           let C = (g.S.BlobSource.tells w.open_parts.new.source).blobs in
-          let opens = w.open_parts.ensures.called.asked.asks.blobs in
+          let opens = w.open_parts.ensures.called.asked.blobs in
           let new = part_values W w.in_ok-parts-2.parts.items in
           let read = (w.in_ok-parts-2.ensures {u = tt}).opened in
           let D = (g.S.BlobSource.tells w.merge_below.new.source).blobs in
-          let grows = w.merge_below.ensures.called.asked.asks.blobs in
+          let grows = w.merge_below.ensures.called.asked.blobs in
           let more : Grows B D = λ e b h. grows e b (opens e b h) in
           let merged = (w.in_ok-below.ensures {u = tt}).merged in
           let pushed = w.in_ok-push_folder.ensures {u = tt} in

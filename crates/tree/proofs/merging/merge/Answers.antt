@@ -17,27 +17,17 @@ merge_below-requires-clause-held g c = subst AreHeld (sym ((c.in_ok-parts.ensure
 pub returns-clause-merged : goal.returns-clause-merged
 returns-clause-merged g c =
     let B = (g.S.BlobSource.tells c.merge_below.new.source).blobs in
-    let visit = (c.in_ok-visited.ensures {u = tt}).merged in (
-      visit.0,
-      root_passes B _ _ ((c.in_ok-parts.ensures {u = tt}).parts) visit.0 visit.1,
-      record {
-        root = visit.2.root;
-        directories = c.in_ok-each_once.ensures {u = tt} ∙ ap (unseen []) visit.2.encodings;
-      },
-    )
-
-pub returns-clause-valid : goal.returns-clause-valid
-returns-clause-valid g c =
-    let B = (g.S.BlobSource.tells c.merge_below.new.source).blobs in
     let parts = c.in_ok-parts.ensures {u = tt} in
     let visit = (c.in_ok-visited.ensures {u = tt}).merged in
-    let good = merged_valid B 64 [] (merge_lines c.args.lines.now) parts.valid c.requires.held visit.0 (subst (λ ls. (merged_in B 64 [] ls).passes visit.0) parts.parts visit.1) in
-    record {
-      tree = visit.0;
-      ordered = good.1;
-      valid = good.0;
-      fold = record { root = visit.2.root; directories = c.in_ok-each_once.ensures {u = tt} ∙ ap (unseen []) visit.2.encodings };
-    }
+    let good = merged_valid B 64 [] (merge_lines c.args.lines.now) parts.valid c.requires.held visit.0 (subst (λ ls. (merged_in B 64 [] ls).passes visit.0) parts.parts visit.1) in (
+      visit.0,
+      root_passes B _ _ parts.parts visit.0 visit.1,
+      record {
+        ordered = good.1;
+        valid = good.0;
+        fold = record { root = visit.2.root; directories = c.in_ok-each_once.ensures {u = tt} ∙ ap (unseen []) visit.2.encodings };
+      },
+    )
 
 pub returns-in_err-visited-clause-refused : goal.returns-in_err-visited-clause-refused
 returns-in_err-visited-clause-refused g c =

@@ -44,7 +44,7 @@ returns-in_err-open_node-clause-refused g c =
     let old = subst (λ ps. OpensOn B (part_values W c.loop-part.below.items) (part_values W ps) all) steps c.loop-part.invariant.opens in
     let p = err_from_is_err_and c.from_residual.result c.from_residual.ensures.1 in
     rw (p.1, p.2) (merge_explained (node_opened C x.node x.within).fails (opened C all).fails _
-    (fault_here part.names.items x (part_values W left) all (part_values W c.loop-part.below.items) c.open_node.ensures.called.asked.asks.blobs none old) c.in_err-open_node.ensures.refused)
+    (fault_here part.names.items x (part_values W left) all (part_values W c.loop-part.below.items) c.open_node.ensures.called.asked.blobs none old) c.in_err-open_node.ensures.refused)
 
 pub returns-in_err-open_node-clause-called : goal.returns-in_err-open_node-clause-called
 returns-in_err-open_node-clause-called g c = called_on c.loop-part.invariant.called (called_exit c.from_residual.ensures.1 c.in_err-open_node.ensures.called)
@@ -60,7 +60,7 @@ returns-in_err-open_node-clause-learned g c =
     let none = nothing_left part.names.items (omega (arith, test, part.names.ok.0)) in
     let B = (g.S.BlobSource.tells c.loop-part.source).blobs in
     let all = part_values W c.args.parts.items in
-    let grows = c.open_node.ensures.called.asked.asks.blobs in
+    let grows = c.open_node.ensures.called.asked.blobs in
     let looking = subst (λ ps. OpensLooking B (part_values W ps) all) steps c.loop-part.invariant.looking in
     learns_then {t1 = g.S.BlobSource.tells c.loop-part.source} (λ a. opened_still all a grows) (looks_here_at part.names.items x (part_values W left) all (part_values W c.loop-part.below.items) grows none looking) (λ n. n)
     c.loop-part.invariant.learned (learns_refused (λ a h. h) (refused_exit _ _ c.from_residual.ensures.1) c.in_err-open_node.ensures.learned)
@@ -79,7 +79,7 @@ loop-part-preserved-in_ok-open_node g c =
     let held = subst (λ ps. AreHeld (part_values W ps)) steps c.loop-part.invariant.held in
     let test = (Decides-eqb (vec_len part.names) 0).0 (sym c.if-is_empty.ensures) in
     let none = nothing_left part.names.items (omega (arith, test, part.names.ok.0)) in
-    let grows = c.open_node.ensures.called.asked.asks.blobs in
+    let grows = c.open_node.ensures.called.asked.blobs in
     let C = (g.S.BlobSource.tells c.open_node.new.source).blobs in
     let new = (c.in_ok-open_node.ensures {u = tt}).opened in
     record {
@@ -105,7 +105,7 @@ loop-part-preserved-in_ok-open_node-2 g c =
     let held = subst (λ ps. AreHeld (part_values W ps)) steps c.loop-part.invariant.held in
     let test = (Decides-eqb (vec_len part.names) 0).0 (sym c.if-is_empty.ensures) in
     let none = nothing_left part.names.items (omega (arith, test, part.names.ok.0)) in
-    let grows = c.open_node.ensures.called.asked.asks.blobs in
+    let grows = c.open_node.ensures.called.asked.blobs in
     let C = (g.S.BlobSource.tells c.open_node.new.source).blobs in
     let new = (c.in_ok-open_node.ensures {u = tt}).opened in
     record {

@@ -50,7 +50,7 @@ returns-in_err-unfold_below-in-Dir-clause-refused g t c =
     let unfolds = subst (λ l. Unfolds (g.S.BlobSource.tells c.loop-name.source).blobs c.args.digest.now (names_in c.args.above.now) (flat_value c.args.entries.now.items) (flat_value c.loop-name.entries.items) (child_values l)) steps c.loop-name.invariant.unfolds in
     let node = subst (λ x. Unfolds (g.S.BlobSource.tells c.loop-name.source).blobs c.args.digest.now (names_in c.args.above.now) (flat_value c.args.entries.now.items) (flat_value c.loop-name.entries.items) ((c.in-Some.name, node_value x) ∷ child_values c.next.new.self)) c.in-Dir.is unfolds in
     let path = c.in_ok-path.ensures.path ∙ ap (λ o. names_in o ++ c.in-Some.name ∷ []) c.as_ref.ensures.value in
-    rw (p.1, p.2) (child_fault _ _ c.args.digest.now c.in-Dir.digest (names_in c.args.above.now) c.in_ok-path.path _ _ c.in-Some.name (child_values c.next.new.self) _ c.unfold_below.ensures.called.asked.asks.blobs node path c.in_err-unfold_below-in-Dir.ensures.refused)
+    rw (p.1, p.2) (child_fault _ _ c.args.digest.now c.in-Dir.digest (names_in c.args.above.now) c.in_ok-path.path _ _ c.in-Some.name (child_values c.next.new.self) _ c.unfold_below.ensures.called.asked.blobs node path (c.in_ok-names.ensures {u = tt}).valid.few c.in_err-unfold_below-in-Dir.ensures.refused)
 
 pub returns-in_err-unfold_below-in-Dir-clause-called : goal.returns-in_err-unfold_below-in-Dir-clause-called
 returns-in_err-unfold_below-in-Dir-clause-called g t c =
@@ -83,7 +83,7 @@ loop-name-preserved g t c =
             finite = tt;
             called = c.loop-name.invariant.called;
             few = omega (arith, c.loop-name.invariant.few, counts_leaf _ _ c.in_ok-path.path _ pushed);
-            unfolds = unfolds_leaf _ _ c.args.digest.now (names_in c.args.above.now) _ _ _ c.in-Some.name _ c.in_ok-path.path (child_values c.next.new.self) (λ e b h. h) (subst before w.in-File.is unfolds) path names.valid pushed;
+            unfolds = unfolds_leaf _ _ c.args.digest.now (names_in c.args.above.now) _ _ _ c.in-Some.name _ c.in_ok-path.path (child_values c.next.new.self) (λ e b h. h) (subst before w.in-File.is unfolds) (λ e i. cc) path names.valid pushed;
           })
       | in-Link+in_ok-push-in-Link w ↦
           let pushed = flat_pushed c.loop-name.entries.items w.push-in-Link.new.self.items c.in_ok-names.names _ c.in_ok-path.path names.value (w.in_ok-push-in-Link.ensures {u = tt}).items in
@@ -92,7 +92,7 @@ loop-name-preserved g t c =
             finite = tt;
             called = c.loop-name.invariant.called;
             few = omega (arith, c.loop-name.invariant.few, counts_leaf _ _ c.in_ok-path.path _ pushed);
-            unfolds = unfolds_leaf _ _ c.args.digest.now (names_in c.args.above.now) _ _ _ c.in-Some.name _ c.in_ok-path.path (child_values c.next.new.self) (λ e b h. h) (subst before w.in-Link.is unfolds) path names.valid pushed;
+            unfolds = unfolds_leaf _ _ c.args.digest.now (names_in c.args.above.now) _ _ _ c.in-Some.name _ c.in_ok-path.path (child_values c.next.new.self) (λ e b h. h) (subst before w.in-Link.is unfolds) (λ e i. cc) path names.valid pushed;
           })
       | in-Dir+in_ok-push-in-Dir+in_ok-unfold_below-in-Dir+in-Some-1 w ↦
           let pushed = flat_pushed c.loop-name.entries.items w.push-in-Dir.new.self.items c.in_ok-names.names _ c.in_ok-path.path names.value (w.in_ok-push-in-Dir.ensures {u = tt}).items in
@@ -101,7 +101,7 @@ loop-name-preserved g t c =
             finite = tt;
             called = called_on c.loop-name.invariant.called (called_no ok_no_error (λ n. n) (w.in_ok-unfold_below-in-Dir.ensures {u = tt}).called);
             few = omega (arith, c.loop-name.invariant.few, counts_folder _ _ c.in_ok-path.path pushed, (w.in_ok-unfold_below-in-Dir.ensures {u = tt}).few);
-            unfolds = unfolds_folder _ _ c.args.digest.now (names_in c.args.above.now) _ _ _ _ c.in-Some.name w.in-Dir.digest c.in_ok-path.path (child_values c.next.new.self) w.unfold_below.ensures.called.asked.asks.blobs (subst before w.in-Dir.is unfolds) path names.valid pushed (w.in_ok-unfold_below-in-Dir.ensures {u = tt}).told;
+            unfolds = unfolds_folder _ _ c.args.digest.now (names_in c.args.above.now) _ _ _ _ c.in-Some.name w.in-Dir.digest c.in_ok-path.path (child_values c.next.new.self) w.unfold_below.ensures.called.asked.blobs (subst before w.in-Dir.is unfolds) path names.valid pushed (w.in_ok-unfold_below-in-Dir.ensures {u = tt}).told;
           })
       | in-Dir+in_ok-push-in-Dir+in_ok-unfold_below-in-Dir+in-None-1 w ↦
           let pushed = flat_pushed c.loop-name.entries.items w.push-in-Dir.new.self.items c.in_ok-names.names _ c.in_ok-path.path names.value (w.in_ok-push-in-Dir.ensures {u = tt}).items in
@@ -110,7 +110,7 @@ loop-name-preserved g t c =
             finite = tt;
             called = called_on c.loop-name.invariant.called (called_no ok_no_error (λ n. n) (w.in_ok-unfold_below-in-Dir.ensures {u = tt}).called);
             few = omega (arith, c.loop-name.invariant.few, counts_folder _ _ c.in_ok-path.path pushed, (w.in_ok-unfold_below-in-Dir.ensures {u = tt}).few);
-            unfolds = unfolds_folder _ _ c.args.digest.now (names_in c.args.above.now) _ _ _ _ c.in-Some.name w.in-Dir.digest c.in_ok-path.path (child_values c.next.new.self) w.unfold_below.ensures.called.asked.asks.blobs (subst before w.in-Dir.is unfolds) path names.valid pushed (w.in_ok-unfold_below-in-Dir.ensures {u = tt}).told;
+            unfolds = unfolds_folder _ _ c.args.digest.now (names_in c.args.above.now) _ _ _ _ c.in-Some.name w.in-Dir.digest c.in_ok-path.path (child_values c.next.new.self) w.unfold_below.ensures.called.asked.blobs (subst before w.in-Dir.is unfolds) path names.valid pushed (w.in_ok-unfold_below-in-Dir.ensures {u = tt}).told;
           })
     ]
 

@@ -39,7 +39,7 @@ returns-in-Ok-clause-told g c =
     let new = (g.S.BlobSource.tells c.merge.new.source).blobs in
     let os = g.O.Outcomes.came_to c.args.outcomes.now in
     let nodes = merge_lines c.in_ok-nodes.nodes.items in
-    let origins = resolves_still mid new c.args.sources.now os c.args.lines.now nodes c.merge.ensures.called.asked.asks.blobs c.in_ok-nodes.ensures.told in
+    let origins = resolves_still mid new c.args.sources.now os c.args.lines.now nodes c.merge.ensures.called.asked.blobs c.in_ok-nodes.ensures.told in
     let made = (c.in-Ok.ensures {u = tt}).merged in
     (made.0, passes_together new c.args.sources.now os c.args.lines.now nodes made.0 origins (subst (λ ns. (merged new (merge_lines ns)).passes made.0) c.deref.ensures.value made.1), made.2)
 
@@ -51,7 +51,7 @@ returns-in-Ok-clause-learned g c =
     let mid = (g.S.BlobSource.tells c.resolve.new.source).blobs in
     let new = (g.S.BlobSource.tells c.merge.new.source).blobs in
     let os = g.O.Outcomes.came_to c.args.outcomes.now in
-    let grows = c.merge.ensures.called.asked.asks.blobs in
+    let grows = c.merge.ensures.called.asked.blobs in
     let nodes = merge_lines c.in_ok-nodes.nodes.items in
     learns_then {t1 = g.S.BlobSource.tells c.resolve.new.source} (λ a. together_first mid new c.args.sources.now os c.args.lines.now a grows)
     (λ a h. together_next mid new c.args.sources.now os c.args.lines.now nodes a grows c.in_ok-nodes.ensures.told (subst (λ ns. MergeLooksAt new (merge_lines ns) a) c.deref.ensures.value h)) (λ n. n)
@@ -63,7 +63,7 @@ returns-clause-faulty g c =
     let new = (g.S.BlobSource.tells c.merge.new.source).blobs in
     let os = g.O.Outcomes.came_to c.args.outcomes.now in
     let nodes = merge_lines c.in_ok-nodes.nodes.items in
-    let origins = resolves_still mid new c.args.sources.now os c.args.lines.now nodes c.merge.ensures.called.asked.asks.blobs c.in_ok-nodes.ensures.told in
+    let origins = resolves_still mid new c.args.sources.now os c.args.lines.now nodes c.merge.ensures.called.asked.blobs c.in_ok-nodes.ensures.told in
     merge_explained (merged new (merge_lines c.deref.result.now)).fails (put_together new c.args.sources.now os c.args.lines.now).fails c.in-Err.error
     (λ why h. fails_merged new c.args.sources.now os c.args.lines.now nodes origins why (subst (λ ns. (merged new (merge_lines ns)).fails why) c.deref.ensures.value h)) (c.in-Err.ensures {u = tt}).refused
 
@@ -75,7 +75,7 @@ returns-clause-learned g c =
     let mid = (g.S.BlobSource.tells c.resolve.new.source).blobs in
     let new = (g.S.BlobSource.tells c.merge.new.source).blobs in
     let os = g.O.Outcomes.came_to c.args.outcomes.now in
-    let grows = c.merge.ensures.called.asked.asks.blobs in
+    let grows = c.merge.ensures.called.asked.blobs in
     let nodes = merge_lines c.in_ok-nodes.nodes.items in
     learns_then {t1 = g.S.BlobSource.tells c.resolve.new.source} (λ a. together_first mid new c.args.sources.now os c.args.lines.now a grows)
     (λ a h. together_next mid new c.args.sources.now os c.args.lines.now nodes a grows c.in_ok-nodes.ensures.told (subst (λ ns. MergeLooksAt new (merge_lines ns) a) c.deref.ensures.value h)) (λ n. n)

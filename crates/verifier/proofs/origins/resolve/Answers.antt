@@ -28,7 +28,7 @@ returns-in_err-node-clause-faulty g c =
     let p = err_from_is_err_and c.from_residual.result c.from_residual.ensures.1 in
     let tells = g.S.BlobSource.tells c.find_origin.new.source in
     rw (p.1, p.2) (lines_map (LineFault tells.blobs c.args.sources.now (g.O.Outcomes.came_to c.args.outcomes.now) c.line-item.result) (FirstFault tells.blobs c.args.sources.now (g.O.Outcomes.came_to c.args.outcomes.now) c.args.lines.now) c.in_err-node.field-0.0
-    (λ why h. lines_fault _ _ c.args.sources.now (g.O.Outcomes.came_to c.args.outcomes.now) c.args.lines.now _ c.loop-line.line-index c.line-item.result why c.loop-line-test.true c.line-item.is c.loop-line.invariant.goes c.find_origin.ensures.called.asked.asks.blobs h) c.in_err-node.ensures.faulty)
+    (λ why h. lines_fault _ _ c.args.sources.now (g.O.Outcomes.came_to c.args.outcomes.now) c.args.lines.now _ c.loop-line.line-index c.line-item.result why c.loop-line-test.true c.line-item.is c.loop-line.invariant.goes c.find_origin.ensures.called.asked.blobs h) c.in_err-node.ensures.faulty)
 
 pub loop-line-preserved : goal.loop-line-preserved
 loop-line-preserved g c =
@@ -40,11 +40,11 @@ loop-line-preserved g c =
     record {
       called = called_on c.loop-line.invariant.called (called_no ok_no_error (λ n. n) c.in_ok-node.ensures.called);
       goes = subst (λ xs. LinesGoOn (g.S.BlobSource.tells c.find_origin.new.source).blobs c.args.sources.now (g.O.Outcomes.came_to c.args.outcomes.now) c.args.lines.now xs (drop (c.loop-line.line-index + 1) c.args.lines.now)) (sym values)
-          (lines_next _ _ c.args.sources.now (g.O.Outcomes.came_to c.args.outcomes.now) c.args.lines.now (merge_lines c.loop-line.nodes.items) c.loop-line.line-index line x c.loop-line-test.true c.line-item.is c.loop-line.invariant.goes c.find_origin.ensures.called.asked.asks.blobs (c.in_ok-node.ensures {u = tt}).told);
+          (lines_next _ _ c.args.sources.now (g.O.Outcomes.came_to c.args.outcomes.now) c.args.lines.now (merge_lines c.loop-line.nodes.items) c.loop-line.line-index line x c.loop-line-test.true c.line-item.is c.loop-line.invariant.goes c.find_origin.ensures.called.asked.blobs (c.in_ok-node.ensures {u = tt}).told);
       held = subst AreHeld (sym values) (held_push (merge_lines c.loop-line.nodes.items) item c.loop-line.invariant.held (c.in_ok-node.ensures {u = tt}).held);
-      look = lines_look_next _ _ c.args.sources.now (g.O.Outcomes.came_to c.args.outcomes.now) c.args.lines.now c.loop-line.line-index line c.loop-line-test.true c.line-item.is c.loop-line.invariant.look c.find_origin.ensures.called.asked.asks.blobs _ (c.in_ok-node.ensures {u = tt}).told.node;
-      learned = learns_then {t1 = g.S.BlobSource.tells c.loop-line.source} (λ a. lines_look_still _ _ c.args.sources.now (g.O.Outcomes.came_to c.args.outcomes.now) c.args.lines.now a c.find_origin.ensures.called.asked.asks.blobs)
-          (lines_look_here _ _ c.args.sources.now (g.O.Outcomes.came_to c.args.outcomes.now) c.args.lines.now c.loop-line.line-index c.line-item.result c.loop-line-test.true c.line-item.is c.loop-line.invariant.look c.find_origin.ensures.called.asked.asks.blobs) (λ n. n)
+      look = lines_look_next _ _ c.args.sources.now (g.O.Outcomes.came_to c.args.outcomes.now) c.args.lines.now c.loop-line.line-index line c.loop-line-test.true c.line-item.is c.loop-line.invariant.look c.find_origin.ensures.called.asked.blobs _ (c.in_ok-node.ensures {u = tt}).told.node;
+      learned = learns_then {t1 = g.S.BlobSource.tells c.loop-line.source} (λ a. lines_look_still _ _ c.args.sources.now (g.O.Outcomes.came_to c.args.outcomes.now) c.args.lines.now a c.find_origin.ensures.called.asked.blobs)
+          (lines_look_here _ _ c.args.sources.now (g.O.Outcomes.came_to c.args.outcomes.now) c.args.lines.now c.loop-line.line-index c.line-item.result c.loop-line-test.true c.line-item.is c.loop-line.invariant.look c.find_origin.ensures.called.asked.blobs) (λ n. n)
           c.loop-line.invariant.learned c.in_ok-node.ensures.learned;
     }
 
@@ -68,22 +68,22 @@ returns-clause-called g c = called_no (λ n. n) ok_no_error c.loop-line.invarian
 
 pub returns-in_err-node-clause-learned : goal.returns-in_err-node-clause-learned
 returns-in_err-node-clause-learned g c =
-    learns_then {t1 = g.S.BlobSource.tells c.loop-line.source} (λ a. lines_look_still _ _ c.args.sources.now (g.O.Outcomes.came_to c.args.outcomes.now) c.args.lines.now a c.find_origin.ensures.called.asked.asks.blobs)
-    (lines_look_here _ _ c.args.sources.now (g.O.Outcomes.came_to c.args.outcomes.now) c.args.lines.now c.loop-line.line-index c.line-item.result c.loop-line-test.true c.line-item.is c.loop-line.invariant.look c.find_origin.ensures.called.asked.asks.blobs) (λ n. n)
+    learns_then {t1 = g.S.BlobSource.tells c.loop-line.source} (λ a. lines_look_still _ _ c.args.sources.now (g.O.Outcomes.came_to c.args.outcomes.now) c.args.lines.now a c.find_origin.ensures.called.asked.blobs)
+    (lines_look_here _ _ c.args.sources.now (g.O.Outcomes.came_to c.args.outcomes.now) c.args.lines.now c.loop-line.line-index c.line-item.result c.loop-line-test.true c.line-item.is c.loop-line.invariant.look c.find_origin.ensures.called.asked.blobs) (λ n. n)
     c.loop-line.invariant.learned (learns_refused (λ a h. h) (refused_exit _ _ c.from_residual.ensures.1) c.in_err-node.ensures.learned)
 
 pub returns-in_err-copy_of-clause-learned : goal.returns-in_err-copy_of-clause-learned
 returns-in_err-copy_of-clause-learned g c =
     learns_refused (λ a h. h) (refused_exit _ _ c.from_residual-in_err-copy_of.ensures.1)
-    (learns_then {t1 = g.S.BlobSource.tells c.loop-line.source} (λ a. lines_look_still _ _ c.args.sources.now (g.O.Outcomes.came_to c.args.outcomes.now) c.args.lines.now a c.find_origin.ensures.called.asked.asks.blobs)
-    (lines_look_here _ _ c.args.sources.now (g.O.Outcomes.came_to c.args.outcomes.now) c.args.lines.now c.loop-line.line-index c.line-item.result c.loop-line-test.true c.line-item.is c.loop-line.invariant.look c.find_origin.ensures.called.asked.asks.blobs) (λ n. n)
+    (learns_then {t1 = g.S.BlobSource.tells c.loop-line.source} (λ a. lines_look_still _ _ c.args.sources.now (g.O.Outcomes.came_to c.args.outcomes.now) c.args.lines.now a c.find_origin.ensures.called.asked.blobs)
+    (lines_look_here _ _ c.args.sources.now (g.O.Outcomes.came_to c.args.outcomes.now) c.args.lines.now c.loop-line.line-index c.line-item.result c.loop-line-test.true c.line-item.is c.loop-line.invariant.look c.find_origin.ensures.called.asked.blobs) (λ n. n)
     c.loop-line.invariant.learned c.in_ok-node.ensures.learned)
 
 pub returns-in_err-push-clause-learned : goal.returns-in_err-push-clause-learned
 returns-in_err-push-clause-learned g c =
     learns_refused (λ a h. h) (refused_exit _ _ c.from_residual-in_err-push.ensures.1)
-    (learns_then {t1 = g.S.BlobSource.tells c.loop-line.source} (λ a. lines_look_still _ _ c.args.sources.now (g.O.Outcomes.came_to c.args.outcomes.now) c.args.lines.now a c.find_origin.ensures.called.asked.asks.blobs)
-    (lines_look_here _ _ c.args.sources.now (g.O.Outcomes.came_to c.args.outcomes.now) c.args.lines.now c.loop-line.line-index c.line-item.result c.loop-line-test.true c.line-item.is c.loop-line.invariant.look c.find_origin.ensures.called.asked.asks.blobs) (λ n. n)
+    (learns_then {t1 = g.S.BlobSource.tells c.loop-line.source} (λ a. lines_look_still _ _ c.args.sources.now (g.O.Outcomes.came_to c.args.outcomes.now) c.args.lines.now a c.find_origin.ensures.called.asked.blobs)
+    (lines_look_here _ _ c.args.sources.now (g.O.Outcomes.came_to c.args.outcomes.now) c.args.lines.now c.loop-line.line-index c.line-item.result c.loop-line-test.true c.line-item.is c.loop-line.invariant.look c.find_origin.ensures.called.asked.blobs) (λ n. n)
     c.loop-line.invariant.learned c.in_ok-node.ensures.learned)
 
 pub returns-clause-learned : goal.returns-clause-learned

@@ -53,7 +53,7 @@ returns-in_err-check_input g c =
     (checks_then _ _ stable_message steady_without (checks_both _ _ _ _ (told_at c.command_digest.ensures.value c.in_ok-command.ensures.checked) c.in_ok-command.ensures.called (looked_blob c.command_digest.ensures.value c.in_ok-command.ensures.learned))
     (checks_then _ _ stable_without steady_without (checks_none _ _ _ c.in_ok-command.ensures.learned.known c.in_ok-check_frame.ensures.checked ok_no_error)
     (checks_then _ _ (stable_together _ _ _) (steady_together _ _ _) (checks_both _ _ _ (Ok made.0) made.1 (called_no ok_no_error ok_no_error c.in_ok-input.ensures.called) (looked_lines c.args.sources.now (slice_get c.args.outcomes.now) same c.in_ok-input.ensures.learned))
-    (let failed = c.in_err-check_input.ensures made.0 made.2 in
+    (let failed = c.in_err-check_input.ensures made.0 made.2.fold in
     checks_exit _ _ _ _ c.from_residual-in_err-check_input.ensures.1 failed.checked failed.called failed.learned)))))
 
 pub returns-in_err-made : goal.returns-in_err-made
@@ -65,7 +65,7 @@ returns-in_err-made g c =
     (checks_then _ _ stable_message steady_without (checks_both _ _ _ _ (told_at c.command_digest.ensures.value c.in_ok-command.ensures.checked) c.in_ok-command.ensures.called (looked_blob c.command_digest.ensures.value c.in_ok-command.ensures.learned))
     (checks_then _ _ stable_without steady_without (checks_none _ _ _ c.in_ok-command.ensures.learned.known c.in_ok-check_frame.ensures.checked ok_no_error)
     (checks_then _ _ (stable_together _ _ _) (steady_together _ _ _) (checks_both _ _ _ (Ok made.0) made.1 (called_no ok_no_error ok_no_error c.in_ok-input.ensures.called) (looked_lines c.args.sources.now (slice_get c.args.outcomes.now) same c.in_ok-input.ensures.learned))
-    (checks_then _ _ (stable_grafted c.in_ok-action.action made.0) (steady_input c.in_ok-action.action made.0) (c.in_ok-check_input.ensures made.0 made.2)
+    (checks_then _ _ (stable_grafted c.in_ok-action.action made.0) (steady_input c.in_ok-action.action made.0) (c.in_ok-check_input.ensures made.0 made.2.fold)
     (checks_exit _ _ _ _ c.from_residual-in_err-made.ensures.1 c.in_err-made.ensures.checked c.in_err-made.ensures.called c.in_err-made.ensures.learned))))))
 
 pub returns-in_err-check_exit_code : goal.returns-in_err-check_exit_code
@@ -77,7 +77,7 @@ returns-in_err-check_exit_code g c =
     (checks_then _ _ stable_message steady_without (checks_both _ _ _ _ (told_at c.command_digest.ensures.value c.in_ok-command.ensures.checked) c.in_ok-command.ensures.called (looked_blob c.command_digest.ensures.value c.in_ok-command.ensures.learned))
     (checks_then _ _ stable_without steady_without (checks_none _ _ _ c.in_ok-command.ensures.learned.known c.in_ok-check_frame.ensures.checked ok_no_error)
     (checks_then _ _ (stable_together _ _ _) (steady_together _ _ _) (checks_both _ _ _ (Ok made.0) made.1 (called_no ok_no_error ok_no_error c.in_ok-input.ensures.called) (looked_lines c.args.sources.now (slice_get c.args.outcomes.now) same c.in_ok-input.ensures.learned))
-    (checks_then _ _ (stable_grafted c.in_ok-action.action made.0) (steady_input c.in_ok-action.action made.0) (c.in_ok-check_input.ensures made.0 made.2)
+    (checks_then _ _ (stable_grafted c.in_ok-action.action made.0) (steady_input c.in_ok-action.action made.0) (c.in_ok-check_input.ensures made.0 made.2.fold)
     (checks_then _ _ stable_held steady_without (checks_both _ _ _ _ c.in_ok-made.ensures.checked c.in_ok-made.ensures.called c.in_ok-made.ensures.learned)
     (checks_exit _ _ _ _ c.from_residual-in_err-check_exit_code.ensures.1 c.in_err-check_exit_code.ensures.checked (called_none c.in_err-check_exit_code.ensures.fetch) (learns_none {refused = Unit {0}} c.in_ok-made.ensures.learned.known))))))))
 
@@ -90,7 +90,7 @@ returns g c =
     (checks_then _ _ stable_message steady_without (checks_both _ _ _ _ (told_at c.command_digest.ensures.value c.in_ok-command.ensures.checked) c.in_ok-command.ensures.called (looked_blob c.command_digest.ensures.value c.in_ok-command.ensures.learned))
     (checks_then _ _ stable_without steady_without (checks_none _ _ _ c.in_ok-command.ensures.learned.known c.in_ok-check_frame.ensures.checked ok_no_error)
     (checks_then _ _ (stable_together _ _ _) (steady_together _ _ _) (checks_both _ _ _ (Ok made.0) made.1 (called_no ok_no_error ok_no_error c.in_ok-input.ensures.called) (looked_lines c.args.sources.now (slice_get c.args.outcomes.now) same c.in_ok-input.ensures.learned))
-    (checks_then _ _ (stable_grafted c.in_ok-action.action made.0) (steady_input c.in_ok-action.action made.0) (c.in_ok-check_input.ensures made.0 made.2)
+    (checks_then _ _ (stable_grafted c.in_ok-action.action made.0) (steady_input c.in_ok-action.action made.0) (c.in_ok-check_input.ensures made.0 made.2.fold)
     (checks_then _ _ stable_held steady_without (checks_both _ _ _ _ c.in_ok-made.ensures.checked c.in_ok-made.ensures.called c.in_ok-made.ensures.learned)
     (checks_then _ _ stable_without steady_without (checks_none _ _ _ c.in_ok-made.ensures.learned.known c.in_ok-check_exit_code.ensures.checked ok_no_error)
     (checks_both _ _ _ _ c.read_outcome.ensures.checked c.read_outcome.ensures.called c.read_outcome.ensures.learned))))))))
@@ -102,13 +102,13 @@ pub together-requires-clause-known : goal.together-requires-clause-known
 together-requires-clause-known g c = c.in_ok-command.ensures.learned.known
 
 pub check_input-requires-clause-valid : goal.check_input-requires-clause-valid
-check_input-requires-clause-valid g c = c.in_ok-input.ensures.valid
+check_input-requires-clause-valid g c = let made = c.in_ok-input.ensures.told in (made.0, made.2)
 
 pub check_input-requires-clause-known : goal.check_input-requires-clause-known
 check_input-requires-clause-known g c = c.in_ok-input.ensures.learned.known
 
 pub held_result-requires : goal.held_result-requires
-held_result-requires g c = (c.in_ok-check_input.ensures c.in_ok-input.ensures.told.0 c.in_ok-input.ensures.told.2).learned.known
+held_result-requires g c = (c.in_ok-check_input.ensures c.in_ok-input.ensures.told.0 c.in_ok-input.ensures.told.2.fold).learned.known
 
 pub read_outcome-requires : goal.read_outcome-requires
 read_outcome-requires g c = c.in_ok-made.ensures.learned.known

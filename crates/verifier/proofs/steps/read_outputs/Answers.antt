@@ -18,7 +18,7 @@ returns-in_err-read-clause-refused g c =
     let p = err_from_is_err_and c.from_residual.result c.from_residual.ensures.1 in
     let B = (g.S.BlobSource.tells c.read_output.new.source).blobs in
     rw (p.1, p.2) (explains_map (IsRefusedOutput B c.args.command.now (recorded_value c.output-item.result)) (OutputFault B c.args.command.now (recorded_values c.args.recorded.now)) c.in_err-read.field-0.0
-    (λ cause h. outputs_fault _ B c.args.command.now (recorded_values c.args.recorded.now) _ c.args.recorded.now c.loop-output.output-index c.output-item.result cause c.loop-output-test.true c.output-item.is c.loop-output.invariant.goes c.read_output.ensures.called.asked.asks.blobs h) c.in_err-read.ensures.refused)
+    (λ cause h. outputs_fault _ B c.args.command.now (recorded_values c.args.recorded.now) _ c.args.recorded.now c.loop-output.output-index c.output-item.result cause c.loop-output-test.true c.output-item.is c.loop-output.invariant.goes c.read_output.ensures.called.asked.blobs h) c.in_err-read.ensures.refused)
 
 pub loop-output-preserved : goal.loop-output-preserved
 loop-output-preserved g c =
@@ -31,10 +31,10 @@ loop-output-preserved g c =
       called = called_on c.loop-output.invariant.called (called_no ok_no_error (λ n. n) c.in_ok-read.ensures.called);
       goes = subst (λ es. OutputsGoOn g.row.A.Denot B c.args.command.now (recorded_values c.args.recorded.now) es (recorded_values (drop (c.loop-output.output-index + 1) c.args.recorded.now))) (sym values)
           (outputs_next _ B c.args.command.now (recorded_values c.args.recorded.now) (outputs_in c.loop-output.outputs.items) c.args.recorded.now c.loop-output.output-index c.output-item.result path (output_value read) c.loop-output-test.true c.output-item.is c.loop-output.invariant.goes
-          c.read_output.ensures.called.asked.asks.blobs ((c.in_ok-copy_of.ensures {u = tt}) ∙ c.path.ensures) (c.in_ok-read.ensures.listed refl) c.in_ok-read.ensures.read);
-      look = outputs_look_next _ _ c.args.command.now (recorded_values c.args.recorded.now) c.args.recorded.now c.loop-output.output-index c.output-item.result c.loop-output-test.true c.output-item.is c.loop-output.invariant.look c.read_output.ensures.called.asked.asks.blobs (output_value read) (c.in_ok-read.ensures.listed refl) c.in_ok-read.ensures.read;
-      learned = learns_then {t1 = g.S.BlobSource.tells c.loop-output.source} (λ a. outputs_look_still _ _ c.args.command.now (recorded_values c.args.recorded.now) a c.read_output.ensures.called.asked.asks.blobs)
-          (outputs_look_here _ _ c.args.command.now (recorded_values c.args.recorded.now) c.args.recorded.now c.loop-output.output-index c.output-item.result c.loop-output-test.true c.output-item.is c.loop-output.invariant.look c.read_output.ensures.called.asked.asks.blobs) (λ n. n) c.loop-output.invariant.learned c.in_ok-read.ensures.learned;
+          c.read_output.ensures.called.asked.blobs ((c.in_ok-copy_of.ensures {u = tt}) ∙ c.path.ensures) (c.in_ok-read.ensures.listed refl) c.in_ok-read.ensures.read);
+      look = outputs_look_next _ _ c.args.command.now (recorded_values c.args.recorded.now) c.args.recorded.now c.loop-output.output-index c.output-item.result c.loop-output-test.true c.output-item.is c.loop-output.invariant.look c.read_output.ensures.called.asked.blobs (output_value read) (c.in_ok-read.ensures.listed refl) c.in_ok-read.ensures.read;
+      learned = learns_then {t1 = g.S.BlobSource.tells c.loop-output.source} (λ a. outputs_look_still _ _ c.args.command.now (recorded_values c.args.recorded.now) a c.read_output.ensures.called.asked.blobs)
+          (outputs_look_here _ _ c.args.command.now (recorded_values c.args.recorded.now) c.args.recorded.now c.loop-output.output-index c.output-item.result c.loop-output-test.true c.output-item.is c.loop-output.invariant.look c.read_output.ensures.called.asked.blobs) (λ n. n) c.loop-output.invariant.learned c.in_ok-read.ensures.learned;
     }
 
 pub returns-clause-read : goal.returns-clause-read
@@ -65,20 +65,20 @@ read_output-requires g c = c.loop-output.invariant.learned.known
 
 pub returns-in_err-read-clause-learned : goal.returns-in_err-read-clause-learned
 returns-in_err-read-clause-learned g c =
-    learns_then {t1 = g.S.BlobSource.tells c.loop-output.source} (λ a. outputs_look_still _ _ c.args.command.now (recorded_values c.args.recorded.now) a c.read_output.ensures.called.asked.asks.blobs)
-    (outputs_look_here _ _ c.args.command.now (recorded_values c.args.recorded.now) c.args.recorded.now c.loop-output.output-index c.output-item.result c.loop-output-test.true c.output-item.is c.loop-output.invariant.look c.read_output.ensures.called.asked.asks.blobs) (λ n. n) c.loop-output.invariant.learned (learns_refused (λ a h. h) (refused_exit _ _ c.from_residual.ensures.1) c.in_err-read.ensures.learned)
+    learns_then {t1 = g.S.BlobSource.tells c.loop-output.source} (λ a. outputs_look_still _ _ c.args.command.now (recorded_values c.args.recorded.now) a c.read_output.ensures.called.asked.blobs)
+    (outputs_look_here _ _ c.args.command.now (recorded_values c.args.recorded.now) c.args.recorded.now c.loop-output.output-index c.output-item.result c.loop-output-test.true c.output-item.is c.loop-output.invariant.look c.read_output.ensures.called.asked.blobs) (λ n. n) c.loop-output.invariant.learned (learns_refused (λ a h. h) (refused_exit _ _ c.from_residual.ensures.1) c.in_err-read.ensures.learned)
 
 pub returns-in_err-copy_of-clause-learned : goal.returns-in_err-copy_of-clause-learned
 returns-in_err-copy_of-clause-learned g c =
     learns_refused (λ a h. h) (refused_exit _ _ c.from_residual-in_err-copy_of.ensures.1)
-    (learns_then {t1 = g.S.BlobSource.tells c.loop-output.source} (λ a. outputs_look_still _ _ c.args.command.now (recorded_values c.args.recorded.now) a c.read_output.ensures.called.asked.asks.blobs)
-    (outputs_look_here _ _ c.args.command.now (recorded_values c.args.recorded.now) c.args.recorded.now c.loop-output.output-index c.output-item.result c.loop-output-test.true c.output-item.is c.loop-output.invariant.look c.read_output.ensures.called.asked.asks.blobs) (λ n. n) c.loop-output.invariant.learned c.in_ok-read.ensures.learned)
+    (learns_then {t1 = g.S.BlobSource.tells c.loop-output.source} (λ a. outputs_look_still _ _ c.args.command.now (recorded_values c.args.recorded.now) a c.read_output.ensures.called.asked.blobs)
+    (outputs_look_here _ _ c.args.command.now (recorded_values c.args.recorded.now) c.args.recorded.now c.loop-output.output-index c.output-item.result c.loop-output-test.true c.output-item.is c.loop-output.invariant.look c.read_output.ensures.called.asked.blobs) (λ n. n) c.loop-output.invariant.learned c.in_ok-read.ensures.learned)
 
 pub returns-in_err-push-clause-learned : goal.returns-in_err-push-clause-learned
 returns-in_err-push-clause-learned g c =
     learns_refused (λ a h. h) (refused_exit _ _ c.from_residual-in_err-push.ensures.1)
-    (learns_then {t1 = g.S.BlobSource.tells c.loop-output.source} (λ a. outputs_look_still _ _ c.args.command.now (recorded_values c.args.recorded.now) a c.read_output.ensures.called.asked.asks.blobs)
-    (outputs_look_here _ _ c.args.command.now (recorded_values c.args.recorded.now) c.args.recorded.now c.loop-output.output-index c.output-item.result c.loop-output-test.true c.output-item.is c.loop-output.invariant.look c.read_output.ensures.called.asked.asks.blobs) (λ n. n) c.loop-output.invariant.learned c.in_ok-read.ensures.learned)
+    (learns_then {t1 = g.S.BlobSource.tells c.loop-output.source} (λ a. outputs_look_still _ _ c.args.command.now (recorded_values c.args.recorded.now) a c.read_output.ensures.called.asked.blobs)
+    (outputs_look_here _ _ c.args.command.now (recorded_values c.args.recorded.now) c.args.recorded.now c.loop-output.output-index c.output-item.result c.loop-output-test.true c.output-item.is c.loop-output.invariant.look c.read_output.ensures.called.asked.blobs) (λ n. n) c.loop-output.invariant.learned c.in_ok-read.ensures.learned)
 
 pub returns-clause-learned : goal.returns-clause-learned
 returns-clause-learned g c = c.loop-output.invariant.learned

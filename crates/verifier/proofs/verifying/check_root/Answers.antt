@@ -15,7 +15,7 @@ returns-in_err-root g c = checks_exit _ _ _ _ c.from_residual.ensures.1 c.in_err
 pub returns-then-ne : goal.returns-then-ne
 returns-then-ne g c =
     let made = c.in_ok-root.ensures.told in
-    let is : c.in_ok-root.field-0.root ≡ root made.0 = made.2.root in
+    let is : c.in_ok-root.field-0.root ≡ root made.0 = made.2.fold.root in
     let other : c.in_ok-root.field-0.root ≢ c.args.claim.now = differing_digests c.in_ok-root.field-0.root c.args.claim.now (sym c.ne.ensures ∙ c.if-ne.true) in
     checks_then _ _ (stable_together _ _ _) (steady_together _ _ _) (checks_both _ _ _ (Ok made.0) made.1 (called_no ok_no_error ok_no_error c.in_ok-root.ensures.called) c.in_ok-root.ensures.learned)
     (checks_none _ _ _ c.in_ok-root.ensures.learned.known ((λ e. other (is ∙ e)), ap RootDiffers is) (search rules))
@@ -23,7 +23,7 @@ returns-then-ne g c =
 pub returns : goal.returns
 returns g c =
     let made = c.in_ok-root.ensures.told in
-    let is : c.in_ok-root.field-0.root ≡ root made.0 = made.2.root in
+    let is : c.in_ok-root.field-0.root ≡ root made.0 = made.2.fold.root in
     let same : c.in_ok-root.field-0.root ≡ c.args.claim.now = no_other_digests c.in_ok-root.field-0.root c.args.claim.now (sym c.ne.ensures ∙ c.if-ne.false) in
     checks_then _ _ (stable_together _ _ _) (steady_together _ _ _) (checks_both _ _ _ (Ok made.0) made.1 (called_no ok_no_error ok_no_error c.in_ok-root.ensures.called) c.in_ok-root.ensures.learned)
     (checks_none _ _ _ c.in_ok-root.ensures.learned.known (sym is ∙ same) ok_no_error)

@@ -26,7 +26,7 @@ pub returns-in-Err-clause-checked : goal.returns-in-Err-clause-checked
 returns-in-Err-clause-checked g c =
     let old = g.S.BlobSource.tells c.loop-index.source in
     let tells = g.S.BlobSource.tells c.check_step.new.source in
-    let asked = c.check_step.ensures.called.asked.asks in
+    let asked = c.check_step.ensures.called.asked in
     let check = step_check {A = g.row.A.Denot} tells c.args.sources.now c.deref.result.now c.index-steps-index.result c.index-recorded-index.result in
     let why = subst (Explains check.fails) ((c.in_ok-cause-in-Err.ensures {u = tt}).cause) (c.in-Err.ensures {u = tt}).checked in
     let fails = subst (λ os. (step_check tells c.args.sources.now os c.index-steps-index.result c.index-recorded-index.result).fails c.in_ok-cause-in-Err.cause) c.deref.ensures.value why in
@@ -41,7 +41,7 @@ pub loop-index-preserved : goal.loop-index-preserved
 loop-index-preserved g c =
     let old = g.S.BlobSource.tells c.loop-index.source in
     let tells = g.S.BlobSource.tells c.check_step.new.source in
-    let asked = c.check_step.ensures.called.asked.asks in
+    let asked = c.check_step.ensures.called.asked in
     let o = c.in-Ok.outcome in
     let pushed : c.push.new.self.items ≡ c.loop-index.outcomes.items ++ o ∷ [] = search rules in
     let passes = subst (λ os. (step_check {A = g.row.A.Denot} tells c.args.sources.now os c.index-steps-index.result c.index-recorded-index.result).passes o) c.deref.ensures.value (c.in-Ok.ensures {u = tt}).checked in
@@ -94,7 +94,7 @@ pub returns-in_err-push-in-Ok-clause-learned : goal.returns-in_err-push-in-Ok-cl
 returns-in_err-push-in-Ok-clause-learned g c =
     let old = g.S.BlobSource.tells c.loop-index.source in
     let tells = g.S.BlobSource.tells c.check_step.new.source in
-    let asked = c.check_step.ensures.called.asked.asks in
+    let asked = c.check_step.ensures.called.asked in
     let within : c.loop-index.index < length c.args.recorded.now = subst (λ n. c.loop-index.index < n) (sym c.requires.each) c.loop-index-test.true in
     let here = steps_look_here {A = g.row.A.Denot} old tells c.args.sources.now c.args.steps.now c.args.recorded.now c.loop-index.outcomes.items c.loop-index.index c.index-steps-index.result c.index-recorded-index.result
     c.loop-index-test.true c.index-steps-index.is within c.index-recorded-index.is c.loop-index.invariant.goes asked.blobs asked.results in
@@ -106,7 +106,7 @@ pub returns-in_err-cause-in-Err-clause-learned : goal.returns-in_err-cause-in-Er
 returns-in_err-cause-in-Err-clause-learned g c =
     let old = g.S.BlobSource.tells c.loop-index.source in
     let tells = g.S.BlobSource.tells c.check_step.new.source in
-    let asked = c.check_step.ensures.called.asked.asks in
+    let asked = c.check_step.ensures.called.asked in
     let within : c.loop-index.index < length c.args.recorded.now = subst (λ n. c.loop-index.index < n) (sym c.requires.each) c.loop-index-test.true in
     let here = steps_look_here {A = g.row.A.Denot} old tells c.args.sources.now c.args.steps.now c.args.recorded.now c.loop-index.outcomes.items c.loop-index.index c.index-steps-index.result c.index-recorded-index.result
     c.loop-index-test.true c.index-steps-index.is within c.index-recorded-index.is c.loop-index.invariant.goes asked.blobs asked.results in
@@ -118,7 +118,7 @@ pub returns-in_err-copy_of-in-Err-clause-learned : goal.returns-in_err-copy_of-i
 returns-in_err-copy_of-in-Err-clause-learned g c =
     let old = g.S.BlobSource.tells c.loop-index.source in
     let tells = g.S.BlobSource.tells c.check_step.new.source in
-    let asked = c.check_step.ensures.called.asked.asks in
+    let asked = c.check_step.ensures.called.asked in
     let within : c.loop-index.index < length c.args.recorded.now = subst (λ n. c.loop-index.index < n) (sym c.requires.each) c.loop-index-test.true in
     let here = steps_look_here {A = g.row.A.Denot} old tells c.args.sources.now c.args.steps.now c.args.recorded.now c.loop-index.outcomes.items c.loop-index.index c.index-steps-index.result c.index-recorded-index.result
     c.loop-index-test.true c.index-steps-index.is within c.index-recorded-index.is c.loop-index.invariant.goes asked.blobs asked.results in
@@ -130,7 +130,7 @@ pub returns-in-Err-clause-learned : goal.returns-in-Err-clause-learned
 returns-in-Err-clause-learned g c =
     let old = g.S.BlobSource.tells c.loop-index.source in
     let tells = g.S.BlobSource.tells c.check_step.new.source in
-    let asked = c.check_step.ensures.called.asked.asks in
+    let asked = c.check_step.ensures.called.asked in
     let within : c.loop-index.index < length c.args.recorded.now = subst (λ n. c.loop-index.index < n) (sym c.requires.each) c.loop-index-test.true in
     let here = steps_look_here {A = g.row.A.Denot} old tells c.args.sources.now c.args.steps.now c.args.recorded.now c.loop-index.outcomes.items c.loop-index.index c.index-steps-index.result c.index-recorded-index.result
     c.loop-index-test.true c.index-steps-index.is within c.index-recorded-index.is c.loop-index.invariant.goes asked.blobs asked.results in

@@ -39,7 +39,7 @@ pub returns-in-Err-clause-verdict : goal.returns-in-Err-clause-verdict
 returns-in-Err-clause-verdict g c =
     let told = g.S.BlobSource.tells c.check_steps.new.source in
     let later = g.S.BlobSource.tells c.check_root.new.source in
-    let asked = c.check_root.ensures.called.asked.asks in
+    let asked = c.check_root.ensures.called.asked in
     let checked = subst (IsChecked told c.args.sources.now c.steps.result.now c.args.recorded.now) c.in-Outcomes.is (c.in_ok-name.ensures {u = tt}).checked in
     let passes = subst (λ steps. (steps_check {A = g.row.A.Denot} told c.args.sources.now [] steps c.args.recorded.now).passes c.in-Outcomes.outcomes.items) c.steps.ensures.value checked in
     let check = root_check {A = g.row.A.Denot} later c.args.sources.now c.deref.result.now c.root.result.now c.args.claim.now in
@@ -52,7 +52,7 @@ pub returns-clause-verdict : goal.returns-clause-verdict
 returns-clause-verdict g c =
     let told = g.S.BlobSource.tells c.check_steps.new.source in
     let later = g.S.BlobSource.tells c.check_root.new.source in
-    let asked = c.check_root.ensures.called.asked.asks in
+    let asked = c.check_root.ensures.called.asked in
     let checked = subst (IsChecked told c.args.sources.now c.steps.result.now c.args.recorded.now) c.in-Outcomes.is (c.in_ok-name.ensures {u = tt}).checked in
     let passes = subst (λ steps. (steps_check {A = g.row.A.Denot} told c.args.sources.now [] steps c.args.recorded.now).passes c.in-Outcomes.outcomes.items) c.steps.ensures.value checked in
     let root = subst (λ os. (root_check {A = g.row.A.Denot} later c.args.sources.now os c.args.plan.now.root_lines c.args.claim.now).passes tt) c.deref.ensures.value
@@ -92,7 +92,7 @@ pub returns-in_err-cause_in-in-Err-clause-learned : goal.returns-in_err-cause_in
 returns-in_err-cause_in-in-Err-clause-learned g c =
     let told = g.S.BlobSource.tells c.check_steps.new.source in
     let later = g.S.BlobSource.tells c.check_root.new.source in
-    let asked = c.check_root.ensures.called.asked.asks in
+    let asked = c.check_root.ensures.called.asked in
     let checked = subst (IsChecked told c.args.sources.now c.steps.result.now c.args.recorded.now) c.in-Outcomes.is (c.in_ok-name.ensures {u = tt}).checked in
     let passes = subst (λ steps. (steps_check {A = g.row.A.Denot} told c.args.sources.now [] steps c.args.recorded.now).passes c.in-Outcomes.outcomes.items) c.steps.ensures.value checked in
     learns_refused (λ a h. h) tt (learns_then {both = PlanLooksAt g.row.A.Denot later c.args.sources.now c.args.plan.now c.args.recorded.now} {t1 = told}
@@ -105,7 +105,7 @@ pub returns-in-Err-clause-learned : goal.returns-in-Err-clause-learned
 returns-in-Err-clause-learned g c =
     let told = g.S.BlobSource.tells c.check_steps.new.source in
     let later = g.S.BlobSource.tells c.check_root.new.source in
-    let asked = c.check_root.ensures.called.asked.asks in
+    let asked = c.check_root.ensures.called.asked in
     let checked = subst (IsChecked told c.args.sources.now c.steps.result.now c.args.recorded.now) c.in-Outcomes.is (c.in_ok-name.ensures {u = tt}).checked in
     let passes = subst (λ steps. (steps_check {A = g.row.A.Denot} told c.args.sources.now [] steps c.args.recorded.now).passes c.in-Outcomes.outcomes.items) c.steps.ensures.value checked in
     learns_refused (λ a h. h) tt (learns_then {both = PlanLooksAt g.row.A.Denot later c.args.sources.now c.args.plan.now c.args.recorded.now} {t1 = told}
@@ -118,7 +118,7 @@ pub returns-clause-learned : goal.returns-clause-learned
 returns-clause-learned g c =
     let told = g.S.BlobSource.tells c.check_steps.new.source in
     let later = g.S.BlobSource.tells c.check_root.new.source in
-    let asked = c.check_root.ensures.called.asked.asks in
+    let asked = c.check_root.ensures.called.asked in
     let checked = subst (IsChecked told c.args.sources.now c.steps.result.now c.args.recorded.now) c.in-Outcomes.is (c.in_ok-name.ensures {u = tt}).checked in
     let passes = subst (λ steps. (steps_check {A = g.row.A.Denot} told c.args.sources.now [] steps c.args.recorded.now).passes c.in-Outcomes.outcomes.items) c.steps.ensures.value checked in
     learns_refused (λ a h. h) tt (learns_then {both = PlanLooksAt g.row.A.Denot later c.args.sources.now c.args.plan.now c.args.recorded.now} {t1 = told}

@@ -2,14 +2,15 @@ use Rattle.worker.proofs.Keeping.{kept_trans, kept_some}
 use Rattle.std.proofs.Common.{refl, subst, inl, inr}
 use Rattle.worker.specs.Stopped.{StopsStep}
 use Rattle.worker.proofs.Started.{started_in, was_started}
-use Rattle.worker.proofs.Goes.{begun, refused}
+use Rattle.worker.proofs.Goes.{begun, job_gone}
 use Rattle.worker.proofs.Knowing.{known_of, knows_still, knows_started}
+use Rattle.worker.proofs.PutOnce.{put_still}
 use Rattle.blob_source.proofs.Asking.{ok_no_error}
 use Rattle.worker.proofs.Failures.{counts_none, counts_from, counts_calls, counts_engine}
 use Rattle.worker.proofs.beginning.begin.Goals as goal
 
 pub launch-requires : goal.launch-requires
-launch-requires g c = started_in c.in-Ok.ensures.started
+launch-requires g c = record { job = started_in c.in-Ok.ensures.started; put = put_still _ (kept_some c.start.ensures.called).blobs c.requires.knows.put }
 
 pub returns-in-Ok-launch-clause-kept : goal.returns-in-Ok-launch-clause-kept
 returns-in-Ok-launch-clause-kept g c = kept_trans (kept_some c.start.ensures.called) c.launch.ensures.kept
@@ -20,23 +21,29 @@ returns-in-Ok-launch-clause-begun g c = begun (g.S.BlobSource.tells c.launch.new
 pub returns-clause-kept : goal.returns-clause-kept
 returns-clause-kept g c = kept_trans (kept_some c.start.ensures.called) c.launch.ensures.kept
 
-pub returns-clause-refused : goal.returns-clause-refused
-returns-clause-refused g c = refused c.lose.result c.in-Ok.ensures.started c.launch.ensures.kept.blobs c.in-Err-launch.ensures.unchanged c.lose.ensures.no_job c.lose.ensures.lost
-
 pub start-requires-clause-known : goal.start-requires-clause-known
-start-requires-clause-known g c = known_of c.requires.knows
+start-requires-clause-known g c = known_of c.requires.knows.memo
 
 pub returns-in-Err-clause-knows : goal.returns-in-Err-clause-knows
-returns-in-Err-clause-knows g c = knows_started c.args.engine.now c.args.step c.requires.knows c.start.ensures.learned
+returns-in-Err-clause-knows g c = record {
+  memo = knows_started c.args.engine.now c.args.step c.requires.knows.memo c.start.ensures.learned;
+  put = put_still _ (kept_some c.start.ensures.called).blobs c.requires.knows.put;
+}
 
 pub returns-in-Ok-launch-clause-knows : goal.returns-in-Ok-launch-clause-knows
-returns-in-Ok-launch-clause-knows g c = knows_still c.launch.ensures.kept.blobs (knows_started c.args.engine.now c.args.step c.requires.knows c.start.ensures.learned)
+returns-in-Ok-launch-clause-knows g c = record {
+  memo = knows_still c.launch.ensures.kept.blobs (knows_started c.args.engine.now c.args.step c.requires.knows.memo c.start.ensures.learned);
+  put = c.launch.ensures.put;
+}
 
 pub returns-clause-knows : goal.returns-clause-knows
-returns-clause-knows g c = knows_still c.launch.ensures.kept.blobs (knows_started c.args.engine.now c.args.step c.requires.knows c.start.ensures.learned)
+returns-clause-knows g c = record {
+  memo = knows_still c.launch.ensures.kept.blobs (knows_started c.args.engine.now c.args.step c.requires.knows.memo c.start.ensures.learned);
+  put = c.launch.ensures.put;
+}
 
 pub returns-in-Err-clause-stopped : goal.returns-in-Err-clause-stopped
-returns-in-Err-clause-stopped g c = (refl, inl (inl (c.requires.startable, c.in-Err.ensures.refused)))
+returns-in-Err-clause-stopped g c = (refl, inl (c.in-Err.ensures.unchanged, inl (c.requires.startable, c.in-Err.ensures.refused)))
 
 pub returns-clause-stopped : goal.returns-clause-stopped
 returns-clause-stopped g c =
@@ -47,6 +54,7 @@ returns-clause-stopped g c =
         c.in-Ok.job.id,
         c.start.new.self,
         was_started started t.blobs c.launch.ensures.kept.blobs,
+        job_gone c.lose.result started c.in-Err-launch.ensures.unchanged c.lose.ensures.no_job c.lose.ensures.lost,
         subst (λ i. StopsStep (g.N.Runner.yields c.args.runner.now) t c.start.new.self i c.in-Err-launch.refusal) started.prepared.of_step c.in-Err-launch.ensures.refused,
       ),
     )

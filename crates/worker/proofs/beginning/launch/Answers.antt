@@ -8,6 +8,7 @@ use Rattle.worker.specs.Going.{job_value}
 use Rattle.worker.proofs.Stopping.{store_stops, child_stops}
 use Rattle.worker.proofs.Telling.{held_kept}
 use Rattle.worker.proofs.Keeping.{kept_trans, right_still}
+use Rattle.worker.proofs.PutOnce.{put_still}
 use Rattle.worker.specs.Counted.{IsDevice, IsFetch}
 use Rattle.worker.proofs.Failures.{counts_none, counts_same, counts_from, counts_exit, finish_no_fetch, store_no_device}
 use Rattle.worker.proofs.beginning.launch.Goals as goal
@@ -31,7 +32,7 @@ returns-in-Some-clause-launched g c =
       c.in_ok-finish.ensures.finished,
       record {
         held = held_kept c.put_trees.ensures.kept held;
-        action = subst (HasRight end) (sym c.requires.digest) (right_still (kept_trans c.recorded_outcome.ensures.kept c.put_trees.ensures.kept).blobs c.in_ok-put_input.ensures.held);
+        action = subst (HasRight end) (sym c.requires.job.digest) (right_still (kept_trans c.recorded_outcome.ensures.kept c.put_trees.ensures.kept).blobs c.in_ok-put_input.ensures.held);
         trees = c.in_ok-put_trees.ensures.held;
       },
       refl,
@@ -59,9 +60,9 @@ returns-clause-launched g c =
             layout = owed.0;
             laid = owed.1;
             command = c.args.job.now.command;
-            of_step = c.requires.command;
+            of_step = c.requires.job.command;
             may_come = owed.2;
-            action = subst (HasRight B) (sym c.requires.digest) (right_still (kept_trans c.recorded_outcome.ensures.kept c.start_child.ensures.kept).blobs c.in_ok-put_input.ensures.held);
+            action = subst (HasRight B) (sym c.requires.job.digest) (right_still (kept_trans c.recorded_outcome.ensures.kept c.start_child.ensures.kept).blobs c.in_ok-put_input.ensures.held);
           };
         };
         started = owed.3;
@@ -94,15 +95,15 @@ returns-in_err-finish-clause-refused g c =
     let taken : CanBeTakenFor (g.S.BlobSource.tells c.put_trees.new.sink) c.args.engine.now (job_value c.args.job.now) c.in-Some.outcome = record {
       held = held_kept c.put_trees.ensures.kept held;
       command = c.args.job.now.command;
-      of_step = c.requires.command;
+      of_step = c.requires.job.command;
       fits = subst (λ o. IfSome o (CanBeTaken c.args.job.now.command)) c.in-Some.is c.in_ok-outcome.ensures.fits;
     } in
-    rw (p.1, p.2) (inr (c.args.job.now.id, job_value c.args.job.now, c.requires.there, refl, (c.in-Some.outcome, inr taken, c.in_err-finish.ensures.refused)))
+    rw (p.1, p.2) (inr (c.args.job.now.id, job_value c.args.job.now, c.requires.job.there, refl, (c.in-Some.outcome, inr taken, c.in_err-finish.ensures.refused)))
 
 pub returns-in_err-child-clause-refused : goal.returns-in_err-child-clause-refused
 returns-in_err-child-clause-refused g c =
     let p = err_from_is_err_and c.from_residual-in_err-child.result c.from_residual-in_err-child.ensures.1 in
-    rw (p.1, p.2) (child_stops (g.N.Runner.yields c.args.runner.now) (g.S.BlobSource.tells c.start_child.new.sink) c.args.engine.now c.args.job.now c.requires c.in_err-child.field-0.0 c.in_err-child.ensures.refused)
+    rw (p.1, p.2) (child_stops (g.N.Runner.yields c.args.runner.now) (g.S.BlobSource.tells c.start_child.new.sink) c.args.engine.now c.args.job.now c.requires.job c.in_err-child.field-0.0 c.in_err-child.ensures.refused)
 
 pub returns-in_err-put_input-clause-fetched : goal.returns-in_err-put_input-clause-fetched
 returns-in_err-put_input-clause-fetched g c = counts_exit IsFetch c.from_residual.result c.from_residual.ensures.1 (c.in_err-put_input.ensures.fetched)
@@ -151,3 +152,9 @@ returns-in_err-child-clause-device g c = counts_exit IsDevice c.from_residual-in
 
 pub returns-clause-device : goal.returns-clause-device
 returns-clause-device g c = counts_same (λ f. f) (c.in_ok-child.ensures.device.unfailed (λ f. f))
+
+pub returns-in_err-finish-clause-put : goal.returns-in_err-finish-clause-put
+returns-in_err-finish-clause-put g c = put_still c.put_input.new.put (kept_trans c.recorded_outcome.ensures.kept c.put_trees.ensures.kept).blobs c.put_input.ensures.put
+
+pub returns-in-Some-clause-put : goal.returns-in-Some-clause-put
+returns-in-Some-clause-put g c = put_still c.put_input.new.put (kept_trans c.recorded_outcome.ensures.kept c.put_trees.ensures.kept).blobs c.put_input.ensures.put

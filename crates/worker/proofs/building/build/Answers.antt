@@ -1,16 +1,26 @@
 use Rattle.worker.proofs.Goes.{own_jobs}
 use Rattle.worker.proofs.Knowing.{knows_nothing}
+use Rattle.worker.proofs.PutOnce.{put_none}
 use Rattle.worker.proofs.Storing.{steps_none, all_stored}
-use Rattle.std.proofs.Common.{arith}
+use Rattle.worker.specs.Counted.{Counts, IsDevice}
+use Rattle.worker.proofs.Taking.{loses_then, no_child}
+use Rattle.std.proofs.Common.{arith, subst, sym}
 use Rattle.worker.proofs.building.build.Goals as goal
 
 pub end_all-requires : goal.end_all-requires
 end_all-requires g c = record {
-  there = own_jobs g.row.A.Denot (g.N.Runner.yields c.args.runner.now) g.N.Runner.may_give (g.N.Runner.starts c.args.runner.now) (g.N.Runner.starts c.take_turns.new.runner) (g.S.BlobSource.tells c.args.sink.now) (g.S.BlobSource.tells c.take_turns.new.sink) c.args.jobs c.args.engine.now c.take_turns.new.engine c.take_turns.new.children.items c.take_turns.ensures.going;
+  there = own_jobs g.row.A.Denot (g.N.Runner.yields c.args.runner.now) g.N.Runner.may_give (g.N.Runner.starts c.args.runner.now) (g.N.Runner.starts c.take_turns.new.runner) (g.S.BlobSource.tells c.args.sink.now) (g.S.BlobSource.tells c.take_turns.new.sink) c.args.jobs c.args.engine.now c.take_turns.new.engine c.take_turns.new.children.items c.take_turns.ensures.going.0;
 }
 
+pub returns-in-Ok-clause-led : goal.returns-in-Ok-clause-led
+returns-in-Ok-clause-led g c = (c.in-Ok.ensures.going.0.led, tt)
+
 pub returns-clause-led : goal.returns-clause-led
-returns-clause-led g c = c.end_all.ensures.led c.args.runner.now (g.S.BlobSource.tells c.args.sink.now) (g.S.BlobSource.tells c.take_turns.new.sink) c.args.jobs c.args.engine.now c.take_turns.ensures.going
+returns-clause-led g c =
+    let going = c.in-Err.ensures.going in
+    let rest = c.end_all.ensures.led c.args.runner.now (g.S.BlobSource.tells c.args.sink.now) (g.S.BlobSource.tells c.take_turns.new.sink) c.args.jobs c.args.engine.now going.0 in
+    let stop = going.1 in
+    (rest.0, record { at = stop.at; led = stop.led; rest = loses_then stop.rest rest.1; planned = stop.planned; stops = stop.stops })
 
 pub returns-clause-alive : goal.returns-clause-alive
 returns-clause-alive g c = c.end_all.ensures.alive (g.N.Runner.alive c.args.runner.now) c.take_turns.ensures.alive
@@ -19,7 +29,7 @@ pub returns-in-Ok-clause-stored : goal.returns-in-Ok-clause-stored
 returns-in-Ok-clause-stored g c none = all_stored (g.S.BlobSource.tells c.take_turns.new.sink) c.take_turns.new.engine (c.in-Ok.ensures.stored (steps_none none))
 
 pub take_turns-requires-clause-knows : goal.take_turns-requires-clause-knows
-take_turns-requires-clause-knows g c = knows_nothing c.new-memo.ensures
+take_turns-requires-clause-knows g c = record { memo = knows_nothing c.new-memo.ensures; put = put_none c.new-put.result _ c.new-put.ensures.empty }
 
 pub returns-in-Ok-clause-fetched : goal.returns-in-Ok-clause-fetched
 returns-in-Ok-clause-fetched g c = c.in-Ok.ensures.fetched
@@ -35,3 +45,12 @@ returns-clause-device g c told =
     let rises = c.in-Err.ensures.device.failed told in
     let still = c.end_all.ensures.device in
     omega (arith, rises, still)
+
+pub returns-in-Ok-clause-alone : goal.returns-in-Ok-clause-alone
+returns-in-Ok-clause-alone g c one = c.in-Ok.ensures.device
+
+pub returns-clause-alone : goal.returns-clause-alone
+returns-clause-alone g c one =
+    let few = c.in-Err.ensures.few in
+    let still = c.end_all.ensures.none (no_child c.take_turns.new.children.items c.args.jobs one few) in
+    subst (λ n. Counts (g.N.Runner.failures c.args.runner.now) n (IsDevice c.in-Err.error.refusal)) (sym still) c.in-Err.ensures.device

@@ -41,14 +41,14 @@ before_turn-before-requires-clause-there g c = own_jobs g.row.A.Denot (g.N.Runne
 pub progress_after-progress-requires-clause-there : goal.progress_after-progress-requires-clause-there
 progress_after-progress-requires-clause-there g c =
     own_jobs g.row.A.Denot (g.N.Runner.yields c.args.runner.now) g.N.Runner.may_give (g.N.Runner.starts c.args.runner.now) (g.N.Runner.starts c.take_turn.new.runner) (g.S.BlobSource.tells c.args.sink.now) (g.S.BlobSource.tells c.take_turn.new.sink) c.args.jobs c.args.engine.now c.take_turn.new.engine c.take_turn.new.children.items
-    (c.take_turn.ensures.going c.args.runner.now (g.S.BlobSource.tells c.args.sink.now) c.args.jobs c.args.engine.now c.loop-turn.invariant.within c.in-Some.ensures.turn c.loop-turn.invariant.going.0).going
+    (c.take_turn.ensures.going c.args.runner.now (g.S.BlobSource.tells c.args.sink.now) c.args.jobs c.args.engine.now c.loop-turn.invariant.within c.in-Some.ensures.turn c.loop-turn.invariant.going.0).0.going
 
 pub loop-turn-preserved : goal.loop-turn-preserved
 loop-turn-preserved g c =
     let told = g.W.Watcher.told in
     let new = c.take_turn.new.engine in
     let was = c.loop-turn.invariant.going in
-    let on = c.take_turn.ensures.going c.args.runner.now (g.S.BlobSource.tells c.args.sink.now) c.args.jobs c.args.engine.now c.loop-turn.invariant.within c.in-Some.ensures.turn was.0 in
+    let on = (c.take_turn.ensures.going c.args.runner.now (g.S.BlobSource.tells c.args.sink.now) c.args.jobs c.args.engine.now c.loop-turn.invariant.within c.in-Some.ensures.turn was.0).0 in
     let going = on.going in
     let calls = was.0.led.built.led.calls in
     let all = going.led.built.led.calls in
@@ -73,7 +73,13 @@ loop-turn-preserved g c =
     }
 
 pub returns-in_err-take_turn-clause-going : goal.returns-in_err-take_turn-clause-going
-returns-in_err-take_turn-clause-going g c = (c.take_turn.ensures.going c.args.runner.now (g.S.BlobSource.tells c.args.sink.now) c.args.jobs c.args.engine.now c.loop-turn.invariant.within c.in-Some.ensures.turn c.loop-turn.invariant.going.0).going
+returns-in_err-take_turn-clause-going g c =
+    let p = err_from_is_err_and c.from_residual.result c.from_residual.ensures.1 in
+    let on = c.in_err-take_turn.ensures.going c.args.runner.now (g.S.BlobSource.tells c.args.sink.now) c.args.jobs c.args.engine.now c.loop-turn.invariant.within c.in-Some.ensures.turn c.loop-turn.invariant.going.0 in
+    rw (p.1, p.2) (on.0.going, on.1)
+
+pub returns-clause-going : goal.returns-clause-going
+returns-clause-going g c = (c.loop-turn.invariant.going.0, tt)
 
 pub returns-in_err-take_turn-clause-watched : goal.returns-in_err-take_turn-clause-watched
 returns-in_err-take_turn-clause-watched g c = watched_so (progress_moved g.row.A.Denot (g.N.Runner.yields c.args.runner.now) c.args.jobs c.args.engine.now (g.S.BlobSource.tells c.loop-turn.sink) (g.S.BlobSource.tells c.take_turn.new.sink) c.take_turn.ensures.puts.0 c.take_turn.ensures.puts.1 c.take_turn.ensures.right) c.loop-turn.invariant.watched
@@ -87,11 +93,6 @@ returns-clause-done g c =
     let jobs = own_jobs g.row.A.Denot (g.N.Runner.yields c.args.runner.now) g.N.Runner.may_give (g.N.Runner.starts c.args.runner.now) (g.N.Runner.starts c.loop-turn.runner) (g.S.BlobSource.tells c.args.sink.now) (g.S.BlobSource.tells c.loop-turn.sink) c.args.jobs c.args.engine.now c.loop-turn.engine c.loop-turn.children.items c.loop-turn.invariant.going.0 in
     all_finished c.loop-turn.engine c.next_turn.ensures.planned c.next_turn.ensures.valid (subst (AreJobsOf IsJobOf c.loop-turn.engine.jobs) empty jobs) (c.next_turn.ensures.none_starts c.in_default.is)
 
-pub returns-in_err-take_turn-clause-stopped : goal.returns-in_err-take_turn-clause-stopped
-returns-in_err-take_turn-clause-stopped g c =
-    let p = err_from_is_err_and c.from_residual.result c.from_residual.ensures.1 in
-    rw (p.1, p.2) (c.in_err-take_turn.ensures.stopped c.args.runner.now (g.S.BlobSource.tells c.args.sink.now) c.args.jobs c.args.engine.now c.loop-turn.invariant.within c.in-Some.ensures.turn c.loop-turn.invariant.going.0)
-
 pub returns-in_err-take_turn-clause-fetched : goal.returns-in_err-take_turn-clause-fetched
 returns-in_err-take_turn-clause-fetched g c = counts_from c.loop-turn.invariant.fetched (counts_exit (λ e. IsFetch e.refusal) c.from_residual.result c.from_residual.ensures.1 (c.in_err-take_turn.ensures.fetched))
 
@@ -103,3 +104,8 @@ returns-in_err-take_turn-clause-device g c = counts_from c.loop-turn.invariant.d
 
 pub returns-clause-device : goal.returns-clause-device
 returns-clause-device g c = counts_same (λ f. f) c.loop-turn.invariant.device
+
+pub returns-in_err-take_turn-clause-few : goal.returns-in_err-take_turn-clause-few
+returns-in_err-take_turn-clause-few g c =
+    let p = err_from_is_err_and c.from_residual.result c.from_residual.ensures.1 in
+    rw p.1 (c.in_err-take_turn.ensures.room c.args.jobs c.in-Some.ensures.turn c.loop-turn.invariant.going.0.few)

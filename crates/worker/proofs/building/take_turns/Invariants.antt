@@ -1,7 +1,6 @@
 use Rattle.std.proofs.Common.{◌≡◌, ◌+◌, length}
 use Rattle.blob_source.specs.Sink.{KeepsRight}
-use Rattle.tree.specs.Memo.{known_by}
-use Rattle.worker.specs.Storing.{KnowsBlobs, StoresSteps}
+use Rattle.worker.specs.Storing.{Remembers, StoresSteps}
 use Rattle.worker.specs.Outcomes.{YieldsNoMore}
 use Rattle.worker.specs.Going.{IsGoing, turns_left}
 use Rattle.worker.specs.Watching.{IsProgress, IsProgressOf, IsUpToDate, IsWatched}
@@ -20,7 +19,7 @@ invariant-loop-turn g l =
       stored : StoresSteps (tells l.fn.sink) l.fn.engine → StoresSteps (tells l.sink) l.engine;
       fetched : (tells l.sink).failures ≡ (tells l.fn.sink).failures;
       device : g.N.Runner.failures l.runner ≡ g.N.Runner.failures l.fn.runner;
-      knows : KnowsBlobs (known_by l.memo) (tells l.sink).blobs;
+      knows : Remembers l.remembered (tells l.sink).blobs;
       alive : g.N.Runner.alive l.runner ≡ g.N.Runner.alive l.fn.runner + length l.children.items;
       watched : IsWatched (IsProgress g.row.A.Denot (yields l.fn.runner) (tells l.sink) l.jobs l.fn.engine) (told l.fn.watcher) (told l.watcher);
       up_to_date : IsUpToDate g.row.A.Denot (yields l.fn.runner) (tells l.sink) l.jobs l.fn.engine l.engine (told l.fn.watcher) (told l.watcher);

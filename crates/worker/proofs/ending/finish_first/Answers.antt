@@ -1,5 +1,4 @@
 use Rattle.std.proofs.Common.{refl, sym, subst}
-use Rattle.worker.specs.Stopping.{StopsFirst}
 use Rattle.worker.specs.Going.{AreJobsOf, IsJobOf, HasResultOfFirst}
 use Rattle.worker.proofs.ending.finish_first.Goals as goal
 
@@ -15,9 +14,7 @@ pub returns-in-Ok-clause-put : goal.returns-in-Ok-clause-put
 returns-in-Ok-clause-put g c = subst (HasResultOfFirst (g.S.BlobSource.tells c.settle.new.sink) c.settle.new.engine) (sym c.in-Some.ensures.items) c.in-Ok.ensures.put
 
 pub returns-in-Err-clause-stopped : goal.returns-in-Err-clause-stopped
-returns-in-Err-clause-stopped g c =
-    let tells = g.S.BlobSource.tells in
-    subst (λ cs. StopsFirst g.N.Runner.may_give (tells c.args.sink.now) (tells c.settle.new.sink) cs c.args.engine.now c.in-Some.child.step c.in-Err.refusal) (sym c.in-Some.ensures.items) (refl, c.in-Err.ensures.stopped)
+returns-in-Err-clause-stopped g c = record { child = c.in-Some.child; is = c.in-Some.ensures.items; end = (refl, c.in-Err.ensures.stopped) }
 
 pub returns-in-Ok-clause-fetched : goal.returns-in-Ok-clause-fetched
 returns-in-Ok-clause-fetched g c = c.in-Ok.ensures.fetched

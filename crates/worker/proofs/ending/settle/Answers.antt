@@ -1,7 +1,7 @@
 use Rattle.std.proofs.Common.{inl, inr}
 use Rattle.std.proofs.lemmas.Result.{IfErr-weaker}
 use Rattle.worker.proofs.Lefts.{finished_there}
-use Rattle.worker.proofs.Taking.{ends_put, on_ok, on_err}
+use Rattle.worker.proofs.Taking.{ends_put, lost_job, on_ok}
 use Rattle.worker.proofs.Failures.{counts_same, counts_from, put_no_device}
 use Rattle.worker.proofs.ending.settle.Goals as goal
 
@@ -14,15 +14,19 @@ pub returns-in-Ok-clause-ended : goal.returns-in-Ok-clause-ended
 returns-in-Ok-clause-ended g c =
     on_ok c.put_outcome.result (ends_put g.N.Runner.may_give (g.S.BlobSource.tells c.args.sink.now) (g.S.BlobSource.tells c.take.new.sink) (g.S.BlobSource.tells c.put_outcome.new.sink) c.args.child c.args.engine.now c.take.new.engine c.requires.there.0 c.requires.there.1 c.requires.there.2 c.take.ensures.kept c.in-Ok.ensures.ended c.put_outcome.ensures.kept)
 
-pub returns-in-Ok-clause-refused : goal.returns-in-Ok-clause-refused
-returns-in-Ok-clause-refused g c =
-    on_err c.put_outcome.result (inl (ends_put g.N.Runner.may_give (g.S.BlobSource.tells c.args.sink.now) (g.S.BlobSource.tells c.take.new.sink) (g.S.BlobSource.tells c.put_outcome.new.sink) c.args.child c.args.engine.now c.take.new.engine c.requires.there.0 c.requires.there.1 c.requires.there.2 c.take.ensures.kept c.in-Ok.ensures.ended c.put_outcome.ensures.kept))
-
 pub returns-in-Ok-clause-stopped : goal.returns-in-Ok-clause-stopped
-returns-in-Ok-clause-stopped g c = IfErr-weaker c.put_outcome.result _ _ (λ r h. inl h) c.put_outcome.ensures.failed
+returns-in-Ok-clause-stopped g c =
+    IfErr-weaker c.put_outcome.result _ _ (λ r h. inr (ends_put g.N.Runner.may_give (g.S.BlobSource.tells c.args.sink.now) (g.S.BlobSource.tells c.take.new.sink) (g.S.BlobSource.tells c.put_outcome.new.sink) c.args.child c.args.engine.now c.take.new.engine c.requires.there.0 c.requires.there.1 c.requires.there.2 c.take.ensures.kept c.in-Ok.ensures.ended c.put_outcome.ensures.kept, h)) c.put_outcome.ensures.failed
 
 pub returns-in-Err-clause-stopped : goal.returns-in-Err-clause-stopped
-returns-in-Err-clause-stopped g c = inr (c.take.ensures.kept, c.in-Err.ensures.refused)
+returns-in-Err-clause-stopped g c =
+    let unmoved = c.in-Err.ensures.unchanged in
+    let j = c.requires.there in
+    inl (
+      (j.0, j.1, lost_job c.take.new.engine c.args.child.id c.args.engine.now c.lose.new.self j.0 c.lose.result unmoved c.lose.ensures.no_job c.lose.ensures.lost j.1),
+      c.take.ensures.kept,
+      c.in-Err.ensures.refused,
+    )
 
 pub returns-in-Ok-clause-fetched : goal.returns-in-Ok-clause-fetched
 returns-in-Ok-clause-fetched g c = counts_from (c.in-Ok.ensures.fetched.unfailed (λ f. f)) c.put_outcome.ensures.fetched

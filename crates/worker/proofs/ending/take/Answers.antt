@@ -2,7 +2,7 @@ use Rattle.std.proofs.Common.{subst}
 use Rattle.std.proofs.lemmas.Result.{err_from_is_err_and}
 use Rattle.runs.specs.Calls.{IsFinished, IsFinishFault}
 use Rattle.worker.proofs.Stopping.{collecting_stops}
-use Rattle.worker.specs.Stored.{HasTrees}
+use Rattle.worker.specs.Outcomes.{HasTrees}
 use Rattle.worker.proofs.Keeping.{kept_but}
 use Rattle.worker.specs.Counted.{IsDevice, IsFetch}
 use Rattle.worker.proofs.Failures.{counts_none, counts_same, counts_from, counts_exit, finish_no_fetch}
@@ -29,7 +29,7 @@ pub returns-in_err-finish-clause-refused : goal.returns-in_err-finish-clause-ref
 returns-in_err-finish-clause-refused g c =
     let p = err_from_is_err_and c.from_residual-in_err-finish.result c.from_residual-in_err-finish.ensures.1 in
     let gave = c.in_ok-outcome.ensures.gave in
-    rw (p.1, p.2) (gave.0, gave.1, gave.3, subst (λ v. IsFinishFault c.args.engine.now c.args.child.id v c.in_err-finish.field-0.0) gave.2 c.in_err-finish.ensures.refused)
+    rw (p.1, p.2) (gave.0, gave.1, gave.3, subst (HasTrees (g.S.BlobSource.tells c.collect.new.sink).blobs) gave.2 c.in_ok-outcome.ensures.trees, subst (λ v. IsFinishFault c.args.engine.now c.args.child.id v c.in_err-finish.field-0.0) gave.2 c.in_err-finish.ensures.refused)
 
 pub returns-in_err-outcome-clause-fetched : goal.returns-in_err-outcome-clause-fetched
 returns-in_err-outcome-clause-fetched g c = counts_exit IsFetch c.from_residual.result c.from_residual.ensures.1 (c.in_err-outcome.ensures.fetched)

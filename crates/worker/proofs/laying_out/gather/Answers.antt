@@ -65,7 +65,7 @@ returns-in_err-content-in-File-clause-refused g c =
     let goes = subst (λ es. GoesOn blobs all c.loop-path.folders.items files (path_values es)) steps c.loop-path.invariant.goes in
     let at = subst (λ e. GoesOn blobs all c.loop-path.folders.items files ((c.in-Some.path, entry_value e) ∷ path_values left)) c.in-File.is goes in
     rw (p.1, p.2) (file_fault blobs all c.loop-path.folders.items files c.in-Some.path (path_values left) c.in-File.digest c.in-File.executable at
-    (g.S.BlobSource.tells c.fetch_content.new.source).blobs c.fetch_content.ensures.called.asked.blobs c.in_err-content-in-File.field-0.0 c.in_err-content-in-File.ensures.refused)
+    (g.S.BlobSource.tells c.fetch_content.new.source).blobs c.fetch_content.ensures.called.asked.some.blobs c.in_err-content-in-File.field-0.0 c.in_err-content-in-File.ensures.refused)
 
 pub returns-in_err-content-in-File-clause-called : goal.returns-in_err-content-in-File-clause-called
 returns-in_err-content-in-File-clause-called g c =
@@ -87,7 +87,7 @@ loop-path-preserved g c =
       called = called_on c.loop-path.invariant.called (called_no ok_no_error (λ n. n) (calls_some c.in_ok-content-in-File.ensures.called));
       goes = subst (λ fs. GoesOn after all c.loop-path.folders.items fs (path_values left)) (sym contents)
           (gathers_file blobs all c.loop-path.folders.items files c.in-Some.path (path_values left) c.in-File.digest c.in-File.executable at
-          after c.fetch_content.ensures.called.asked.blobs c.in_ok-content-in-File.content.items c.in_ok-content-in-File.ensures.told);
+          after c.fetch_content.ensures.called.asked.some.blobs c.in_ok-content-in-File.content.items c.in_ok-content-in-File.ensures.told);
     }
 
 pub returns-in_err-push-in-File-clause-called : goal.returns-in_err-push-in-File-clause-called

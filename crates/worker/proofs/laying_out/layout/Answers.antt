@@ -12,7 +12,7 @@ pub returns-in_err-gathered-clause-refused : goal.returns-in_err-gathered-clause
 returns-in_err-gathered-clause-refused g c =
     let p = err_from_is_err_and c.from_residual-in_err-gathered.result c.from_residual-in_err-gathered.ensures.1 in
     let blobs = (g.S.BlobSource.tells c.gather.new.source).blobs in
-    let grows = c.gather.ensures.called.asked.asks.blobs in
+    let grows = c.gather.ensures.called.asked.blobs in
     rw (p.1, p.2) (inr (
       c.in_ok-tree.tree,
       unfolded_still (λ e b at right. grows e b at) c.in_ok-tree.ensures.told,
@@ -25,7 +25,7 @@ returns-in_err-gathered-clause-called g c = called_ok c.in_ok-tree.ensures.calle
 pub returns-clause-told : goal.returns-clause-told
 returns-clause-told g c =
     let blobs = (g.S.BlobSource.tells c.gather.new.source).blobs in
-    let grows = c.gather.ensures.called.asked.asks.blobs in
+    let grows = c.gather.ensures.called.asked.blobs in
     record {
       entries = c.in_ok-tree.tree;
       unfolded = unfolded_still (λ e b at right. grows e b at) c.in_ok-tree.ensures.told;

@@ -1,13 +1,44 @@
-use Rattle.std.proofs.Common.{subst, ◌∙◌}
+use Rattle.std.proofs.Common.{◌≡◌, ℕ, ◌<◌, List, length, get_or, subst, ◌∙◌}
+use Rattle.std.specs.declared.vec.Vec.{Vec}
 use Rattle.blob_digest.specs.Digest.{digest_of}
 use Rattle.blob_source.specs.Sink.{HasRight}
-use Rattle.worker.proofs.Keeping.{right_put, right_still}
-use Rattle.worker.proofs.Taking.{on_ok}
+use Rattle.worker.specs.Counted.{IsFetch}
+use Rattle.worker.proofs.Keeping.{kept_trans, kept_blob, right_put, right_still, all_right_taken}
+use Rattle.worker.proofs.PutOnce.{put_still}
+use Rattle.worker.proofs.Failures.{counts_same, counts_from, counts_exit}
+use Rattle.blob_source.proofs.Asking.{ok_no_error}
 use Rattle.worker.proofs.putting.put_input.Goals as goal
 
-pub returns-clause-held : goal.returns-clause-held
-returns-clause-held g c =
+pub loop-directory-init : goal.loop-directory-init
+loop-directory-init g c =
     let old = (g.S.BlobSource.tells c.args.sink.now).blobs in
     let put = (g.S.BlobSource.tells c.put_blob.new.self).blobs in
-    on_ok c.put_all.result (right_still c.put_all.ensures.kept.blobs
-    (subst (λ bs. HasRight put (digest_of bs)) (c.deref.ensures.value ∙ c.in_ok-action.ensures.bytes) (right_put old put c.in_ok-put_blob.ensures.held)))
+    record {
+      put = put_still c.args.put.now c.put_blob.ensures.called.asked.right c.requires.put;
+      kept = kept_blob c.put_blob.ensures.called;
+      fetched = c.in_ok-put_blob.ensures.called.unfailed ok_no_error;
+      held = subst (λ bs. HasRight put (digest_of bs)) (c.deref.ensures.value ∙ c.in_ok-action.ensures.bytes) (right_put old put c.in_ok-put_blob.ensures.held);
+      input = tt;
+    }
+
+pub loop-directory-preserved : goal.loop-directory-preserved
+loop-directory-preserved g c =
+    let before = (g.S.BlobSource.tells c.loop-directory.sink).blobs in
+    let after = (g.S.BlobSource.tells c.put_once.new.sink).blobs in
+    record {
+      put = c.put_once.ensures.put;
+      kept = kept_trans c.loop-directory.invariant.kept c.put_once.ensures.kept;
+      fetched = c.in_ok-put_once.ensures.fetched.unfailed (λ f. f) ∙ c.loop-directory.invariant.fetched;
+      held = right_still c.put_once.ensures.kept.blobs c.loop-directory.invariant.held;
+      input =
+          let items = c.deref-directory-items.ensures.value in
+          all_right_taken before after c.args.job.now.input.directories.items c.loop-directory.directory-index c.directory-item.result (subst (λ (xs : List (Vec ℕ g.row.A.Denot)). c.loop-directory.directory-index < length xs) items c.loop-directory-test.true)
+          (subst (λ (xs : List (Vec ℕ g.row.A.Denot)). c.directory-item.result ≡ get_or xs c.loop-directory.directory-index c.directory-item.result) items c.directory-item.is) c.put_once.ensures.kept.blobs c.loop-directory.invariant.input
+          (subst (λ bs. HasRight after (digest_of bs)) c.deref-in-loop-directory.ensures.value c.in_ok-put_once.ensures.held);
+    }
+
+pub returns-in_err-put_once-clause-fetched : goal.returns-in_err-put_once-clause-fetched
+returns-in_err-put_once-clause-fetched g c = counts_from c.loop-directory.invariant.fetched (counts_exit IsFetch c.from_residual-in_err-put_once.result c.from_residual-in_err-put_once.ensures.1 (c.in_err-put_once.ensures.fetched))
+
+pub returns-clause-fetched : goal.returns-clause-fetched
+returns-clause-fetched g c = counts_same (λ f. f) c.loop-directory.invariant.fetched

@@ -4,7 +4,8 @@ use Rattle.blob_digest.specs.Digest.{digest_of}
 use Rattle.blob_source.specs.Sink.{HasRight}
 use Rattle.actions.specs.Outcome.{output_value}
 use Rattle.actions.specs.declared.outcome.Output.TheVariants as outputs
-use Rattle.worker.specs.Stored.{IsKept, directories_of, HasTree}
+use Rattle.worker.specs.Stored.{IsKept}
+use Rattle.worker.specs.Outcomes.{directories_of, HasTree}
 use Rattle.worker.proofs.Keeping.{kept_none, kept_trans, kept_blob, right_put, all_right_still, fetch_fault}
 use Rattle.worker.proofs.Storing.{trees_taken, no_tree}
 use Rattle.blob_source.proofs.Asking.{ok_no_error}

@@ -1,7 +1,8 @@
 use Rattle.std.proofs.Common.{◌≡◌, take}
 use Rattle.std.specs.List.{AllByRecursion}
 use Rattle.actions.specs.Outcome.{outputs_in}
-use Rattle.worker.specs.Stored.{IsKept, HasTree}
+use Rattle.worker.specs.Stored.{IsKept}
+use Rattle.worker.specs.Outcomes.{HasTree}
 use Rattle.worker.proofs.putting.put_trees.Given as goal
 
 abbrev pub invariant-loop-output : goal.invariant-loop-output

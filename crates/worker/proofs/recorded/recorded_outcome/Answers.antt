@@ -16,7 +16,7 @@ returns-then-fits-clause-kept g c = kept_trans (kept_result c.result.ensures.cal
 pub returns-then-fits-clause-held : goal.returns-then-fits-clause-held
 returns-then-fits-clause-held g c =
     let told = c.in_ok-bytes.ensures.told in
-    let results = c.recorded.ensures.called.asked.results in
+    let results = c.recorded.ensures.called.asked.some.results in
     record {
       bytes = c.in-Some.bytes.items;
       held = results c.args.job.now.digest c.in-Some.bytes.items (sym told ∙ ap bytes_of c.in-Some.is);
@@ -57,7 +57,7 @@ pub returns-in-Ok-recorded-clause-none : goal.returns-in-Ok-recorded-clause-none
 returns-in-Ok-recorded-clause-none g c same =
     let t = g.S.BlobSource.tells c.recorded.new.source in
     let bytes = c.in-Some.bytes.items in
-    none_fits t c.args.job.now.digest c.args.job.now.command bytes (c.recorded.ensures.called.asked.results c.args.job.now.digest bytes (sym c.in_ok-bytes.ensures.told ∙ ap bytes_of c.in-Some.is))
+    none_fits t c.args.job.now.digest c.args.job.now.command bytes (c.recorded.ensures.called.asked.some.results c.args.job.now.digest bytes (sym c.in_ok-bytes.ensures.told ∙ ap bytes_of c.in-Some.is))
     c.in-Ok.made (subst (λ bs. Reads c.in-Ok.made bs) c.deref.ensures.value c.in-Ok.ensures.found) c.in-Ok-recorded.outcome c.in-Ok-recorded.ensures.found
     (λ h. let yes = c.fits.ensures.1 h in let no = c.if-fits.false in let both : true ≡ false = sym yes ∙ no in cc)
 
@@ -65,5 +65,5 @@ pub returns-clause-none : goal.returns-clause-none
 returns-clause-none g c same =
     let t = g.S.BlobSource.tells c.recorded.new.source in
     let bytes = c.in-Some.bytes.items in
-    none_explained t c.args.job.now.digest c.args.job.now.command bytes (c.recorded.ensures.called.asked.results c.args.job.now.digest bytes (sym c.in_ok-bytes.ensures.told ∙ ap bytes_of c.in-Some.is))
+    none_explained t c.args.job.now.digest c.args.job.now.command bytes (c.recorded.ensures.called.asked.some.results c.args.job.now.digest bytes (sym c.in_ok-bytes.ensures.told ∙ ap bytes_of c.in-Some.is))
     c.in-Ok.made (subst (λ bs. Reads c.in-Ok.made bs) c.deref.ensures.value c.in-Ok.ensures.found) c.in-Err-recorded.error c.in-Err-recorded.ensures.faulty c.in_default-error-2.not-Fetch c.in_default-error-2.not-Memory

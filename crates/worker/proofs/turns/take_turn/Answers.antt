@@ -1,12 +1,13 @@
 use Rattle.std.proofs.Common.{[], subst, sym}
-use Rattle.std.specs.Prelude.{OnOk}
+use Rattle.std.specs.Prelude.{IfErr, OnOk}
 use Rattle.worker.specs.Going.{FinishesOnly, GoesOnBy, IsTurn, is_start, step_of, taken_in}
 use Rattle.worker.proofs.Goes.{puts_kept}
-use Rattle.worker.proofs.Taking.{start_goes, finish_goes, finish_puts, finish_right, start_stored, finish_stored}
-use Rattle.worker.proofs.Stopping.{start_refused, finish_refused}
+use Rattle.worker.specs.Stopped.{IsRefusedBuild}
+use Rattle.worker.proofs.Taking.{finish_puts, finish_right, start_stored, finish_stored}
+use Rattle.worker.proofs.Stopping.{start_goes, finish_goes, start_room, finish_room, ended_of}
 use Rattle.worker.proofs.Lefts.{start_less, finish_less}
 use Rattle.worker.proofs.Counts.{start_only, finish_only}
-use Rattle.worker.proofs.Knowing.{knows_still}
+use Rattle.worker.proofs.PutOnce.{remembers_still}
 use Rattle.worker.proofs.turns.take_turn.Goals as goal
 
 pub returns-in-Start-clause-going : goal.returns-in-Start-clause-going
@@ -14,9 +15,12 @@ returns-in-Start-clause-going g c entry s most first within turn going =
     let calls = going.led.built.led.calls in
     let old = c.args.engine.now in
     let new = c.begin.new.engine in
-    subst (λ t. GoesOnBy g.row.A.Denot (g.N.Runner.yields entry) g.N.Runner.may_give (g.N.Runner.starts entry) (g.N.Runner.starts c.begin.new.runner) s (g.S.BlobSource.tells c.begin.new.sink) most first new c.begin.new.children.items calls (taken_in (is_start t) (step_of t c.args.children.now.items) old new)) (sym c.in-Start.is)
-    (start_goes g.row.A.Denot g.row.N-Job.Denot (g.N.Runner.yields entry) g.N.Runner.may_give (g.N.Runner.starts entry) (g.N.Runner.starts c.args.runner.now) (g.N.Runner.starts c.begin.new.runner) s (g.S.BlobSource.tells c.args.sink.now) (g.S.BlobSource.tells c.begin.new.sink) most first old new c.args.children.now.items c.begin.new.children.items going
-    c.begin.result (g.N.Runner.yields c.args.runner.now) c.in-Start.step within c.begin.ensures.kept c.begin.ensures.unlisted (subst (IsTurn most old c.args.children.now.items) c.in-Start.is turn) c.plan.ensures.valid c.begin.ensures.begun c.begin.ensures.refused c.begin.ensures.same)
+    let yields = g.N.Runner.yields entry in
+    let sink = g.S.BlobSource.tells c.begin.new.sink in
+    subst (λ t. (on : GoesOnBy g.row.A.Denot yields g.N.Runner.may_give (g.N.Runner.starts entry) (g.N.Runner.starts c.begin.new.runner) s sink most first new c.begin.new.children.items calls (taken_in (is_start t) (step_of t c.args.children.now.items) old new))
+    × IfErr c.begin.result (λ e. IsRefusedBuild g.row.A.Denot yields sink most on.going.led.built.led.calls first new e.step e.refusal)) (sym c.in-Start.is)
+    (start_goes g.row.A.Denot g.row.N-Job.Denot yields g.N.Runner.may_give (g.N.Runner.starts entry) (g.N.Runner.starts c.args.runner.now) (g.N.Runner.starts c.begin.new.runner) s (g.S.BlobSource.tells c.args.sink.now) sink most first old new c.args.children.now.items c.begin.new.children.items going
+    c.begin.result (g.N.Runner.yields c.args.runner.now) c.in-Start.step within c.begin.ensures.kept c.begin.ensures.unlisted (subst (IsTurn most old c.args.children.now.items) c.in-Start.is turn) c.plan.ensures.valid c.begin.ensures.begun c.begin.ensures.stopped c.begin.ensures.same)
 
 pub returns-in-Start-clause-puts : goal.returns-in-Start-clause-puts
 returns-in-Start-clause-puts g c = ([], puts_kept c.begin.ensures.kept)
@@ -24,7 +28,7 @@ returns-in-Start-clause-puts g c = ([], puts_kept c.begin.ensures.kept)
 pub returns-in-Finish-clause-puts : goal.returns-in-Finish-clause-puts
 returns-in-Finish-clause-puts g c =
     finish_puts g.N.Runner.may_give (g.S.BlobSource.tells c.args.sink.now) (g.S.BlobSource.tells c.finish_first.new.sink) c.args.engine.now c.finish_first.new.engine c.args.children.now.items c.finish_first.new.children.items
-    c.finish_first.result c.finish_first.ensures.ended c.finish_first.ensures.refused
+    c.finish_first.result c.finish_first.ensures.ended (ended_of g.N.Runner.may_give (g.S.BlobSource.tells c.args.sink.now) (g.S.BlobSource.tells c.finish_first.new.sink) c.args.engine.now c.finish_first.new.engine c.args.children.now.items c.finish_first.new.children.items c.finish_first.result c.finish_first.ensures.stopped)
 
 pub returns-in-Start-clause-fewer : goal.returns-in-Start-clause-fewer
 returns-in-Start-clause-fewer g c =
@@ -37,9 +41,12 @@ returns-in-Finish-clause-going g c entry s most first within turn going =
     let calls = going.led.built.led.calls in
     let old = c.args.engine.now in
     let new = c.finish_first.new.engine in
-    subst (λ t. GoesOnBy g.row.A.Denot (g.N.Runner.yields entry) g.N.Runner.may_give (g.N.Runner.starts entry) (g.N.Runner.starts c.finish_first.new.runner) s (g.S.BlobSource.tells c.finish_first.new.sink) most first new c.finish_first.new.children.items calls (taken_in (is_start t) (step_of t c.args.children.now.items) old new)) (sym c.in-Finish.is)
-    (finish_goes g.row.A.Denot g.row.N-Job.Denot (g.N.Runner.yields entry) g.N.Runner.may_give (g.N.Runner.starts entry) (g.N.Runner.starts c.args.runner.now) (g.N.Runner.starts c.finish_first.new.runner) s (g.S.BlobSource.tells c.args.sink.now) (g.S.BlobSource.tells c.finish_first.new.sink) most first old new c.args.children.now.items c.finish_first.new.children.items going
-    c.finish_first.result c.finish_first.ensures.unlisted c.finish_first.ensures.ended c.finish_first.ensures.refused)
+    let yields = g.N.Runner.yields entry in
+    let sink = g.S.BlobSource.tells c.finish_first.new.sink in
+    subst (λ t. (on : GoesOnBy g.row.A.Denot yields g.N.Runner.may_give (g.N.Runner.starts entry) (g.N.Runner.starts c.finish_first.new.runner) s sink most first new c.finish_first.new.children.items calls (taken_in (is_start t) (step_of t c.args.children.now.items) old new))
+    × IfErr c.finish_first.result (λ e. IsRefusedBuild g.row.A.Denot yields sink most on.going.led.built.led.calls first new e.step e.refusal)) (sym c.in-Finish.is)
+    (finish_goes g.row.A.Denot g.row.N-Job.Denot yields g.N.Runner.may_give (g.N.Runner.starts entry) (g.N.Runner.starts c.args.runner.now) (g.N.Runner.starts c.finish_first.new.runner) s (g.S.BlobSource.tells c.args.sink.now) sink most first old new c.args.children.now.items c.finish_first.new.children.items going
+    c.finish_first.result c.plan.ensures.valid c.finish_first.ensures.unlisted c.finish_first.ensures.ended c.finish_first.ensures.stopped)
 
 pub returns-in-Finish-clause-fewer : goal.returns-in-Finish-clause-fewer
 returns-in-Finish-clause-fewer g c =
@@ -49,10 +56,10 @@ returns-in-Finish-clause-fewer g c =
 pub returns-in-Finish-clause-right : goal.returns-in-Finish-clause-right
 returns-in-Finish-clause-right g c =
     finish_right g.N.Runner.may_give (g.S.BlobSource.tells c.args.sink.now) (g.S.BlobSource.tells c.finish_first.new.sink) c.args.engine.now c.finish_first.new.engine c.args.children.now.items c.finish_first.new.children.items
-    c.finish_first.result c.finish_first.ensures.ended c.finish_first.ensures.refused
+    c.finish_first.result c.finish_first.ensures.ended (ended_of g.N.Runner.may_give (g.S.BlobSource.tells c.args.sink.now) (g.S.BlobSource.tells c.finish_first.new.sink) c.args.engine.now c.finish_first.new.engine c.args.children.now.items c.finish_first.new.children.items c.finish_first.result c.finish_first.ensures.stopped)
 
 pub returns-in-Finish-clause-knows : goal.returns-in-Finish-clause-knows
-returns-in-Finish-clause-knows g c = knows_still (returns-in-Finish-clause-right g c) c.requires.knows
+returns-in-Finish-clause-knows g c = remembers_still (returns-in-Finish-clause-right g c) c.requires.knows
 
 pub returns-in-Start-clause-stored : goal.returns-in-Start-clause-stored
 returns-in-Start-clause-stored g c =
@@ -63,16 +70,6 @@ pub returns-in-Finish-clause-stored : goal.returns-in-Finish-clause-stored
 returns-in-Finish-clause-stored g c =
     finish_stored g.row.A.Denot g.row.N-Job.Denot (g.N.Runner.yields c.args.runner.now) g.N.Runner.may_give (g.N.Runner.starts c.args.runner.now) (g.N.Runner.starts c.finish_first.new.runner) (g.S.BlobSource.tells c.args.sink.now) (g.S.BlobSource.tells c.finish_first.new.sink) c.args.engine.now c.finish_first.new.engine c.args.children.now.items c.finish_first.new.children.items
     g.N.Runner.yields g.N.Runner.starts c.finish_first.result c.finish_first.ensures.ended c.finish_first.ensures.put
-
-pub returns-in-Start-clause-stopped : goal.returns-in-Start-clause-stopped
-returns-in-Start-clause-stopped g c =
-    start_refused g.row.A.Denot g.row.N-Job.Denot g.N.Runner.may_give (g.N.Runner.starts c.args.runner.now) (g.N.Runner.starts c.begin.new.runner) (g.S.BlobSource.tells c.args.sink.now) (g.S.BlobSource.tells c.begin.new.sink) c.args.engine.now c.begin.new.engine c.args.children.now.items c.begin.new.children.items
-    g.N.Runner.yields g.N.Runner.starts (g.N.Runner.yields c.args.runner.now) c.in-Start.step c.args.turn c.in-Start.is c.begin.result c.begin.ensures.stopped c.begin.ensures.kept
-
-pub returns-in-Finish-clause-stopped : goal.returns-in-Finish-clause-stopped
-returns-in-Finish-clause-stopped g c =
-    finish_refused g.row.A.Denot g.row.N-Job.Denot g.N.Runner.may_give (g.N.Runner.starts c.args.runner.now) (g.N.Runner.starts c.finish_first.new.runner) (g.S.BlobSource.tells c.args.sink.now) (g.S.BlobSource.tells c.finish_first.new.sink) c.args.engine.now c.finish_first.new.engine c.args.children.now.items c.finish_first.new.children.items
-    c.plan.ensures.valid c.finish_first.ensures.unlisted g.N.Runner.yields g.N.Runner.starts (g.N.Runner.yields c.args.runner.now) c.args.turn c.finish_first.result c.finish_first.ensures.stopped c.finish_first.ensures.refused
 
 pub returns-in-Start-clause-only : goal.returns-in-Start-clause-only
 returns-in-Start-clause-only g c =
@@ -95,3 +92,9 @@ returns-in-Finish-clause-fetched g c = c.finish_first.ensures.fetched
 
 pub returns-in-Finish-clause-device : goal.returns-in-Finish-clause-device
 returns-in-Finish-clause-device g c = c.finish_first.ensures.device
+
+pub returns-in-Start-clause-room : goal.returns-in-Start-clause-room
+returns-in-Start-clause-room g c = start_room c.begin.result c.args.engine.now c.args.children.now.items c.begin.new.children.items c.args.turn c.in-Start.step c.in-Start.is c.begin.ensures.same
+
+pub returns-in-Finish-clause-room : goal.returns-in-Finish-clause-room
+returns-in-Finish-clause-room g c = finish_room c.finish_first.result _ c.args.engine.now c.finish_first.new.engine c.args.children.now.items c.finish_first.new.children.items c.args.turn (ended_of g.N.Runner.may_give (g.S.BlobSource.tells c.args.sink.now) (g.S.BlobSource.tells c.finish_first.new.sink) c.args.engine.now c.finish_first.new.engine c.args.children.now.items c.finish_first.new.children.items c.finish_first.result c.finish_first.ensures.stopped)

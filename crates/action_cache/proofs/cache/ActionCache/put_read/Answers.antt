@@ -1,21 +1,22 @@
-use Rattle.std.proofs.Common.{◌≡◌, Bool, refl, sym, ap, ◌∙◌, subst, bytes_eq, true, false, is_some, Err, inl, inr, ◌⊎◌, IfErr}
+use Rattle.std.proofs.Common.{◌≡◌, ℕ, List, Bool, refl, sym, ap, ◌∙◌, subst, bytes_eq, true, false, is_some, Err, inl, inr, ◌⊎◌, IfErr}
 use Rattle.eviction.specs.declared.error.BoundedError.{BoundedError}
 use Rattle.eviction.specs.declared.error.BoundedError.TheVariants as bounded
-use Rattle.eviction.specs.Kept.{bytes_under}
 use Rattle.eviction.specs.Entering.{can_enter}
-use Rattle.eviction.specs.Pinning.{pins_of}
 use Rattle.action_cache.specs.declared.error.CacheError.TheVariants as cache
 use Rattle.action_cache.specs.declared.error.CacheError.TheVariants.{PinnedDiffers, BadResult}
 use Rattle.messages.specs.declared.error.MessageError.{MessageError}
 use Rattle.action_cache.specs.Reading.{by_messages}
 use Rattle.action_cache.specs.Machine.{CacheState, Answer, done, refused, full, under, differs_pinned, put_result as result_put}
-use Rattle.action_cache.specs.Tied.{marks}
-use Rattle.action_cache.specs.State.{state_of, is_other}
+use Rattle.action_cache.specs.State.{state_of}
 use Rattle.action_cache.specs.CacheError.{of_bounded, IsRefused}
 use Rattle.action_cache.proofs.Said.{not_bad}
 use Rattle.action_cache.proofs.Mirrors.{told, told_is}
-use Rattle.action_cache.proofs.Replacing.{other_is, other_put, ok_put, full_put, put_done, entered_overhead, same_put, put_tied}
+use Rattle.action_cache.proofs.Replacing.{other_put, ok_put, full_put, put_done, entered_overhead, same_put, put_tied}
 use Rattle.action_cache.proofs.cache.ActionCache.put_read.Goals as goal
+
+-- whether a pinned result differs, in the machine's words
+seen : (w st : CacheState) (h b l : List ℕ) (q t : Bool) → st ≡ w → l ≡ b → q ≡ differs_pinned by_messages w l (under h w.results) → q ≡ t → differs_pinned by_messages st b (under h st.results) ≡ t
+seen w st h b l q t v e told is = (λ i. differs_pinned by_messages (v i) (sym e i) (under h (v i).results)) ∙ sym told ∙ is
 
 pub returns-then-differs-clause-refused : goal.returns-then-differs-clause-refused
 returns-then-differs-clause-refused g c =
@@ -28,8 +29,7 @@ returns-then-differs-clause-refused g c =
     let flat = c.self.invariant.2 in
     let d = c.held_bytes-held.ensures.valid.distinct in
     let reads : is_some (reader.outputs b) ≡ true = c.requires in
-    let other : differs_pinned reader (state_of i.blobs.limit s.limit B s.entries) b (under h (marks s.entries)) ≡ true =
-    sym (other_is reader i.blobs.limit B s flat d h b) ∙ ap (λ l. is_other l (bytes_under bytes_eq s.entries h) (pins_of bytes_eq s.entries h)) (sym c.deref.ensures.value) ∙ sym c.differs.ensures ∙ c.if-differs.true in
+    let other = seen _ (state_of i.blobs.limit s.limit B s.entries) h b c.deref.result.now c.differs.result true c.self.view_is c.deref.ensures.value c.differs.ensures c.if-differs.true in
     subst (λ (w : CacheState). IsRefused w (result_put reader w h b) PinnedDiffers) c.self.view_is (other_put reader i.blobs.limit B s flat d h b reads other)
 
 pub invariant_of-self-2 : goal.invariant_of-self-2
@@ -43,8 +43,7 @@ invariant_of-self-2 g c =
     let flat = c.self.invariant.2 in
     let d = c.held_bytes-held.ensures.valid.distinct in
     let reads : is_some (reader.outputs b) ≡ true = c.requires in
-    let other : differs_pinned reader (state_of i.blobs.limit s.limit B s.entries) b (under h (marks s.entries)) ≡ false =
-    sym (other_is reader i.blobs.limit B s flat d h b) ∙ ap (λ l. is_other l (bytes_under bytes_eq s.entries h) (pins_of bytes_eq s.entries h)) (sym c.deref.ensures.value) ∙ sym c.differs.ensures ∙ c.if-differs.false in
+    let other = seen _ (state_of i.blobs.limit s.limit B s.entries) h b c.deref.result.now c.differs.result false c.self.view_is c.deref.ensures.value c.differs.ensures c.if-differs.false in
     (put_tied reader i.blobs.limit B s flat d h b c.put.new.self c.in_ok-put.ensures.ok (same_put reader i.blobs.limit B s flat d h b other) c.self.invariant.0, c.self.invariant.1, entered_overhead s c.put.new.self h b c.in_ok-put.ensures.ok ∙ flat)
 
 pub returns-clause-ok : goal.returns-clause-ok
@@ -58,8 +57,7 @@ returns-clause-ok g c =
     let flat = c.self.invariant.2 in
     let d = c.held_bytes-held.ensures.valid.distinct in
     let reads : is_some (reader.outputs b) ≡ true = c.requires in
-    let other : differs_pinned reader (state_of i.blobs.limit s.limit B s.entries) b (under h (marks s.entries)) ≡ false =
-    sym (other_is reader i.blobs.limit B s flat d h b) ∙ ap (λ l. is_other l (bytes_under bytes_eq s.entries h) (pins_of bytes_eq s.entries h)) (sym c.deref.ensures.value) ∙ sym c.differs.ensures ∙ c.if-differs.false in
+    let other = seen _ (state_of i.blobs.limit s.limit B s.entries) h b c.deref.result.now c.differs.result false c.self.view_is c.deref.ensures.value c.differs.ensures c.if-differs.false in
     subst (λ (w : CacheState). result_put reader w h b ≡ (done, state_of i.blobs.limit c.put.new.self.limit B c.put.new.self.entries)) c.self.view_is (ok_put reader i.blobs.limit B s flat d h b c.put.new.self reads other c.in_ok-put.ensures.ok)
 
 -- full or out of memory
@@ -78,8 +76,7 @@ returns-in_err-put-clause-refused g c =
     let flat = c.self.invariant.2 in
     let d = c.held_bytes-held.ensures.valid.distinct in
     let reads : is_some (reader.outputs b) ≡ true = c.requires in
-    let other : differs_pinned reader (state_of i.blobs.limit s.limit B s.entries) b (under h (marks s.entries)) ≡ false =
-    sym (other_is reader i.blobs.limit B s flat d h b) ∙ ap (λ l. is_other l (bytes_under bytes_eq s.entries h) (pins_of bytes_eq s.entries h)) (sym c.deref.ensures.value) ∙ sym c.differs.ensures ∙ c.if-differs.false in
+    let other = seen _ (state_of i.blobs.limit s.limit B s.entries) h b c.deref.result.now c.differs.result false c.self.view_is c.deref.ensures.value c.differs.ensures c.if-differs.false in
     let st = state_of i.blobs.limit s.limit B s.entries in
     let e = c.in_err-put.field-0.0 in
     let full : e ≡ bounded.Full → can_enter bytes_eq s h b ≡ false = λ q. c.in_err-put.ensures.full.0 (ap Err q) in
@@ -117,8 +114,7 @@ returns-in_err-put-clause-memory g c is =
     let flat = c.self.invariant.2 in
     let d = c.held_bytes-held.ensures.valid.distinct in
     let reads : is_some (reader.outputs b) ≡ true = c.requires in
-    let other : differs_pinned reader (state_of i.blobs.limit s.limit B s.entries) b (under h (marks s.entries)) ≡ false =
-    sym (other_is reader i.blobs.limit B s flat d h b) ∙ ap (λ l. is_other l (bytes_under bytes_eq s.entries h) (pins_of bytes_eq s.entries h)) (sym c.deref.ensures.value) ∙ sym c.differs.ensures ∙ c.if-differs.false in
+    let other = seen _ (state_of i.blobs.limit s.limit B s.entries) h b c.deref.result.now c.differs.result false c.self.view_is c.deref.ensures.value c.differs.ensures c.if-differs.false in
     let memory = bounded_memory c.in_err-put.field-0.0 (told_is c.from_residual.result (of_bounded c.in_err-put.field-0.0) cache.Memory c.from_residual.ensures.1 is) in
     let room = not_false (can_enter bytes_eq s h b) (λ full. let is_full = c.in_err-put.ensures.full.1 full in let no : bounded.Full ≡ bounded.Memory = cc in absurd cc) in
     subst (λ (w : CacheState). (result_put reader w h b).0 ≡ done) c.self.view_is (put_done reader i.blobs.limit B s flat d h b reads other room)

@@ -1,10 +1,9 @@
-use Rattle.std.proofs.Common.{◌≡◌, ◌-◌, take, drop, get_or, length, ap, subst, ◌∙◌, arith}
-use Rattle.tree.proofs.VisitSteps.{rest_of}
+use Rattle.std.proofs.Common.{get_or, ap, subst, arith}
 use Rattle.tree.specs.Form.{node_value}
 use Rattle.tree.specs.Lookup.{nothing, found, looked}
 use Rattle.tree.specs.Merging.{within_value}
 use Rattle.actions.specs.Outcome.{output_value}
-use Rattle.actions.specs.OutcomeLookup.{LooksBelow}
+use Rattle.actions.specs.OutcomeLookup.{LooksBelow, names_left}
 use Rattle.actions.proofs.OutcomeLookups.{ascending, valid, within, none_over, looks_over, lies_over}
 use Rattle.actions.proofs.outcome.Outcome.lookup_within.Goals as goal
 
@@ -26,27 +25,23 @@ returns-in_default-clause-looked g c = none_over c.args.self.now c.args.path.now
 pub returns-in-Some-2-clause-looked : goal.returns-in-Some-2-clause-looked
 returns-in-Some-2-clause-looked g c =
     let over = c.in-Some.ensures in
-    let names : c.deref.result.now ≡ c.args.path.now = c.deref.ensures.value ∙ (c.in_ok-names.ensures {u = tt}).value in
-    let rest = take (length c.deref.result.now - c.in-Some.over.names) (drop c.in-Some.over.names c.deref.result.now) in
+    let rest = names_left c.in-Some.over.below in
     let item = get_or c.outputs-outputs.result.now c.in-Some.over.place c.index-outputs-over.result in
-    looks_over c.args.self.now c.args.path.now rest c.outputs-outputs.result.now c.in-Some.over.place c.in-Some.over.names item over.0 c.outputs-outputs.ensures.value over.1 (ap (get_or c.outputs-outputs.result.now c.in-Some.over.place) c.index-outputs-over.is) over.2
-    (rest_of c.in-Some.over.names c.deref.result.now ∙ ap (drop c.in-Some.over.names) names) (found (node_value c.in-Some-2.node))
-    (subst (λ x. LooksBelow (output_value item.1) rest (looked x)) c.in-Some-2.is (c.in_ok-node.ensures {u = tt}).looked)
+    looks_over c.args.self.now c.args.path.now rest c.outputs-outputs.result.now c.in-Some.over.place item over.0 c.outputs-outputs.ensures.value over.1 (ap (get_or c.outputs-outputs.result.now c.in-Some.over.place) c.index-outputs-over.is) over.2
+    (found (node_value c.in-Some-2.node)) (subst (λ x. LooksBelow (output_value item.1) rest (looked x)) c.in-Some-2.is (c.in_ok-node.ensures {u = tt}).looked)
 
 pub returns-in-Some-2-clause-within : goal.returns-in-Some-2-clause-within
 returns-in-Some-2-clause-within g c =
     let over = c.in-Some.ensures in
-    let names : c.deref.result.now ≡ c.args.path.now = c.deref.ensures.value ∙ (c.in_ok-names.ensures {u = tt}).value in
-    let rest = take (length c.deref.result.now - c.in-Some.over.names) (drop c.in-Some.over.names c.deref.result.now) in
+    let rest = names_left c.in-Some.over.below in
     let item = get_or c.outputs-outputs.result.now c.in-Some.over.place c.index-outputs-over.result in
-    lies_over c.args.self.now c.args.path.now rest c.outputs-outputs.result.now c.in-Some.over.place c.in-Some.over.names item over.0 c.outputs-outputs.ensures.value over.1 (ap (get_or c.outputs-outputs.result.now c.in-Some.over.place) c.index-outputs-over.is) over.2
-    (rest_of c.in-Some.over.names c.deref.result.now ∙ ap (drop c.in-Some.over.names) names) (within_value c.within.result) c.within.ensures
+    lies_over c.args.self.now c.args.path.now rest c.outputs-outputs.result.now c.in-Some.over.place item over.0 c.outputs-outputs.ensures.value over.1 (ap (get_or c.outputs-outputs.result.now c.in-Some.over.place) c.index-outputs-over.is) over.2
+    (within_value c.within.result) c.within.ensures
 
-pub returns-clause-looked : goal.returns-clause-looked
-returns-clause-looked g c =
+pub returns-in-None-clause-looked : goal.returns-in-None-clause-looked
+returns-in-None-clause-looked g c =
     let over = c.in-Some.ensures in
-    let names : c.deref.result.now ≡ c.args.path.now = c.deref.ensures.value ∙ (c.in_ok-names.ensures {u = tt}).value in
-    let rest = take (length c.deref.result.now - c.in-Some.over.names) (drop c.in-Some.over.names c.deref.result.now) in
+    let rest = names_left c.in-Some.over.below in
     let item = get_or c.outputs-outputs.result.now c.in-Some.over.place c.index-outputs-over.result in
-    looks_over c.args.self.now c.args.path.now rest c.outputs-outputs.result.now c.in-Some.over.place c.in-Some.over.names item over.0 c.outputs-outputs.ensures.value over.1 (ap (get_or c.outputs-outputs.result.now c.in-Some.over.place) c.index-outputs-over.is) over.2
-    (rest_of c.in-Some.over.names c.deref.result.now ∙ ap (drop c.in-Some.over.names) names) nothing (subst (λ x. LooksBelow (output_value item.1) rest (looked x)) c.in-None.is (c.in_ok-node.ensures {u = tt}).looked)
+    looks_over c.args.self.now c.args.path.now rest c.outputs-outputs.result.now c.in-Some.over.place item over.0 c.outputs-outputs.ensures.value over.1 (ap (get_or c.outputs-outputs.result.now c.in-Some.over.place) c.index-outputs-over.is) over.2
+    nothing (subst (λ x. LooksBelow (output_value item.1) rest (looked x)) c.in-None.is (c.in_ok-node.ensures {u = tt}).looked)

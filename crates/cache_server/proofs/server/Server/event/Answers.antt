@@ -67,3 +67,15 @@ returns-clause-answers g c opening history stands =
     let whole : take c.loop-at.at c.args.piece.now ≡ c.args.piece.now = take_all c.loop-at.at c.args.piece.now (omega (arith, c.loop-at-test.false)) in
     opened_answers opening c.args.self.now c.open.new.self c.loop-at.self c.args.connection history c.in_ok-open.ensures.ok stands c.args.piece.now c.loop-at.text.items
     (subst (λ z. HasFed c.open.new.self c.args.connection z c.loop-at.text.items c.loop-at.self) whole c.loop-at.invariant.fed)
+
+pub returns-in_err-open-clause-prefix : goal.returns-in_err-open-clause-prefix
+returns-in_err-open-clause-prefix g c = c.in_err-open.ensures.err.kept.prefix
+
+pub returns-in_err-taken-clause-prefix : goal.returns-in_err-taken-clause-prefix
+returns-in_err-taken-clause-prefix g c = c.in_err-taken.ensures.err.kept.prefix ∙ c.loop-at.invariant.fed.prefix ∙ c.in_ok-open.ensures.ok.kept.prefix
+
+pub returns-then-is_err-clause-prefix : goal.returns-then-is_err-clause-prefix
+returns-then-is_err-clause-prefix g c = c.close.ensures.kept.prefix ∙ c.in_ok-taken.ensures.ok.prefix ∙ c.loop-at.invariant.fed.prefix ∙ c.in_ok-open.ensures.ok.kept.prefix
+
+pub returns-clause-prefix : goal.returns-clause-prefix
+returns-clause-prefix g c = c.loop-at.invariant.fed.prefix ∙ c.in_ok-open.ensures.ok.kept.prefix

@@ -9,7 +9,7 @@ use Rattle.blob_source.proofs.Calling.{called_no}
 use Rattle.runs.specs.Engine.{EngineValue}
 use Rattle.runs.proofs.Fetching.{fetching_memory}
 use Rattle.tree.specs.declared.error.TreeError.TheVariants as tree
-use Rattle.verifier.specs.Together.{IsFoldOfPassed}
+use Rattle.tree.specs.Folded.{IsFoldOfPassed}
 use Rattle.verifier.proofs.FreshRuns.{one_answer}
 use Rattle.runs.specs.Looking.{Explains, together_in}
 use Rattle.runs.proofs.Places.{element_at}
@@ -71,10 +71,10 @@ returns-clause-prepared g c =
       number = refl;
       of_step = refl;
       frame = ap (λ (e : EngineValue). slice_get e.frames c.args.step) (sym c.self.view_is) ∙ f ∙ ap Some (sym c.in_ok-frame.ensures ∙ sym c.with_input-action.ensures.frame);
-      input = ap (λ (a : ActionValue). a.input) c.with_input-action.ensures.value ∙ told.2.root;
+      input = ap (λ (a : ActionValue). a.input) c.with_input-action.ensures.value ∙ told.2.fold.root;
       command = ap (λ (e : EngineValue). slice_get e.commands c.args.step) (sym c.self.view_is) ∙ d ∙ ap Some (sym c.in_ok-command.ensures);
       digest = c.of-digest.ensures ∙ ap digest_of (c.deref-2.ensures.value ∙ c.in_ok-encode.ensures.bytes);
-      folded = told.2;
+      folded = told.2.fold;
     }
 
 pub returns-in_err-encode-clause-called : goal.returns-in_err-encode-clause-called

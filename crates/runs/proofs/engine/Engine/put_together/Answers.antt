@@ -3,7 +3,8 @@ use Rattle.std.proofs.lemmas.Result.{err_from_is_err_and}
 use Rattle.blob_source.proofs.Asking.{ok_no_error}
 use Rattle.blob_source.proofs.Calling.{called_no}
 use Rattle.tree.proofs.Learning.{learns_more, learns_refused, refused_exit}
-use Rattle.verifier.specs.Together.{ExplainsLines, IsFoldOfPassed, TogetherLooksAt, put_together}
+use Rattle.tree.specs.Folded.{IsFoldOfPassed}
+use Rattle.verifier.specs.Together.{ExplainsLines, TogetherLooksAt, put_together}
 use Rattle.runs.specs.Engine.{EngineValue}
 use Rattle.runs.specs.Looking.{outcomes_in}
 use Rattle.runs.proofs.Fetching.{fetching_refused}

@@ -21,14 +21,14 @@ graft_root-requires-clause-there g c =
 pub returns-clause-state : goal.returns-clause-state
 returns-clause-state g c =
     let plan : IsPlan c.args.self.now.plan = subst (λ (e : EngineValue). IsPlan e.plan) c.self.view_is c.root.ensures.valid in
-    ok_map c.graft_root.result (λ f h. grafted_root (g.S.BlobSource.tells c.graft_root.new.source).blobs c.args.self.now f.root plan (subst IsEngine c.self.view_is c.self.invariant) (record { tree = h.0; together = h.1; same = h.2.root })) c.graft_root.ensures.told
+    ok_map c.graft_root.result (λ f h. grafted_root (g.S.BlobSource.tells c.graft_root.new.source).blobs c.args.self.now f.root plan (subst IsEngine c.self.view_is c.self.invariant) (record { tree = h.0; together = h.1; same = h.2.fold.root })) c.graft_root.ensures.told
 
 pub returns-clause-served : goal.returns-clause-served
 returns-clause-served g c =
     let engine : IsEngine c.args.self.now = subst IsEngine c.self.view_is c.self.invariant in
     let plan : IsPlan c.args.self.now.plan = subst (λ (e : EngineValue). IsPlan e.plan) c.self.view_is c.root.ensures.valid in
     let told = (g.S.BlobSource.tells c.graft_root.new.source).blobs in
-    ok_map c.graft_root.result (λ f h. served_yes g.row.A.Denot told c.args.self.now f.root plan engine (grafted_root told c.args.self.now f.root plan engine (record { tree = h.0; together = h.1; same = h.2.root }))) c.graft_root.ensures.told
+    ok_map c.graft_root.result (λ f h. served_yes g.row.A.Denot told c.args.self.now f.root plan engine (grafted_root told c.args.self.now f.root plan engine (record { tree = h.0; together = h.1; same = h.2.fold.root }))) c.graft_root.ensures.told
 
 pub returns-clause-refused : goal.returns-clause-refused
 returns-clause-refused g c =

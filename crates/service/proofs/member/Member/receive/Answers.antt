@@ -2,6 +2,7 @@ use Rattle.std.proofs.Common.{◌≡◌, ℕ, [], List, Option, Some, None, refl
 use Rattle.std.proofs.lemmas.Grind.{common_steps}
 use Rattle.std.specs.Prelude.{Ok, Err}
 use Rattle.cache_server.specs.declared.error.ConnError.TheVariants.{Memory, ReadFault}
+use Rattle.service.specs.Sockets.{Failed}
 use Rattle.service.specs.Member.{MemberValue, MovesOn, Passes, end_of, unsent_of}
 use Rattle.service.proofs.Talking.{moves_from, stays_moves, passes_moves, reads_end, reads_none, reads_pass, fails_for, reads_moves, next_moves, next_fails, moves_end}
 use Rattle.service.proofs.member.Member.receive.Goals as goal
@@ -13,7 +14,7 @@ pub returns-in-Err : goal.returns-in-Err
 returns-in-Err g c =
     moves_from g.S.Peer.spoke g.S.Peer.over (end_of c.after_fault.result) c.args.number c.args.server.now c.args.server.now c.args.self.now _ _ c.self.view_is
     (stays_moves g.S.Peer.spoke g.S.Peer.over (end_of c.after_fault.result) c.args.number c.args.server.now _ _ c.in-Err.ensures.fault refl refl
-    (fails_for (g.S.Peer.over c.read.new.self) (Err ReadFault) c.after_fault.result c.in-Err.ensures.broken c.after_fault.ensures))
+    (fails_for (λ e. g.S.Peer.over c.read.new.self (Failed e)) c.in-Err.fault ReadFault (end_of c.after_fault.result) c.in-Err.ensures.broken c.after_fault.ensures))
 
 pub returns-then-count-eq0 : goal.returns-then-count-eq0
 returns-then-count-eq0 g c =

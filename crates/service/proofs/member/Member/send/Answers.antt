@@ -1,6 +1,6 @@
-use Rattle.std.specs.Prelude.{Err}
 use Rattle.cache_server.specs.declared.error.ConnError.TheVariants.{WriteFault}
 use Rattle.service.proofs.Talking.{sent_passes, stays_passes, fails_for}
+use Rattle.service.specs.Sockets.{Failed}
 use Rattle.service.specs.Member.{end_of}
 use Rattle.service.proofs.member.Member.send.Goals as goal
 
@@ -12,4 +12,4 @@ returns-in-Ok g c =
 pub returns-in-Err : goal.returns-in-Err
 returns-in-Err g c =
     stays_passes g.S.Peer.spoke g.S.Peer.over (end_of c.after_fault.result) c.args.self.now c.write_some.new.self
-    c.in-Err.ensures.fault c.write_some.ensures.left c.write_some.ensures.unsent (fails_for (g.S.Peer.over c.write_some.new.self.stream) (Err WriteFault) c.after_fault.result c.in-Err.ensures.broken c.after_fault.ensures)
+    c.in-Err.ensures.fault c.write_some.ensures.left c.write_some.ensures.unsent (fails_for (λ e. g.S.Peer.over c.write_some.new.self.stream (Failed e)) c.in-Err.fault WriteFault (end_of c.after_fault.result) c.in-Err.ensures.broken c.after_fault.ensures)

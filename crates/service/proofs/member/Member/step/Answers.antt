@@ -13,11 +13,11 @@ none_unsent (Some a) sent e = cc
 not_both : (b : Bool) → b ≡ false → b ≡ true → ⊥
 not_both b e f = let g : false ≡ true = sym e ∙ f in cc
 
-pub returns-then-is_last : goal.returns-then-is_last
-returns-then-is_last g c =
+pub returns-then-not-is_open : goal.returns-then-not-is_open
+returns-then-not-is_open g c =
     let unsent : c.args.self.now.unsent ≡ [] =
     sym (ap (λ (z : MemberValue g.row.S.Denot). z.unsent) c.self.view_is)
     ∙ none_unsent c.self.inside.answer c.self.inside.sent (sym c.is_some.ensures ∙ c.if-is_some.false) in
     lingers_moves g.S.Peer.spoke g.S.Peer.over (end_of c.linger.result) c.args.number c.args.server.now c.args.self.now c.linger.new.self
-    c.linger.ensures.end (λ o. not_both c.is_open-is_last.result c.if-is_last.true (c.is_open-is_last.ensures.1 o))
+    c.linger.ensures.end (λ o. not_both c.is_open.result c.if-not-is_open.true (c.is_open.ensures.1 o))
     c.linger.ensures.stays c.linger.ensures.left c.linger.ensures.unsent unsent

@@ -16,7 +16,7 @@ pub returns-in_err-next-clause-refused : goal.returns-in_err-next-clause-refused
 returns-in_err-next-clause-refused g c =
     let p = err_from_is_err_and c.from_residual.result c.from_residual.ensures.1 in
     let goes = goes_dir _ c.args.root.now c.in-Dir.digest c.args.names.now _ c.loop-name.node c.in-Dir.is c.loop-name.invariant.goes in
-    rw (p.1, p.2) (goes_wrong _ _ c.args.root.now _ c.args.names.now c.loop-name.name-index _ c.loop-name-test.true goes c.child.ensures.called.asked.blobs c.in_err-next.ensures.faulty)
+    rw (p.1, p.2) (goes_wrong _ _ c.args.root.now _ c.args.names.now c.loop-name.name-index _ c.loop-name-test.true goes c.child.ensures.called.asked.some.blobs c.in_err-next.ensures.faulty)
 
 pub returns-in_err-next-clause-called : goal.returns-in_err-next-clause-called
 returns-in_err-next-clause-called g c =
@@ -25,7 +25,7 @@ returns-in_err-next-clause-called g c =
 pub returns-in_err-next-clause-learned : goal.returns-in_err-next-clause-learned
 returns-in_err-next-clause-learned g c =
     let tells = g.S.BlobSource.tells in
-    let grows = c.child.ensures.called.asked.blobs in
+    let grows = c.child.ensures.called.asked.some.blobs in
     let way = way_dir _ c.args.root.now c.in-Dir.digest c.args.names.now _ c.loop-name.node c.in-Dir.is c.loop-name.invariant.way in
     learns_then {t1 = tells c.loop-name.source} (λ a. way_still _ _ c.args.root.now c.args.names.now a grows)
     (way_here _ _ c.args.root.now c.in-Dir.digest c.args.names.now c.loop-name.name-index c.loop-name-test.true way grows) (λ n. n) c.loop-name.invariant.learned
@@ -36,7 +36,7 @@ returns-in-None-clause-found g c =
     let goes = goes_dir _ c.args.root.now c.in-Dir.digest c.args.names.now _ c.loop-name.node c.in-Dir.is c.loop-name.invariant.goes in
     let told = c.in_ok-next.ensures.told in
     goes_nowhere _ c.args.root.now c.args.names.now _
-    (goes_child _ _ c.args.root.now _ c.args.names.now c.loop-name.name-index c.name-item.result told.0 None c.loop-name-test.true goes c.child.ensures.called.asked.blobs told.1 c.name-item.is
+    (goes_child _ _ c.args.root.now _ c.args.names.now c.loop-name.name-index c.name-item.result told.0 None c.loop-name-test.true goes c.child.ensures.called.asked.some.blobs told.1 c.name-item.is
     (sym c.in-None.is ∙ told.2))
 
 pub returns-in-None-clause-called : goal.returns-in-None-clause-called
@@ -46,7 +46,7 @@ returns-in-None-clause-called g c =
 pub returns-in-None-clause-learned : goal.returns-in-None-clause-learned
 returns-in-None-clause-learned g c =
     let tells = g.S.BlobSource.tells in
-    let grows = c.child.ensures.called.asked.blobs in
+    let grows = c.child.ensures.called.asked.some.blobs in
     let way = way_dir _ c.args.root.now c.in-Dir.digest c.args.names.now _ c.loop-name.node c.in-Dir.is c.loop-name.invariant.way in
     learns_then {t1 = tells c.loop-name.source} (λ a. way_still _ _ c.args.root.now c.args.names.now a grows)
     (way_here _ _ c.args.root.now c.in-Dir.digest c.args.names.now c.loop-name.name-index c.loop-name-test.true way grows) (λ n. n) c.loop-name.invariant.learned
@@ -57,7 +57,7 @@ loop-name-preserved g c =
     let tells = g.S.BlobSource.tells in
     let goes = goes_dir _ c.args.root.now c.in-Dir.digest c.args.names.now _ c.loop-name.node c.in-Dir.is c.loop-name.invariant.goes in
     let way = way_dir _ c.args.root.now c.in-Dir.digest c.args.names.now _ c.loop-name.node c.in-Dir.is c.loop-name.invariant.way in
-    let grows = c.child.ensures.called.asked.blobs in
+    let grows = c.child.ensures.called.asked.some.blobs in
     let told = c.in_ok-next.ensures.told in
     record {
       called = calls_on asks_then c.loop-name.invariant.called (called_no ok_no_error (λ n. n) c.in_ok-next.ensures.called);

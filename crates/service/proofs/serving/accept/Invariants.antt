@@ -1,0 +1,6 @@
+use Rattle.std.proofs.Common.{◌-◌}
+use Rattle.service.specs.Turns.{FailsAfter}
+use Rattle.service.proofs.serving.accept.Given as goal
+
+abbrev pub invariant-loop-tried : goal.invariant-loop-tried
+invariant-loop-tried g l = FailsAfter g.L.Listener.failed 0 (l.tried-counter - 1) l.fn.listener l.listener

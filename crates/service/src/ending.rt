@@ -1,0 +1,70 @@
+//! How connections end.
+ghost use Rattle.std.specs.Prelude.{◌≡◌, ◌<◌, ℕ, None, true};
+ghost use Rattle.service.specs.Together.{AreSame, EndsIfAny, GoesOnTogether, OthersAreSame};
+ghost use Rattle.service.specs.Together.{member_at};
+
+use crate::load::Load;
+use crate::member::Member;
+use crate::sockets::{Peer, Sockets};
+use crate::telling::tell;
+use crate::together::Together;
+use cache_server::{ConnError, Server};
+use log::Log;
+use std::alloc::Global;
+
+impl<S: Peer + Drop> Together<S> {
+    /// Ends the connection with the number, if it is open.
+    pub(crate) fn end<R: Log, N: Sockets<Stream = S>>(
+        &mut self,
+        rt: &R,
+        sockets: &mut N,
+        server: &mut Server<Global>,
+        number: u64,
+        why: Result<(), ConnError>,
+    )
+        ensures { EndsIfAny S.spoke S.over N.ended N.lost number why
+            server.old self.old.members.entries server.new self.new.members.entries }
+    {
+        let Some(member) = self.take(number) else {
+            return;
+        };
+        self.scales.weigh(number, &member.load(), &Load::none());
+        self.door.waits = true;
+        let (stream, peer, traffic) = member.into_parts();
+        sockets.end(stream, why);
+        server.end(number);
+        self.line.clear();
+        tell(rt, number, &peer, &traffic, &why);
+    }
+
+    /// Takes the member with the number out.
+    fn take(&mut self, number: u64) -> Option<Member<S>>
+        ensures held { member_at self.old.members.entries number ≡ result }
+        ensures gone { member_at self.new.members.entries number ≡ None }
+        ensures others { OthersAreSame number
+            self.old.members.entries self.new.members.entries }
+        ensures same { result ≡ None
+            → AreSame self.old.members.entries self.new.members.entries }
+    {
+        self.members.remove(&number)
+    }
+
+    /// Ends the connections that are still open.
+    #[tactic(auto, using(crate::proofs::Keeping::keeps_nowhere, crate::proofs::Keeping::keeps_further, crate::proofs::Keeping::cut_ended))]
+    pub(crate) fn end_all<R: Log, N: Sockets<Stream = S>>(
+        &mut self,
+        rt: &R,
+        sockets: &mut N,
+        server: &mut Server<Global>,
+        accepted: u64,
+    )
+        ensures keeps { GoesOnTogether true S.spoke N.ended N.lost
+            self.old.members.entries accepted server.old
+            self.new.members.entries accepted server.new }
+        ensures all { (k : ℕ) → k < accepted → member_at self.new.members.entries k ≡ None }
+    {
+        for number in 0..accepted {
+            self.end(rt, sockets, server, number, Err(ConnError::ReadFault));
+        }
+    }
+}

@@ -1,0 +1,32 @@
+use std::io;
+use std::time::{Clock, Duration, Instant};
+
+/// The milliseconds since a beginning.
+#[derive(Drop)]
+pub(crate) struct Timer {
+    begun: Instant,
+}
+
+impl Timer {
+    /// Begins now.
+    pub(crate) fn begin<C: Clock>(clock: &C) -> io::Result<Timer> {
+        Ok(Timer {
+            begun: Instant::now(clock)?,
+        })
+    }
+
+    /// How many there are by now; none where the clock doesn't tell.
+    pub(crate) fn now<C: Clock>(&self, clock: &C) -> u64 {
+        match self.begun.elapsed(clock) {
+            Ok(time) => millis(&time),
+            Err(_) => 0,
+        }
+    }
+}
+
+/// So many milliseconds.
+pub(crate) fn millis(time: &Duration) -> u64 {
+    time.as_secs()
+        .saturating_mul(1000)
+        .saturating_add((time.subsec_nanos() / 1_000_000) as u64)
+}

@@ -1,0 +1,135 @@
+//! A turn of each that has something to do.
+ghost use Rattle.std.specs.Prelude.{◌≡◌, ℕ, None, IfSome, false};
+ghost use Rattle.service.specs.Member.{end_of};
+ghost use Rattle.service.specs.Together.{AreSame, GoesOnTogether, MovesOnAt};
+
+use crate::load::{GREATEST, Leave};
+use crate::sockets::{Peer, Sockets};
+use crate::together::Together;
+use crate::turn::Turn;
+use cache_server::{ConnError, Server};
+use log::Log;
+use std::alloc::Global;
+use std::mem;
+use std::time::Clock;
+
+impl<S: Peer + Drop> Together<S> {
+    /// A turn of each member that has something to do.
+    #[tactic(auto, using(crate::proofs::Keeping::keeps_nowhere, crate::proofs::Keeping::keeps_further, crate::proofs::Keeping::keeps_same))]
+    pub(crate) fn run<R: AllocGlobal + Clock + Log, N: Sockets<Stream = S>>(
+        &mut self,
+        rt: &R,
+        sockets: &mut N,
+        server: &mut Server<Global>,
+    )
+        ensures { (accepted : ℕ) → GoesOnTogether false S.spoke N.ended N.lost
+            self.old.members.entries accepted server.old
+            self.new.members.entries accepted server.new }
+    {
+        let now = self.timer.now(rt);
+        let mut ready = mem::replace(&mut self.ready, Vec::new(rt.alloc()));
+        for number in ready.iter() {
+            self.turn(rt, sockets, server, *number, now);
+        }
+        ready.clear();
+        if self.ready.is_empty() {
+            self.ready = ready;
+        }
+        if self.scales.eased {
+            self.scales.eased = false;
+            self.release(rt.alloc());
+        }
+    }
+
+    /// A turn of the member with the number.
+    #[tactic(auto, using(crate::proofs::Keeping::keeps_same, crate::proofs::Keeping::keeps_further, crate::proofs::Keeping::keeps_moved, crate::proofs::Keeping::keeps_left, crate::proofs::Keeping::keeps_lost))]
+    fn turn<R: AllocGlobal + Log, N: Sockets<Stream = S>>(
+        &mut self,
+        rt: &R,
+        sockets: &mut N,
+        server: &mut Server<Global>,
+        number: u64,
+        now: u64,
+    )
+        ensures { (accepted : ℕ) → GoesOnTogether false S.spoke N.ended N.lost
+            self.old.members.entries accepted server.old
+            self.new.members.entries accepted server.new }
+    {
+        let Some((turn, was_held)) = self.advance(server, number, now) else {
+            return;
+        };
+        match turn {
+            Turn::Again => self.queue(number),
+            Turn::Waits => (),
+            Turn::Held => {
+                if !was_held && self.held.push(number).is_err() {
+                    self.end(rt, sockets, server, number, Err(ConnError::Memory));
+                }
+            }
+            Turn::Ends(end) => self.end(rt, sockets, server, number, end),
+        }
+    }
+
+    /// What the member with the number can do after its turn, and whether it was held before.
+    fn advance(
+        &mut self,
+        server: &mut Server<Global>,
+        number: u64,
+        now: u64,
+    ) -> Option<(Turn, bool)>
+        ensures some { IfSome result (λ out. MovesOnAt (end_of out.0) S.spoke S.over number
+            server.old self.old.members.entries server.new self.new.members.entries) }
+        ensures server { result ≡ None → server.new ≡ server.old }
+        ensures members { result ≡ None
+            → AreSame self.old.members.entries self.new.members.entries }
+    {
+        let leave = self.leave(number);
+        let (turn, was_held, before, after, deadline) = {
+            let Some(member) = self.members.get_mut(&number) else {
+                return None;
+            };
+            member.queue(false);
+            let was_held = member.is_held();
+            let before = member.load();
+            let turn = member.turn(number, server, &mut self.desk, leave, now);
+            let deadline = member.deadline(self.idle, false);
+            (turn, was_held, before, member.load(), deadline)
+        };
+        self.wake = self.wake.min(deadline.unwrap_or(u64::MAX));
+        self.scales.weigh(number, &before, &after);
+        Some((turn, was_held))
+    }
+
+    /// What the connection with the number may do. Where requests that aren't whole hold too much,
+    /// each may keep its share, and one of them is read to its end.
+    fn leave(&self, number: u64) -> Leave {
+        let is_senior = match self.scales.senior {
+            Some(senior) => senior == number,
+            None => true,
+        };
+        let kept = if self.scales.load.requests < GREATEST || is_senior {
+            u64::MAX
+        } else {
+            GREATEST / (self.at_once as u64).max(1)
+        };
+        Leave {
+            answers: !self.is_full(),
+            kept,
+        }
+    }
+
+    /// Whether answers hold too much. An answer that the cache holds too costs nothing, so they are
+    /// looked at one by one only where all of them together would be too much.
+    pub(crate) fn is_full(&self) -> bool {
+        self.scales.load.answers >= GREATEST && self.held_alone() >= GREATEST
+    }
+
+    /// How many bytes of answers nobody else holds.
+    fn held_alone(&self) -> u64 {
+        let mut sum: u64 = 0;
+        for (_, member) in self.members.iter() {
+            sum = sum.saturating_add(member.held_alone());
+        }
+        sum
+    }
+}

@@ -1,0 +1,20 @@
+use Rattle.std.proofs.Common.{◌≡◌, take}
+use Rattle.blob_digest.specs.Digest.{digest_of}
+use Rattle.action_messages.specs.Action.{action_bytes}
+use Rattle.blob_source.specs.Sink.{HasRight}
+use Rattle.worker.specs.Stored.{IsKept}
+use Rattle.worker.specs.Storing.{WerePut}
+use Rattle.worker.specs.Outcomes.{HasAllRight}
+use Rattle.worker.specs.Values.{blobs_of}
+use Rattle.worker.proofs.putting.put_input.Given as goal
+
+abbrev pub invariant-loop-directory : goal.invariant-loop-directory
+invariant-loop-directory g l =
+    let tells = g.S.BlobSource.tells in
+    record {
+      put : WerePut l.put (tells l.sink).blobs;
+      kept : IsKept (tells l.fn.sink) (tells l.sink);
+      fetched : (tells l.sink).failures ≡ (tells l.fn.sink).failures;
+      held : HasRight (tells l.sink).blobs (digest_of (action_bytes l.job.action));
+      input : HasAllRight (tells l.sink).blobs (blobs_of (take l.directory-index l.job.input.directories.items));
+    }

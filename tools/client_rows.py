@@ -1,0 +1,272 @@
+#!/usr/bin/env python3
+"""Tries the program as a client, over sockets: client_rows.py PROGRAM
+
+`put`, `get` and `verify --server` over the program's own server, by its address and its name, below a prefix, and over nginx
+(where it is installed) with WebDAV as a store that checks nothing; folders that are put and got again, and what can't be put;
+outputs that can't be written; servers that refuse, cut, fall silent, answer nonsense or lie; and the program's own server
+behind one that cuts each reply in turn, or changes a byte of it. It prints a line for each row, and ends with status 1 where
+one failed. Nothing outside this machine is asked.
+"""
+
+import os
+import shutil
+import subprocess
+import sys
+import tempfile
+
+import harness
+import stores
+from build_rows import SHELL, Builds
+from harness import Between, Faulty, Nginx, Server, is_error, standing_at
+from messages import Digest, File, Link, directory_message
+from server_rows import DIGITS, EMPTY, FEED, NINE, directory
+
+SOURCES = Digest.of(directory("a")).text()
+CLAIM = Digest.of(directory("b")).text()
+
+
+def commands(folder, address):
+    """The client's commands in their order, each with what it prints and its status."""
+    server = ["--server", address]
+    verify = ["verify", *server, "--sources", SOURCES, "--plan", f"{folder}/plan", "--record", f"{folder}/record"]
+    return [
+        (["put", *server, f"{folder}/tree/a"], f"{DIGITS}/9\n".encode(), 0),
+        (["put", *server, f"{folder}/tree"], f"{SOURCES}\n".encode(), 0),
+        ([*verify, "--claim", CLAIM], f"yes {CLAIM} steps 0\n".encode(), 0),
+        (["get", *server, f"{DIGITS}/9"], NINE, 0),
+        (["get", *server, f"{FEED}/1"], b"", 1),
+        (["get", *server, f"{EMPTY}/0"], b"", 0),
+    ]
+
+
+def try_commands(rows, program, folder, address, name):
+    for words, output, status in commands(folder, address):
+        told = harness.run(program, *words)
+        note = f"note: {address} has no blob {words[-1]}\n".encode() if status == 1 else b""
+        right = (told.stdout, told.returncode, told.stderr) == (output, status, note)
+        rows.tell(f"{words[0]} over {name}: status {status}", right, told)
+
+
+def try_clients(rows, program, folder):
+    with Server(program, 6, 1000, 1000) as it:
+        try_commands(rows, program, folder, it.address, "serve")
+        status = it.wait()
+    rows.tell("after its six connections serve ends with status 0", status == 0, status)
+    if not shutil.which("nginx"):
+        print("       nginx isn't installed: nothing is tried over it")
+        return
+    with Nginx() as it:
+        try_commands(rows, program, folder, it.address, "nginx")
+
+
+FAULTS = {
+    "a reply that is cut": (b"HTTP/1.1 200 OK\r\nContent-Length: 9\r\n\r\n1234", "close"),
+    "no reply": (b"", "close"),
+    "a reset": (b"HTTP/1.1 200 OK\r\n", "reset"),
+    "silence": (b"HTTP/1.1 200 OK\r\nContent-Length: 9\r\n\r\n1234", "silent"),
+    "a reply without a length": (b"HTTP/1.1 200 OK\r\n\r\n123456789", "close"),
+    "another protocol": (b"SSH-2.0-OpenSSH\r\n\r\n", "close"),
+    "status 500": (b"HTTP/1.1 500 Internal Server Error\r\nContent-Length: 0\r\n\r\n", "close"),
+    "other bytes": (b"HTTP/1.1 200 OK\r\nContent-Length: 9\r\n\r\n987654321", "close"),
+}
+
+
+def try_faults(rows, program):
+    def ask(address):
+        return harness.run(program, "get", "--server", address, "--timeout", "1", f"{DIGITS}/9")
+
+    def is_fault(told, address):
+        return (told.stdout, told.returncode) == (b"", 3) and is_error(told.stderr) and address.encode() in told.stderr
+
+    for name, (answer, ending) in FAULTS.items():
+        with Faulty(answer, ending) as it:
+            told = ask(it.address)
+        rows.tell(f"{name}: status 3, and one line that names the server", is_fault(told, it.address), told)
+    told = ask("127.0.0.1:1")
+    rows.tell("nobody listens: status 3, and one line that names the server", is_fault(told, "127.0.0.1:1"), told)
+
+
+def try_replies(rows, program, folder):
+    """Each reply to each command is cut in turn, and each byte of a blob changed."""
+    with Server(program) as beyond:
+        for words, output, status in commands(folder, beyond.address):
+            told = harness.run(program, *words)
+            assert (told.stdout, told.returncode) == (output, status), told
+            for number, path in enumerate(replies_to(program, words, beyond)):
+                try_cut(rows, program, words, beyond, number)
+                if path.startswith("GET /cas/"):
+                    try_lie(rows, program, words, beyond, number, path)
+
+
+def replies_to(program, words, beyond):
+    """The requests that a command makes, as METHOD PATH."""
+    asked = []
+
+    def note(_number, method, path, head, body):
+        asked.append(f"{method} {path}")
+        return head + body
+
+    with Between(beyond, note) as it:
+        harness.run(program, *at(words, it.address))
+    return asked
+
+
+def at(words, address):
+    return [address if before == "--server" else word for before, word in zip(["", *words], words)]
+
+
+def try_cut(rows, program, words, beyond, number):
+    with Between(beyond, lambda it, _method, _path, head, body: (head + body)[: -1 if it == number else None]) as it:
+        told = harness.run(program, *at(words, it.address))
+    right = (told.stdout, told.returncode) == (b"", 3) and is_error(told.stderr) and it.address.encode() in told.stderr
+    rows.tell(f"{words[0]}: reply {number + 1} cut by a byte: status 3, and one line that names the server", right, told)
+
+
+def try_lie(rows, program, words, beyond, number, path):
+    """A byte of a blob changed: `get` tells the fault, and `verify` says no with the blob's digest."""
+    sizes = []
+
+    def lie(it, _method, _path, head, body):
+        if it != number or not body:
+            return head + body
+        sizes.append(len(body))
+        return head + body[:-1] + bytes([body[-1] ^ 1])
+
+    with Between(beyond, lie) as it:
+        told = harness.run(program, *at(words, it.address))
+    if not sizes:
+        return
+    blob = f"{path.rpartition('/')[2]}/{sizes[0]}".encode()
+    if words[0] == "verify":
+        right = told.stdout.startswith(b"no ") and told.stdout.endswith(b" cause blob-wrong " + blob + b"\n") and told.returncode == 1
+    else:
+        right = (told.stdout, told.returncode) == (b"", 3) and is_error(told.stderr)
+    rows.tell(f"{words[0]}: a byte of reply {number + 1} changed: {'no, and the blob is named' if words[0] == 'verify' else 'status 3'}",
+              right, told)
+
+
+def try_trees(builds):
+    """`get --into`: the tree of a digest in a folder, as the tree has it; and no folder that has something is written into."""
+
+    def get(digest, folder):
+        return builds.run("get", "--server", builds.address, "--into", folder, digest)
+
+    def expect(name, done, out, status):
+        right = done.stdout == out.encode() and done.returncode == status
+        builds.rows.tell(name, right and (harness.is_error(done.stderr) if status > 1 else done.stderr == b""), done)
+
+    def expect_tree(name, digest, folder, tree):
+        expect(name, get(digest, folder), "", 0)
+        builds.rows.tell(f"{name}: it is the tree", standing_at(folder) == tree, standing_at(folder))
+
+    script = "mkdir -p out/d/e; printf %s 123456789 > out/d/f; : > out/g"
+    done, place = builds.build(builds.plan([("mk", [*SHELL, script], ["out"], ())], ["a/b out mk out", "c out mk out/g"]))
+    nine, none = File(Digest.of(NINE), False), File(Digest.of(b""), False)
+    tree = {"a": {"b": {"d": {"e": {}, "f": nine}, "g": none}}, "c": none}
+    root = Digest.of(directory_message(tree)).text()
+    builds.expect_built("a root with folders above what a step made", done, place, root)
+    empty = (b"", False)
+    made = {"a": None, "a/b": None, "a/b/d": None, "a/b/d/e": None, "a/b/d/f": (NINE, False), "a/b/g": empty, "c": empty}
+    expect_tree("the root of a build", root, f"{place}/tree", made)
+    os.mkdir(f"{place}/empty")
+    expect_tree("into a folder that is empty", root, f"{place}/empty", made)
+    expect("into it again, as it isn't empty now", get(root, f"{place}/empty"), "", 3)
+    builds.rows.tell("and it is as it was", standing_at(f"{place}/empty") == made)
+    expect("into a file", get(root, f"{place}/plan"), "", 3)
+    expect("below a folder that isn't there", get(root, f"{place}/none/tree"), "", 3)
+    expect("the digest of a file", get(Digest.of(NINE).text(), f"{place}/file"), "", 3)
+    outside = {"l": Link("../../plan"), "m": Link("/etc"), "x": File(Digest.of(NINE))}
+    made = {"l": "../../plan", "m": "/etc", "x": (NINE, True)}
+    expect_tree("links and a program", builds.put(directory_message(outside)), f"{place}/links", made)
+    lost = Digest.of(b"lost")
+    lacking = {"a": File(Digest.of(NINE)), "b": File(lost), "c": File(Digest.of(NINE))}
+    lacks = get(builds.put(directory_message(lacking)), f"{place}/lacking")
+    expect("a file that the server lacks", lacks, f"missing {lost.text()}\n", 1)
+    builds.rows.tell("and what was written before stays", standing_at(f"{place}/lacking") == {"a": (NINE, True)})
+    expect("a tree that the server lacks", get(f"{'0' * 64}/80", f"{place}/lacked"), f"missing {'0' * 64}/80\n", 1)
+    builds.rows.tell("and no folder was made", not os.path.exists(f"{place}/lacked"))
+    expect_tree("the empty tree", Digest.of(b"").text(), f"{place}/nothing", {})
+
+
+def try_folders(rows, program, folder):
+    """A folder of all kinds, put and got below a prefix, by the name of this machine."""
+    put = f"{folder}/kinds"
+    os.makedirs(f"{put}/empty/in it")
+    os.makedirs(f"{put}/é %20+")
+    for name, text in (("é %20+/a b", NINE), ("none", b"")):
+        stores.write_file(f"{put}/{name}", text)
+    for name, target in (("to", "none"), ("empty/up", "../.."), ("nowhere", "/nothing/there")):
+        os.symlink(target, f"{put}/{name}")
+    with Server(program, more=("--prefix", "/team/x")) as it:
+        near = ["--server", f"localhost:{it.port}"]
+        server = [*near, "--prefix", "/team/x"]
+        first = harness.run(program, "put", *server, put)
+        digest = first.stdout.decode().strip()
+        told = harness.run(program, "get", *server, "--into", f"{folder}/got", digest)
+        right = first.returncode == 0 and (told.returncode, told.stdout, told.stderr) == (0, b"", b"")
+        rows.tell("a folder that is put and got is the same", right and standing_at(put) == standing_at(f"{folder}/got"), (first, told))
+        again = [harness.run(program, "put", *server, it) for it in (f"{folder}/got", f"{put}/")]
+        rows.tell("and has the same digest", all(it.stdout == first.stdout for it in again), again)
+        told = harness.run(program, "get", *near, digest)
+        note = f"note: {near[1]} has no blob {digest}\n".encode()
+        rows.tell("which isn't there without the prefix", (told.returncode, told.stdout, told.stderr) == (1, b"", note), told)
+        try_bad_folders(rows, program, folder, server)
+
+
+def try_bad_folders(rows, program, folder, server):
+    """What can't be put is named, and no digest is printed."""
+    deep = "/".join("n" * 65)
+    for name, bad, make in [
+        ("a fifo", "a", os.mkfifo),
+        ("a file of 16,777,217 bytes", "a", lambda path: stores.write_file(path, bytes((16 << 20) + 1))),
+        ("a path of 65 names", deep, lambda path: os.makedirs(os.path.dirname(path)) or stores.write_file(path, b"")),
+        ("nothing there", "a", lambda path: None),
+    ]:
+        with tempfile.TemporaryDirectory(dir=folder) as it:
+            make(f"{it}/{bad}")
+            told = harness.run(program, "put", *server, f"{it}/a" if name == "nothing there" else it)
+        right = (told.returncode, told.stdout) == (3, b"") and is_error(told.stderr) and f'"{it}/{bad}"'.encode() in told.stderr
+        rows.tell(f"{name} isn't put: status 3, and it is named", right, told)
+
+
+def try_outputs(rows, program, folder):
+    """An output that can't be written: status 3 and one line, and no yes."""
+    with Server(program) as it:
+        for words, output, status in commands(folder, it.address):
+            harness.run(program, *words)
+            if not output or status:
+                continue
+            for name, end in (("a full device", ">/dev/full"), ("a closed output", ">&-"), ("a reader that is gone", "> >(:)")):
+                # (the reader ends before the program begins)
+                shell = ["bash", "-c", f'exec {end}; sleep 0.1; exec "$0" "$@"', program, *words]
+                told = subprocess.run(shell, stdin=subprocess.DEVNULL, capture_output=True, timeout=60, check=False)
+                rows.tell(f"{words[0]} to {name}: status 3", (told.returncode, told.stdout) == (3, b"") and is_error(told.stderr), told)
+
+
+def try_all(rows, program):
+    with tempfile.TemporaryDirectory() as folder:
+        os.chmod(folder, 0o755)
+        os.makedirs(f"{folder}/tree")
+        for name, text in (("tree/a", NINE), ("plan", b"buildplan 1\nroot\nin b src a\n"), ("record", b"buildrecord 1\n")):
+            stores.write_file(f"{folder}/{name}", text)
+        try_clients(rows, program, folder)
+        builds = Builds(program, folder, rows)
+        try:
+            try_trees(builds)
+        finally:
+            builds.server.end()
+        try_folders(rows, program, folder)
+        try_outputs(rows, program, folder)
+        try_faults(rows, program)
+        try_replies(rows, program, folder)
+
+
+def main():
+    (program,) = harness.words_of(__doc__, 1, 1)
+    rows = harness.Rows()
+    try_all(rows, harness.program_at(program))
+    return rows.end()
+
+
+if __name__ == "__main__":
+    sys.exit(main())

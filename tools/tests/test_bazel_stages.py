@@ -1,0 +1,242 @@
+#!/usr/bin/env python3
+"""Tests of tools/bazel_plan.py in stages, of tools/verify_stages.py, and of a log that Bazel wrote: python3 -m unittest discover
+tools/tests"""
+
+import contextlib
+import io
+import os
+import re
+import shutil
+import subprocess
+import sys
+import unittest
+
+from bazel_case import CHAIN, HERE, PROGRAM, TOP, TREE_STEP, Case, contents, log, named, spawn
+
+import bazel_log
+import many_steps
+import plans
+
+KEPT = os.path.join(TOP, "crates", "test_program", "data", "counts")
+
+
+def readers_of(spawns, path):
+    return [it for it in spawns if any(file["path"] == path for file in it["inputs"])]
+
+
+class StagesCase(Case):
+    def stages(self, *words, text):
+        """The lines of each stage's plan, but those that begin a step."""
+        status, out, err = self.call(text, "--stages", *words)
+        self.assertEqual((status, err), (0, ""))
+        names = self.lines("stages")
+        self.assertTrue(out.splitlines()[-1].endswith(f" stages {len(names)}"), out)
+        plans_of = []
+        for name in names:
+            with open(self.at("asked", name, "plan"), encoding="utf-8") as it:
+                plans_of.append([line for line in it.read().splitlines() if not line.startswith("step")])
+        return plans_of
+
+    def verify(self, *words):
+        """What verify_stages.py prints, and its status; nothing where the program isn't built."""
+        if not os.path.exists(PROGRAM):
+            self.is_unjudged = True
+            return None
+        tool = os.path.join(TOP, "tools", "verify_stages.py")
+        env = {**os.environ, "BUILDCACHE": PROGRAM}
+        done = subprocess.run([sys.executable, tool, self.at("asked"), *words], capture_output=True, text=True, env=env)
+        return done.stdout + done.stderr, done.returncode
+
+    def judge_stages(self, line, status, *words):
+        verdict = self.verify(*words)
+        if verdict:
+            self.assertRegex(verdict[0], line)
+            self.assertEqual(verdict[1], status)
+
+
+class KeptLog(Case):
+    """A log of Bazel 4.2.3 for //pages:counts of examples/bazel, and what was made of it, which the gate has judged
+    in `test_program` (see docs/VERIFY_BAZEL.md)."""
+
+    WORDS = ["--outputs", "*/counts.txt", "*/site", "--below", "bazel-out/k8-fastbuild/bin/pages"]
+
+    def test_it_is_turned_into_the_kept_files(self):
+        with open(os.path.join(HERE, "data", "counts.json"), encoding="utf-8") as it:
+            self.turn(it.read(), *self.WORDS)
+        kept = contents(KEPT)
+        for name in ("plan", "record", "taken", *(it for it in kept if it.startswith("store/"))):
+            self.assertEqual(contents(self.at("asked"))[name], kept[name], name)
+        self.assertEqual(contents(self.at("asked")).keys(), kept.keys() | {"sources", "claim"})
+        with open(os.path.join(os.path.dirname(KEPT), "rows"), encoding="utf-8") as it:
+            words = next(line for line in it if "--plan counts/plan" in line).split()
+        self.assertEqual(self.lines("sources"), [words[words.index("--sources") + 1]])
+        self.assertEqual(self.lines("claim"), [words[words.index("--claim") + 1]])
+        self.judge("yes 433064578c7792a6a4efc4b6f20749fb2d32ec50b442ef364fadd095453fd7df/165 steps 7\n")
+
+    def spawns(self):
+        with open(os.path.join(HERE, "data", "counts.json"), encoding="utf-8") as it:
+            return [value for _, value in bazel_log.objects(it)]
+
+    def test_each_input_changed_in_turn(self):
+        made = {file["path"] for it in self.spawns() for file in it["actualOutputs"]}
+        for index, spawn_read in enumerate(self.spawns()):
+            for path in {file["path"] for file in spawn_read["inputs"]}:
+                spawns = self.spawns()
+                for file in spawns[index]["inputs"]:
+                    if file["path"] == path:
+                        file["digest"] = named("changed")
+                self.turn(log(*spawns), *self.WORDS)
+                if path not in made and len(readers_of(spawns, path)) == 1:
+                    self.judge("yes ")
+                else:
+                    self.judge("no step ", f" cause input-differs {plans.escaped(path)}\n")
+                shutil.rmtree(self.at("asked"))
+
+    def test_each_output_changed_in_turn(self):
+        for index, spawn_made in enumerate(self.spawns()):
+            for place, file in enumerate(spawn_made["actualOutputs"]):
+                spawns, path = self.spawns(), file["path"]
+                spawns[index]["actualOutputs"][place]["digest"] = named("changed")
+                self.turn(log(*spawns), *self.WORDS)
+                if readers_of(spawns, path):
+                    self.judge("no step ", f" cause input-differs {plans.escaped(path)}\n")
+                else:
+                    self.judge("yes ")
+                    self.assertEqual(self.lines("claim")[0].startswith("433064"), not path.endswith("/counts.txt"))
+                shutil.rmtree(self.at("asked"))
+
+
+class KeptLogInStages(StagesCase):
+    """The same in stages of three steps."""
+
+    def setUp(self):
+        super().setUp()
+        with open(os.path.join(HERE, "data", "counts.json"), encoding="utf-8") as it:
+            self.stages("3", *KeptLog.WORDS, text=it.read())
+
+    def change_result(self, name, other):
+        """Changes the first digest of the result of a step of stage 2."""
+        action = next(it.split()[2] for it in self.lines("2/record") if it.startswith(f"step {name} ")).partition("/")[0]
+        with open(self.at("asked", "store", "ac", action), "rb") as it:
+            result = it.read()
+        with open(self.at("asked", "store", "ac", action), "wb") as out:
+            out.write(re.sub(rb"[0-9a-f]{64}", other.encode(), result, count=1))
+
+    def test_a_yes(self):
+        self.assertEqual(self.lines("stages"), ["1", "2", "3"])
+        self.judge_stages(f"^yes {self.lines('claim')[0]} stages 3 steps 7\n$", 0, "--jobs", "4")
+        self.assertEqual(self.lines("claim"), ["433064578c7792a6a4efc4b6f20749fb2d32ec50b442ef364fadd095453fd7df/165"])
+
+    def test_another_output_of_a_step_of_stage_2(self):
+        self.change_result("genrule-pages-card-txt", named("Hello, Mallory!")["hash"])
+        self.judge_stages("^no stage 2 step pages-pages-site cause input-differs bazel-out/k8-fastbuild/bin/pages/card.txt\n$", 1)
+
+    def test_the_claim_of_stage_2_exchanged(self):
+        for name in ("2/claim", "3/sources"):
+            with open(self.at("asked", name), "w", encoding="utf-8") as out:
+                out.write(self.lines("1/claim")[0] + "\n")
+        self.judge_stages("^no stage 2 root cause root-differs [0-9a-f]{64}/[0-9]+\n$", 1)
+
+
+class InStages(StagesCase):
+    def stages(self, *words, spawns=CHAIN):
+        return super().stages(*words, text=log(*spawns))
+
+    def test_lines(self):
+        self.assertEqual(self.stages("2"), [
+            ["buildplan 1", "in s src sources/s", "in o/a out make-o-a o/a", "in t/x src sources/t/x", "root",
+             "in stage1/o/a out make-o-a o/a", "in stage1/o/t out make-o-t o/t"],
+            ["buildplan 1", "in o/t/b src stage1/o/t/b", "in o/a src stage1/o/a", "in o/d out make-o-d o/d", "root",
+             "in o/a src stage1/o/a", "in o/d out make-o-d o/d", "in o/e out make-o-e o/e", "in o/t src stage1/o/t"],
+        ])
+        self.judge_stages("^yes [0-9a-f]{64}/[0-9]+ stages 2 steps 4\n$", 0)
+
+    def test_what_no_later_stage_reads_is_not_handed_on(self):
+        # (of stage 1 the third reads nothing, and no stage after the first reads a source)
+        chain = [spawn({"s": "s"}, ["a"]), spawn({"a": "a"}, ["b"]), spawn({"b": "b"}, ["c"])]
+        self.assertEqual([it[it.index("root"):] for it in self.stages("1", "--outputs", "c", spawns=chain)], [
+            ["root", "in stage1/a out make-a a"], ["root", "in stage2/b out make-b b"], ["root", "in c out make-c c"],
+        ])
+        self.judge_stages("^yes .* stages 3 steps 3\n$", 0, "--jobs", "3")
+
+    def test_the_claim_is_that_of_one_plan(self):
+        self.stages("1")
+        claim, taken = self.lines("claim"), self.lines("taken")
+        shutil.rmtree(self.at("asked"))
+        self.turn(log(*CHAIN))
+        self.assertEqual((self.lines("claim"), self.lines("taken")), (claim, taken))
+
+    def test_a_build_that_one_plan_holds_has_no_stages(self):
+        self.stages("1")
+        self.turn(log(*CHAIN))
+        self.assertFalse(os.path.exists(self.at("asked", "stages")))
+
+    def test_another_output_in_the_store_is_a_no_that_names_stage_and_step(self):
+        self.stages("1")
+        with open(self.at("asked", "2", "record"), encoding="utf-8") as it:
+            action = it.read().split()[-1].partition("/")[0]
+        with open(self.at("asked", "store", "ac", action), "r+b") as it:
+            result = it.read()
+            other = result.replace(b"o/t", b"o/u")
+            it.seek(0)
+            it.write(other)
+        self.judge_stages("^no stage 2 step make-o-t cause output-unlisted o/u\n$", 1, "--jobs", "4")
+
+    def test_another_claim_between_stages_is_refused(self):
+        self.stages("1")
+        with open(self.at("asked", "2", "claim"), "w", encoding="utf-8") as out:
+            out.write(f"{'0' * 64}/1\n")
+        self.judge_stages("^error: stage 3: its sources .* aren't the claim of stage 2\n$", 2)
+        with open(self.at("asked", "3", "sources"), "w", encoding="utf-8") as out:
+            out.write(f"{'0' * 64}/1\n")
+        self.judge_stages("^no stage 2 root cause root-differs ", 1)
+
+    def test_a_log_of_many_spawns(self):
+        for changed, line in (None, "^yes .* stages 3 steps 60\n$"), (30, "^no stage 2 step make-p0-r30-o cause input-differs .*/r29.o\n$"):
+            many_steps.write_log(self.at("many"), 60, changed)
+            with open(self.at("many"), encoding="utf-8") as it:
+                StagesCase.stages(self, "25", "--outputs", "*/r59.o", text=it.read())
+            self.judge_stages(line, 1 if changed else 0, "--jobs", "3")
+            shutil.rmtree(self.at("asked"))
+
+    def test_a_file_that_is_not_there(self):
+        self.stages("2")
+        os.remove(self.at("asked", "2", "record"))
+        self.judge_stages("^error: stage 2: .*record.*\n$", 3)
+        shutil.rmtree(self.at("asked"))
+        self.judge_stages("^error: .*stages.*\n$", 3)
+
+    def test_a_path_of_64_names_is_not_handed_on(self):
+        deep = "/".join("n" * 64)
+        self.refuse("has 64 names, and a stage hands on no more than 63", log(spawn({deep: "1"}, ["a"])), "--stages")
+        makers = spawn({}, ["n"], {deep: "1", "n/1": "1"}), spawn({"n/1": "1"}, ["a"])
+        self.refuse(f'spawn "Making n": "{deep}" has 64 names', log(*makers), "--stages", "1")
+
+    def test_whole_directories(self):
+        chain = [TREE_STEP, spawn({"s/1": "1", "s/2": "2", "t/x/1": "1", "t/x/2": "2", "t/y": "3"}, ["b"])]
+        self.assertEqual(self.stages("1", spawns=chain)[1][1:3], ["in s src sources/s", "in t src stage1/t"])
+        self.judge_stages("^yes .* stages 2 steps 2\n$", 0)
+
+    def test_only_a_stage_whose_lines_meet_has_version_2(self):
+        chain = [spawn({}, ["s/g"]), spawn({"s/1": "1", "s/2": "2", "s/g": "s/g"}, ["a"]), spawn({"a": "a"}, ["b"])]
+        found = self.stages("1", spawns=chain)
+        self.assertEqual([it[0] for it in found], ["buildplan 1", "buildplan 2", "buildplan 1"])
+        self.assertEqual(found[1][1:3], ["in s src sources/s", "in s/g src stage1/s/g"])
+        self.judge_stages("^yes .* stages 3 steps 3\n$", 0)
+
+    def test_what_is_handed_on_may_meet(self):
+        within = spawn({}, ["t/w"], {"t/w/1": "1"})
+        chain = [TREE_STEP, within, spawn({"t/y": "3", "t/w/1": "1"}, ["b"])]
+        found = self.stages("2", "--outputs", "b", spawns=chain)
+        self.assertEqual(found[0], ["buildplan 2", "root", "in stage1/t out make-t t", "in stage1/t/w out make-t-w t/w"])
+        self.assertEqual(found[1][:3], ["buildplan 1", "in t/w/1 src stage1/t/w/1", "in t/y src stage1/t/y"])
+        self.judge_stages("^yes .* stages 2 steps 3\n$", 0)
+
+    def test_words(self):
+        for words in ("0", "4097", "x"):
+            with self.assertRaises(SystemExit), contextlib.redirect_stderr(io.StringIO()):
+                self.call(log(*CHAIN), "--stages", words)
+
+
+if __name__ == "__main__":
+    unittest.main()
