@@ -6,7 +6,8 @@ ghost use Rattle.tree.specs.FlatTree.{entry_value, path_values};
 ghost use Rattle.tree.specs.TreeError.{Explains, FailsBlob};
 ghost use Rattle.tree.specs.Unfolded.{ExplainsUnfold, IsUnfolded};
 ghost use Rattle.checkout.specs.Folder.{IsHad, empty_folder};
-ghost use Rattle.checkout.specs.Written.{HoldsTree, IsGained, MakesEntry, MakesEntries, place_below};
+ghost use Rattle.checkout.specs.Written.{HoldsTree, IsGained, MakesEntry, MakesEntries};
+ghost use Rattle.checkout.specs.Written.{place_below};
 ghost use Rattle.checkout.specs.Refused.{FailsAt, FailsContent, FailsEntry, FailsEntries};
 ghost use Rattle.checkout.specs.Refused.{FailsTree, FailsCheckout, StopsUnfold};
 
