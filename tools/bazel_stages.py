@@ -7,7 +7,7 @@ A stage is a plan whose sources are the claim of the stage before. The source tr
 
 from dataclasses import dataclass, field
 
-from messages import Digest, directory_message
+from messages import Digest
 from plans import MOST_BYTES, MOST_LINES, MOST_NAMES, MOST_STEPS, Refused, escaped, files_at, folders_of, put, targets_meet
 
 SOURCES = "sources"

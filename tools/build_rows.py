@@ -2,121 +2,24 @@
 """Tries `build` with real processes, over the program's own server: build_rows.py PROGRAM
 
 Steps that make a file, end with a code, name their program badly, make what is no output, read an input, are ended by a
-signal, and wait for each other; links and folders at an output path, what a step writes beside its files, and what it is
-given; lines whose directories merge, and that don't; the second build of a plan, which runs nothing, one that goes on where a
-signal ended it, and two at once; the `verify` of each record; folders that can't be those of the jobs; what stands at the
-record's path; texts that can't be read; and builds over a server that cuts each reply in turn, or changes a byte of it. It prints
-a line for each row, and ends with status 1 where one failed. Nothing outside this machine is asked.
+signal, and wait for each other, and such as can't be opened, started or laid out; links and folders at an output path, what
+a step writes beside its files, and what it is given; lines whose directories merge, and that don't; the second build of a
+plan, which runs nothing, one that goes on where a signal ended it, and two at once; two steps of one action; the `verify` of
+each record; folders that can't be those of the jobs; what stands at the record's path; and texts that can't be read. It
+prints a line for each row, and ends with status 1 where one failed. Nothing outside this machine is asked.
 """
 
 import concurrent.futures
 import os
 import signal
 import subprocess
-import sys
 import tempfile
 import time
 
 import harness
 import stores
-from harness import Between, Server
-from messages import EMPTY, Digest, File, action_message, command_message, directory_message
-
-NINE = b"123456789"
-SHELL = ["/bin/sh", "-c"]
-
-
-def directory(name, blob):
-    """The Directory of one file."""
-    return directory_message({name: File(Digest.of(blob), is_executable=False)})
-
-
-MADE = Digest.of(directory("a", NINE)).text()
-
-
-class Builds:
-    """A server, and the folder in which it is tried."""
-
-    def __init__(self, program, work, rows):
-        self.program, self.work, self.rows, self.count = program, work, rows, 0
-        self.renew()
-
-    def renew(self, *more):
-        """Another server, which holds nothing."""
-        if self.count:
-            self.server.end()
-        self.server = Server(self.program, None, 1000000, 100000, more)
-        self.address = self.server.address
-
-    def run(self, *words):
-        return harness.run(self.program, *words)
-
-    def put(self, blob):
-        """Puts a blob, and answers its digest."""
-        stores.write_file(f"{self.work}/blob", blob)
-        done = self.run("put", "--server", self.address, f"{self.work}/blob")
-        digest = Digest.of(blob).text()
-        assert done.stdout == f"{digest}\n".encode(), done
-        return digest
-
-    def plan(self, steps, lines, version=1, **command):
-        """The text of a plan: a step has a name, its words, its outputs and its lines."""
-        text = f"buildplan {version}\n"
-        for name, words, outputs, reads in steps:
-            meant = command_message(words, outputs, **command)
-            frame = action_message(Digest.of(meant))
-            self.put(meant)
-            self.put(frame)
-            text += f"step {name} {Digest.of(frame).text()}\n" + "".join(f"in {it}\n" for it in reads)
-        return text + "root\n" + "".join(f"in {it}\n" for it in lines)
-
-    def one_step(self, words, reads=(), **command):
-        return self.plan([("mk", words, ["out"], reads)], ["a out mk out"], **command)
-
-    def words(self, plan, sources=EMPTY.text(), jobs=1, spoil=lambda work: None, address=None, more=(), record="record"):
-        """The words that build a plan, and the folder of the plan and the record. The folder of the jobs is spoilt first."""
-        self.count += 1
-        place = f"{self.work}/{self.count}"
-        os.makedirs(f"{place}/work")
-        spoil(f"{place}/work")
-        stores.write_file(f"{place}/plan", plan.encode())
-        return ["build", "--server", address or self.address, "--sources", sources, "--plan", f"{place}/plan",
-                "--record", f"{place}/{record}", "--work", f"{place}/work", "--jobs", str(jobs), *more], place
-
-    def build(self, plan, *how, **named):
-        """Builds a plan: the run, and the folder of the plan and the record."""
-        words, place = self.words(plan, *how, **named)
-        return self.run(*words), place
-
-    def expect(self, name, done, place, out, status):
-        right = done.stdout == out.encode() and done.returncode == status
-        right = right and os.path.exists(f"{place}/record") == (status == 0)
-        self.rows.tell(name, right and harness.is_told(done.stderr, status), done)
-
-    def expect_built(self, name, done, place, root, steps=1, sources=EMPTY.text()):
-        """That a plan was built, and that `verify` says yes to its record."""
-        self.expect(name, done, place, f"built {root} steps {steps}\n", 0)
-        self.expect_verdict(f"{name}: verified", place, root, f"yes {root} steps {steps}\n", 0, sources)
-
-    def expect_verdict(self, name, place, root, out, status, sources=EMPTY.text()):
-        """That `verify` says so of the plan and the record of a build."""
-        asked = ["--plan", f"{place}/plan", "--record", f"{place}/record", "--claim", root, "--sources", sources]
-        told = self.run("verify", "--server", self.address, *asked)
-        self.rows.tell(name, (told.stdout, told.returncode) == (out.encode(), status), told)
-
-    def ran_nothing(self, place):
-        """Tells that no job had a folder."""
-        jobs = os.listdir(f"{place}/work")
-        self.rows.tell("and no process was run", jobs == [], jobs)
-
-
-def record_of(place):
-    return read(f"{place}/record")
-
-
-def read(path):
-    with open(path, "rb") as it:
-        return it.read()
+from builds import MADE, NINE, SHELL, Builds, directory, read, record_of
+from messages import EMPTY, Digest, File, Link, action_message, command_message, directory_message
 
 
 def rows_of_one_step(builds):
@@ -143,6 +46,49 @@ def rows_of_one_step(builds):
     given = builds.put(directory("a", NINE))
     done, place = builds.build(builds.one_step([*SHELL, 'read -r l < d/x; printf %s "$l" > out'], ["d/x src a"]), given)
     builds.expect_built("an input is read", done, place, MADE, 1, given)
+
+
+def rows_of_refusals(builds):
+    """A step that can't be opened, started or laid out, each for one reason, and for two of which the first is told."""
+    true = command_message(["/bin/true"], [])
+    command = Digest.of(true)
+    nine, lost = File(Digest.of(NINE), False), Digest.of(b"lost")
+    builds.put(NINE)
+    builds.put(true)
+    frame = builds.put(action_message(command))
+    uncached = builds.put(action_message(command, is_cacheable=False))
+    no_command, neither = (builds.put(action_message(lost, is_cacheable=it)) for it in (True, False))
+    given = builds.put(directory_message({"a": nine, "d": Digest.of(NINE), "e": lost, "f": File(lost, False), "l": Link("a")}))
+    linked = builds.put(directory_message({"a": nine, "l": Link("a")}))
+    deep = "/".join("n" * 64)
+    for name, step, sources, line, number in [
+        ("a frame that the store lacks", lost.text(), linked, "", 107),
+        ("a frame that is none", Digest.of(NINE).text(), linked, "", 107),
+        ("a command that the store lacks", no_command, linked, "", 107),
+        ("a step whose result isn't to be kept", uncached, linked, "", 108),
+        ("such a step whose command the store lacks", neither, linked, "", 108),
+        ("no sources", frame, lost.text(), "x src a", 107),
+        ("sources that are no Directory", frame, Digest.of(NINE).text(), "x src a", 107),
+        ("no origin", frame, given, "x src b", 106),
+        ("an origin below a file", frame, given, "x src a/b", 106),
+        ("an origin below a link", frame, given, "x src l/b", 106),
+        ("an origin below a Directory that the store lacks", frame, given, "x src e/b", 107),
+        ("a Directory that the store lacks", frame, given, "x src e", 42),
+        ("a Directory that is none", frame, given, "x src d", 44),
+        ("a file that the store lacks", frame, given, "x src f", 42),
+        ("a link", frame, given, "x src l", 111),
+        ("a link in a folder", frame, linked, "x src .", 111),
+        ("a folder with an entry at a path of 64 names", frame, linked, f"{deep} src .", 46),
+        ("a file at one", frame, linked, f"{deep} src a", None),
+        ("sources that the store lacks and that nothing reads", frame, lost.text(), "", None),
+    ]:
+        plan = f"buildplan 1\nstep mk {step}\n{f'in {line}' if line else ''}\nroot\n".replace("\n\n", "\n")
+        done, place = builds.build(plan, sources)
+        if number:
+            builds.expect(f"an input with {name}" if line else name, done, place, f"failed step mk {number}\n", 1)
+            builds.ran_nothing(place)
+        else:
+            builds.expect_built(name, done, place, EMPTY.text(), 1, sources)
 
 
 def rows_of_outputs(builds):
@@ -276,6 +222,19 @@ def rows_of_two_builds(builds):
     builds.renew()
 
 
+def rows_of_one_action(builds):
+    """Two steps of one action: at once they may come to two outcomes, and one after another the first one's result is taken."""
+    words = [*SHELL, "echo $$ > out"]
+    plan = builds.plan([("one", words, ["out"], ()), ("two", words, ["out"], ())], [])
+    done, place = builds.build(plan, jobs=2)
+    builds.expect("two steps of one action that make different files", done, place, "failed step two 104\n", 1)
+    builds.renew()
+    done, place = builds.build(builds.plan([("one", words, ["out"], ()), ("two", words, ["out"], ())], []))
+    builds.expect_built("the same one after another", done, place, EMPTY.text(), 2)
+    jobs = os.listdir(f"{place}/work")
+    builds.rows.tell("of which the first alone is run", jobs == ["0"], jobs)
+
+
 def rows_of_merges(builds):
     """Version 2: a step that reads its sources and what an earlier one made in one folder, and a root of two steps' folders."""
 
@@ -384,53 +343,6 @@ def expect_no_record(builds, name, done, place, record):
     builds.ran_nothing(place)
 
 
-def rows_of_replies(builds):
-    """Two steps, one of the other's output, over a server that holds nothing of them: each reply is cut in turn, and a byte
-    of each body changed. No build comes to another root, and none that didn't come to its root has a record."""
-    steps = [("one", [*SHELL, "printf %s 123456789 > out"], ["out"], ()), ("two", [*SHELL, "cat d/x > out"], ["out"], ["d/x out one out"])]
-    lines = ["a out two out"]
-
-    def through(change):
-        builds.renew()
-        plan = builds.plan(steps, lines)
-        with Between(builds.server, change) as it:
-            return *builds.build(plan, address=it.address), it.address
-
-    bodies = []
-    done, place, _ = through(lambda _number, _method, path, head, body: bodies.append((path, body)) or head + body)
-    builds.expect("two steps through another server", done, place, f"built {MADE} steps 2\n", 0)
-    rows_of_its_verify(builds, place)
-    for number, (path, body) in enumerate(bodies):
-        done, place, address = through(lambda it, _method, _path, head, body: (head + body)[: -1 if it == number else None])
-        builds.expect(f"reply {number + 1} is cut by a byte", done, place, "", 3)
-        builds.rows.tell("and the server is named", address.encode() in done.stderr, done.stderr)
-        if body:
-            done, place, _ = through(lambda it, _method, _path, head, body: head + (spoilt(body) if it == number else body))
-            right = (done.returncode == 0) == os.path.exists(f"{place}/record") and done.returncode in (0, 1)
-            right = right and (done.stdout.startswith(b"failed ") if done.returncode else done.stdout == f"built {MADE} steps 2\n".encode())
-            right = right and (done.returncode == 1 or not path.startswith("/cas/"))
-            builds.rows.tell(f"a byte of reply {number + 1} is changed: no other root", right, done)
-
-
-def rows_of_its_verify(builds, place):
-    """The `verify` of that build, whose replies are changed in turn: a blob that is wrong is named, and no result is believed."""
-    words = ["--sources", EMPTY.text(), "--plan", f"{place}/plan", "--record", f"{place}/record", "--claim", MADE]
-
-    def through(change):
-        with Between(builds.server, change) as it:
-            return builds.run("verify", "--server", it.address, *words)
-
-    bodies = []
-    told = through(lambda _number, _method, path, head, body: bodies.append((path, body)) or head + body)
-    builds.rows.tell("its verify through another server", told.stdout == f"yes {MADE} steps 2\n".encode(), told)
-    for number, (path, body) in enumerate(bodies):
-        told = through(lambda it, _method, _path, head, body: head + (spoilt(body) if it == number else body))
-        part, name = path.split("/")[1:]
-        end = f" cause blob-wrong {name}/{len(body)}\n" if part == "cas" else "\n"
-        right = told.returncode == 1 and told.stdout.startswith(b"no ") and told.stdout.endswith(end.encode())
-        builds.rows.tell(f"a byte of its reply {number + 1} is changed: no", right, told)
-
-
 HINTS = [
     ("a line that ends with CR LF", "buildplan 1\r\nroot\r\n", "line 1: ", "the line ends with CR LF"),
     ("a blank at the end of a line", "buildplan 1\nroot \n", "line 2: ", "a blank ends the line"),
@@ -465,36 +377,26 @@ def rows_of_hints(builds):
     builds.rows.tell("and over one that is there it isn't", (told.returncode, told.stderr) == (1, b""), told)
 
 
-def spoilt(body):
-    return body[:-1] + bytes([body[-1] ^ 1]) if body else body
-
-
 def try_all(rows, program):
     with tempfile.TemporaryDirectory() as work:
         builds = Builds(os.path.realpath(program), work, rows)
         try:
             rows_of_one_step(builds)
+            rows_of_refusals(builds)
             rows_of_outputs(builds)
             rows_of_streams(builds)
             rows_of_two_steps(builds)
             rows_of_given(builds)
             rows_of_ended(builds)
             rows_of_two_builds(builds)
+            rows_of_one_action(builds)
             rows_of_merges(builds)
             rows_of_the_folder(builds)
             rows_of_the_record(builds)
             rows_of_hints(builds)
-            rows_of_replies(builds)
         finally:
             builds.server.end()
 
 
-def main():
-    (program,) = harness.words_of(__doc__, 1, 1)
-    rows = harness.Rows()
-    try_all(rows, harness.program_at(program))
-    return rows.end()
-
-
 if __name__ == "__main__":
-    sys.exit(main())
+    harness.try_rows(__doc__, try_all)

@@ -11,12 +11,11 @@ one failed. Nothing outside this machine is asked.
 import os
 import shutil
 import subprocess
-import sys
 import tempfile
 
 import harness
 import stores
-from build_rows import SHELL, Builds
+from builds import SHELL, Builds
 from harness import Between, Faulty, Nginx, Server, is_error, standing_at
 from messages import Digest, File, Link, directory_message
 from server_rows import DIGITS, EMPTY, FEED, NINE, directory
@@ -84,6 +83,50 @@ def try_faults(rows, program):
         rows.tell(f"{name}: status 3, and one line that names the server", is_fault(told, it.address), told)
     told = ask("127.0.0.1:1")
     rows.tell("nobody listens: status 3, and one line that names the server", is_fault(told, "127.0.0.1:1"), told)
+
+
+# Replies to a PUT, and to a GET of the nine digits, with the status that the command has.
+TO_PUT = [
+    ("200 OK", b"Content-Length: 0", b"", 0),
+    ("200 OK", b"Content-Length: 4", b"text", 0),
+    ("201 Created", b"Content-Length: 0", b"", 0),
+    ("202 Accepted", b"Content-Length: 0", b"", 0),
+    ("204 No Content", b"X: y", b"", 0),
+    ("204 No Content", b"Content-Length: 0", b"", 0),
+    ("204 No Content", b"Content-Length: 4", b"text", 3),
+    ("302 Found", b"Content-Length: 0", b"", 3),
+    ("404 Not Found", b"Content-Length: 0", b"", 3),
+]
+TO_GET = [
+    ("200 OK", b"Content-Length: 9\r\nConnection: close", NINE, 0),
+    ("200 Fine", b"content-length:   9  ", NINE, 0),
+    ("200 OK", b"Content-Length: 9\r\nContent-Length: 9", NINE, 3),
+    ("200 OK", b"Content-Length: +9", NINE, 3),
+    ("200 OK", b"Content-Length: 16777217", NINE, 3),
+    ("200 OK", b"Transfer-Encoding: chunked", b"9\r\n123456789\r\n0\r\n\r\n", 3),
+    ("200 OK", b"Content-Length: 9\r\nTransfer-Encoding: identity", NINE, 3),
+    ("201 Created", b"Content-Length: 9", NINE, 3),
+    ("204 No Content", b"X: y", b"", 3),
+    ("404 Not Found", b"Content-Length: 4", b"none", 1),
+    ("404 Not Found", b"X: y", b"", 3),
+    ("100 Continue", b"X: y", b"HTTP/1.1 200 OK\r\nContent-Length: 9\r\n\r\n123456789", 3),
+]
+
+
+def try_requests(rows, program, folder):
+    """What a client sends, to the byte, and which replies it takes for an answer."""
+    path, nine = f"/p/cas/{DIGITS}", f"{DIGITS}/9"
+    for command, replies in (("put", TO_PUT), ("get", TO_GET)):
+        for status_line, fields, body, status in replies:
+            with Faulty(f"HTTP/1.1 {status_line}\r\n".encode() + fields + b"\r\n\r\n" + body) as it:
+                host = it.address.replace("127.0.0.1", "localhost")
+                told = harness.run(program, command, "--server", host, "--prefix", "/p", f"{folder}/tree/a" if command == "put" else nine)
+            length = "" if command == "get" else "Content-Length: 9\r\n"
+            asked = (f"{command.upper()} {path} HTTP/1.1\r\nHost: {host}\r\n{length}\r\n".encode(), b"" if command == "get" else NINE)
+            out = {0: f"{nine}\n".encode() if command == "put" else NINE}.get(status, b"")
+            right = (told.returncode, told.stdout, it.asked) == (status, out, asked) and harness.is_told(told.stderr, status)
+            name = f"{command}: a reply {status_line}, {fields.decode()}, {len(body)} bytes: status {status}".replace("\r\n", ", ")
+            rows.tell(name, right, (told, it.asked))
 
 
 def try_replies(rows, program, folder):
@@ -258,15 +301,9 @@ def try_all(rows, program):
         try_folders(rows, program, folder)
         try_outputs(rows, program, folder)
         try_faults(rows, program)
+        try_requests(rows, program, folder)
         try_replies(rows, program, folder)
 
 
-def main():
-    (program,) = harness.words_of(__doc__, 1, 1)
-    rows = harness.Rows()
-    try_all(rows, harness.program_at(program))
-    return rows.end()
-
-
 if __name__ == "__main__":
-    sys.exit(main())
+    harness.try_rows(__doc__, try_all)

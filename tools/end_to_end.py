@@ -1,9 +1,10 @@
 #!/usr/bin/env python3
 """Tries the built program with real sockets and processes: end_to_end.py [PROGRAM]
 
-Each part prints a line for each row or test: the tests of tools/, the rows of a server, a client and a build (server_rows.py,
-client_rows.py, build_rows.py), ten seconds of requests at random beside a model (soak.py), and each command with each request for memory
-refused and each call of the system failing in turn (fault_rows.py, where a C compiler is installed). Where Bazel is installed,
+Each part prints a line for each row or test: the tests of tools/, the rows of words, a server, a client, a build and its store
+(word_rows.py, server_rows.py, client_rows.py, build_rows.py, store_rows.py), ten seconds of requests at random beside a model
+(soak.py), and each command with each request for memory refused and each call of the system failing in turn (fault_rows.py,
+where a C compiler is installed). Where Bazel is installed,
 the round trips with it run too (bazel_roundtrip.sh, and with nginx bazel_cache.sh). A line says what was left out. PROGRAM is
 crates/buildcache/out/buildcache, where `rt ci` leaves it. Nothing outside this machine is asked. The last line is
 'N passed, M failed', and the status 1 where one failed.
@@ -22,6 +23,8 @@ import fault_rows
 import harness
 import server_rows
 import soak
+import store_rows
+import word_rows
 
 TOOLS = os.path.dirname(os.path.realpath(__file__))
 SOAK_SECONDS = 10
@@ -60,9 +63,11 @@ def try_bazel(rows, program):
 
 PARTS = {
     "tests of tools/": try_tests,
+    "words": word_rows.try_all,
     "a server": server_rows.try_all,
     "a client": client_rows.try_all,
     "a build": build_rows.try_all,
+    "a store": store_rows.try_all,
     "requests at random": lambda rows, program: soak.soak(program, rows, SOAK_SECONDS),
     "faults": fault_rows.try_all,
     "Bazel": try_bazel,

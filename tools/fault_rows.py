@@ -17,7 +17,6 @@ import select
 import shutil
 import socket
 import subprocess
-import sys
 import tempfile
 import time
 from typing import NamedTuple
@@ -381,12 +380,5 @@ def try_all(rows, program):
             try_every(rows, made, program, folder, server)
 
 
-def main():
-    (program,) = harness.words_of(__doc__, 1, 1)
-    rows = harness.Rows()
-    try_all(rows, harness.program_at(program))
-    return rows.end()
-
-
 if __name__ == "__main__":
-    sys.exit(main())
+    harness.try_rows(__doc__, try_all)

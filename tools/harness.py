@@ -81,6 +81,14 @@ class Rows:
         return 1 if self.failed else 0
 
 
+def try_rows(help_text, try_all):
+    """A tool of rows: tries the program that its one word names, and ends."""
+    (program,) = words_of(help_text, 1, 1)
+    rows = Rows()
+    try_all(rows, program_at(program))
+    sys.exit(rows.end())
+
+
 def run(program, *words, seconds=60, env=None):
     """What the program prints, as bytes, and its status, which is None where it hasn't ended by then."""
     how = {"stdin": subprocess.DEVNULL, "capture_output": True, "check": False, "env": env}
@@ -174,17 +182,18 @@ class Server:
 
 
 class Faulty:
-    """A server that reads one request and answers these bytes; then it closes, resets, or stays silent."""
+    """A server that reads one request, whose head and body are then in `asked`, and answers these bytes; then it closes, resets,
+    or stays silent."""
 
     def __init__(self, answer, ending="close"):
-        self.answer, self.ending = answer, ending
+        self.answer, self.ending, self.asked = answer, ending, None
         self.listener = socket.create_server((LOCAL, 0))
         self.address = f"{LOCAL}:{self.listener.getsockname()[1]}"
         self.over = threading.Event()
 
     def serve(self):
         with self.listener.accept()[0] as it:
-            it.recv(65536)
+            self.asked = message_from(it)
             it.sendall(self.answer)
             if self.ending == "silent":
                 self.over.wait(10)

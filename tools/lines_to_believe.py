@@ -22,7 +22,7 @@ ASIDE = {
     "service": ["Member", "Together"],
     "tree": ["Comparing", "Given", "Lines", "MergeParts", "Unfolding", "Visiting"],
     "verifier": ["Answers", "Checks", "Stage", "TwoSteps"],
-    "worker": ["Going", "Stopping", "Storing"],
+    "worker": ["Gathering", "Going", "Stopping", "Storing", "TwoSteps"],
 }
 
 

@@ -13,7 +13,7 @@ import time
 
 import harness
 import stores
-from build_rows import Builds
+from builds import Builds
 from messages import Digest, action_message, command_message
 
 

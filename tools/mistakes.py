@@ -127,13 +127,14 @@ def functions_of(file, text, homes):
 
 def assumable(folder, homes):
     """The functions of a crate that a check can take by their contracts, each with the file of code that it stands in: those
-    with a body, but for the methods of a trait and those that call themselves."""
+    with a body, but for the methods of a trait and those that call themselves or each other."""
     found = {}
     for path in glob.glob(f"{folder}/src/**/*.rt", recursive=True):
         file = os.path.relpath(path, folder)
         with open(path, encoding="utf-8") as it:
             text = it.read()
         traits = set(re.findall(r"\btrait (\w+)", text))
+        in_cycles = set(re.findall(r"#\[cycle\(\w+\)\]\s*(?:pub(?:\(\w+\))? )?fn (\w+)", text))
         for function, texts in functions_of(file, text, homes).items():
             *above, name = function.split("::")
             is_method = bool(above) and above[-1][0].isupper()
@@ -141,7 +142,7 @@ def assumable(folder, homes):
             calls_itself = re.search(rf"{own}{name}(?:::<[^(]*>)?\(", texts[0].partition(f"fn {name}")[2])
             cycle = os.path.join(folder, "proofs", *above, f"+{name}")
             if (len(texts) == 1 and texts[0].endswith("}") and name != "main" and not calls_itself
-                    and not traits.intersection(above) and not os.path.isdir(cycle)):
+                    and name not in in_cycles and not traits.intersection(above) and not os.path.isdir(cycle)):
                 found[function] = file
     return found
 

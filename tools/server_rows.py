@@ -1,10 +1,11 @@
 #!/usr/bin/env python3
 """Tries the program as a server, over sockets: server_rows.py PROGRAM
 
-The streams of bytes and their exact answers, whole and byte by byte; the prefix that stands before the paths; many
-connections at once, of clients that are slow, deaf, silent or gone beside one that works; the line on a terminal; an
-address that is in use, or was a moment before; and more connections than the server may have files. It prints a line for
-each row, and ends with status 1 where one failed. Nothing outside this machine is asked.
+The streams of bytes and their exact answers, whole and byte by byte, also where room is short; heads that are refused, and
+which of them close the connection; the prefix that stands before the paths; many connections at once, of clients that are
+slow, deaf, silent or gone beside one that works; the line on a terminal; an address that is in use, or was a moment before;
+and more connections than the server may have files. It prints a line for each row, and ends with status 1 where one failed.
+Nothing outside this machine is asked.
 """
 
 import os
@@ -14,7 +15,6 @@ import signal
 import socket
 import struct
 import subprocess
-import sys
 import threading
 import time
 
@@ -65,6 +65,94 @@ STREAMS = {
 }
 
 
+ONE_FILE = result_message({"f": File(Digest(DIGITS, 9), is_executable=False)})
+KEYS = [str(it) * 64 for it in range(2)]
+TWELVE, ELEVEN = b"abcdefghijkl", b"abcdefghijk"
+CONFLICT = b"HTTP/1.1 409 Conflict\r\nContent-Length: 0\r\n\r\n"
+FULL = b"HTTP/1.1 507 Insufficient Storage\r\nContent-Length: 0\r\n\r\n"
+
+
+def path_of(blob):
+    return f"/cas/{Digest.of(blob).hash}"
+
+
+# The same where room is short: the limits of blobs and results, a stream, and all that it is answered.
+SHORT = {
+    "what a pinned result refers to stays": (
+        20, 1000,
+        put(f"/cas/{DIGITS}", NINE) + put(f"/ac/{KEY}", ONE_FILE) + put(f"/pin/{KEY}", b"") + put(path_of(TWELVE), TWELVE)
+        + put(path_of(ELEVEN), ELEVEN) + put(f"/ac/{KEY}", RESULT) + 2 * put(f"/unpin/{KEY}", b""),
+        DONE * 3 + FULL + DONE + CONFLICT + DONE + ABSENT,
+    ),
+    "until no pinned one does": (
+        20, 1000,
+        put(f"/cas/{DIGITS}", NINE) + b"".join(put(f"/ac/{it}", ONE_FILE) + put(f"/pin/{it}", b"") for it in KEYS)
+        + put(f"/unpin/{KEYS[0]}", b"") + put(path_of(TWELVE), TWELVE) + get(f"/cas/{DIGITS}")
+        + put(f"/unpin/{KEYS[1]}", b"") + put(path_of(TWELVE), TWELVE) + get(f"/cas/{DIGITS}") + put(f"/pin/{KEYS[0]}", b""),
+        DONE * 6 + FULL + found(NINE) + DONE + DONE + ABSENT + ABSENT,
+    ),
+    "what was used least recently is evicted": (
+        20, 1000,
+        put(f"/cas/{DIGITS}", NINE) + put(path_of(ELEVEN), ELEVEN) + get(f"/cas/{DIGITS}") + put(f"/cas/{FEED}", b"\n")
+        + get(f"/cas/{DIGITS}") + get(path_of(ELEVEN)),
+        DONE * 2 + found(NINE) + DONE + found(NINE) + ABSENT,
+    ),
+    "a result costs its length and 64": (20, 138, put(f"/ac/{KEY}", ONE_FILE), FULL),
+    "which may be the whole limit": (20, 139, put(f"/ac/{KEY}", ONE_FILE), DONE),
+}
+
+
+def head(first, *fields):
+    return "\r\n".join([first, "Host: x", *fields, "", ""]).encode()
+
+
+def refused(reason, *fields):
+    """The answer after which the connection is closed."""
+    return "\r\n".join([f"HTTP/1.1 {reason}", "Content-Length: 0", *fields, "Connection: close", "", ""]).encode()
+
+
+ASKS, PUTS = f"GET /cas/{EMPTY} HTTP/1.1", f"PUT /cas/{FEED} HTTP/1.1"
+LARGEST = 16777216
+NO_METHOD = ("405 Method Not Allowed", "Allow: GET, PUT")
+# Requests that close their connection, with their answers.
+REFUSED = {
+    "HEAD": (head(f"HEAD /cas/{EMPTY} HTTP/1.1"), NO_METHOD),
+    "POST": (head(f"POST /cas/{FEED} HTTP/1.1", "Content-Length: 1") + b"\n", NO_METHOD),
+    "OPTIONS": (head("OPTIONS * HTTP/1.1"), NO_METHOD),
+    "a method in lower case": (head(ASKS.lower().replace("http", "HTTP")), NO_METHOD),
+    "HTTP/1.0": (head(ASKS.replace("1.1", "1.0")), ("505 HTTP Version Not Supported",)),
+    "HTTP/2": (b"PRI * HTTP/2.0\r\n\r\nSM\r\n\r\n", ("400 Bad Request",)),
+    "no host": (f"{ASKS}\r\n\r\n".encode(), ("400 Bad Request",)),
+    "two hosts": (head(ASKS, "Host: y"), ("400 Bad Request",)),
+    "a chunked body": (head(PUTS, "Transfer-Encoding: chunked") + b"1\r\n\n\r\n0\r\n\r\n", ("501 Not Implemented",)),
+    "Expect": (head(PUTS, "Content-Length: 1", "Expect: 100-continue") + b"\n", ("417 Expectation Failed",)),
+    "no length": (head(PUTS) + b"\n", ("411 Length Required",)),
+    "two lengths": (head(PUTS, "Content-Length: 1", "Content-Length: 1") + b"\n", ("400 Bad Request",)),
+    "a length of 20 digits": (head(PUTS, "Content-Length: " + "0" * 19 + "1") + b"\n", ("400 Bad Request",)),
+    "GET with a body": (head(ASKS, "Content-Length: 1") + b"\n", ("400 Bad Request",)),
+    "a body of 16,777,217 bytes": (head(PUTS, f"Content-Length: {LARGEST + 1}") + bytes(LARGEST + 1), ("413 Content Too Large",)),
+    "PUT elsewhere": (put("/other", NINE), ("404 Not Found",)),
+    "65 fields": (head(ASKS, *("a: b" for _ in range(64))), ("431 Request Header Fields Too Large",)),
+    "a head of 16,385 bytes": (head(ASKS, "a: " + "b" * (16385 - len(head(ASKS, "a: ")))), ("431 Request Header Fields Too Large",)),
+    "line ends without CR": (f"{ASKS}\nHost: x\n\n".encode() + get("/"), ("400 Bad Request",)),
+}
+# Requests that leave it open.
+LEFT_OPEN = {
+    "64 fields": (head(ASKS, *("a: b" for _ in range(63))), found(b"")),
+    "a head of 16,384 bytes": (head(ASKS, "a: " + "b" * (16384 - len(head(ASKS, "a: ")))), found(b"")),
+    "a query": (get(f"/cas/{EMPTY}?a"), ABSENT),
+    "an escape": (get(f"/%63as/{EMPTY}"), ABSENT),
+    "a whole address": (get(f"http://x/cas/{EMPTY}"), ABSENT),
+    "a hash in upper case": (get(f"/cas/{EMPTY.upper()}"), ABSENT),
+    "GET of a pin": (get(f"/pin/{KEY}"), ABSENT),
+    "a pin with a body": (put(f"/pin/{KEY}", b"\n"), BAD),
+    "bytes that are no result": (put(f"/ac/{KEY}", b"\xff"), BAD),
+    "a line end before the head": (b"\r\n" + get(f"/cas/{EMPTY}"), found(b"")),
+    "a length of zeros": (head(ASKS, "Content-Length: 00"), found(b"")),
+    "keep-alive": (head(ASKS, "Connection: keep-alive"), found(b"")),
+}
+
+
 def server(program, connections, *more):
     return Server(program, connections, 1000, 1000, more)
 
@@ -92,12 +180,31 @@ def try_streams(rows, program):
                 with server(program, 1, *more) as it:
                     seen = talk(it.port, stream, piece)
                 rows.tell(" ".join([f"{name}, in pieces of {piece}", *more]), seen == answers, seen)
+    for name, (limit, result_limit, stream, answers) in SHORT.items():
+        with Server(program, 1, limit, result_limit) as it:
+            seen = talk(it.port, stream, len(stream))
+        rows.tell(f"{name}, limits {limit} and {result_limit}", seen == answers, seen)
     with server(program, 1, "--prefix", "/x") as it:
         seen = talk(it.port, get(f"/x/cas/{EMPTY}") + get(f"/cas/{EMPTY}"), 65536)
     rows.tell("only what stands under the prefix is served", seen == DONE + ABSENT, seen)
     for prefix in ("/", "/a/", "a"):
         told = harness.run(program, "serve", "--listen", "127.0.0.1:0", *LIMITS, "--prefix", prefix)
         rows.tell(f"{prefix} is no prefix", (told.returncode, told.stdout) == (2, b"") and is_error(told.stderr), told)
+
+
+def try_heads(rows, program):
+    """Each with a request after it, which is answered only where the connection stays open."""
+    again = get(f"/cas/{EMPTY}")
+    for more in ((), ("--at-once", "4")):
+        with server(program, None, *more) as it:
+            for name, (request, answer) in REFUSED.items():
+                seen = talk(it.port, request + again, 1 << 20)
+                rows.tell(" ".join([f"{name}: {answer[0]}, and closed", *more]), seen == refused(*answer), seen)
+            for name, (request, answer) in LEFT_OPEN.items():
+                seen = talk(it.port, request + again, 1 << 20)
+                rows.tell(" ".join([f"{name}: answered, and left open", *more]), seen == answer + found(b""), seen)
+            seen = talk(it.port, head(ASKS, "Connection: a, Close ,b") + again, 1 << 20)
+            rows.tell(" ".join(["Connection: close", *more]), seen == refused("200 OK"), seen)
 
 
 # How long a client that works may wait for an answer beside others, in seconds.
@@ -350,17 +457,11 @@ def try_few_files(rows, program):
 
 def try_all(rows, program):
     try_streams(rows, program)
+    try_heads(rows, program)
     try_many(rows, program)
     try_address(rows, program)
     try_few_files(rows, program)
 
 
-def main():
-    (program,) = harness.words_of(__doc__, 1, 1)
-    rows = harness.Rows()
-    try_all(rows, harness.program_at(program))
-    return rows.end()
-
-
 if __name__ == "__main__":
-    sys.exit(main())
+    harness.try_rows(__doc__, try_all)

@@ -17,7 +17,8 @@ TOOLS = sorted(
 )
 # A program that isn't there, and a file; each with the other words that the tool wants.
 NEEDS_A_PROGRAM = {
-    "build_rows.py": [], "client_rows.py": [], "server_rows.py": [], "fault_rows.py": [], "soak.py": ["1"], "measure_build.py": [],
+    "build_rows.py": [], "client_rows.py": [], "server_rows.py": [], "fault_rows.py": [], "store_rows.py": [],
+    "word_rows.py": [], "soak.py": ["1"], "measure_build.py": [],
     "measure_verify.py": ["steps", "1"], "measure_all.py": ["put"], "serve_speed.py": ["1"],
 }
 NEEDS_A_FILE = {"bazel_plan.py": ["asked"], "make_plan.py": ["asked"], "verify_stages.py": [], "tests/trim_log.py": ["/base"]}

@@ -1,16 +1,14 @@
--- One encoding is that of one frame, Action, Command and ActionResult.
-use Rattle.std.proofs.Common.{◌≡◌, ℕ, zero, suc, List, [], ◌∷◌, map, Option, Some, None, Ok, refl, ap, sym, ◌∙◌, arith}
-use Rattle.std.specs.Prelude.{ℤ, pos, FitsSigned, IfSome, Result, option_map}
-use Rattle.std.specs.Int.{w32, w64, cast_unsigned}
+-- One encoding is that of one frame, Action and Command.
+use Rattle.std.proofs.Common.{◌≡◌, ℕ, List, [], ◌∷◌, map, Option, Some, Ok, refl, ap, sym, ◌∙◌, arith}
+use Rattle.std.specs.Prelude.{pos, IfSome, Result}
+use Rattle.std.specs.Int.{w64, cast_unsigned}
 use Rattle.std.specs.List.{AllByRecursion}
 use Rattle.hex.specs.declared.error.FromHexError.{FromHexError}
 use Rattle.hex.specs.Hex.{encode_lower, decode_of, IsBytes}
 use Rattle.hex.proofs.HexLemmas.{decode_of-encode_lower}
 use Rattle.wire.specs.Record.{Record}
 use Rattle.wire.specs.Spelling.{spelling}
-use Rattle.canonical.specs.Fields.{bytes_field, number_field, int_field, bool_field, message_field, element_fields}
-use Rattle.canonical.specs.Columns.{column}
-use Rattle.canonical.proofs.FieldKinds.{int32_read}
+use Rattle.canonical.specs.Fields.{bytes_field, int_field, bool_field, message_field, element_fields}
 use Rattle.blob_digest.specs.DigestValue.{DigestValue, IsDigest}
 use Rattle.messages.specs.declared.error.MessageError.{MessageError}
 use Rattle.messages.specs.DigestMessage.{digest_bytes}
@@ -22,13 +20,8 @@ use Rattle.action_messages.specs.Frame.{FrameValue, IsFrame, frame_bytes}
 use Rattle.action_messages.specs.Action.{ActionValue, IsAction, action_bytes}
 use Rattle.action_messages.specs.Overlaps.{texts_of}
 use Rattle.action_messages.specs.Command.{CommandValue, IsCommand, command_bytes, directory_text, working_directory_of}
-use Rattle.action_messages.specs.Stream.{StreamValue, IsStream}
-use Rattle.action_messages.specs.OutputFile.{OutputFileValue, IsOutputFile, output_file_bytes}
-use Rattle.action_messages.specs.OutputDirectory.{OutputDirectoryValue, IsOutputDirectory, output_directory_bytes}
-use Rattle.action_messages.specs.OutputSymlink.{OutputSymlinkValue, IsOutputSymlink, output_symlink_bytes}
-use Rattle.action_messages.specs.ActionResult.{ActionResultValue, IsActionResult, action_result_bytes}
 use Rattle.action_messages.proofs.Commands.{directory_given}
-use Rattle.actions.proofs.FieldLists.{AreFields, bool_is, bool_once, bytes_are, bytes_once, each_once, eight, elements_are, elements_once, five, four, given_once, message_is, message_once, number_is, number_once, spelled_fields, three, together}
+use Rattle.actions.proofs.FieldLists.{AreFields, bool_is, bool_once, bytes_are, bytes_once, each_once, elements_are, elements_once, five, four, given_once, message_is, message_once, number_is, number_once, spelled_fields, together}
 
 -- ---- what messages are made of
 
@@ -47,12 +40,6 @@ digest_once d e h k eq =
     let casts : cast_unsigned w64 (pos d.size) ≡ cast_unsigned w64 (pos e.size) = number_once 2 _ _ parts.1 in
     let sizes : d.size ≡ e.size = omega (arith, casts, h.size, k.size) in
     λ i. record { hash = hashes i; size = sizes i }
-
-optional_once : (o p : Option DigestValue) → IfSome o IsDigest → IfSome p IsDigest → option_map digest_bytes o ≡ option_map digest_bytes p → o ≡ p
-optional_once None None h k e = refl
-optional_once None (Some d) h k e = absurd cc
-optional_once (Some d) None h k e = absurd cc
-optional_once (Some d) (Some f) h k e = let same : digest_bytes d ≡ digest_bytes f = cc in ap Some (digest_once d f h k same)
 
 setting_once : (s t : SettingValue) → setting_bytes s ≡ setting_bytes t → s ≡ t
 unfolding setting_bytes
@@ -94,14 +81,6 @@ directory_once : (o p : Option (List (List ℕ))) → IfSome o IsPath → IfSome
 directory_once o p h k e =
     let same : ◌≡◌ {A = Result (Option (List (List ℕ))) MessageError} (Ok o) (Ok p) = sym (directory_given o h) ∙ ap working_directory_of e ∙ directory_given p k in
     cc
-
-own_number : (n : ℕ) → column 4 (number_field 4 n) ≡ number_field 4 n
-own_number zero = refl
-own_number (suc n) = refl
-
-code_once : (a b : ℤ) → FitsSigned w32 a → FitsSigned w32 b → int_field 4 a ≡ int_field 4 b → a ≡ b
-code_once a b h k e =
-    sym (int32_read 4 (int_field 4 a) a h (own_number (cast_unsigned w64 a))) ∙ int32_read 4 (int_field 4 a) b k (own_number (cast_unsigned w64 a) ∙ e)
 
 -- ---- the messages
 
@@ -228,121 +207,3 @@ command_bytes_injective c d h k e =
     let directory = directory_once c.working_directory d.working_directory h.working_directory k.working_directory (bytes_once 6 (directory_text c.working_directory) (directory_text d.working_directory) f6) in
     let paths = each_once path_text IsPath path_once c.output_paths d.output_paths h.output_paths k.output_paths (elements_once 7 (texts_of c.output_paths) (texts_of d.output_paths) fields.1) in
     λ i. record { arguments = arguments i; environment = environment i; working_directory = directory i; output_paths = paths i }
-
-output_file_spelled : (x : OutputFileValue) → spelling (together (bytes_field 1 (path_text x.path) ∷ message_field 2 (Some (digest_bytes x.digest)) ∷ []) (bool_field 4 x.executable)) ≡ output_file_bytes x
-unfolding output_file_bytes
-output_file_spelled x = ap spelling (three (bytes_field 1 (path_text x.path)) (message_field 2 (Some (digest_bytes x.digest))) (bool_field 4 x.executable))
-
-output_file_once : (x y : OutputFileValue) → IsOutputFile x → IsOutputFile y → output_file_bytes x ≡ output_file_bytes y → x ≡ y
-output_file_once x y h k e =
-    let fields = spelled_fields (1 ∷ 2 ∷ []) 4
-    (bytes_field 1 (path_text x.path) ∷ message_field 2 (Some (digest_bytes x.digest)) ∷ []) (bytes_field 1 (path_text y.path) ∷ message_field 2 (Some (digest_bytes y.digest)) ∷ [])
-    (bool_field 4 x.executable) (bool_field 4 y.executable)
-    (omega arith, bytes_are 1 (path_text x.path), (omega arith, message_is 2 (Some (digest_bytes x.digest)), (omega arith, bool_is 4 x.executable)))
-    (omega arith, bytes_are 1 (path_text y.path), (omega arith, message_is 2 (Some (digest_bytes y.digest)), (omega arith, bool_is 4 y.executable)))
-    (output_file_spelled x ∙ e ∙ sym (output_file_spelled y)) in
-    let lists = fields.0 in
-    let f1 : bytes_field 1 (path_text x.path) ≡ bytes_field 1 (path_text y.path) = cc in
-    let f2 : message_field 2 (Some (digest_bytes x.digest)) ≡ message_field 2 (Some (digest_bytes y.digest)) = cc in
-    let path = path_once x.path y.path h.path k.path (bytes_once 1 (path_text x.path) (path_text y.path) f1) in
-    let digest = digest_once x.digest y.digest h.digest k.digest (given_once 2 (digest_bytes x.digest) (digest_bytes y.digest) f2) in
-    let executable = bool_once 4 x.executable y.executable fields.1 in
-    λ i. record { path = path i; digest = digest i; executable = executable i }
-
-output_directory_once : (x y : OutputDirectoryValue) → IsOutputDirectory x → IsOutputDirectory y → output_directory_bytes x ≡ output_directory_bytes y → x ≡ y
-unfolding output_directory_bytes
-output_directory_once x y h k e =
-    let fields = spelled_fields (1 ∷ []) 3
-    (bytes_field 1 (path_text x.path) ∷ []) (bytes_field 1 (path_text y.path) ∷ [])
-    (message_field 3 (Some (digest_bytes x.tree))) (message_field 3 (Some (digest_bytes y.tree)))
-    (omega arith, bytes_are 1 (path_text x.path), (omega arith, message_is 3 (Some (digest_bytes x.tree))))
-    (omega arith, bytes_are 1 (path_text y.path), (omega arith, message_is 3 (Some (digest_bytes y.tree)))) e in
-    let lists = fields.0 in
-    let f1 : bytes_field 1 (path_text x.path) ≡ bytes_field 1 (path_text y.path) = cc in
-    let path = path_once x.path y.path h.path k.path (bytes_once 1 (path_text x.path) (path_text y.path) f1) in
-    let tree = digest_once x.tree y.tree h.tree k.tree (given_once 3 (digest_bytes x.tree) (digest_bytes y.tree) fields.1) in
-    λ i. record { path = path i; tree = tree i }
-
-output_symlink_once : (x y : OutputSymlinkValue) → IsOutputSymlink x → IsOutputSymlink y → output_symlink_bytes x ≡ output_symlink_bytes y → x ≡ y
-unfolding output_symlink_bytes
-output_symlink_once x y h k e =
-    let fields = spelled_fields (1 ∷ []) 2
-    (bytes_field 1 (path_text x.path) ∷ []) (bytes_field 1 (path_text y.path) ∷ []) (bytes_field 2 x.target) (bytes_field 2 y.target)
-    (omega arith, bytes_are 1 (path_text x.path), (omega arith, bytes_are 2 x.target)) (omega arith, bytes_are 1 (path_text y.path), (omega arith, bytes_are 2 y.target)) e in
-    let lists = fields.0 in
-    let f1 : bytes_field 1 (path_text x.path) ≡ bytes_field 1 (path_text y.path) = cc in
-    let path = path_once x.path y.path h.path k.path (bytes_once 1 (path_text x.path) (path_text y.path) f1) in
-    let target = bytes_once 2 x.target y.target fields.1 in
-    λ i. record { path = path i; target = target i }
-
-stream_once : (s t : StreamValue) → IsStream s → IsStream t → s.raw ≡ t.raw → option_map digest_bytes s.digest ≡ option_map digest_bytes t.digest → s ≡ t
-stream_once s t h k raw e =
-    let digest = optional_once s.digest t.digest h.digest k.digest e in
-    λ i. record { raw = raw i; digest = digest i }
-
-abbrev result_fields : ActionResultValue → List (List Record)
-result_fields r =
-    element_fields 2 (map output_file_bytes r.files) ∷
-    element_fields 3 (map output_directory_bytes r.directories) ∷
-    int_field 4 r.exit_code ∷
-    bytes_field 5 r.stdout.raw ∷
-    message_field 6 (option_map digest_bytes r.stdout.digest) ∷
-    bytes_field 7 r.stderr.raw ∷
-    message_field 8 (option_map digest_bytes r.stderr.digest) ∷
-    []
-
-abbrev result_last : ActionResultValue → List Record
-result_last r = element_fields 12 (map output_symlink_bytes r.symlinks)
-
-are_result_fields : (r : ActionResultValue) → AreFields 0 (2 ∷ 3 ∷ 4 ∷ 5 ∷ 6 ∷ 7 ∷ 8 ∷ []) 12 (result_fields r) (result_last r)
-are_result_fields r = (
-  omega arith,
-  elements_are 2 (map output_file_bytes r.files),
-  (
-    omega arith,
-    elements_are 3 (map output_directory_bytes r.directories),
-    (
-      omega arith,
-      number_is 4 _,
-      (
-        omega arith,
-        bytes_are 5 r.stdout.raw,
-        (
-          omega arith,
-          message_is 6 (option_map digest_bytes r.stdout.digest),
-          (
-            omega arith,
-            bytes_are 7 r.stderr.raw,
-            (omega arith, message_is 8 (option_map digest_bytes r.stderr.digest), (omega arith, elements_are 12 (map output_symlink_bytes r.symlinks))),
-          ),
-        ),
-      ),
-    ),
-  ),
-)
-
-result_spelled : (r : ActionResultValue) → spelling (together (result_fields r) (result_last r)) ≡ action_result_bytes r
-unfolding action_result_bytes
-result_spelled r =
-    ap spelling (eight (element_fields 2 (map output_file_bytes r.files)) (element_fields 3 (map output_directory_bytes r.directories)) (int_field 4 r.exit_code) (bytes_field 5 r.stdout.raw)
-    (message_field 6 (option_map digest_bytes r.stdout.digest)) (bytes_field 7 r.stderr.raw) (message_field 8 (option_map digest_bytes r.stderr.digest)) (result_last r))
-
-pub action_result_bytes_injective : (r s : ActionResultValue) → IsActionResult r → IsActionResult s → action_result_bytes r ≡ action_result_bytes s → r ≡ s
-action_result_bytes_injective r s h k e =
-    let fields = spelled_fields (2 ∷ 3 ∷ 4 ∷ 5 ∷ 6 ∷ 7 ∷ 8 ∷ []) 12 (result_fields r) (result_fields s) (result_last r) (result_last s) (are_result_fields r) (are_result_fields s)
-    (result_spelled r ∙ e ∙ sym (result_spelled s)) in
-    let lists = fields.0 in
-    let f2 : element_fields 2 (map output_file_bytes r.files) ≡ element_fields 2 (map output_file_bytes s.files) = cc in
-    let f3 : element_fields 3 (map output_directory_bytes r.directories) ≡ element_fields 3 (map output_directory_bytes s.directories) = cc in
-    let f4 : int_field 4 r.exit_code ≡ int_field 4 s.exit_code = cc in
-    let f5 : bytes_field 5 r.stdout.raw ≡ bytes_field 5 s.stdout.raw = cc in
-    let f6 : message_field 6 (option_map digest_bytes r.stdout.digest) ≡ message_field 6 (option_map digest_bytes s.stdout.digest) = cc in
-    let f7 : bytes_field 7 r.stderr.raw ≡ bytes_field 7 s.stderr.raw = cc in
-    let f8 : message_field 8 (option_map digest_bytes r.stderr.digest) ≡ message_field 8 (option_map digest_bytes s.stderr.digest) = cc in
-    let files = each_once output_file_bytes IsOutputFile output_file_once r.files s.files h.files k.files (elements_once 2 (map output_file_bytes r.files) (map output_file_bytes s.files) f2) in
-    let directories = each_once output_directory_bytes IsOutputDirectory output_directory_once r.directories s.directories h.directories k.directories (elements_once 3 (map output_directory_bytes r.directories) (map output_directory_bytes s.directories) f3) in
-    let symlinks = each_once output_symlink_bytes IsOutputSymlink output_symlink_once r.symlinks s.symlinks h.symlinks k.symlinks (elements_once 12 (map output_symlink_bytes r.symlinks) (map output_symlink_bytes s.symlinks) fields.1) in
-    let code = code_once r.exit_code s.exit_code h.exit_code k.exit_code f4 in
-    let stdout = stream_once r.stdout s.stdout h.stdout k.stdout (bytes_once 5 r.stdout.raw s.stdout.raw f5) (message_once 6 (option_map digest_bytes r.stdout.digest) (option_map digest_bytes s.stdout.digest) f6) in
-    let stderr = stream_once r.stderr s.stderr h.stderr k.stderr (bytes_once 7 r.stderr.raw s.stderr.raw f7) (message_once 8 (option_map digest_bytes r.stderr.digest) (option_map digest_bytes s.stderr.digest) f8) in
-    λ i. record { files = files i; directories = directories i; symlinks = symlinks i; exit_code = code i; stdout = stdout i; stderr = stderr i }

@@ -93,17 +93,11 @@ pub spelled_fields : (fs : List ℕ) (g : ℕ) (ps qs : List (List Record)) (las
 spelled_fields fs g ps qs last end h k e =
     same_fields 0 fs g ps qs last end h k (spelling_injective (together ps last) (together qs end) (fixed 0 fs g ps last h) (fixed 0 fs g qs end k) e)
 
-pub three : (a b c : List Record) → a ++ (b ++ c) ≡ a ++ b ++ c
-three a b c = simp append_assoc
-
 pub four : (a b c d : List Record) → a ++ (b ++ (c ++ d)) ≡ a ++ b ++ c ++ d
 four a b c d = simp append_assoc
 
 pub five : (a b c d e : List Record) → a ++ (b ++ (c ++ (d ++ e))) ≡ a ++ b ++ c ++ d ++ e
 five a b c d e = simp append_assoc
-
-pub eight : (a b c d e f g h : List Record) → a ++ (b ++ (c ++ (d ++ (e ++ (f ++ (g ++ h)))))) ≡ a ++ b ++ c ++ d ++ e ++ f ++ g ++ h
-eight a b c d e f g h = simp append_assoc
 
 -- ---- fields of each kind
 

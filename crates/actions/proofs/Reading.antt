@@ -34,9 +34,6 @@ stand_push B [] es x e h path stands = subst (λ l. StandForAll B (x ∷ []) (l 
 stand_push B (y ∷ xs) [] x e h path stands = elim h [ ]
 stand_push B (y ∷ xs) (d ∷ es) x e h path stands = (h.0, h.1, stand_push B xs es x e h.2 path stands)
 
-pub stand_more : (B : Blobs) (xs : List RecordedValue) (es : List (List (List ℕ) × OutputValue)) (x : RecordedValue) (v : OutputValue) → StandForAll B xs es → StandsFor B x v → StandForAll B (xs ++ x ∷ []) (es ++ (recorded_path x, v) ∷ [])
-stand_more B xs es x v h stands = stand_push B xs es x (recorded_path x, v) h refl stands
-
 pub recorded_still : (B C : Blobs) (r : ActionResultValue) (o : OutcomeValue) → Grows B C → IsRecorded B r o → IsRecorded C r o
 recorded_still B C r o g h = record { valid = h.valid; exit_code = h.exit_code; recorded = h.recorded; ordered = h.ordered; outputs = stand_still B C h.recorded o.outputs g h.outputs }
 

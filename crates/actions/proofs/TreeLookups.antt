@@ -24,7 +24,7 @@ use Rattle.tree.specs.Form.{NodeValue, node_value}
 use Rattle.tree.specs.Lookup.{Looked, nothing, looked, LooksFrom}
 use Rattle.tree.specs.Merging.{in_tree, IsHeldIn}
 use Rattle.tree.proofs.Children.{child_value}
-use Rattle.actions.specs.OutcomeLookup.{IsFirstChild, NoFault, IsChildOf, LooksInTree, LooksUnder}
+use Rattle.actions.specs.OutcomeLookup.{IsFirstChild, NoFault, IsChildOf, LooksUnder}
 
 -- ---- what lists hold
 
@@ -69,9 +69,6 @@ pub none_push : (d e : DigestValue) (ds : List DigestValue) → NotAmong d ds �
 none_push d e [] h n = (n, tt)
 none_push d e (x ∷ ds) h n = (h.0, none_push d e ds h.1 n)
 
-pub not_held : (d : DigestValue) (ds : List DigestValue) → NotAmong d ds → Contains ds d → ⊥
-not_held d ds h c = all_at (λ e. e ≢ d) ds d h c refl
-
 same_length : (t : TreeValue) → length (child_digests t) ≡ length t.children
 same_length t = length-map (map directory_bytes t.children) digest_of ∙ length-map t.children directory_bytes
 
@@ -100,15 +97,6 @@ first_found t d e i m none lt is same at = record {
   right = digest_there t.children i m e at lt is ∙ same;
   first = before_all d (take i t.children) (subst (NotAmong d) (digests_taken i t.children) none);
 }
-
--- there is a child wherever there is a digest
-pub child_at : (t : TreeValue) (i : ℕ) → i < length (child_digests t) → slice_get t.children i ≡ None → ⊥
-child_at t i lt none = missing t.children i (omega (arith, same_length t, lt)) none
-  where
-    missing : (ms : List DirectoryValue) (j : ℕ) → j < length ms → slice_get ms j ≡ None → ⊥
-    missing [] j less e = absurd (omega arith)
-    missing (x ∷ ms) zero less e = cc
-    missing (x ∷ ms) (suc j) less e = missing ms j (omega (arith, less)) e
 
 -- ---- the walk
 
@@ -172,11 +160,6 @@ looks_deeper t m text front more node d next (Ok o) e none stands dir first h =
     looks_first t m text front more (Some node) (looked o) e none stands (subst (λ x. LooksOn t (parts_of more) (Some (node_value x)) (looked o)) (sym dir) (looks_next t d next (parts_of more) (looked o) first h))
 looks_deeper t m text front more node d next (Err e) is none stands dir first h = tt
 
--- below the root
-pub looks_root : (t : TreeValue) (names : List (List ℕ)) (r : Looked) → LooksUnder t t.root names r → LooksInTree t names r
-looks_root t [] r h = elim h [ ]
-looks_root t (name ∷ names) r h = h
-
 -- ---- as the code has it
 
 pub got_child : (t : TreeValue) (d e : DigestValue) (i : ℕ) (ds : List DigestValue) (ms : List DirectoryValue) (o : Option (Bor DirectoryValue)) → (i < length ms → IsSome o) → IfSome o (λ x. x.now ≡ get_or ms i x.now) → ms ≡ t.children → ds ≡ child_digests t → NotAmong d (take i ds) → i < length ds → e ≡ get_or ds i e → e ≡ d → MatchOption o (Contains (child_digests t) d → ⊥) (λ m. IsFirstChild t d m.now)
@@ -209,6 +192,3 @@ pub held_found : {A E : Type 0} (t : TreeValue) (r : Result (Option (Node A)) E)
 held_found t (Ok None) is h = h
 held_found t (Ok (Some x)) is h = held_child t x is h
 held_found t (Err e) is h = h
-
-pub held_root : (t : TreeValue) (d : DigestValue) → IsTree t → d ≡ digest_of (directory_bytes t.root) → IsHeldIn (in_tree t) (Dir d)
-held_root t d is same = (is, (0, omega arith, sym same))

@@ -1,6 +1,6 @@
 -- Which faults tell that the store failed, or the runner.
 use Rattle.std.proofs.Common.{◌≡◌, ℕ, refl, subst, sym}
-use Rattle.std.specs.Prelude.{Result, Err, IsErrOf}
+use Rattle.std.specs.Prelude.{Result, Ok, Err, IsErrOf}
 use Rattle.std.specs.Result.{IsErrAnd}
 use Rattle.std.proofs.lemmas.Result.{err_from_is_err_and}
 use Rattle.runs.specs.declared.error.OpenError.{OpenError}
@@ -13,7 +13,9 @@ use Rattle.worker.specs.declared.error.Refusal.TheVariants as refusals
 use Rattle.worker.specs.declared.laid.LayoutError.TheVariants as layouts
 use Rattle.worker.specs.declared.runner.RunError.TheVariants as children
 use Rattle.worker.proofs.Failures.{counts_as, counts_no}
-use Rattle.builder.specs.Faults.{of_opening, of_refusal, IsStoreFailure, IsRunnerFailure}
+use Rattle.builder.specs.Faults.{of_opening, of_refusal, fault_of, IsStoreFailure, IsRunnerFailure}
+use Rattle.builder.specs.declared.error.BuildPlanError.{BuildPlanError}
+use Rattle.builder.specs.declared.fault.Fault.{Fault}
 use Rattle.builder.specs.declared.fault.Place.{Place}
 
 module _ {A : Type 0} (place : Place) where
@@ -93,3 +95,14 @@ pub exit_device : {U E X : Type 0} (Is : E → Type 0) (x : E) (r : Result U E) 
 exit_device Is x r exit by f =
     let p = err_from_is_err_and r exit in
     by (subst Is p.2 (subst (λ q. IsErrAnd q Is) p.1 f))
+
+-- what a count says of a build's answer, of its fault
+module _ {A T : Type 0} {a b : ℕ} {r : Result T (BuildPlanError A)} where
+  pub failed_as : {e : BuildPlanError A} {x : Fault} → r ≡ Err e → fault_of e ≡ x → Counts a b (IsErrAnd r (λ y. IsRunnerFailure (fault_of y))) → Counts a b (IsRunnerFailure x)
+  failed_as is fault k = subst (λ x. Counts a b (IsRunnerFailure x)) fault (subst (λ q. Counts a b (IsErrAnd q (λ y. IsRunnerFailure (fault_of y)))) is k)
+
+  pub unfailed_as : {e : BuildPlanError A} {x : Fault} → r ≡ Err e → fault_of e ≡ x → (IsRunnerFailure x → ⊥) → Counts a b (IsErrAnd r (λ y. IsRunnerFailure (fault_of y))) → b ≡ a
+  unfailed_as is fault other k = (failed_as is fault k).unfailed other
+
+  pub none_failed : {v : T} → r ≡ Ok v → Counts a b (IsErrAnd r (λ y. IsRunnerFailure (fault_of y))) → b ≡ a
+  none_failed is k = (subst (λ q. Counts a b (IsErrAnd q (λ y. IsRunnerFailure (fault_of y)))) is k).unfailed (λ f. f)

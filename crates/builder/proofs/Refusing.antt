@@ -1,18 +1,15 @@
--- That a build ran, or that memory ran out before one did; and where each step has finished there is
--- a record.
-use Rattle.std.proofs.Common.{◌≡◌, ℕ, List, [], ◌∷◌, Option, Some, None, Result, Err, refl, ap, ◌∙◌, subst}
+-- That a build ran, and what is told of it; and where each step has finished there is a record.
+use Rattle.std.proofs.Common.{◌≡◌, ℕ, List, [], ◌∷◌, Option, Some, None, Result, Err, refl, ap, ◌∙◌}
 use Rattle.std.specs.Prelude.{IsSome, option_map}
 use Rattle.std.specs.List.{AllByRecursion}
 use Rattle.std.specs.Result.{IsErrAnd}
 use Rattle.std.proofs.lemmas.Result.{err_from_is_err_and}
 use Rattle.blob_digest.specs.Digest.{DigestValue}
 use Rattle.blob_source.specs.Source.{AsksSome, Telling}
-use Rattle.blob_source.proofs.Asking.{some_none}
 use Rattle.plan.specs.Record.{RecordValue, names_of}
 use Rattle.plan.specs.Values.{PlanValue}
 use Rattle.runs.specs.Calls.{HaveAllFinished, IsOpened, kept_digests, record_of}
 use Rattle.runs.specs.Engine.{FinishedValue, EngineValue}
-use Rattle.runs.specs.declared.error.OpenError.TheVariants as opening
 use Rattle.worker.specs.Calls.{running, IsBuiltWith}
 use Rattle.worker.specs.Outcomes.{Yields}
 use Rattle.worker.specs.Watching.{IsProgress, IsWatched}
@@ -20,7 +17,6 @@ use Rattle.worker.proofs.Acts.{led_same, puts_act}
 use Rattle.builder.specs.Built.{Builds, BuiltValue, Ran, Seen}
 use Rattle.builder.specs.Telling.{IsBuildTold, Tells}
 use Rattle.builder.specs.declared.error.BuildPlanError.{BuildPlanError}
-use Rattle.builder.specs.declared.error.BuildPlanError.TheVariants.{Opening}
 use Rattle.builder.specs.declared.fault.Fault.{Fault}
 use Rattle.builder.specs.Faults.{fault_of}
 use Rattle.builder.specs.declared.fault.Fault.TheVariants.{Device, Fetch, Memory, Refused}
@@ -45,27 +41,12 @@ ran_by A y most plan sources old new opening ending first last asked opened led 
       later = later;
     }
 
-module _ {A : Type 0} (y : Yields) (most : ℕ) (plan : PlanValue) (sources : DigestValue) where
-  -- memory ran out, and nothing was done
-  pub none_told : (seen : Seen) (r : Result (Told A) Fault) → IsErrAnd r (λ x. x ≡ Memory) → IsBuildTold y most plan sources seen seen r
-  none_told seen r exit =
-      let p = err_from_is_err_and r exit in
-      rw (p.1, p.2) (record {
-        came = Err (Opening opening.Memory);
-        builds = record { asked = some_none seen.store; stands = tt; none = λ before h. h; unfailed = refl; unheard = refl };
-        tells = tt;
-      })
-
-  module _ (old new : Seen) (copy : PlanValue) (came : Result BuiltValue (BuildPlanError A)) (same : copy ≡ plan) (builds : Builds A y most copy sources old new came) where
-    -- what came of a copy of the plan came of the plan
-    pub copy_told : (r : Result (Told A) Fault) → Tells plan r came → IsBuildTold y most plan sources old new r
-    copy_told r tells = record { came = came; builds = subst (λ p. Builds A y most p sources old new came) same builds; tells = tells }
-
-    -- memory ran out as it was told
-    pub memory_told : (r : Result (Told A) Fault) → IsErrAnd r (λ x. x ≡ Memory) → IsBuildTold y most plan sources old new r
-    memory_told r exit =
-        let p = err_from_is_err_and r exit in
-        rw (p.1, p.2) (copy_told (Err Memory) tt)
+-- memory ran out as it was told
+pub memory_told : {A : Type 0} (y : Yields) (most : ℕ) (plan : PlanValue) (sources : DigestValue) (old new : Seen) (came : Result BuiltValue (BuildPlanError A)) → Builds A y most plan sources old new came
+    → (r : Result (Told A) Fault) → IsErrAnd r (λ x. x ≡ Memory) → IsBuildTold y most plan sources old new r
+memory_told y most plan sources old new came builds r exit =
+    let p = err_from_is_err_and r exit in
+    rw (p.1, p.2) (record { came = came; builds = builds; tells = tt })
 
 -- what isn't refused has no number, and is told
 pub fault_told : {A : Type 0} (plan : PlanValue) (error : BuildPlanError A) (fault : Fault) → fault ≡ fault_of error → ((place : Place) (number : ℕ) → fault ≡ Refused place number → ⊥) → Tells plan (Err fault) (Err error)

@@ -43,7 +43,7 @@ impl<A: Allocator> Model for Built<A> {
 /// The root and the record of an engine in which each step has finished.
 fn end<A: Allocator + Copy, S: BlobSink<A>>(
     alloc: A,
-    engine: &Engine<A>,
+    engine: &Engine<'_, A>,
     sink: &mut S,
 ) -> Result<Built<A>, RunsError<A>>
     requires done { HaveAllFinished engine.now }
@@ -70,7 +70,7 @@ fn end<A: Allocator + Copy, S: BlobSink<A>>(
 pub fn build_plan<A: Allocator + Copy, S: BlobSink<A>, N: Runner<A>, W: Watcher>(
     alloc: A,
     sources: Digest,
-    plan: Plan<A>,
+    plan: &Plan<A>,
     sink: &mut S,
     runner: &mut N,
     watcher: &mut W,
@@ -80,7 +80,7 @@ pub fn build_plan<A: Allocator + Copy, S: BlobSink<A>, N: Runner<A>, W: Watcher>
     // One build of the plan ran, from what the store told before, or none was opened: the children,
     // the results and the numbers that the watcher was told are those of its calls. It came to its
     // root, which is answered yes; or the plan, a step or the root is refused, as the error says.
-    ensures build { Builds A (N.yields runner.old) jobs plan sources
+    ensures build { Builds A (N.yields runner.old) jobs plan.now sources
         (seen (S.tells sink.old) (N.starts runner.old) (N.failures runner.old)
         (W.told watcher.old))
         (seen (S.tells sink.new) (N.starts runner.new) (N.failures runner.new)

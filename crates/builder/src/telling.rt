@@ -11,7 +11,7 @@ use crate::fault::{Fault, fault_of};
 use crate::line::{built_line, failed_line};
 use crate::why::why_text;
 use blob_digest::Digest;
-use plan::{Plan, ReadError};
+use plan::Plan;
 use std::alloc::{AllocError, Allocator};
 use tree::BlobSink;
 use worker::{Runner, Watcher};
@@ -34,18 +34,6 @@ pub enum Told<A: Allocator> {
         /// What was refused there, in words.
         why: String<A>,
     },
-}
-
-/// A copy of the plan, read of its own text.
-fn copy_of<A: Allocator + Copy>(alloc: A, plan: &Plan<A>) -> Result<Plan<A>, AllocError>
-    ensures { IfOk result (λ copy. copy ≡ plan.now) }
-{
-    // A read for the prover: a plan is valid.
-    let _ = plan.steps();
-    match Plan::read(alloc, &plan.write(alloc)?) {
-        Ok(copy) => Ok(copy),
-        Err(ReadError::Faulty(_) | ReadError::Memory) => Err(AllocError),
-    }
 }
 
 /// The line, the text of the record and the Directories of a build that came to its root.
@@ -91,14 +79,16 @@ pub fn tell_build<A: Allocator + Copy, S: BlobSink<A>, N: Runner<A>, W: Watcher>
     // Each child that was started was waited for.
     ensures alive { N.alive runner.new ≡ N.alive runner.old }
     ensures right { KeepsRight (S.tells sink.old).blobs (S.tells sink.new).blobs }
-    // The store failed exactly where that is told, and the runner at least there.
+    // The store failed exactly where that is told, and the runner at least there, and there alone
+    // where one job runs at once.
     ensures fetched { Counts (S.tells sink.old).failures (S.tells sink.new).failures
         (IsErrAnd result IsStoreFailure) }
     ensures device { IsErrAnd result IsRunnerFailure
         → N.failures runner.old < N.failures runner.new }
+    ensures alone { jobs ≡ 1 → Counts (N.failures runner.old) (N.failures runner.new)
+        (IsErrAnd result IsRunnerFailure) }
 {
-    let copy = copy_of(alloc, plan)?;
-    match build_plan(alloc, *sources, copy, sink, runner, watcher, jobs) {
+    match build_plan(alloc, *sources, plan, sink, runner, watcher, jobs) {
         Ok(built) => Ok(tell_root(alloc, plan, built)?),
         Err(error) => match fault_of(&error) {
             Fault::Refused(place, number) => Ok(Told::Failed {

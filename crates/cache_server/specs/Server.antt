@@ -51,6 +51,18 @@ StandsOrFails opening old k piece new history =
     ⊎ ((front : List ℕ) × (rest : List ℕ) × (piece ≡ front ++ rest)
     × ServerStands opening new (history ++ (Piece k front ∷ Fail k ∷ [])))
 
+-- the entry leads from the one server to the other, whatever history had led to the one
+abbrev pub LeadsTo : ServerValue → HistoryEntry → ServerValue → Type 0
+LeadsTo old entry new =
+    (opening : CacheValue) (history : List HistoryEntry)
+    → ServerStands opening old history → ServerStands opening new (history ++ entry ∷ [])
+
+-- so does lack of memory while the piece was at hand
+abbrev pub LeadsToFailure : ServerValue → ℕ → List ℕ → ServerValue → Type 0
+LeadsToFailure old k piece new =
+    (opening : CacheValue) (history : List HistoryEntry)
+    → ServerStands opening old history → StandsOrFails opening old k piece new history
+
 -- how many bytes are kept of a request that isn't whole
 abbrev pub held_bytes_at : Option SessionValue → ℕ
 held_bytes_at None = 0

@@ -1,11 +1,11 @@
-ghost use Rattle.std.specs.Prelude.{◌≡◌, ◌↔◌, List, ◌∷◌, ◌++◌, [], take, IfOk, OnErr, OnOk, None};
+ghost use Rattle.std.specs.Prelude.{◌≡◌, ◌↔◌, List, ◌++◌, [], take, IfOk, OnErr, OnOk, None};
 ghost use Rattle.std.specs.Prelude.{IsSome, IsTrue, Some, option_map, unwrap_or};
 ghost use Rattle.http_core.specs.Event.{event_of};
 ghost use Rattle.cache_server.specs.Answer.{text_of};
 ghost use Rattle.cache_server.specs.Cache.{CacheValue};
 ghost use Rattle.cache_server.specs.History.{HistoryEntry, Piece, End, AnswersTo};
-ghost use Rattle.cache_server.specs.Server.{session_at, ServerStands, StandsOrFails, Forgets};
-ghost use Rattle.cache_server.specs.Server.{IsOpenAt, KeepsOthers, held_bytes_at};
+ghost use Rattle.cache_server.specs.Server.{session_at, ServerStands, LeadsTo, LeadsToFailure};
+ghost use Rattle.cache_server.specs.Server.{Forgets, IsOpenAt, KeepsOthers, held_bytes_at};
 ghost use Rattle.cache_server.specs.Sessions.{ClosesAt, FeedsFirstAt, OpensAt};
 ghost use Rattle.cache_server.specs.Turn.{AnswersOne, IsOneAnswerTo};
 
@@ -64,12 +64,8 @@ impl<A: Allocator + Copy> Server<A> {
         ensures answers { IfOk result (λ text. (opening : CacheValue) (history : List HistoryEntry)
             → ServerStands opening self.old history
             → AnswersTo self.old.prefix opening history (Piece connection piece.now) text.items) }
-        ensures ok { OnOk result ((opening : CacheValue) (history : List HistoryEntry)
-            → ServerStands opening self.old history
-            → ServerStands opening self.new (history ++ Piece connection piece.now ∷ [])) }
-        ensures err { OnErr result ((opening : CacheValue) (history : List HistoryEntry)
-            → ServerStands opening self.old history
-            → StandsOrFails opening self.old connection piece.now self.new history) }
+        ensures ok { OnOk result (LeadsTo self.old (Piece connection piece.now) self.new) }
+        ensures err { OnErr result (LeadsToFailure self.old connection piece.now self.new) }
         ensures prefix { self.new.prefix ≡ self.old.prefix }
     {
         self.open(alloc, connection)?;
@@ -103,13 +99,9 @@ impl<A: Allocator + Copy> Server<A> {
             → ServerStands opening self.old history
             → IsOneAnswerTo self.old.prefix opening history (Piece connection (take x.0 piece.now))
             (unwrap_or (option_map text_of x.1) [])) }
-        ensures ok { IfOk result (λ x. (opening : CacheValue) (history : List HistoryEntry)
-            → ServerStands opening self.old history
-            → ServerStands opening self.new
-            (history ++ Piece connection (take x.0 piece.now) ∷ [])) }
-        ensures err { OnErr result ((opening : CacheValue) (history : List HistoryEntry)
-            → ServerStands opening self.old history
-            → StandsOrFails opening self.old connection piece.now self.new history) }
+        ensures ok { IfOk result (λ x.
+            LeadsTo self.old (Piece connection (take x.0 piece.now)) self.new) }
+        ensures err { OnErr result (LeadsToFailure self.old connection piece.now self.new) }
         ensures prefix { self.new.prefix ≡ self.old.prefix }
     {
         self.open(alloc, connection)?;
@@ -146,9 +138,7 @@ impl<A: Allocator + Copy> Server<A> {
 
     /// Forgets the connection.
     pub fn end(&mut self, connection: u64)
-        ensures stands { (opening : CacheValue) (history : List HistoryEntry)
-            → ServerStands opening self.old history
-            → ServerStands opening self.new (history ++ End connection ∷ []) }
+        ensures stands { LeadsTo self.old (End connection) self.new }
         ensures forgets { Forgets self.old connection self.new }
     {
         self.forget(connection);

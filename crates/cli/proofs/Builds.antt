@@ -1,17 +1,14 @@
 -- What a build tells is that of some build of the plan, and why it tells nothing.
-use Rattle.std.proofs.Common.{◌≡◌, ◌≢◌, ◌⊎◌, List, [], Result, Ok, Err, ℕ, inl, inr, refl, subst, string_bytes}
+use Rattle.std.proofs.Common.{◌≡◌, ◌⊎◌, List, [], Result, Ok, Err, ℕ, inl, inr, refl, subst, string_bytes}
 use Rattle.std.specs.Prelude.{codes}
 use Rattle.clap.specs.Words.{Row}
 use Rattle.command_lines.specs.CommandLine.{option_text}
 use Rattle.commands.specs.Places.{FailsOver, FailsToConnect, IsConnected, IsToldOver}
-use Rattle.commands.proofs.Placed.{of_options}
-use Rattle.commands.specs.Options.{IsValidServer}
-use Rattle.commands.specs.Printed.{IsConnectedTo, IsOfOptions}
-use Rattle.commands.specs.Refusal.{IsCommandFault}
+use Rattle.commands.proofs.Placed.{of_options, opened_to}
+use Rattle.commands.specs.Printed.{IsOfOptions}
 use Rattle.commands.specs.World.{Sight}
 use Rattle.commands.specs.declared.error.CommandError.{CommandError}
 use Rattle.commands.specs.declared.error.CommandError.TheVariants.{Memory, Process}
-use Rattle.commands.proofs.Refused.{memory_or_other}
 use Rattle.std.proofs.Math.Logic.{∥∥₁_map}
 use Rattle.std.specs.declared.alloc.Global.{Global}
 use Rattle.std.specs.declared.string.String.{String}
@@ -29,10 +26,10 @@ use Rattle.builder.specs.declared.telling.Told.TheVariants.{Built, Failed}
 use Rattle.plan.specs.Values.{PlanValue}
 use Rattle.remote.specs.Line.{ConnectionValue}
 use Rattle.worker.specs.Outcomes.{Yields}
-use Rattle.cli.specs.Built.{HoldsRoot, IsReadOf, IsToldBy, IsToldOf, NamesJobs, StartsBuild, TellsAsked, any_yields, jobs_of}
+use Rattle.cli.specs.Built.{HoldsRoot, IsReadOf, IsToldBy, IsToldOf, StartsBuild, TellsAsked, any_yields, jobs_of}
 use Rattle.cli.specs.declared.building.Asked.{Asked}
-use Rattle.cli.specs.Refused.{FailsBuild, FailsJobs, FailsTelling, ReachesServer, StopsAtProcess}
-use Rattle.cli.specs.Refused.FailsBuild.{in_jobs, in_memory, in_process, in_server, in_words}
+use Rattle.cli.specs.Refused.{FailsBuild, FailsTelling, ReachesServer, StopsAtProcess}
+use Rattle.cli.specs.Refused.FailsBuild.{in_memory, in_process, in_server}
 
 module _ (source : Telling → Type 0) (plan : PlanValue) (sources : DigestValue) (most : ℕ) (old new : Seen) (before : ∥ source old.store ∥₁) (after : ∥ source new.store ∥₁) (z : Yields) where
   told_of : (r : Result (Told Global) Fault) → IsBuildTold z most plan sources old new r → IsToldBy source most plan sources r
@@ -81,38 +78,21 @@ putting_fails start most plan sources e (inl memory) = inl memory
 putting_fails start most plan sources e (inr over) = inr (inr over)
 
 module _ (sees : Sight) (options : List Row) where
-  -- words that name no jobs
-  pub jobs_fail : (e : CommandError) → (e ≡ Memory) ⊎ FailsJobs options e → FailsBuild sees options e
-  jobs_fail e (inl memory) = in_memory memory
-  jobs_fail e (inr fails) = in_jobs fails
-
-  -- or no server
-  pub words_fail : (e : CommandError) → NamesJobs options → IsCommandFault e → (e ≢ Memory → ¬ IsValidServer options (option_text options (codes "server"))) → FailsBuild sees options e
-  words_fail e jobs is none = elim (memory_or_other e) [
-    | inl memory ↦ in_memory memory
-    | inr other ↦ in_words jobs (record { none = none other; told = is })
-  ]
-
   module _ (asked : Asked) (read : IsReadOf sees options asked) where
     -- the server couldn't be reached
     pub connect_fails : (e : CommandError) → FailsToConnect sees (string_bytes asked.server.address) e → FailsBuild sees options e
-    connect_fails e fails = in_server asked.plan asked.sources read.asks ∣ inl (subst (λ a. FailsToConnect sees a e) read.address fails) ∣₁
+    connect_fails e fails = in_server asked.plan asked.sources read.asks ∣ inl (subst (λ a. FailsToConnect sees a e) read.server.address fails) ∣₁
 
     module _ (start : ConnectionValue) (opened : IsConnected sees (string_bytes asked.server.address) asked.server.host asked.server.prefix start) where
-      opened_to : IsConnectedTo sees options start
-      opened_to = subst (λ (a : List ℕ). IsConnected sees a (option_text options (codes "server")) (option_text options (codes "prefix")) start) read.address
-          (subst (λ (h : List ℕ). IsConnected sees (string_bytes asked.server.address) h (option_text options (codes "prefix")) start) read.host
-          (subst (λ (p : List ℕ). IsConnected sees (string_bytes asked.server.address) asked.server.host p start) read.prefix opened))
-
       pub reaches : ReachesServer sees options
-      reaches = record { plan = asked.plan; sources = asked.sources; asks = read.asks; start = start; opened = opened_to }
+      reaches = record { plan = asked.plan; sources = asked.sources; asks = read.asks; start = start; opened = opened_to sees options asked.server start read.server opened }
 
       module _ (empty : sees.lists (option_text options (codes "work")) []) (fits : sees.takes (option_text options (codes "record"))) where
         starts : StartsBuild sees options asked.plan asked.sources
         starts = record { asks = read.asks; empty = empty; record_fits = fits }
 
         by : (told : Telling) → IsToldOver start told → IsOfOptions sees options told
-        by = of_options sees options asked.server start read.address read.host read.prefix opened
+        by = of_options sees options asked.server start read.server opened
 
         -- what was told is of a build of what was asked for
         pub tells_of : (told : Told Global) → IsToldOf (IsToldOver start) asked.jobs asked.plan asked.sources told → TellsAsked sees options told
@@ -127,4 +107,4 @@ module _ (sees : Sight) (options : List Row) where
         pub telling_fails : (e : CommandError) → FailsTelling start asked.jobs asked.plan asked.sources e → FailsBuild sees options e
         telling_fails e (inl memory) = in_memory memory
         telling_fails e (inr (inl process)) = in_process asked.plan asked.sources starts (stops_by by asked.jobs (jobs_of options) read.jobs asked.plan asked.sources e process)
-        telling_fails e (inr (inr over)) = in_server asked.plan asked.sources read.asks (∥∥₁_map over (λ fails. inr (start, opened_to, fails)))
+        telling_fails e (inr (inr over)) = in_server asked.plan asked.sources read.asks (∥∥₁_map over (λ fails. inr (start, opened_to sees options asked.server start read.server opened, fails)))

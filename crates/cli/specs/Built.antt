@@ -1,5 +1,5 @@
 -- What `build` prints.
-use Rattle.std.specs.Prelude.{◌≡◌, ◌<◌, ◌≤◌, ℕ, List, [], Option, Some, Result, Ok, codes}
+use Rattle.std.specs.Prelude.{◌≡◌, ◌<◌, ℕ, List, [], ◌∷◌, Option, Some, Result, Ok, codes}
 use Rattle.std.specs.Prelude.{string_bytes}
 use Rattle.std.specs.Io.KnownBytes.{Appends}
 use Rattle.std.specs.declared.alloc.Global.{Global}
@@ -13,9 +13,10 @@ use Rattle.builder.specs.declared.telling.Told.{Told}
 use Rattle.builder.specs.declared.telling.Told.TheVariants.{Built, Failed}
 use Rattle.clap.specs.Words.{Row}
 use Rattle.command_lines.specs.CommandLine.{option_text}
-use Rattle.commands.specs.Options.{IsNumber, IsValidServer, number_of}
+use Rattle.commands.specs.Options.{IsServerOf, number_of}
 use Rattle.commands.specs.Printed.{IsOfOptions}
 use Rattle.commands.specs.Refusal.{HasPlanRead}
+use Rattle.commands.specs.Words.{AllValid, Check, IsUpTo, is_wanted, server_words}
 use Rattle.commands.specs.World.{Sight}
 use Rattle.commands.specs.declared.ended.Ended.{Ended}
 use Rattle.commands.specs.declared.ended.Ended.TheVariants.{Done, No}
@@ -70,21 +71,18 @@ IsNoted sees options (Failed line why) = Unit {0}
 abbrev pub jobs_of : List Row → ℕ
 jobs_of options = number_of (option_text options (codes "jobs"))
 
--- a number of jobs from 1 to 64
-pub record NamesJobs (options : List Row) : Type 0 where
-  pub number : IsNumber (option_text options (codes "jobs"))
-  pub some : 0 < jobs_of options
-  pub few : jobs_of options ≤ 64
+abbrev pub names_jobs : List Row → Check
+names_jobs options = is_wanted options (codes "jobs") (codes "a number from 1 to 64")
+    (λ text. IsUpTo 64 text × (0 < number_of text))
 
--- and a server, with what is valid to say of it
-pub record NamesBuild (options : List Row) : Type 0 where
-  pub jobs : NamesJobs options
-  pub server : IsValidServer options (option_text options (codes "server"))
+abbrev pub build_words : List Row → List Check
+build_words options = names_jobs options ∷ server_words options
 
--- and then the plan whose text was read, over the sources whose digest the options spell
+-- the words are valid, and ask for the plan whose text was read, over the sources whose digest they
+-- spell
 pub record AsksBuild (sees : Sight) (options : List Row) (plan : PlanValue) (sources : DigestValue)
     : Type 0 where
-  pub named : NamesBuild options
+  pub words : AllValid (build_words options)
   pub spelled : IsDigestText (option_text options (codes "sources")) sources
   pub plan_is : HasPlanRead sees options plan
 
@@ -92,9 +90,7 @@ pub record AsksBuild (sees : Sight) (options : List Row) (plan : PlanValue) (sou
 pub record IsReadOf (sees : Sight) (options : List Row) (asked : Asked) : Type 0 where
   pub asks : AsksBuild sees options asked.plan asked.sources
   pub jobs : asked.jobs ≡ jobs_of options
-  pub address : string_bytes asked.server.address ≡ option_text options (codes "server")
-  pub host : asked.server.host ≡ option_text options (codes "server")
-  pub prefix : asked.server.prefix ≡ option_text options (codes "prefix")
+  pub server : IsServerOf options asked.server
 
 -- The folder of the jobs was read, and had nothing in it; and the record's file could be written.
 pub record StartsBuild (sees : Sight) (options : List Row) (plan : PlanValue)

@@ -2,7 +2,9 @@
 -- connection, folder, record and work. Of a file, that it can't be read comes before what is wrong
 -- in its text.
 use Rattle.std.specs.Prelude.{◌≡◌, ◌⊎◌, ◌<◌, ℕ, List, [], length, Err, codes, string_bytes}
+use Rattle.std.specs.IoError.{error_kind}
 use Rattle.std.specs.declared.alloc.Global.{Global}
+use Rattle.std.specs.declared.io.ErrorKind.TheVariants.{DirectoryNotEmpty}
 use Rattle.std.specs.declared.string.String.{String}
 use Rattle.blob_digest.specs.Digest.{DigestValue}
 use Rattle.blob_source.specs.Source.{Telling}
@@ -12,11 +14,11 @@ use Rattle.builder.specs.declared.fault.Place.{Place}
 use Rattle.builder.specs.declared.telling.Told.{Told}
 use Rattle.clap.specs.Words.{Row}
 use Rattle.command_lines.specs.CommandLine.{option_text}
-use Rattle.commands.specs.Faults.{IsDigestFault, IsFileFault, IsUnlikeWanted, error_of_file}
-use Rattle.commands.specs.Options.{IsValidServer}
+use Rattle.commands.specs.Faults.{IsDigestFault, IsFaultAtPath, OrMemory, error_of_file}
 use Rattle.commands.specs.Places.{FailsOver, IsToldOver}
 use Rattle.commands.specs.Printed.{IsOfOptions, IsConnectedTo}
-use Rattle.commands.specs.Refusal.{FailsPlan, FailsServer, IsCommandFault, IsPrintFault}
+use Rattle.commands.specs.Refusal.{FailsPlan, FailsServer, IsPrintFault}
+use Rattle.commands.specs.Words.{AllValid, FailsFirst}
 use Rattle.commands.specs.World.{Sight}
 use Rattle.commands.specs.declared.ended.Ended.TheVariants.{Done}
 use Rattle.commands.specs.declared.error.CommandError.{CommandError}
@@ -25,30 +27,23 @@ use Rattle.plan.specs.Values.{PlanValue}
 use Rattle.remote.specs.Line.{ConnectionValue}
 use Rattle.remote.specs.declared.files.FileError.{FileError}
 use Rattle.text_verifier.specs.Refused.{IsSpelled}
-use Rattle.cli.specs.Built.{AsksBuild, IsNoted, IsToldBy, NamesBuild, NamesJobs, StartsBuild}
-use Rattle.cli.specs.Built.{TellsAsked, ended_of, jobs_of}
-
--- the words name no number of jobs
-pub record FailsJobs (options : List Row) (e : CommandError) : Type 0 where
-  pub none : ¬ NamesJobs options
-  pub told : IsUnlikeWanted (codes "jobs") (codes "a number from 1 to 64")
-      (option_text options (codes "jobs")) e
-
--- what they say of a server isn't valid
-pub record FailsServerWords (options : List Row) (e : CommandError) : Type 0 where
-  pub none : ¬ IsValidServer options (option_text options (codes "server"))
-  pub told : IsCommandFault e
+use Rattle.cli.specs.Built.{AsksBuild, IsNoted, IsToldBy, StartsBuild, TellsAsked, build_words}
+use Rattle.cli.specs.Built.{ended_of, jobs_of}
 
 -- the folder at this path has something in it
 pub record HasEntries (sees : Sight) (path : List ℕ) (e : CommandError) : Type 0 where
   pub names : List (List ℕ)
   pub some : 0 < length names
   pub listed : sees.lists path names
-  pub told : IsFileFault path e
+  pub told : IsFaultAtPath path (λ fault. error_kind fault ≡ DirectoryNotEmpty) e
 
 -- what stands at this path can't be read, or can't be written
 abbrev pub FailsAtPath : Sight → List ℕ → CommandError → Type 0
 FailsAtPath sees path e = (f : FileError Global) × sees.fails path f × (e ≡ error_of_file f)
+
+-- no file could be written at this path, or memory ran out
+abbrev pub FailsToWrite : Sight → List ℕ → CommandError → Type 0
+FailsToWrite sees path = OrMemory (IsFaultAtPath path (sees.unwritten path))
 
 -- it is a folder that can't be read or isn't empty, or memory ran out
 abbrev pub FailsFolder : Sight → List ℕ → CommandError → Type 0
@@ -81,12 +76,11 @@ pub record ReachesServer (sees : Sight) (options : List Row) : Type 0 where
 -- told as that.
 pub data FailsBuild (sees : Sight) (options : List Row) (e : CommandError) : Type 0 where
   in_memory : e ≡ Memory → FailsBuild sees options e
-  in_jobs : FailsJobs options e → FailsBuild sees options e
-  in_words : NamesJobs options → FailsServerWords options e → FailsBuild sees options e
-  in_digest : NamesBuild options
+  in_words : FailsFirst (build_words options) e → FailsBuild sees options e
+  in_digest : AllValid (build_words options)
       → IsDigestFault (codes "sources") (option_text options (codes "sources")) e
       → FailsBuild sees options e
-  in_plan : NamesBuild options → IsSpelled (option_text options (codes "sources"))
+  in_plan : AllValid (build_words options) → IsSpelled (option_text options (codes "sources"))
       → FailsPlan sees options e → FailsBuild sees options e
   in_server : (plan : PlanValue) (sources : DigestValue) → AsksBuild sees options plan sources
       → ∥ FailsServer sees (option_text options (codes "server"))
@@ -99,6 +93,6 @@ pub data FailsBuild (sees : Sight) (options : List Row) (e : CommandError) : Typ
       → StopsAtProcess (IsOfOptions sees options) (jobs_of options) plan sources e
       → FailsBuild sees options e
   in_record : (told : Told Global) → TellsAsked sees options told → ended_of told ≡ Done
-      → IsFileFault (option_text options (codes "record")) e → FailsBuild sees options e
+      → FailsToWrite sees (option_text options (codes "record")) e → FailsBuild sees options e
   in_output : (told : Told Global) → TellsAsked sees options told → IsNoted sees options told
       → IsPrintFault e → FailsBuild sees options e

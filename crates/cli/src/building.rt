@@ -1,14 +1,14 @@
-ghost use Rattle.std.specs.Prelude.{◌≡◌, ◌⊎◌, ◌<◌, ◌↔◌, [], IfErr, IfOk, IsSome};
+ghost use Rattle.std.specs.Prelude.{◌≡◌, ◌⊎◌, ◌<◌, ◌↔◌, ◌∷◌, [], IfErr, IfOk, IsSome};
 ghost use Rattle.std.specs.Prelude.{OnErr, OnOk, codes, string_bytes};
 ghost use Rattle.std.specs.Io.KnownBytes.{Appends};
 ghost use Rattle.clap.specs.Words.{found_of, rows_of};
-ghost use Rattle.cli.specs.Built.{HoldsRoot, IsNoted, IsReadOf, IsToldOf, NamesJobs, PrintsBuild};
-ghost use Rattle.cli.specs.Built.{TellsAsked, ended_of, jobs_of, line_of};
-ghost use Rattle.cli.specs.Refused.{FailsBuild, FailsFolder, FailsJobs, FailsTelling};
-ghost use Rattle.commands.specs.Faults.{IsFileFault};
+ghost use Rattle.cli.specs.Built.{HoldsRoot, IsNoted, IsReadOf, IsToldOf, PrintsBuild, TellsAsked};
+ghost use Rattle.cli.specs.Built.{ended_of, jobs_of, line_of, names_jobs};
+ghost use Rattle.cli.specs.Refused.{FailsBuild, FailsFolder, FailsTelling, FailsToWrite};
 ghost use Rattle.commands.specs.Places.{FailsOver, IsFresh, IsToldOver};
 ghost use Rattle.commands.specs.Refusal.{IsPrintFault};
 ghost use Rattle.commands.specs.Status.{status_of};
+ghost use Rattle.commands.specs.Words.{IsCheckedBy};
 ghost use Rattle.command_lines.specs.CommandLine.{IsSet, option_text};
 ghost use Rattle.remote.specs.Remote.{connection_of};
 
@@ -46,10 +46,8 @@ struct Asked {
 
 /// The number of jobs that the words give.
 fn read_jobs(alloc: Global, matches: &ArgMatches<'_>) -> Result<usize, CommandError>
-    ensures named { OnOk result (NamesJobs (rows_of (found_of matches.now))) }
     ensures found { IfOk result (λ jobs. jobs ≡ jobs_of (rows_of (found_of matches.now))) }
-    ensures refused { IfErr result
-        (λ e. (e ≡ CommandError.Memory) ⊎ FailsJobs (rows_of (found_of matches.now)) e) }
+    ensures checked { IsCheckedBy (names_jobs (rows_of (found_of matches.now)) ∷ []) result }
 {
     let text = text_of(matches, "jobs");
     match number_in(text) {
@@ -68,7 +66,7 @@ fn read_asked<W: World>(
     ensures refused { IfErr result (FailsBuild W.sees (rows_of (found_of matches.now))) }
 {
     let jobs = read_jobs(alloc, matches)?;
-    let server = read_server(alloc, matches, text_of(matches, "server"))?;
+    let server = read_server(alloc, matches)?;
     let sources = read_digest(alloc, matches, "sources")?;
     let plan = plan_in_file(alloc, world, matches)?;
     Ok(Asked {
@@ -182,7 +180,7 @@ fn write_record<W: World>(
     ensures noted { OnOk result (IsNoted W.sees (rows_of (found_of matches.now)) told.now) }
     ensures whole { OnErr result (ended_of told.now ≡ Ended.Done) }
     ensures fault { IfErr result
-        (IsFileFault (option_text (rows_of (found_of matches.now)) (codes "record"))) }
+        (FailsToWrite W.sees (option_text (rows_of (found_of matches.now)) (codes "record"))) }
     ensures status { IfErr result (λ e. status_of e ≡ 3) }
 {
     match told {

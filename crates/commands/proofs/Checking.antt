@@ -4,10 +4,10 @@ use Rattle.std.specs.Prelude.{Result}
 use Rattle.std.specs.Result.{IsErrAnd}
 use Rattle.std.proofs.lemmas.Result.{err_from_is_err_and}
 use Rattle.commands.specs.Faults.{OrMemory}
-use Rattle.commands.specs.ServeRefused.{AreValid, Check, Checks, FailsFirst}
+use Rattle.commands.specs.Words.{AllValid, Check, FailsFirst, IsCheckedBy}
 use Rattle.commands.specs.declared.error.CommandError.{CommandError}
 
-fails_later : (before after : List Check) (e : CommandError) → AreValid before → FailsFirst after e → FailsFirst (before ++ after) e
+fails_later : (before after : List Check) (e : CommandError) → AllValid before → FailsFirst after e → FailsFirst (before ++ after) e
 fails_later [] after e valid fails = fails
 fails_later (check ∷ before) after e valid fails = inr (valid.0, fails_later before after e valid.1 fails)
 
@@ -16,14 +16,14 @@ fails_within [] after e fails = absurd fails
 fails_within (check ∷ checks) after e (inl fails) = inl fails
 fails_within (check ∷ checks) after e (inr fails) = inr (fails.0, fails_within checks after e fails.1)
 
-fails_in : (before checks after : List Check) (e : CommandError) → AreValid before → OrMemory (FailsFirst checks) e → OrMemory (FailsFirst (before ++ (checks ++ after))) e
+pub fails_in : (before checks after : List Check) (e : CommandError) → AllValid before → OrMemory (FailsFirst checks) e → OrMemory (FailsFirst (before ++ (checks ++ after))) e
 fails_in before checks after e valid (inl memory) = inl memory
 fails_in before checks after e valid (inr fails) = inr (fails_later before (checks ++ after) e valid (fails_within checks after e fails))
 
 -- words at fault, behind others that aren't
 pub checks_exit : {T : Type 0} (before checks after : List Check) (r : Result T CommandError) (x : CommandError)
-    → AreValid before → OrMemory (FailsFirst checks) x → IsErrAnd r (λ y. y ≡ x) → Checks (before ++ (checks ++ after)) r
+    → AllValid before → OrMemory (FailsFirst checks) x → IsErrAnd r (λ y. y ≡ x) → IsCheckedBy (before ++ (checks ++ after)) r
 checks_exit {T} before checks after r x valid fails exit =
     let p = err_from_is_err_and r exit in
-    subst (λ (q : Result T CommandError). Checks (before ++ (checks ++ after)) q) (sym p.1)
+    subst (λ (q : Result T CommandError). IsCheckedBy (before ++ (checks ++ after)) q) (sym p.1)
     (subst (OrMemory (FailsFirst (before ++ (checks ++ after)))) (sym p.2) (fails_in before checks after x valid fails))

@@ -1,5 +1,5 @@
 -- What a get wrote, over the connection that was opened, or why nothing was written.
-use Rattle.std.proofs.Common.{◌≡◌, ◌∙◌, ◌⊎◌, ℕ, List, inl, inr, subst, sym, Ok, Err, IfErr, IfOk, OnErr, string_bytes}
+use Rattle.std.proofs.Common.{◌≡◌, ◌⊎◌, ℕ, List, inl, inr, subst, sym, Ok, Err, IfErr, IfOk, OnErr, string_bytes}
 use Rattle.std.specs.Prelude.{Option, Result, codes}
 use Rattle.std.specs.declared.alloc.Global.{Global}
 use Rattle.blob_digest.specs.Digest.{DigestValue}
@@ -13,9 +13,10 @@ use Rattle.text_verifier.specs.Texts.{IsDigestText}
 use Rattle.commands.specs.GetRefused.{FailsGet, FailsGot, FailsGetTree, TellsTree}
 use Rattle.commands.specs.GetRefused.FailsGet.{in_work}
 use Rattle.commands.specs.GetRefused.FailsGetTree.{in_memory, in_tree}
-use Rattle.commands.specs.Options.{IsValidServer}
+use Rattle.commands.specs.Options.{IsServerOf}
 use Rattle.commands.specs.Places.{IsConnected, IsToldOver}
 use Rattle.commands.specs.Printed.{GetsAsked, IsGot, StartsGet}
+use Rattle.commands.specs.Words.{AllValid, server_words}
 use Rattle.commands.specs.World.{Sight}
 use Rattle.commands.specs.declared.connecting.ServerOptions.{ServerOptions}
 use Rattle.commands.specs.declared.ended.Ended.{Ended}
@@ -36,15 +37,10 @@ tree_fails sees start address digest folder told error e over fails (inr tells) 
 -- ---- by the options
 
 module _ (sees : Sight) (options : List Row) (start : ConnectionValue) (digest : DigestValue) where
-  pub starts_get : (server : ServerOptions) (asked : List ℕ) → asked ≡ option_text options (codes "server")
-      → string_bytes server.address ≡ asked → server.host ≡ asked → server.prefix ≡ option_text options (codes "prefix")
-      → IsValidServer options asked → IsDigestText (option_text options (codes "digest")) digest
+  pub starts_get : (server : ServerOptions) → IsServerOf options server → AllValid (server_words options)
+      → IsDigestText (option_text options (codes "digest")) digest
       → IsConnected sees (string_bytes server.address) server.host server.prefix start → StartsGet sees options digest start
-  starts_get server asked is address host prefix valid spelled opened = record {
-    server = subst (IsValidServer options) is valid;
-    spelled = spelled;
-    opened = opened_to sees options server start (address ∙ is) (host ∙ is) prefix opened;
-  }
+  starts_get server is words spelled opened = record { words = words; spelled = spelled; opened = opened_to sees options server start is opened }
 
   module _ (starts : StartsGet sees options digest start) (into : Option (List ℕ)) (is : first_of (codes "into") options ≡ into)
       (result : Result Ended CommandError) where

@@ -14,18 +14,15 @@ use Rattle.verifier.specs.declared.verdict.Verdict.{Verdict}
 use Rattle.text_verifier.specs.declared.answering.Answer.{Answer}
 use Rattle.text_verifier.specs.declared.lack.Lack.{Lack}
 use Rattle.remote.specs.Line.{ConnectionValue}
+use Rattle.commands.specs.Options.{IsServerOf}
 use Rattle.commands.specs.Places.{FailsInFolder, IsOfFolder, IsOfServer, IsConnected, IsAnsweredBy, IsToldOver, LacksAtServer, LacksInFolder}
-use Rattle.commands.specs.Printed.{IsConnectedTo, IsOfOptions, IsOfPlace, IsNamedPlace, LacksAtPlace, NamesPlace}
-use Rattle.commands.specs.Refusal.{FailsPlace, FailsServer}
+use Rattle.commands.specs.Printed.{IsConnectedTo, IsOfOptions, IsOfPlace, IsNamedPlace, LacksAtPlace}
+use Rattle.commands.specs.Refusal.{FailsAtPlace, FailsServer}
 use Rattle.commands.specs.World.{Sight}
 use Rattle.commands.specs.declared.connecting.ServerOptions.{ServerOptions}
 use Rattle.commands.specs.declared.error.CommandError.{CommandError}
 use Rattle.commands.specs.declared.verifying.Build.{Build}
 use Rattle.commands.specs.declared.verifying.Build.TheVariants.{Folder, Server}
-
-pub names_place : (options : List Row) (build : Build) → IsNamedPlace options build → NamesPlace options
-names_place options (Folder folder) place = inl place.0
-names_place options (Server server) place = inr place.0
 
 -- ---- what is missing
 
@@ -63,9 +60,9 @@ module _ (sees : Sight) (options : List Row) where
         (λ l lacks. inl (place.0, subst (λ f. LacksInFolder sees f l) place.1 lacks)) h
 
     pub in_folder_fails : (result : Result (Answer Global) CommandError) → IsNamedPlace options (Folder folder)
-        → IfErr result (λ e. ∥ FailsInFolder sees (string_bytes folder) e ∥₁) → IfErr result (λ e. ∥ FailsPlace sees options e ∥₁)
+        → IfErr result (λ e. ∥ FailsInFolder sees (string_bytes folder) e ∥₁) → IfErr result (λ e. ∥ FailsAtPlace sees options e ∥₁)
     in_folder_fails result place h =
-        IfErr-weaker result (λ e. ∥ FailsInFolder sees (string_bytes folder) e ∥₁) (λ e. ∥ FailsPlace sees options e ∥₁)
+        IfErr-weaker result (λ e. ∥ FailsInFolder sees (string_bytes folder) e ∥₁) (λ e. ∥ FailsAtPlace sees options e ∥₁)
         (λ e is. ∥∥₁_map is (λ fails. inl (place.0, subst (λ f. FailsInFolder sees f e) place.1 fails))) h
 
   module _ (server : ServerOptions) where
@@ -77,43 +74,33 @@ module _ (sees : Sight) (options : List Row) where
         (LacksAtServer sees (string_bytes server.address) server.prefix) (LacksAtPlace sees options)
         (λ t told. inr (
           place.0,
-          subst (λ a. IsOfServer sees a (option_text options (codes "prefix")) t) place.1
-              (subst (λ p. IsOfServer sees (string_bytes server.address) p t) place.3 told),
+          subst (λ a. IsOfServer sees a (option_text options (codes "prefix")) t) place.1.address
+              (subst (λ p. IsOfServer sees (string_bytes server.address) p t) place.1.prefix told),
         ))
         (λ l lacks. inr (
           place.0,
-          subst (λ a. LacksAtServer sees a (option_text options (codes "prefix")) l) place.1
-              (subst (λ p. LacksAtServer sees (string_bytes server.address) p l) place.3 lacks),
+          subst (λ a. LacksAtServer sees a (option_text options (codes "prefix")) l) place.1.address
+              (subst (λ p. LacksAtServer sees (string_bytes server.address) p l) place.1.prefix lacks),
         )) h
 
     pub on_server_fails : (result : Result (Answer Global) CommandError) → IsNamedPlace options (Server server)
-        → IfErr result (λ e. ∥ FailsServer sees (string_bytes server.address) server.prefix e ∥₁) → IfErr result (λ e. ∥ FailsPlace sees options e ∥₁)
+        → IfErr result (λ e. ∥ FailsServer sees (string_bytes server.address) server.prefix e ∥₁) → IfErr result (λ e. ∥ FailsAtPlace sees options e ∥₁)
     on_server_fails result place h =
-        IfErr-weaker result (λ e. ∥ FailsServer sees (string_bytes server.address) server.prefix e ∥₁) (λ e. ∥ FailsPlace sees options e ∥₁)
+        IfErr-weaker result (λ e. ∥ FailsServer sees (string_bytes server.address) server.prefix e ∥₁) (λ e. ∥ FailsAtPlace sees options e ∥₁)
         (λ e is. ∥∥₁_map is (λ fails. inr (
           place.0,
-          subst (λ a. FailsServer sees a (option_text options (codes "prefix")) e) place.1
-              (subst (λ p. FailsServer sees (string_bytes server.address) p e) place.3 fails),
+          subst (λ a. FailsServer sees a (option_text options (codes "prefix")) e) place.1.address
+              (subst (λ p. FailsServer sees (string_bytes server.address) p e) place.1.prefix fails),
         ))) h
 
--- a connection to the server that the options name
-pub opened_to : (sees : Sight) (options : List Row) (server : ServerOptions) (start : ConnectionValue)
-    → string_bytes server.address ≡ option_text options (codes "server")
-    → server.host ≡ option_text options (codes "server") → server.prefix ≡ option_text options (codes "prefix")
-    → IsConnected sees (string_bytes server.address) server.host server.prefix start → IsConnectedTo sees options start
-opened_to sees options server start address host prefix opened =
-    subst (λ a. IsConnected sees a (option_text options (codes "server")) (option_text options (codes "prefix")) start) address
-    (subst (λ h. IsConnected sees (string_bytes server.address) h (option_text options (codes "prefix")) start) host
-    (subst (λ p. IsConnected sees (string_bytes server.address) server.host p start) prefix opened))
+module _ (sees : Sight) (options : List Row) (server : ServerOptions) (start : ConnectionValue) (is : IsServerOf options server)
+    (opened : IsConnected sees (string_bytes server.address) server.host server.prefix start) where
+  -- a connection to the server that the options name
+  pub opened_to : IsConnectedTo sees options start
+  opened_to = subst (λ a. IsConnected sees a (option_text options (codes "server")) (option_text options (codes "prefix")) start) is.address
+      (subst (λ h. IsConnected sees (string_bytes server.address) h (option_text options (codes "prefix")) start) is.host
+      (subst (λ p. IsConnected sees (string_bytes server.address) server.host p start) is.prefix opened))
 
--- a client over a connection that was opened to the server that the options name
-pub of_options : (sees : Sight) (options : List Row) (server : ServerOptions) (start : ConnectionValue)
-    → string_bytes server.address ≡ option_text options (codes "server")
-    → server.host ≡ option_text options (codes "server") → server.prefix ≡ option_text options (codes "prefix")
-    → IsConnected sees (string_bytes server.address) server.host server.prefix start
-    → (told : Telling) → IsToldOver start told → IsOfOptions sees options told
-of_options sees options server start address host prefix opened told over = record {
-  start = start;
-  opened = opened_to sees options server start address host prefix opened;
-  over = over;
-}
+  -- a client over it
+  pub of_options : (told : Telling) → IsToldOver start told → IsOfOptions sees options told
+  of_options told over = record { start = start; opened = opened_to; over = over }

@@ -1,5 +1,5 @@
 -- What a refused put is told for.
-use Rattle.std.proofs.Common.{◌≡◌, ◌≢◌, ◌⊎◌, ◌∙◌, ◌-◌, ◌<◌, ℕ, suc, List, ◌∷◌, ◌++◌, Option, Some, None, Result, Ok, Err, IfErr, ap, arith, codes, inl, inr, get_or, length, map, refl, string_bytes, subst, sym}
+use Rattle.std.proofs.Common.{◌≡◌, ◌∙◌, ◌-◌, ◌<◌, ℕ, suc, List, ◌∷◌, ◌++◌, Option, Some, None, Result, Ok, Err, IfErr, ap, arith, codes, inl, inr, get_or, length, map, refl, string_bytes, subst, sym}
 use Rattle.std.proofs.Math.Logic.{∥∥₁_map}
 use Rattle.std.proofs.lemmas.List.{get_or-map, length-map}
 use Rattle.std.specs.declared.alloc.Global.{Global}
@@ -12,48 +12,21 @@ use Rattle.messages.specs.Directory.{directory_bytes}
 use Rattle.messages.specs.DirectoryRules.{DirectoryValue, IsDirectory}
 use Rattle.remote.specs.Line.{ConnectionValue, RefusesRequest, put}
 use Rattle.remote.specs.declared.fault.Fault.{Fault}
-use Rattle.clap.specs.Words.{Row}
-use Rattle.command_lines.specs.CommandLine.{option_text}
 use Rattle.commands.specs.Children.{AreNamed}
 use Rattle.commands.specs.Faults.{TellsRefusal}
-use Rattle.commands.specs.Options.{IsValidServer}
 use Rattle.commands.specs.Places.{Comes}
 use Rattle.commands.specs.PutRefused.{FailsBelow, FailsHere, HasEntry, HasNoName, LinksToNoText, RefusesPut}
 use Rattle.commands.specs.Faults.{IsEntryFault, OrMemory}
 use Rattle.commands.specs.PutRefused.FailsBelow.{below, here, too_deep}
 use Rattle.commands.specs.PutRefused.FailsHere.{file_refused, folder_refused, in_memory, name_twice, no_name, no_text}
-use Rattle.commands.specs.PutRefused.{FailsPut}
-use Rattle.commands.specs.PutRefused.FailsPut.{in_memory as lacks_memory, in_words}
-use Rattle.commands.specs.Refusal.{IsCommandFault, IsPrintFault}
+use Rattle.commands.specs.Refusal.{IsPrintFault}
 use Rattle.commands.specs.Status.{status_of}
 use Rattle.commands.specs.World.{Sight, a_link}
 use Rattle.commands.specs.declared.connecting.ServerOptions.{ServerOptions}
 use Rattle.commands.specs.declared.error.CommandError.{CommandError}
-use Rattle.commands.specs.declared.error.CommandError.TheVariants.{Accept, Address, Connection, Digest, Entry, File, Memory, NotAFile, Number}
-use Rattle.commands.specs.declared.error.CommandError.TheVariants.{Output, Process, Random, Server, Text, TooLarge, Unlike, Words, WrongBytes}
+use Rattle.commands.specs.declared.error.CommandError.TheVariants.{Memory, Output}
 use Rattle.commands.proofs.Order.{Follows}
 use Rattle.commands.proofs.SoFar.{IsPutSoFar}
-
--- whether memory ran out
-pub memory_or_other : (e : CommandError) → (e ≡ Memory) ⊎ (e ≢ Memory)
-memory_or_other Memory = inl refl
-memory_or_other (Words t) = inr (λ q. cc)
-memory_or_other (Digest o t f) = inr (λ q. cc)
-memory_or_other (Number o g t) = inr (λ q. cc)
-memory_or_other (Text p f h) = inr (λ q. cc)
-memory_or_other (Unlike o w t) = inr (λ q. cc)
-memory_or_other (File p f) = inr (λ q. cc)
-memory_or_other (NotAFile p) = inr (λ q. cc)
-memory_or_other (TooLarge p) = inr (λ q. cc)
-memory_or_other (Entry p f) = inr (λ q. cc)
-memory_or_other (Connection s f) = inr (λ q. cc)
-memory_or_other (Server s a d f) = inr (λ q. cc)
-memory_or_other (WrongBytes s d) = inr (λ q. cc)
-memory_or_other (Address t f) = inr (λ q. cc)
-memory_or_other (Accept f) = inr (λ q. cc)
-memory_or_other (Process p) = inr (λ q. cc)
-memory_or_other (Random f) = inr (λ q. cc)
-memory_or_other (Output f) = inr (λ q. cc)
 
 -- a request that was refused, as the error tells it
 pub blob_refused : (start old new : ConnectionValue) (address bytes : List ℕ) (fault : Option Fault) (refusal : FetchError) (e : CommandError)
@@ -126,16 +99,9 @@ module _ (sees : Sight) (start : ConnectionValue) (address place : List ℕ) whe
   directory_fails left names d bytes (Ok digest) valid lists so_far is fails = tt
   directory_fails left names d bytes (Err e) valid lists so_far is fails =
       here left place (or_memory (λ x. ∥ RefusesPut start address bytes x ∥₁) (FailsHere sees start address place) e in_memory
-      (λ refuses. folder_refused d valid (record { names = names; read = lists; all = so_far.all }) (subst (λ b. ∥ RefusesPut start address b e ∥₁) is refuses)) fails)
+      (λ refuses. folder_refused d valid (record { names = names; read = lists; all = so_far.all; only = so_far.only }) (subst (λ b. ∥ RefusesPut start address b e ∥₁) is refuses)) fails)
 
 -- ---- the whole command
-
-pub words_fail : (sees : Sight) (options : List Row) (e : CommandError) → IsCommandFault e
-    → (e ≢ Memory → ¬ IsValidServer options (option_text options (codes "server"))) → FailsPut sees options e
-words_fail sees options e fault invalid = elim (memory_or_other e) [
-  | inl memory ↦ lacks_memory memory
-  | inr other ↦ in_words fault (invalid other)
-]
 
 -- the status of what can't be printed
 pub printed_status : (e : CommandError) → OrMemory IsPrintFault e → status_of e ≡ 3

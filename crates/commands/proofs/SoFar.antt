@@ -2,7 +2,7 @@
 use Rattle.std.proofs.Common.{◌≡◌, ◌∙◌, ◌+◌, ◌<◌, ◌≤◌, ℕ, List, [], ◌∷◌, ◌++◌, Some, Result, Ok, Err, IfOk, OnOk, ap, arith, false, get_or, inl, inr, length, map, subst, sym, take, string_bytes}
 use Rattle.std.specs.List.{Contains}
 use Rattle.std.proofs.lemmas.List.{get_or-map, length-map, take_all, take_more}
-use Rattle.std.proofs.lemmas.List.Elements.{Contains-push_cases}
+use Rattle.std.proofs.lemmas.List.Elements.{Contains-append_left, Contains-push, Contains-push_cases}
 use Rattle.std.specs.declared.alloc.Global.{Global}
 use Rattle.std.specs.declared.string.String.{String}
 use Rattle.messages.specs.Directory.{directory_bytes}
@@ -22,9 +22,10 @@ use Rattle.commands.specs.declared.world.Found.{Found}
 use Rattle.commands.specs.declared.world.Found.TheVariants as found
 use Rattle.commands.proofs.Order.{Follows, follows_on, nothing_follows}
 
--- each name that was read has a child, and each child was read at its place
+-- each name that was read has a child, and each child has one of them and was read at its place
 pub record IsPutSoFar (sees : Sight) (start : ConnectionValue) (place : List ℕ) (names : List (List ℕ)) (d : DirectoryValue) : Type 0 where
   pub all : (n : List ℕ) → Contains names n → (x : NodeValue) × IsChild n d (Some x)
+  pub only : (n : List ℕ) (x : NodeValue) → IsChild n d (Some x) → Contains names n
   pub stand : (n : List ℕ) (x : NodeValue) → IsChild n d (Some x) → StandsAs sees (place ++ 47 ∷ n) x
   pub are_put : (n : List ℕ) (x : NodeValue) → IsChild n d (Some x) → IsPutAt sees start (place ++ 47 ∷ n) x
   pub follows : Follows names d
@@ -41,6 +42,7 @@ module _ (sees : Sight) (start : ConnectionValue) (place : List ℕ) where
   pub nothing_put : IsPutSoFar sees start place [] no_children
   nothing_put = record {
     all = λ n has. absurd (nothing_in n has);
+    only = λ n x is. absurd (no_child n x is);
     stand = λ n x is. absurd (no_child n x is);
     are_put = λ n x is. absurd (no_child n x is);
     follows = nothing_follows;
@@ -53,6 +55,10 @@ module _ (sees : Sight) (start : ConnectionValue) (place : List ℕ) where
     all = λ m has. elim (Contains-push_cases names n m has) [
       | inl before ↦ let is = so_far.all m before in (is.0, more.kept m is.0 is.1)
       | inr one ↦ (x, subst (λ k. IsChild k new (Some x)) one more.added)
+    ];
+    only = λ m y is. elim (more.only m y is) [
+      | inl before ↦ Contains-append_left names (n ∷ []) m (so_far.only m y before)
+      | inr same ↦ subst (Contains (names ++ n ∷ [])) (sym same.0) (Contains-push names n)
     ];
     stand = λ m y is. elim (more.only m y is) [
       | inl before ↦ so_far.stand m y before
@@ -67,7 +73,7 @@ module _ (sees : Sight) (start : ConnectionValue) (place : List ℕ) where
 
   pub all_put : (names : List (List ℕ)) (d : DirectoryValue) → IsDirectory d → sees.lists place names → IsPutSoFar sees start place names d
       → ∥ TakesBlob start (directory_bytes d) ∥₁ → IsPutAt sees start place (Dir (digest_of (directory_bytes d)))
-  all_put names d valid lists so_far taken = folder_put place d valid (record { names = names; read = lists; all = so_far.all }) so_far.stand so_far.are_put taken
+  all_put names d valid lists so_far taken = folder_put place d valid (record { names = names; read = lists; all = so_far.all; only = so_far.only }) so_far.stand so_far.are_put taken
 
   -- the next of the names
   pub next_put : (names : List (String Global)) (i : ℕ) (item : String Global) (n : List ℕ) (x : NodeValue) (old new : DirectoryValue)

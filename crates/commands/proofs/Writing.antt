@@ -1,5 +1,5 @@
 -- Texts that are written in pieces.
-use Rattle.std.proofs.Common.{◌≡◌, ℕ, ◌<◌, ◌-◌, List, [], ◌∷◌, ◌++◌, ◌∙◌, length, sym, ap, subst, refl, take, drop, take-append-drop, append_assoc, length-append, length-drop, Result, Ok, Err, OnOk, OnErr, arith}
+use Rattle.std.proofs.Common.{◌≡◌, ◌⊎◌, ℕ, ◌<◌, ◌-◌, List, [], ◌∷◌, ◌++◌, ◌∙◌, length, sym, ap, subst, refl, take, drop, take-append-drop, append_assoc, length-append, length-drop, Result, Ok, Err, OnOk, OnErr, arith}
 use Rattle.std.specs.List.{Contains}
 use Rattle.std.proofs.lemmas.List.{append-nil}
 use Rattle.std.proofs.lemmas.List.Elements.{Contains-append_left}
@@ -9,6 +9,7 @@ use Rattle.std.specs.Fmt.{debug_str}
 use Rattle.std.specs.Prelude.{IfSome, None, Option, Some, string_bytes}
 use Rattle.std.specs.Io.KnownBytes.{Appends, Keeps}
 use Rattle.std.proofs.KnownBytes.{Appends-nil, Appends-trans, Appends-kept}
+use Rattle.commands.specs.ErrorText.{IsErrorText}
 use Rattle.commands.specs.Told.{AppendsBeginning, AppendsPart, AppendsUpTo, IsNoteText, PrintsNoLine, TellsNote, TellsOf, line_after, no_blob_text}
 use Rattle.commands.specs.declared.ended.Note.{Note}
 use Rattle.commands.specs.declared.ended.Note.TheVariants.{NoBlob, NoStore, Refused}
@@ -91,10 +92,10 @@ none_in_nothing : HasNoNewline []
 none_in_nothing (k, lt, e) = omega arith
 
 -- a line was told up to here, and what is written stays
-pub tells_by : (error : CommandError) (old mid new : Option (List ℕ)) (text line : List ℕ) → line ≡ line_after (codes "error: ") text
-    → (error ≡ Memory → text ≡ codes "out of memory") → AppendsBeginning old mid line → Keeps mid new → TellsOf error old new
-tells_by error old mid new text line is memory begun same =
-    record { text = text; memory = memory; appended = beginning_kept old mid new (line_after (codes "error: ") text) (subst (AppendsBeginning old mid) is begun) same }
+pub tells_by : (error : CommandError) (old mid new : Option (List ℕ)) (text line : List ℕ) → IsErrorText error text ⊎ IsErrorText Memory text
+    → line ≡ line_after (codes "error: ") text → AppendsBeginning old mid line → Keeps mid new → TellsOf error old new
+tells_by error old mid new text line words is begun same =
+    record { text = text; is = words; appended = beginning_kept old mid new (line_after (codes "error: ") text) (subst (AppendsBeginning old mid) is begun) same }
 
 pub note_by : (note : Note) (old mid new : Option (List ℕ)) (text line : List ℕ) → IsNoteText note text → line ≡ line_after (codes "note: ") text
     → AppendsBeginning old mid line → Keeps mid new → TellsNote note old new

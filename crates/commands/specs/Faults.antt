@@ -9,6 +9,7 @@ use Rattle.remote.specs.declared.fault.Fault.{Fault}
 use Rattle.remote.specs.declared.files.FileError.{FileError}
 use Rattle.remote.specs.declared.files.FileError.TheVariants as files
 use Rattle.std.specs.declared.alloc.Global.{Global}
+use Rattle.std.specs.declared.io.Error.{Error}
 use Rattle.commands.specs.declared.error.CommandError.{CommandError}
 use Rattle.commands.specs.declared.error.CommandError.TheVariants.{Digest, Entry, File, NotAFile}
 use Rattle.commands.specs.declared.error.CommandError.TheVariants.{Memory, Server, TooLarge, Unlike}
@@ -29,13 +30,10 @@ error_of_file (files.NotAFile path) = NotAFile path
 error_of_file (files.TooLarge path) = TooLarge path
 error_of_file files.Memory = Memory
 
--- the file at this path is at fault, or memory ran out
-abbrev pub IsFileFault : List ℕ → CommandError → Type 0
-IsFileFault path (File p fault) = string_bytes p ≡ path
-IsFileFault path (NotAFile p) = string_bytes p ≡ path
-IsFileFault path (TooLarge p) = string_bytes p ≡ path
-IsFileFault path Memory = Unit {0}
-IsFileFault path _ = ⊥
+-- this fault is told of what stands at the path
+abbrev pub IsFaultAtPath : List ℕ → (Error → Type 0) → CommandError → Type 0
+IsFaultAtPath path is (File p fault) = (string_bytes p ≡ path) × is fault
+IsFaultAtPath path is _ = ⊥
 
 -- the text of the option isn't what is wanted
 abbrev pub IsUnlikeWanted : List ℕ → List ℕ → List ℕ → CommandError → Type 0

@@ -13,10 +13,10 @@ use Rattle.clap.specs.Words.{Row, first_of}
 use Rattle.command_lines.specs.CommandLine.{option_text}
 use Rattle.commands.specs.Faults.{IsDigestFault, IsEntryFault, TellsRefusal}
 use Rattle.commands.specs.Got.{IsBlobOver}
-use Rattle.commands.specs.Options.{IsValidServer}
 use Rattle.commands.specs.Places.{CameOver, Comes, FailsOver, FailsToConnect, IsToldOver, LacksOver}
 use Rattle.commands.specs.Printed.{StartsGet}
-use Rattle.commands.specs.Refusal.{IsCommandFault, IsPrintFault}
+use Rattle.commands.specs.Refusal.{IsPrintFault}
+use Rattle.commands.specs.Words.{AllValid, FailsFirst, server_words}
 use Rattle.commands.specs.World.{Sight}
 use Rattle.commands.specs.declared.error.CommandError.{CommandError}
 use Rattle.commands.specs.declared.error.CommandError.TheVariants.{File, Memory, WrongBytes}
@@ -92,13 +92,11 @@ FailsGot sees (Some folder) start address digest e = FailsGetTree sees start add
 -- told as that.
 pub data FailsGet (sees : Sight) (options : List Row) (e : CommandError) : Type 0 where
   in_memory : e ≡ Memory → FailsGet sees options e
-  in_words : IsCommandFault e → ¬ IsValidServer options (option_text options (codes "server"))
-      → FailsGet sees options e
-  in_digest : IsValidServer options (option_text options (codes "server"))
+  in_words : FailsFirst (server_words options) e → FailsGet sees options e
+  in_digest : AllValid (server_words options)
       → IsDigestFault (codes "digest") (option_text options (codes "digest")) e
       → FailsGet sees options e
-  in_server : IsValidServer options (option_text options (codes "server"))
-      → IsSpelled (option_text options (codes "digest"))
+  in_server : AllValid (server_words options) → IsSpelled (option_text options (codes "digest"))
       → FailsToConnect sees (option_text options (codes "server")) e → FailsGet sees options e
   in_work : (digest : DigestValue) (start : ConnectionValue)
       → StartsGet sees options digest start

@@ -1,5 +1,6 @@
 pub mod Children
 pub mod Ended
+pub mod ErrorText
 pub mod Faults
 pub mod GetRefused
 pub mod Got
@@ -13,4 +14,5 @@ pub mod ServeRefused
 pub mod Status
 pub mod Told
 pub mod Trees
+pub mod Words
 pub mod World

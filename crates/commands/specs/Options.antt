@@ -1,12 +1,13 @@
--- What the texts of options have to be.
-use Rattle.std.specs.Prelude.{◌≡◌, ℕ, ◌<◌, ◌^◌, true, List, ◌∷◌, ◌++◌, length, Option, None}
-use Rattle.std.specs.Prelude.{IsTrue, Some, codes}
+-- What the texts of options have to be, and what they say of a server.
+use Rattle.std.specs.Prelude.{◌≡◌, ℕ, ◌<◌, ◌^◌, ◌*◌, List, ◌∷◌, ◌++◌, length, Option, None, Some}
+use Rattle.std.specs.Prelude.{codes, string_bytes}
+use Rattle.std.specs.Duration.{as_nanos}
 use Rattle.std.specs.Option.{option_map_or}
 use Rattle.std.specs.Str.Parse.{IsNumeral, digits_value}
+use Rattle.std.specs.declared.time.Duration.{Duration}
 use Rattle.clap.specs.Words.{Row, first_of}
 use Rattle.command_lines.specs.CommandLine.{option_text}
-use Rattle.http_core.specs.Host.{is_host}
-use Rattle.http_core.specs.Prefix.{is_prefix}
+use Rattle.commands.specs.declared.connecting.ServerOptions.{ServerOptions}
 
 -- decimal digits alone, one or more, of a number less than 2 ^ 64
 abbrev pub IsNumber : List ℕ → Type 0
@@ -29,14 +30,14 @@ pub record IsAddress (text : List ℕ) : Type 0 where
   pub number : IsNumber port
   pub few : number_of port < 65536
 
--- how long a server may be silent: a number of seconds, where it is said
-abbrev pub IsTimeout : Option (List ℕ) → Type 0
-IsTimeout None = Unit {0}
-IsTimeout (Some text) = IsNumber text
+-- how long a server may be silent: so many seconds, and with 0 for ever
+abbrev pub IsTimeout : ℕ → Option Duration → Type 0
+IsTimeout seconds None = seconds ≡ 0
+IsTimeout seconds (Some timeout) = (0 < seconds) × (as_nanos timeout ≡ seconds * 1_000_000_000)
 
--- what the options say of the server at this address is valid
-pub record IsValidServer (options : List Row) (address : List ℕ) : Type 0 where
-  pub place : IsAddress address
-  pub host : IsTrue (is_host address)
-  pub timeout : IsTimeout (first_of (codes "timeout") options)
-  pub prefix : is_prefix (option_text options (codes "prefix")) ≡ true
+-- the server that the options name, with what they say of it, and 60 seconds where they don't
+pub record IsServerOf (options : List Row) (server : ServerOptions) : Type 0 where
+  pub address : string_bytes server.address ≡ option_text options (codes "server")
+  pub host : server.host ≡ option_text options (codes "server")
+  pub prefix : server.prefix ≡ option_text options (codes "prefix")
+  pub timeout : IsTimeout (number_or 60 options (codes "timeout")) server.timeout

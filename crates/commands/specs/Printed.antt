@@ -19,11 +19,12 @@ use Rattle.text_verifier.specs.Lacking.{lack_of}
 use Rattle.text_verifier.specs.Texts.{HasTexts, Question, IsDigestText}
 use Rattle.text_verifier.specs.declared.lack.Lack.{Lack}
 use Rattle.commands.specs.Got.{Writes, WritesPart}
-use Rattle.commands.specs.Options.{IsValidServer, number_of, number_or}
+use Rattle.commands.specs.Options.{IsServerOf, number_of, number_or}
 use Rattle.commands.specs.Places.{IsOfFolder, IsOfServer, IsConnected, LacksAtServer}
 use Rattle.commands.specs.Places.{LacksInFolder}
 use Rattle.commands.specs.Put.{PutsPath}
 use Rattle.commands.specs.Trees.{BeginsMissing, IsTreeGot}
+use Rattle.commands.specs.Words.{AllValid, server_words}
 use Rattle.commands.specs.World.{Serving, Sight}
 use Rattle.commands.specs.declared.ended.Ended.{Ended}
 use Rattle.commands.specs.declared.ended.Ended.TheVariants.{Done, No}
@@ -44,11 +45,7 @@ pub record NamesStore (options : List Row) : Type 0 where
 pub record NamesServer (options : List Row) : Type 0 where
   pub server : IsSome (first_of (codes "server") options)
   pub store : first_of (codes "store") options ≡ None
-  pub valid : IsValidServer options (option_text options (codes "server"))
-
--- the options name exactly one place where the recorded build is
-abbrev pub NamesPlace : List Row → Type 0
-NamesPlace options = NamesStore options ⊎ NamesServer options
+  pub valid : AllValid (server_words options)
 
 -- ---- verify
 
@@ -56,10 +53,7 @@ NamesPlace options = NamesStore options ⊎ NamesServer options
 abbrev pub IsNamedPlace : List Row → Build → Type 0
 IsNamedPlace options (Folder folder) =
     NamesStore options × (string_bytes folder ≡ option_text options (codes "store"))
-IsNamedPlace options (Server server) = NamesServer options
-    × (string_bytes server.address ≡ option_text options (codes "server"))
-    × (server.host ≡ option_text options (codes "server"))
-    × (server.prefix ≡ option_text options (codes "prefix"))
+IsNamedPlace options (Server server) = NamesServer options × IsServerOf options server
 
 -- a client of the server that the options name, under the prefix that they give, told this
 abbrev pub IsOfOptions : Sight → List Row → Telling → Type 0
@@ -131,7 +125,7 @@ IsConnectedTo sees options =
 -- the options spell this digest, and a connection to the server that they name was opened
 pub record StartsGet (sees : Sight) (options : List Row) (digest : DigestValue)
     (start : ConnectionValue) : Type 0 where
-  pub server : IsValidServer options (option_text options (codes "server"))
+  pub words : AllValid (server_words options)
   pub spelled : IsDigestText (option_text options (codes "digest")) digest
   pub opened : IsConnectedTo sees options start
 

@@ -19,11 +19,12 @@ pub record TakesBlob (start : ConnectionValue) (bytes : List ℕ) : Type 0 where
   pub before : Comes start old
   pub is : Puts old new Cas (digest_of bytes).hash bytes
 
--- the folder was read, and the Directory has a child of each name in it
+-- the folder was read, and the Directory has a child of each name in it, and no other
 pub record IsListed (sees : Sight) (place : List ℕ) (d : DirectoryValue) : Type 0 where
   pub names : List (List ℕ)
   pub read : sees.lists place names
   pub all : (n : List ℕ) → Contains names n → (x : NodeValue) × IsChild n d (Some x)
+  pub only : (n : List ℕ) (x : NodeValue) → IsChild n d (Some x) → Contains names n
 
 -- such a node stands at a place, where a link isn't followed
 abbrev pub StandsAs : Sight → List ℕ → NodeValue → Type 0

@@ -17,11 +17,11 @@ use Rattle.remote.specs.Line.{ConnectionValue, RefusesRequest, put}
 use Rattle.remote.specs.declared.fault.Fault.{Fault}
 use Rattle.remote.specs.declared.files.FileError.{FileError}
 use Rattle.commands.specs.Faults.{IsEntryFault, IsServerFault, error_of_file}
-use Rattle.commands.specs.Options.{IsValidServer}
 use Rattle.commands.specs.Places.{Comes, FailsToConnect}
 use Rattle.commands.specs.Printed.{IsConnectedTo}
 use Rattle.commands.specs.Put.{IsListed, PutsPath}
-use Rattle.commands.specs.Refusal.{IsCommandFault, IsPrintFault}
+use Rattle.commands.specs.Refusal.{IsPrintFault}
+use Rattle.commands.specs.Words.{AllValid, FailsFirst, server_words}
 use Rattle.commands.specs.World.{Sight, a_link}
 use Rattle.commands.specs.declared.error.CommandError.{CommandError}
 use Rattle.commands.specs.declared.error.CommandError.TheVariants.{Memory}
@@ -91,16 +91,15 @@ pub data FailsBelow (sees : Sight) (start : ConnectionValue) (address : List ℕ
 -- the words are valid, and a connection to the server that they name was opened, and stood so
 pub record StartsPut (sees : Sight) (options : List Row) (start : ConnectionValue)
     : Type 0 where
-  pub valid : IsValidServer options (option_text options (codes "server"))
+  pub valid : AllValid (server_words options)
   pub opened : IsConnectedTo sees options start
 
 -- The first fault: what comes before it has none. That memory is wanting may come anywhere, and is
 -- told as that.
 pub data FailsPut (sees : Sight) (options : List Row) (e : CommandError) : Type 0 where
   in_memory : e ≡ Memory → FailsPut sees options e
-  in_words : IsCommandFault e → ¬ IsValidServer options (option_text options (codes "server"))
-      → FailsPut sees options e
-  in_connection : IsValidServer options (option_text options (codes "server"))
+  in_words : FailsFirst (server_words options) e → FailsPut sees options e
+  in_connection : AllValid (server_words options)
       → FailsToConnect sees (option_text options (codes "server")) e → FailsPut sees options e
   in_path : (start : ConnectionValue) → StartsPut sees options start
       → FailsBelow sees start (option_text options (codes "server")) e 64

@@ -15,18 +15,19 @@ use Rattle.text_verifier.specs.Texts.{HasPlan, Question}
 use Rattle.verifier.specs.declared.verdict.Verdict.{Verdict}
 use Rattle.command_lines.specs.CommandLine.{option_text}
 use Rattle.commands.specs.declared.error.CommandError.{CommandError}
-use Rattle.commands.specs.declared.error.CommandError.TheVariants.{Words, Number, Digest, Text}
-use Rattle.commands.specs.declared.error.CommandError.TheVariants.{Memory, Output, Unlike}
+use Rattle.commands.specs.declared.error.CommandError.TheVariants.{Digest, Memory, Output}
+use Rattle.commands.specs.declared.error.CommandError.TheVariants.{Text}
 use Rattle.commands.specs.Faults.{error_of_file}
 use Rattle.commands.specs.Places.{FailsInFolder, FailsOver, FailsToConnect, IsConnected}
-use Rattle.commands.specs.Printed.{AsksQuestion, JudgesAsked, NamesPlace, NamesServer, NamesStore}
+use Rattle.commands.specs.Printed.{AsksQuestion, JudgesAsked, NamesServer, NamesStore}
+use Rattle.commands.specs.Words.{AllValid, FailsFirst, place_words}
 use Rattle.commands.specs.World.{Sight}
 
 -- ---- as far as there is no fault
 
 -- the words name a place, and two digests
 pub record HasDigests (options : List Row) : Type 0 where
-  pub place : NamesPlace options
+  pub place : AllValid (place_words options)
   pub sources : IsSpelled (option_text options (codes "sources"))
   pub claim : IsSpelled (option_text options (codes "claim"))
 
@@ -42,14 +43,6 @@ pub record HasPlanRead (sees : Sight) (options : List Row) (plan : PlanValue) : 
 abbrev pub IsPrintFault : CommandError → Type 0
 IsPrintFault (Output fault) = Unit {0}
 IsPrintFault _ = ⊥
-
--- an error of words, or lack of memory
-abbrev pub IsCommandFault : CommandError → Type 0
-IsCommandFault (Words text) = Unit {0}
-IsCommandFault (Number option greatest text) = Unit {0}
-IsCommandFault (Unlike option wanted text) = Unit {0}
-IsCommandFault Memory = Unit {0}
-IsCommandFault _ = ⊥
 
 -- the text of an option spells no digest
 pub record IsNoDigestOf (options : List Row) (option text : List ℕ) (fault : DigestError)
@@ -88,8 +81,8 @@ FailsServer sees address prefix e = FailsToConnect sees address e
     × FailsOver start e)
 
 -- a file of the store that the options name can't be read, or the server that they name is at fault
-abbrev pub FailsPlace : Sight → List Row → CommandError → Type 0
-FailsPlace sees options e =
+abbrev pub FailsAtPlace : Sight → List Row → CommandError → Type 0
+FailsAtPlace sees options e =
     (NamesStore options × FailsInFolder sees (option_text options (codes "store")) e)
     ⊎ (NamesServer options × FailsServer sees (option_text options (codes "server"))
     (option_text options (codes "prefix")) e)
@@ -98,12 +91,12 @@ FailsPlace sees options e =
 -- told as that.
 pub data FailsVerify (sees : Sight) (options : List Row) (e : CommandError) : Type 0 where
   in_memory : e ≡ Memory → FailsVerify sees options e
-  in_words : IsCommandFault e → ¬ NamesPlace options → FailsVerify sees options e
-  in_digests : NamesPlace options → FailsDigests options e → FailsVerify sees options e
+  in_words : FailsFirst (place_words options) e → FailsVerify sees options e
+  in_digests : AllValid (place_words options) → FailsDigests options e → FailsVerify sees options e
   in_plan : HasDigests options → FailsPlan sees options e → FailsVerify sees options e
   in_record : (plan : PlanValue) → HasDigests options → HasPlanRead sees options plan
       → FailsRecord sees options plan e → FailsVerify sees options e
   in_place : (question : Question) → AsksQuestion sees options question
-      → ∥ FailsPlace sees options e ∥₁ → FailsVerify sees options e
+      → ∥ FailsAtPlace sees options e ∥₁ → FailsVerify sees options e
   in_output : (verdict : Verdict Global) → JudgesAsked sees options verdict → IsPrintFault e
       → FailsVerify sees options e

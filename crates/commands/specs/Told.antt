@@ -1,9 +1,9 @@
 -- What standard error is told.
-use Rattle.std.specs.Prelude.{◌≡◌, ℕ, ◌<◌, ◌==◌, List, [], ◌∷◌, ◌++◌, length, map, Option, None}
-use Rattle.std.specs.Prelude.{IfSome, Some, codes, if◌then◌else◌, string_bytes}
-use Rattle.std.specs.Fmt.{debug_str}
+use Rattle.std.specs.Prelude.{◌≡◌, ◌⊎◌, ℕ, ◌<◌, ◌==◌, List, [], ◌∷◌, ◌++◌, length, map, Option}
+use Rattle.std.specs.Prelude.{None, Some, codes, if◌then◌else◌, string_bytes}
 use Rattle.std.specs.Io.KnownBytes.{Appends}
 use Rattle.report.specs.Line.{HasNoNewline}
+use Rattle.commands.specs.ErrorText.{IsErrorText, IsOfPath}
 use Rattle.commands.specs.declared.ended.Note.{Note}
 use Rattle.commands.specs.declared.ended.Note.TheVariants.{NoBlob, NoStore, Refused}
 use Rattle.commands.specs.declared.error.CommandError.{CommandError}
@@ -40,21 +40,18 @@ in_one_line text = map (λ b. if b == 10 then 32 else b) text
 abbrev pub line_after : List ℕ → List ℕ → List ℕ
 line_after head text = head ++ (in_one_line text ++ 10 ∷ [])
 
--- the line of an error was appended, or a beginning of it: lack of memory is told as that
+-- the line of an error was appended, or a beginning of it; or of that memory is wanting
 pub record TellsOf (error : CommandError) (old new : Option (List ℕ)) : Type 0 where
   pub text : List ℕ
-  pub memory : error ≡ Memory → text ≡ codes "out of memory"
+  pub is : IsErrorText error text ⊎ IsErrorText Memory text
   pub appended : AppendsBeginning old new (line_after (codes "error: ") text)
 
--- the words of a note of a blob, and of one of a folder: a path in quotes, as Rust's `{:?}` shows
--- it, which is stated of ASCII alone
+-- the words of a note of a blob, and of one of a folder
 abbrev pub no_blob_text : List ℕ → List ℕ → List ℕ
 no_blob_text server digest = server ++ (codes " has no blob " ++ digest)
 
 abbrev pub IsNoStoreText : List ℕ → List ℕ → Type 0
-IsNoStoreText path text =
-    (quoted : List ℕ) × IfSome (debug_str path) (λ shown. quoted ≡ shown)
-    × (text ≡ quoted ++ codes ": there is no such folder")
+IsNoStoreText path = IsOfPath path (codes "there is no such folder")
 
 -- those of a note
 abbrev pub IsNoteText : Note → List ℕ → Type 0

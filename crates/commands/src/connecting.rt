@@ -1,14 +1,11 @@
-ghost use Rattle.std.specs.Prelude.{◌≡◌, ◌≢◌, ◌∷◌, [], IfErr, IfOk, IsTrue, OnOk, codes};
-ghost use Rattle.std.specs.Prelude.{string_bytes, true};
+ghost use Rattle.std.specs.Prelude.{◌≡◌, ◌∷◌, [], IfOk, IsTrue, codes};
 ghost use Rattle.std.specs.Io.{ReadsAtMost, WritesAtMost};
 ghost use Rattle.std.specs.Io.Buffered.{reader_buffer, reader_inner};
-ghost use Rattle.clap.specs.Words.{first_of, found_of, rows_of};
+ghost use Rattle.clap.specs.Words.{found_of, rows_of};
 ghost use Rattle.command_lines.specs.CommandLine.{option_text};
-ghost use Rattle.commands.specs.Options.{IsAddress, IsValidServer, IsTimeout};
-ghost use Rattle.commands.specs.Refusal.{IsCommandFault};
-ghost use Rattle.commands.specs.ServeRefused.{Checks, has_prefix};
-ghost use Rattle.http_core.specs.Host.{is_host};
-ghost use Rattle.http_core.specs.Prefix.{is_prefix};
+ghost use Rattle.commands.specs.Options.{IsServerOf, IsTimeout, number_or};
+ghost use Rattle.commands.specs.Words.{IsCheckedBy, has_prefix, has_timeout, names_server};
+ghost use Rattle.commands.specs.Words.{server_words};
 
 use crate::error::CommandError;
 use crate::options::{is_address, number_in, unlike};
@@ -35,13 +32,12 @@ pub struct ServerOptions {
     pub timeout: Option<Duration>,
 }
 
-fn read_host(alloc: Global, address: &str) -> Result<Host<Global>, CommandError>
-    ensures host { IfOk result (λ host. host ≡ address.now) }
-    ensures place { OnOk result (IsAddress address.now) }
-    ensures fault { IfErr result IsCommandFault }
-    ensures invalid { IfErr result (λ e. e ≢ CommandError.Memory
-        → IsAddress address.now → IsTrue (is_host address.now) → ⊥) }
+fn read_host(alloc: Global, matches: &ArgMatches<'_>) -> Result<Host<Global>, CommandError>
+    ensures host { IfOk result
+        (λ host. host ≡ option_text (rows_of (found_of matches.now)) (codes "server")) }
+    ensures checked { IsCheckedBy (names_server (rows_of (found_of matches.now)) ∷ []) result }
 {
+    let address = text_of(matches, "server");
     let host = Host::read(alloc, address)?;
     match host {
         Some(host) if is_address(address) => Ok(host),
@@ -49,16 +45,16 @@ fn read_host(alloc: Global, address: &str) -> Result<Host<Global>, CommandError>
     }
 }
 
+/// How long the server may be silent.
 fn read_timeout(alloc: Global, matches: &ArgMatches<'_>) -> Result<Option<Duration>, CommandError>
-    ensures timeout { OnOk result
-        (IsTimeout (first_of (codes "timeout") (rows_of (found_of matches.now)))) }
-    ensures fault { IfErr result IsCommandFault }
-    ensures invalid { IfErr result (λ e. e ≢ CommandError.Memory
-        → ¬ IsTimeout (first_of (codes "timeout") (rows_of (found_of matches.now)))) }
+    ensures timeout { IfOk result
+        (IsTimeout (number_or 60 (rows_of (found_of matches.now)) (codes "timeout"))) }
+    ensures checked { IsCheckedBy (has_timeout (rows_of (found_of matches.now)) ∷ []) result }
 {
-    let Some(text) = option_of(matches, "timeout") else {
+    if option_of(matches, "timeout").is_none() {
         return Ok(Some(Duration::from_secs(SILENT)));
-    };
+    }
+    let text = text_of(matches, "timeout");
     match number_in(text) {
         Some(0) => Ok(None),
         Some(seconds) => Ok(Some(Duration::from_secs(seconds))),
@@ -73,12 +69,7 @@ pub(crate) fn read_prefix(
 ) -> Result<Prefix<Global>, CommandError>
     ensures prefix { IfOk result
         (λ prefix. prefix ≡ option_text (rows_of (found_of matches.now)) (codes "prefix")) }
-    ensures valid { OnOk result
-        (is_prefix (option_text (rows_of (found_of matches.now)) (codes "prefix")) ≡ true) }
-    ensures fault { IfErr result IsCommandFault }
-    ensures invalid { IfErr result (λ e. e ≢ CommandError.Memory
-        → ¬ IsTrue (is_prefix (option_text (rows_of (found_of matches.now)) (codes "prefix")))) }
-    ensures checked { Checks (has_prefix (rows_of (found_of matches.now)) ∷ []) result }
+    ensures checked { IsCheckedBy (has_prefix (rows_of (found_of matches.now)) ∷ []) result }
 {
     let text = text_of(matches, "prefix");
     match Prefix::read(alloc, text.as_bytes())? {
@@ -87,26 +78,16 @@ pub(crate) fn read_prefix(
     }
 }
 
-/// The server at this address, with the timeout and the prefix that the words give.
-pub fn read_server(
-    alloc: Global,
-    matches: &ArgMatches<'_>,
-    address: &str,
-) -> Result<ServerOptions, CommandError>
-    ensures address { IfOk result (λ server. string_bytes server.address ≡ address.now) }
-    ensures host { IfOk result (λ server. server.host ≡ address.now) }
-    ensures prefix { IfOk result
-        (λ server. server.prefix ≡ option_text (rows_of (found_of matches.now)) (codes "prefix")) }
-    ensures valid { OnOk result (IsValidServer (rows_of (found_of matches.now)) address.now) }
-    ensures fault { IfErr result IsCommandFault }
-    ensures invalid { IfErr result (λ e. e ≢ CommandError.Memory
-        → ¬ IsValidServer (rows_of (found_of matches.now)) address.now) }
+/// The server that the words name, with the timeout and the prefix that they give.
+pub fn read_server(alloc: Global, matches: &ArgMatches<'_>) -> Result<ServerOptions, CommandError>
+    ensures server { IfOk result (IsServerOf (rows_of (found_of matches.now))) }
+    ensures checked { IsCheckedBy (server_words (rows_of (found_of matches.now))) result }
 {
-    let host = read_host(alloc, address)?;
+    let host = read_host(alloc, matches)?;
     let timeout = read_timeout(alloc, matches)?;
     let prefix = read_prefix(alloc, matches)?;
     Ok(ServerOptions {
-        address: String::from_str(alloc, address)?,
+        address: String::from_str(alloc, text_of(matches, "server"))?,
         host,
         prefix,
         timeout,

@@ -22,7 +22,7 @@ use crate::world::World;
 use blob_digest::Digest;
 use blob_source::BlobSource;
 use clap::ArgMatches;
-use command_lines::{option_of, text_of};
+use command_lines::option_of;
 use remote::{Remote, Stream};
 use std::alloc::{AllocError, Global};
 use std::io::Write;
@@ -127,7 +127,7 @@ pub fn run_get<W: World, O: Write>(
     // It is for the first fault: what comes before it has none.
     ensures refused { IfErr result (FailsGet W.sees (rows_of (found_of matches.now))) }
 {
-    let server = read_server(alloc, matches, text_of(matches, "server"))?;
+    let server = read_server(alloc, matches)?;
     let digest = read_digest(alloc, matches, "digest")?;
     let remote = open(alloc, world, &server)?;
     match option_of(matches, "into") {

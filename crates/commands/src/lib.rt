@@ -7,6 +7,7 @@ mod client;
 mod connecting;
 mod ended;
 mod error;
+mod error_text;
 mod files;
 mod getting;
 mod hint;

@@ -3,7 +3,6 @@ ghost use Rattle.clap.specs.Words.{found_of, rows_of};
 ghost use Rattle.command_lines.specs.CommandLine.{option_text};
 ghost use Rattle.commands.specs.Faults.{IsDigestFault, IsUnlikeWanted};
 ghost use Rattle.commands.specs.Options.{IsAddress, IsNumber, number_of};
-ghost use Rattle.commands.specs.Refusal.{IsCommandFault};
 ghost use Rattle.text_verifier.specs.Texts.{IsDigestText};
 
 use crate::error::CommandError;
@@ -64,8 +63,7 @@ pub fn unlike(
     wanted: &'static str,
     text: &str,
 ) -> Result<CommandError, AllocError>
-    ensures fault { IfOk result IsCommandFault }
-    ensures told { IfOk result (IsUnlikeWanted option.now wanted.now text.now) }
+    ensures { IfOk result (IsUnlikeWanted option.now wanted.now text.now) }
 {
     Ok(CommandError::Unlike {
         option,

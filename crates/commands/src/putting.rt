@@ -195,7 +195,7 @@ where
     ensures refused { IfErr result (FailsPut W.sees (rows_of (found_of matches.now))) }
 {
     let alloc = rt.alloc();
-    let server = read_server(alloc, matches, text_of(matches, "server"))?;
+    let server = read_server(alloc, matches)?;
     let place = String::from_str(alloc, text_of(matches, "path"))?;
     let remote = open(alloc, world, &server)?;
     let mut progress = PutProgress::new(terminal);

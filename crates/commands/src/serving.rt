@@ -6,9 +6,10 @@ ghost use Rattle.commands.specs.Options.{IsNumber, number_of, number_or};
 ghost use Rattle.commands.specs.Printed.{IsAsked, ServesAsked, listening_line};
 ghost use Rattle.commands.specs.Faults.{OrMemory};
 ghost use Rattle.commands.specs.Refusal.{IsPrintFault};
-ghost use Rattle.commands.specs.ServeRefused.{Checks, FailsServe, FailsToListen, is_at_once};
-ghost use Rattle.commands.specs.ServeRefused.{is_idle, is_number, listens_at, serve_words};
+ghost use Rattle.commands.specs.ServeRefused.{FailsServe, FailsToListen, is_at_once, is_idle};
+ghost use Rattle.commands.specs.ServeRefused.{listens_at, serve_words};
 ghost use Rattle.commands.specs.Status.{status_of};
+ghost use Rattle.commands.specs.Words.{IsCheckedBy, is_number};
 
 use crate::connecting::read_prefix;
 use crate::error::CommandError;
@@ -56,7 +57,7 @@ fn read_number(
     ensures number { IfOk result (λ number.
         IsNumber (option_text (rows_of (found_of matches.now)) option.now)
         × (number ≡ number_of (option_text (rows_of (found_of matches.now)) option.now))) }
-    ensures checked { Checks
+    ensures checked { IsCheckedBy
         (is_number (rows_of (found_of matches.now)) option.now greatest ∷ []) result }
 {
     let text = text_of(matches, option);
@@ -74,7 +75,7 @@ fn read_number(
 fn read_address<'a>(alloc: Global, matches: &ArgMatches<'a>) -> Result<&'a str, CommandError>
     ensures address { IfOk result (λ address.
         address.now ≡ option_text (rows_of (found_of matches.now)) (codes "listen")) }
-    ensures checked { Checks (listens_at (rows_of (found_of matches.now)) ∷ []) result }
+    ensures checked { IsCheckedBy (listens_at (rows_of (found_of matches.now)) ∷ []) result }
 {
     let text = text_of(matches, "listen");
     if is_address(text) {
@@ -88,7 +89,7 @@ fn read_address<'a>(alloc: Global, matches: &ArgMatches<'a>) -> Result<&'a str, 
 fn read_idle(alloc: Global, matches: &ArgMatches<'_>) -> Result<u64, CommandError>
     ensures idle { IfOk result (λ idle.
         idle ≡ number_or 60 (rows_of (found_of matches.now)) (codes "idle")) }
-    ensures checked { Checks (is_idle (rows_of (found_of matches.now)) ∷ []) result }
+    ensures checked { IsCheckedBy (is_idle (rows_of (found_of matches.now)) ∷ []) result }
 {
     match option_of(matches, "idle") {
         Some(_) => read_number(alloc, matches, "idle", GREATEST_LIMIT),
@@ -100,7 +101,7 @@ fn read_idle(alloc: Global, matches: &ArgMatches<'_>) -> Result<u64, CommandErro
 fn read_at_once(alloc: Global, matches: &ArgMatches<'_>) -> Result<usize, CommandError>
     ensures at_once { IfOk result (λ at_once.
         at_once ≡ number_or 1 (rows_of (found_of matches.now)) (codes "at-once")) }
-    ensures checked { Checks (is_at_once (rows_of (found_of matches.now))) result }
+    ensures checked { IsCheckedBy (is_at_once (rows_of (found_of matches.now))) result }
 {
     if option_of(matches, "at-once").is_none() {
         return Ok(1);
@@ -121,7 +122,7 @@ fn read_asked<'a>(alloc: Global, matches: &ArgMatches<'a>) -> Result<Asked<'a>, 
     ensures few { IfOk result
         (λ asked. (asked.limit < 2 ^ 63) × (asked.result_limit < 2 ^ 63)) }
     ensures asked { IfOk result (IsAsked (rows_of (found_of matches.now))) }
-    ensures checked { Checks (serve_words (rows_of (found_of matches.now))) result }
+    ensures checked { IsCheckedBy (serve_words (rows_of (found_of matches.now))) result }
 {
     let address = read_address(alloc, matches)?;
     let connections = read_number(alloc, matches, "connections", u64::MAX)?;

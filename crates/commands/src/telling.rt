@@ -1,6 +1,7 @@
-ghost use Rattle.std.specs.Prelude.{◌≡◌, ◌≢◌, ℕ, List, IfOk, IfErr, OnOk, OnErr, codes};
+ghost use Rattle.std.specs.Prelude.{◌≡◌, ℕ, List, IfOk, IfErr, OnOk, OnErr, codes};
 ghost use Rattle.std.specs.Prelude.{string_bytes};
 ghost use Rattle.std.specs.Io.KnownBytes.{Appends};
+ghost use Rattle.commands.specs.ErrorText.{IsErrorText};
 ghost use Rattle.commands.specs.Refusal.{IsPrintFault};
 ghost use Rattle.commands.specs.Status.{status_of};
 ghost use Rattle.commands.specs.Told.{AppendsPart, IsNoStoreText, IsNoteText, TellsNote, TellsOf};
@@ -8,6 +9,7 @@ ghost use Rattle.commands.specs.Told.{in_one_line, line_after, no_blob_text};
 
 use crate::ended::Note;
 use crate::error::CommandError;
+use crate::error_text::{error_text, of_path};
 use std::alloc::{AllocError, Global};
 use std::io::{ErrorKind, Write};
 
@@ -64,16 +66,12 @@ fn line_after(alloc: Global, head: &str, text: &str) -> Result<Vec<u8>, AllocErr
     Ok(line)
 }
 
-/// The error's line. That memory is wanting is told without any.
+/// The error's line.
 fn error_line(alloc: Global, error: &CommandError) -> Result<Vec<u8>, AllocError>
-    ensures line { IfOk result
-        (λ line. (text : List ℕ) × (line.items ≡ line_after (codes "error: ") text)) }
-    ensures other { IfOk result (λ _. error.now ≢ CommandError.Memory) }
+    ensures { IfOk result (λ line. (text : List ℕ) × IsErrorText error.now text
+        × (line.items ≡ line_after (codes "error: ") text)) }
 {
-    if matches!(error, CommandError::Memory) {
-        return Err(AllocError);
-    }
-    let text = error.to_string(alloc)?;
+    let text = error_text(alloc, error)?;
     line_after(alloc, "error: ", text.as_str())
 }
 
@@ -97,8 +95,7 @@ fn no_blob_text(alloc: Global, server: &str, digest: &str) -> Result<String, All
 fn no_store_text(alloc: Global, path: &str) -> Result<String, AllocError>
     ensures { IfOk result (λ text. IsNoStoreText path.now (string_bytes text)) }
 {
-    let quoted = format!(in alloc; "{path:?}")?;
-    format!(in alloc; "{quoted}: there is no such folder")
+    of_path(alloc, path, "there is no such folder")
 }
 
 /// The note's words.

@@ -1,5 +1,5 @@
-ghost use Rattle.std.specs.Prelude.{◌≡◌, ◌≢◌, ◌↔◌, IfErr, IfNone, IfOk, IfSome, IsTrue, None};
-ghost use Rattle.std.specs.Prelude.{OnErr, OnOk, codes, string_bytes};
+ghost use Rattle.std.specs.Prelude.{◌≡◌, ◌∷◌, ◌↔◌, [], IfErr, IfOk, IfSome, IsTrue};
+ghost use Rattle.std.specs.Prelude.{None, OnErr, OnOk, codes, string_bytes};
 ghost use Rattle.std.specs.Io.KnownBytes.{Appends};
 ghost use Rattle.blob_source.specs.Source.{Telling};
 ghost use Rattle.clap.specs.Words.{found_of, first_of, rows_of};
@@ -8,14 +8,14 @@ ghost use Rattle.commands.specs.Ended.{is_done};
 ghost use Rattle.commands.specs.Places.{FailsInFolder, FailsOver, IsFresh, IsOfFolder};
 ghost use Rattle.commands.specs.Places.{IsOfServer, IsAnsweredBy, IsToldOver, LacksAtServer};
 ghost use Rattle.commands.specs.Places.{LacksInFolder, LacksIt};
-ghost use Rattle.commands.specs.Printed.{AsksQuestion, IsNamedPlace, IsOfPlace, NamesPlace};
-ghost use Rattle.commands.specs.Printed.{LacksFolder, NamesStore, NotesStore, PrintsVerdict};
-ghost use Rattle.commands.specs.Printed.{LacksAtPlace};
-ghost use Rattle.commands.specs.Refusal.{FailsDigests, FailsPlace, FailsPlan, FailsRecord};
-ghost use Rattle.commands.specs.Refusal.{FailsServer, FailsVerify, HasPlanRead, IsCommandFault};
-ghost use Rattle.commands.specs.Refusal.{IsPrintFault};
+ghost use Rattle.commands.specs.Printed.{AsksQuestion, IsNamedPlace, IsOfPlace, LacksAtPlace};
+ghost use Rattle.commands.specs.Printed.{LacksFolder, NotesStore, PrintsVerdict};
+ghost use Rattle.commands.specs.Refusal.{FailsDigests, FailsAtPlace, FailsPlan, FailsRecord};
+ghost use Rattle.commands.specs.Refusal.{FailsServer, FailsVerify, HasPlanRead, IsPrintFault};
 ghost use Rattle.commands.specs.Status.{status_of};
 ghost use Rattle.commands.specs.Told.{PrintsNoLine};
+ghost use Rattle.commands.specs.Words.{IsCheckedBy, IsSaid, IsToldInWords, goes_with_server};
+ghost use Rattle.commands.specs.Words.{place_words};
 ghost use Rattle.remote.specs.Remote.{connection_of};
 ghost use Rattle.report.specs.Line.{IsOneLine};
 ghost use Rattle.text_verifier.specs.Answered.{IsAnswer};
@@ -34,7 +34,7 @@ use clap::ArgMatches;
 use command_lines::{option_of, text_of};
 use plan::Plan;
 use remote::{FileError, Remote, Stream};
-use std::alloc::Global;
+use std::alloc::{AllocError, Global};
 use std::io::{ErrorKind, Write};
 use std::marker::Brand;
 use text_verifier::{
@@ -135,39 +135,45 @@ fn read_case<W: World>(
     }
 }
 
+/// The error of these words.
+fn told_in(alloc: Global, words: &str) -> Result<CommandError, AllocError>
+    ensures { IfOk result (IsToldInWords words.now) }
+{
+    Ok(CommandError::Words(String::from_str(alloc, words)?))
+}
+
+/// An option that says something of a server isn't said beside `--store`.
+fn check_beside_store(
+    alloc: Global,
+    matches: &ArgMatches<'_>,
+    option: &'static str,
+) -> Result<(), CommandError>
+    requires { IsSaid (rows_of (found_of matches.now)) (codes "store") }
+    ensures checked { IsCheckedBy
+        (goes_with_server (rows_of (found_of matches.now)) option.now ∷ []) result }
+    ensures unsaid { OnOk result (first_of option.now (rows_of (found_of matches.now)) ≡ None) }
+{
+    if option_of(matches, option).is_none() {
+        return Ok(());
+    }
+    Err(CommandError::Words(format!(in alloc; "--{option} goes with --server alone")?))
+}
+
 /// Where the words say that the recorded build is: a store folder or a server, and not both.
 fn read_place(alloc: Global, matches: &ArgMatches<'_>) -> Result<Build, CommandError>
     ensures place { IfOk result (IsNamedPlace (rows_of (found_of matches.now))) }
-    ensures fault { IfErr result IsCommandFault }
-    ensures unnamed { IfErr result
-        (λ e. e ≢ CommandError.Memory → ¬ NamesPlace (rows_of (found_of matches.now))) }
+    ensures checked { IsCheckedBy (place_words (rows_of (found_of matches.now))) result }
 {
-    let fault = match (option_of(matches, "store"), option_of(matches, "server")) {
-        (Some(folder), None) => match remote_option(matches) {
-            None => return Ok(Build::Folder(String::from_str(alloc, folder)?)),
-            Some(option) => format!(in alloc; "--{option} goes with --server alone")?,
-        },
-        (None, Some(address)) => {
-            return Ok(Build::Server(read_server(alloc, matches, address)?));
+    match (option_of(matches, "store"), option_of(matches, "server")) {
+        (Some(folder), None) => {
+            check_beside_store(alloc, matches, "prefix")?;
+            check_beside_store(alloc, matches, "timeout")?;
+            Ok(Build::Folder(String::from_str(alloc, folder)?))
         }
-        (Some(_), Some(_)) => String::from_str(alloc, "--store and --server exclude each other")?,
-        (None, None) => String::from_str(alloc, "--store or --server is wanted")?,
-    };
-    Err(CommandError::Words(fault))
-}
-
-/// An option that says something of a server.
-fn remote_option(matches: &ArgMatches<'_>) -> Option<&'static str>
-    ensures prefix { IfNone result
-        (first_of (codes "prefix") (rows_of (found_of matches.now)) ≡ None) }
-    ensures timeout { IfNone result
-        (first_of (codes "timeout") (rows_of (found_of matches.now)) ≡ None) }
-    ensures there { IfSome result (λ _. NamesStore (rows_of (found_of matches.now)) → ⊥) }
-{
-    if option_of(matches, "prefix").is_some() {
-        return Some("prefix");
+        (None, Some(_)) => Ok(Build::Server(read_server(alloc, matches)?)),
+        (Some(_), Some(_)) => Err(told_in(alloc, "--store and --server exclude each other")?),
+        (None, None) => Err(told_in(alloc, "--store or --server is wanted")?),
     }
-    option_of(matches, "timeout").map(|_| "timeout")
 }
 
 /// The answer over the store in the marked folder.
@@ -267,7 +273,7 @@ fn judge<W: World>(
         (IsAnsweredBy (IsOfPlace W.sees (rows_of (found_of matches.now)))
         (LacksAtPlace W.sees (rows_of (found_of matches.now))) case.now) }
     ensures fault { IfErr result
-        (λ e. ∥ FailsPlace W.sees (rows_of (found_of matches.now)) e ∥₁) }
+        (λ e. ∥ FailsAtPlace W.sees (rows_of (found_of matches.now)) e ∥₁) }
 {
     match build {
         Build::Folder(folder) => judge_folder::<W, Brand>(alloc, world, folder, case),

@@ -100,7 +100,8 @@ pub trait World {
     /// Writes a file: a new one beside it, which then takes its place. A link is followed, and what
     /// is no file stays.
     fn write(&self, alloc: Global, path: &str, bytes: &[u8]) -> io::Result<()>
-        ensures { OnOk result (sees.wrote path.now bytes.now) };
+        ensures wrote { OnOk result (sees.wrote path.now bytes.now) }
+        ensures fault { IfErr result (sees.unwritten path.now) };
 
     /// Writes the tree with a digest, as a source tells it, into a folder that isn't there or is
     /// empty.

@@ -38,12 +38,18 @@ unfolding percent_encode
 encoded_bytes [] h = refl
 encoded_bytes (b ∷ bs) h = rw (encode_byte-escaped b (All-head IsByte b bs h)) (ap (λ l. escaped_byte b ++ l) (encoded_bytes bs (All-tail IsByte b bs h)))
 
+path_bytes : (path : List (List ℕ)) → IsPath path → All IsByte (path_text path)
+path_bytes path is = All-from_IsUtf8 (path_text path) (text_utf8 path is.each)
+
+pub percent_encode-escaped_path : (path : List (List ℕ)) → IsPath path → percent_encode ESCAPED (path_text path) ≡ escaped_path path
+percent_encode-escaped_path path is = encoded_bytes (path_text path) (path_bytes path is)
+
 -- a text of bytes stands for what was escaped
 pub percent_decode-escaped : (bs : List ℕ) → All IsByte bs → percent_decode (escaped bs) ≡ bs
 percent_decode-escaped bs h = ap percent_decode (sym (encoded_bytes bs h)) ∙ round_trip ESCAPED bs refl h
 
 pub percent_decode-escaped_path : (path : List (List ℕ)) → IsPath path → percent_decode (escaped_path path) ≡ path_text path
-percent_decode-escaped_path path is = percent_decode-escaped (path_text path) (All-from_IsUtf8 (path_text path) (text_utf8 path is.each))
+percent_decode-escaped_path path is = percent_decode-escaped (path_text path) (path_bytes path is)
 
 -- texts that a test tells apart differ
 pub told_apart : (xs ys : List ℕ) → not (pointwise nat_eq xs ys) ≡ true → xs ≢ ys

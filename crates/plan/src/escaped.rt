@@ -1,10 +1,12 @@
 ghost use Rattle.std.specs.Prelude.{◌≡◌, List, ℕ, Some, IfOk, IfSome, string_bytes};
+ghost use Rattle.std.specs.Cow.{cow_str_bytes};
 ghost use Rattle.messages.specs.Path.{IsPath, path_text};
 ghost use Rattle.plan.specs.Escape.{escaped, escaped_path};
 
 use messages::{MessageError, Path};
 use percent_encoding::{AsciiSet, NON_ALPHANUMERIC, ascii_set, percent_decode, percent_encode};
 use std::alloc::{AllocError, Allocator};
+use std::borrow::CowStr;
 
 /// What is escaped in a path.
 const ESCAPED: AsciiSet = ascii_set!(
@@ -16,12 +18,11 @@ const ESCAPED: AsciiSet = ascii_set!(
         .remove(b'/')
 );
 
-fn escape<A: Allocator>(alloc: A, bytes: &[u8]) -> Result<String<A>, AllocError>
-    ensures { IfOk result (λ text. string_bytes text ≡ escaped bytes.now) }
+/// The bytes as escaped text: the bytes themselves, where none of them is escaped.
+fn escape<A: Allocator>(alloc: A, bytes: &[u8]) -> Result<CowStr<'_, A>, AllocError>
+    ensures { IfOk result (λ text. cow_str_bytes text ≡ escaped bytes.now) }
 {
-    let mut text = String::new(alloc);
-    percent_encode(bytes, ESCAPED).append_to(&mut text)?;
-    Ok(text)
+    percent_encode(bytes, ESCAPED).into_cow(alloc)
 }
 
 /// The path as escaped text: each byte but letters, digits, `-`, `.`, `_`, `~` and `/` is `%` and
@@ -33,7 +34,9 @@ pub fn write_path<A: Allocator, B: Allocator>(
     ensures value { IfOk result (λ text. string_bytes text ≡ escaped_path path.now) }
     ensures valid { IsPath path.now }
 {
-    escape(alloc, path.as_bytes())
+    let mut text = String::new(alloc);
+    percent_encode(path.as_bytes(), ESCAPED).append_to(&mut text)?;
+    Ok(text)
 }
 
 fn plain_path<A: Allocator>(alloc: A, text: &[u8]) -> Result<Option<Path<A>>, AllocError>
@@ -58,8 +61,7 @@ pub fn read_path<A: Allocator + Copy>(alloc: A, text: &[u8]) -> Result<Option<Pa
     ensures only { (path : List (List ℕ)) → IsPath path → text.now ≡ escaped_path path
         → IfOk result (λ read. read ≡ Some path) }
 {
-    let mut decoded = Vec::new(alloc);
-    percent_decode(text).append_to(&mut decoded)?;
+    let decoded = percent_decode(text).into_cow(alloc)?;
     if escape(alloc, &decoded)?.as_bytes() != text {
         return Ok(None);
     }

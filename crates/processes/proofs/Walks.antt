@@ -1,12 +1,20 @@
 -- What a walk through a folder found so far, name by name.
 use Rattle.std.proofs.Common.{◌≡◌, ◌≢◌, ℕ, zero, suc, ◌+◌, ◌<◌, ◌≤◌, length, take, get_or, List, [], ◌∷◌, ◌++◌, sym, subst, ◌∙◌, ap, refl, arith, inl, inr, Bool, true, false, append_assoc, append-nil, length-append}
-use Rattle.std.specs.Prelude.{◌⊎◌, ◌↔◌, Contains, Some, bytes_eq, map}
+use Rattle.std.specs.Prelude.{◌⊎◌, ◌↔◌, ◌-◌, Contains, Some, SomeIff, bytes_eq, map}
 use Rattle.std.proofs.Math.Seq.{take-length}
 use Rattle.std.proofs.lemmas.List.{append_cancel_left, take-append-le, length-take}
 use Rattle.std.proofs.lemmas.List.Elements.{Contains-append_left, Contains-append_right, Contains-append_cases}
 use Rattle.std.proofs.lemmas.Slice.Eq.{bytes_eq-Decides}
 use Rattle.blob_digest.specs.Digest.{DigestValue, digest_of}
 use Rattle.messages.specs.declared.node.Node.TheVariants as nodes
+use Rattle.std.proofs.lemmas.Bool.Decides.{eqb_tells}
+use Rattle.messages.specs.declared.error.MessageError.{MessageError}
+use Rattle.messages.specs.declared.error.MessageError.TheVariants as messages
+use Rattle.messages.specs.Gives.{FailsUnlessMemory}
+use Rattle.messages.specs.Name.{IsName}
+use Rattle.messages.specs.Path.{path_below}
+use Rattle.messages.proofs.Paths.{below_given}
+use Rattle.tree.proofs.OwnDirectories.{no_refusal}
 use Rattle.messages.specs.Tree.{TreeValue}
 use Rattle.tree.specs.Tree.{Name, Standing, nothing, a_leaf, a_directory, Tree, stands_at}
 use Rattle.tree.specs.Form.{NodeValue}
@@ -14,10 +22,11 @@ use Rattle.tree.specs.Folded.{first_visits}
 use Rattle.tree.specs.FlatTree.{FlatValue, standing_in, IsAdded, IsTaken, IsListOf}
 use Rattle.tree.proofs.FlatTrees.{list_maps}
 use Rattle.worker.specs.Outcomes.{directories_of}
+use Rattle.processes.specs.declared.workshop.Standing.{Standing as PlaceStanding}
 use Rattle.processes.specs.declared.workshop.Standing.TheVariants as standings
 use Rattle.processes.specs.Workshop.{Works}
 use Rattle.processes.specs.Laying.{place_below}
-use Rattle.processes.specs.Collected.{AreKept, IsFileAt, place_at, HasNames, IsStandingOf, IsContentAt, IsTreeAt}
+use Rattle.processes.specs.Collected.{AreKept, IsFileAt, place_at, HasNames, IsStandingOf, IsContentAt, IsTreeAt, IsNoOutput, IsBadFolder}
 use Rattle.processes.specs.Walking.{HasAbove, IsBare, LeavesOthers, IsWalked}
 use Rattle.processes.proofs.Lists.{map_taken}
 
@@ -345,3 +354,41 @@ module _ {R C E : Type 0} (works : Works R C E) (ended : E) (place : List ℕ) (
     },
     walked.blobs,
   )
+
+-- ---- a folder that is no output
+
+pub one_of : {X Y : Type 0} (f : X → Y) (xs : List X) (i : ℕ) (x : X) → i < length xs → x ≡ get_or xs i x → Contains (map f xs) (f x)
+one_of f [] i x lt is = absurd (omega (arith, lt))
+one_of f (y ∷ xs) zero x lt is = (0, omega arith, ap f (sym is))
+one_of f (y ∷ xs) (suc i) x lt is = let r = one_of f xs i x (omega (arith, lt)) is in let more = r.1 in (suc r.0, omega (arith, more), r.2)
+
+module _ {R C E : Type 0} (works : Works R C E) (ended : E) (place : List ℕ) where
+  -- a name in it that is one of no path, or one too many
+  pub bad_name : (most : ℕ) (names : List Name) (n : Name) → works.lists ended place (Some names) → Contains names n → (0 < most → IsName n → ⊥) → IsBadFolder works ended most place
+  bad_name zero names n listed one why = inr (names, n, listed, one)
+  bad_name (suc most) names n listed one why = inr (names, n, listed, one, inl (why (omega arith)))
+
+  -- what stands at a name
+  pub bad_below : (most fewer : ℕ) (names : List Name) (n : Name) (s : PlaceStanding) → most ≡ fewer + 1 → works.lists ended place (Some names) → Contains names n → works.stands ended (place_below place n) s
+      → (s ≡ standings.Nothing) ⊎ IsNoOutput works ended (IsBadFolder works ended fewer) (place_below place n) s → IsBadFolder works ended most place
+  bad_below zero fewer names n s is listed one stands why = absurd (omega (arith, is))
+  bad_below (suc most) fewer names n s is listed one stands why =
+      let same : fewer ≡ most = omega (arith, is) in
+      inr (names, n, listed, one, inr (s, stands, subst (λ k. (s ≡ standings.Nothing) ⊎ IsNoOutput works ended (IsBadFolder works ended k) (place_below place n) s) same why))
+
+-- a path below which there is no room
+pub full_path : (path : List Name) (n : Name) (e : MessageError) → (e ≡ messages.Memory → ⊥) → FailsUnlessMemory e (path_below path n) → length path ≡ 64
+full_path path n e other fails = elim (eqb_tells (length path) 64) [
+  | inl full ↦ full.1
+  | inr room ↦ absurd (no_refusal e _ other (subst (FailsUnlessMemory e) (below_given path n room.1) fails))
+]
+
+-- one name fewer
+pub one_fewer : (most fewer : ℕ) → SomeIff (Some fewer) (1 ≤ most) (most - 1) → most ≡ fewer + 1
+one_fewer most fewer h = let some = h.0 in let is = h.1 in omega (arith, some, is)
+
+-- nothing, or neither a file nor a folder
+pub bad_standing : {R C E : Type 0} (works : Works R C E) (ended : E) (IsBad : List ℕ → Type 0) (place : List ℕ) (s : PlaceStanding) → (s ≡ standings.Nothing) ⊎ (s ≡ standings.Other)
+    → (s ≡ standings.Nothing) ⊎ IsNoOutput works ended IsBad place s
+bad_standing works ended IsBad place s (inl e) = inl e
+bad_standing works ended IsBad place s (inr e) = inr (subst (IsNoOutput works ended IsBad place) (sym e) tt)

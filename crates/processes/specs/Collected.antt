@@ -1,8 +1,9 @@
 -- What is collected of a child.
-use Rattle.std.specs.Prelude.{◌≡◌, ◌≢◌, ◌⊎◌, ◌↔◌, ℕ, Bool, false, List, [], ◌∷◌, ◌++◌, Some, None}
-use Rattle.std.specs.Prelude.{Contains}
+use Rattle.std.specs.Prelude.{◌≡◌, ◌≢◌, ◌⊎◌, ◌↔◌, ℕ, zero, suc, Bool, false, List, [], ◌∷◌, ◌++◌}
+use Rattle.std.specs.Prelude.{Some, None, Contains}
 use Rattle.std.specs.List.{AllByRecursion}
 use Rattle.blob_digest.specs.Digest.{DigestValue, digest_of}
+use Rattle.messages.specs.Name.{IsName}
 use Rattle.messages.specs.Path.{path_text}
 use Rattle.messages.specs.Tree.{TreeValue}
 use Rattle.messages.specs.declared.node.Node.TheVariants as nodes
@@ -124,16 +125,30 @@ pub record AreCollected {R C E : Type 0} (works : Works R C E) (ended : E) (fold
 -- ---- what is no output
 
 -- What stands so at a place is no output: neither a file nor a folder, or a file of more bytes than
--- a blob has. What is in a folder isn't told.
-abbrev pub IsNoOutput : {R C E : Type 0} → Works R C E → E → List ℕ → PlaceStanding → Type 0
-IsNoOutput works ended place standings.Nothing = ⊥
-IsNoOutput works ended place standings.File = works.holds ended place None
-IsNoOutput works ended place standings.Folder = Unit {0}
-IsNoOutput works ended place standings.Other = Unit {0}
+-- a blob has, or a folder of which `IsBad` says so.
+abbrev pub IsNoOutput : {R C E : Type 0} → Works R C E → E → (List ℕ → Type 0) → List ℕ
+    → PlaceStanding → Type 0
+IsNoOutput works ended IsBad place standings.Nothing = ⊥
+IsNoOutput works ended IsBad place standings.File = works.holds ended place None
+IsNoOutput works ended IsBad place standings.Folder = IsBad place
+IsNoOutput works ended IsBad place standings.Other = Unit {0}
 
+-- A folder below which paths may have `most` names is no output: one of its names is no text, or no
+-- name of a path, or is one too many; or nothing stands there, as where a link leads nowhere, or
+-- what is no output.
+abbrev pub IsBadFolder : {R C E : Type 0} → Works R C E → E → ℕ → List ℕ → Type 0
+IsBadFolder works ended zero place = works.lists ended place None
+    ⊎ ((names : List Name) × (n : Name) × works.lists ended place (Some names) × Contains names n)
+IsBadFolder works ended (suc most) place = works.lists ended place None
+    ⊎ ((names : List Name) × (n : Name) × works.lists ended place (Some names) × Contains names n
+    × ((IsName n → ⊥) ⊎ ((s : PlaceStanding) × works.stands ended (place_below place n) s
+    × ((s ≡ standings.Nothing)
+    ⊎ IsNoOutput works ended (IsBadFolder works ended most) (place_below place n) s))))
+
+-- what stands at a place is no output, where a path in a folder has at most 64 names
 abbrev pub HasNoOutput : {R C E : Type 0} → Works R C E → E → List ℕ → Type 0
-HasNoOutput works ended place =
-    (s : PlaceStanding) × works.stands ended place s × IsNoOutput works ended place s
+HasNoOutput works ended place = (s : PlaceStanding) × works.stands ended place s
+    × IsNoOutput works ended (IsBadFolder works ended 64) place s
 
 -- ---- one path more
 

@@ -1,4 +1,4 @@
-ghost use Rattle.std.specs.Prelude.{◌≡◌, ◌+◌, ◌-◌, ◌<◌, ℕ, List, IfOk, OnErr, OnOk};
+ghost use Rattle.std.specs.Prelude.{◌≡◌, ◌+◌, ◌-◌, ℕ, List, IfOk, OnErr, OnOk};
 ghost use Rattle.processes.specs.Workshop.{StartsIn};
 ghost use Rattle.processes.specs.Running.{alive_in, failures_in};
 
@@ -69,10 +69,13 @@ impl Tally {
 
     /// The refusal, and a failure is counted. Where the count is full it is lack of memory.
     pub(crate) fn refuse<A: Allocator>(&mut self, error: RunError<A>) -> RunError<A>
-        ensures failed { result ≡ RunError.Device → failures_in self.old < failures_in self.new }
+        ensures failed { result ≡ RunError.Device
+            → failures_in self.new ≡ failures_in self.old + 1 }
         ensures unfailed { (result ≡ RunError.Device → ⊥)
             → failures_in self.new ≡ failures_in self.old }
+        ensures others { (error ≡ RunError.Device → ⊥) → result ≡ error }
         ensures same { result ≡ RunError.NotAbsolute → error ≡ RunError.NotAbsolute }
+        ensures device { result ≡ RunError.Device → error ≡ RunError.Device }
         ensures bad { (path : List (List ℕ)) → result ≡ RunError.BadOutput path
             → error ≡ RunError.BadOutput path }
         ensures alive { alive_in self.new ≡ alive_in self.old }

@@ -1,4 +1,5 @@
-ghost use Rattle.std.specs.Prelude.{◌≡◌, ℕ, List};
+ghost use Rattle.std.specs.Prelude.{◌≡◌, ◌≢◌, ℕ, List};
+ghost use Rattle.messages.specs.declared.error.MessageError.TheVariants as messages;
 ghost use Rattle.processes.specs.declared.trouble.Trouble.TheVariants as troubles;
 
 use messages::{MessageError, Path};
@@ -47,6 +48,8 @@ impl<T: Drop> From<AllocFailed<T>> for Trouble {
 }
 
 impl From<MessageError> for Trouble {
+    ghost from_gives = { λ error e. e ≡ troubles.NoOutput → error ≢ messages.Memory };
+
     fn from(error: MessageError) -> Trouble {
         match error {
             MessageError::Memory => Trouble::Memory,

@@ -1,11 +1,12 @@
-ghost use Rattle.std.specs.Prelude.{◌≡◌, ℕ, List, [], ◌∷◌, ◌++◌, map, Some, None, IfOk, IsErrOf};
-ghost use Rattle.std.specs.Prelude.{OnOk};
+ghost use Rattle.std.specs.Prelude.{◌≡◌, ◌+◌, ℕ, List, [], ◌∷◌, ◌++◌, length, map};
+ghost use Rattle.std.specs.Prelude.{Some, None, IfOk, IsErrOf, OnOk};
 ghost use Rattle.blob_digest.specs.Digest.{digest_of};
 ghost use Rattle.messages.specs.Directory.{directory_bytes};
+ghost use Rattle.messages.specs.Name.{IsName};
 ghost use Rattle.tree.specs.Lookup.{names_in};
 ghost use Rattle.worker.specs.Outcomes.{directories_of};
 ghost use Rattle.worker.specs.Values.{blobs_of};
-ghost use Rattle.processes.specs.Collected.{IsTreeAt};
+ghost use Rattle.processes.specs.Collected.{IsBadFolder, IsTreeAt};
 ghost use Rattle.processes.specs.Walking.{IsBare, IsWalked};
 
 use crate::laying::place_below;
@@ -16,8 +17,8 @@ use messages::{Directory, Name, Path, Tree};
 use std::alloc::Allocator;
 use tree::{FlatEntry, FlatTree, fold};
 
-/// The most folders below one another that are looked into.
-const GREATEST_DEPTH: usize = 65;
+/// The most names of a path in a folder.
+const MOST_NAMES: usize = 64;
 
 /// Reads the file at a place, and keeps its content.
 pub(crate) fn keep_file<A: Allocator + Copy, W: Workshop>(
@@ -46,7 +47,9 @@ fn path_below<A: Allocator + Copy>(
     above: &Option<Path<A>>,
     name: &str,
 ) -> Result<Path<A>, Trouble>
-    ensures { IfOk result (λ p. p ≡ names_in above.now ++ name.now ∷ []) }
+    ensures path { IfOk result (λ p. p ≡ names_in above.now ++ name.now ∷ []) }
+    ensures bad { IsErrOf result Trouble.NoOutput
+        → IsName name.now → length (names_in above.now) ≡ 64 }
 {
     let name = Name::new(alloc, name.as_bytes())?;
     match above {
@@ -56,28 +59,31 @@ fn path_below<A: Allocator + Copy>(
 }
 
 /// Adds what stands in the folder at a place, at the path above in a tree, and keeps the contents
-/// of the files. Folders are looked into to a depth.
+/// of the files. A path below it has at most so many more names.
 fn walk<A: Allocator + Copy, W: Workshop>(
     alloc: A,
     workshop: &W,
     ended: &W::Ended,
     place: &str,
     above: &Option<Path<A>>,
-    depth: usize,
+    most: usize,
     tree: &mut FlatTree<A>,
     blobs: &mut Vec<Vec<u8, A>, A>,
 ) -> Result<(), Trouble>
-    requires { IsBare tree.old (names_in above.now) }
-    ensures { OnOk result (IsWalked W.works ended.now place.now (names_in above.now)
+    requires bare { IsBare tree.old (names_in above.now) }
+    requires most { length (names_in above.now) + most ≡ 64 }
+    ensures walked { OnOk result (IsWalked W.works ended.now place.now (names_in above.now)
         tree.old tree.new (blobs_of blobs.old.items) (blobs_of blobs.new.items)) }
+    ensures bad { IsErrOf result Trouble.NoOutput
+        → IsBadFolder W.works ended.now most place.now }
 {
-    if depth == 0 {
-        return Err(Trouble::NoOutput);
-    }
     let Some(names) = workshop.list(alloc, ended, place)? else {
         return Err(Trouble::NoOutput);
     };
     for name in &names {
+        let Some(fewer) = most.checked_sub(1) else {
+            return Err(Trouble::NoOutput);
+        };
         let path = path_below(alloc, above, name.as_str())?;
         let place = place_below(alloc, place, name.as_str())?;
         match workshop.look(ended, place.as_str())? {
@@ -95,7 +101,7 @@ fn walk<A: Allocator + Copy, W: Workshop>(
                     ended,
                     place.as_str(),
                     &above,
-                    depth - 1,
+                    fewer,
                     tree,
                     blobs,
                 )?;
@@ -141,21 +147,21 @@ pub(crate) fn keep_folder<A: Allocator + Copy, W: Workshop>(
     place: &str,
     blobs: &mut Vec<Vec<u8, A>, A>,
 ) -> Result<Tree<A>, Trouble>
-    ensures { IfOk result (λ t. (own : List (List ℕ)) × IsTreeAt W.works ended.now place.now t own
+    ensures tree { IfOk result (λ t. (own : List (List ℕ))
+        × IsTreeAt W.works ended.now place.now t own
         × (blobs_of blobs.new.items ≡ blobs_of blobs.old.items ++ own)) }
+    ensures bad { IsErrOf result Trouble.NoOutput → IsBadFolder W.works ended.now 64 place.now }
 {
     let mut tree = FlatTree::new(alloc);
     let top = None;
     walk(
-        alloc,
-        workshop,
-        ended,
-        place,
-        &top,
-        GREATEST_DEPTH,
-        &mut tree,
-        blobs,
+        alloc, workshop, ended, place, &top, MOST_NAMES, &mut tree, blobs,
     )?;
     let folded = fold(alloc, &tree)?;
-    tree_of(alloc, &folded.directories)
+    match tree_of(alloc, &folded.directories) {
+        Ok(tree) => Ok(tree),
+        Err(Trouble::Memory) => Err(Trouble::Memory),
+        // The Directories of a fold are those of a Tree: else the system failed.
+        Err(_) => Err(Trouble::Device),
+    }
 }

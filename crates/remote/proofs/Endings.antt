@@ -1,7 +1,7 @@
 -- How far bytes are from the end of a block, and blocks as they are read.
 use Rattle.std.proofs.Common.{◌≡◌, ℕ, suc, ◌+◌, ◌<◌, ◌≤◌, inl, inr, List, [], ◌∷◌, ◌++◌, length, length-append, append_assoc, refl, sym, ◌∙◌, ap, subst, arith}
 use Rattle.std.proofs.lemmas.List.{append-nil}
-use Rattle.http_core.specs.Block.{empty_line, EndsBlock, HasNoBlock, IsBlock}
+use Rattle.http_core.specs.Block.{empty_line, EndsBlock, HasNoBlock}
 use Rattle.http_core.proofs.Lists.{IsShorter, compare_fronts, same_fronts}
 use Rattle.remote.specs.Steps.{WantsMore}
 
@@ -51,10 +51,6 @@ ends_with_more bytes front tail more e f = (front, ap (λ z. z ++ more) e ∙ ap
 abbrev pub EndsLast : List ℕ → Type 0
 EndsLast bytes = (front rest : List ℕ) → bytes ≡ front ++ rest → EndsBlock front → rest ≡ []
 
-pub ends_last_empty : EndsLast []
-ends_last_empty [] rest e h = sym e
-ends_last_empty (b ∷ front) rest e h = let k : [] ≡ b ∷ (front ++ rest) = e in cc
-
 is_empty : (xs : List ℕ) → length xs ≡ 0 → xs ≡ []
 is_empty [] e = refl
 is_empty (x ∷ xs) e = absurd (not_zero (length xs) e)
@@ -82,12 +78,6 @@ ends_last_more bytes came new count last wants some few is front rest e h = elim
         let same : bytes ≡ front = s.front ∙ ap (λ z. front ++ z) none ∙ append-nil front in
         let n : count ≤ length {A = ℕ} [] = wants.fewest [] (subst EndsBlock (sym (append-nil bytes ∙ same)) h) in
         omega (arith, n, some)
-
--- no byte is missing
-pub block_ended : (bytes : List ℕ) (count : ℕ) → EndsLast bytes → WantsMore bytes count → count ≡ 0 → IsBlock bytes
-block_ended bytes count last wants zero =
-    let none : wants.more ≡ [] = is_empty wants.more (wants.many ∙ zero) in
-    record { ends = subst EndsBlock (ap (λ z. bytes ++ z) none ∙ append-nil bytes) wants.ends; first = last }
 
 -- some byte is missing
 pub none_ended : (bytes : List ℕ) (count : ℕ) → EndsLast bytes → WantsMore bytes count → 0 < count → HasNoBlock bytes

@@ -1,16 +1,15 @@
 -- What refusals leave of a connection.
-use Rattle.std.proofs.Common.{◌≡◌, ℕ, ◌+◌, ◌<◌, Bool, true, false, inl, inr, List, ◌++◌, length, length-append, sym, ap, subst, ◌∙◌, arith}
-use Rattle.std.specs.Prelude.{◌⊎◌}
+use Rattle.std.proofs.Common.{◌≡◌, ℕ, ◌+◌, ◌<◌, Bool, true, false, inr, List, ◌++◌, length, length-append, sym, ap, subst, ◌∙◌, arith}
 use Rattle.http_core.specs.Block.{IsBlock, empty_line}
 use Rattle.blob_source.specs.declared.source.FetchError.{FetchError}
 use Rattle.blob_source.specs.declared.source.FetchError.TheVariants.{Failed, Memory}
 use Rattle.remote.specs.declared.fault.Fault.{Fault}
-use Rattle.remote.specs.declared.fault.Fault.TheVariants.{Io, BadReply, Status, Broken}
-use Rattle.remote.specs.Line.{ConnectionValue, Request, IsSameServer, IsUncounted, IsUnopened, IsNextStream, IsReplied, IsConnectionFault, IsStreamFault, ExplainsMemory, RefusesRequest, is_answer, text_of}
-use Rattle.remote.specs.Flow.{Flow, SendsFront, SendsPart}
-use Rattle.remote.proofs.Flows.{fronts_all, fronts_closed, fronts_from, fronts_none, fronts_then}
-use Rattle.remote.specs.Reply.{ReceivedReply, IsReply, RoundTrip, RoundTripForSome, RoundTripInPart}
-use Rattle.remote.specs.Steps.{CantOpen, Fails, Starves}
+use Rattle.remote.specs.declared.fault.Fault.TheVariants.{Status}
+use Rattle.remote.specs.Line.{ConnectionValue, Request, IsSameServer, IsUncounted, IsNextStream, IsReplied, IsConnectionFault, ExplainsMemory, RefusesRequest, is_answer, text_of}
+use Rattle.remote.specs.Flow.{Flow, SendsFront}
+use Rattle.remote.proofs.Flows.{fronts_all, fronts_from, fronts_then}
+use Rattle.remote.specs.Reply.{ReceivedReply, IsReply, RoundTrip, RoundTripForSome}
+use Rattle.remote.specs.Steps.{Fails, Starves}
 
 pub memory_failed : Memory ≡ Failed → ⊥
 memory_failed h = cc
@@ -36,27 +35,6 @@ refuses_fault old mid new request fault e open_ none server sent is h = record {
   sent = fronts_then old.flow mid.flow new.flow (text_of old request) sent (ap (λ z. z.sent) h.flow);
   server = same_server server h.server;
 }
-
--- the stream failed
-pub refuses_io : (old mid new : ConnectionValue) (request : Request) (e : FetchError) → old.broken ≡ false → IsUncounted old mid → IsSameServer old mid
-    → SendsFront old.flow mid.flow (text_of old request) → IsStreamFault old mid request → Fails mid new Io e → RefusesRequest old new request e
-refuses_io old mid new request e open_ none server sent is h = refuses_fault old mid new request Io e open_ none server sent (open_, by is) h
-  where
-    by : IsStreamFault old mid request → IsStreamFault old new request
-    by (inl none) = inl (subst (IsUnopened old) (sym h.flow) none)
-    by (inr p) = inr (record { stream = p.stream; next = p.next; part = subst (λ f. SendsPart p.stream f (text_of old request) ⊎ RoundTripInPart p.stream f (text_of old request)) (sym h.flow) p.part })
-
--- the stream wasn't opened anew
-pub refuses_unopened : (old mid new : ConnectionValue) (request : Request) (fault : Fault) (e : FetchError) → old.broken ≡ false → CantOpen old mid fault → Fails mid new fault e
-    → RefusesRequest old new request e
-refuses_unopened old mid new request Broken e open_ (shut, same) h =
-    refuses_fault old mid new request Broken e open_ (record { count = ap (λ z. z.failures) same; fault = ap (λ z. z.fault) same }) (record { host = ap (λ z. z.host) same; prefix = ap (λ z. z.prefix) same })
-    (fronts_none old.flow mid.flow (text_of old request) (ap (λ z. z.flow.sent) same)) (inr shut, h.flow ∙ ap (λ z. z.flow) same) h
-refuses_unopened old mid new request Io e open_ (none, same) h =
-    refuses_io old mid new request e open_ (record { count = ap (λ z. z.failures) same; fault = ap (λ z. z.fault) same }) (record { host = ap (λ z. z.host) same; prefix = ap (λ z. z.prefix) same })
-    (fronts_closed old.flow mid.flow (text_of old request) none.stays) (inl none) h
-refuses_unopened old mid new request BadReply e open_ none h = absurd none
-refuses_unopened old mid new request (Status n) e open_ none h = absurd none
 
 -- memory was wanting
 pub refuses_starved : (old mid new : ConnectionValue) (request : Request) (e : FetchError) → (old.broken ≡ true → mid.flow ≡ old.flow) → IsUncounted old mid → IsSameServer old mid
@@ -92,30 +70,6 @@ refuses_unkept old mid new request reply e asks h =
     (sends_trip asks) h
 
 -- ---- lack of memory
-
-failed_memory : Failed ≡ Memory → ⊥
-failed_memory h = cc
-
--- a failure that was counted, or can't be
-pub explains_failure : (old mid new : ConnectionValue) (request : Request) (fault : Fault) (e : FetchError) → IsUncounted old mid → Fails mid new fault e → ExplainsMemory old new request e
-explains_failure old mid new request fault e none h = record {
-  lacks = λ is. inl (sym none.count ∙ h.full (λ f. memory_failed (sym is ∙ f)));
-}
-
--- such a failure is told as out of memory only where it can't be counted
-pub explains_unopened : (old mid new : ConnectionValue) (request : Request) (fault : Fault) (e : FetchError) → CantOpen old mid fault → Fails mid new fault e → ExplainsMemory old new request e
-explains_unopened old mid new request Broken e (shut, same) h =
-    explains_failure old mid new request Broken e (record { count = ap (λ z. z.failures) same; fault = ap (λ z. z.fault) same }) h
-explains_unopened old mid new request Io e (none, same) h =
-    explains_failure old mid new request Io e (record { count = ap (λ z. z.failures) same; fault = ap (λ z. z.fault) same }) h
-explains_unopened old mid new request BadReply e none h = absurd none
-explains_unopened old mid new request (Status n) e none h = absurd none
-
--- nothing of the request was sent
-pub explains_unsent : (old mid new : ConnectionValue) (request : Request) (e : FetchError) → old.broken ≡ false → IsNextStream old mid.flow → Starves mid new e → ExplainsMemory old new request e
-explains_unsent old mid new request e open_ next h = record {
-  lacks = λ is. inr (record { unbroken = open_; stream = mid.flow; next = next; is = inl h.flow });
-}
 
 -- some of what came isn't kept
 pub explains_unread : (old mid new : ConnectionValue) (stream : Flow) (request : Request) (e : FetchError) → old.broken ≡ false → IsNextStream old stream

@@ -2,7 +2,7 @@ ghost use Rattle.std.specs.Prelude.{◌≡◌, ◌≢◌, ◌≤◌, ℕ, List, 
 ghost use Rattle.remote.specs.Folder.{IsErrorOf, IsReadable, TellsFault, TellsUnreadable};
 
 use std::alloc::{AllocError, Allocator};
-use std::io::ErrorKind;
+use std::io::{ErrorKind, Read};
 use std::rt::Files;
 use std::{fs, io};
 use thiserror::Error;
@@ -80,7 +80,7 @@ pub fn read_file<R: Files + Alloc<A = A>, A: Allocator + Copy>(
         Err(fault) => return Err(io_error(rt.alloc(), path, fault)?),
     };
     check_metadata(rt.alloc(), path, &metadata)?;
-    let bytes = match fs::read(rt, path) {
+    let bytes = match read_bytes(rt, path, metadata.len() as usize) {
         Ok(bytes) => bytes,
         Err(fault) => return Err(io_error(rt.alloc(), path, fault)?),
     };
@@ -89,6 +89,22 @@ pub fn read_file<R: Files + Alloc<A = A>, A: Allocator + Copy>(
         let path = String::from_str(rt.alloc(), path)?;
         return Err(FileError::TooLarge { path });
     }
+    Ok(bytes)
+}
+
+/// The bytes of a file that was just of this length: with room for all of them at once, and one
+/// byte more, the read that finds its end needs no other. Of one that has grown past the limit no
+/// more is read than shows that.
+fn read_bytes<R: Files + Alloc<A = A>, A: Allocator>(
+    rt: &R,
+    path: &str,
+    length: usize,
+) -> io::Result<Vec<u8, A>>
+    requires { length ≤ GREATEST_FILE }
+{
+    let mut bytes = Vec::with_capacity(rt.alloc(), length + 1)?;
+    let mut file = fs::open(rt, path)?.take(GREATEST_FILE + 1);
+    file.read_to_end(&mut bytes)?;
     Ok(bytes)
 }
 

@@ -1,5 +1,5 @@
 -- The root of a build in which each step has finished.
-use Rattle.std.proofs.Common.{◌≡◌, ◌↔◌, ℕ, zero, suc, ◌+◌, ◌<◌, List, [], ◌∷◌, length, drop, get_or, Option, Some, None, refl, ap, sym, subst, arith, add-one, drop-cons, IsSome}
+use Rattle.std.proofs.Common.{◌≡◌, ℕ, zero, suc, ◌<◌, List, [], ◌∷◌, length, Option, Some, None, refl, subst, arith, IsSome}
 use Rattle.std.specs.List.{AllByRecursion}
 use Rattle.std.specs.Prelude.{Result, Ok, Err, IfErr, IfOk}
 use Rattle.plan.specs.Plan.{IsPlan}
@@ -38,8 +38,3 @@ err_map (Err e) f h = f e h
 
 pub grafted_root : (B : Blobs) (e : EngineValue) (d : DigestValue) → IsPlan e.plan → IsEngine e → IsGraftedRoot B e d → IsRootOf B e d
 grafted_root B e d plan engine g = root_event B e g.tree d plan engine g.together g.same
-
-pub some_next : (fs : List (Option FinishedValue)) (i : ℕ) (o : Option FinishedValue) → i < length fs → o ≡ get_or fs i o → IsSome o → AllByRecursion IsSome (drop i fs) ↔ AllByRecursion IsSome fs → AllByRecursion IsSome (drop (i + 1) fs) ↔ AllByRecursion IsSome fs
-some_next fs i o lt is some goes =
-    let split : drop i fs ≡ o ∷ drop (i + 1) fs = rw (add-one, drop-cons fs i o lt) (ap (λ k. k ∷ drop (suc i) fs) (sym is)) in
-    (λ h. goes.0 (subst (AllByRecursion IsSome) (sym split) (some, h)), λ h. (subst (AllByRecursion IsSome) split (goes.1 h)).1)

@@ -47,9 +47,6 @@ opening_memory {T} {A} {r} {fails} {old} {new} exit none h =
 abbrev pub FailsToFetch : {T A : Type 0} → Result T (RunsError A) → Type 0
 FailsToFetch r = IsErrOf r (errors.Source tree.Fetch)
 
-pub fetching_on : {T A : Type 0} {x : T} {old mid new : Telling} → Called old mid ⊥ → Called mid new (FailsToFetch {A = A} (Ok x)) → Called old new ⊥
-fetching_on h k = called_then (λ n. n) h (called_no ok_no_error (λ n. n) k)
-
 pub fetching_memory : {T A : Type 0} {r : Result T (RunsError A)} {fails : Type 0} {old new : Telling} → IsErrAnd r (λ y. y ≡ errors.Memory) → (fails → ⊥) → Called old new fails → Called old new (FailsToFetch r)
 fetching_memory {T} {A} {r} {fails} {old} {new} exit none h =
     let p = err_from_is_err_and r exit in

@@ -1,10 +1,9 @@
 -- The forms of outcomes, output by output; outputs that a command lists, and steps that have other outcomes.
-use Rattle.std.proofs.Common.{◌≡◌, ◌↔◌, ◌⊎◌, ℕ, suc, ◌+◌, ◌<◌, ◌≤◌, true, false, List, [], ◌∷◌, length, set, drop, get_or, Option, Some, None, refl, ap, sym, ◌∙◌, subst, arith, inl, inr, add-one, drop-cons, rules}
-use Rattle.std.specs.Prelude.{◌≢◌, ◌==◌, slice_get, Contains, Result, Ok, Err, OnOk, IfErr, is_some, ℤ, pos, negsuc, FitsSigned}
+use Rattle.std.proofs.Common.{◌≡◌, ◌↔◌, ℕ, suc, ◌+◌, ◌<◌, ◌≤◌, true, false, List, [], ◌∷◌, length, set, drop, get_or, Option, Some, None, refl, ap, sym, subst, inl, inr, add-one, drop-cons, rules}
+use Rattle.std.specs.Prelude.{slice_get, Contains, Result, Ok, Err, OnOk, IfErr, is_some, ℤ, pos, negsuc, FitsSigned}
 use Rattle.std.specs.Int.{w32}
 use Rattle.std.proofs.lemmas.Int.{fits_signed_from_abs}
 use Rattle.std.specs.Int.Signed.{mag}
-use Rattle.std.proofs.lemmas.Bool.Decides.{eqb_tells}
 use Rattle.std.specs.List.{AllByRecursion}
 use Rattle.std.proofs.lemmas.List.{drop_all}
 use Rattle.blob_digest.specs.Digest.{DigestValue}
@@ -16,7 +15,6 @@ use Rattle.runs.specs.Engine.{FinishedValue, IsValidOutput, HoldValidTrees}
 use Rattle.runs.specs.Calls.{IsOther, IsFirstUnlisted, IsUnlisted, IsOutcomeFault, first_kept}
 use Rattle.runs.specs.declared.error.RunsError.{RunsError}
 use Rattle.runs.specs.declared.error.RunsError.TheVariants as errors
-use Rattle.runs.proofs.Places.{element_at}
 
 split_at : {X : Type 0} (xs : List X) (i : ℕ) (x : X) → i < length xs → x ≡ get_or xs i x → drop i xs ≡ x ∷ drop (i + 1) xs
 split_at xs i x lt is = rw (add-one, drop-cons xs i x lt) (ap (λ k. k ∷ drop (suc i) xs) (sym is))
@@ -59,9 +57,6 @@ module _ {A : Type 0} where
       let pair : ◌≡◌ {A = List (List ℕ) × NodeValue} (x.0, output_node (output_value x.1)) (y.0, output_node (output_value y.1)) = cc in
       h (ap (λ (p : List (List ℕ) × NodeValue). p.0) pair, ap (λ (p : List (List ℕ) × NodeValue). p.1) pair)
 
-  pub one_end : (xs ys : List (List (List ℕ) × Output A)) (i : ℕ) → length xs ≡ length ys → length xs ≤ i → HaveOne (drop i xs) (drop i ys) ↔ HaveOne xs ys → HaveOne xs ys
-  one_end xs ys i same le goes = goes.0 (rw (drop_all i xs le, drop_all i ys (subst (λ n. n ≤ i) same le)) refl)
-
   -- ---- paths that a command lists
 
   abbrev pub paths_of : List (List (List ℕ) × Output A) → List (List (List ℕ))
@@ -71,9 +66,6 @@ module _ {A : Type 0} where
     pub listed : AllByRecursion (Contains c.output_paths) (paths_of rest) → AllByRecursion (Contains c.output_paths) (paths_of xs)
     pub valid : HoldValidTrees (outputs_in rest) → HoldValidTrees (outputs_in xs)
     pub unlisted : (p : List (List ℕ)) → IsFirstUnlisted c (paths_of rest) p → IsFirstUnlisted c (paths_of xs) p
-
-  pub lists_first : (c : CommandValue) (xs : List (List (List ℕ) × Output A)) → ListsOn c xs xs
-  lists_first c xs = record { listed = λ h. h; valid = λ h. h; unlisted = λ p h. h }
 
   pub lists_next : (c : CommandValue) (xs : List (List (List ℕ) × Output A)) (i : ℕ) (x : List (List ℕ) × Output A) → i < length xs → x ≡ get_or xs i x → Contains c.output_paths x.0 → IsValidOutput (output_value x.1) → ListsOn c xs (drop i xs) → ListsOn c xs (drop (i + 1) xs)
   lists_next c xs i x lt is inside ok goes =
@@ -86,9 +78,6 @@ module _ {A : Type 0} where
       let here = subst (ListsOn c xs) (split_at xs i x lt is) goes in
       here.unlisted p (inl (same, none))
 
-  pub lists_end : (c : CommandValue) (xs : List (List (List ℕ) × Output A)) (i : ℕ) → length xs ≤ i → ListsOn c xs (drop i xs) → AllByRecursion (Contains c.output_paths) (paths_of xs)
-  lists_end c xs i le goes = (subst (ListsOn c xs) (drop_all i xs le) goes).listed tt
-
   pub valid_end : (c : CommandValue) (xs : List (List (List ℕ) × Output A)) (i : ℕ) → length xs ≤ i → ListsOn c xs (drop i xs) → HoldValidTrees (outputs_in xs)
   valid_end c xs i le goes = (subst (ListsOn c xs) (drop_all i xs le) goes).valid tt
 
@@ -97,28 +86,7 @@ module _ {A : Type 0} where
 abbrev pub NoneBefore : List (Option FinishedValue) → ℕ → ℕ → DigestValue → OutcomeValue → Type 0
 NoneBefore fs n i action v = (k : ℕ) (o : Option FinishedValue) → k < n → slice_get fs k ≡ Some o → IsOther o k i action v → ⊥
 
-pub none_next : (fs : List (Option FinishedValue)) (n i : ℕ) (action : DigestValue) (v : OutcomeValue) (o : Option FinishedValue) → n < length fs → o ≡ get_or fs n o → (IsOther o n i action v → ⊥) → NoneBefore fs n i action v → NoneBefore fs (n + 1) i action v
-none_next fs n i action v o lt is none before k p less at other = by (split less)
-  where
-    split : k < n + 1 → (k < n) ⊎ (k ≡ n)
-    split h = tell (eqb_tells k n)
-      where
-        tell : (((k == n) ≡ true) × (k ≡ n)) ⊎ (((k == n) ≡ false) × (k ≢ n)) → (k < n) ⊎ (k ≡ n)
-        tell (inl e) = inr e.1
-        tell (inr e) = let other = e.1 in inl (omega (arith, h, other))
-
-    by : (k < n) ⊎ (k ≡ n) → ⊥
-    by (inl h) = before k p h at other
-    by (inr h) =
-        let same : ◌≡◌ {A = Option (Option FinishedValue)} (Some o) (Some p) = sym (element_at fs n o lt is) ∙ subst (λ j. slice_get fs j ≡ Some p) h at in
-        let one : o ≡ p = cc in
-        none (subst (λ q. IsOther q n i action v) (sym one) (subst (λ j. IsOther p j i action v) h other))
-
 -- ---- answers
-
-pub on_ok : {T E : Type 0} {P Q : Type 0} (r : Result T E) → (P → Q) → OnOk r P → OnOk r Q
-on_ok (Ok x) f h = f h
-on_ok (Err e) f h = h
 
 pub both_ok : {T E : Type 0} {P Q R : Type 0} (r : Result T E) → (P → Q → R) → OnOk r P → OnOk r Q → OnOk r R
 both_ok (Ok x) f h k = f h k

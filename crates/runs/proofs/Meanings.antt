@@ -1,5 +1,5 @@
 -- The frames and commands of steps, one after another, while the source tells more and more.
-use Rattle.std.proofs.Common.{◌≡◌, ℕ, zero, suc, ◌+◌, ◌<◌, ◌≤◌, false, List, [], ◌∷◌, ◌++◌, length, get_or, Some, refl, ap, sym, ◌∙◌, subst, arith, inl, inr}
+use Rattle.std.proofs.Common.{◌≡◌, ℕ, zero, suc, ◌+◌, ◌<◌, false, List, [], ◌∷◌, ◌++◌, length, get_or, Some, refl, ap, sym, ◌∙◌, subst, arith, inl, inr}
 use Rattle.std.specs.Prelude.{◌⊎◌, slice_get}
 use Rattle.std.proofs.lemmas.List.{length-append}
 use Rattle.std.proofs.lemmas.Option.{slice_get_within}
@@ -12,7 +12,7 @@ use Rattle.blob_source.specs.Told.{IsTold}
 use Rattle.tree.proofs.Descent.{told_still}
 use Rattle.runs.specs.declared.error.OpenError.{OpenError}
 use Rattle.runs.specs.declared.error.OpenError.TheVariants as opening
-use Rattle.runs.specs.Calls.{TellsStep, AreTold, AreToldBefore, IsOpeningFault, IsOpenFault}
+use Rattle.runs.specs.Calls.{TellsStep, AreToldBefore, IsOpeningFault, IsOpenFault}
 use Rattle.verifier.proofs.FreshRuns.{one_answer}
 use Rattle.runs.proofs.Places.{element_at, has_one}
 
@@ -65,11 +65,6 @@ told_next B C steps i fs cs s f c lt is so g told cached =
         let number : k ≡ i = h.0 ∙ so.frames_count in
         let one : r ≡ s = one_answer (slice_get steps i) r s (subst (λ n. slice_get steps n ≡ Some r) number at) (element_at steps i s lt is) in
         subst (λ (x : FrameValue). TellsStep C r x y × (x.do_not_cache ≡ false)) (sym h.1) (subst (λ y. TellsStep C r f y × (f.do_not_cache ≡ false)) (sym j.1) (subst (λ r. TellsStep C r f c × (f.do_not_cache ≡ false)) (sym one) (told, cached)))
-
-pub told_all : (B : Blobs) (steps : List StepValue) (i : ℕ) (fs : List FrameValue) (cs : List CommandValue) → i ≤ length steps → length steps ≤ i → ToldSoFar B steps i fs cs → AreTold B steps fs cs
-told_all B steps i fs cs most least so =
-    let same : i ≡ length steps = omega (arith, most, least) in
-    record { frames_count = so.frames_count ∙ same; commands_count = so.commands_count ∙ same; each = so.each }
 
 -- ---- the first fault
 

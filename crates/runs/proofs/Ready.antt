@@ -17,12 +17,6 @@ there_next fs ls i l lt is there goes =
     let split : drop i ls ≡ l ∷ drop (i + 1) ls = rw (add-one, drop-cons ls i l lt) (ap (λ k. k ∷ drop (suc i) ls) (sym is)) in
     (λ h. goes.0 (subst (AreThere (outcomes_in fs)) (sym split) (there, h)), λ h. (subst (AreThere (outcomes_in fs)) split (goes.1 h)).1)
 
-pub there_none : (fs : List (Option FinishedValue)) (ls : List LineValue) (i : ℕ) (l : LineValue) → i < length ls → l ≡ get_or ls i l → (IsThere (outcomes_in fs) l.origin → ⊥)
-    → AreThere (outcomes_in fs) (drop i ls) ↔ AreThere (outcomes_in fs) ls → AreThere (outcomes_in fs) ls → ⊥
-there_none fs ls i l lt is none goes h =
-    let split : drop i ls ≡ l ∷ drop (i + 1) ls = rw (add-one, drop-cons ls i l lt) (ap (λ k. k ∷ drop (suc i) ls) (sym is)) in
-    none (subst (AreThere (outcomes_in fs)) split (goes.1 h)).0
-
 -- the lines of a step of a plan, in front of all of its steps
 pub step_lines : (steps : List StepValue) (i : ℕ) (s : StepValue) → i < length steps → s ≡ get_or steps i s → AreSteps [] steps → AllByRecursion (IsLine (length steps)) s.lines
 step_lines steps i s lt is h = more s.lines (numbered_lines steps i s lt is h).each

@@ -56,8 +56,8 @@ impl Model for Running {
 
 /// The core of a build: the plan, what its steps mean, what has finished, and the jobs that run.
 #[derive(Drop)]
-pub struct Engine<A: Allocator> {
-    pub(crate) plan: Plan<A>,
+pub struct Engine<'p, A: Allocator> {
+    pub(crate) plan: &'p Plan<A>,
     pub(crate) sources: Digest,
     pub(crate) frames: Vec<Frame<A>, A>,
     pub(crate) commands: Vec<Command<A>, A>,
@@ -67,13 +67,13 @@ pub struct Engine<A: Allocator> {
     pub(crate) jobs: Vec<Option<Running>, A>,
 }
 
-impl<A: Allocator> Model for Engine<A> {
+impl<'p, A: Allocator> Model for Engine<'p, A> {
     ghost use Rattle.runs.specs.Engine.{EngineValue, IsEngine};
 
     ghost Value = { EngineValue };
 
     ghost view = { λ a. record {
-      plan = a.plan;
+      plan = a.plan.now;
       sources = a.sources;
       frames = a.frames.items;
       commands = a.commands.items;
@@ -82,7 +82,7 @@ impl<A: Allocator> Model for Engine<A> {
     } };
 
     ghost invariant = { λ a. IsEngine (record {
-      plan = a.plan;
+      plan = a.plan.now;
       sources = a.sources;
       frames = a.frames.items;
       commands = a.commands.items;
@@ -91,14 +91,14 @@ impl<A: Allocator> Model for Engine<A> {
     }) };
 }
 
-impl<A: Allocator + Copy> Engine<A> {
+impl<'p, A: Allocator + Copy> Engine<'p, A> {
     /// The plan.
-    pub fn plan(&self) -> &Plan<A>
+    pub fn plan(&self) -> &'p Plan<A>
         ensures value { result.now ≡ self.now.plan }
         ensures valid { IsEngine self.now }
     {
         let _ = &self.sources;
-        &self.plan
+        self.plan
     }
 
     /// Whether the step has finished. It takes no memory.
@@ -137,7 +137,7 @@ impl<A: Allocator + Copy> Engine<A> {
     {
         match kept_digests(alloc, &self.finished)? {
             None => Ok(None),
-            Some(digests) => Ok(Some(Record::new(alloc, &self.plan, digests)?)),
+            Some(digests) => Ok(Some(Record::new(alloc, self.plan, digests)?)),
         }
     }
 

@@ -209,7 +209,7 @@ fn check_listed<A: Allocator + Copy>(
     Ok(())
 }
 
-impl<A: Allocator + Copy> Engine<A> {
+impl<'p, A: Allocator + Copy> Engine<'p, A> {
     /// Ends a job that came to an outcome. The first refusal is that of the first of: no job with
     /// the number (`NoSuchJob`), an exit code that isn't 0 (`ExitCode`), an output that the command
     /// doesn't list (`Unlisted`), and that the step, or one that finished with the same action, has

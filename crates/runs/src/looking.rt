@@ -34,7 +34,7 @@ pub(crate) fn finished_at<A: Allocator>(
     }
 }
 
-impl<A: Allocator> Outcomes<A> for Engine<A> {
+impl<'p, A: Allocator> Outcomes<A> for Engine<'p, A> {
     ghost came_to = { λ e. outcomes_in e.finished };
 
     fn outcome(&self, step: usize) -> Option<&Outcome<A>> {
@@ -45,7 +45,7 @@ impl<A: Allocator> Outcomes<A> for Engine<A> {
     }
 }
 
-impl<A: Allocator + Copy> Engine<A> {
+impl<'p, A: Allocator + Copy> Engine<'p, A> {
     /// The tree that lines put together. Refusals: `Origin`, `Source` and `Conflict`.
     pub(crate) fn put_together<S: BlobSource<A>>(
         &self,
@@ -83,7 +83,7 @@ fn have_all_finished<A: Allocator>(finished: &[Option<Finished<A>>]) -> bool
     true
 }
 
-impl<A: Allocator + Copy> Engine<A> {
+impl<'p, A: Allocator + Copy> Engine<'p, A> {
     /// The tree that the root's lines put together.
     fn graft_root<S: BlobSource<A>>(
         &self,

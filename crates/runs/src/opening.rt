@@ -112,20 +112,20 @@ fn none_finished<A: Allocator + Copy>(
     Ok(finished)
 }
 
-impl<A: Allocator + Copy> Engine<A> {
+impl<'p, A: Allocator + Copy> Engine<'p, A> {
     /// An engine of the plan, over sources with this digest. The frame and the command of each step
     /// are fetched, in the order of the plan; the first fault ends it. Refusals: `Source` and
     /// `DoNotCache`.
     pub fn new<S: BlobSource<A>>(
         alloc: A,
-        plan: Plan<A>,
+        plan: &'p Plan<A>,
         sources: Digest,
         source: &mut S,
-    ) -> Result<Engine<A>, OpenError<A>>
-        ensures opened { IfOk result (IsOpened (S.tells source.new).blobs plan sources) }
+    ) -> Result<Engine<'p, A>, OpenError<A>>
+        ensures opened { IfOk result (IsOpened (S.tells source.new).blobs plan.now sources) }
         // It mirrors the opening state of every run.
         ensures mirrors { IfOk result (IsOpening (S.tells source.new).blobs) }
-        ensures refused { IfErr result (IsOpenFault (S.tells source.new).blobs plan.steps) }
+        ensures refused { IfErr result (IsOpenFault (S.tells source.new).blobs plan.now.steps) }
         ensures called { Called (S.tells source.old) (S.tells source.new)
             ((i : ℕ) × IsErrOf result (OpenError.Source i TreeError.Fetch)) }
     {

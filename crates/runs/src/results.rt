@@ -101,7 +101,7 @@ fn result_of<A: Allocator + Copy>(
     }
 }
 
-impl<A: Allocator + Copy> Engine<A> {
+impl<'p, A: Allocator + Copy> Engine<'p, A> {
     /// The result of a step that has finished, as it is kept for other builds: the exit code and
     /// the outputs of its outcome, each directory by the digest of its Tree, and nothing of what
     /// the process wrote.

@@ -59,7 +59,7 @@ pub(crate) fn place<A: Allocator>(
     Ok(())
 }
 
-impl<A: Allocator + Copy> Engine<A> {
+impl<'p, A: Allocator + Copy> Engine<'p, A> {
     /// The job of a step that may start: its frame with the root of what its lines put together is
     /// the action. Refusals: `Origin`, `Source` and `Conflict`.
     fn prepare<S: BlobSource<A>>(
@@ -106,7 +106,7 @@ impl<A: Allocator + Copy> Engine<A> {
 /// The most jobs that run at once.
 const MOST_JOBS: usize = 4096;
 
-impl<A: Allocator + Copy> Engine<A> {
+impl<'p, A: Allocator + Copy> Engine<'p, A> {
     /// Starts a step as a job, also one that runs or has finished. The first refusal is that of the
     /// first of: a step that its lines read hasn't finished (`NotReady`), 4,096 jobs run (`Full`),
     /// the first line without an origin (`Origin`, `Source`), and the first fault where lines meet

@@ -10,11 +10,11 @@ use Rattle.std.specs.Prelude.{Ok, Err}
 use Rattle.cache_server.specs.Server.{ServerValue, ServerStands, IsOpenAt, session_at}
 use Rattle.cache_server.specs.declared.error.ConnError.TheVariants.{Memory}
 use Rattle.service.specs.Sockets.{Cause, EndsAs, Failed, Finished, Shut, Silent, Why}
-use Rattle.service.specs.Talks.{entry_number, Answered, Talks, IsShut, MayEnd, Unless, HasEnded, AreBelow, ServesEach}
+use Rattle.service.specs.Talks.{entry_number, AreApart, IsShut, IsReason, Unless, HasEnded, AreBelow, ServesEach}
 use Rattle.service.specs.Talks as talks
-use Rattle.service.specs.Member.{MemberValue, TalksOn, MayEndNow, TalksOnUnless, AreOf, HasMovedOn, MovesOn, new_member}
+use Rattle.service.specs.Member.{MemberValue, TalksOn, MayEndNow, AreOf, HasMovedOn, new_member}
 use Rattle.service.specs.Together.{member_at, TalksOrEnded, KeepsTogether, GoesOnTogether, AreSame, OthersAreSame, MovesOnAt, MayEndAt, EntersAt, EndsAt, EndsIfAny}
-use Rattle.service.proofs.Talking.{AreApart, apart_from_own, holds_apart, ended_before, answered_apart, may_end}
+use Rattle.service.proofs.Talking.{apart_from_own, holds_apart, ended_before, answered_apart, may_end}
 
 -- ---- numbers below a count
 
@@ -43,7 +43,7 @@ uncut : (cut : Bool) (P : Type 0) → P → Unless cut P
 uncut true P h = tt
 uncut false P h = h
 
-lost_may : (cut : Bool) (over : Cause → Type 0) (shut : Type 0) (lost : Cause → Type 0) (left unsent : List ℕ) (why : Why) → ((cause : Cause) → over cause → lost cause) → Unless cut (MayEnd over shut left unsent why) → Unless cut (MayEnd lost shut left unsent why)
+lost_may : (cut : Bool) (over : Cause → Type 0) (shut : Type 0) (lost : Cause → Type 0) (left unsent : List ℕ) (why : Why) → ((cause : Cause) → over cause → lost cause) → Unless cut (IsReason over shut left unsent why) → Unless cut (IsReason lost shut left unsent why)
 lost_may true over shut lost left unsent why f h = tt
 lost_may false over shut lost left unsent (Ok done) f (inl (o, p, q)) = inl (f Finished o, p, q)
 lost_may false over shut lost left unsent (Ok done) f (inr (h, o, q)) = inr (h, f Shut o, q)
@@ -92,7 +92,7 @@ module _ {S : Type 0} (cut : Bool) (spoke : ℕ → S → List ℕ → List ℕ 
 
     either_apart : (j : ℕ) (o : Option (MemberValue S)) (more entries : List HistoryEntry) → AreApart j more
         → TalksOrEnded cut spoke ended lost prefix opening history entries j o → TalksOrEnded cut spoke ended lost prefix opening history (entries ++ more) j o
-    either_apart j None more entries ns h = ended_before prefix opening history cut ended lost j more entries h
+    either_apart j None more entries ns h = ended_before prefix opening history cut ended lost j more entries ns h
     either_apart j (Some m) more entries ns h = holds_apart prefix opening history spoke j more entries m ns h
 
     -- entries of an open connection alone, after which it stands so
@@ -132,6 +132,7 @@ module _ {S : Type 0} (cut : Bool) (spoke : ℕ → S → List ℕ → List ℕ 
       before = entries;
       after = [];
       whole = refl;
+      last = tt;
       read = l.read;
       sent = l.sent;
       left = l.left;
@@ -140,7 +141,7 @@ module _ {S : Type 0} (cut : Bool) (spoke : ℕ → S → List ℕ → List ℕ 
       is = ends.said k l.read l.sent l.said;
       talks = l.talks;
       may = lost_may cut (over stream) (IsShut prefix k (history ++ entries)) (lost k) l.left l.unsent why (λ cause. ends.found k l.read l.sent cause l.said)
-          (uncut cut (MayEnd (over stream) (IsShut prefix k (history ++ entries)) l.left l.unsent why) l.may);
+          (uncut cut (IsReason (over stream) (IsShut prefix k (history ++ entries)) l.left l.unsent why) l.may);
     }
 
   keeps_moved_so : (over : S → Cause → Type 0) (members members' : List (ℕ × MemberValue S)) (accepted : ℕ) (old new : ServerValue) (k : ℕ)
@@ -186,13 +187,13 @@ module _ {S : Type 0} (cut : Bool) (spoke : ℕ → S → List ℕ → List ℕ 
   abbrev MayEndSo : (S → Cause → Type 0) → ℕ → ServerValue → MemberValue S → Why → Type 0
   MayEndSo over k server m why =
       (prefix : List ℕ) (opening : CacheValue) (history entries : List HistoryEntry) → ServerStands opening server (history ++ entries) → server.prefix ≡ prefix
-      → Unless cut (MayEnd (over m.stream) (IsShut prefix k (history ++ entries)) m.left m.unsent why)
+      → Unless cut (IsReason (over m.stream) (IsShut prefix k (history ++ entries)) m.left m.unsent why)
 
   ended_so : (over : S → Cause → Type 0) (why : Why) (members members' : List (ℕ × MemberValue S)) (accepted : ℕ) (old new : ServerValue) (k : ℕ)
       → (ends : EndsAt spoke over ended lost k why old members new members') → MayEndSo over k old ends.m why → KeepsSo members accepted old members' accepted new
   ended_so over why members members' accepted old new k ends may prefix opening history keeps =
       let h : TalksOn spoke prefix opening history keeps.entries k ends.m = holds_at prefix opening history members accepted old k ends.m keeps ends.held in
-      let m : Unless cut (MayEnd (over ends.m.stream) (IsShut prefix k (history ++ keeps.entries)) ends.m.left ends.m.unsent why) = may prefix opening history keeps.entries keeps.stands keeps.same in
+      let m : Unless cut (IsReason (over ends.m.stream) (IsShut prefix k (history ++ keeps.entries)) ends.m.left ends.m.unsent why) = may prefix opening history keeps.entries keeps.stands keeps.same in
       keeps_with prefix opening history members members' accepted old new k (End k ∷ []) keeps
       (is_open prefix opening history members accepted old k ends.m keeps ends.held) (refl, tt) ends.others
       (subst (λ (z : List HistoryEntry). ServerStands opening new z) (append_assoc history keeps.entries (End k ∷ [])) (ends.stands opening (history ++ keeps.entries) keeps.stands))
@@ -201,6 +202,7 @@ module _ {S : Type 0} (cut : Bool) (spoke : ℕ → S → List ℕ → List ℕ 
         before = keeps.entries;
         after = [];
         whole = refl;
+        last = tt;
         read = h.read;
         sent = h.sent;
         left = ends.m.left;
@@ -227,16 +229,16 @@ module _ {S : Type 0} (cut : Bool) (spoke : ℕ → S → List ℕ → List ℕ 
 
       so : (m : MemberValue S) → member_at members k ≡ Some m → MayEndSo over k old m why
       so m e prefix opening history entries stands same =
-          uncut cut (MayEnd (over m.stream) (IsShut prefix k (history ++ entries)) m.left m.unsent why)
+          uncut cut (IsReason (over m.stream) (IsShut prefix k (history ++ entries)) m.left m.unsent why)
           (may_end opening old k (history ++ entries) prefix (over m.stream) m.left m.unsent why stands same
-          (subst (λ (z : MemberValue S). MayEnd (over z.stream) (IsOpenAt (session_at old k) → ⊥) z.left z.unsent why) (same_member (member_at members k) m may.held e) may.may))
+          (subst (λ (z : MemberValue S). IsReason (over z.stream) (IsOpenAt (session_at old k) → ⊥) z.left z.unsent why) (same_member (member_at members k) m may.held e) may.may))
 
   -- without memory it may end at any time
   pub keeps_lost : (over : S → Cause → Type 0) (members mid members' : List (ℕ × MemberValue S)) (accepted : ℕ) (old between new : ServerValue) (k : ℕ)
       → MovesOnAt None spoke over k old members between mid → EndsIfAny spoke over ended lost k (Err Memory) between mid new members' → GoesOnTogether cut spoke ended lost members accepted old members' accepted new
   keeps_lost over members mid members' accepted old between new k moves ends =
       keeps_further members mid members' accepted accepted accepted old between new (keeps_moved over members mid accepted old between k moves)
-      (keeps_ended_so over (Err Memory) mid members' accepted between new k (λ m e prefix opening history entries stands same. uncut cut (MayEnd (over m.stream) (IsShut prefix k (history ++ entries)) m.left m.unsent (Err Memory)) (inl refl)) ends)
+      (keeps_ended_so over (Err Memory) mid members' accepted between new k (λ m e prefix opening history entries stands same. uncut cut (IsReason (over m.stream) (IsShut prefix k (history ++ entries)) m.left m.unsent (Err Memory)) (inl refl)) ends)
 
   keeps_entered_so : (members members' : List (ℕ × MemberValue S)) (accepted : ℕ) (server : ServerValue) (stream : S)
       → spoke accepted stream [] [] → EntersAt accepted stream members members' → KeepsSo members accepted server members' (accepted + 1) server
@@ -311,6 +313,7 @@ cut_talks spoke ended lost prefix opening history entries k None h = record {
   before = h.before;
   after = h.after;
   whole = h.whole;
+  last = h.last;
   read = h.read;
   sent = h.sent;
   left = h.left;

@@ -1,14 +1,16 @@
 -- What is read of one connection and sent to it, as the server goes on.
-use Rattle.std.proofs.Common.{◌≡◌, ℕ, ◌<◌, ◌≤◌, ◌⊎◌, inl, inr, Bool, true, false, Option, Some, None, List, [], ◌∷◌, ◌++◌, take, drop, length, refl, sym, ◌∙◌, ap, subst, append_assoc, arith, ◌+◌, ◌-◌, zero, suc, drop_of_length-le, length-take}
+use Rattle.std.proofs.Common.{◌≡◌, ℕ, ◌≤◌, inl, inr, Bool, true, false, Option, Some, None, List, [], ◌∷◌, ◌++◌, take, drop, length, refl, sym, ◌∙◌, ap, subst, append_assoc, arith, ◌+◌, ◌-◌, length-take}
 use Rattle.std.specs.Prelude.{option_map}
 use Rattle.std.specs.Option.{unwrap_or}
 use Rattle.std.proofs.lemmas.List.{append-nil, length-append, length-drop, take-append-drop, take-append-le, drop-drop, drop_at, drop-append-le, take-take}
 use Rattle.std.specs.Prelude.{Ok, Err}
 use Rattle.http_core.specs.Event.{EventValue}
-use Rattle.http_core.specs.Session.{SessionValue, Closed}
+use Rattle.http_core.specs.Session.{SessionValue, Closed, Reading}
 use Rattle.http_core.specs.Session as sessions
 use Rattle.http_core.specs.Stream.{Cuts}
+use Rattle.http_core.proofs.Cutting.{cut_once}
 use Rattle.http_core.proofs.Pieces.{not_open}
+use Rattle.http_core.proofs.Standing.{stands_first}
 use Rattle.cache_server.specs.Answer.{AnswerValue, text_of}
 use Rattle.cache_server.specs.Cache.{CacheValue}
 use Rattle.cache_server.specs.History.{HistoryEntry, Piece, Fail, End, stream_of, has_failed}
@@ -18,19 +20,19 @@ use Rattle.cache_server.specs.declared.error.ConnError.TheVariants.{ReadFault, W
 use Rattle.cache_server.specs.declared.error.ConnError.{ConnError}
 use Rattle.service.specs.Sockets.{Cause, Failed, Finished, IsBroken, ReadsFrom, SendsTo, Shut, Stays, Why}
 use Rattle.std.specs.declared.io.Error.{Error}
-use Rattle.service.specs.Talks.{entry_number, fault_of_silence, Answered, Talks, IsShut, MayEnd, HasEnded}
+use Rattle.service.specs.Talks.{entry_number, fault_of_silence, AreApart, Answered, Talks, IsShut, IsReason, HasEnded}
 use Rattle.service.specs.Talks as talks
 use Rattle.service.specs.Member.{MemberValue, unsent_of, TalksOn, MayEndNow, FailsFor, EndsFor, EndsWell, TalksOnUnless, AreOf, HasMovedOn, MovesOn, Passes, PassesSent}
 
 -- ---- entries of other connections
 
-abbrev pub AreApart : ℕ → List HistoryEntry → Type 0
-AreApart k [] = Unit {0}
-AreApart k (entry ∷ entries) = (entry_number entry ≡ k → ⊥) × AreApart k entries
-
 pub apart_from_own : (k j : ℕ) (entries : List HistoryEntry) → (j ≡ k → ⊥) → AreOf k entries → AreApart j entries
 apart_from_own k j [] n t = tt
 apart_from_own k j (e ∷ es) n (o, os) = (λ (x : entry_number e ≡ j). n (sym x ∙ o), apart_from_own k j es n os)
+
+both_apart : (k : ℕ) (some more : List HistoryEntry) → AreApart k some → AreApart k more → AreApart k (some ++ more)
+both_apart k [] more t ns = ns
+both_apart k (e ∷ some) more (n, ts) ns = (n, both_apart k some more ts ns)
 
 module _ (prefix : List ℕ) (opening : CacheValue) (history : List HistoryEntry) where
   pub answered_apart : (j : ℕ) (more entries : List HistoryEntry) (came earlier last : List ℕ) → AreApart j more
@@ -61,12 +63,13 @@ module _ (prefix : List ℕ) (opening : CacheValue) (history : List HistoryEntry
   }
 
   -- whatever comes after its end
-  pub ended_before : (cut : Bool) (ended : ℕ → List ℕ → List ℕ → Why → Type 0) (lost : ℕ → Cause → Type 0) (j : ℕ) (more entries : List HistoryEntry)
+  pub ended_before : (cut : Bool) (ended : ℕ → List ℕ → List ℕ → Why → Type 0) (lost : ℕ → Cause → Type 0) (j : ℕ) (more entries : List HistoryEntry) → AreApart j more
       → HasEnded cut ended lost prefix opening history entries j → HasEnded cut ended lost prefix opening history (entries ++ more) j
-  ended_before cut ended lost j more entries h = record {
+  ended_before cut ended lost j more entries ns h = record {
     before = h.before;
     after = h.after ++ more;
     whole = ap (λ (z : List HistoryEntry). z ++ more) h.whole ∙ append_assoc h.before (End j ∷ h.after) more;
+    last = both_apart j h.after more h.last ns;
     read = h.read;
     sent = h.sent;
     left = h.left;
@@ -80,13 +83,13 @@ module _ (prefix : List ℕ) (opening : CacheValue) (history : List HistoryEntry
   -- ---- one connection
 
   -- it may end for a fault, as where it is over or memory is wanting
-  fault_may : (over : Cause → Type 0) (shut : Type 0) (left unsent : List ℕ) (why : Why) → FailsFor (λ e. over (Failed e)) (Some why) → MayEnd over shut left unsent why
+  fault_may : (over : Cause → Type 0) (shut : Type 0) (left unsent : List ℕ) (why : Why) → FailsFor (λ e. over (Failed e)) (Some why) → IsReason over shut left unsent why
   fault_may over shut left unsent (Ok done) f = absurd f
   fault_may over shut left unsent (Err e) (inl none) = inl none
   fault_may over shut left unsent (Err e) (inr o) = inr (inl o)
 
   pub leaves : {S : Type 0} (spoke : ℕ → S → List ℕ → List ℕ → Type 0) (over : S → Cause → Type 0) (entries : List HistoryEntry) (k : ℕ) (m : MemberValue S) (why : Why)
-      → TalksOn spoke prefix opening history entries k m → MayEnd (over m.stream) (IsShut prefix k (history ++ entries)) m.left m.unsent why
+      → TalksOn spoke prefix opening history entries k m → IsReason (over m.stream) (IsShut prefix k (history ++ entries)) m.left m.unsent why
       → MayEndNow spoke over prefix opening history entries k m.stream why
   leaves spoke over entries k m why h may = record {
     read = h.read;
@@ -155,17 +158,6 @@ head_front count most s head body h c =
     sym (take-append-le count (drop s head ++ take most body) (drop most body) c)
     ∙ ap (take count) (append_assoc (drop s head) (take most body) (drop most body) ∙ ap (λ (z : List ℕ). drop s head ++ z) (take-append-drop most body) ∙ sym (drop-append-le s head body h))
 
-drop_nil : (n : ℕ) → drop {A = ℕ} n [] ≡ []
-drop_nil zero = refl
-drop_nil (suc n) = refl
-
-pub unsent_more : (o : Option AnswerValue) (s count : ℕ) → unsent_of o (s + count) ≡ drop count (unsent_of o s)
-unsent_more None s count = sym (drop_nil count)
-unsent_more (Some a) s count = sym (drop-drop count s (text_of a))
-
-pub all_sent : (a : AnswerValue) (s : ℕ) → length a.head ≤ s → length a.body ≤ s - length a.head → unsent_of (Some a) s ≡ []
-all_sent a s h b = drop_past s a.head a.body h ∙ drop_of_length-le a.body b
-
 pub whole_sent : (a : AnswerValue) (s : ℕ) → unsent_of (Some a) s ≡ [] → (length a.head ≤ s) × (length a.body ≤ s - length a.head)
 whole_sent a s e =
     let n : length (drop s (a.head ++ a.body)) ≡ length (a.head ++ a.body) - s = length-drop s (a.head ++ a.body) in
@@ -219,9 +211,34 @@ shut_session prefix (Some session) k history keeps shut = by (has_failed k histo
 pub shut_is : (opening : CacheValue) (server : ServerValue) (k : ℕ) (history : List HistoryEntry) → ServerStands opening server history → (IsOpenAt (session_at server k) → ⊥) → IsShut server.prefix k history
 shut_is opening server k history stands shut = shut_session server.prefix (session_at server k) k history (stands.sessions k) shut
 
+-- ---- more can be answered
+
+still_open : (prefix : List ℕ) (session : SessionValue) (stream : List ℕ) (events others : List EventValue) → session.prefix ≡ prefix → sessions.Stands session stream others → sessions.IsOpen session → Cuts prefix stream events None → ⊥
+unfolding sessions.Stands
+still_open prefix session stream events others same (left, cut, leaves) still shut =
+    still (by left ((cut_once prefix stream others events left None (subst (λ z. Cuts z stream others left) same cut) shut).1) leaves)
+  where
+    by : (left : Option (List ℕ)) → left ≡ None → sessions.Leaves session.prefix session.state left → session.state ≡ Closed
+    by None e l = l
+    by (Some rest) e l = absurd cc
+
+not_shut : (prefix : List ℕ) (o : Option SessionValue) (k : ℕ) (history : List HistoryEntry) → KeepsSession prefix o k history → IsOpenAt o → IsShut prefix k history → ⊥
+not_shut prefix None k history keeps still (inl failed) = let e : false ≡ true = sym keeps.1 ∙ failed in cc
+not_shut prefix None k history keeps still (inr (events, cut)) =
+    still_open prefix (record { prefix = prefix; state = Reading [] }) [] events [] refl (stands_first prefix) (λ e. cc) (subst (λ z. Cuts prefix z events None) keeps.0 cut)
+not_shut prefix (Some session) k history keeps still (inl failed) = still (subst (λ b. StandsSo b session (stream_of k history)) failed keeps.1).0
+not_shut prefix (Some session) k history keeps still (inr (events, cut)) = by (has_failed k history) keeps.1
+  where
+    by : (b : Bool) → StandsSo b session (stream_of k history) → ⊥
+    by true stands = still stands.0
+    by false (others, stands) = still_open prefix session (stream_of k history) events others keeps.0 stands still cut
+
+open_is : (opening : CacheValue) (server : ServerValue) (k : ℕ) (history : List HistoryEntry) → ServerStands opening server history → IsOpenAt (session_at server k) → IsShut server.prefix k history → ⊥
+open_is opening server k history stands still = not_shut server.prefix (session_at server k) k history (stands.sessions k) still
+
 -- why it may end, by the server's session and by what came before
 pub may_end : (opening : CacheValue) (server : ServerValue) (k : ℕ) (history : List HistoryEntry) (prefix : List ℕ) (over : Cause → Type 0) (left unsent : List ℕ) (why : Why) → ServerStands opening server history → server.prefix ≡ prefix
-    → MayEnd over (IsOpenAt (session_at server k) → ⊥) left unsent why → MayEnd over (IsShut prefix k history) left unsent why
+    → IsReason over (IsOpenAt (session_at server k) → ⊥) left unsent why → IsReason over (IsShut prefix k history) left unsent why
 may_end opening server k history prefix over left unsent (Ok done) stands same (inl all) = inl all
 may_end opening server k history prefix over left unsent (Ok done) stands same (inr (shut, o, none)) = inr (subst (λ z. IsShut z k history) same (shut_is opening server k history stands shut), o, none)
 may_end opening server k history prefix over left unsent (Err e) stands same f = f
@@ -396,12 +413,12 @@ module _ {S : Type 0} (spoke : ℕ → S → List ℕ → List ℕ → Type 0) (
   -- ---- some of what is left comes to the server
 
   next_moves_so : (k : ℕ) (old new : ServerValue) (before after : MemberValue S) (piece : List ℕ) (taken : ℕ) (answer : Option AnswerValue)
-      → before.left ≡ piece → before.unsent ≡ [] → after.stream ≡ before.stream → after.left ≡ drop taken piece → after.unsent ≡ unsent_of answer 0
+      → IsOpenAt (session_at old k) → before.left ≡ piece → before.unsent ≡ [] → after.stream ≡ before.stream → after.left ≡ drop taken piece → after.unsent ≡ unsent_of answer 0
       → new.prefix ≡ old.prefix
       → ((opening : CacheValue) (history : List HistoryEntry) → ServerStands opening old history → IsOneAnswerTo old.prefix opening history (Piece k (take taken piece)) (unwrap_or (option_map text_of answer) []))
       → ((opening : CacheValue) (history : List HistoryEntry) → ServerStands opening old history → ServerStands opening new (history ++ Piece k (take taken piece) ∷ []))
       → MovesSo None k old before new after
-  next_moves_so k old new before after piece taken answer p q r s u same answers goes opening history entries stands h =
+  next_moves_so k old new before after piece taken answer still p q r s u same answers goes opening history entries stands h =
       let t : Talks old.prefix opening history entries k h.read h.sent before.left before.unsent = h.talks in
       let bytes : List ℕ = take taken piece in
       let told : List ℕ = unwrap_or (option_map text_of answer) [] in
@@ -421,24 +438,24 @@ module _ {S : Type 0} (spoke : ℕ → S → List ℕ → List ℕ → Type 0) (
             reading = t.reading ∙ ap (λ (z : List ℕ). t.came ++ z) (p ∙ sym (take-append-drop taken piece) ∙ ap (λ (z : List ℕ). bytes ++ z) (sym s)) ∙ sym (append_assoc t.came bytes after.left);
             sending = t.sending ∙ ap (λ (z : List ℕ). t.earlier ++ z) (sym (append-nil t.part) ∙ ap (λ (z : List ℕ). t.part ++ z) (sym q)) ∙ sym (append-nil (t.earlier ++ (t.part ++ before.unsent)));
             answered = subst (λ (z : List ℕ). Answered old.prefix opening history k (entries ++ Piece k bytes ∷ []) (t.came ++ bytes) (t.earlier ++ (t.part ++ before.unsent)) z) (text_unsent answer ∙ sym u)
-                (talks.piece entries t.came t.earlier (t.part ++ before.unsent) bytes told t.answered (answers opening (history ++ entries) stands));
+                (talks.piece entries t.came t.earlier (t.part ++ before.unsent) bytes told t.answered (open_is opening old k (history ++ entries) stands still) (answers opening (history ++ entries) stands));
           };
         };
       }
 
   pub next_moves : (k : ℕ) (old new : ServerValue) (before after : MemberValue S) (piece : List ℕ) (taken : ℕ) (answer : Option AnswerValue)
-      → before.left ≡ piece → before.unsent ≡ [] → after.stream ≡ before.stream → after.left ≡ drop taken piece → after.unsent ≡ unsent_of answer 0
+      → IsOpenAt (session_at old k) → before.left ≡ piece → before.unsent ≡ [] → after.stream ≡ before.stream → after.left ≡ drop taken piece → after.unsent ≡ unsent_of answer 0
       → new.prefix ≡ old.prefix
       → ((opening : CacheValue) (history : List HistoryEntry) → ServerStands opening old history → IsOneAnswerTo old.prefix opening history (Piece k (take taken piece)) (unwrap_or (option_map text_of answer) []))
       → ((opening : CacheValue) (history : List HistoryEntry) → ServerStands opening old history → ServerStands opening new (history ++ Piece k (take taken piece) ∷ []))
       → MovesOn None spoke over k old before new after
-  next_moves k old new before after piece taken answer p q r s u same answers goes = record { on = next_moves_so k old new before after piece taken answer p q r s u same answers goes }
+  next_moves k old new before after piece taken answer still p q r s u same answers goes = record { on = next_moves_so k old new before after piece taken answer still p q r s u same answers goes }
 
   next_fails_so : (k : ℕ) (old new : ServerValue) (before after : MemberValue S) (piece : List ℕ)
-      → before.left ≡ piece → after.stream ≡ before.stream → new.prefix ≡ old.prefix
+      → IsOpenAt (session_at old k) → before.left ≡ piece → after.stream ≡ before.stream → new.prefix ≡ old.prefix
       → ((opening : CacheValue) (history : List HistoryEntry) → ServerStands opening old history → StandsOrFails opening old k piece new history)
       → MovesSo (Some (Err Memory)) k old before new after
-  next_fails_so k old new before after piece p r same fails opening history entries stands h = by_end (fails opening (history ++ entries) stands)
+  next_fails_so k old new before after piece still p r same fails opening history entries stands h = by_end (fails opening (history ++ entries) stands)
     where
       by_end : StandsOrFails opening old k piece new (history ++ entries) → HasMovedOn (Some (Err Memory)) spoke over old.prefix opening history entries k after new
       by_end (inl (none, still, s)) = record {
@@ -475,14 +492,14 @@ module _ {S : Type 0} (spoke : ℕ → S → List ℕ → List ℕ → Type 0) (
                 part = t.part;
                 reading = t.reading ∙ ap (λ (z : List ℕ). t.came ++ z) (p ∙ whole) ∙ sym (append_assoc t.came front rest);
                 sending = t.sending;
-                answered = talks.lost entries t.came t.earlier (t.part ++ before.unsent) front t.answered;
+                answered = talks.lost entries t.came t.earlier (t.part ++ before.unsent) front t.answered (open_is opening old k (history ++ entries) stands still);
               };
               may = inl refl;
             };
           }
 
   pub next_fails : (k : ℕ) (old new : ServerValue) (before after : MemberValue S) (piece : List ℕ)
-      → before.left ≡ piece → after.stream ≡ before.stream → new.prefix ≡ old.prefix
+      → IsOpenAt (session_at old k) → before.left ≡ piece → after.stream ≡ before.stream → new.prefix ≡ old.prefix
       → ((opening : CacheValue) (history : List HistoryEntry) → ServerStands opening old history → StandsOrFails opening old k piece new history)
       → MovesOn (Some (Err Memory)) spoke over k old before new after
-  next_fails k old new before after piece p r same fails = record { on = next_fails_so k old new before after piece p r same fails }
+  next_fails k old new before after piece still p r same fails = record { on = next_fails_so k old new before after piece still p r same fails }

@@ -1,5 +1,5 @@
 -- A whole run over connections.
-use Rattle.std.proofs.Common.{◌≡◌, ℕ, ◌+◌, ◌<◌, ◌≤◌, ◌⊎◌, inl, inr, Bool, true, false, Option, None, List, [], ◌++◌, sym, ◌∙◌, subst, arith}
+use Rattle.std.proofs.Common.{◌≡◌, ℕ, ◌+◌, ◌<◌, ◌≤◌, ◌⊎◌, inl, inr, Bool, true, false, None, List, [], sym, ◌∙◌, subst, arith}
 use Rattle.std.proofs.Math.Dec.{eqb}
 use Rattle.std.proofs.lemmas.Bool.{cases_lt}
 use Rattle.std.proofs.lemmas.Bool.Decides.{eqb_tells}
@@ -11,7 +11,7 @@ use Rattle.service.specs.Sockets.{Cause, Why}
 use Rattle.service.specs.Talks.{ServesEach}
 use Rattle.service.specs.Member.{MemberValue}
 use Rattle.service.specs.Together.{member_at, EndsIfAny, GoesOnTogether}
-use Rattle.service.proofs.Keeping.{keeps_first, keeps_all, keeps_cut}
+use Rattle.service.proofs.Keeping.{keeps_nowhere, keeps_first, keeps_all, keeps_cut}
 
 pub serves_none : (cut : Bool) (ended : ℕ → List ℕ → List ℕ → Why → Type 0) (lost : ℕ → Cause → Type 0) (opening : CacheValue) (history : List HistoryEntry) (server : ServerValue)
     → ServerStands opening server history → ServesEach cut ended lost server.prefix opening history 0 server
@@ -37,6 +37,14 @@ pub serves_cut : {S : Type 0} (spoke : ℕ → S → List ℕ → List ℕ → T
 serves_cut spoke ended lost opening history none some all accepted s t u e p q gone stands =
     keeps_all true spoke ended lost s.prefix opening history all accepted u gone
     (q.on s.prefix opening history (keeps_cut spoke ended lost s.prefix opening history some accepted t (p.on s.prefix opening history (keeps_first false spoke ended lost opening history none s e stands))))
+
+-- none is open that could be cut off
+pub serves_kept : {S : Type 0} (spoke : ℕ → S → List ℕ → List ℕ → Type 0) (ended : ℕ → List ℕ → List ℕ → Why → Type 0) (lost : ℕ → Cause → Type 0)
+    (opening : CacheValue) (history : List HistoryEntry) (none all : List (ℕ × MemberValue S)) (accepted : ℕ) (s u : ServerValue)
+    → none ≡ [] → GoesOnTogether false spoke ended lost none 0 s all accepted u
+    → ((k : ℕ) → member_at all k ≡ None) → ServerStands opening s history → ServesEach true ended lost s.prefix opening history accepted u
+serves_kept spoke ended lost opening history none all accepted s u e p gone stands =
+    serves_cut spoke ended lost opening history none all all accepted s u u e p (keeps_nowhere true spoke ended lost all accepted u) (λ k h. gone k) stands
 
 -- one more connection isn't open
 pub gone_more : {S : Type 0} (spoke : ℕ → S → List ℕ → List ℕ → Type 0) (over : S → Cause → Type 0) (ended : ℕ → List ℕ → List ℕ → Why → Type 0) (lost : ℕ → Cause → Type 0) (number : ℕ) (why : Why) (s t : ServerValue) (old new : List (ℕ × MemberValue S))

@@ -1,6 +1,7 @@
 -- An open connection, one of many.
-use Rattle.std.specs.Prelude.{◌≡◌, ◌⊎◌, ℕ, ⊤, List, [], ◌∷◌, ◌++◌, Option, Some, None, Ok, Err}
+use Rattle.std.specs.Prelude.{◌≡◌, ◌⊎◌, ℕ, ⊤, List, [], ◌++◌, Option, Some, None, Ok, Err}
 use Rattle.std.specs.Prelude.{drop}
+use Rattle.std.specs.List.{AllByRecursion}
 use Rattle.std.specs.IoError.{error_kind}
 use Rattle.std.specs.declared.io.Error.{Error}
 use Rattle.std.specs.declared.io.ErrorKind.TheVariants.{Interrupted, OutOfMemory, WouldBlock}
@@ -11,7 +12,7 @@ use Rattle.cache_server.specs.Server.{ServerValue, ServerStands}
 use Rattle.service.specs.Sockets.{Cause, Failed, IsBroken, Stays, Why}
 use Rattle.cache_server.specs.declared.error.ConnError.{ConnError}
 use Rattle.cache_server.specs.declared.error.ConnError.TheVariants.{Memory}
-use Rattle.service.specs.Talks.{IsShut, MayEnd, Talks, entry_number}
+use Rattle.service.specs.Talks.{IsShut, IsReason, Talks, entry_number}
 use Rattle.service.specs.declared.turn.Turn.{Turn}
 use Rattle.service.specs.declared.turn.Turn.TheVariants.{Again, Waits, Held, Ends}
 
@@ -55,7 +56,7 @@ pub record MayEndNow
   pub unsent : List ℕ
   pub said : spoke k stream read sent
   pub talks : Talks prefix opening history entries k read sent left unsent
-  pub may : MayEnd (over stream) (IsShut prefix k (history ++ entries)) left unsent why
+  pub may : IsReason (over stream) (IsShut prefix k (history ++ entries)) left unsent why
 
 -- why it ends with this turn, if it does
 abbrev pub end_of : Turn → Option Why
@@ -96,8 +97,7 @@ TalksOnUnless (Some why) spoke over prefix opening history entries k m =
 
 -- each entry is of the connection
 abbrev pub AreOf : ℕ → List HistoryEntry → Type 0
-AreOf k [] = Unit {0}
-AreOf k (entry ∷ entries) = (entry_number entry ≡ k) × AreOf k entries
+AreOf k entries = AllByRecursion (λ entry. entry_number entry ≡ k) entries
 
 -- entries of the connection alone led to the server, and it goes on, or ends
 pub record HasMovedOn

@@ -1,6 +1,10 @@
 -- What is asked over connections, and what is answered there.
 use Rattle.std.specs.Prelude.{◌≡◌, ◌⊎◌, ℕ, ◌<◌, Bool, true, false, ⊤, List, [], ◌∷◌, ◌++◌, None}
 use Rattle.std.specs.Prelude.{Ok, Err}
+use Rattle.std.specs.IoError.{error_kind}
+use Rattle.std.specs.declared.io.Error.{Error}
+use Rattle.std.specs.declared.io.ErrorKind.TheVariants.{OutOfMemory}
+use Rattle.std.specs.List.{AllByRecursion}
 use Rattle.http_core.specs.Event.{EventValue}
 use Rattle.http_core.specs.Stream.{Cuts}
 use Rattle.cache_server.specs.Cache.{CacheValue}
@@ -10,6 +14,7 @@ use Rattle.cache_server.specs.Turn.{IsOneAnswerTo}
 use Rattle.cache_server.specs.declared.error.ConnError.{ConnError}
 use Rattle.cache_server.specs.declared.error.ConnError.TheVariants.{Memory, ReadFault, WriteFault}
 use Rattle.service.specs.Sockets.{Cause, Failed, Finished, Shut, Silent, Why}
+use Rattle.service.specs.Turns.{FailsAfter}
 
 -- which connection an entry of a history is of
 abbrev pub entry_number : HistoryEntry → ℕ
@@ -17,19 +22,31 @@ entry_number (Piece k bytes) = k
 entry_number (Fail k) = k
 entry_number (End k) = k
 
--- In the entries after the history these bytes came over the connection, one request at a time; the
--- answers to all but the last are `earlier`, and `last` is that to the last. What was at hand as
--- memory was wanting has none.
+-- no further byte on the connection can be answered: a request closes it, or memory was wanting
+abbrev pub IsShut : List ℕ → ℕ → List HistoryEntry → Type 0
+IsShut prefix k history =
+    (has_failed k history ≡ true)
+    ⊎ ((events : List EventValue) × Cuts prefix (stream_of k history) events None)
+
+-- no entry is of the connection
+abbrev pub AreApart : ℕ → List HistoryEntry → Type 0
+AreApart k entries = AllByRecursion (λ entry. entry_number entry ≡ k → ⊥) entries
+
+-- In the entries after the history these bytes came over the connection, one request at a time and
+-- as long as more could be answered; the answers to all but the last are `earlier`, and `last` is
+-- that to the last. What was at hand as memory was wanting has none.
 pub data Answered (prefix : List ℕ) (opening : CacheValue) (history : List HistoryEntry) (k : ℕ)
     : List HistoryEntry → List ℕ → List ℕ → List ℕ → Type 0 where
   none : Answered prefix opening history k [] [] [] []
   piece : (entries : List HistoryEntry) (came earlier last bytes answer : List ℕ)
       → Answered prefix opening history k entries came earlier last
+      → (IsShut prefix k (history ++ entries) → ⊥)
       → IsOneAnswerTo prefix opening (history ++ entries) (Piece k bytes) answer
       → Answered prefix opening history k
       (entries ++ Piece k bytes ∷ []) (came ++ bytes) (earlier ++ last) answer
   lost : (entries : List HistoryEntry) (came earlier last bytes : List ℕ)
       → Answered prefix opening history k entries came earlier last
+      → (IsShut prefix k (history ++ entries) → ⊥)
       → Answered prefix opening history k
       (entries ++ (Piece k bytes ∷ Fail k ∷ [])) (came ++ bytes) earlier last
   other : (entries : List HistoryEntry) (came earlier last : List ℕ) (entry : HistoryEntry)
@@ -49,12 +66,6 @@ pub record Talks
   pub sending : sent ≡ earlier ++ part
   pub answered : Answered prefix opening history k entries came earlier (part ++ unsent)
 
--- no further byte on the connection can be answered: a request closes it, or memory was wanting
-abbrev pub IsShut : List ℕ → ℕ → List HistoryEntry → Type 0
-IsShut prefix k history =
-    (has_failed k history ≡ true)
-    ⊎ ((events : List EventValue) × Cuts prefix (stream_of k history) events None)
-
 -- the fault of one that was silent: it took nothing of what isn't sent, or sent nothing
 abbrev pub fault_of_silence : List ℕ → ConnError
 fault_of_silence [] = ReadFault
@@ -63,10 +74,10 @@ fault_of_silence (byte ∷ unsent) = WriteFault
 -- Why a connection may end. Without a fault its peer has ended it, and all that was read is
 -- answered and sent, or no more can be answered, the last answer is sent, and the writing side was
 -- ended. With one memory is wanting, a call on its stream failed so, or it was silent for too long.
-abbrev pub MayEnd : (Cause → Type 0) → Type 0 → List ℕ → List ℕ → Why → Type 0
-MayEnd over shut left unsent (Ok done) =
+abbrev pub IsReason : (Cause → Type 0) → Type 0 → List ℕ → List ℕ → Why → Type 0
+IsReason over shut left unsent (Ok done) =
     (over Finished × (left ≡ []) × (unsent ≡ [])) ⊎ (shut × over Shut × (unsent ≡ []))
-MayEnd over shut left unsent (Err e) =
+IsReason over shut left unsent (Err e) =
     (e ≡ Memory) ⊎ (over (Failed e) ⊎ (over Silent × (e ≡ fault_of_silence unsent)))
 
 -- so it is, unless the whole run was cut off
@@ -74,8 +85,9 @@ abbrev pub Unless : Bool → Type 0 → Type 0
 Unless false P = P
 Unless true P = ⊤
 
--- The connection has ended, after these entries. Until then a beginning of what was read of it came
--- to the server, and a beginning of the answers to that was sent, to the last one at least.
+-- The connection has ended, after these entries, and none of it comes later. Until then a beginning
+-- of what was read of it came to the server, and a beginning of the answers to that was sent, to
+-- the last one at least.
 pub record HasEnded
     (cut : Bool) (ended : ℕ → List ℕ → List ℕ → Why → Type 0)
     (lost : ℕ → Cause → Type 0) (prefix : List ℕ) (opening : CacheValue)
@@ -83,6 +95,7 @@ pub record HasEnded
   pub before : List HistoryEntry
   pub after : List HistoryEntry
   pub whole : entries ≡ before ++ End k ∷ after
+  pub last : AreApart k after
   pub read : List ℕ
   pub sent : List ℕ
   pub left : List ℕ
@@ -90,12 +103,11 @@ pub record HasEnded
   pub why : Why
   pub is : ended k read sent why
   pub talks : Talks prefix opening history before k read sent left unsent
-  pub may : Unless cut (MayEnd (lost k) (IsShut prefix k (history ++ before)) left unsent why)
+  pub may : Unless cut (IsReason (lost k) (IsShut prefix k (history ++ before)) left unsent why)
 
 -- each entry is of a connection with a number below this one
 abbrev pub AreBelow : ℕ → List HistoryEntry → Type 0
-AreBelow count [] = Unit {0}
-AreBelow count (entry ∷ entries) = (entry_number entry < count) × AreBelow count entries
+AreBelow count entries = AllByRecursion (λ entry. entry_number entry < count) entries
 
 -- Of the connections with a number below this one each has ended, and what came over them alone led
 -- to the server.
@@ -116,3 +128,19 @@ Serves cut ended over old count new =
     (opening : CacheValue) (history : List HistoryEntry)
     → ServerStands opening old history
     → ServesEach cut ended over old.prefix opening history count new
+
+-- A hundred accepts in a row have failed, the last so.
+pub record AcceptsNone
+    {N : Type 0} (failed : N → ℕ → Type 0) (refused : N → Error → Type 0) (now : N) (e : Error)
+    : Type 0 where
+  pub before : N
+  pub tried : FailsAfter failed 0 100 before now
+  pub last : refused now e
+
+-- Why no more connections are served: memory is wanting or a wait failed so; or no more can be
+-- accepted, and until then all was served.
+abbrev pub Stops :
+    {N : Type 0} → (N → ℕ → Type 0) → (N → Error → Type 0) → (Error → Type 0) → Type 0 → N → Error
+    → Type 0
+Stops failed refused broken served now e =
+    ((error_kind e ≡ OutOfMemory) ⊎ broken e) ⊎ (AcceptsNone failed refused now e × served)

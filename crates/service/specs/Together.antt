@@ -1,12 +1,13 @@
 -- Open connections, each under its number, and a server.
-use Rattle.std.specs.Prelude.{◌≡◌, ℕ, ◌<◌, ◌≤◌, ◌⊎◌, Bool, List, [], ◌∷◌, ◌++◌, Option, Some, None}
+use Rattle.std.specs.Prelude.{◌≡◌, ℕ, ◌<◌, ◌≤◌, ◌⊎◌, Bool, false, List, [], ◌∷◌, ◌++◌, Option}
+use Rattle.std.specs.Prelude.{Some, None}
 use Rattle.std.specs.Ordering.{nat_cmp}
 use Rattle.std.specs.BTreeMap.{is_at}
 use Rattle.std.specs.Map.{lookup}
 use Rattle.cache_server.specs.Cache.{CacheValue}
 use Rattle.cache_server.specs.History.{HistoryEntry, End}
-use Rattle.cache_server.specs.Server.{ServerValue, ServerStands, IsOpenAt, session_at}
-use Rattle.service.specs.Talks.{HasEnded, MayEnd, AreBelow}
+use Rattle.cache_server.specs.Server.{ServerValue, ServerStands, LeadsTo, IsOpenAt, session_at}
+use Rattle.service.specs.Talks.{HasEnded, IsReason, AreBelow}
 use Rattle.service.specs.Sockets.{Cause, EndsAs, Why}
 use Rattle.service.specs.Member.{MemberValue, TalksOn, MovesOn, new_member}
 
@@ -48,6 +49,13 @@ pub record GoesOnTogether
       → KeepsTogether cut spoke ended lost prefix opening history members accepted server
       → KeepsTogether cut spoke ended lost prefix opening history members' accepted' server'
 
+-- so it is after a call, however many were accepted
+abbrev pub GoesOn :
+    {S : Type 0} → (ℕ → S → List ℕ → List ℕ → Type 0) → (ℕ → List ℕ → List ℕ → Why → Type 0)
+    → (ℕ → Cause → Type 0) → (old new : List (ℕ × MemberValue S) × ServerValue) → Type 0
+GoesOn spoke ended lost old new =
+    (accepted : ℕ) → GoesOnTogether false spoke ended lost old.0 accepted old.1 new.0 accepted new.1
+
 -- the same connections
 abbrev pub AreSame : {S : Type 0} → List (ℕ × MemberValue S) → List (ℕ × MemberValue S) → Type 0
 AreSame old new = (j : ℕ) → member_at new j ≡ member_at old j
@@ -83,7 +91,7 @@ pub record MayEndAt
     (members : List (ℕ × MemberValue S)) (why : Why) : Type 0 where
   pub m : MemberValue S
   pub held : member_at members k ≡ Some m
-  pub may : MayEnd (over m.stream) (IsOpenAt (session_at server k) → ⊥) m.left m.unsent why
+  pub may : IsReason (over m.stream) (IsOpenAt (session_at server k) → ⊥) m.left m.unsent why
 
 -- the connection with the number was ended for this reason, and the server was told
 pub record EndsAt
@@ -98,9 +106,7 @@ pub record EndsAt
   pub others : OthersAreSame k members members'
   pub ends : EndsAs spoke over m.stream why ended lost
   pub same : new.prefix ≡ old.prefix
-  pub stands : (opening : CacheValue) (history : List HistoryEntry)
-      → ServerStands opening old history
-      → ServerStands opening new (history ++ End k ∷ [])
+  pub stands : LeadsTo old (End k) new
 
 -- it was ended, or there was none
 abbrev pub EndsIfAny :

@@ -1,11 +1,14 @@
 //! How connections come in.
-ghost use Rattle.std.specs.Prelude.{◌≡◌, ◌<◌, ◌≤◌, ◌⊎◌, OnErr, OnOk, false};
+ghost use Rattle.std.specs.Prelude.{◌≡◌, ◌<◌, ◌≤◌, ◌↔◌, [], IfErr, IfOk, IfSome, IsTrue, OnErr};
+ghost use Rattle.std.specs.Prelude.{OnOk, false};
+ghost use Rattle.std.specs.IoError.{error_kind};
+ghost use Rattle.std.specs.declared.io.ErrorKind.TheVariants.{WouldBlock};
 ghost use Rattle.cache_server.specs.Server.{ServerValue};
+ghost use Rattle.service.specs.Talks.{AcceptsNone};
 ghost use Rattle.service.specs.Together.{AreSame, EntersAt, GoesOnTogether};
 
 use crate::member::Member;
 use crate::sockets::{Peer, Sockets};
-use crate::status::StatusLine;
 use crate::together::Together;
 use log::{Log, warn};
 use std::alloc::AllocError;
@@ -17,52 +20,11 @@ use std::time::Clock;
 /// How often in a row it is tried to accept a connection while none is open.
 const TRIES: u32 = 100;
 
-/// The way to a listener.
-#[derive(Drop)]
-pub(crate) struct Door {
-    // A connection may wait there.
-    pub(crate) waits: bool,
-    // So many in a row weren't accepted while none was open.
-    faults: u32,
-}
-
-impl Door {
-    /// One at which a connection may wait.
-    pub(crate) fn new() -> Door {
-        Door {
-            waits: true,
-            faults: 0,
-        }
-    }
-
-    /// No connection was accepted. While one is open, it is tried again when one has ended.
-    fn refuse<R: Log>(
-        &mut self,
-        rt: &R,
-        line: &mut StatusLine,
-        number: u64,
-        fault: io::Error,
-        is_empty: bool,
-    ) -> io::Result<()>
-        ensures tried { OnErr result (100 ≤ self.new.faults) }
-        ensures goes_on { OnOk result ((self.new.waits ≡ false) ⊎ (self.new.faults < 100)) }
-    {
-        if fault.kind() == ErrorKind::WouldBlock {
-            self.waits = false;
-            return Ok(());
-        }
-        line.clear();
-        warn!(rt; "{number}: not accepted: {fault}");
-        if !is_empty {
-            self.waits = false;
-            return Ok(());
-        }
-        self.faults = self.faults.saturating_add(1);
-        if self.faults >= TRIES {
-            return Err(fault);
-        }
-        Ok(())
-    }
+/// Whether the fault says that no connection waits.
+fn finds_none(fault: &io::Error) -> bool
+    ensures { IsTrue result ↔ (error_kind fault.now ≡ WouldBlock) }
+{
+    matches!(fault.kind(), ErrorKind::WouldBlock)
 }
 
 impl<S: Peer + Drop> Together<S> {
@@ -80,9 +42,11 @@ impl<S: Peer + Drop> Together<S> {
             self.old.members.entries accepted.old server
             self.new.members.entries accepted.new server }
         ensures within { accepted.new ≤ connections }
+        ensures fails { IfErr result (AcceptsNone N.failed N.refused sockets.new) }
+        ensures none { OnErr result (self.new.members.entries ≡ []) }
     {
         for _ in 0..u64::MAX {
-            if !self.door.waits || *accepted >= connections || self.members.len() >= self.at_once {
+            if !self.waits || *accepted >= connections || self.members.len() >= self.at_once {
                 return Ok(());
             }
             self.accept_one(rt, sockets, accepted, connections)?;
@@ -90,7 +54,7 @@ impl<S: Peer + Drop> Together<S> {
         Ok(())
     }
 
-    /// Accepts a connection, if one waits.
+    /// Accepts a connection, if one waits. One for which memory is wanting is dropped.
     fn accept_one<R: AllocGlobal + Clock + Log, N: Sockets<Stream = S>>(
         &mut self,
         rt: &R,
@@ -103,22 +67,57 @@ impl<S: Peer + Drop> Together<S> {
             self.old.members.entries accepted.old server
             self.new.members.entries accepted.new server }
         ensures within { accepted.new ≤ connections }
+        ensures fails { IfErr result (AcceptsNone N.failed N.refused sockets.new) }
+        ensures none { OnErr result (self.new.members.entries ≡ []) }
     {
         let number = *accepted;
-        let is_empty = self.members.is_empty();
-        let fault = match sockets.accept(number) {
-            Ok((stream, peer)) => match self.enter(rt, number, stream, peer) {
-                Ok(()) => {
-                    *accepted = number + 1;
-                    self.door.faults = 0;
-                    return Ok(());
-                }
-                Err(_) => io::Error::from(ErrorKind::OutOfMemory),
-            },
-            Err(fault) => fault,
+        let Some((stream, peer)) = self.next(rt, sockets, number)? else {
+            return Ok(());
         };
-        self.door
-            .refuse(rt, &mut self.line, number, fault, is_empty)
+        if self.enter(rt, number, stream, peer).is_err() {
+            self.line.clear();
+            warn!(rt; "{number}: not accepted: out of memory");
+            self.waits = self.members.is_empty();
+            return Ok(());
+        }
+        *accepted = number + 1;
+        Ok(())
+    }
+
+    /// The next connection, if one waits, or the last of so many faults in a row, while none is
+    /// open. While one is open, it is tried again when one has ended. The log tells of each fault.
+    fn next<R: Log, N: Sockets<Stream = S>>(
+        &mut self,
+        rt: &R,
+        sockets: &mut N,
+        number: u64,
+    ) -> io::Result<Option<(S, SocketAddr)>>
+        ensures same { self.new.members.entries ≡ self.old.members.entries }
+        ensures said { IfOk result (λ found. IfSome found (λ it. S.spoke number it.0 [] [])) }
+        ensures fails { IfErr result (AcceptsNone N.failed N.refused sockets.new) }
+        ensures none { OnErr result (self.new.members.entries ≡ []) }
+    {
+        for failed in 0..TRIES {
+            let fault = match sockets.accept(number) {
+                Ok(accepted) => return Ok(Some(accepted)),
+                Err(fault) => fault,
+            };
+            if finds_none(&fault) {
+                self.waits = false;
+                return Ok(None);
+            }
+            let tried = failed + 1;
+            self.line.clear();
+            warn!(rt; "{number}: not accepted, try {tried}: {fault}");
+            if !self.members.is_empty() {
+                self.waits = false;
+                return Ok(None);
+            }
+            if tried == TRIES {
+                return Err(fault);
+            }
+        }
+        Ok(None)
     }
 
     /// A connection takes a place.

@@ -29,7 +29,7 @@ impl<S: Peer + Drop> Together<S> {
             return;
         };
         self.scales.weigh(number, &member.load(), &Load::none());
-        self.door.waits = true;
+        self.waits = true;
         let (stream, peer, traffic) = member.into_parts();
         sockets.end(stream, why);
         server.end(number);

@@ -78,6 +78,12 @@ impl Sockets for Epoll {
 
     ghost lost = { λ _ _. Unit {0} };
 
+    ghost failed = { λ _ _. Unit {0} };
+
+    ghost refused = { λ _ _. Unit {0} };
+
+    ghost broken = { λ _. Unit {0} };
+
     fn accept(&mut self, number: u64) -> io::Result<(TcpStream, SocketAddr)> {
         let (stream, peer) = self.listener.accept()?;
         let mut stream = stream;

@@ -1,4 +1,5 @@
-ghost use Rattle.std.specs.Prelude.{ℕ, List, Option, IfOk, OnErr, OnOk};
+ghost use Rattle.std.specs.Prelude.{ℕ, List, Option, IfErr, IfOk, OnErr, OnOk};
+ghost use Rattle.std.specs.declared.io.Error.{Error};
 ghost use Rattle.service.specs.Sockets.{Why};
 ghost use Rattle.service.specs.Turns.{FailsAfter};
 
@@ -38,12 +39,16 @@ pub trait Listener {
     /// That so many accepts in a row have failed, up to the last. Only calls say so.
     ghost failed: { Self → ℕ → Type 0 };
 
+    /// That the last accept failed so.
+    ghost refused: { Self → Error → Type 0 };
+
     /// Waits for the next connection, under this number.
     fn accept(&mut self, number: u64) -> io::Result<Accepted<Self::Reader, Self::Writer>>
         ensures opens { IfOk result (λ it. opened number
             (Self.Reader.remaining it.reader) (Self.Writer.contents it.writer)) }
         ensures again { OnOk result (failed self.new 0) }
-        ensures fails { OnErr result (FailsAfter failed 0 1 self.old self.new) };
+        ensures fails { OnErr result (FailsAfter failed 0 1 self.old self.new) }
+        ensures last { IfErr result (refused self.new) };
 
     /// Ends a connection, is told why, and tells how many bytes were read and written.
     fn end(
@@ -77,6 +82,8 @@ impl<'r, R: AllocGlobal + Clock> Listener for System<'r, R> {
     ghost ended = { λ _ _ _ _. Unit {0} };
 
     ghost failed = { λ _ _. Unit {0} };
+
+    ghost refused = { λ _ _. Unit {0} };
 
     fn accept(&mut self, number: u64) -> io::Result<Accepted<Metered, BufWriter<Metered, Global>>> {
         let _number = number;

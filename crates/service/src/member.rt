@@ -3,7 +3,7 @@ ghost use Rattle.cache_server.specs.Server.{IsOpenAt, session_at};
 ghost use Rattle.service.specs.Member.{EndsFor, EndsWell, MovesOn, Passes, PassesSent};
 ghost use Rattle.service.specs.Member.{end_of, new_member, unsent_of};
 ghost use Rattle.service.specs.Sockets.{Failed, IsBroken, SendsTo, Shut, Stays};
-ghost use Rattle.service.specs.Talks.{MayEnd};
+ghost use Rattle.service.specs.Talks.{IsReason};
 
 use crate::desk::Desk;
 use crate::load::{Leave, Load};
@@ -191,7 +191,7 @@ impl<S: Peer + Drop> Member<S> {
         pressed: bool,
         now: u64,
     ) -> Option<Result<(), ConnError>>
-        ensures { IfSome result (λ why. MayEnd (S.over self.now.stream) (IsTrue is_open → ⊥)
+        ensures { IfSome result (λ why. IsReason (S.over self.now.stream) (IsTrue is_open → ⊥)
             self.now.left self.now.unsent why) }
     {
         let allowed = self.deadline(idle, pressed)?.saturating_sub(self.moved);
@@ -407,7 +407,8 @@ impl<S: Peer + Drop> Member<S> {
 
     /// Answers the next request of what was read before.
     fn go_on(&mut self, number: u64, server: &mut Server<Global>, desk: &Desk) -> Turn
-        requires { self.old.unsent ≡ [] }
+        requires unsent { self.old.unsent ≡ [] }
+        requires more { IsOpenAt (session_at server.old number) }
         ensures { MovesOn (end_of result) S.spoke S.over number
             server.old self.old server.new self.new }
     {
@@ -436,6 +437,7 @@ impl<S: Peer + Drop> Member<S> {
     ) -> Turn
         requires left { self.old.left ≡ [] }
         requires unsent { self.old.unsent ≡ [] }
+        requires more { IsOpenAt (session_at server.old number) }
         ensures { MovesOn (end_of result) S.spoke S.over number
             server.old self.old server.new self.new }
     {

@@ -33,7 +33,7 @@ impl<S: Peer + Drop> Together<S> {
     {
         for event in events {
             let Some(number) = event.number else {
-                self.door.waits = true;
+                self.waits = true;
                 continue;
             };
             if event.readable {

@@ -54,6 +54,7 @@ pub fn serve_listener<R: AllocGlobal + Log, L: Listener>(
     ensures few { IfErr result (λ fault. fault.accepted < connections) }
     ensures tried { IfErr result (λ fault.
         FailsAfter L.failed fault.accepted 100 listener.old listener.new) }
+    ensures last { IfErr result (λ fault. L.refused listener.new fault.fault) }
 {
     for number in 0..connections {
         let accepted = match accept(rt, listener, number) {
@@ -78,6 +79,7 @@ fn accept<R: Log, L: Listener>(
         (L.Reader.remaining it.reader) (L.Writer.contents it.writer)) }
     ensures again { OnOk result (L.failed listener.new 0) }
     ensures fails { OnErr result (FailsAfter L.failed 0 100 listener.old listener.new) }
+    ensures last { IfErr result (L.refused listener.new) }
 {
     for tried in 1..TRIES {
         match listener.accept(number) {

@@ -1,6 +1,6 @@
 //! Which connections were silent for too long.
-ghost use Rattle.std.specs.Prelude.{ℕ, IfSome, false};
-ghost use Rattle.service.specs.Together.{GoesOnTogether, MayEndAt};
+ghost use Rattle.std.specs.Prelude.{IfSome};
+ghost use Rattle.service.specs.Together.{GoesOn, MayEndAt};
 
 use crate::load::GREATEST;
 use crate::sockets::{Peer, Sockets};
@@ -19,9 +19,8 @@ impl<S: Peer + Drop> Together<S> {
         sockets: &mut N,
         server: &mut Server<Global>,
     )
-        ensures { (accepted : ℕ) → GoesOnTogether false S.spoke N.ended N.lost
-            self.old.members.entries accepted server.old
-            self.new.members.entries accepted server.new }
+        ensures { GoesOn S.spoke N.ended N.lost (self.old.members.entries, server.old)
+            (self.new.members.entries, server.new) }
     {
         let now = self.timer.now(rt);
         let pressed = self.scales.load.requests >= GREATEST || self.is_full();
@@ -61,9 +60,8 @@ impl<S: Peer + Drop> Together<S> {
         pressed: bool,
         now: u64,
     )
-        ensures { (accepted : ℕ) → GoesOnTogether false S.spoke N.ended N.lost
-            self.old.members.entries accepted server.old
-            self.new.members.entries accepted server.new }
+        ensures { GoesOn S.spoke N.ended N.lost (self.old.members.entries, server.old)
+            (self.new.members.entries, server.new) }
     {
         match self.silence(server, number, pressed, now) {
             Some(why) => self.end(rt, sockets, server, number, why),

@@ -1,8 +1,12 @@
 ghost use Rattle.std.specs.Prelude.{◌≡◌, ◌≤◌, ◌↔◌, ℕ, List, [], take, IfErr, IfOk, IsTrue, OnErr};
 ghost use Rattle.cache_server.specs.declared.error.ConnError.{ConnError};
 ghost use Rattle.std.specs.Io.{ReadsAtMost, WritesAtMost};
+ghost use Rattle.std.specs.IoError.{error_kind};
+ghost use Rattle.std.specs.declared.io.Error.{Error};
+ghost use Rattle.std.specs.declared.io.ErrorKind.TheVariants.{WouldBlock};
 ghost use Rattle.service.specs.Sockets.{Cause, EndsAs, Failed, Finished, IsBroken, ReadsFrom};
 ghost use Rattle.service.specs.Sockets.{SendsTo, Shut, Silent, Stays, StaysShut, Why};
+ghost use Rattle.service.specs.Turns.{FailsAfter};
 
 use cache_server::ConnError;
 use std::alloc::Global;
@@ -78,14 +82,27 @@ pub trait Sockets {
     /// That it was over then, and why.
     ghost lost: { ℕ → Cause → Type 0 };
 
-    /// The next connection, under this number.
+    /// That so many accepts in a row have failed, up to the last, and not for want of a connection.
+    ghost failed: { Self → ℕ → Type 0 };
+
+    /// That the last accept failed so.
+    ghost refused: { Self → Error → Type 0 };
+
+    /// That a wait failed so.
+    ghost broken: { Error → Type 0 };
+
+    /// The next connection, under this number, or `WouldBlock` where none waits.
     fn accept(&mut self, number: u64) -> io::Result<(Self::Stream, SocketAddr)>
-        ensures { IfOk result (λ accepted. Self.Stream.spoke number accepted.0 [] []) };
+        ensures said { IfOk result (λ accepted. Self.Stream.spoke number accepted.0 [] []) }
+        ensures fails { IfErr result (λ e. (error_kind e ≡ WouldBlock → ⊥)
+            → FailsAfter failed 0 1 self.old self.new) }
+        ensures last { IfErr result (refused self.new) };
 
     /// Ends a connection, and is told why.
     fn end(&mut self, stream: Self::Stream, why: Result<(), ConnError>)
         ensures { EndsAs Self.Stream.spoke Self.Stream.over stream why ended lost };
 
     /// Waits until the system has something, for so long at most, and adds it to what is ready.
-    fn wait(&mut self, timeout: Option<Duration>, ready: &mut Vec<Ready, Global>) -> io::Result<()>;
+    fn wait(&mut self, timeout: Option<Duration>, ready: &mut Vec<Ready, Global>) -> io::Result<()>
+        ensures { IfErr result broken };
 }

@@ -1,9 +1,10 @@
 ghost use Rattle.std.specs.Prelude.{◌≡◌, ◌≤◌, ℕ, [], None, IfErr, IfOk, OnOk, false, true};
-ghost use Rattle.service.specs.Talks.{Serves};
+ghost use Rattle.std.specs.IoError.{error_kind};
+ghost use Rattle.std.specs.declared.io.ErrorKind.TheVariants.{OutOfMemory};
+ghost use Rattle.service.specs.Talks.{Serves, Stops};
 ghost use Rattle.service.specs.Together.{AreSame, GoesOnTogether, member_at};
 
 use crate::desk::Desk;
-use crate::door::Door;
 use crate::epoll::Epoll;
 use crate::error::NotAccepted;
 use crate::load::Scales;
@@ -35,7 +36,8 @@ pub(crate) struct Together<S: Peer> {
     // Those that wait until others hold less.
     pub(crate) held: Vec<u64, Global>,
     pub(crate) scales: Scales,
-    pub(crate) door: Door,
+    // A connection may wait to be accepted.
+    pub(crate) waits: bool,
     pub(crate) idle: Option<u64>,
     pub(crate) timer: Timer,
     // When a member may have been silent for too long.
@@ -81,7 +83,7 @@ pub fn serve_together<R: AllocGlobal + Clock + ErrorTerminal + Log + Net>(
 /// Serves so many connections of the sockets, up to `at_once` of them at a time, none of which
 /// waits for another. Each is read only while it has no answer that isn't sent. A line on the
 /// terminal, if there is one, says how many are open, and the hits so far.
-#[tactic(auto, using(crate::proofs::Whole::serves_all, crate::proofs::Whole::serves_cut, crate::proofs::Whole::serves_none))]
+#[tactic(auto, using(crate::proofs::Whole::serves_all, crate::proofs::Whole::serves_cut, crate::proofs::Whole::serves_kept, crate::proofs::Whole::serves_none))]
 pub fn serve_sockets<R: AllocGlobal + Clock + Log, N: Sockets>(
     rt: &R,
     sockets: &mut N,
@@ -99,6 +101,10 @@ pub fn serve_sockets<R: AllocGlobal + Clock + Log, N: Sockets>(
     ensures err { IfErr result (λ fault.
         Serves true N.ended N.lost server.old fault.accepted server.new) }
     ensures few { IfErr result (λ fault. fault.accepted ≤ connections) }
+    // It was cut off; or none was open, and a hundred accepts in a row failed.
+    ensures stops { IfErr result (λ fault. Stops N.failed N.refused N.broken
+        (Serves false N.ended N.lost server.old fault.accepted server.new)
+        sockets.new fault.fault) }
 {
     let mut accepted: u64 = 0;
     let mut together = match Together::new(rt, at_once, idle, terminal) {
@@ -110,6 +116,9 @@ pub fn serve_sockets<R: AllocGlobal + Clock + Log, N: Sockets>(
     match served {
         Ok(()) => Ok(()),
         Err(fault) => {
+            if together.members.is_empty() {
+                return Err(NotAccepted { accepted, fault });
+            }
             together.end_all(rt, sockets, server, accepted);
             Err(NotAccepted { accepted, fault })
         }
@@ -123,7 +132,8 @@ impl<S: Peer + Drop> Together<S> {
         idle: Option<Duration>,
         terminal: Option<Stderr>,
     ) -> io::Result<Together<S>>
-        ensures { IfOk result (λ together. together.members.entries ≡ []) }
+        ensures ok { IfOk result (λ together. together.members.entries ≡ []) }
+        ensures err { IfErr result (λ e. error_kind e ≡ OutOfMemory) }
     {
         let alloc = rt.alloc();
         Ok(Together {
@@ -132,12 +142,12 @@ impl<S: Peer + Drop> Together<S> {
             ready: Vec::with_capacity(alloc, at_once)?,
             held: Vec::new(alloc),
             scales: Scales::new(),
-            door: Door::new(),
+            waits: true,
             idle: match &idle {
                 Some(time) => Some(millis(time)),
                 None => None,
             },
-            timer: Timer::begin(rt)?,
+            timer: Timer::begin(rt),
             wake: u64::MAX,
             desk: Desk::new(alloc)?,
             line: StatusLine::new(terminal),
@@ -174,6 +184,8 @@ impl<S: Peer + Drop> Together<S> {
         ensures within { accepted.new ≤ connections }
         ensures all { OnOk result (accepted.new ≡ connections) }
         ensures gone { OnOk result ((k : ℕ) → member_at self.new.members.entries k ≡ None) }
+        ensures stops { IfErr result
+            (Stops N.failed N.refused N.broken (self.new.members.entries ≡ []) sockets.new) }
     {
         let mut events = Vec::with_capacity(rt.alloc(), EVENTS)?;
         for _ in 0..u64::MAX {
@@ -188,7 +200,7 @@ impl<S: Peer + Drop> Together<S> {
             self.run(rt, sockets, server);
             self.sweep(rt, sockets, server);
         }
-        Err(io::Error::from(ErrorKind::Other))
+        Err(io::Error::from(ErrorKind::OutOfMemory))
     }
 
     /// Shows on the terminal how many are open, and the hits so far.

@@ -1,7 +1,7 @@
 //! A turn of each that has something to do.
-ghost use Rattle.std.specs.Prelude.{◌≡◌, ℕ, None, IfSome, false};
+ghost use Rattle.std.specs.Prelude.{◌≡◌, None, IfSome};
 ghost use Rattle.service.specs.Member.{end_of};
-ghost use Rattle.service.specs.Together.{AreSame, GoesOnTogether, MovesOnAt};
+ghost use Rattle.service.specs.Together.{AreSame, GoesOn, MovesOnAt};
 
 use crate::load::{GREATEST, Leave};
 use crate::sockets::{Peer, Sockets};
@@ -22,9 +22,8 @@ impl<S: Peer + Drop> Together<S> {
         sockets: &mut N,
         server: &mut Server<Global>,
     )
-        ensures { (accepted : ℕ) → GoesOnTogether false S.spoke N.ended N.lost
-            self.old.members.entries accepted server.old
-            self.new.members.entries accepted server.new }
+        ensures { GoesOn S.spoke N.ended N.lost (self.old.members.entries, server.old)
+            (self.new.members.entries, server.new) }
     {
         let now = self.timer.now(rt);
         let mut ready = mem::replace(&mut self.ready, Vec::new(rt.alloc()));
@@ -51,9 +50,8 @@ impl<S: Peer + Drop> Together<S> {
         number: u64,
         now: u64,
     )
-        ensures { (accepted : ℕ) → GoesOnTogether false S.spoke N.ended N.lost
-            self.old.members.entries accepted server.old
-            self.new.members.entries accepted server.new }
+        ensures { GoesOn S.spoke N.ended N.lost (self.old.members.entries, server.old)
+            (self.new.members.entries, server.new) }
     {
         let Some((turn, was_held)) = self.advance(server, number, now) else {
             return;

@@ -14,7 +14,7 @@ use tree::{BlobSource, Memo, MemorySource};
 pub fn answered<A: Allocator + Copy>(
     global: Global,
     alloc: A,
-    engine: &mut Engine<A>,
+    engine: &mut Engine<'_, A>,
     source: &mut MemorySource<A>,
     fields: &[Vec<u8>],
     outcome: Outcome<A>,
@@ -32,7 +32,7 @@ pub fn answered<A: Allocator + Copy>(
 fn of_all<A: Allocator + Copy>(
     global: Global,
     alloc: A,
-    engine: &Engine<A>,
+    engine: &Engine<'_, A>,
     source: &mut MemorySource<A>,
     kind: &str,
 ) -> Answer {
@@ -47,7 +47,7 @@ fn of_all<A: Allocator + Copy>(
 fn of_number<A: Allocator + Copy>(
     global: Global,
     alloc: A,
-    engine: &mut Engine<A>,
+    engine: &mut Engine<'_, A>,
     source: &mut MemorySource<A>,
     kind: &str,
     number: &[u8],
@@ -100,7 +100,7 @@ fn ended<A: Allocator>(global: Global, ended: Result<(), RunsError<A>>) -> Answe
 fn start<A: Allocator + Copy>(
     global: Global,
     alloc: A,
-    engine: &mut Engine<A>,
+    engine: &mut Engine<'_, A>,
     source: &mut MemorySource<A>,
     step: usize,
 ) -> Answer {
@@ -112,7 +112,7 @@ fn start<A: Allocator + Copy>(
 pub fn start_over<A: Allocator + Copy, S: BlobSource<A>>(
     global: Global,
     alloc: A,
-    engine: &mut Engine<A>,
+    engine: &mut Engine<'_, A>,
     memo: &mut Memo<A>,
     source: &mut S,
     step: usize,
@@ -136,7 +136,7 @@ pub fn start_over<A: Allocator + Copy, S: BlobSource<A>>(
 fn root<A: Allocator + Copy>(
     global: Global,
     alloc: A,
-    engine: &Engine<A>,
+    engine: &Engine<'_, A>,
     source: &mut MemorySource<A>,
 ) -> Answer {
     let mut memo = Memo::new(alloc);
@@ -147,7 +147,7 @@ fn root<A: Allocator + Copy>(
 pub fn root_over<A: Allocator + Copy, S: BlobSource<A>>(
     global: Global,
     alloc: A,
-    engine: &Engine<A>,
+    engine: &Engine<'_, A>,
     memo: &mut Memo<A>,
     source: &mut S,
 ) -> Answer
@@ -164,7 +164,7 @@ pub fn root_over<A: Allocator + Copy, S: BlobSource<A>>(
 }
 
 /// The text of the record, if there is one.
-fn record<A: Allocator + Copy>(global: Global, alloc: A, engine: &Engine<A>) -> Answer {
+fn record<A: Allocator + Copy>(global: Global, alloc: A, engine: &Engine<'_, A>) -> Answer {
     match engine.record(alloc)? {
         None => said(global, "none"),
         Some(noted) => said(global, str::from_utf8(&noted.write(alloc)?)?),
@@ -175,7 +175,7 @@ fn record<A: Allocator + Copy>(global: Global, alloc: A, engine: &Engine<A>) -> 
 pub fn asked<A: Allocator + Copy>(
     global: Global,
     alloc: A,
-    engine: &Engine<A>,
+    engine: &Engine<'_, A>,
     kind: &str,
     step: usize,
 ) -> Answer {

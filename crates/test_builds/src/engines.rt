@@ -30,7 +30,7 @@ pub fn run(
     let heap = Refusing::new(global, 0);
     let mut source = source_of(&heap, stock, changes)?;
     let plan = Plan::read(&heap, plan)?;
-    match Engine::new(&heap, plan, Digest::read_text(sources)?, &mut source) {
+    match Engine::new(&heap, &plan, Digest::read_text(sources)?, &mut source) {
         Ok(mut engine) => run_rows(global, &heap, &mut engine, &mut source, rows, noted),
         Err(_) => Err(Broken::NoRow),
     }
@@ -40,7 +40,7 @@ pub fn run(
 fn run_rows<'h>(
     global: Global,
     heap: &'h Refusing<Global>,
-    engine: &mut Engine<&'h Refusing<Global>>,
+    engine: &mut Engine<'_, &'h Refusing<Global>>,
     source: &mut MemorySource<&'h Refusing<Global>>,
     rows: &[Row],
     noted: &mut String,
@@ -82,7 +82,7 @@ fn is_spare(fields: &[Vec<u8>]) -> bool {
 pub fn insisted<'h>(
     global: Global,
     heap: &'h Refusing<Global>,
-    engine: &mut Engine<&'h Refusing<Global>>,
+    engine: &mut Engine<'_, &'h Refusing<Global>>,
     source: &mut MemorySource<&'h Refusing<Global>>,
     fields: &[Vec<u8>],
 ) -> Result<(String, u64), Broken> {
@@ -151,7 +151,7 @@ pub fn opened<A: Allocator + Copy>(
     };
     let mut source = source_of(alloc, stock, changes)?;
     let plan = Plan::read(alloc, plan)?;
-    match Engine::new(alloc, plan, Digest::empty(), &mut source) {
+    match Engine::new(alloc, &plan, Digest::empty(), &mut source) {
         Ok(_) => said(global, "none"),
         Err(OpenError::Source(step, error)) => {
             let fault = fault_told(global, &error)?;

@@ -20,7 +20,7 @@ pub fn answer(global: Global, stock: &[Row], fields: &[Vec<u8>]) -> Answer {
     let heap = Refusing::new(global, 0);
     let mut source = source_of(&heap, stock, &[])?;
     let plan = Plan::read(&heap, plan)?;
-    match Engine::new(&heap, plan, Digest::empty(), &mut source) {
+    match Engine::new(&heap, &plan, Digest::empty(), &mut source) {
         Ok(mut engine) => many_jobs(global, &heap, &mut engine, &mut source, count, word(action)),
         Err(_) => Err(Broken::NoRow),
     }
@@ -29,7 +29,7 @@ pub fn answer(global: Global, stock: &[Row], fields: &[Vec<u8>]) -> Answer {
 fn many_jobs<'h>(
     global: Global,
     heap: &'h Refusing<Global>,
-    engine: &mut Engine<&'h Refusing<Global>>,
+    engine: &mut Engine<'_, &'h Refusing<Global>>,
     source: &mut MemorySource<&'h Refusing<Global>>,
     count: u64,
     action: &str,
@@ -46,7 +46,7 @@ fn many_jobs<'h>(
 fn are_started<'h>(
     global: Global,
     heap: &'h Refusing<Global>,
-    engine: &mut Engine<&'h Refusing<Global>>,
+    engine: &mut Engine<'_, &'h Refusing<Global>>,
     source: &mut MemorySource<&'h Refusing<Global>>,
     count: u64,
     action: &str,
@@ -65,7 +65,7 @@ fn are_started<'h>(
 fn start_first<'h>(
     global: Global,
     heap: &'h Refusing<Global>,
-    engine: &mut Engine<&'h Refusing<Global>>,
+    engine: &mut Engine<'_, &'h Refusing<Global>>,
     source: &mut MemorySource<&'h Refusing<Global>>,
 ) -> Answer {
     let call = [

@@ -20,7 +20,7 @@ pub enum Question {
 fn asked<A: Allocator + Copy, S: BlobSource<A>>(
     global: Global,
     alloc: A,
-    engine: &mut Engine<A>,
+    engine: &mut Engine<'_, A>,
     memo: &mut Memo<A>,
     source: &mut S,
     question: Question,
@@ -43,7 +43,7 @@ fn asked<A: Allocator + Copy, S: BlobSource<A>>(
 pub fn insisted<'h>(
     global: Global,
     heap: &'h Refusing<Global>,
-    engine: &mut Engine<&'h Refusing<Global>>,
+    engine: &mut Engine<'_, &'h Refusing<Global>>,
     source: &mut MemorySource<&'h Refusing<Global>>,
     question: Question,
     expected: &[u8],
@@ -62,7 +62,7 @@ pub fn insisted<'h>(
 fn asked_thrice<'h>(
     global: Global,
     heap: &'h Refusing<Global>,
-    engine: &mut Engine<&'h Refusing<Global>>,
+    engine: &mut Engine<'_, &'h Refusing<Global>>,
     source: &mut MemorySource<&'h Refusing<Global>>,
     question: Question,
     expected: &[u8],

@@ -318,9 +318,6 @@ module _ {A : Type 0} where
   pub found_at : (es : List (Vec Name A × FlatEntry A)) (now : FlatValue) (p : List Name) (o : Option (FlatEntry A)) → flat_value es ≡ now → o ≡ lookup (λ (k : Vec Name A). is_eq (path_cmp p k.items)) es → standing_in now p ≡ found_value o
   found_at es now p o view is = ap (λ l. standing_in l p) (sym view) ∙ flat_standing es p ∙ ap found_value (sym is)
 
-  pub entry_at : (es : FlatValue) (p : List Name) (o : Option (FlatEntry A)) (e : FlatEntry A) → standing_in es p ≡ found_value o → o ≡ Some e → standing_in es p ≡ entry_value e
-  entry_at es p o e h is = h ∙ ap found_value is
-
   pub flat_nothing : (es : List (Vec Name A × FlatEntry A)) → es ≡ [] → IsFlatTree (flat_value es)
   flat_nothing es e = subst (λ l. IsFlatTree (flat_value l)) (sym e) (record { tree = empty; list = record { ordered = tt; listing = refl }; paths = tt })
 

@@ -67,6 +67,11 @@ lists_first all = record { left = λ t h. record { tree = t; list = h; directory
 pub lists_same : {made other : DirectoryValue} {tops others : List (List ℕ)} {rest all : FlatValue} → other ≡ made → others ≡ tops → Lists made tops rest all → Lists other others rest all
 lists_same {made} {other} {tops} {others} {rest} {all} d e h = subst (λ m. Lists m others rest all) (sym d) (subst (λ t. Lists made t rest all) (sym e) h)
 
+-- a child more, under a copy of its name
+pub lists_named : (was : DirectoryValue) (x : NodeValue) {n m : Name} {other : DirectoryValue} {tops others : List (List ℕ)} {rest all : FlatValue}
+    → m ≡ n → other ≡ joined was (with_child m x no_children) → others ≡ tops → Lists (joined was (with_child n x no_children)) tops rest all → Lists other others rest all
+lists_named was x same d e h = lists_same (d ∙ ap (λ k. joined was (with_child k x no_children)) same) e h
+
 pub lists_leaf : (made : DirectoryValue) (tops : List (List ℕ)) (n : Name) (p : List Name) (x : NodeValue) (rest all : FlatValue) → Lists made tops ((n ∷ p, a_leaf x) ∷ rest) all
     → Lists (joined made (with_child n x no_children)) tops rest all
 lists_leaf made tops n p x rest all h = record { left = λ t at. (let l = h.left t at in step l.tree t l.list l.directory l.tops_left) }

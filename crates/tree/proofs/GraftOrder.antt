@@ -1,5 +1,5 @@
 -- A graft doesn't depend on the order of its lines, and one of lines in the order of paths goes name by name.
-use Rattle.std.proofs.Common.{◌≡◌, ◌≢◌, List, [], ◌∷◌, ◌++◌, refl, ap, sym, ◌∙◌, subst, inl, inr}
+use Rattle.std.proofs.Common.{◌≡◌, List, [], ◌∷◌, refl, ap, sym, ◌∙◌, subst, inl, inr}
 use Rattle.std.specs.Prelude.{◌⊎◌, Option, Some, None}
 use Rattle.tree.specs.Tree.{Name, Tree, empty, Entry, single, whole, entry_of, IsOrdered}
 use Rattle.tree.specs.Graft.{put}
@@ -7,10 +7,6 @@ use Rattle.tree.specs.Visiting.{Apart}
 use Rattle.tree.proofs.TreeLemmas.{one_or_two, entry-put, entry-put_other, put_entry, ordered-put}
 use Rattle.tree.proofs.GraftLaws.{IsInOrder, in_order}
 use Rattle.tree.proofs.SameTree.{same_tree}
-
-abbrev pub under : {X : Type 0} → Name → List (List Name × X) → List (List Name × X)
-under n [] = []
-under n (l ∷ ls) = (n ∷ l.0, l.1) ∷ under n ls
 
 -- leaves put at paths apart, in either order
 pub put-put : {X : Type 0} (p q : List Name) (x y : X) (t : Tree X) → IsOrdered t → Apart p q → put p x (put q y t) ≡ put q y (put p x t)

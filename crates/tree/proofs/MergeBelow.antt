@@ -12,12 +12,13 @@ use Rattle.tree.specs.Memo.{Asked}
 use Rattle.tree.specs.Stage.{Stage}
 use Rattle.tree.specs.Unfolding.{ExplainsChild, IsFull}
 use Rattle.tree.specs.Lookup.{names_in}
-use Rattle.tree.specs.Merging.{WithinValue, NodeWithin, MergeLines, MergeFault, conflict, IsHeldIn, AreHeld, grouped, first_names, lines_at, counted, CanMeet, opened, lone, node_here, entry_merged, each_name, merged_in, merged, ExplainsMerge}
+use Rattle.tree.specs.Merging.{WithinValue, NodeWithin, MergeLines, MergeFault, IsHeldIn, AreHeld, grouped, first_names, lines_at, counted, CanMeet, opened, lone, node_here, stands_or, entry_merged, each_name, merged_in, merged, ExplainsMerge}
 use Rattle.tree.specs.MergeLooks.{StandsOrLooksAt, MetLooksAt, OpenedLooksAt, EachLooksAt, MergeLooksIn, MergeLooksAt}
-use Rattle.tree.specs.MergeParts.{part_values}
-use Rattle.tree.proofs.MergeLooking.{met_opening, met_below}
-use Rattle.tree.proofs.MergeStages.{all_lines_at, all_counted, stable_opened, stable_merged_in}
-use Rattle.tree.proofs.MergeSteps.{lone_stands, meets, conflicts, fails_opening, fails_below}
+use Rattle.tree.specs.MergeParts.{part_values, meeting, MeetingLooksAt}
+use Rattle.tree.proofs.StageLaws.{looks_here, looks_next}
+use Rattle.tree.proofs.MergeLooking.{steady_opened}
+use Rattle.tree.proofs.MergeStages.{all_lines_at, all_counted, stable_opened, stable_entry, stable_merged_in}
+use Rattle.tree.proofs.MergeSteps.{lone_stands, comes_below, fails_below}
 
 -- what the lines of a name come to, where below their path names are left for `deeper` more
 abbrev pub at_name : ℕ → List Name → Blobs → Name → MergeLines → Stage MergeFault (Entry NodeValue)
@@ -60,42 +61,40 @@ module _ (k : ℕ) (path : List Name) (n : Name) (given kept : MergeLines) (same
   pub name_stands : (x : NodeValue) → lone kept ≡ Some x → (B : Blobs) → (at_name k path B n given).passes (single x)
   name_stands x is B = lone_stands B (merged_in B k (path ++ n ∷ [])) k (path ++ n ∷ []) (counted [] given) x (ap lone (sym same) ∙ is)
 
-  module _ (none : lone kept ≡ None) (child : List Name) (here : child ≡ path ++ n ∷ []) where
-    none_counted : lone (counted [] given) ≡ None
-    none_counted = ap lone (sym same) ∙ none
+  module _ (none : lone kept ≡ None) (child : List Name) (here : child ≡ path ++ n ∷ []) (B : Blobs) where
+    is_met : meeting B k child kept ≡ at_name k path B n given
+    is_met = ap (λ p. meeting B k p kept) here ∙ ap (meeting B k (path ++ n ∷ [])) same ∙ ap (λ o. stands_or o (meeting B k (path ++ n ∷ []) (counted [] given))) (sym (ap lone (sym same) ∙ none))
 
-    pub name_conflicts : (B : Blobs) → (CanMeet k kept → ⊥) → (at_name k path B n given).fails (conflict child)
-    name_conflicts B cannot =
-        subst (λ p. (at_name k path B n given).fails (conflict p)) (sym here)
-        (conflicts B (merged_in B k (path ++ n ∷ [])) k (path ++ n ∷ []) (counted [] given) none_counted (λ can. cannot (subst (CanMeet k) (sym same) can)))
+    pub name_meets : (t : Tree NodeValue) → (meeting B k child kept).passes (whole t) → (later : Blobs) → Grows B later → (at_name k path later n given).passes (whole t)
+    name_meets t h later g =
+        (stable_entry k (path ++ n ∷ []) (counted [] given) (λ new. stable_merged_in k (path ++ n ∷ []) new)).still B later g (whole t) (subst (λ (s : Stage MergeFault (Entry NodeValue)). s.passes (whole t)) is_met h)
 
-    module _ (can : CanMeet k kept) where
-      can_counted : CanMeet k (counted [] given)
-      can_counted = subst (CanMeet k) same can
+    pub name_fails : (f : MergeFault) → (meeting B k child kept).fails f → (at_name k path B n given).fails f
+    name_fails f h = subst (λ (s : Stage MergeFault (Entry NodeValue)). s.fails f) is_met h
 
-      pub opening_fails : (B : Blobs) (f : MergeFault) → (opened B kept).fails f → (at_name k path B n given).fails f
-      opening_fails B f h = fails_opening B (merged_in B k (path ++ n ∷ [])) k (path ++ n ∷ []) (counted [] given) none_counted f can_counted (subst (λ l. (opened B l).fails f) same h)
+    pub name_looks : (a : Asked) → MeetingLooksAt B k child kept a → look_name k path B n given a
+    name_looks a h =
+        let there = subst (λ p. MeetingLooksAt B k p (counted [] given) a) here (subst (λ l. MeetingLooksAt B k child l a) same h) in
+        subst (λ o. StandsOrLooksAt o (MeetingLooksAt B k (path ++ n ∷ []) (counted [] given) a)) (sym (ap lone (sym same) ∙ none)) there
 
-      pub opening_looks : (B : Blobs) (a : Asked) → OpenedLooksAt B kept a → look_name k path B n given a
-      opening_looks B a h = met_opening B k (path ++ n ∷ []) (counted [] given) none_counted can_counted a (subst (λ l. OpenedLooksAt B l a) same h)
+-- ---- lines that meet
 
-      module _ (C D : Blobs) (grows : Grows C D) (new : MergeLines) (read : (opened C kept).passes new) where
-        read_later : (later : Blobs) → Grows D later → (opened later (counted [] given)).passes new
-        read_later later g = (stable_opened (counted [] given)).still C later (λ e b h. g e b (grows e b h)) new (subst (λ l. (opened C l).passes new) same read)
+module _ (k : ℕ) (path : List Name) (kept : MergeLines) (can : CanMeet k kept) (C D : Blobs) (grows : Grows C D) where
+  pub opening_looks : (a : Asked) → OpenedLooksAt C kept a → MeetingLooksAt D k path kept a
+  opening_looks a h = (can, looks_here (opened D kept) (OpenedLooksAt D kept) (MergeLooksIn D k path) a ((steady_opened kept).still C D grows a h))
 
-        pub below_fails : (f : MergeFault) → (merged_in D k child new).fails f → (at_name k path D n given).fails f
-        below_fails f h =
-            fails_below D (merged_in D k (path ++ n ∷ [])) k (path ++ n ∷ []) (counted [] given) none_counted f new can_counted (read_later D (λ e b q. q))
-            (subst (λ p. (merged_in D k p new).fails f) here h)
+  module _ (new : MergeLines) (read : (opened C kept).passes new) where
+    read_later : (opened D kept).passes new
+    read_later = (stable_opened kept).still C D grows new read
 
-        pub below_looks : (a : Asked) → MergeLooksIn D k child new a → look_name k path D n given a
-        below_looks a h =
-            met_below D k (path ++ n ∷ []) (counted [] given) none_counted can_counted a new (read_later D (λ e b q. q)) (subst (λ p. MergeLooksIn D k p new a) here h)
+    pub below_passes : (t : Tree NodeValue) → (merged_in D k path new).passes t → (meeting D k path kept).passes (whole t)
+    below_passes t h = comes_below D (merged_in D k path) k path kept new t can read_later h
 
-        pub name_meets : (t : Tree NodeValue) → (merged_in D k child new).passes t → (later : Blobs) → Grows D later → (at_name k path later n given).passes (whole t)
-        name_meets t h later g =
-            meets later (merged_in later k (path ++ n ∷ [])) k (path ++ n ∷ []) (counted [] given) none_counted new t can_counted (read_later later g)
-            ((stable_merged_in k (path ++ n ∷ []) new).still D later g t (subst (λ p. (merged_in D k p new).passes t) here h))
+    pub below_fails : (f : MergeFault) → (merged_in D k path new).fails f → (meeting D k path kept).fails f
+    below_fails f h = fails_below D (merged_in D k path) k path kept f new can read_later h
+
+    pub below_looks : (a : Asked) → MergeLooksIn D k path new a → MeetingLooksAt D k path kept a
+    below_looks a h = (can, looks_next (opened D kept) (OpenedLooksAt D kept) (MergeLooksIn D k path) a new read_later h)
 
 -- ---- what the code asks
 

@@ -5,7 +5,7 @@ use Rattle.std.specs.List.{AllByRecursion}
 use Rattle.std.specs.FinMap.Entries.{by_order}
 use Rattle.std.specs.Ordering.{eq_by_cmp, is_eq, match_ordering}
 use Rattle.std.specs.BTreeMap.{insert_entry, is_at}
-use Rattle.std.specs.Map.{keys_of, lookup, remove_entry}
+use Rattle.std.specs.Map.{keys_of, lookup, set_value}
 use Rattle.std.specs.List.Sorted.{IsStrictlySortedBy}
 use Rattle.std.proofs.lemmas.Map.Keys.{sorted_head, sorted_tail}
 use Rattle.std.specs.declared.vec.Vec.{Vec}
@@ -13,15 +13,10 @@ use Rattle.tree.specs.declared.merging.Part.{Part}
 use Rattle.std.specs.declared.cmp.Ordering.{Ordering}
 use Rattle.std.specs.declared.cmp.Ordering.TheVariants.{Less, Equal, Greater}
 use Rattle.tree.specs.Tree.{Name, name_cmp}
-use Rattle.tree.specs.MergeParts.{part_values, found_parts, group_values}
+use Rattle.tree.specs.MergeParts.{adds, part_values, group_values}
 use Rattle.tree.specs.Merging.{WithinValue, NodeWithin, add_name, add_first, names_with, first_names, under_name, lines_at, grouped}
 use Rattle.tree.proofs.TreeLemmas.{name_itself, name_same, name_greater, name_trans, apart_cmp, one_or_two}
 use Rattle.tree.proofs.VisitSteps.{none_after}
-
--- one line more, behind the others of its name
-abbrev pub adds : {Y : Type 0} → Name → Y → List (Name × List Y) → List (Name × List Y)
-adds n y [] = (n, y ∷ []) ∷ []
-adds n y (g ∷ gs) = by_order (name_cmp n g.0) ((n, y ∷ []) ∷ g ∷ gs) ((g.0, g.1 ++ y ∷ []) ∷ gs) (g ∷ adds n y gs)
 
 pub less_other : (n m : Name) → name_cmp n m ≡ Less → n ≢ m
 less_other n m less = λ same. let own = name_itself n in let it : name_cmp n n ≡ Less = ap (name_cmp n) same ∙ less in cc
@@ -230,47 +225,47 @@ abbrev pub Entries : Type 0 → Type 0
 Entries A = List (Name × Vec (Part A) A)
 
 module _ {A : Type 0} (W : ℕ → WithinValue) where
-  remove_none : (n : Name) (es : Entries A) → AllByRecursion (λ k. name_cmp n k ≡ Less) (keys_of es) → remove_entry (is_at (name_cmp n)) es ≡ es
-  remove_none n [] h = refl
-  remove_none n (e ∷ es) h = ap (λ o. cond (is_eq o) es (e ∷ remove_entry (is_at (name_cmp n)) es)) h.0 ∙ ap (λ r. e ∷ r) (remove_none n es h.1)
-
   lookup_none : (n : Name) (es : Entries A) → AllByRecursion (λ k. name_cmp n k ≡ Less) (keys_of es) → lookup (is_at (name_cmp n)) es ≡ None
   lookup_none n [] h = refl
   lookup_none n (e ∷ es) h = ap (λ o. cond (is_eq o) (Some e.1) (lookup (is_at (name_cmp n)) es)) h.0 ∙ lookup_none n es h.1
 
-  insert_front : (n : Name) (v : Vec (Part A) A) (es : Entries A) → AllByRecursion (λ k. name_cmp n k ≡ Less) (keys_of es) → insert_entry name_cmp es n v ≡ (n, v) ∷ es
-  insert_front n v [] h = refl
-  insert_front n v (e ∷ es) h = ap (λ o. match_ordering o ((n, v) ∷ e ∷ es) ((e.0, v) ∷ es) (e ∷ insert_entry name_cmp es n v)) h.0
-
-  pub table_adds : (es : Entries A) (n : Name) (v : Vec (Part A) A) (y : List Name × NodeWithin) → IsStrictlySortedBy name_cmp (keys_of es)
-      → part_values W v.items ≡ found_parts W (lookup (is_at (name_cmp n)) es) ++ y ∷ []
-      → group_values W (insert_entry name_cmp (remove_entry (is_at (name_cmp n)) es) n v) ≡ adds n y (group_values W es)
-  table_adds [] n v y sorted is = λ i. (n, is i) ∷ []
-  table_adds (e ∷ es) n v y sorted is = by (name_cmp n e.0) refl (table_adds es n v y (sorted_tail name_cmp e.0 (keys_of es) sorted))
+  -- a line more of a name that is there
+  pub table_sets : (es : Entries A) (n : Name) (u v : Vec (Part A) A) (y : List Name × NodeWithin) → IsStrictlySortedBy name_cmp (keys_of es)
+      → lookup (is_at (name_cmp n)) es ≡ Some u → part_values W v.items ≡ part_values W u.items ++ y ∷ []
+      → group_values W (set_value (is_at (name_cmp n)) es v) ≡ adds n y (group_values W es)
+  table_sets [] n u v y sorted there is = absurd (let both : None ≡ Some u = there in cc)
+  table_sets (e ∷ es) n u v y sorted there is = by (name_cmp n e.0) refl (table_sets es n u v y (sorted_tail name_cmp e.0 (keys_of es) sorted))
     where
-      first : AllByRecursion (λ k. name_cmp e.0 k ≡ Less) (keys_of es)
-      first = sorted_head name_cmp e.0 (keys_of es) sorted
-
-      after : (ks : List Name) → name_cmp n e.0 ≡ Less → AllByRecursion (λ k. name_cmp e.0 k ≡ Less) ks → AllByRecursion (λ k. name_cmp n k ≡ Less) ks
-      after [] less h = tt
-      after (k ∷ ks) less h = (name_trans n e.0 k less h.0, after ks less h.1)
-
       by : (o : Ordering) → name_cmp n e.0 ≡ o
-          → (part_values W v.items ≡ found_parts W (lookup (is_at (name_cmp n)) es) ++ y ∷ [] → group_values W (insert_entry name_cmp (remove_entry (is_at (name_cmp n)) es) n v) ≡ adds n y (group_values W es))
-          → group_values W (insert_entry name_cmp (remove_entry (is_at (name_cmp n)) (e ∷ es)) n v)
+          → (lookup (is_at (name_cmp n)) es ≡ Some u → part_values W v.items ≡ part_values W u.items ++ y ∷ [] → group_values W (set_value (is_at (name_cmp n)) es v) ≡ adds n y (group_values W es))
+          → group_values W (set_value (is_at (name_cmp n)) (e ∷ es) v)
+          ≡ by_order o ((n, y ∷ []) ∷ (e.0, part_values W e.1.items) ∷ group_values W es) ((e.0, part_values W e.1.items ++ y ∷ []) ∷ group_values W es) ((e.0, part_values W e.1.items) ∷ adds n y (group_values W es))
+      by Less c ih = absurd (let never : None ≡ Some u = sym (lookup_none n (e ∷ es) (c, all_less n e.0 (keys_of es) c (sorted_head name_cmp e.0 (keys_of es) sorted))) ∙ there in cc)
+      by Equal c ih =
+          let found : Some e.1 ≡ Some u = sym (ap (λ o. cond (is_eq o) (Some e.1) (lookup (is_at (name_cmp n)) es)) c) ∙ there in
+          let own : e.1 ≡ u = cc in
+          ap (λ o. group_values W (cond (is_eq o) ((e.0, v) ∷ es) (e ∷ set_value (is_at (name_cmp n)) es v))) c
+          ∙ ap (λ ps. (e.0, ps) ∷ group_values W es) (is ∙ ap (λ (w : Vec (Part A) A). part_values W w.items ++ y ∷ []) (sym own))
+      by Greater c ih =
+          let later : lookup (is_at (name_cmp n)) es ≡ Some u = sym (ap (λ o. cond (is_eq o) (Some e.1) (lookup (is_at (name_cmp n)) es)) c) ∙ there in
+          ap (λ o. group_values W (cond (is_eq o) ((e.0, v) ∷ es) (e ∷ set_value (is_at (name_cmp n)) es v))) c
+          ∙ ap (λ r. (e.0, part_values W e.1.items) ∷ r) (ih later is)
+
+  -- the first line of a name
+  pub table_inserts : (es : Entries A) (n : Name) (v : Vec (Part A) A) (y : List Name × NodeWithin) → lookup (is_at (name_cmp n)) es ≡ None → part_values W v.items ≡ y ∷ []
+      → group_values W (insert_entry name_cmp es n v) ≡ adds n y (group_values W es)
+  table_inserts [] n v y none is = λ i. (n, is i) ∷ []
+  table_inserts (e ∷ es) n v y none is = by (name_cmp n e.0) refl (table_inserts es n v y)
+    where
+      by : (o : Ordering) → name_cmp n e.0 ≡ o
+          → (lookup (is_at (name_cmp n)) es ≡ None → part_values W v.items ≡ y ∷ [] → group_values W (insert_entry name_cmp es n v) ≡ adds n y (group_values W es))
+          → group_values W (insert_entry name_cmp (e ∷ es) n v)
           ≡ by_order o ((n, y ∷ []) ∷ (e.0, part_values W e.1.items) ∷ group_values W es) ((e.0, part_values W e.1.items ++ y ∷ []) ∷ group_values W es) ((e.0, part_values W e.1.items) ∷ adds n y (group_values W es))
       by Less c ih =
-          let all : AllByRecursion (λ k. name_cmp n k ≡ Less) (keys_of (e ∷ es)) = (c, after (keys_of es) c first) in
-          let own : part_values W v.items ≡ y ∷ [] = is ∙ ap (λ o. found_parts W o ++ y ∷ []) (lookup_none n (e ∷ es) all) in
-          ap (λ r. group_values W (insert_entry name_cmp r n v)) (remove_none n (e ∷ es) all) ∙ ap (group_values W) (insert_front n v (e ∷ es) all) ∙ (λ i. (n, own i) ∷ group_values W (e ∷ es))
-      by Equal c ih =
-          let same = name_same n e.0 c in
-          let all : AllByRecursion (λ k. name_cmp n k ≡ Less) (keys_of es) = subst (λ m. AllByRecursion (λ k. name_cmp m k ≡ Less) (keys_of es)) (sym same) first in
-          let own : part_values W v.items ≡ part_values W e.1.items ++ y ∷ [] = is ∙ ap (λ o. found_parts W (cond (is_eq o) (Some e.1) (lookup (is_at (name_cmp n)) es)) ++ y ∷ []) c in
-          ap (λ o. group_values W (insert_entry name_cmp (cond (is_eq o) es (e ∷ remove_entry (is_at (name_cmp n)) es)) n v)) c ∙ ap (group_values W) (insert_front n v es all) ∙ (λ i. (same i, own i) ∷ group_values W es)
+          ap (λ o. group_values W (match_ordering o ((n, v) ∷ e ∷ es) ((e.0, v) ∷ es) (e ∷ insert_entry name_cmp es n v))) c
+          ∙ ap (λ ps. (n, ps) ∷ group_values W (e ∷ es)) is
+      by Equal c ih = absurd (let never : Some e.1 ≡ None = sym (ap (λ o. cond (is_eq o) (Some e.1) (lookup (is_at (name_cmp n)) es)) c) ∙ none in cc)
       by Greater c ih =
-          let there : part_values W v.items ≡ found_parts W (lookup (is_at (name_cmp n)) es) ++ y ∷ [] = is ∙ ap (λ o. found_parts W (cond (is_eq o) (Some e.1) (lookup (is_at (name_cmp n)) es)) ++ y ∷ []) c in
-          let rest = ih there in
-          ap (λ o. group_values W (insert_entry name_cmp (cond (is_eq o) es (e ∷ remove_entry (is_at (name_cmp n)) es)) n v)) c
-          ∙ ap (λ o. group_values W (match_ordering o ((n, v) ∷ e ∷ remove_entry (is_at (name_cmp n)) es) ((e.0, v) ∷ remove_entry (is_at (name_cmp n)) es) (e ∷ insert_entry name_cmp (remove_entry (is_at (name_cmp n)) es) n v))) c
-          ∙ ap (λ r. (e.0, part_values W e.1.items) ∷ r) rest
+          let later : lookup (is_at (name_cmp n)) es ≡ None = sym (ap (λ o. cond (is_eq o) (Some e.1) (lookup (is_at (name_cmp n)) es)) c) ∙ none in
+          ap (λ o. group_values W (match_ordering o ((n, v) ∷ e ∷ es) ((e.0, v) ∷ es) (e ∷ insert_entry name_cmp es n v))) c
+          ∙ ap (λ r. (e.0, part_values W e.1.items) ∷ r) (ih later is)

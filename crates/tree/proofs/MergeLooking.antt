@@ -1,12 +1,12 @@
 -- What merging lines looks at, while the source tells more and more.
-use Rattle.std.proofs.Common.{◌≡◌, ℕ, zero, suc, List, [], ◌∷◌, ◌++◌, sym, subst}
+use Rattle.std.proofs.Common.{ℕ, zero, suc, List, [], ◌∷◌, ◌++◌}
 use Rattle.std.specs.Prelude.{Option, Some, None}
 use Rattle.blob_source.specs.Source.{Blobs, Grows}
 use Rattle.tree.specs.Tree.{Name, Entry}
 use Rattle.tree.specs.Form.{NodeValue}
 use Rattle.tree.specs.Memo.{Asked}
 use Rattle.tree.specs.Stage.{Stage}
-use Rattle.tree.specs.Merging.{NodeWithin, MergeLines, MergeFault, grouped, counted, line_opened, opened, CanMeet, lone, entry_merged, merged_in}
+use Rattle.tree.specs.Merging.{NodeWithin, MergeLines, MergeFault, grouped, counted, line_opened, lone, entry_merged, merged_in}
 use Rattle.tree.specs.MergeLooks.{LineLooksAt, OpenedLooksAt, MetLooksAt, StandsOrLooksAt, EachLooksAt, MergeLooksIn}
 use Rattle.tree.proofs.StageLaws.{IsStable, IsSteady, steady_without, steady_looks, looks_here, looks_next}
 use Rattle.tree.proofs.MergeStages.{stable_line, stable_opened, stable_entry, stable_merged_in}
@@ -56,15 +56,6 @@ steady_merged_in (suc deeper) path ls =
         (steady_looks (stable_opened (counted [] given)) (steady_opened (counted [] given)) (λ new. steady_merged_in deeper (path ++ n ∷ []) new)).still old new g a h.1,
       );
     }))
-
--- ---- one path
-
-module _ (B : Blobs) (deeper : ℕ) (path : List Name) (ls : MergeLines) (none : lone ls ≡ None) (can : CanMeet deeper ls) (a : Asked) where
-  pub met_opening : OpenedLooksAt B ls a → StandsOrLooksAt (lone ls) (MetLooksAt B (MergeLooksIn B deeper path) deeper ls a)
-  met_opening h = subst (λ o. StandsOrLooksAt o (MetLooksAt B (MergeLooksIn B deeper path) deeper ls a)) (sym none) (can, looks_here (opened B ls) (OpenedLooksAt B ls) (MergeLooksIn B deeper path) a h)
-
-  pub met_below : (new : MergeLines) → (opened B ls).passes new → MergeLooksIn B deeper path new a → StandsOrLooksAt (lone ls) (MetLooksAt B (MergeLooksIn B deeper path) deeper ls a)
-  met_below new read h = subst (λ o. StandsOrLooksAt o (MetLooksAt B (MergeLooksIn B deeper path) deeper ls a)) (sym none) (can, looks_next (opened B ls) (OpenedLooksAt B ls) (MergeLooksIn B deeper path) a new read h)
 
 -- ---- lines that are opened, one after another
 

@@ -23,14 +23,6 @@ pub nothing_left : {X : Type 0} (xs : List X) → length xs ≡ 0 → xs ≡ []
 nothing_left [] e = refl
 nothing_left (x ∷ xs) e = absurd (omega (arith, e))
 
-all_more : {X : Type 0} (P : X → Type 0) (xs : List X) (i : ℕ) (x : X) → i < length xs → x ≡ get_or xs i x → AllByRecursion P (take i xs) → P x → AllByRecursion P (take (i + 1) xs)
-all_more {X} P [] i x lt is h p = absurd (omega (arith, lt))
-all_more {X} P (y ∷ xs) zero x lt is h p = (subst P is p, tt)
-all_more {X} P (y ∷ xs) (suc i) x lt is h p = subst (λ k. AllByRecursion P (take k (y ∷ xs))) more (h.0, all_more P xs i x (omega (arith, lt)) is h.1 p)
-  where
-    more : suc (i + 1) ≡ suc i + 1
-    more = omega arith
-
 one_at : {X : Type 0} (P : X → Type 0) (xs : List X) (i : ℕ) (x : X) → i < length xs → x ≡ get_or xs i x → AllByRecursion P xs → P x
 one_at P [] i x lt is h = absurd (omega (arith, lt))
 one_at P (y ∷ xs) zero x lt is h = subst P (sym is) h.0

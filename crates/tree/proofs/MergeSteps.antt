@@ -68,22 +68,24 @@ module _ (B : Blobs) (below : MergeLines → Stage MergeFault (Tree NodeValue)) 
   pub lone_stands : (x : NodeValue) → lone ls ≡ Some x → (entry_merged B below deeper path ls).passes (single x)
   lone_stands x is = subst (λ o. (stands_or o (met B below deeper path ls)).passes (single x)) (sym is) refl
 
-  module _ (none : lone ls ≡ None) where
-    pub meets : (new : MergeLines) (t : Tree NodeValue) → CanMeet deeper ls → (opened B ls).passes new → (below new).passes t → (entry_merged B below deeper path ls).passes (whole t)
-    unfolding ◌and_then◌
-    meets new t can read rest = subst (λ o. (stands_or o (met B below deeper path ls)).passes (whole t)) (sym none) (tt, can, (new, read, (t, rest, refl)))
+  pub comes_below : (new : MergeLines) (t : Tree NodeValue) → CanMeet deeper ls → (opened B ls).passes new → (below new).passes t → (met B below deeper path ls).passes (whole t)
+  unfolding ◌and_then◌
+  comes_below new t can read rest = (tt, can, (new, read, (t, rest, refl)))
 
-    pub conflicts : (CanMeet deeper ls → ⊥) → (entry_merged B below deeper path ls).fails (conflict path)
-    unfolding ◌and_then◌
-    conflicts cannot = subst (λ o. (stands_or o (met B below deeper path ls)).fails (conflict path)) (sym none) (inl (cannot, refl))
+  pub meets : lone ls ≡ None → (new : MergeLines) (t : Tree NodeValue) → CanMeet deeper ls → (opened B ls).passes new → (below new).passes t → (entry_merged B below deeper path ls).passes (whole t)
+  meets none new t can read rest = subst (λ o. (stands_or o (met B below deeper path ls)).passes (whole t)) (sym none) (comes_below new t can read rest)
 
-    pub fails_opening : (f : MergeFault) → CanMeet deeper ls → (opened B ls).fails f → (entry_merged B below deeper path ls).fails f
-    unfolding ◌and_then◌
-    fails_opening f can h = subst (λ o. (stands_or o (met B below deeper path ls)).fails f) (sym none) (inr (tt, can, inl h))
+  pub conflicts : (CanMeet deeper ls → ⊥) → (met B below deeper path ls).fails (conflict path)
+  unfolding ◌and_then◌
+  conflicts cannot = inl (cannot, refl)
 
-    pub fails_below : (f : MergeFault) (new : MergeLines) → CanMeet deeper ls → (opened B ls).passes new → (below new).fails f → (entry_merged B below deeper path ls).fails f
-    unfolding ◌and_then◌
-    fails_below f new can read h = subst (λ o. (stands_or o (met B below deeper path ls)).fails f) (sym none) (inr (tt, can, inr (new, read, inl h)))
+  pub fails_opening : (f : MergeFault) → CanMeet deeper ls → (opened B ls).fails f → (met B below deeper path ls).fails f
+  unfolding ◌and_then◌
+  fails_opening f can h = inr (tt, can, inl h)
+
+  pub fails_below : (f : MergeFault) (new : MergeLines) → CanMeet deeper ls → (opened B ls).passes new → (below new).fails f → (met B below deeper path ls).fails f
+  unfolding ◌and_then◌
+  fails_below f new can read h = inr (tt, can, inr (new, read, inl h))
 
 -- ---- lines that are opened, one after another
 

@@ -16,11 +16,9 @@ use Rattle.messages.specs.Directory.{directory_bytes}
 use Rattle.tree.specs.Tree.{Name, Tree}
 use Rattle.tree.specs.Form.{NodeValue, no_children, with_child, directory_of, root}
 use Rattle.tree.specs.Folded.{tops_below}
-use Rattle.tree.specs.Graft.{graft}
-use Rattle.tree.specs.Visiting.{HaveApart}
 use Rattle.tree.specs.declared.visiting.Line.{Line}
 use Rattle.tree.specs.declared.visiting.Visited.{Visited}
-use Rattle.tree.specs.Visiting.{Ascend, first_under, led, items_of, lines_seen, joined, IsVisitOf}
+use Rattle.tree.specs.Visiting.{first_under, led, items_of, lines_seen, joined, IsVisitOf}
 
 -- ---- children behind children
 
@@ -46,14 +44,6 @@ pub child_joined : (n : Name) (x : NodeValue) (m : DirectoryValue) → joined (w
 child_joined n (File d e) m = refl
 child_joined n (Link t) m = refl
 child_joined n (Dir d) m = refl
-
--- ---- the children so far, and the lines that are left
-
-pub record Makes (made : DirectoryValue) (encodings : List (List ℕ)) (rest all : List (List Name × NodeValue)) : Type 0 where
-  pub directory : joined made (directory_of (graft rest)) ≡ directory_of (graft all)
-  pub tops : encodings ++ tops_below (graft rest) ≡ tops_below (graft all)
-  pub ascend : Ascend rest
-  pub apart : HaveApart rest
 
 -- ---- lines by their index
 

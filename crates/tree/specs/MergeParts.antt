@@ -2,17 +2,21 @@
 use Rattle.std.specs.Prelude.{◌≡◌, ℕ, Bool, not, List, [], ◌∷◌, ◌++◌, map, Option, Some, None}
 use Rattle.std.specs.Prelude.{slice_get, if◌then◌else◌}
 use Rattle.std.specs.List.{AllByRecursion, list_any}
+use Rattle.std.specs.FinMap.Entries.{by_order}
 use Rattle.std.specs.declared.vec.Vec.{Vec}
 use Rattle.messages.specs.declared.node.Node.{Node}
 use Rattle.tree.specs.declared.merging.Part.{Part}
 use Rattle.tree.specs.declared.merging.Within.{Within}
 use Rattle.tree.specs.declared.visiting.Visited.{Visited}
-use Rattle.tree.specs.Tree.{Name, Tree}
+use Rattle.blob_source.specs.Source.{Blobs}
+use Rattle.tree.specs.Tree.{Name, name_cmp, Tree, Entry, whole}
 use Rattle.tree.specs.Form.{NodeValue, node_value}
 use Rattle.tree.specs.Lines.{IsGraftLine}
 use Rattle.tree.specs.Stage.{Stage}
 use Rattle.tree.specs.Merging.{WithinValue, in_source, NodeWithin, MergeLines, MergeFault}
-use Rattle.tree.specs.Merging.{within_value, same_node, gives_node, is_repeated}
+use Rattle.tree.specs.Merging.{within_value, same_node, gives_node, is_repeated, met, merged_in}
+use Rattle.tree.specs.MergeLooks.{MetLooksAt, MergeLooksIn}
+use Rattle.tree.specs.Memo.{Asked}
 use Rattle.tree.specs.Visiting.{IsVisitOf}
 
 -- where what is below the node of a line is read, by the line's number
@@ -30,15 +34,27 @@ part_value W p = (p.names.items, record { node = node_value p.node; within = W p
 abbrev pub part_values : {A : Type 0} → (ℕ → WithinValue) → List (Part A) → MergeLines
 part_values W parts = map (part_value W) parts
 
--- those of one name, if there are some
-abbrev pub found_parts : {A : Type 0} → (ℕ → WithinValue) → Option (Vec (Part A) A) → MergeLines
-found_parts W None = []
-found_parts W (Some v) = part_values W v.items
-
 -- the lines of each name
 abbrev pub group_values : {A : Type 0} → (ℕ → WithinValue) → List (Name × Vec (Part A) A)
     → List (Name × MergeLines)
 group_values W groups = map (λ g. (g.0, part_values W g.1.items)) groups
+
+-- a line more at a name, behind those that are there
+abbrev pub adds : {Y : Type 0} → Name → Y → List (Name × List Y) → List (Name × List Y)
+adds n y [] = (n, y ∷ []) ∷ []
+adds n y (g ∷ gs) =
+    by_order (name_cmp n g.0) ((n, y ∷ []) ∷ g ∷ gs) ((g.0, g.1 ++ y ∷ []) ∷ gs) (g ∷ adds n y gs)
+
+-- what lines that meet at a path come to there, and what that looks at
+abbrev pub meeting : Blobs → ℕ → List Name → MergeLines → Stage MergeFault (Entry NodeValue)
+meeting B deeper path ls = met B (merged_in B deeper path) deeper path ls
+
+abbrev pub MeetingLooksAt : Blobs → ℕ → List Name → MergeLines → Asked → Type 0
+MeetingLooksAt B deeper path ls = MetLooksAt B (MergeLooksIn B deeper path) deeper ls
+
+-- the Directories of that tree
+abbrev pub IsVisitOfMet : {A : Type 0} → Stage MergeFault (Entry NodeValue) → Visited A → Type 0
+IsVisitOfMet check v = (t : Tree NodeValue) × check.passes (whole t) × IsVisitOf t v
 
 -- the Directories of the tree that lines come to
 abbrev pub IsVisitOfMerged : {A : Type 0} → Stage MergeFault (Tree NodeValue) → Visited A → Type 0

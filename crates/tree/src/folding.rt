@@ -9,6 +9,7 @@ use crate::flat_tree::{FlatEntry, FlatTree};
 use crate::visiting::{Children, Line, Visited, lines_under};
 use blob_digest::Digest;
 use indexmap::IndexSet;
+use messages::Name;
 use std::alloc::{AllocError, Allocator};
 use std::hash::{BuildHasherDefault, FoldHasher};
 
@@ -68,14 +69,16 @@ fn visit_entries<A: Allocator + Copy>(
         let line = &entries[start];
         start += 1;
         if let Some((name, _)) = line.names.split_first() {
+            let copy = Name::copy_of(alloc, name)?;
             match line.item {
                 FlatEntry::File { digest, executable } => {
-                    children.push_file(alloc, name, *digest, *executable)?;
+                    children.push_file(copy, *digest, *executable)?;
                 }
-                FlatEntry::Link { target } => children.push_symlink(alloc, name, target)?,
+                FlatEntry::Link { target } => children.push_symlink(alloc, copy, target)?,
                 FlatEntry::Dir => {
                     let under = lines_under(alloc, name, &entries[start..])?;
-                    children.push_folder(alloc, name, visit_entries(alloc, &under)?)?;
+                    let below = visit_entries(alloc, &under)?;
+                    children.push_folder(copy, below)?;
                     start += under.len();
                 }
             }

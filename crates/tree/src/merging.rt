@@ -1,9 +1,6 @@
 ghost use Rattle.std.specs.Prelude.{◌≡◌, ◌↔◌, ◌+◌, ◌<◌, [], ◌∷◌, ◌++◌, IfOk, IfErr, IsErrOf, OnOk};
 ghost use Rattle.std.specs.Prelude.{ℕ, MatchOption};
 ghost use Rattle.std.specs.Prelude.{is_some, length, map, IsTrue};
-ghost use Rattle.std.specs.BTreeMap.{is_at};
-ghost use Rattle.std.specs.Map.{lookup, remove_entry};
-ghost use Rattle.tree.specs.Tree.{name_cmp};
 ghost use Rattle.blob_source.specs.Called.{Called};
 ghost use Rattle.messages.specs.Path.{IsPath};
 ghost use Rattle.messages.specs.declared.node.Node.TheVariants.{Dir};
@@ -17,8 +14,9 @@ ghost use Rattle.tree.specs.Merging.{node_opened, opened, MergeLines, CanMeetAt}
 ghost use Rattle.tree.specs.Merging.{child_lines};
 ghost use Rattle.tree.specs.Merging.{WithinValue, in_source, in_tree};
 ghost use Rattle.tree.specs.MergeLooks.{MergeLooksAt, MergeLooksIn, NodeLooksAt, OpenedLooksAt};
-ghost use Rattle.tree.specs.MergeParts.{IsVisitOfMerged, found_parts, group_values, part_value, within_of};
-ghost use Rattle.tree.specs.MergeParts.{AreValidLines, CountsAfter, part_values};
+ghost use Rattle.tree.specs.MergeParts.{AreValidLines, CountsAfter, IsVisitOfMerged, IsVisitOfMet};
+ghost use Rattle.tree.specs.MergeParts.{MeetingLooksAt, adds, group_values, meeting, part_value};
+ghost use Rattle.tree.specs.MergeParts.{part_values, within_of};
 
 use crate::error::TreeError;
 use crate::folding::{Folded, each_once};
@@ -53,21 +51,24 @@ struct Part<A: Allocator> {
 /// Lines below a directory, by their first names.
 type Groups<A> = BTreeMap<Name<A>, Vec<Part<A>, A>, A>;
 
-/// Takes the lines of a name out of the others, if there are some.
-fn take_parts<A: Allocator + Copy>(
+/// Adds a line to those of a name, behind them.
+fn add_part<A: Allocator + Copy>(
     alloc: A,
     groups: &mut Groups<A>,
-    name: &Name<A>,
-) -> Vec<Part<A>, A>
-    ensures parts { (W : ℕ → WithinValue) → part_values W result.items
-        ≡ found_parts W (lookup (is_at (name_cmp name.now)) groups.old.entries) }
-    ensures others { groups.new.entries
-        ≡ remove_entry (is_at (name_cmp name.now)) groups.old.entries }
+    name: Name<A>,
+    part: Part<A>,
+) -> Result<(), AllocError>
+    ensures { (W : ℕ → WithinValue) → OnOk result (group_values W groups.new.entries
+        ≡ adds name (part_value W part) (group_values W groups.old.entries)) }
 {
-    match groups.remove(name) {
-        Some(parts) => parts,
-        None => Vec::new(alloc),
+    if let Some(under) = groups.get_mut(&name) {
+        under.push(part)?;
+        return Ok(());
     }
+    let mut under = Vec::with_capacity(alloc, 1)?;
+    under.push(part)?;
+    groups.insert(name, under)?;
+    Ok(())
 }
 
 /// The lines by their first names, those of each name in their order.
@@ -79,9 +80,7 @@ fn group<A: Allocator + Copy>(alloc: A, parts: Vec<Part<A>, A>) -> Result<Groups
     for mut part in parts {
         if !part.names.is_empty() {
             let name = part.names.remove(0);
-            let mut under = take_parts(alloc, &mut groups, &name);
-            under.push(part)?;
-            groups.insert(name, under)?;
+            add_part(alloc, &mut groups, name, part)?;
         }
     }
     Ok(groups)
@@ -115,7 +114,7 @@ fn count_once<A: Allocator + Copy>(
         return Ok(parts);
     }
     let mut given = Given::new(alloc);
-    let mut kept = Vec::new(alloc);
+    let mut kept = Vec::with_capacity(alloc, parts.len())?;
     for part in parts {
         let is_new = counts(alloc, &part, &mut given)?;
         if is_new {
@@ -177,7 +176,7 @@ fn push_child<A: Allocator + Copy>(
         ≡ part_values W parts.old.items
         ++ (name.now ∷ [], record { node = node_value node; within = W line }) ∷ []) }
 {
-    let mut names = Vec::new(alloc);
+    let mut names = Vec::with_capacity(alloc, 1)?;
     names.push(Name::copy_of(alloc, name)?)?;
     parts.push(Part { names, node, line })?;
     Ok(())
@@ -308,7 +307,7 @@ fn open_parts<A: Allocator + Copy, S: BlobSource<A>>(
         (part_values (within_of lines.now) parts.items)) (WasRefused result)
         (known_by memo.old) (known_by memo.new) (S.tells source.old) (S.tells source.new) }
 {
-    let mut below = Vec::new(alloc);
+    let mut below = Vec::with_capacity(alloc, parts.len())?;
     for part in parts {
         if part.names.is_empty() {
             open_node(alloc, lines, &part, memo, source, &mut below)?;
@@ -319,8 +318,41 @@ fn open_parts<A: Allocator + Copy, S: BlobSource<A>>(
     Ok(below)
 }
 
+/// The Directories of the tree that lines come to at a path at which they meet, and below which
+/// paths may have `deeper` more names.
+#[cycle(merge_below)]
+fn meet<A: Allocator + Copy, S: BlobSource<A>>(
+    alloc: A,
+    lines: &[(Path<A>, Node<A>, Within<'_, A>)],
+    path: Path<A>,
+    deeper: usize,
+    parts: Vec<Part<A>, A>,
+    memo: &mut Memo<A>,
+    source: &mut S,
+) -> Result<Visited<A>, TreeError<A>>
+    requires known { IsKnownOf (known_by memo.old) (S.tells source.old) }
+    requires held { AreHeld (part_values (within_of lines.now) parts.items) }
+    requires depth { deeper + length path ≡ 64 }
+    ensures met { IfOk result (IsVisitOfMet (meeting (S.tells source.new).blobs deeper path
+        (part_values (within_of lines.now) parts.items))) }
+    ensures refused { IfErr result (ExplainsMerge (meeting (S.tells source.new).blobs deeper path
+        (part_values (within_of lines.now) parts.items)).fails) }
+    ensures called { Called (S.tells source.old) (S.tells source.new)
+        (IsErrOf result TreeError.Fetch) }
+    ensures learned { Learns (MeetingLooksAt (S.tells source.new).blobs deeper path
+        (part_values (within_of lines.now) parts.items)) (WasRefused result)
+        (known_by memo.old) (known_by memo.new) (S.tells source.old) (S.tells source.new) }
+{
+    if !can_meet(deeper, &parts) {
+        return Err(TreeError::Conflict(path));
+    }
+    let parts = open_parts(alloc, lines, parts, memo, source)?;
+    merge_below(alloc, lines, &Some(path), deeper, parts, memo, source)
+}
+
 /// The Directories of the tree that lines below a directory come to, where paths may have `deeper`
 /// more names.
+#[cycle(merge_below)]
 fn merge_below<A: Allocator + Copy, S: BlobSource<A>>(
     alloc: A,
     lines: &[(Path<A>, Node<A>, Within<'_, A>)],
@@ -348,16 +380,11 @@ fn merge_below<A: Allocator + Copy, S: BlobSource<A>>(
     for (name, parts) in group(alloc, parts)? {
         let parts = count_once(alloc, parts)?;
         if is_lone(&parts) {
-            children.push(alloc, &name, &parts[0].node)?;
+            children.push(alloc, name, &parts[0].node)?;
         } else {
             let path = child_path(alloc, above.as_ref(), &name)?;
-            if !can_meet(deeper - 1, &parts) {
-                return Err(TreeError::Conflict(path));
-            }
-            let parts = open_parts(alloc, lines, parts, memo, source)?;
-            let above = Some(path);
-            let below = merge_below(alloc, lines, &above, deeper - 1, parts, memo, source)?;
-            children.push_folder(alloc, &name, below)?;
+            let below = meet(alloc, lines, path, deeper - 1, parts, memo, source)?;
+            children.push_folder(name, below)?;
         }
     }
     Ok(children.close(alloc)?)
@@ -398,7 +425,7 @@ fn first_parts<A: Allocator + Copy>(
         (λ v. part_values (within_of lines.now) v.items ≡ merge_lines lines.now) }
     ensures valid { IfOk result (λ v. AreValidLines (merge_lines lines.now)) }
 {
-    let mut parts = Vec::new(alloc);
+    let mut parts = Vec::with_capacity(alloc, lines.len())?;
     for (index, line) in lines.iter().enumerate() {
         parts.push(Part {
             names: line.0.to_names(alloc)?,

@@ -50,19 +50,18 @@ impl<A: Allocator + Copy> Children<A> {
     /// One more file, after the others.
     pub(crate) fn push_file(
         &mut self,
-        alloc: A,
-        name: &Name<A>,
+        name: Name<A>,
         digest: Digest,
         executable: bool,
     ) -> Result<(), AllocError>
         ensures directory { OnOk result
             (children_directory self.new
             ≡ joined (children_directory self.old)
-            (with_child name.now (File digest executable) no_children)) }
+            (with_child name (File digest executable) no_children)) }
         ensures tops { OnOk result (tops_in self.new ≡ tops_in self.old) }
     {
         self.files.push(FileNode {
-            name: Name::copy_of(alloc, name)?,
+            name,
             digest,
             executable,
         })?;
@@ -73,43 +72,36 @@ impl<A: Allocator + Copy> Children<A> {
     pub(crate) fn push_symlink(
         &mut self,
         alloc: A,
-        name: &Name<A>,
+        name: Name<A>,
         target: &Target<A>,
     ) -> Result<(), AllocError>
         ensures directory { OnOk result
             (children_directory self.new
             ≡ joined (children_directory self.old)
-            (with_child name.now (Link target.now) no_children)) }
+            (with_child name (Link target.now) no_children)) }
         ensures tops { OnOk result (tops_in self.new ≡ tops_in self.old) }
     {
         self.symlinks.push(SymlinkNode {
-            name: Name::copy_of(alloc, name)?,
+            name,
             target: Target::copy_of(alloc, target)?,
         })?;
         Ok(())
     }
 
     /// One more child, after the others of its kind. Nothing below a directory is known.
-    pub(crate) fn push(
-        &mut self,
-        alloc: A,
-        name: &Name<A>,
-        node: &Node<A>,
-    ) -> Result<(), AllocError>
+    pub(crate) fn push(&mut self, alloc: A, name: Name<A>, node: &Node<A>) -> Result<(), AllocError>
         ensures directory { OnOk result
             (children_directory self.new
             ≡ joined (children_directory self.old)
-            (with_child name.now (node_value node.now) no_children)) }
+            (with_child name (node_value node.now) no_children)) }
         ensures tops { OnOk result (tops_in self.new ≡ tops_in self.old) }
     {
         match node {
-            Node::File { digest, executable } => {
-                self.push_file(alloc, name, *digest, *executable)
-            }
+            Node::File { digest, executable } => self.push_file(name, *digest, *executable),
             Node::Link { target } => self.push_symlink(alloc, name, target),
             Node::Dir(digest) => {
                 self.directories.push(DirectoryNode {
-                    name: Name::copy_of(alloc, name)?,
+                    name,
                     digest: *digest,
                 })?;
                 Ok(())
@@ -120,19 +112,18 @@ impl<A: Allocator + Copy> Children<A> {
     /// One more directory, and the Directories of its own.
     pub(crate) fn push_folder(
         &mut self,
-        alloc: A,
-        name: &Name<A>,
+        name: Name<A>,
         mut below: Visited<A>,
     ) -> Result<(), AllocError>
         ensures directory { OnOk result
             (children_directory self.new
             ≡ joined (children_directory self.old)
-            (with_child name.now (Dir below.root) no_children)) }
+            (with_child name (Dir below.root) no_children)) }
         ensures tops { OnOk result
             (tops_in self.new ≡ tops_in self.old ++ items_of below.encodings.items) }
     {
         self.directories.push(DirectoryNode {
-            name: Name::copy_of(alloc, name)?,
+            name,
             digest: below.root,
         })?;
         self.below.append(&mut below.encodings)

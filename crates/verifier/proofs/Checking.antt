@@ -39,10 +39,6 @@ use Rattle.verifier.proofs.Lines.{origin_still}
 
 -- ---- answers
 
-pub oks : {T E : Type 0} (r : Result T E) (P Q : T → Type 0) → ((x : T) → P x → Q x) → IfOk r P → IfOk r Q
-oks (Ok x) P Q by h = by x h
-oks (Err e) P Q by h = tt
-
 -- ---- what passed stays so
 
 pub resolves_still : (B C : Blobs) (d : DigestValue) (os : Earlier) (ls : List LineValue) (xs : MergeLines) → Grows B C → Resolves B d os ls xs → Resolves C d os ls xs

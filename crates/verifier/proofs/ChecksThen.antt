@@ -1,6 +1,5 @@
 -- Checks of a source, one after another, while it tells more and more.
-use Rattle.std.proofs.Common.{◌≡◌, ℕ, List, [], ◌∷◌, ◌++◌, ap, sym, subst, ◌∙◌, inl, inr}
-use Rattle.std.proofs.lemmas.Result.{err_from_is_err_and}
+use Rattle.std.proofs.Common.{◌≡◌, ℕ, List, [], ◌∷◌, ◌++◌, subst, inl, inr}
 use Rattle.std.specs.Prelude.{Result, Ok, Err, IsErrOf, slice_get}
 use Rattle.std.specs.Result.{IsErrAnd}
 use Rattle.blob_digest.specs.Digest.{DigestValue}
@@ -152,15 +151,6 @@ module _ {A V : Type 0} where
   pub checks_none : (stage : Telling → Stage (Cause A) V) {look : Telling → Asked → Type 0} {known : Known} (t : Telling) (r : Result V (Fault A)) → IsKnownOf known t → Answers (stage t) r → (IsErrOf r faults.Fetch → ⊥)
       → Checks stage look known known t t r
   checks_none stage t r is h none = record { checked = h; called = called_none none; learned = learns_none is }
-
-  -- memory ran out before the source was asked, and a `?` hands that out
-  pub checks_memory : (stage : Telling → Stage (Cause A) V) {look : Telling → Asked → Type 0} {known : Known} (t : Telling) {r : Result V (Fault A)} → IsKnownOf known t → IsErrAnd r (λ e. e ≡ faults.Memory) → Checks stage look known known t t r
-  checks_memory stage {look} {known} t {r} is exit =
-      let p = err_from_is_err_and r exit in
-      subst (Checks stage look known known t t) (sym (p.1 ∙ ap Err p.2)) (record { checked = tt; called = called_none memory_no_fetch; learned = learns_none is })
-    where
-      memory_no_fetch : IsErrOf {T = V} {E = Fault A} (Err faults.Memory) faults.Fetch → ⊥
-      memory_no_fetch e = cc
 
   pub checks_both : (stage : Telling → Stage (Cause A) V) {look : Telling → Asked → Type 0} {known later : Known} (old new : Telling) (r : Result V (Fault A)) → Answers (stage new) r → Called old new (IsErrOf r faults.Fetch)
       → Learns (look new) (WasRefused r) known later old new → Checks stage look known later old new r

@@ -10,10 +10,9 @@ use Rattle.tree.specs.Tree.{Name}
 use Rattle.blob_source.specs.Source.{Blobs}
 use Rattle.blob_source.specs.Told as told
 use Rattle.blob_source.specs.Told.{IsTold, missing, wrong, malformed}
-use Rattle.tree.specs.Form.{node_value}
 use Rattle.tree.specs.Lookup.{Looked, fault, nothing, found, Looks}
 use Rattle.tree.specs.Difference.{unread, FindsFirst, ExplainsDifference}
-use Rattle.tree.specs.Merging.{NodeWithin, MergeFault, conflict, unreadable, ExplainsMerge, node_within}
+use Rattle.tree.specs.Merging.{NodeWithin, MergeFault, conflict, unreadable, ExplainsMerge}
 use Rattle.tree.specs.declared.merging.Within.TheVariants as withins
 use Rattle.tree.specs.TreeError as errors
 use Rattle.tree.specs.TreeError.{ExplainsLookup}
@@ -22,7 +21,6 @@ use Rattle.tree.specs.declared.error.TreeError.TheVariants as tree
 use Rattle.verifier.specs.declared.verdict.Cause.{Cause}
 use Rattle.verifier.specs.declared.fault.Fault.{Fault}
 use Rattle.verifier.specs.declared.fault.Fault.TheVariants as faults
-use Rattle.messages.specs.declared.node.Node.{Node}
 use Rattle.verifier.specs.Together.{Earlier, IsThere, AreThere, LooksUpOrigin, StandsAtOrigin, LinesFault, no_origin, in_conflict, not_read, of_merge, IsFaultOfLook, LineFault, ExplainsLines}
 use Rattle.verifier.specs.Answers.{IsFaultOf, IsDifference}
 use Rattle.verifier.specs.Stage.{Explains}
@@ -135,10 +133,6 @@ module _ {A : Type 0} where
       by (tree.Conflict q) h = elim h [ ]
       by tree.Fetch h = h
       by tree.Memory h = h
-
--- a node in the source tree
-pub source_stands : {A : Type 0} (B : Blobs) (d : DigestValue) (os : Earlier) (l : LineValue) (p : List Name) (x : Node A) → l.origin ≡ source p → Looks B d p (found (node_value x)) → StandsAtOrigin B d os l.origin (node_within {A = A} x withins.Source)
-source_stands B d os l p x from look = subst (λ origin. StandsAtOrigin B d os origin (node_within x withins.Source)) (sym from) (record { node = look; within = refl })
 
 -- a node in what a step came to
 pub output_stands : (B : Blobs) (d : DigestValue) (os : Earlier) (l : LineValue) (step : ℕ) (p : List Name) (o : OutcomeValue) (x : NodeWithin) → l.origin ≡ output step p → os step ≡ Some o

@@ -1,6 +1,6 @@
 -- What runs of a plan keep, where the plan is as recorded and no two different blobs concerned share a digest.
 use Rattle.std.proofs.Common.{◌≡◌, ℕ, zero, suc, Bool, true, false, cond, List, [], ◌∷◌, Option, Some, None, length, refl, ap, sym, ◌∙◌, subst, arith, inl, inr}
-use Rattle.std.specs.Prelude.{◌==◌, pos, option_map, option_and_then, slice_get, IsSomeAnd, Contains}
+use Rattle.std.specs.Prelude.{◌==◌, pos, option_map, option_and_then, slice_get, Contains}
 use Rattle.std.specs.List.{AllByRecursion}
 use Rattle.std.specs.Map.{lookup, remove_entry}
 use Rattle.std.proofs.lemmas.Bool.Decides.{Decides-eqb}
@@ -68,10 +68,6 @@ kept_rest P j [] h = tt
 kept_rest P j (y ∷ es) h = elim (y.0 == j) as (λ q. AllByRecursion P (cond q es (y ∷ remove_entry (λ k. k == j) es))) [ true ↦ h.1 | false ↦ (h.0, kept_rest P j es h.1) ]
 
 -- ---- blobs of what stands below
-
-one_blob : (e : Entry Leaf) (b : List ℕ) → IsBlobOfOne e b → IsBlobOfEntry e b
-one_blob (single x) b h = h
-one_blob (whole t) b h = h
 
 pub blobs_below : (q : List Name) (o : Option (Entry Leaf)) (e : Entry Leaf) (b : List ℕ) → below_entry q o ≡ Some e → IsBlobOfOne e b → lookups.IsBlobOfEntry o b
 blobs_below [] o e b is h = subst (λ p. lookups.IsBlobOfEntry p b) (sym is) (by e h)

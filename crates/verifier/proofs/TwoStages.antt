@@ -27,6 +27,10 @@ runs t own = record { fits = fits; table = table_valid; agrees = agrees; apart =
 pub runs_once : RunsFrom two.blobs two.results two.plan two.recorded empty two.run
 runs_once = runs empty of_nothing
 
+-- the plan whose lines meet has the same steps
+pub meeting_runs : RunsFrom two.blobs two.results two.meeting_plan two.recorded empty two.run
+meeting_runs = record { fits = record { steps = fits.steps }; table = table_valid; agrees = agrees; apart = no_clash_from empty of_nothing; happened = is_run_from empty }
+
 -- ---- twice
 
 yes : (A : Type 0) (sources : DigestValue) → IsYesFrom A sources two.stage

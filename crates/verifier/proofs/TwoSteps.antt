@@ -216,3 +216,28 @@ plan_valid = record {
   apart = (λ one. tt, (λ one. (tt, tt), tt));
   root_apart = λ one. (tt, tt);
 }
+
+-- ---- so is the plan whose lines meet
+
+all_name : IsName (codes "all")
+unfolding is_utf8 chars lib.Utf8.encode
+all_name = IsName-from (codes "all") refl
+
+b_name : IsName (codes "b")
+unfolding is_utf8 chars lib.Utf8.encode
+b_name = IsName-from (codes "b") refl
+
+pub meeting_valid : IsPlan two.meeting_plan
+meeting_valid = record {
+  few = plan_valid.few;
+  steps = plan_valid.steps;
+  root_lines = record {
+    few = omega arith;
+    each = (
+      record { target = one_name (codes "all") all_name; origin = (omega arith, out_path) },
+      (record { target = record { some = omega arith; few = omega arith; each = (all_name, (b_name, tt)) }; origin = (omega arith, res_path) }, tt),
+    );
+  };
+  apart = (λ one. tt, (λ one. (tt, tt), tt));
+  root_apart = λ one. absurd cc;
+}

@@ -1,5 +1,5 @@
 -- The build of two steps is as recorded.
-use Rattle.std.proofs.Common.{◌≡◌, ◌≢◌, ◌≤◌, length, ℕ, zero, suc, Bool, true, ltb, ◌&&◌, List, [], ◌∷◌, Some, refl, ap, sym, subst, arith, inl, inr, false, lit<}
+use Rattle.std.proofs.Common.{◌≡◌, ◌≢◌, ◌≤◌, length, ℕ, zero, suc, Bool, true, ltb, ◌&&◌, List, [], ◌∷◌, ◌++◌, Some, refl, ap, sym, subst, arith, inl, inr, false, lit<}
 use Rattle.std.specs.List.{list_all}
 use Rattle.std.proofs.lemmas.Bool.{ltb-true}
 use Rattle.wire.specs.Bytes.{IsBytes, AreBytes}
@@ -20,17 +20,18 @@ use Rattle.messages.specs.Tree.{IsTree, tree_bytes}
 use Rattle.actions.specs.declared.outcome.Output.TheVariants as outputs
 use Rattle.action_messages.specs.Action.{with_input, IsAction, action_bytes}
 use Rattle.action_messages.specs.ActionResult.{IsActionResult, action_result_bytes}
-use Rattle.actions.specs.Outcome.{OutcomeValue}
+use Rattle.actions.specs.Outcome.{OutcomeValue, tree_node}
 use Rattle.action_messages.specs.Outputs.{file, directory}
 use Rattle.actions.specs.Recorded.{IsRecorded}
 use Rattle.action_messages.specs.Command.{IsCommand, command_bytes}
-use Rattle.tree.specs.Tree.{empty}
-use Rattle.tree.specs.Form.{form, root, top}
+use Rattle.tree.specs.Tree.{Tree, empty, leaf, folder, single, whole}
+use Rattle.tree.specs.Form.{NodeValue, form, root, top}
 use Rattle.blob_source.specs.Told.{IsTold}
 use Rattle.tree.proofs.TreeDigests.{IsDigest-digest_of}
 use Rattle.plan.specs.Values.{output}
 use Rattle.tree.specs.Graft.{graft, HaveApartTargets}
 use Rattle.tree.specs.Merging.{in_source, in_tree, NodeWithin, MergeLines, nodes_in, merged}
+use Rattle.tree.specs.Stage.{◌and_then◌}
 use Rattle.tree.proofs.MergeApart.{graft_passes, all_named, are_apart}
 use Rattle.verifier.specs.AsRecorded.{IsAsRecorded, IsPlanAsRecorded}
 use Rattle.verifier.specs.TwoSteps as two
@@ -281,5 +282,74 @@ as_recorded sources = record {
     );
     put_together = result_merges;
     same = root_named;
+  };
+}
+
+-- ---- so it is in the plan whose lines meet
+
+abbrev made_directory : NodeWithin
+made_directory = record { node = tree_node two.gen_tree; within = in_tree two.gen_tree }
+
+abbrev meeting_lines : MergeLines
+meeting_lines = (codes "all" ∷ [], made_directory) ∷ (codes "all" ∷ codes "b" ∷ [], result_file) ∷ []
+
+-- the lines below `all`, once the directory is read
+abbrev children : MergeLines
+children = (codes "a" ∷ [], made_file) ∷ []
+
+abbrev behind : MergeLines
+behind = (codes "b" ∷ [], result_file) ∷ []
+
+abbrev with_result : Tree NodeValue
+with_result = leaf (codes "a") made_file.node (leaf (codes "b") result_file.node empty)
+
+meeting_merges : (merged two.blobs meeting_lines).passes (folder (codes "all") with_result empty)
+unfolding merged ◌and_then◌
+meeting_merges = (
+  whole with_result,
+  (
+    tt,
+    (tt, (tt, tt)),
+    (
+      children ++ behind,
+      (children, (two.gen_tree.root, record { before = []; behind = []; stands = refl; right = refl; first = tt }, refl), (behind, (behind, refl, ([], refl, refl)), refl)),
+      (with_result, (single made_file.node, refl, (leaf (codes "b") result_file.node empty, (single result_file.node, refl, (empty, refl, refl)), refl)), refl),
+    ),
+  ),
+  (empty, refl, refl),
+)
+
+meeting_named : root (folder (codes "all") with_result empty) ≡ two.meeting_claim
+unfolding two.newline_digest two.meeting_claim first_words schedule rounds compress hash_after digest_bytes sha256 digest_of groups varint directory_bytes encode_with decode_pairs
+meeting_named = refl
+
+pub meeting_recorded : IsPlanAsRecorded two.blobs two.results two.sources two.meeting_plan two.recorded two.meeting_claim
+meeting_recorded = record {
+  outcomes = gen_outcome ∷ use_outcome ∷ [];
+  steps = (gen_outcome, gen_passes two.sources, (use_outcome, use_passes two.sources, refl));
+  root = record {
+    nodes = meeting_lines;
+    tree = folder (codes "all") with_result empty;
+    resolved = (
+      made_directory,
+      record {
+        node = (gen_outcome, refl, inl ((codes "out" ∷ [], outputs.Tree two.gen_tree), (0, omega arith, refl), [], refl, refl));
+        within = (gen_outcome, refl, ((codes "out" ∷ [], outputs.Tree two.gen_tree), (0, omega arith, refl), ([], refl), refl));
+      },
+      (codes "all" ∷ codes "b" ∷ [], result_file) ∷ [],
+      (
+        result_file,
+        record {
+          node = (use_outcome, refl, inl ((codes "res" ∷ [], outputs.File two.newline_digest false), (0, omega arith, refl), [], refl, refl));
+          within = (use_outcome, refl, ((codes "res" ∷ [], outputs.File two.newline_digest false), (0, omega arith, refl), ([], refl), refl));
+        },
+        [],
+        refl,
+        refl,
+      ),
+      refl,
+    );
+    put_together = meeting_merges;
+    same = meeting_named;
   };
 }

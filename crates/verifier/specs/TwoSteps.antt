@@ -13,7 +13,7 @@ use Rattle.action_messages.specs.ActionResult.{ActionResultValue, action_result_
 use Rattle.action_messages.specs.Command.{CommandValue, command_bytes}
 use Rattle.action_messages.specs.Frame.{FrameValue}
 use Rattle.action_messages.specs.Stream.{StreamValue}
-use Rattle.plan.specs.declared.version.Version.TheVariants.{One}
+use Rattle.plan.specs.declared.version.Version.TheVariants.{One, Two}
 use Rattle.plan.specs.Values.{output, PlanValue}
 use Rattle.tree.specs.Tree.{Tree, empty, leaf, folder, Leaf, file, single, whole}
 use Rattle.tree.specs.Form.{form, directory_of}
@@ -222,6 +222,21 @@ telling = record { blobs = blobs; results = results; failures = 0; calls = 0; pu
 
 abbrev pub stage : BuildStage
 stage = record { tells = telling; plan = plan; recorded = recorded; claim = claim }
+
+-- ---- the same steps in a plan of version 2, in whose root lines meet: `res` is put into `out`
+
+abbrev pub meeting_plan : PlanValue
+meeting_plan = record plan {
+  version = Two;
+  root_lines =
+      record { target = codes "all" ∷ []; origin = output 0 (codes "out" ∷ []) } ∷
+      record { target = codes "all" ∷ codes "b" ∷ []; origin = output 1 (codes "res" ∷ []) } ∷
+      [];
+}
+
+unfoldable pub meeting_claim : DigestValue
+meeting_claim = digest_named
+    (codes "e0f51345ffb335d15094256a20d45361d24b19b42e07f685950ae43ed5e4ee3f") 78
 
 -- ---- a source that has told nothing
 

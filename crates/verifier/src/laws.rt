@@ -2,7 +2,7 @@ ghost use Rattle.std.specs.Prelude.{◌≡◌, ◌↔◌, ℕ, List, [], length,
 ghost use Rattle.std.specs.Prelude.{codes, option_map};
 ghost use Rattle.blob_digest.specs.Digest.{DigestValue};
 ghost use Rattle.blob_digest.specs.DigestValue.{IsDigest};
-ghost use Rattle.plan.specs.Plan.{IsPlan};
+ghost use Rattle.plan.specs.Plan.{HaveApartTargets, IsPlan};
 ghost use Rattle.plan.specs.Values.{LineValue, StepValue, PlanValue};
 ghost use Rattle.plan.specs.declared.version.Version.TheVariants.{One};
 ghost use Rattle.tree.specs.Form.{NodeValue, form, root};
@@ -170,6 +170,17 @@ pub fn a_build_meets_the_premises()
     ensures tree { IsOrdered two.tree × (root (form two.tree) ≡ two.sources) }
     ensures run { RunsFrom two.blobs two.results two.plan two.recorded two.tree two.run }
     ensures complete { HasFinishedAll two.plan two.end }
+{}
+
+/// So can they with a plan of version 2 whose lines meet: by the same steps, where the root has a
+/// file put into a directory. A law: it does nothing.
+pub fn a_merge_meets_the_premises()
+    ensures plan { IsPlan two.meeting_plan }
+    ensures meets { HaveApartTargets two.meeting_plan.root_lines → ⊥ }
+    ensures accepted { IsPlanAsRecorded two.blobs two.results two.sources two.meeting_plan
+        two.recorded two.meeting_claim }
+    ensures run { RunsFrom two.blobs two.results two.meeting_plan two.recorded two.tree two.run }
+    ensures complete { HasFinishedAll two.meeting_plan two.end }
 {}
 
 /// So can the premises of what is said of stages: by that build, and the same once more from what

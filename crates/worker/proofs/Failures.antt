@@ -1,5 +1,5 @@
 -- What calls counted, one after another.
-use Rattle.std.proofs.Common.{◌≡◌, ◌<◌, ◌≤◌, ℕ, refl, ◌∙◌, sym, subst, arith}
+use Rattle.std.proofs.Common.{◌≡◌, ◌+◌, ◌≤◌, ℕ, ap, refl, ◌∙◌, sym, subst, arith}
 use Rattle.std.specs.Prelude.{Result, Ok, Err, IfErr, IsErrOf}
 use Rattle.std.specs.Result.{IsErrAnd}
 use Rattle.std.proofs.lemmas.Result.{err_from_is_err_and}
@@ -42,17 +42,11 @@ module _ {a b : ℕ} where
   counts_put A fetching.Failed h = record { failed = λ f. h.failed refl; unfailed = λ none. absurd (none tt) }
   counts_put A fetching.Memory h = record { failed = λ f. absurd f; unfailed = λ none. h.unfailed (λ e. cc) }
 
-  pub counts_then : {c : ℕ} {F G : Type 0} → (F → ⊥) → Counts a b F → Counts b c G → Counts a c G
-  counts_then {c} {F} {G} none h k = record {
-    failed = λ g. let rises = k.failed g in let same = h.unfailed none in omega (arith, rises, same);
-    unfailed = λ other. k.unfailed other ∙ h.unfailed none;
-  }
-
 pub counts_none : {n : ℕ} {F : Type 0} → (F → ⊥) → Counts n n F
 counts_none none = record { failed = λ f. absurd (none f); unfailed = λ other. refl }
 
 pub counts_calls : {does : Telling → Telling → Type 0} {t u : Telling} {F : Type 0} → Calls does t u F → Counts t.failures u.failures F
-counts_calls {does} {t} {u} h = record { failed = λ f. let one = h.failed f in omega (arith, one); unfailed = h.unfailed }
+counts_calls h = record { failed = h.failed; unfailed = h.unfailed }
 
 module _ {a b : ℕ} where
   -- nothing was counted
@@ -61,7 +55,7 @@ module _ {a b : ℕ} where
 
   pub counts_from : {c : ℕ} {F : Type 0} → b ≡ a → Counts b c F → Counts a c F
   counts_from same k = record {
-    failed = λ f. let rises = k.failed f in omega (arith, rises, same);
+    failed = λ f. k.failed f ∙ ap (λ n. n + 1) same;
     unfailed = λ other. k.unfailed other ∙ same;
   }
 
@@ -96,14 +90,14 @@ module _ {a b : ℕ} where
   counts_engine (runs.Conflict p) h = counts_no (λ e. cc) (λ f. f) h
   counts_engine (runs.Memory) h = counts_no (λ e. cc) (λ f. f) h
 
-  pub counts_run : {A T : Type 0} (e : RunError A) → (IsErrOf {T = T} (Err e) children.Device → a < b) → ((IsErrOf {T = T} (Err e) children.Device → ⊥) → b ≡ a) → Counts a b (IsDevice (refusals.Run e))
+  pub counts_run : {A T : Type 0} (e : RunError A) → (IsErrOf {T = T} (Err e) children.Device → b ≡ a + 1) → ((IsErrOf {T = T} (Err e) children.Device → ⊥) → b ≡ a) → Counts a b (IsDevice (refusals.Run e))
   counts_run (children.Device) failed unfailed = record { failed = λ f. failed refl; unfailed = λ none. absurd (none tt) }
   counts_run (children.NotAbsolute) failed unfailed = counts_same (λ f. f) (unfailed (λ e. cc))
   counts_run (children.BadOutput p) failed unfailed = counts_same (λ f. f) (unfailed (λ e. cc))
   counts_run (children.Memory) failed unfailed = counts_same (λ f. f) (unfailed (λ e. cc))
 
   -- whatever a child came to, no failure is forgotten
-  pub counts_risen : {A T : Type 0} (r : Result T (RunError A)) → (IsErrOf r children.Device → a < b) → ((IsErrOf r children.Device → ⊥) → b ≡ a) → a ≤ b
+  pub counts_risen : {A T : Type 0} (r : Result T (RunError A)) → (IsErrOf r children.Device → b ≡ a + 1) → ((IsErrOf r children.Device → ⊥) → b ≡ a) → a ≤ b
   counts_risen (Ok x) failed unfailed = let same = unfailed ok_no_error in omega (arith, same)
   counts_risen (Err children.Device) failed unfailed = let rises = failed refl in omega (arith, rises)
   counts_risen (Err children.NotAbsolute) failed unfailed = let same = unfailed (λ e. cc) in omega (arith, same)

@@ -7,7 +7,7 @@ use Rattle.runs.specs.Engine.{EngineValue}
 use Rattle.worker.specs.declared.watching.Progress.{Progress}
 use Rattle.worker.specs.Calls.{Call, PutsOf}
 use Rattle.worker.specs.Outcomes.{Yields}
-use Rattle.worker.specs.Watching.{Hears, IsWatched, IsToldLast, IsProgress, IsUpToDate}
+use Rattle.worker.specs.Watching.{Hears, IsWatched, IsProgress, IsUpToDate}
 use Rattle.worker.proofs.Goes.{puts_moved}
 use Rattle.worker.proofs.Keeping.{right_trans}
 
@@ -43,12 +43,6 @@ module _ (A : Type 0) (y : Yields) (t : Telling) (most : ℕ) (first : EngineVal
   up_more now (Some xs) None c p w heard q is = absurd w.heard
   up_more now (Some xs) (Some ys) None p w heard q is = absurd heard
   up_more now (Some xs) (Some ys) (Some zs) p w heard q is = inr (ys, p, heard, (q, is))
-
-pub last_so : (Is So : Progress → Type 0) (none never : Type 0) → ((p : Progress) → Is p → So p) → (none → never) → (a b : Option (List Progress)) → IsToldLast Is none a b → IsToldLast So never a b
-last_so Is So none never follows f None b h = tt
-last_so Is So none never follows f (Some xs) None h = absurd h
-last_so Is So none never follows f (Some xs) (Some ys) (inl (same, was)) = inl (same, f was)
-last_so Is So none never follows f (Some xs) (Some ys) (inr (ps, p, told, is)) = inr (ps, p, told, follows p is)
 
 -- ---- as more is put
 

@@ -5,6 +5,7 @@ pub mod Telling
 pub mod Untaken
 pub mod Sorting
 pub mod Gathering
+pub mod Layouts
 pub mod Startable
 pub mod Jobs
 pub mod Started
@@ -20,3 +21,4 @@ pub mod Heard
 pub mod Failures
 pub mod Steps
 pub mod Acts
+pub mod TwoStepsBuilt

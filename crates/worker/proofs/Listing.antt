@@ -1,12 +1,11 @@
 -- Whether a command lists outputs, as they are gone through.
-use Rattle.std.proofs.Common.{◌≡◌, ℕ, ◌+◌, ◌<◌, ◌≤◌, List, length, drop, get_or, subst}
+use Rattle.std.proofs.Common.{◌≡◌, ℕ, ◌+◌, ◌<◌, List, length, drop, get_or, subst}
 use Rattle.std.specs.Prelude.{◌↔◌, Contains}
 use Rattle.std.specs.List.{AllByRecursion}
 use Rattle.actions.specs.declared.outcome.Output.{Output}
 use Rattle.actions.specs.Outcome.{outputs_in, output_paths}
 use Rattle.action_messages.specs.Command.{CommandValue}
 use Rattle.std.proofs.Common.{suc, ◌∷◌, ap, sym, add-one, drop-cons}
-use Rattle.std.proofs.lemmas.List.{drop_all}
 
 split_at : {X : Type 0} (xs : List X) (i : ℕ) (x : X) → i < length xs → x ≡ get_or xs i x → drop i xs ≡ x ∷ drop (i + 1) xs
 split_at xs i x lt is = rw (add-one, drop-cons xs i x lt) (ap (λ k. k ∷ drop (suc i) xs) (sym is))
@@ -29,6 +28,3 @@ module _ {A : Type 0} where
   listed_not c xs i x lt is none goes all =
       let here = subst (AreListedWith c xs) (split_at xs i x lt is) goes in
       none (here.1 all).0
-
-  pub listed_all : (c : CommandValue) (xs : List (List (List ℕ) × Output A)) (i : ℕ) → length xs ≤ i → AreListedWith c xs (drop i xs) → AreListed c xs
-  listed_all c xs i le goes = (subst (AreListedWith c xs) (drop_all i xs le) goes).0 tt

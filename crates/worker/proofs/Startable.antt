@@ -1,5 +1,5 @@
 -- Which step is started.
-use Rattle.std.proofs.Common.{◌≡◌, ◌≢◌, ◌↔◌, ℕ, Bool, true, false, Option, Some, None, refl, sym, ◌∙◌}
+use Rattle.std.proofs.Common.{◌≡◌, ◌↔◌, ℕ, Bool, true, false, Option, Some, None, refl, sym, ◌∙◌}
 use Rattle.std.specs.Prelude.{IsTrue, IsSome}
 use Rattle.runs.specs.Engine.{EngineValue, finished_in}
 use Rattle.runs.specs.Calls.{IsReady, jobs_of}
@@ -8,10 +8,6 @@ use Rattle.worker.specs.Calls.{IsStartable}
 not_some : {X : Type 0} (o : Option X) → (IsSome o → ⊥) → o ≡ None
 not_some None none = refl
 not_some (Some x) none = absurd (none refl)
-
-none_some : {X : Type 0} (o : Option X) → o ≡ None → IsSome o → ⊥
-none_some None e h = absurd cc
-none_some (Some x) e h = cc
 
 untrue : (b : Bool) → b ≡ false → IsTrue b → ⊥
 untrue true e h = cc
@@ -26,9 +22,3 @@ startable e i done count ready finished running there undone idle = (
   },
   λ h. there.1 h.ready,
 )
-
-pub not_finished : (e : EngineValue) (i : ℕ) (done : Bool) → IsTrue done ↔ IsSome (finished_in i e) → done ≡ true → IsStartable e i → ⊥
-not_finished e i done finished is h = none_some (finished_in i e) h.waiting.unfinished (finished.0 is)
-
-pub not_idle : (e : EngineValue) (i count : ℕ) → count ≡ jobs_of i e.jobs → count ≢ 0 → IsStartable e i → ⊥
-not_idle e i count running some h = some (running ∙ h.waiting.idle)

@@ -12,17 +12,17 @@ use Rattle.std.specs.List.{AllByRecursion}
 use Rattle.actions.specs.declared.outcome.Output.TheVariants as outputs
 use Rattle.actions.specs.Outcome.{OutputValue, OutcomeValue}
 use Rattle.actions.specs.Recorded.{StandsFor, StandForAll, IsRecorded}
-use Rattle.tree.specs.Tree.{Name, Tree, empty, leaf, folder, nothing, a_leaf, a_directory}
+use Rattle.tree.specs.Tree.{Name, Tree, empty, leaf, folder, Standing, nothing, a_leaf, a_directory, stands_at}
 use Rattle.tree.specs.Form.{NodeValue}
 use Rattle.tree.specs.FlatTree.{FlatValue}
-use Rattle.tree.specs.Unfolded.{TellsBelow, IsUnfolded}
+use Rattle.tree.specs.Unfolded.{TellsBelow, TellsTree, IsUnfolded}
 use Rattle.runs.specs.Engine.{JobValue, EngineValue}
 use Rattle.worker.specs.Values.{LayoutValue, EndValue, made}
 use Rattle.worker.specs.Stored.{IsKept}
 use Rattle.worker.specs.Outcomes.{Yields, YieldsNoMore, MayComeTo, directories_of, HasTree, IsYielded, IsHeld}
 use Rattle.worker.specs.Going.{IsOwed}
 use Rattle.worker.proofs.Keeping.{right_still, all_right_still}
-use Rattle.worker.specs.Layout.{AreFiles, IsLayoutOf}
+use Rattle.worker.specs.Layout.{IsFileWith, IsLayoutOf}
 
 module _ {B C : Blobs} (keeps : KeepsRight B C) where
   pub blob_still : {d : DigestValue} {b : List ℕ} → IsBlobUnder B d b → IsBlobUnder C d b
@@ -40,31 +40,29 @@ module _ {B C : Blobs} (keeps : KeepsRight B C) where
   below_still (leaf n x rest) h = below_still rest h
   below_still (folder n below rest) h = ((told_still h.0.0, below_still below h.0.1), below_still rest h.1)
 
-  pub unfolded_still : {d : DigestValue} {es : FlatValue} → IsUnfolded B d es → IsUnfolded C d es
-  unfolded_still h = record {
-    tree = h.tree;
-    list = h.list;
-    told = record { root = h.told.root; top = told_still h.told.top; below = below_still h.tree h.told.below };
-  }
+  tells_still : {d : DigestValue} {t : Tree NodeValue} → TellsTree B d t → TellsTree C d t
+  tells_still {d} {t} h = record { root = h.root; top = told_still h.top; below = below_still t h.below }
 
-  files_still : (es : FlatValue) (fs : List (List Name × List ℕ)) → AreFiles B es fs → AreFiles C es fs
-  files_still [] fs h = h
-  files_still ((p, nothing) ∷ es) fs h = files_still es fs h
-  files_still ((p, a_directory) ∷ es) fs h = files_still es fs h
-  files_still ((p, a_leaf (nodes.Link t)) ∷ es) fs h = files_still es fs h
-  files_still ((p, a_leaf (nodes.Dir d)) ∷ es) fs h = files_still es fs h
-  files_still ((p, a_leaf (nodes.File d x)) ∷ es) fs (b, blob, rest, files, is) = (b, blob_still blob, rest, files_still es rest files, is)
+  pub unfolded_still : {d : DigestValue} {es : FlatValue} → IsUnfolded B d es → IsUnfolded C d es
+  unfolded_still h = record { tree = h.tree; list = h.list; told = tells_still h.told }
+
+  file_still : (b : List ℕ) (s : Standing NodeValue) → IsFileWith B b s → IsFileWith C b s
+  file_still b nothing h = h
+  file_still b a_directory h = h
+  file_still b (a_leaf (nodes.Link t)) h = h
+  file_still b (a_leaf (nodes.Dir d)) h = h
+  file_still b (a_leaf (nodes.File d x)) h = blob_still h
 
   pub layout_still : {d : DigestValue} {l : LayoutValue} → IsLayoutOf B d l → IsLayoutOf C d l
   layout_still h = record {
-    entries = h.entries;
-    unfolded = unfolded_still h.unfolded;
-    gathered = h.gathered;
-    of_entries = record { no_link = h.of_entries.no_link; folders = h.of_entries.folders; files = files_still h.entries h.gathered.files h.of_entries.files };
+    tree = h.tree;
+    ordered = h.ordered;
+    told = tells_still h.told;
     folders = h.folders;
-    files = h.files;
-    folders_sorted = h.folders_sorted;
-    files_sorted = h.files_sorted;
+    files = λ p b at. file_still b (stands_at h.tree p) (h.files p b at);
+    each_leaf = h.each_leaf;
+    folders_ascend = h.folders_ascend;
+    files_ascend = h.files_ascend;
   }
 
   stands_still : (x : RecordedValue) (v : OutputValue) → StandsFor B x v → StandsFor C x v

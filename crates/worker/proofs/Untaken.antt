@@ -36,9 +36,6 @@ if_err X (Ok x) e is = absurd cc
 if_err X (Err f) e is = tt
 
 module _ (t : Telling) (d : DigestValue) (c : CommandValue) where
-  pub none_stands : t.results d ≡ None → HasNoneToTake t d c
-  none_stands none v h fits = let there = h.held in cc
-
   module _ (bytes : List ℕ) (there : t.results d ≡ Some bytes) where
     reads_there : (v : OutcomeValue) → (h : IsHeld t d v) → Reads h.result bytes
     reads_there v h = subst (Reads h.result) (one_answer (t.results d) h.bytes bytes h.held there) h.reads

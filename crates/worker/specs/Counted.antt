@@ -1,5 +1,5 @@
 -- Of which refusals a count tells.
-use Rattle.std.specs.Prelude.{◌≡◌, ◌<◌, ℕ}
+use Rattle.std.specs.Prelude.{◌≡◌, ◌+◌, ℕ}
 use Rattle.runs.specs.declared.error.RunsError.TheVariants as runs
 use Rattle.tree.specs.declared.error.TreeError.TheVariants as tree
 use Rattle.worker.specs.declared.error.Refusal.{Refusal}
@@ -7,9 +7,9 @@ use Rattle.worker.specs.declared.error.Refusal.TheVariants as refusals
 use Rattle.worker.specs.declared.laid.LayoutError.TheVariants as laying
 use Rattle.worker.specs.declared.runner.RunError.TheVariants as children
 
--- a count rose exactly where the answer says that something failed
+-- a count rose, by one, exactly where the answer says that something failed
 pub record Counts (before after : ℕ) (fails : Type 0) : Type 0 where
-  pub failed : fails → before < after
+  pub failed : fails → after ≡ before + 1
   pub unfailed : (fails → ⊥) → after ≡ before
 
 -- the store failed

@@ -1,5 +1,6 @@
 pub mod Values
 pub mod Layout
+pub mod Gathering
 pub mod Refusals
 pub mod Outcomes
 pub mod Calls
@@ -12,3 +13,4 @@ pub mod Watching
 pub mod Counted
 pub mod FailRunner
 pub mod Steps
+pub mod TwoSteps

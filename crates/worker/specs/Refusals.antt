@@ -1,11 +1,13 @@
 -- Why a layout or a step of a build is refused.
-use Rattle.std.specs.Prelude.{◌≡◌, ◌⊎◌, Bool, List, [], Contains}
+use Rattle.std.specs.Prelude.{◌≡◌, ◌⊎◌, ℕ, List, [], ◌∷◌, ◌++◌}
+use Rattle.std.specs.List.{AllByRecursion}
 use Rattle.blob_digest.specs.Digest.{DigestValue}
 use Rattle.messages.specs.declared.node.Node.TheVariants as nodes
 use Rattle.blob_source.specs.Source.{Blobs}
 use Rattle.blob_source.specs.declared.source.FetchError.{FetchError}
 use Rattle.blob_source.specs.declared.source.FetchError.TheVariants as fetching
-use Rattle.tree.specs.Tree.{Name, a_leaf}
+use Rattle.tree.specs.Tree.{Name, Standing, a_leaf, a_directory}
+use Rattle.tree.specs.Form.{NodeValue}
 use Rattle.tree.specs.FlatTree.{FlatValue}
 use Rattle.tree.specs.TreeError.{Explains, FailsBlob}
 use Rattle.tree.specs.Unfolded.{IsUnfolded, ExplainsUnfold}
@@ -13,7 +15,7 @@ use Rattle.worker.specs.declared.error.Refusal.{Refusal}
 use Rattle.worker.specs.declared.error.Refusal.TheVariants as refusals
 use Rattle.worker.specs.declared.laid.LayoutError.{LayoutError}
 use Rattle.worker.specs.declared.laid.LayoutError.TheVariants as laying
-use Rattle.worker.specs.Layout.{IsLinkAt}
+use Rattle.worker.specs.Layout.{IsFileWith}
 
 abbrev pub of_fetch : {A : Type 0} → FetchError → Refusal A
 of_fetch fetching.Failed = refusals.Fetch
@@ -21,13 +23,32 @@ of_fetch fetching.Memory = refusals.Memory
 
 -- ---- why nothing is laid out
 
--- Why entries aren't laid out: the content of a file among them isn't fetched, or a link is among
--- them.
+-- an entry that is laid out: a directory, or a file whose content is told
+abbrev pub IsLaid : Blobs → Standing NodeValue → Type 0
+IsLaid B s = (s ≡ a_directory) ⊎ ((b : List ℕ) × IsFileWith B b s)
+
+-- why one isn't: it is a link, or a file whose content isn't fetched
+abbrev pub FailsEntry : {A : Type 0} → Blobs → List Name → Standing NodeValue → LayoutError A
+    → Type 0
+FailsEntry B p (a_leaf (nodes.File d x)) (laying.Source e) = Explains (FailsBlob B d) e
+FailsEntry B p (a_leaf (nodes.Link t)) (laying.LinkInput q) = q ≡ p
+FailsEntry B p s e = ⊥
+
+-- an entry isn't laid out, and all before it are
+pub record StopsAt {A : Type 0} (B : Blobs) (entries : FlatValue) (e : LayoutError A)
+    : Type 0 where
+  pub done : FlatValue
+  pub path : List Name
+  pub standing : Standing NodeValue
+  pub left : FlatValue
+  pub whole : entries ≡ done ++ (path, standing) ∷ left
+  pub laid : AllByRecursion (λ entry. IsLaid B entry.1) done
+  pub fails : FailsEntry B path standing e
+
+-- Why entries aren't laid out: the first that isn't, unless memory ran out.
 abbrev pub StopsLayout : {A : Type 0} → Blobs → FlatValue → LayoutError A → Type 0
-StopsLayout B entries (laying.Source e) = (p : List Name) × (d : DigestValue) × (x : Bool)
-    × Contains entries (p, a_leaf (nodes.File d x)) × Explains (FailsBlob B d) e
-StopsLayout B entries (laying.LinkInput p) = IsLinkAt entries p
 StopsLayout B entries laying.Memory = Unit {0}
+StopsLayout B entries e = StopsAt B entries e
 
 -- why a tree isn't unfolded
 abbrev pub IsTreeFault : {A : Type 0} → Blobs → DigestValue → LayoutError A → Type 0

@@ -56,7 +56,7 @@ fn start_child<A: Allocator + Copy, S: BlobSink<A>, N: Runner<A>>(
 /// Goes on with a job: takes what the store has for it, or else starts its child.
 fn launch<A: Allocator + Copy, S: BlobSink<A>, N: Runner<A>>(
     alloc: A,
-    engine: &mut Engine<A>,
+    engine: &mut Engine<'_, A>,
     sink: &mut S,
     runner: &mut N,
     put: &mut BTreeSet<Digest, A>,
@@ -104,7 +104,7 @@ fn launch<A: Allocator + Copy, S: BlobSink<A>, N: Runner<A>>(
 /// Starts a step.
 pub(crate) fn begin<A: Allocator + Copy, S: BlobSink<A>, N: Runner<A>>(
     alloc: A,
-    engine: &mut Engine<A>,
+    engine: &mut Engine<'_, A>,
     sink: &mut S,
     runner: &mut N,
     remembered: &mut Remembered<A>,

@@ -27,7 +27,7 @@ use tree::{BlobSink, Memo};
 /// Waits for all children, and loses their jobs.
 fn end_all<A: Allocator + Copy, N: Runner<A>>(
     alloc: A,
-    engine: &mut Engine<A>,
+    engine: &mut Engine<'_, A>,
     runner: &mut N,
     children: VecDeque<Child<N::Job>, A>,
 )
@@ -56,7 +56,7 @@ fn end_all<A: Allocator + Copy, N: Runner<A>>(
 /// Takes turns until there is none, and tells after each how far the build is.
 fn take_turns<A: Allocator + Copy, S: BlobSink<A>, N: Runner<A>, W: Watcher>(
     alloc: A,
-    engine: &mut Engine<A>,
+    engine: &mut Engine<'_, A>,
     sink: &mut S,
     runner: &mut N,
     watcher: &mut W,
@@ -110,7 +110,7 @@ fn take_turns<A: Allocator + Copy, S: BlobSink<A>, N: Runner<A>, W: Watcher>(
 /// build is whenever a step was started or has finished.
 pub fn build<A: Allocator + Copy, S: BlobSink<A>, N: Runner<A>, W: Watcher>(
     alloc: A,
-    engine: &mut Engine<A>,
+    engine: &mut Engine<'_, A>,
     sink: &mut S,
     runner: &mut N,
     watcher: &mut W,

@@ -24,7 +24,7 @@ pub(crate) struct Before {
 }
 
 /// How far a build of which no job runs is.
-pub(crate) fn first_progress<A: Allocator + Copy>(engine: &Engine<A>) -> Progress
+pub(crate) fn first_progress<A: Allocator + Copy>(engine: &Engine<'_, A>) -> Progress
     requires { running engine.now.jobs ≡ 0 }
     ensures { IsProgressOf [] engine.now result }
 {
@@ -56,7 +56,7 @@ fn longest<J, A: Allocator>(children: &VecDeque<Child<J>, A>) -> Option<usize>
 
 /// The step of a turn.
 fn step_of<A: Allocator + Copy, J>(
-    engine: &Engine<A>,
+    engine: &Engine<'_, A>,
     children: &VecDeque<Child<J>, A>,
     turn: &Turn,
 ) -> usize
@@ -77,7 +77,7 @@ fn step_of<A: Allocator + Copy, J>(
 
 /// What a turn that is to be taken finds.
 pub(crate) fn before_turn<A: Allocator + Copy, J>(
-    engine: &Engine<A>,
+    engine: &Engine<'_, A>,
     children: &VecDeque<Child<J>, A>,
     turn: &Turn,
 ) -> Before
@@ -111,7 +111,7 @@ fn counted(count: usize, is_more: bool) -> usize
 pub(crate) fn progress_after<A: Allocator + Copy, J>(
     progress: Progress,
     turn: Before,
-    engine: &Engine<A>,
+    engine: &Engine<'_, A>,
     children: &VecDeque<Child<J>, A>,
 ) -> Progress
     requires within { turn.step < length engine.now.plan.steps }

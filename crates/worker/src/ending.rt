@@ -49,7 +49,7 @@ fn collect<A: Allocator + Copy, S: BlobSink<A>, N: Runner<A>>(
 /// Finishes the job of a child with what it came to.
 fn take<A: Allocator + Copy, S: BlobSink<A>, N: Runner<A>>(
     alloc: A,
-    engine: &mut Engine<A>,
+    engine: &mut Engine<'_, A>,
     sink: &mut S,
     runner: &mut N,
     child: Child<N::Job>,
@@ -77,7 +77,7 @@ fn take<A: Allocator + Copy, S: BlobSink<A>, N: Runner<A>>(
 /// Ends the job of a child, whatever comes.
 fn settle<A: Allocator + Copy, S: BlobSink<A>, N: Runner<A>>(
     alloc: A,
-    engine: &mut Engine<A>,
+    engine: &mut Engine<'_, A>,
     sink: &mut S,
     runner: &mut N,
     child: Child<N::Job>,
@@ -113,7 +113,7 @@ fn settle<A: Allocator + Copy, S: BlobSink<A>, N: Runner<A>>(
 /// Waits for the child that was started first.
 pub(crate) fn finish_first<A: Allocator + Copy, S: BlobSink<A>, N: Runner<A>>(
     alloc: A,
-    engine: &mut Engine<A>,
+    engine: &mut Engine<'_, A>,
     sink: &mut S,
     runner: &mut N,
     children: &mut VecDeque<Child<N::Job>, A>,

@@ -144,7 +144,7 @@ impl<A: Allocator, N: Runner<A>> Runner<A> for FailRunner<N> {
         ensures refused { IsErrOf result RunError.NotAbsolute → IsAbsolute command.now → ⊥ }
         ensures bad { (path : List (List ℕ)) → IsErrOf result (RunError.BadOutput path) → ⊥ }
         ensures failed { IsErrOf result RunError.Device
-            → failures_of self.old < failures_of self.new }
+            → failures_of self.new ≡ failures_of self.old + 1 }
         ensures unfailed { (IsErrOf result RunError.Device → ⊥)
             → failures_of self.new ≡ failures_of self.old }
         ensures fails { FailsRun N.failures self.old self.new result }
@@ -167,7 +167,7 @@ impl<A: Allocator, N: Runner<A>> Runner<A> for FailRunner<N> {
         ensures closed { N.alive (inner_of self.new) ≡ N.alive (inner_of self.old) - 1 }
         ensures absolute { IsErrOf result RunError.NotAbsolute → ⊥ }
         ensures failed { IsErrOf result RunError.Device
-            → failures_of self.old < failures_of self.new }
+            → failures_of self.new ≡ failures_of self.old + 1 }
         ensures unfailed { (IsErrOf result RunError.Device → ⊥)
             → failures_of self.new ≡ failures_of self.old }
         ensures fails { FailsRun N.failures self.old self.new result }

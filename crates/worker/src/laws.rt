@@ -1,9 +1,12 @@
 ghost use Rattle.std.specs.Prelude.{◌≡◌, ◌⊎◌, ℕ, Some};
 ghost use Rattle.blob_source.specs.Source.{Telling};
+ghost use Rattle.runs.specs.Calls.{HaveAllFinished};
 ghost use Rattle.runs.specs.Engine.{FinishedValue, EngineValue, finished_in};
+ghost use Rattle.verifier.specs.TwoSteps as two;
 ghost use Rattle.worker.specs.Calls.{IsBuiltBy, IsLed, running};
 ghost use Rattle.worker.specs.Steps.{CameOfChild, IsActionOf, WasTaken};
 ghost use Rattle.worker.specs.Stored.{HasNoneFinished};
+ghost use Rattle.worker.specs.TwoSteps as example;
 
 use crate::runner::Runner;
 use std::alloc::Allocator;
@@ -28,4 +31,14 @@ pub fn actions_are_of_steps<A: Allocator, N: Runner<A>>(runner: &N)
         → HasNoneFinished first → running first.jobs ≡ 0
         → (i : ℕ) (f : FinishedValue) → finished_in i last ≡ Some f
         → IsActionOf A t.blobs last i f.action }
+{}
+
+/// The premises of what is said of the steps of a build can be met together: by the build of two
+/// steps, each of which takes what the store has for its action. A law: it does nothing.
+pub fn a_build_takes_two_steps<A: Allocator, N: Runner<A>>(alloc: &A, runner: &N)
+    ensures built { (built : IsBuiltBy A (N.yields runner.now) two.telling two.telling 1
+        example.first example.last) × (built.led.calls ≡ example.calls) }
+    ensures fresh { HasNoneFinished example.first }
+    ensures idle { running example.first.jobs ≡ 0 }
+    ensures complete { HaveAllFinished example.last }
 {}

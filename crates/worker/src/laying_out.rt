@@ -4,7 +4,8 @@ ghost use Rattle.blob_source.specs.Called.{Called, Calls};
 ghost use Rattle.blob_source.specs.Source.{Asks, IsBlobUnder};
 ghost use Rattle.tree.specs.FlatTree.{path_values};
 ghost use Rattle.tree.specs.Unfolded.{IsUnfolded};
-ghost use Rattle.worker.specs.Layout.{AreGathered, IsLayoutOf};
+ghost use Rattle.worker.specs.Gathering.{AreGathered};
+ghost use Rattle.worker.specs.Layout.{IsLayoutOf};
 ghost use Rattle.worker.specs.Stopping.{IsContentFault};
 ghost use Rattle.worker.specs.Refusals.{IsTreeFault, StopsLayout, IsLayoutFault};
 
@@ -59,8 +60,8 @@ fn gather<A: Allocator + Copy, S: BlobSource<A>>(
     entries: Vec<(Path<A>, FlatEntry<A>), A>,
     source: &mut S,
 ) -> Result<Layout<A>, LayoutError<A>>
-    ensures gathered { IfOk result
-        (AreGathered (S.tells source.new).blobs (path_values entries.items)) }
+    ensures gathered { IfOk result (λ layout. AreGathered (S.tells source.new).blobs
+        (path_values entries.items) layout.folders layout.files) }
     ensures refused { IfErr result
         (StopsLayout (S.tells source.new).blobs (path_values entries.items)) }
     ensures called { Called (S.tells source.old) (S.tells source.new)

@@ -23,7 +23,7 @@ pub use building::build;
 pub use error::{BuildError, Refusal};
 pub use fail_runner::FailRunner;
 pub use laid::{Layout, LayoutError};
-pub use laws::{actions_are_of_steps, steps_are_yielded_or_taken};
+pub use laws::{a_build_takes_two_steps, actions_are_of_steps, steps_are_yielded_or_taken};
 pub use laying_out::layout;
 pub use putting::put_all;
 pub use runner::{Produced, RunError, Runner};

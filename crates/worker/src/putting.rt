@@ -157,7 +157,7 @@ fn put_encoded<A: Allocator + Copy, S: BlobSink<A>>(
 /// Puts the result of a step that has finished under the digest of an action.
 pub(crate) fn put_outcome<A: Allocator + Copy, S: BlobSink<A>>(
     alloc: A,
-    engine: &Engine<A>,
+    engine: &Engine<'_, A>,
     sink: &mut S,
     step: usize,
     action: &Digest,

@@ -1,4 +1,4 @@
-ghost use Rattle.std.specs.Prelude.{◌≡◌, ◌+◌, ◌-◌, ◌<◌, ℕ, IfOk, IsErrOf, OnOk, OnErr};
+ghost use Rattle.std.specs.Prelude.{◌≡◌, ◌+◌, ◌-◌, ℕ, IfOk, IsErrOf, OnOk, OnErr};
 ghost use Rattle.worker.specs.declared.runner.RunError.TheVariants as errors;
 ghost use Rattle.worker.specs.Outcomes.{YieldsNoMore};
 ghost use Rattle.worker.specs.Values.{IsAbsolute, StartsOne, StartsNone, made, bad_at};
@@ -100,7 +100,8 @@ pub trait Runner<A: Allocator> {
         ensures unopened { OnErr result (alive self.new ≡ alive self.old) }
         ensures refused { IsErrOf result RunError.NotAbsolute → IsAbsolute command.now → ⊥ }
         ensures bad { (path : List (List ℕ)) → IsErrOf result (RunError.BadOutput path) → ⊥ }
-        ensures failed { IsErrOf result RunError.Device → failures self.old < failures self.new }
+        ensures failed { IsErrOf result RunError.Device
+            → failures self.new ≡ failures self.old + 1 }
         ensures unfailed { (IsErrOf result RunError.Device → ⊥)
             → failures self.new ≡ failures self.old };
 
@@ -113,7 +114,8 @@ pub trait Runner<A: Allocator> {
         ensures unlisted { StartsNone (starts self.old) (starts self.new) }
         ensures closed { alive self.new ≡ alive self.old - 1 }
         ensures absolute { IsErrOf result RunError.NotAbsolute → ⊥ }
-        ensures failed { IsErrOf result RunError.Device → failures self.old < failures self.new }
+        ensures failed { IsErrOf result RunError.Device
+            → failures self.new ≡ failures self.old + 1 }
         ensures unfailed { (IsErrOf result RunError.Device → ⊥)
             → failures self.new ≡ failures self.old };
 }

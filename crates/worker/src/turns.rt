@@ -32,7 +32,7 @@ pub(crate) enum Turn {
 }
 
 /// Whether the step may be started: it hasn't finished, doesn't run, and is ready.
-fn can_start<A: Allocator + Copy>(engine: &Engine<A>, step: usize) -> bool
+fn can_start<A: Allocator + Copy>(engine: &Engine<'_, A>, step: usize) -> bool
     requires { step < length engine.now.plan.steps }
     ensures { IsTrue result ↔ IsStartable engine.now step }
 {
@@ -46,7 +46,7 @@ fn can_start<A: Allocator + Copy>(engine: &Engine<A>, step: usize) -> bool
 }
 
 /// The least step that may be started.
-pub(crate) fn next_step<A: Allocator + Copy>(engine: &Engine<A>) -> Option<usize>
+pub(crate) fn next_step<A: Allocator + Copy>(engine: &Engine<'_, A>) -> Option<usize>
     ensures found { IfSome result
         (λ i. (i < length engine.now.plan.steps) × IsStartable engine.now i) }
     ensures least { IfSome result (λ i. (k : ℕ) → k < i → IsStartable engine.now k → ⊥) }
@@ -65,7 +65,7 @@ pub(crate) fn next_step<A: Allocator + Copy>(engine: &Engine<A>) -> Option<usize
 /// What comes next while at most `jobs` children run: the least step that may be started, or else
 /// the child that was started first.
 pub(crate) fn next_turn<A: Allocator + Copy, J>(
-    engine: &Engine<A>,
+    engine: &Engine<'_, A>,
     children: &VecDeque<Child<J>, A>,
     jobs: usize,
 ) -> Option<Turn>
@@ -93,7 +93,7 @@ pub(crate) fn next_turn<A: Allocator + Copy, J>(
 /// Takes a turn.
 pub(crate) fn take_turn<A: Allocator + Copy, S: BlobSink<A>, N: Runner<A>>(
     alloc: A,
-    engine: &mut Engine<A>,
+    engine: &mut Engine<'_, A>,
     sink: &mut S,
     runner: &mut N,
     remembered: &mut Remembered<A>,

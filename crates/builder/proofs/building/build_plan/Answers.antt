@@ -76,7 +76,7 @@ returns-clause-build g c =
       record {
         end = c.in_ok-built.ensures.ended;
         stored = stored;
-        answered = answered g.row.A.Denot (g.N.Runner.yields c.args.runner.now) c.args.jobs c.args.plan c.args.sources opening ending told c.in_ok-engine.engine c.build.new.engine c.in_ok-built.built opened c.build.ensures.right c.in_ok-build.ensures.led.0.built.led (right_grows asks.blobs) c.plan.ensures.valid stored c.in_ok-built.ensures.ended;
+        answered = answered g.row.A.Denot (g.N.Runner.yields c.args.runner.now) c.args.jobs c.args.plan.now c.args.sources opening ending told c.in_ok-engine.engine c.build.new.engine c.in_ok-built.built opened c.build.ensures.right c.in_ok-build.ensures.led.0.built.led (right_grows asks.blobs) c.plan.ensures.valid stored c.in_ok-built.ensures.ended;
         heard = c.in_ok-build.ensures.up_to_date;
         unfailed = c.in_ok-build.ensures.unfailed;
       },

@@ -104,3 +104,7 @@ pub returns-in_err-run_serve-in-serve-clause-unprinted : goal.returns-in_err-run
 returns-in_err-run_serve-in-serve-clause-unprinted g c =
     exit_by (λ fault. status_of fault ≡ 2 → g.O.Write.contents c.run_serve.new.out ≡ g.O.Write.contents c.args.out.now) _ c.from_residual-in_err-run_serve-in-serve.ensures.1
     c.in_err-run_serve-in-serve.ensures.unprinted
+
+pub returns-in_err-run_verify-in-verify-clause-unprinted : goal.returns-in_err-run_verify-in-verify-clause-unprinted
+returns-in_err-run_verify-in-verify-clause-unprinted g c =
+    exit_by _ _ c.from_residual-in_err-run_verify-in-verify.ensures.1 c.in_err-run_verify-in-verify.ensures.unprinted

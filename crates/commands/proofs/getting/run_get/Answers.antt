@@ -1,4 +1,4 @@
-use Rattle.std.proofs.Common.{rules, ◌≡◌, ◌∙◌, None, Some, refl, sym, subst, string_bytes, inr}
+use Rattle.std.proofs.Common.{rules, ◌≡◌, None, Some, refl, sym, subst, string_bytes, inr}
 use Rattle.std.specs.Prelude.{IsSome, codes}
 use Rattle.clap.specs.Words.{first_of, found_of, rows_of}
 use Rattle.commands.specs.Printed.{StartsGet}
@@ -13,10 +13,10 @@ returns-in-Some-clause-answered g c =
     let start = connection_of g.W.Link.Stream.flow c.in_ok-remote.remote in
     let digest = c.in_ok-digest.digest in
     let into : first_of (codes "into") rows ≡ Some c.in-Some.folder.now = search rules in
-    let starts : StartsGet sees rows digest start = starts_get sees rows start digest c.in_ok-server.server c.text_of.result.now c.text_of.ensures c.in_ok-server.ensures.address
-    c.in_ok-server.ensures.host c.in_ok-server.ensures.prefix c.in_ok-server.ensures.valid c.in_ok-digest.ensures.found c.in_ok-remote.ensures.opened in
+    let starts : StartsGet sees rows digest start = starts_get sees rows start digest c.in_ok-server.server c.in_ok-server.ensures.server c.in_ok-server.ensures.checked
+    c.in_ok-digest.ensures.found c.in_ok-remote.ensures.opened in
     asked_by sees rows start digest starts (Some c.in-Some.folder.now) into c.get_tree.result (string_bytes c.in_ok-server.server.address)
-    (c.in_ok-server.ensures.address ∙ c.text_of.ensures) (g.O.Write.contents c.args.out.now) (g.O.Write.contents c.get_tree.new.out) c.get_tree.ensures.got
+    c.in_ok-server.ensures.server.address (g.O.Write.contents c.args.out.now) (g.O.Write.contents c.get_tree.new.out) c.get_tree.ensures.got
 
 pub returns-in-Some-clause-refused : goal.returns-in-Some-clause-refused
 returns-in-Some-clause-refused g c =
@@ -25,10 +25,10 @@ returns-in-Some-clause-refused g c =
     let start = connection_of g.W.Link.Stream.flow c.in_ok-remote.remote in
     let digest = c.in_ok-digest.digest in
     let into : first_of (codes "into") rows ≡ Some c.in-Some.folder.now = search rules in
-    let starts : StartsGet sees rows digest start = starts_get sees rows start digest c.in_ok-server.server c.text_of.result.now c.text_of.ensures c.in_ok-server.ensures.address
-    c.in_ok-server.ensures.host c.in_ok-server.ensures.prefix c.in_ok-server.ensures.valid c.in_ok-digest.ensures.found c.in_ok-remote.ensures.opened in
+    let starts : StartsGet sees rows digest start = starts_get sees rows start digest c.in_ok-server.server c.in_ok-server.ensures.server c.in_ok-server.ensures.checked
+    c.in_ok-digest.ensures.found c.in_ok-remote.ensures.opened in
     refused_by sees rows start digest starts (Some c.in-Some.folder.now) into c.get_tree.result (string_bytes c.in_ok-server.server.address)
-    (c.in_ok-server.ensures.address ∙ c.text_of.ensures) c.get_tree.ensures.fault
+    c.in_ok-server.ensures.server.address c.get_tree.ensures.fault
 
 pub returns-in-Some-clause-begun : goal.returns-in-Some-clause-begun
 returns-in-Some-clause-begun g c =
@@ -43,10 +43,10 @@ returns-clause-answered g c =
     let start = connection_of g.W.Link.Stream.flow c.in_ok-remote.remote in
     let digest = c.in_ok-digest.digest in
     let into : first_of (codes "into") rows ≡ None = search rules in
-    let starts : StartsGet sees rows digest start = starts_get sees rows start digest c.in_ok-server.server c.text_of.result.now c.text_of.ensures c.in_ok-server.ensures.address
-    c.in_ok-server.ensures.host c.in_ok-server.ensures.prefix c.in_ok-server.ensures.valid c.in_ok-digest.ensures.found c.in_ok-remote.ensures.opened in
+    let starts : StartsGet sees rows digest start = starts_get sees rows start digest c.in_ok-server.server c.in_ok-server.ensures.server c.in_ok-server.ensures.checked
+    c.in_ok-digest.ensures.found c.in_ok-remote.ensures.opened in
     asked_by sees rows start digest starts None into c.print_blob.result (string_bytes c.in_ok-server.server.address)
-    (c.in_ok-server.ensures.address ∙ c.text_of.ensures) (g.O.Write.contents c.args.out.now) (g.O.Write.contents c.print_blob.new.out) c.print_blob.ensures.printed
+    c.in_ok-server.ensures.server.address (g.O.Write.contents c.args.out.now) (g.O.Write.contents c.print_blob.new.out) c.print_blob.ensures.printed
 
 pub returns-clause-refused : goal.returns-clause-refused
 returns-clause-refused g c =
@@ -55,7 +55,7 @@ returns-clause-refused g c =
     let start = connection_of g.W.Link.Stream.flow c.in_ok-remote.remote in
     let digest = c.in_ok-digest.digest in
     let into : first_of (codes "into") rows ≡ None = search rules in
-    let starts : StartsGet sees rows digest start = starts_get sees rows start digest c.in_ok-server.server c.text_of.result.now c.text_of.ensures c.in_ok-server.ensures.address
-    c.in_ok-server.ensures.host c.in_ok-server.ensures.prefix c.in_ok-server.ensures.valid c.in_ok-digest.ensures.found c.in_ok-remote.ensures.opened in
+    let starts : StartsGet sees rows digest start = starts_get sees rows start digest c.in_ok-server.server c.in_ok-server.ensures.server c.in_ok-server.ensures.checked
+    c.in_ok-digest.ensures.found c.in_ok-remote.ensures.opened in
     refused_by sees rows start digest starts None into c.print_blob.result (string_bytes c.in_ok-server.server.address)
-    (c.in_ok-server.ensures.address ∙ c.text_of.ensures) c.print_blob.ensures.fault
+    c.in_ok-server.ensures.server.address c.print_blob.ensures.fault

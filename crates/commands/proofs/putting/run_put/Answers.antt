@@ -2,24 +2,24 @@ use Rattle.std.proofs.Common.{◌≡◌, ◌∙◌, codes, refl, rules, string_b
 use Rattle.clap.specs.Words.{found_of, rows_of}
 use Rattle.command_lines.specs.CommandLine.{option_text}
 use Rattle.remote.specs.Remote.{connection_of}
-use Rattle.commands.specs.Options.{IsValidServer}
 use Rattle.commands.specs.Places.{FailsToConnect}
 use Rattle.commands.specs.Put.{PutsPath}
 use Rattle.commands.specs.PutRefused.{FailsBelow, FailsPut}
-use Rattle.commands.specs.PutRefused.FailsPut.{in_connection, in_memory, in_output, in_path}
+use Rattle.commands.specs.PutRefused.FailsPut.{in_connection, in_memory, in_output, in_path, in_words}
 use Rattle.commands.specs.Refusal.{IsPrintFault}
 use Rattle.commands.specs.Status.{status_of}
+use Rattle.commands.specs.Words.{FailsFirst, server_words}
 use Rattle.commands.proofs.Exits.{exit_by}
 use Rattle.commands.proofs.Placed.{opened_to}
-use Rattle.commands.proofs.Refused.{not_words, or_memory, words_fail}
+use Rattle.commands.proofs.Refused.{not_words, or_memory}
 use Rattle.commands.proofs.putting.run_put.Goals as goal
 
 pub returns-in_err-server-clause-refused : goal.returns-in_err-server-clause-refused
 returns-in_err-server-clause-refused g c =
+    let sees = g.W.World.sees in
     let options = rows_of (found_of c.args.matches.now) in
-    exit_by (FailsPut g.W.World.sees options) _ c.from_residual.ensures.1
-    (words_fail g.W.World.sees options _ c.in_err-server.ensures.fault
-    (λ other valid. c.in_err-server.ensures.invalid other (rw c.text_of.ensures valid)))
+    exit_by (FailsPut sees options) _ c.from_residual.ensures.1
+    (or_memory (FailsFirst (server_words options)) (FailsPut sees options) _ in_memory in_words c.in_err-server.ensures.checked)
 
 pub returns-in_err-place-clause-refused : goal.returns-in_err-place-clause-refused
 returns-in_err-place-clause-refused g c =
@@ -30,8 +30,8 @@ returns-in_err-remote-clause-refused g c =
     let sees = g.W.World.sees in
     let options = rows_of (found_of c.args.matches.now) in
     exit_by (FailsPut sees options) _ c.from_residual-in_err-remote.ensures.1
-    (in_connection (subst (IsValidServer options) c.text_of.ensures c.in_ok-server.ensures.valid)
-    (subst (λ a. FailsToConnect sees a c.in_err-remote.field-0.0) (c.in_ok-server.ensures.address ∙ c.text_of.ensures) c.in_err-remote.ensures.fault))
+    (in_connection c.in_ok-server.ensures.checked
+    (subst (λ a. FailsToConnect sees a c.in_err-remote.field-0.0) c.in_ok-server.ensures.server.address c.in_err-remote.ensures.fault))
 
 pub returns-in_err-digest-clause-refused : goal.returns-in_err-digest-clause-refused
 returns-in_err-digest-clause-refused g c =
@@ -40,12 +40,11 @@ returns-in_err-digest-clause-refused g c =
     let start = connection_of g.W.Link.Stream.flow c.in_ok-remote.remote in
     exit_by (FailsPut sees options) _ c.from_residual-in_err-digest.ensures.1
     (in_path start (record {
-      valid = subst (IsValidServer options) c.text_of.ensures c.in_ok-server.ensures.valid;
-      opened = opened_to sees options c.in_ok-server.server start
-          (c.in_ok-server.ensures.address ∙ c.text_of.ensures) (c.in_ok-server.ensures.host ∙ c.text_of.ensures) c.in_ok-server.ensures.prefix c.in_ok-remote.ensures.opened;
+      valid = c.in_ok-server.ensures.checked;
+      opened = opened_to sees options c.in_ok-server.server start c.in_ok-server.ensures.server c.in_ok-remote.ensures.opened;
     })
-    (subst (λ a. FailsBelow sees start a c.in_err-digest.field-0.0 64 (option_text options (codes "path"))) (c.in_ok-server.ensures.address ∙ c.text_of.ensures)
-    (subst (FailsBelow sees start (string_bytes c.in_ok-server.server.address) c.in_err-digest.field-0.0 64) (c.in_ok-place.ensures.ok ∙ c.text_of-2.ensures) c.in_err-digest.ensures.refused)))
+    (subst (λ a. FailsBelow sees start a c.in_err-digest.field-0.0 64 (option_text options (codes "path"))) c.in_ok-server.ensures.server.address
+    (subst (FailsBelow sees start (string_bytes c.in_ok-server.server.address) c.in_err-digest.field-0.0 64) (c.in_ok-place.ensures.ok ∙ c.text_of.ensures) c.in_err-digest.ensures.refused)))
 
 pub returns-in_err-print_digest-clause-refused : goal.returns-in_err-print_digest-clause-refused
 returns-in_err-print_digest-clause-refused g c =
@@ -55,11 +54,10 @@ returns-in_err-print_digest-clause-refused g c =
     exit_by (FailsPut sees options) _ c.from_residual-in_err-print_digest.ensures.1
     (or_memory IsPrintFault (FailsPut sees options) _ in_memory
     (in_output start c.in_ok-digest.digest (record {
-      valid = subst (IsValidServer options) c.text_of.ensures c.in_ok-server.ensures.valid;
-      opened = opened_to sees options c.in_ok-server.server start
-          (c.in_ok-server.ensures.address ∙ c.text_of.ensures) (c.in_ok-server.ensures.host ∙ c.text_of.ensures) c.in_ok-server.ensures.prefix c.in_ok-remote.ensures.opened;
+      valid = c.in_ok-server.ensures.checked;
+      opened = opened_to sees options c.in_ok-server.server start c.in_ok-server.ensures.server c.in_ok-remote.ensures.opened;
     })
-    (subst (λ p. PutsPath sees start p c.in_ok-digest.digest) (c.in_ok-place.ensures.ok ∙ c.text_of-2.ensures) c.in_ok-digest.ensures.put))
+    (subst (λ p. PutsPath sees start p c.in_ok-digest.digest) (c.in_ok-place.ensures.ok ∙ c.text_of.ensures) c.in_ok-digest.ensures.put))
     c.in_err-print_digest.ensures.fault)
 
 pub returns-in_err-print_digest-clause-unprinted : goal.returns-in_err-print_digest-clause-unprinted
@@ -73,9 +71,8 @@ returns-clause-printed g c =
     let start = connection_of g.W.Link.Stream.flow c.in_ok-remote.remote in
     record {
       start = start;
-      opened = opened_to sees (rows_of (found_of c.args.matches.now)) c.in_ok-server.server start
-          (c.in_ok-server.ensures.address ∙ c.text_of.ensures) (c.in_ok-server.ensures.host ∙ c.text_of.ensures) c.in_ok-server.ensures.prefix c.in_ok-remote.ensures.opened;
+      opened = opened_to sees (rows_of (found_of c.args.matches.now)) c.in_ok-server.server start c.in_ok-server.ensures.server c.in_ok-remote.ensures.opened;
       digest = c.in_ok-digest.digest;
-      put = subst (λ p. PutsPath sees start p c.in_ok-digest.digest) (c.in_ok-place.ensures.ok ∙ c.text_of-2.ensures) c.in_ok-digest.ensures.put;
+      put = subst (λ p. PutsPath sees start p c.in_ok-digest.digest) (c.in_ok-place.ensures.ok ∙ c.text_of.ensures) c.in_ok-digest.ensures.put;
       printed = search rules;
     }

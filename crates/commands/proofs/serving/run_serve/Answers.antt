@@ -2,9 +2,10 @@ use Rattle.std.proofs.Common.{◌≡◌, codes, refl, rules, subst}
 use Rattle.clap.specs.Words.{found_of, rows_of}
 use Rattle.command_lines.specs.CommandLine.{option_text}
 use Rattle.commands.specs.Refusal.{IsPrintFault}
-use Rattle.commands.specs.ServeRefused.{FailsFirst, FailsServe, FailsToListen, serve_words}
+use Rattle.commands.specs.ServeRefused.{FailsServe, FailsToListen, serve_words}
 use Rattle.commands.specs.ServeRefused.FailsServe.{in_address, in_connections, in_memory, in_output, in_words}
 use Rattle.commands.specs.Status.{status_of}
+use Rattle.commands.specs.Words.{FailsFirst}
 use Rattle.commands.proofs.Exits.{exit_by}
 use Rattle.commands.proofs.Refused.{not_words, or_memory}
 use Rattle.commands.proofs.serving.run_serve.Goals as goal

@@ -4,11 +4,20 @@ use Rattle.clap.specs.Words.{found_of, rows_of}
 use Rattle.verifier.specs.Verdict.{IsYes}
 use Rattle.commands.specs.Printed.{JudgesAsked}
 use Rattle.commands.specs.Refusal.{FailsVerify}
-use Rattle.commands.specs.Refusal.FailsVerify.{in_output, in_place, in_record}
+use Rattle.commands.specs.Refusal.FailsVerify.{in_memory, in_output, in_place, in_record, in_words}
+use Rattle.commands.specs.Words.{FailsFirst, place_words}
 use Rattle.commands.proofs.Exits.{exit_by}
-use Rattle.commands.proofs.Placed.{lacked_by, names_place}
+use Rattle.commands.proofs.Placed.{lacked_by}
+use Rattle.commands.proofs.Refused.{or_memory}
 use Rattle.commands.proofs.Writing.{no_line_of_same, where_err}
 use Rattle.commands.proofs.verifying.run_verify.Goals as goal
+
+pub returns-in_err-build-clause-refused : goal.returns-in_err-build-clause-refused
+returns-in_err-build-clause-refused g c =
+    let options = rows_of (found_of c.args.matches.now) in
+    let sees = g.W.World.sees in
+    exit_by (FailsVerify sees options) _ c.from_residual.ensures.1
+    (or_memory (FailsFirst (place_words options)) (FailsVerify sees options) _ in_memory in_words c.in_err-build.ensures.checked)
 
 pub returns-in_err-case-clause-unended : goal.returns-in_err-case-clause-unended
 returns-in_err-case-clause-unended g c =
@@ -18,7 +27,7 @@ pub returns-in_err-case-clause-refused : goal.returns-in_err-case-clause-refused
 returns-in_err-case-clause-refused g c =
     exit_by (FailsVerify g.W.World.sees (rows_of (found_of c.args.matches.now))) _ c.from_residual-in_err-case.ensures.1
     (in_record c.in_ok-plan.plan (record {
-      place = names_place (rows_of (found_of c.args.matches.now)) c.in_ok-build.build c.in_ok-build.ensures.place;
+      place = c.in_ok-build.ensures.checked;
       sources = (c.in_ok-digests.digests.sources, c.in_ok-digests.ensures.sources);
       claim = (c.in_ok-digests.digests.claim, c.in_ok-digests.ensures.claim);
     }) c.in_ok-plan.ensures.found c.in_err-case.ensures.fault)

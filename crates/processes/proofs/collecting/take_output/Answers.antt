@@ -28,7 +28,7 @@ returns-clause-more g c =
           (subst (λ o. (own : List (List ℕ)) × (blobs_of w.keep_file.new.blobs.items ≡ before ++ own) × IsOutputAt works ended place (output_value o) own) (sym w.output-is)
           (e.0 ∷ [], e.3, ((refl, stands, (e.0, e.1, e.2, (0, omega arith, refl))), λ x h. subst (λ y. works.holds ended place (Some y)) (contains_one e.0 x h) e.1))))
       | in-Folder+in_ok-keep_folder-in-Folder w ↦ (
-          let e = w.in_ok-keep_folder-in-Folder.ensures in
+          let e = w.in_ok-keep_folder-in-Folder.ensures.tree in
           let stands = subst (λ s. works.stands ended place s) w.in-Folder.is c.in_ok-look.ensures in
           subst (λ bs. (own : List (List ℕ)) × (blobs_of bs.items ≡ before ++ own) × IsOutputAt works ended place (output_value output) own) (sym w.blobs-is)
           (subst (λ o. (own : List (List ℕ)) × (blobs_of w.keep_folder.new.blobs.items ≡ before ++ own) × IsOutputAt works ended place (output_value o) own) (sym w.output-is)

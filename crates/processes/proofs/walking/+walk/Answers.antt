@@ -1,12 +1,17 @@
-use Rattle.std.proofs.Common.{rules, ◌≡◌, ◌++◌, ◌∷◌, [], sym, subst, ap, ◌∙◌, refl, arith, Some, ◌+◌, ◌≤◌, length, take}
-use Rattle.std.specs.Prelude.{map, option_map, string_bytes}
+use Rattle.std.proofs.Common.{rules, ◌≡◌, ◌++◌, List, ◌∷◌, [], sym, subst, ap, ◌∙◌, refl, arith, Some, None, Err, inr, ◌+◌, ◌≤◌, length, length-append, take}
+use Rattle.std.specs.Prelude.{Contains, map, option_map, string_bytes}
 use Rattle.std.proofs.lemmas.List.{take_all}
-use Rattle.tree.specs.Tree.{a_directory}
+use Rattle.std.proofs.lemmas.Result.{err_from_is_err_and}
+use Rattle.messages.specs.Name.{IsName}
+use Rattle.tree.specs.Tree.{Name, a_directory}
 use Rattle.tree.specs.Lookup.{names_in}
 use Rattle.worker.specs.Values.{blobs_of}
+use Rattle.processes.specs.declared.trouble.Trouble.TheVariants.{NoOutput}
+use Rattle.processes.specs.declared.workshop.Standing.TheVariants as standings
+use Rattle.processes.specs.Collected.{IsBadFolder}
 use Rattle.processes.specs.Laying.{place_below}
 use Rattle.processes.specs.Walking.{IsBare}
-use Rattle.processes.proofs.Walks.{IsSoFar, none_seen, all_seen, one_bare, one_file, one_folder}
+use Rattle.processes.proofs.Walks.{IsSoFar, none_seen, all_seen, one_bare, one_file, one_folder, one_of, one_fewer, bad_name, bad_below, bad_standing}
 use Rattle.processes.proofs.walking.+walk.Goals as goal
 use Rattle.processes.proofs.walking.+walk.Goals.{in-File+in_ok-digest-in-File+in_ok-add-in-File, in-Folder+in_ok-copy_of-in-Folder+in_ok-add-in-Folder+in_ok-walk-in-Folder+in-None-1, in-Folder+in_ok-copy_of-in-Folder+in_ok-add-in-Folder+in_ok-walk-in-Folder+in-Some-1}
 
@@ -18,12 +23,16 @@ loop-name-init g t c =
 pub walk-requires : goal.walk-requires
 walk-requires g t c κs within =
     let path = names_in c.args.above.now in
-    let at : c.in_ok-path.path ≡ path ++ string_bytes c.name-item.result ∷ [] = c.in_ok-path.ensures ∙ ap (λ x. path ++ x ∷ []) c.as_str.ensures.value in
+    let at : c.in_ok-path.path ≡ path ++ string_bytes c.name-item.result ∷ [] = c.in_ok-path.ensures.path ∙ ap (λ x. path ++ x ∷ []) c.as_str.ensures.value in
     let bare : IsBare c.add-in-Folder.new.self (path ++ string_bytes c.name-item.result ∷ []) =
     one_bare g.W.Workshop.works c.args.ended.now c.args.place.now path string_bytes c.deref-name-items.result.now c.loop-name.name-index c.name-item.result c.loop-name-test.true c.name-item.is
     c.args.tree.now c.loop-name.tree c.add-in-Folder.new.self (blobs_of c.args.blobs.now.items) (blobs_of c.loop-name.blobs.items) c.loop-name.invariant a_directory _
     (c.in_ok-copy_of-in-Folder.ensures ∙ at) c.in_ok-add-in-Folder.ensures.added c.in_ok-add-in-Folder.ensures.room (place_below c.args.place.now (string_bytes c.name-item.result)) refl refl in
-    (first_of (omega arith, search rules), (within.0, (within.1.0, (within.1.1.0, (within.1.1.1.0, (within.1.1.1.1, subst (IsBare c.add-in-Folder.new.self) (sym at) bare))))))
+    let all : length path + c.args.most ≡ 64 = first_of (assumption c.requires, search rules) in
+    let fewer = one_fewer c.args.most c.in-Some-checked_sub.fewer c.in-Some-checked_sub.ensures in
+    let longer = ap (λ (q : List Name). length q) at ∙ length-append path (string_bytes c.name-item.result ∷ []) in
+    let room : length c.in_ok-path.path + c.in-Some-checked_sub.fewer ≡ 64 = omega (arith, all, fewer, longer) in
+    (first_of (omega arith, search rules), (within.0, (within.1.0, (within.1.1.0, (within.1.1.1.0, (within.1.1.1.1, (subst (IsBare c.add-in-Folder.new.self) (sym at) bare, room)))))))
 
 pub loop-name-preserved : goal.loop-name-preserved
 loop-name-preserved g t c =
@@ -36,7 +45,7 @@ loop-name-preserved g t c =
     let between = blobs_of c.loop-name.blobs.items in
     let names = c.deref-name-items.result.now in
     let i = c.loop-name.name-index in
-    let at : c.in_ok-path.path ≡ path ++ n ∷ [] = c.in_ok-path.ensures ∙ ap (λ x. path ++ x ∷ []) c.as_str.ensures.value in
+    let at : c.in_ok-path.path ≡ path ++ n ∷ [] = c.in_ok-path.ensures.path ∙ ap (λ x. path ++ x ∷ []) c.as_str.ensures.value in
     let spot : string_bytes c.in_ok-place.place ≡ place_below place n = c.in_ok-place.ensures ∙ ap (λ x. place_below place x) c.as_str-in-loop-name.ensures.value in
     let looked : c.as_str-in-loop-name-2.result.now ≡ place_below place n = c.as_str-in-loop-name-2.ensures.value ∙ spot in
     elim c.match-branch-6.branch [
@@ -53,18 +62,18 @@ loop-name-preserved g t c =
           (one_folder works ended place path string_bytes names i c.name-item.result c.loop-name-test.true c.name-item.is c.args.tree.now c.loop-name.tree w.add-in-Folder.new.self before between c.loop-name.invariant a_directory _
           (w.in_ok-copy_of-in-Folder.ensures ∙ at) w.in_ok-add-in-Folder.ensures.added w.in_ok-add-in-Folder.ensures.room _ looked w.walk.new.tree (blobs_of w.walk.new.blobs.items) refl
           (subst (λ s. works.stands ended c.as_str-in-loop-name-2.result.now s) w.in-Folder.is c.in_ok-look.ensures) w.as_str-in-Folder.result.now (w.as_str-in-Folder.ensures.value ∙ spot)
-          c.in_ok-path.path at w.in_ok-walk-in-Folder.ensures))
+          c.in_ok-path.path at w.in_ok-walk-in-Folder.ensures.walked))
       | in-Folder+in_ok-copy_of-in-Folder+in_ok-add-in-Folder+in_ok-walk-in-Folder+in-Some-1 w ↦
           subst (λ t. IsSoFar works ended place path (map string_bytes (take (i + 1) names)) c.args.tree.now t before (blobs_of c.match-branch-6.blobs.items)) (sym w.tree-is)
           (subst (λ bs. IsSoFar works ended place path (map string_bytes (take (i + 1) names)) c.args.tree.now w.walk.new.tree before (blobs_of bs.items)) (sym w.blobs-is)
           (one_folder works ended place path string_bytes names i c.name-item.result c.loop-name-test.true c.name-item.is c.args.tree.now c.loop-name.tree w.add-in-Folder.new.self before between c.loop-name.invariant a_directory _
           (w.in_ok-copy_of-in-Folder.ensures ∙ at) w.in_ok-add-in-Folder.ensures.added w.in_ok-add-in-Folder.ensures.room _ looked w.walk.new.tree (blobs_of w.walk.new.blobs.items) refl
           (subst (λ s. works.stands ended c.as_str-in-loop-name-2.result.now s) w.in-Folder.is c.in_ok-look.ensures) w.as_str-in-Folder.result.now (w.as_str-in-Folder.ensures.value ∙ spot)
-          c.in_ok-path.path at w.in_ok-walk-in-Folder.ensures))
+          c.in_ok-path.path at w.in_ok-walk-in-Folder.ensures.walked))
     ]
 
-pub returns : goal.returns
-returns g t c =
+pub returns-clause-walked : goal.returns-clause-walked
+returns-clause-walked g t c =
     let works = g.W.Workshop.works in
     let names = c.deref-name-items.result.now in
     let i = c.loop-name.name-index in
@@ -75,3 +84,67 @@ returns g t c =
     subst (λ o. works.lists c.args.ended.now c.args.place.now (option_map (λ v. map string_bytes v.items) o)) c.in-Some.is c.in_ok-names.ensures in
     all_seen works c.args.ended.now c.args.place.now (names_in c.args.above.now) (map string_bytes (take i names)) c.args.tree.now c.loop-name.tree
     (blobs_of c.args.blobs.now.items) (blobs_of c.loop-name.blobs.items) (subst (λ xs. works.lists c.args.ended.now c.args.place.now (Some xs)) (sym all) listed) c.loop-name.invariant
+
+pub returns-in_err-path-clause-bad : goal.returns-in_err-path-clause-bad
+returns-in_err-path-clause-bad g t c told =
+    let names = c.in-Some.names.items in
+    let n = string_bytes c.name-item.result in
+    let here = c.deref-name-items.ensures.value in
+    let one : Contains (map string_bytes names) n = subst (λ xs. Contains (map string_bytes xs) n) here (one_of string_bytes c.deref-name-items.result.now c.loop-name.name-index c.name-item.result c.loop-name-test.true c.name-item.is) in
+    let p = err_from_is_err_and c.from_residual-in_err-path.result c.from_residual-in_err-path.ensures.1 in
+    let bad : p.0 ≡ NoOutput = (let both = sym p.1 ∙ told in cc) in
+    let all : length (names_in c.args.above.now) + c.args.most ≡ 64 = first_of (assumption c.requires, search rules) in
+    bad_name g.W.Workshop.works c.args.ended.now c.args.place.now c.args.most (map string_bytes names) n
+    (subst (λ o. g.W.Workshop.works.lists c.args.ended.now c.args.place.now (option_map (λ v. map string_bytes v.items) o)) c.in-Some.is c.in_ok-names.ensures) one
+    (λ some name.
+    let full = c.in_err-path.ensures.bad (ap Err (sym p.2 ∙ bad)) (subst IsName (sym c.as_str.ensures.value) name) in
+    omega (arith, some, full, all))
+
+pub returns-in_err-digest-in-File-clause-bad : goal.returns-in_err-digest-in-File-clause-bad
+returns-in_err-digest-in-File-clause-bad g t c told =
+    let works = g.W.Workshop.works in
+    let ended = c.args.ended.now in
+    let place = c.args.place.now in
+    let names = c.in-Some.names.items in
+    let n = string_bytes c.name-item.result in
+    let one : Contains (map string_bytes names) n =
+    subst (λ xs. Contains (map string_bytes xs) n) c.deref-name-items.ensures.value (one_of string_bytes c.deref-name-items.result.now c.loop-name.name-index c.name-item.result c.loop-name-test.true c.name-item.is) in
+    let listed = subst (λ o. works.lists ended place (option_map (λ v. map string_bytes v.items) o)) c.in-Some.is c.in_ok-names.ensures in
+    let spot : string_bytes c.in_ok-place.place ≡ place_below place n = c.in_ok-place.ensures ∙ ap (λ x. place_below place x) c.as_str-in-loop-name.ensures.value in
+    let p = err_from_is_err_and c.from_residual-in_err-digest-in-File.result c.from_residual-in_err-digest-in-File.ensures.1 in
+    let bad : p.0 ≡ NoOutput = (let both = sym p.1 ∙ told in cc) in
+    let stands = subst (λ q. works.stands ended q standings.File) (c.as_str-in-loop-name-2.ensures.value ∙ spot) (subst (λ s. works.stands ended c.as_str-in-loop-name-2.result.now s) c.in-File.is c.in_ok-look.ensures) in
+    let none = subst (λ q. works.holds ended q None) (c.as_str-in-File.ensures.value ∙ spot) (c.in_err-digest-in-File.ensures.bad (ap Err (sym p.2 ∙ bad))) in
+    bad_below works ended place c.args.most c.in-Some-checked_sub.fewer (map string_bytes names) n standings.File (one_fewer c.args.most c.in-Some-checked_sub.fewer c.in-Some-checked_sub.ensures) listed one stands (inr none)
+
+pub returns-in_err-walk-in-Folder-clause-bad : goal.returns-in_err-walk-in-Folder-clause-bad
+returns-in_err-walk-in-Folder-clause-bad g t c told =
+    let works = g.W.Workshop.works in
+    let ended = c.args.ended.now in
+    let place = c.args.place.now in
+    let names = c.in-Some.names.items in
+    let n = string_bytes c.name-item.result in
+    let one : Contains (map string_bytes names) n =
+    subst (λ xs. Contains (map string_bytes xs) n) c.deref-name-items.ensures.value (one_of string_bytes c.deref-name-items.result.now c.loop-name.name-index c.name-item.result c.loop-name-test.true c.name-item.is) in
+    let listed = subst (λ o. works.lists ended place (option_map (λ v. map string_bytes v.items) o)) c.in-Some.is c.in_ok-names.ensures in
+    let spot : string_bytes c.in_ok-place.place ≡ place_below place n = c.in_ok-place.ensures ∙ ap (λ x. place_below place x) c.as_str-in-loop-name.ensures.value in
+    let p = err_from_is_err_and c.from_residual-in_err-walk-in-Folder.result c.from_residual-in_err-walk-in-Folder.ensures.1 in
+    let bad : p.0 ≡ NoOutput = (let both = sym p.1 ∙ told in cc) in
+    let stands = subst (λ q. works.stands ended q standings.Folder) (c.as_str-in-loop-name-2.ensures.value ∙ spot) (subst (λ s. works.stands ended c.as_str-in-loop-name-2.result.now s) c.in-Folder.is c.in_ok-look.ensures) in
+    let below = subst (IsBadFolder works ended c.in-Some-checked_sub.fewer) (c.as_str-in-Folder.ensures.value ∙ spot) (c.in_err-walk-in-Folder.ensures.bad (ap Err (sym p.2 ∙ bad))) in
+    bad_below works ended place c.args.most c.in-Some-checked_sub.fewer (map string_bytes names) n standings.Folder (one_fewer c.args.most c.in-Some-checked_sub.fewer c.in-Some-checked_sub.ensures) listed one stands (inr below)
+
+pub returns-in-Nothing-clause-bad : goal.returns-in-Nothing-clause-bad
+returns-in-Nothing-clause-bad g t c told =
+    let works = g.W.Workshop.works in
+    let ended = c.args.ended.now in
+    let place = c.args.place.now in
+    let names = c.in-Some.names.items in
+    let n = string_bytes c.name-item.result in
+    let one : Contains (map string_bytes names) n =
+    subst (λ xs. Contains (map string_bytes xs) n) c.deref-name-items.ensures.value (one_of string_bytes c.deref-name-items.result.now c.loop-name.name-index c.name-item.result c.loop-name-test.true c.name-item.is) in
+    let listed = subst (λ o. works.lists ended place (option_map (λ v. map string_bytes v.items) o)) c.in-Some.is c.in_ok-names.ensures in
+    let spot : string_bytes c.in_ok-place.place ≡ place_below place n = c.in_ok-place.ensures ∙ ap (λ x. place_below place x) c.as_str-in-loop-name.ensures.value in
+    let stands = subst (λ q. works.stands ended q c.in_ok-look.field-0) (c.as_str-in-loop-name-2.ensures.value ∙ spot) c.in_ok-look.ensures in
+    bad_below works ended place c.args.most c.in-Some-checked_sub.fewer (map string_bytes names) n c.in_ok-look.field-0 (one_fewer c.args.most c.in-Some-checked_sub.fewer c.in-Some-checked_sub.ensures) listed one stands
+    (bad_standing works ended (IsBadFolder works ended c.in-Some-checked_sub.fewer) (place_below place n) c.in_ok-look.field-0 c.in-Nothing.is)

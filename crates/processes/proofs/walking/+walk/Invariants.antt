@@ -9,4 +9,4 @@ abbrev pub invariant-loop-name : goal.invariant-loop-name
 invariant-loop-name g l = IsSoFar g.W.Workshop.works l.ended l.place (names_in l.above) (map string_bytes (take l.name-index l.name-items)) l.fn.tree l.tree (blobs_of l.fn.blobs.items) (blobs_of l.blobs.items)
 
 abbrev pub decreases-walk : goal.decreases-walk
-decreases-walk g l = l.depth
+decreases-walk g l = l.most

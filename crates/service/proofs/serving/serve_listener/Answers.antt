@@ -1,4 +1,3 @@
-use Rattle.std.proofs.Common.{◌+◌}
 use Rattle.service.specs.Turns as turns
 use Rattle.service.proofs.Failing.{fails_anew, fails_none, fails_on}
 use Rattle.service.proofs.serving.serve_listener.Goals as goal

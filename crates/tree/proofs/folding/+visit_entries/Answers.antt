@@ -9,7 +9,7 @@ use Rattle.tree.specs.Form.{NodeValue}
 use Rattle.tree.specs.FlatTree.{entry_value, IsListOf}
 use Rattle.tree.specs.Visiting.{led, line_entries, children_directory, tops_in}
 use Rattle.tree.proofs.Sorted.{length_led}
-use Rattle.tree.proofs.FoldSteps.{Lists, lists_first, lists_same, lists_rest, lists_leaf, lists_folder, listed_below, no_root, entries_length, visit_of_list}
+use Rattle.tree.proofs.FoldSteps.{Lists, lists_first, lists_same, lists_named, lists_rest, lists_leaf, lists_folder, listed_below, no_root, entries_length, visit_of_list}
 use Rattle.tree.proofs.VisitSteps.{line_at, drop_line, drop_all, no_names, led_values, rest_of}
 use Rattle.tree.proofs.folding.+visit_entries.Goals as goal
 
@@ -19,9 +19,9 @@ loop-start-init g t c = record {
   lists = lists_same c.new-children.ensures.directory c.new-children.ensures.tops (lists_first (line_entries c.args.entries.now));
 }
 
-pub loop-start-preserved-in_ok-push_file-in-File :
-    goal.loop-start-preserved-in_ok-push_file-in-File
-loop-start-preserved-in_ok-push_file-in-File g t c =
+pub loop-start-preserved-in-Continue-branch-2 :
+    goal.loop-start-preserved-in-Continue-branch-2
+loop-start-preserved-in-Continue-branch-2 g t c =
     let k = c.loop-start.start in
     let all = line_entries c.args.entries.now in
     let line = c.index-entries-start.result in
@@ -31,13 +31,13 @@ loop-start-preserved-in_ok-push_file-in-File g t c =
     let pushed = c.in_ok-push_file-in-File.ensures {u = tt} in
     record {
       within = omega (arith, c.loop-start-test.true);
-      lists = lists_same pushed.directory pushed.tops (lists_leaf (children_directory c.loop-start.children) (tops_in c.loop-start.children) c.in-Some.name.now c.in-Some.field-0-1.now _ (drop (k + 1) all) all
+      lists = lists_named (children_directory c.loop-start.children) (nodes.File c.in-File.digest c.in-File.executable) (c.in_ok-copy.ensures {u = tt}) pushed.directory pushed.tops (lists_leaf (children_directory c.loop-start.children) (tops_in c.loop-start.children) c.in-Some.name.now c.in-Some.field-0-1.now _ (drop (k + 1) all) all
           (subst (λ r. Lists (children_directory c.loop-start.children) (tops_in c.loop-start.children) r all) seen c.loop-start.invariant.lists));
     }
 
-pub loop-start-preserved-in_ok-push_symlink-in-Link :
-    goal.loop-start-preserved-in_ok-push_symlink-in-Link
-loop-start-preserved-in_ok-push_symlink-in-Link g t c =
+pub loop-start-preserved-in-Continue-branch-3 :
+    goal.loop-start-preserved-in-Continue-branch-3
+loop-start-preserved-in-Continue-branch-3 g t c =
     let k = c.loop-start.start in
     let all = line_entries c.args.entries.now in
     let line = c.index-entries-start.result in
@@ -47,7 +47,7 @@ loop-start-preserved-in_ok-push_symlink-in-Link g t c =
     let pushed = c.in_ok-push_symlink-in-Link.ensures {u = tt} in
     record {
       within = omega (arith, c.loop-start-test.true);
-      lists = lists_same pushed.directory pushed.tops (lists_leaf (children_directory c.loop-start.children) (tops_in c.loop-start.children) c.in-Some.name.now c.in-Some.field-0-1.now _ (drop (k + 1) all) all
+      lists = lists_named (children_directory c.loop-start.children) (nodes.Link c.in-Link.target) (c.in_ok-copy.ensures {u = tt}) pushed.directory pushed.tops (lists_leaf (children_directory c.loop-start.children) (tops_in c.loop-start.children) c.in-Some.name.now c.in-Some.field-0-1.now _ (drop (k + 1) all) all
           (subst (λ r. Lists (children_directory c.loop-start.children) (tops_in c.loop-start.children) r all) seen c.loop-start.invariant.lists));
     }
 
@@ -88,14 +88,14 @@ loop-start-preserved-in-Dir g t c =
     let a = entries_length c.deref.result.now in
     let b = entries_length c.args.entries.now in
     let rest = length-drop (k + 1) all in
-    let taken : length under ≡ c.len.result = omega (arith, a, c.len.ensures, c.deref.ensures.len) in
+    let taken : length under ≡ c.len-start.result = omega (arith, a, c.len-start.ensures, c.deref.ensures.len) in
     let pushed = c.in_ok-push_folder-in-Dir.ensures {u = tt} in
-    let visit = c.in_ok-visit_entries-in-Dir.ensures {u = tt} in
+    let visit = c.in_ok-below-in-Dir.ensures {u = tt} in
     let more = lists_folder (children_directory c.loop-start.children) (tops_in c.loop-start.children) _ _ n c.in-Some.field-0-1.now (drop (k + 1) all) all under
     (subst (λ r. Lists (children_directory c.loop-start.children) (tops_in c.loop-start.children) r all) seen c.loop-start.invariant.lists) led_is (λ u at. ((visit u at).root, (visit u at).encodings)) in
     record {
       within = omega (arith, few, count, a, b, rest, taken, c.loop-start-test.true);
-      lists = lists_same pushed.directory pushed.tops (lists_rest (drop-drop (length under) (k + 1) all ∙ ap (λ j. drop (k + 1 + j) all) taken) more);
+      lists = lists_named (children_directory c.loop-start.children) (nodes.Dir c.in_ok-below-in-Dir.below.root) (c.in_ok-copy.ensures {u = tt}) pushed.directory pushed.tops (lists_rest (drop-drop (length under) (k + 1) all ∙ ap (λ j. drop (k + 1 + j) all) taken) more);
     }
 
 pub loop-start-preserved : goal.loop-start-preserved

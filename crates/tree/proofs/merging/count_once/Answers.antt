@@ -14,14 +14,14 @@ returns-then-len-lt2 g c = λ W.
 
 pub loop-part-init : goal.loop-part-init
 loop-part-init g c = λ W.
-    let none = ap (part_values W) c.new-kept.ensures.items in
+    let none = ap (part_values W) (c.in_ok-kept.ensures {u = tt}).items in
     let all = ap (part_values W) c.into_iter-part-iterator.ensures.into_iter_gives.0 in (
       ap (λ ks. ks ++ counted ks (part_values W c.into_iter-part-iterator.result.rest.items)) none ∙ ap (counted []) all,
       λ x. ap (λ nodes. list_any (same_node x) nodes) c.new-given.ensures ∙ sym (ap (λ ls. list_any (λ l. gives_node x l.0 l.1) ls) none),
     )
 
-pub loop-part-preserved-in-Continue-branch-2 : goal.loop-part-preserved-in-Continue-branch-2
-loop-part-preserved-in-Continue-branch-2 g c = λ W.
+pub loop-part-preserved-in-Continue-branch-3 : goal.loop-part-preserved-in-Continue-branch-3
+loop-part-preserved-in-Continue-branch-3 g c = λ W.
     let left = c.next.new.self.rest.items in
     let part = c.in-Some.part in
     let kept = part_values W c.loop-part.kept.items in

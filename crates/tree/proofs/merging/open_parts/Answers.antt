@@ -15,6 +15,9 @@ use Rattle.tree.proofs.MergeOpens.{merge_explained, line_kept, opens_here, looki
 use Rattle.tree.proofs.MergeSteps.{OpensOn, opens_first, opens_line, opens_end}
 use Rattle.tree.proofs.merging.open_parts.Goals as goal
 
+pub returns-in_err-below-clause-called : goal.returns-in_err-below-clause-called
+returns-in_err-below-clause-called g c = called_none (search rules)
+
 pub loop-part-init : goal.loop-part-init
 loop-part-init g c =
     let W = within_of c.args.lines.now in
@@ -23,7 +26,7 @@ loop-part-init g c =
     let items : c.into_iter-part-iterator.result.rest.items ≡ c.args.parts.items = search rules in
     record {
       called = called_none (λ n. n);
-      opens = subst (λ ps. OpensOn B (part_values W c.new-below.result.items) (part_values W ps) all) (sym items) (subst (λ bs. OpensOn B (part_values W bs) all all) (sym c.new-below.ensures.items) (opens_first B all));
+      opens = subst (λ ps. OpensOn B (part_values W c.in_ok-below.below.items) (part_values W ps) all) (sym items) (subst (λ bs. OpensOn B (part_values W bs) all all) (sym (c.in_ok-below.ensures {u = tt}).items) (opens_first B all));
       looking = subst (λ ps. OpensLooking B (part_values W ps) all) (sym items) (opens_looking_first B all);
       held = subst (λ ps. AreHeld (part_values W ps)) (sym items) c.requires.held;
       learned = learns_none c.requires.known;
@@ -42,12 +45,12 @@ returns-in_err-open_node-clause-refused g c =
     let C = (g.S.BlobSource.tells c.open_node.new.source).blobs in
     let all = part_values W c.args.parts.items in
     let old = subst (λ ps. OpensOn B (part_values W c.loop-part.below.items) (part_values W ps) all) steps c.loop-part.invariant.opens in
-    let p = err_from_is_err_and c.from_residual.result c.from_residual.ensures.1 in
+    let p = err_from_is_err_and c.from_residual-in_err-open_node.result c.from_residual-in_err-open_node.ensures.1 in
     rw (p.1, p.2) (merge_explained (node_opened C x.node x.within).fails (opened C all).fails _
     (fault_here part.names.items x (part_values W left) all (part_values W c.loop-part.below.items) c.open_node.ensures.called.asked.blobs none old) c.in_err-open_node.ensures.refused)
 
 pub returns-in_err-open_node-clause-called : goal.returns-in_err-open_node-clause-called
-returns-in_err-open_node-clause-called g c = called_on c.loop-part.invariant.called (called_exit c.from_residual.ensures.1 c.in_err-open_node.ensures.called)
+returns-in_err-open_node-clause-called g c = called_on c.loop-part.invariant.called (called_exit c.from_residual-in_err-open_node.ensures.1 c.in_err-open_node.ensures.called)
 
 pub returns-in_err-open_node-clause-learned : goal.returns-in_err-open_node-clause-learned
 returns-in_err-open_node-clause-learned g c =
@@ -63,7 +66,7 @@ returns-in_err-open_node-clause-learned g c =
     let grows = c.open_node.ensures.called.asked.blobs in
     let looking = subst (λ ps. OpensLooking B (part_values W ps) all) steps c.loop-part.invariant.looking in
     learns_then {t1 = g.S.BlobSource.tells c.loop-part.source} (λ a. opened_still all a grows) (looks_here_at part.names.items x (part_values W left) all (part_values W c.loop-part.below.items) grows none looking) (λ n. n)
-    c.loop-part.invariant.learned (learns_refused (λ a h. h) (refused_exit _ _ c.from_residual.ensures.1) c.in_err-open_node.ensures.learned)
+    c.loop-part.invariant.learned (learns_refused (λ a h. h) (refused_exit _ _ c.from_residual-in_err-open_node.ensures.1) c.in_err-open_node.ensures.learned)
 
 pub loop-part-preserved-in_ok-open_node : goal.loop-part-preserved-in_ok-open_node
 loop-part-preserved-in_ok-open_node g c =

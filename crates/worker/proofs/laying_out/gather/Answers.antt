@@ -99,7 +99,7 @@ returns-clause-gathered g c =
     let blobs = (g.S.BlobSource.tells c.loop-path.source).blobs in
     let all = path_values c.args.entries.items in
     let none : c.loop-path.path-iterator.rest.items ≡ [] = none_left c.loop-path.path-iterator.rest.items (let len = c.in-None.ensures.steps.0 in let ok = c.loop-path.path-iterator.rest.ok in omega (arith, len, ok)) in
-    gathers_end blobs all (record { folders = c.loop-path.folders.items; files = contents_of c.loop-path.files.items })
+    gathers_end blobs all c.loop-path.folders.items (contents_of c.loop-path.files.items)
     (subst (λ es. GoesOn blobs all c.loop-path.folders.items (contents_of c.loop-path.files.items) (path_values es)) none c.loop-path.invariant.goes)
 
 pub returns-clause-called : goal.returns-clause-called

@@ -3,8 +3,9 @@ use Rattle.std.proofs.Common.{subst, inr}
 use Rattle.std.proofs.lemmas.Result.{err_from_is_err_and}
 use Rattle.blob_source.proofs.Asking.{ok_no_error}
 use Rattle.blob_source.proofs.Calling.{called_ok, called_no, called_exit}
-use Rattle.worker.specs.Layout.{AreGathered}
+use Rattle.worker.specs.Gathering.{AreGathered}
 use Rattle.worker.specs.Refusals.{StopsLayout}
+use Rattle.worker.proofs.Layouts.{laid_out}
 use Rattle.worker.proofs.Telling.{unfolded_still}
 use Rattle.worker.proofs.laying_out.layout.Goals as goal
 
@@ -26,16 +27,13 @@ pub returns-clause-told : goal.returns-clause-told
 returns-clause-told g c =
     let blobs = (g.S.BlobSource.tells c.gather.new.source).blobs in
     let grows = c.gather.ensures.called.asked.blobs in
-    record {
-      entries = c.in_ok-tree.tree;
-      unfolded = unfolded_still (λ e b at right. grows e b at) c.in_ok-tree.ensures.told;
-      gathered = c.in_ok-gathered.gathered;
-      of_entries = subst (λ es. AreGathered blobs es c.in_ok-gathered.gathered) c.in_ok-into_entries.ensures.value c.in_ok-gathered.ensures.gathered;
-      folders = c.sort.ensures.folders;
-      files = c.sort.ensures.files;
-      folders_sorted = c.sort.ensures.folders_sorted;
-      files_sorted = c.sort.ensures.files_sorted;
-    }
+    let entries = c.in_ok-into_entries.ensures.value in
+    let folders = c.in_ok-gathered.gathered.folders in
+    let files = c.in_ok-gathered.gathered.files in
+    laid_out blobs c.args.root.now c.in_ok-tree.tree folders files
+    (unfolded_still (λ e b at right. grows e b at) c.in_ok-tree.ensures.told) c.in_ok-into_entries.ensures.flat
+    (subst (λ es. AreGathered blobs es folders files) entries c.in_ok-gathered.ensures.gathered)
+    c.sort.result c.sort.ensures.folders c.sort.ensures.files c.sort.ensures.folders_sorted c.sort.ensures.files_sorted
 
 pub returns-clause-called : goal.returns-clause-called
 returns-clause-called g c = called_no ok_no_error ok_no_error (called_ok c.in_ok-tree.ensures.called c.in_ok-gathered.ensures.called)

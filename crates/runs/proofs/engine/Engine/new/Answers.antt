@@ -21,7 +21,7 @@ returns-clause-opened g c = record {
 }
 
 pub returns-clause-mirrors : goal.returns-clause-mirrors
-returns-clause-mirrors g c = opened_mirrors (g.S.BlobSource.tells c.read_steps.new.source).blobs c.args.plan c.args.sources _ (record {
+returns-clause-mirrors g c = opened_mirrors (g.S.BlobSource.tells c.read_steps.new.source).blobs c.args.plan.now c.args.sources _ (record {
   plan = refl;
   sources = refl;
   told = subst (λ ss. AreTold (g.S.BlobSource.tells c.read_steps.new.source).blobs ss c.in_ok-meanings.meanings.frames.items c.in_ok-meanings.meanings.commands.items) c.steps.ensures.value c.in_ok-meanings.ensures.told;

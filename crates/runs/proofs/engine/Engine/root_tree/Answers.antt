@@ -16,7 +16,7 @@ pub graft_root-requires-clause-there : goal.graft_root-requires-clause-there
 graft_root-requires-clause-there g c =
     let all = subst (AllByRecursion IsSome) c.deref.ensures.value (c.have_all_finished.ensures.0 c.if-not-have_all_finished.false) in
     subst (λ (e : EngineValue). AreThere (outcomes_in e.finished) e.plan.root_lines) c.self.view_is
-    (lines_there c.self.inside.finished.items (length c.self.inside.plan.steps) c.self.inside.plan.root_lines all (sym c.self.invariant.count) c.root.ensures.valid.root_lines.each)
+    (lines_there c.self.inside.finished.items (length c.self.inside.plan.now.steps) c.self.inside.plan.now.root_lines all (sym c.self.invariant.count) c.root.ensures.valid.root_lines.each)
 
 pub returns-clause-state : goal.returns-clause-state
 returns-clause-state g c =

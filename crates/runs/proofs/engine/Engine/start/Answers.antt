@@ -26,7 +26,7 @@ pub returns-then-number-ge-MOST_JOBS-clause-refused : goal.returns-then-number-g
 returns-then-number-ge-MOST_JOBS-clause-refused g c =
     let ready : IsReady c.args.self.now c.args.step = c.ready.ensures.value.0 c.if-not-ready.false in
     let least = subst (λ js. IsLeastIn js c.free_number-number.result) c.deref.ensures.value c.free_number-number.ensures in
-    let le = least_is_within (record { plan = c.self.inside.plan; sources = c.self.inside.sources; frames = c.self.inside.frames.items; commands = c.self.inside.commands.items; finished = c.self.inside.finished.items; jobs = c.self.inside.jobs.items }) c.free_number-number.result least in
+    let le = least_is_within (record { plan = c.self.inside.plan.now; sources = c.self.inside.sources; frames = c.self.inside.frames.items; commands = c.self.inside.commands.items; finished = c.self.inside.finished.items; jobs = c.self.inside.jobs.items }) c.free_number-number.result least in
     let few = c.self.invariant.few in
     let ge = c.if-number-ge-MOST_JOBS.true in
     let same : c.free_number-number.result ≡ 4096 = omega (arith, le, few, ge) in
@@ -81,27 +81,27 @@ returns-in_err-place-clause-missing g c = λ s at.
 pub place-requires : goal.place-requires
 place-requires g c =
     let least = subst (λ js. IsLeastIn js c.free_number-number.result) c.deref.ensures.value c.free_number-number.ensures in
-    least_is_within (record { plan = c.self.inside.plan; sources = c.self.inside.sources; frames = c.self.inside.frames.items; commands = c.self.inside.commands.items; finished = c.self.inside.finished.items; jobs = c.self.inside.jobs.items }) c.free_number-number.result least
+    least_is_within (record { plan = c.self.inside.plan.now; sources = c.self.inside.sources; frames = c.self.inside.frames.items; commands = c.self.inside.commands.items; finished = c.self.inside.finished.items; jobs = c.self.inside.jobs.items }) c.free_number-number.result least
 
 pub invariant_of-self-2 : goal.invariant_of-self-2
 invariant_of-self-2 g c =
     let least = subst (λ js. IsLeastIn js c.free_number-number.result) c.deref.ensures.value c.free_number-number.ensures in
     let within = subst (λ (e : EngineValue). c.args.step < length e.plan.steps) (sym c.self.view_is) c.requires.within in
-    rw (c.in_ok-place.ensures {u = tt}).placed (started_engine (record { plan = c.self.inside.plan; sources = c.self.inside.sources; frames = c.self.inside.frames.items; commands = c.self.inside.commands.items; finished = c.self.inside.finished.items; jobs = c.self.inside.jobs.items }) c.free_number-number.result (record { step = c.args.step; action = c.in_ok-job.job.digest; input = c.input_root_digest.result }) c.self.invariant least c.if-number-ge-MOST_JOBS.false within)
+    rw (c.in_ok-place.ensures {u = tt}).placed (started_engine (record { plan = c.self.inside.plan.now; sources = c.self.inside.sources; frames = c.self.inside.frames.items; commands = c.self.inside.commands.items; finished = c.self.inside.finished.items; jobs = c.self.inside.jobs.items }) c.free_number-number.result (record { step = c.args.step; action = c.in_ok-job.job.digest; input = c.input_root_digest.result }) c.self.invariant least c.if-number-ge-MOST_JOBS.false within)
 
 pub returns-clause-started : goal.returns-clause-started
 returns-clause-started g c =
     let tells = g.S.BlobSource.tells c.prepare.new.source in
     let least = subst (λ js. IsLeastIn js c.free_number-number.result) c.deref.ensures.value c.free_number-number.ensures in
     let prepared = subst (λ e. IsPrepared tells.blobs e c.args.step c.free_number-number.result c.in_ok-job.job) (sym c.self.view_is) c.in_ok-job.ensures.prepared in
-    subst (λ e. IsStarted tells.blobs c.args.step e (record { plan = c.self.inside.plan; sources = c.self.inside.sources; frames = c.self.inside.frames.items; commands = c.self.inside.commands.items; finished = c.self.inside.finished.items; jobs = c.place.new.jobs.items }) c.in_ok-job.job) c.self.view_is
-    (started_as tells.blobs c.args.step c.free_number-number.result (record { plan = c.self.inside.plan; sources = c.self.inside.sources; frames = c.self.inside.frames.items; commands = c.self.inside.commands.items; finished = c.self.inside.finished.items; jobs = c.self.inside.jobs.items }) c.in_ok-job.job c.input_root_digest.result c.place.new.jobs.items prepared least c.if-number-ge-MOST_JOBS.false (c.in_ok-place.ensures {u = tt}).placed c.input_root_digest.ensures.value)
+    subst (λ e. IsStarted tells.blobs c.args.step e (record { plan = c.self.inside.plan.now; sources = c.self.inside.sources; frames = c.self.inside.frames.items; commands = c.self.inside.commands.items; finished = c.self.inside.finished.items; jobs = c.place.new.jobs.items }) c.in_ok-job.job) c.self.view_is
+    (started_as tells.blobs c.args.step c.free_number-number.result (record { plan = c.self.inside.plan.now; sources = c.self.inside.sources; frames = c.self.inside.frames.items; commands = c.self.inside.commands.items; finished = c.self.inside.finished.items; jobs = c.self.inside.jobs.items }) c.in_ok-job.job c.input_root_digest.result c.place.new.jobs.items prepared least c.if-number-ge-MOST_JOBS.false (c.in_ok-place.ensures {u = tt}).placed c.input_root_digest.ensures.value)
 
 pub returns-clause-event : goal.returns-clause-event
 returns-clause-event g c =
     let tells = g.S.BlobSource.tells c.prepare.new.source in
-    let started = subst (λ e. IsStarted tells.blobs c.args.step e (record { plan = c.self.inside.plan; sources = c.self.inside.sources; frames = c.self.inside.frames.items; commands = c.self.inside.commands.items; finished = c.self.inside.finished.items; jobs = c.place.new.jobs.items }) c.in_ok-job.job) (sym c.self.view_is) (returns-clause-started g c) in
-    subst (λ e. IsStart tells.blobs e c.args.step c.in_ok-job.job.id c.in_ok-job.job.digest (record { plan = c.self.inside.plan; sources = c.self.inside.sources; frames = c.self.inside.frames.items; commands = c.self.inside.commands.items; finished = c.self.inside.finished.items; jobs = c.place.new.jobs.items })) c.self.view_is (started_event tells.blobs c.args.step (record { plan = c.self.inside.plan; sources = c.self.inside.sources; frames = c.self.inside.frames.items; commands = c.self.inside.commands.items; finished = c.self.inside.finished.items; jobs = c.self.inside.jobs.items }) (record { plan = c.self.inside.plan; sources = c.self.inside.sources; frames = c.self.inside.frames.items; commands = c.self.inside.commands.items; finished = c.self.inside.finished.items; jobs = c.place.new.jobs.items }) c.in_ok-job.job c.steps.ensures.valid c.self.invariant started)
+    let started = subst (λ e. IsStarted tells.blobs c.args.step e (record { plan = c.self.inside.plan.now; sources = c.self.inside.sources; frames = c.self.inside.frames.items; commands = c.self.inside.commands.items; finished = c.self.inside.finished.items; jobs = c.place.new.jobs.items }) c.in_ok-job.job) (sym c.self.view_is) (returns-clause-started g c) in
+    subst (λ e. IsStart tells.blobs e c.args.step c.in_ok-job.job.id c.in_ok-job.job.digest (record { plan = c.self.inside.plan.now; sources = c.self.inside.sources; frames = c.self.inside.frames.items; commands = c.self.inside.commands.items; finished = c.self.inside.finished.items; jobs = c.place.new.jobs.items })) c.self.view_is (started_event tells.blobs c.args.step (record { plan = c.self.inside.plan.now; sources = c.self.inside.sources; frames = c.self.inside.frames.items; commands = c.self.inside.commands.items; finished = c.self.inside.finished.items; jobs = c.self.inside.jobs.items }) (record { plan = c.self.inside.plan.now; sources = c.self.inside.sources; frames = c.self.inside.frames.items; commands = c.self.inside.commands.items; finished = c.self.inside.finished.items; jobs = c.place.new.jobs.items }) c.in_ok-job.job c.steps.ensures.valid c.self.invariant started)
 
 pub returns-in_err-job-clause-stands : goal.returns-in_err-job-clause-stands
 returns-in_err-job-clause-stands g c =

@@ -1,4 +1,4 @@
-use Rattle.std.proofs.Common.{◌≡◌, [], drop, true, false, refl, sym, ◌∙◌, ap, List, ℕ, arith, length}
+use Rattle.std.proofs.Common.{◌≡◌, drop, ◌∙◌, ap, ℕ, arith}
 use Rattle.std.proofs.lemmas.Grind.{common_steps}
 use Rattle.std.proofs.lemmas.List.{drop-drop, drop_min}
 use Rattle.service.specs.Member.{MemberValue}
@@ -10,7 +10,7 @@ returns-in-Ok g c =
     let left : drop c.self.inside.at c.self.inside.input.items ≡ c.args.self.now.left = ap (λ (z : MemberValue g.row.S.Denot). z.left) c.self.view_is in
     let stream : c.self.inside.stream ≡ c.args.self.now.stream = ap (λ (z : MemberValue g.row.S.Denot). z.stream) c.self.view_is in
     next_moves g.S.Peer.spoke g.S.Peer.over c.args.number c.args.server.now c.next.new.self c.args.self.now c.keep.new.self c.split_at.result.1.now c.in-Ok.taken c.in-Ok.answer
-    (grind (arith, common_steps, drop_min {X = ℕ})) c.requires (c.keep.ensures.stream ∙ stream) (grind (arith, common_steps, drop-drop {A = ℕ})) c.keep.ensures.unsent
+    c.requires.more (grind (arith, common_steps, drop_min {X = ℕ})) c.requires.unsent (c.keep.ensures.stream ∙ stream) (grind (arith, common_steps, drop-drop {A = ℕ})) c.keep.ensures.unsent
     c.in-Ok.ensures.prefix c.in-Ok.ensures.answers c.in-Ok.ensures.ok
 
 pub returns-in-Err : goal.returns-in-Err
@@ -18,4 +18,4 @@ returns-in-Err g c =
     let left : drop c.self.inside.at c.self.inside.input.items ≡ c.args.self.now.left = ap (λ (z : MemberValue g.row.S.Denot). z.left) c.self.view_is in
     let stream : c.self.inside.stream ≡ c.args.self.now.stream = ap (λ (z : MemberValue g.row.S.Denot). z.stream) c.self.view_is in
     next_fails g.S.Peer.spoke g.S.Peer.over c.args.number c.args.server.now c.next.new.self c.args.self.now _ c.split_at.result.1.now
-    (grind (arith, common_steps, drop_min {X = ℕ})) stream c.next.ensures.prefix c.in-Err.ensures.err
+    c.requires.more (grind (arith, common_steps, drop_min {X = ℕ})) stream c.next.ensures.prefix c.in-Err.ensures.err

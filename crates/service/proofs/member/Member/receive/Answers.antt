@@ -1,9 +1,9 @@
-use Rattle.std.proofs.Common.{◌≡◌, ℕ, [], List, Option, Some, None, refl, sym, ◌∙◌, ap, take, drop, arith}
+use Rattle.std.proofs.Common.{◌≡◌, ℕ, [], List, Some, None, refl, sym, ◌∙◌, ap, take, drop, arith}
 use Rattle.std.proofs.lemmas.Grind.{common_steps}
 use Rattle.std.specs.Prelude.{Ok, Err}
 use Rattle.cache_server.specs.declared.error.ConnError.TheVariants.{Memory, ReadFault}
 use Rattle.service.specs.Sockets.{Failed}
-use Rattle.service.specs.Member.{MemberValue, MovesOn, Passes, end_of, unsent_of}
+use Rattle.service.specs.Member.{MemberValue, end_of, unsent_of}
 use Rattle.service.proofs.Talking.{moves_from, stays_moves, passes_moves, reads_end, reads_none, reads_pass, fails_for, reads_moves, next_moves, next_fails, moves_end}
 use Rattle.service.proofs.member.Member.receive.Goals as goal
 
@@ -32,7 +32,7 @@ returns-in-Err-next g c =
     moves_from g.S.Peer.spoke g.S.Peer.over (Some (Err Memory)) c.args.number c.args.server.now c.next.new.self c.args.self.now _ _ c.self.view_is
     (reads_moves g.S.Peer.spoke g.S.Peer.over (Some (Err Memory)) c.args.number c.args.server.now c.next.new.self _ mid _
     (reads_pass g.S.Peer.spoke g.S.Peer.over _ mid (take c.in-Ok.count c.read.new.buffer) c.in-Ok.ensures.read left c.split_at.ensures.front (sym unsent))
-    (next_fails g.S.Peer.spoke g.S.Peer.over c.args.number c.args.server.now c.next.new.self mid _ c.split_at.result.0.now refl refl c.next.ensures.prefix c.in-Err-next.ensures.err))
+    (next_fails g.S.Peer.spoke g.S.Peer.over c.args.number c.args.server.now c.next.new.self mid _ c.split_at.result.0.now c.requires.more refl refl c.next.ensures.prefix c.in-Err-next.ensures.err))
 
 pub returns-then-is_err : goal.returns-then-is_err
 returns-then-is_err g c =
@@ -44,7 +44,7 @@ returns-then-is_err g c =
     (moves_end g.S.Peer.spoke g.S.Peer.over c.args.number c.args.server.now c.next.new.self _ told _ refl
     (reads_moves g.S.Peer.spoke g.S.Peer.over None c.args.number c.args.server.now c.next.new.self _ mid told
     (reads_pass g.S.Peer.spoke g.S.Peer.over _ mid (take c.in-Ok.count c.read.new.buffer) c.in-Ok.ensures.read left c.split_at.ensures.front (sym unsent))
-    (next_moves g.S.Peer.spoke g.S.Peer.over c.args.number c.args.server.now c.next.new.self mid told c.split_at.result.0.now c.in-Ok-next.taken c.in-Ok-next.answer refl refl refl refl refl
+    (next_moves g.S.Peer.spoke g.S.Peer.over c.args.number c.args.server.now c.next.new.self mid told c.split_at.result.0.now c.in-Ok-next.taken c.in-Ok-next.answer c.requires.more refl refl refl refl refl
     c.next.ensures.prefix c.in-Ok-next.ensures.answers c.in-Ok-next.ensures.ok)))
 
 pub returns-else-is_err : goal.returns-else-is_err
@@ -55,6 +55,6 @@ returns-else-is_err g c =
     moves_from g.S.Peer.spoke g.S.Peer.over None c.args.number c.args.server.now c.next.new.self c.args.self.now _ _ c.self.view_is
     (reads_moves g.S.Peer.spoke g.S.Peer.over None c.args.number c.args.server.now c.next.new.self _ mid c.keep.new.self
     (reads_pass g.S.Peer.spoke g.S.Peer.over _ mid (take c.in-Ok.count c.read.new.buffer) c.in-Ok.ensures.read left c.split_at.ensures.front (sym unsent))
-    (next_moves g.S.Peer.spoke g.S.Peer.over c.args.number c.args.server.now c.next.new.self mid c.keep.new.self c.split_at.result.0.now c.in-Ok-next.taken c.in-Ok-next.answer refl refl
+    (next_moves g.S.Peer.spoke g.S.Peer.over c.args.number c.args.server.now c.next.new.self mid c.keep.new.self c.split_at.result.0.now c.in-Ok-next.taken c.in-Ok-next.answer c.requires.more refl refl
     c.keep.ensures.stream (grind (arith, common_steps)) c.keep.ensures.unsent
     c.next.ensures.prefix c.in-Ok-next.ensures.answers c.in-Ok-next.ensures.ok))

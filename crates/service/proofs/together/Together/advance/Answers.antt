@@ -1,5 +1,4 @@
-use Rattle.std.proofs.Common.{rules, subst, arith}
-use Rattle.std.proofs.lemmas.Grind.{common_steps}
+use Rattle.std.proofs.Common.{rules, subst}
 use Rattle.service.specs.Member.{MemberValue, MovesOn, end_of}
 use Rattle.service.proofs.together.Together.advance.Goals as goal
 

@@ -1,4 +1,4 @@
-use Rattle.std.proofs.Common.{inl, ap, subst}
+use Rattle.std.proofs.Common.{inl, subst}
 use Rattle.service.specs.Sockets.{EndsAs}
 use Rattle.service.proofs.together.Together.end.Goals as goal
 

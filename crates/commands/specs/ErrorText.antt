@@ -1,0 +1,74 @@
+-- The text of an error's line. What another crate's fault says is free, and what stands before it
+-- isn't: the option, the path, the line, the server and the request.
+use Rattle.std.specs.Prelude.{◌≡◌, ℕ, List, ◌++◌, IfSome, codes, decimal, string_bytes}
+use Rattle.std.specs.Fmt.{debug_str}
+use Rattle.commands.specs.declared.error.CommandError.{CommandError}
+use Rattle.commands.specs.declared.error.CommandError.TheVariants.{Accept, Address, Connection}
+use Rattle.commands.specs.declared.error.CommandError.TheVariants.{Digest, Entry, File, Memory}
+use Rattle.commands.specs.declared.error.CommandError.TheVariants.{NotAFile, Number, Output}
+use Rattle.commands.specs.declared.error.CommandError.TheVariants.{Process, Random, Server, Text}
+use Rattle.commands.specs.declared.error.CommandError.TheVariants.{TooLarge, Unlike, Words}
+use Rattle.commands.specs.declared.error.CommandError.TheVariants.{WrongBytes}
+
+-- a text in quotes, as Rust's `{:?}` shows it, which is stated of ASCII alone
+abbrev pub IsQuoted : List ℕ → List ℕ → Type 0
+IsQuoted text quoted = IfSome (debug_str text) (λ shown. quoted ≡ shown)
+
+-- what is said, behind what it is said of
+abbrev pub said_of : List ℕ → List ℕ → List ℕ
+said_of head said = head ++ (codes ": " ++ said)
+
+-- some words of a fault of this
+abbrev pub IsWordsOf : List ℕ → List ℕ → Type 0
+IsWordsOf head text = (said : List ℕ) × (text ≡ said_of head said)
+
+-- said of what stands at a path
+abbrev pub IsOfPath : List ℕ → List ℕ → List ℕ → Type 0
+IsOfPath path said text = (quoted : List ℕ) × IsQuoted path quoted × (text ≡ said_of quoted said)
+
+-- some words of a fault there
+abbrev pub IsWordsAt : List ℕ → List ℕ → Type 0
+IsWordsAt path text = (said : List ℕ) × IsOfPath path said text
+
+-- said of an option, for which this was given
+abbrev pub IsOfOption : List ℕ → List ℕ → List ℕ → List ℕ → Type 0
+IsOfOption option said given text = (quoted : List ℕ) × IsQuoted given quoted
+    × (text ≡ codes "--" ++ said_of option (said ++ (codes ", not " ++ quoted)))
+
+-- some words of a fault in this line of a file
+abbrev pub IsWordsInLine : List ℕ → ℕ → List ℕ → Type 0
+IsWordsInLine path line text =
+    (said : List ℕ) × IsWordsOf (codes "line " ++ decimal line) said × IsOfPath path said text
+
+-- some words of a fault of a request to a server: what was asked, and of which digest
+abbrev pub IsWordsOfRequest : List ℕ → List ℕ → List ℕ → List ℕ → Type 0
+IsWordsOfRequest server asked digest text = (said : List ℕ)
+    × IsWordsOf (asked ++ (codes " " ++ digest)) said × (text ≡ said_of server said)
+
+abbrev pub IsErrorText : CommandError → List ℕ → Type 0
+IsErrorText (Words words) text = text ≡ string_bytes words
+IsErrorText (Digest option given fault) text =
+    (said : List ℕ) × IsOfOption option.now said (string_bytes given) text
+IsErrorText (Number option greatest given) text = IsOfOption option.now
+    (codes "a decimal number of at most " ++ decimal greatest) (string_bytes given) text
+IsErrorText (Text path fault hint) text = IsWordsInLine (string_bytes path) fault.line text
+IsErrorText (File path fault) text = IsWordsAt (string_bytes path) text
+IsErrorText (NotAFile path) text = IsOfPath (string_bytes path) (codes "not a file") text
+IsErrorText (TooLarge path) text =
+    IsOfPath (string_bytes path) (codes "a file of more than 16777216 bytes") text
+IsErrorText (Unlike option wanted given) text =
+    IsOfOption option.now (wanted.now ++ codes " is wanted") (string_bytes given) text
+IsErrorText (Entry path fault) text = IsOfPath (string_bytes path) fault.now text
+IsErrorText (Connection server fault) text = IsWordsOf (string_bytes server) text
+IsErrorText (Server server asked digest fault) text =
+    IsWordsOfRequest (string_bytes server) asked.now (string_bytes digest) text
+IsErrorText (WrongBytes server digest) text = text ≡ said_of (string_bytes server)
+    (said_of (codes "get of blob " ++ string_bytes digest) (codes "other bytes came"))
+IsErrorText (Address place fault) text = IsWordsAt (string_bytes place) text
+IsErrorText (Accept fault) text =
+    IsWordsOf (codes "no connection could be accepted after " ++ decimal fault.accepted) text
+IsErrorText (Process place) text = text
+    ≡ said_of (string_bytes place) (codes "the process can't be run, or was ended by a signal")
+IsErrorText (Random fault) text = IsWordsOf (codes "random bytes") text
+IsErrorText (Output fault) text = IsWordsOf (codes "standard output") text
+IsErrorText Memory text = text ≡ codes "out of memory"

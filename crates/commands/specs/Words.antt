@@ -1,0 +1,114 @@
+-- What the words of a command have to be, in their order, and the first of them that isn't so.
+use Rattle.std.specs.Prelude.{◌≡◌, ◌⊎◌, ℕ, ◌≤◌, true, List, [], ◌∷◌, ◌++◌, Result, Ok, Err, IsSome}
+use Rattle.std.specs.Prelude.{IsTrue, codes, map, string_bytes}
+use Rattle.clap.specs.Words.{Row, first_of}
+use Rattle.command_lines.specs.CommandLine.{option_text}
+use Rattle.http_core.specs.Host.{is_host}
+use Rattle.http_core.specs.Prefix.{is_prefix}
+use Rattle.commands.specs.Faults.{IsUnlikeWanted, OrMemory}
+use Rattle.commands.specs.Options.{IsAddress, IsNumber, number_of}
+use Rattle.commands.specs.declared.error.CommandError.{CommandError}
+use Rattle.commands.specs.declared.error.CommandError.TheVariants.{Number, Words}
+
+-- what has to be so, and the error where it isn't
+pub record Check : Type 1 where
+  pub valid : Type 0
+  pub fault : CommandError → Type 0
+
+abbrev pub FailsCheck : Check → CommandError → Type 0
+FailsCheck check e = ¬ check.valid × check.fault e
+
+abbrev pub AllValid : List Check → Type 0
+AllValid [] = Unit {0}
+AllValid (check ∷ checks) = check.valid × AllValid checks
+
+-- the first that isn't so
+abbrev pub FailsFirst : List Check → CommandError → Type 0
+FailsFirst [] e = ⊥
+FailsFirst (check ∷ checks) e = FailsCheck check e ⊎ (check.valid × FailsFirst checks e)
+
+-- what was read is so; else the error is for the first that isn't, or memory ran out
+abbrev pub IsCheckedBy : {T : Type 0} → List Check → Result T CommandError → Type 0
+IsCheckedBy checks (Ok x) = AllValid checks
+IsCheckedBy checks (Err e) = OrMemory (FailsFirst checks) e
+
+-- ---- the texts of options
+
+-- decimal digits of a number that is no greater
+abbrev pub IsUpTo : ℕ → List ℕ → Type 0
+IsUpTo greatest text = IsNumber text × (number_of text ≤ greatest)
+
+abbrev pub IsNumberFault : List ℕ → ℕ → List ℕ → CommandError → Type 0
+IsNumberFault option greatest text (Number o g t) =
+    (o.now ≡ option) × (g ≡ greatest) × (string_bytes t ≡ text)
+IsNumberFault option greatest text _ = ⊥
+
+-- the text of an option is a number that is no greater
+abbrev pub is_number : List Row → List ℕ → ℕ → Check
+is_number options option greatest = record {
+  valid = IsUpTo greatest (option_text options option);
+  fault = IsNumberFault option greatest (option_text options option);
+}
+
+-- the text of an option is what is wanted
+abbrev pub is_wanted : List Row → List ℕ → List ℕ → (List ℕ → Type 0) → Check
+is_wanted options option wanted IsRight = record {
+  valid = IsRight (option_text options option);
+  fault = IsUnlikeWanted option wanted (option_text options option);
+}
+
+abbrev pub IsSaid : List Row → List ℕ → Type 0
+IsSaid options option = IsSome (first_of option options)
+
+-- so it is where the option is said
+abbrev pub where_said : List Row → List ℕ → Check → Check
+where_said options option check =
+    record { valid = IsSaid options option → check.valid; fault = check.fault }
+
+-- ---- a server
+
+abbrev pub names_server : List Row → Check
+names_server options = is_wanted options (codes "server") (codes "HOST:PORT")
+    (λ text. IsAddress text × IsTrue (is_host text))
+
+abbrev pub has_timeout : List Row → Check
+has_timeout options = where_said options (codes "timeout")
+    (is_wanted options (codes "timeout") (codes "a number of seconds") IsNumber)
+
+abbrev pub has_prefix : List Row → Check
+has_prefix options = is_wanted options (codes "prefix") (codes "/SEGMENT or more of them")
+    (λ text. is_prefix text ≡ true)
+
+abbrev pub server_words : List Row → List Check
+server_words options = names_server options ∷ has_timeout options ∷ has_prefix options ∷ []
+
+-- ---- where a recorded build is
+
+abbrev pub IsToldInWords : List ℕ → CommandError → Type 0
+IsToldInWords words (Words text) = string_bytes text ≡ words
+IsToldInWords words _ = ⊥
+
+-- so it is, or these words tell that it isn't
+abbrev pub else_told : Type 0 → List ℕ → Check
+else_told valid words = record { valid = valid; fault = IsToldInWords words }
+
+-- a store folder, or a server, and not both
+abbrev pub names_place : List Row → Check
+names_place options = else_told (IsSaid options (codes "store") ⊎ IsSaid options (codes "server"))
+    (codes "--store or --server is wanted")
+
+abbrev pub names_one_place : List Row → Check
+names_one_place options =
+    else_told (¬ (IsSaid options (codes "store") × IsSaid options (codes "server")))
+    (codes "--store and --server exclude each other")
+
+abbrev pub goes_with_server : List Row → List ℕ → Check
+goes_with_server options option =
+    else_told (IsSaid options (codes "store") → ¬ IsSaid options option)
+    (codes "--" ++ (option ++ codes " goes with --server alone"))
+
+abbrev pub place_words : List Row → List Check
+place_words options =
+    names_place options ∷ names_one_place options
+    ∷ goes_with_server options (codes "prefix") ∷ goes_with_server options (codes "timeout")
+    ∷ map (where_said options (codes "server")) (server_words options)

@@ -1,0 +1,192 @@
+ghost use Rattle.std.specs.Prelude.{◌≡◌, ◌++◌, ℕ, List, IfOk, codes, decimal, string_bytes};
+ghost use Rattle.commands.specs.ErrorText.{IsErrorText, IsWordsAt, IsWordsInLine, IsWordsOf};
+ghost use Rattle.commands.specs.ErrorText.{IsWordsOfRequest, IsOfOption, IsOfPath, said_of};
+
+use crate::error::CommandError;
+use crate::hint::{Hint, hint_text};
+use blob_digest::DigestError;
+use plan::PlanError;
+use remote::Fault;
+use service::NotAccepted;
+use std::alloc::{AllocError, Global};
+use std::io;
+
+/// What is said of a file that isn't read.
+const TOO_LARGE: &str = "a file of more than 16777216 bytes";
+
+/// What is said of a step whose process came to nothing.
+const NO_PROCESS: &str = "the process can't be run, or was ended by a signal";
+
+/// What is said, behind what it is said of.
+fn said_of(alloc: Global, head: &str, said: &str) -> Result<String, AllocError>
+    ensures { IfOk result (λ text. string_bytes text ≡ said_of head.now said.now) }
+{
+    format!(in alloc; "{head}: {said}")
+}
+
+/// The words of a fault of the system, behind what it is of.
+fn fault_of(alloc: Global, head: &str, fault: &io::Error) -> Result<String, AllocError>
+    ensures { IfOk result (λ text. IsWordsOf head.now (string_bytes text)) }
+{
+    let said = fault.to_string(alloc)?;
+    said_of(alloc, head, said.as_str())
+}
+
+/// What is said of what stands at a path.
+pub(crate) fn of_path(alloc: Global, path: &str, said: &str) -> Result<String, AllocError>
+    ensures { IfOk result (λ text. IsOfPath path.now said.now (string_bytes text)) }
+{
+    let quoted = format!(in alloc; "{path:?}")?;
+    said_of(alloc, quoted.as_str(), said)
+}
+
+/// The words of a fault of the system at a path.
+fn fault_at(alloc: Global, path: &str, fault: &io::Error) -> Result<String, AllocError>
+    ensures { IfOk result (λ text. IsWordsAt path.now (string_bytes text)) }
+{
+    let said = fault.to_string(alloc)?;
+    of_path(alloc, path, said.as_str())
+}
+
+/// What is said of an option, for which a text was given.
+fn of_option(alloc: Global, option: &str, said: &str, given: &str) -> Result<String, AllocError>
+    ensures { IfOk result
+        (λ text. IsOfOption option.now said.now given.now (string_bytes text)) }
+{
+    let quoted = format!(in alloc; "{given:?}")?;
+    format!(in alloc; "--{option}: {said}, not {quoted}")
+}
+
+/// That the text of an option is no digest.
+fn no_digest(
+    alloc: Global,
+    option: &str,
+    fault: &DigestError,
+    given: &str,
+) -> Result<String, AllocError>
+    ensures { IfOk result (λ text.
+        (said : List ℕ) × IsOfOption option.now said given.now (string_bytes text)) }
+{
+    let said = fault.to_string(alloc)?;
+    of_option(alloc, option, said.as_str(), given)
+}
+
+/// That it is no number, or is greater than this one.
+fn no_number(alloc: Global, option: &str, greatest: u64, given: &str) -> Result<String, AllocError>
+    ensures { IfOk result (λ text. IsOfOption option.now
+        (codes "a decimal number of at most " ++ decimal greatest) given.now
+        (string_bytes text)) }
+{
+    let said = format!(in alloc; "a decimal number of at most {greatest}")?;
+    of_option(alloc, option, said.as_str(), given)
+}
+
+/// That it isn't what is wanted.
+fn not_wanted(alloc: Global, option: &str, wanted: &str, given: &str) -> Result<String, AllocError>
+    ensures { IfOk result (λ text. IsOfOption option.now (wanted.now ++ codes " is wanted")
+        given.now (string_bytes text)) }
+{
+    let said = format!(in alloc; "{wanted} is wanted")?;
+    of_option(alloc, option, said.as_str(), given)
+}
+
+/// That a line of a file is at fault, and what may be wrong with it.
+fn faulty_line(
+    alloc: Global,
+    path: &str,
+    fault: &PlanError,
+    hint: &Option<Hint>,
+) -> Result<String, AllocError>
+    ensures { IfOk result
+        (λ text. IsWordsInLine path.now fault.now.line (string_bytes text)) }
+{
+    let line = fault.line;
+    let head = format!(in alloc; "line {line}")?;
+    let mut words = fault.fault.to_string(alloc)?;
+    words.push_str(hint_text(hint))?;
+    let said = said_of(alloc, head.as_str(), words.as_str())?;
+    of_path(alloc, path, said.as_str())
+}
+
+/// That a server refused a request: what was asked, and of which digest.
+fn fault_of_request(
+    alloc: Global,
+    server: &str,
+    asked: &str,
+    digest: &str,
+    fault: &Fault,
+) -> Result<String, AllocError>
+    ensures { IfOk result (λ text.
+        IsWordsOfRequest server.now asked.now digest.now (string_bytes text)) }
+{
+    let request = format!(in alloc; "{asked} {digest}")?;
+    let words = fault.to_string(alloc)?;
+    let said = said_of(alloc, request.as_str(), words.as_str())?;
+    said_of(alloc, server, said.as_str())
+}
+
+/// That other bytes came for a digest.
+fn wrong_bytes(alloc: Global, server: &str, digest: &str) -> Result<String, AllocError>
+    ensures { IfOk result (λ text. string_bytes text ≡ said_of server.now
+        (said_of (codes "get of blob " ++ digest.now) (codes "other bytes came"))) }
+{
+    let request = format!(in alloc; "get of blob {digest}")?;
+    let said = said_of(alloc, request.as_str(), "other bytes came")?;
+    said_of(alloc, server, said.as_str())
+}
+
+/// That no more connections could be accepted.
+fn not_accepted(alloc: Global, fault: &NotAccepted) -> Result<String, AllocError>
+    ensures { IfOk result (λ text. IsWordsOf
+        (codes "no connection could be accepted after " ++ decimal fault.now.accepted)
+        (string_bytes text)) }
+{
+    let accepted = fault.accepted;
+    let head = format!(in alloc; "no connection could be accepted after {accepted}")?;
+    fault_of(alloc, head.as_str(), &fault.fault)
+}
+
+/// The text of an error.
+pub(crate) fn error_text(alloc: Global, error: &CommandError) -> Result<String, AllocError>
+    ensures { IfOk result (λ text. IsErrorText error.now (string_bytes text)) }
+{
+    match error {
+        CommandError::Words(words) => String::from_str(alloc, words.as_str()),
+        CommandError::Digest {
+            option,
+            text,
+            fault,
+        } => no_digest(alloc, option, fault, text.as_str()),
+        CommandError::Number {
+            option,
+            greatest,
+            text,
+        } => no_number(alloc, option, *greatest, text.as_str()),
+        CommandError::Unlike {
+            option,
+            wanted,
+            text,
+        } => not_wanted(alloc, option, wanted, text.as_str()),
+        CommandError::Text { path, fault, hint } => faulty_line(alloc, path.as_str(), fault, hint),
+        CommandError::File { path, fault } => fault_at(alloc, path.as_str(), fault),
+        CommandError::NotAFile { path } => of_path(alloc, path.as_str(), "not a file"),
+        CommandError::TooLarge { path } => of_path(alloc, path.as_str(), TOO_LARGE),
+        CommandError::Entry { path, fault } => of_path(alloc, path.as_str(), fault),
+        CommandError::Connection { server, fault } => fault_of(alloc, server.as_str(), fault),
+        CommandError::Server {
+            server,
+            asked,
+            digest,
+            fault,
+        } => fault_of_request(alloc, server.as_str(), asked, digest.as_str(), fault),
+        CommandError::WrongBytes { server, digest } => {
+            wrong_bytes(alloc, server.as_str(), digest.as_str())
+        }
+        CommandError::Address { address, fault } => fault_at(alloc, address.as_str(), fault),
+        CommandError::Accept(fault) => not_accepted(alloc, fault),
+        CommandError::Process { place } => said_of(alloc, place.as_str(), NO_PROCESS),
+        CommandError::Random(fault) => fault_of(alloc, "random bytes", fault),
+        CommandError::Output(fault) => fault_of(alloc, "standard output", fault),
+        CommandError::Memory => String::from_str(alloc, "out of memory"),
+    }
+}

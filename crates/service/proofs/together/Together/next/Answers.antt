@@ -1,0 +1,23 @@
+use Rattle.std.proofs.Common.{◌≡◌, Bool, true, false, sym, ◌∙◌, subst}
+use Rattle.service.specs.Turns.{FailsAfter}
+use Rattle.service.proofs.Failing.{fails_on}
+use Rattle.service.proofs.together.Together.next.Goals as goal
+
+not_both : (b : Bool) → b ≡ false → b ≡ true → ⊥
+not_both b e f = let g : false ≡ true = sym e ∙ f in cc
+
+pub loop-failed-preserved : goal.loop-failed-preserved
+loop-failed-preserved g c = record {
+  tried = fails_on g.N.Sockets.failed 0 c.loop-failed.failed 1 c.args.sockets.now c.loop-failed.sockets c.accept.new.self c.loop-failed.invariant.tried
+      (c.in-Err.ensures.fails (λ e. not_both c.finds_none.result c.if-finds_none.false (c.finds_none.ensures.1 e)));
+  same = c.loop-failed.invariant.same;
+}
+
+pub returns-then-tried-eq-TRIES-clause-fails : goal.returns-then-tried-eq-TRIES-clause-fails
+returns-then-tried-eq-TRIES-clause-fails g c = record {
+  before = c.args.sockets.now;
+  tried = subst (λ k. FailsAfter g.N.Sockets.failed 0 k c.args.sockets.now c.accept.new.self) c.if-tried-eq-TRIES.true
+      (fails_on g.N.Sockets.failed 0 c.loop-failed.failed 1 c.args.sockets.now c.loop-failed.sockets c.accept.new.self c.loop-failed.invariant.tried
+      (c.in-Err.ensures.fails (λ e. not_both c.finds_none.result c.if-finds_none.false (c.finds_none.ensures.1 e))));
+  last = c.in-Err.ensures.last;
+}
