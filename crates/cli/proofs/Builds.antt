@@ -72,10 +72,10 @@ stops_by {P} {Q} f most jobs is plan sources e h = record {
 }
 
 -- a Directory of the root couldn't be put
-pub putting_fails : (start : ConnectionValue) (most : ℕ) (plan : PlanValue) (sources : DigestValue) (e : CommandError) → (e ≡ Memory) ⊎ ∥ FailsOver start e ∥₁
-    → FailsTelling start most plan sources e
-putting_fails start most plan sources e (inl memory) = inl memory
-putting_fails start most plan sources e (inr over) = inr (inr over)
+pub putting_fails : (start : ConnectionValue) (address : List ℕ) (most : ℕ) (plan : PlanValue) (sources : DigestValue) (e : CommandError)
+    → (e ≡ Memory) ⊎ ∥ FailsOver start address e ∥₁ → FailsTelling start address most plan sources e
+putting_fails start address most plan sources e (inl memory) = inl memory
+putting_fails start address most plan sources e (inr over) = inr (inr over)
 
 module _ (sees : Sight) (options : List Row) where
   module _ (asked : Asked) (read : IsReadOf sees options asked) where
@@ -104,7 +104,8 @@ module _ (sees : Sight) (options : List Row) where
         }
 
         -- or while the build was told there was a fault
-        pub telling_fails : (e : CommandError) → FailsTelling start asked.jobs asked.plan asked.sources e → FailsBuild sees options e
+        pub telling_fails : (e : CommandError) → FailsTelling start (string_bytes asked.server.address) asked.jobs asked.plan asked.sources e → FailsBuild sees options e
         telling_fails e (inl memory) = in_memory memory
         telling_fails e (inr (inl process)) = in_process asked.plan asked.sources starts (stops_by by asked.jobs (jobs_of options) read.jobs asked.plan asked.sources e process)
-        telling_fails e (inr (inr over)) = in_server asked.plan asked.sources read.asks (∥∥₁_map over (λ fails. inr (start, opened_to sees options asked.server start read.server opened, fails)))
+        telling_fails e (inr (inr over)) = in_server asked.plan asked.sources read.asks
+            (∥∥₁_map over (λ fails. inr (start, opened_to sees options asked.server start read.server opened, subst (λ a. FailsOver start a e) read.server.address fails)))

@@ -59,10 +59,13 @@ pub record StopsAtProcess (source : Telling → Type 0) (most : ℕ) (plan : Pla
   pub text_is : string_bytes text ≡ place_text plan.steps place
   pub is : e ≡ Process text
 
--- memory ran out, or a process was at fault, or the connection that stood so at first
-abbrev pub FailsTelling : ConnectionValue → ℕ → PlanValue → DigestValue → CommandError → Type 0
-FailsTelling start most plan sources e =
-    (e ≡ Memory) ⊎ (StopsAtProcess (IsToldOver start) most plan sources e ⊎ ∥ FailsOver start e ∥₁)
+-- memory ran out, or a process was at fault, or the server at the address, over the connection that
+-- stood so at first
+abbrev pub FailsTelling : ConnectionValue → List ℕ → ℕ → PlanValue → DigestValue → CommandError
+    → Type 0
+FailsTelling start address most plan sources e =
+    (e ≡ Memory) ⊎ (StopsAtProcess (IsToldOver start) most plan sources e
+    ⊎ ∥ FailsOver start address e ∥₁)
 
 -- what is asked for can be built, and a connection to the server was opened
 pub record ReachesServer (sees : Sight) (options : List Row) : Type 0 where

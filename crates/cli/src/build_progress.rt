@@ -1,3 +1,5 @@
+ghost use Rattle.std.specs.Prelude.{◌≡◌, None, false};
+
 use commands::TerminalLine;
 use plan::Plan;
 use std::alloc::{AllocError, Global};
@@ -18,7 +20,11 @@ impl<'a, T: Write + Drop> BuildProgress<'a, T> {
         alloc: Global,
         plan: &'a Plan<Global>,
         terminal: Option<T>,
-    ) -> BuildProgress<'a, T> {
+    ) -> BuildProgress<'a, T>
+        ensures plan { result.plan.now ≡ plan.now }
+        ensures terminal { result.line.terminal ≡ terminal }
+        ensures unwritten { result.line.is_written ≡ false }
+    {
         BuildProgress {
             alloc,
             plan,
@@ -27,7 +33,10 @@ impl<'a, T: Write + Drop> BuildProgress<'a, T> {
     }
 
     /// Takes the line away.
-    pub(crate) fn clear(&mut self) {
+    pub(crate) fn clear(&mut self)
+        ensures cleared { self.new.line.is_written ≡ false }
+        ensures silent { self.old.line.terminal ≡ None → self.new.line.terminal ≡ None }
+    {
         self.line.clear();
     }
 }

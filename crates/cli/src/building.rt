@@ -97,7 +97,8 @@ fn put_root<S: Stream + Drop, K: Origin>(
     told: &Told<Global>,
 ) -> Result<(), CommandError>
     ensures held { OnOk result (HoldsRoot (IsToldOver K.start) told.now) }
-    ensures fault { IfErr result (λ e. (e ≡ CommandError.Memory) ⊎ ∥ FailsOver K.start e ∥₁) }
+    ensures fault { IfErr result (λ e. (e ≡ CommandError.Memory)
+        ⊎ ∥ FailsOver K.start (string_bytes server.now.address) e ∥₁) }
     ensures status { IfErr result (λ e. status_of e ≡ 3) }
 {
     match told {
@@ -126,8 +127,8 @@ where
     requires fresh { IsFresh remote }
     ensures told { IfOk result
         (IsToldOf (IsToldOver K.start) asked.now.jobs asked.now.plan asked.now.sources) }
-    ensures fault { IfErr result
-        (FailsTelling K.start asked.now.jobs asked.now.plan asked.now.sources) }
+    ensures fault { IfErr result (FailsTelling K.start (string_bytes asked.now.server.address)
+        asked.now.jobs asked.now.plan asked.now.sources) }
     ensures status { IfErr result (λ e. status_of e ≡ 3) }
 {
     let alloc = rt.alloc();

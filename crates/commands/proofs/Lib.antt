@@ -2,6 +2,7 @@ pub mod Addresses
 pub mod Checked
 pub mod Checking
 pub mod Exits
+pub mod Failures
 pub mod Unread
 pub mod Writing
 pub mod Taken

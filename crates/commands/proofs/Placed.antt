@@ -21,7 +21,6 @@ use Rattle.commands.specs.Refusal.{FailsAtPlace, FailsServer}
 use Rattle.commands.specs.World.{Sight}
 use Rattle.commands.specs.declared.connecting.ServerOptions.{ServerOptions}
 use Rattle.commands.specs.declared.error.CommandError.{CommandError}
-use Rattle.commands.specs.declared.verifying.Build.{Build}
 use Rattle.commands.specs.declared.verifying.Build.TheVariants.{Folder, Server}
 
 -- ---- what is missing

@@ -1,20 +1,13 @@
 -- What a refused put is told for.
-use Rattle.std.proofs.Common.{◌≡◌, ◌∙◌, ◌-◌, ◌<◌, ℕ, suc, List, ◌∷◌, ◌++◌, Option, Some, None, Result, Ok, Err, IfErr, ap, arith, codes, inl, inr, get_or, length, map, refl, string_bytes, subst, sym}
-use Rattle.std.proofs.Math.Logic.{∥∥₁_map}
+use Rattle.std.proofs.Common.{◌≡◌, ◌∙◌, ◌-◌, ◌<◌, ℕ, suc, List, ◌∷◌, ◌++◌, Result, Ok, Err, IfErr, ap, arith, codes, inl, inr, get_or, length, map, refl, string_bytes, subst, sym}
 use Rattle.std.proofs.lemmas.List.{get_or-map, length-map}
 use Rattle.std.specs.declared.alloc.Global.{Global}
 use Rattle.std.specs.declared.string.String.{String}
-use Rattle.blob_digest.specs.Digest.{DigestValue, digest_of}
-use Rattle.blob_source.specs.declared.source.FetchError.{FetchError}
-use Rattle.blob_source.specs.declared.source.FetchError.TheVariants as refusals
-use Rattle.http_core.specs.declared.event.Area.TheVariants.{Cas}
+use Rattle.blob_digest.specs.Digest.{DigestValue}
 use Rattle.messages.specs.Directory.{directory_bytes}
 use Rattle.messages.specs.DirectoryRules.{DirectoryValue, IsDirectory}
-use Rattle.remote.specs.Line.{ConnectionValue, RefusesRequest, put}
-use Rattle.remote.specs.declared.fault.Fault.{Fault}
+use Rattle.remote.specs.Line.{ConnectionValue}
 use Rattle.commands.specs.Children.{AreNamed}
-use Rattle.commands.specs.Faults.{TellsRefusal}
-use Rattle.commands.specs.Places.{Comes}
 use Rattle.commands.specs.PutRefused.{FailsBelow, FailsHere, HasEntry, HasNoName, LinksToNoText, RefusesPut}
 use Rattle.commands.specs.Faults.{IsEntryFault, OrMemory}
 use Rattle.commands.specs.PutRefused.FailsBelow.{below, here, too_deep}
@@ -27,15 +20,6 @@ use Rattle.commands.specs.declared.error.CommandError.{CommandError}
 use Rattle.commands.specs.declared.error.CommandError.TheVariants.{Memory, Output}
 use Rattle.commands.proofs.Order.{Follows}
 use Rattle.commands.proofs.SoFar.{IsPutSoFar}
-
--- a request that was refused, as the error tells it
-pub blob_refused : (start old new : ConnectionValue) (address bytes : List ℕ) (fault : Option Fault) (refusal : FetchError) (e : CommandError)
-    → ∥ Comes start old ∥₁ → RefusesRequest old new (put Cas (digest_of bytes).hash bytes) refusal → new.fault ≡ fault
-    → TellsRefusal address (codes "put of blob") (digest_of bytes) fault refusal e → OrMemory (λ x. ∥ RefusesPut start address bytes x ∥₁) e
-blob_refused start old new address bytes (Some fault) refusals.Failed e came refused kept told =
-    inr (∥∥₁_map came (λ before. record { old = old; new = new; before = before; refused = refused; fault = fault; kept = kept; told = told }))
-blob_refused start old new address bytes (Some fault) refusals.Memory e came refused kept told = inl told
-blob_refused start old new address bytes None refusal e came refused kept told = inl told
 
 -- memory ran out, or so it is
 pub or_memory : (P Q : CommandError → Type 0) (e : CommandError) → (e ≡ Memory → Q e) → (P e → Q e) → OrMemory P e → Q e

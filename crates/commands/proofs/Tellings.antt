@@ -14,14 +14,15 @@ use Rattle.blob_source.specs.Source.{Blobs, GrowsAt, bytes_of}
 use Rattle.blob_source.specs.Sink.{IsPut, PutsAt}
 use Rattle.blob_source.specs.declared.source.FetchError.{FetchError}
 use Rattle.http_core.specs.declared.event.Area.{Area}
-use Rattle.remote.specs.Folder.{IsNothingAt, IsReadAt, LooksInFolder, entry_path}
+use Rattle.remote.specs.Folder.{IsNothingAt, IsReadAt, LooksInFolder}
 use Rattle.blob_source.specs.declared.source.FetchError.TheVariants.{Failed, Memory}
 use Rattle.remote.specs.Line.{ConnectionValue, Gets, Puts, get, put}
 use Rattle.remote.specs.Remote.{LooksUp, Stores}
 use Rattle.remote.specs.Table.{HasAnswer, IsSameBut, KeepsNone, answers, bytes_kept, told_by}
 use Rattle.remote.specs.declared.files.FileError.{FileError}
 use Rattle.remote.specs.declared.table.Table.{Table}
-use Rattle.commands.specs.Places.{CameAllOver, CameOver, Comes, FailsInStore, LacksAll, LacksOver}
+use Rattle.text_verifier.specs.declared.lack.Lack.{Lack}
+use Rattle.commands.specs.Places.{CameAllOver, CameOver, Comes, FailsInStore, LacksAll, LacksOver, file_of}
 use Rattle.commands.specs.Places.Comes.{fresh, got, taken, refused}
 use Rattle.commands.specs.World.{Sight}
 
@@ -257,19 +258,19 @@ of_some P (Some y) x h e = subst P (same_of e) h
     same_of : ◌≡◌ (Some y) (Some x) → y ≡ x
     same_of q = cc
 
-answered : {X : Type 0} (x : X) → ◌≡◌ {A = Result X FetchError} (Ok x) (Err Failed) → ⊥
+pub answered : {X : Type 0} (x : X) → ◌≡◌ {A = Result X FetchError} (Ok x) (Err Failed) → ⊥
 answered x e = cc
 
 refused_otherwise : {X : Type 0} → ◌≡◌ {A = Result X FetchError} (Err Memory) (Err Failed) → ⊥
 refused_otherwise e = cc
 
 -- the error of the last failure tells of a file in the folder
-pub failed_on : (sees : Sight) (folder part : List ℕ) (d : DigestValue) (error new_error : Option (FileError Global)) (before after : Table Global)
+pub failed_on : (sees : Sight) (folder : List ℕ) (lack : Lack) (d : DigestValue) (error new_error : Option (FileError Global)) (before after : Table Global)
     (result : Result (Option (Vec ℕ Global)) FetchError)
-    → LooksInFolder sees.reads sees.fails (entry_path folder part d) d error new_error before after result
+    → LooksInFolder sees.reads sees.fails (file_of folder lack) d error new_error before after result
     → ((e : FileError Global) → error ≡ Some e → FailsInStore sees folder e)
     → (e : FileError Global) → new_error ≡ Some e → FailsInStore sees folder e
-failed_on sees folder part d error new_error before after (Ok answer) looks was e is = was e (sym (looks.unfailed (answered answer)) ∙ is)
-failed_on sees folder part d error new_error before after (Err Memory) looks was e is = was e (sym (looks.unfailed refused_otherwise) ∙ is)
-failed_on sees folder part d error new_error before after (Err Failed) looks was e is =
-    record { part = part; digest = d; fails = of_some (sees.fails (entry_path folder part d)) new_error e (looks.fault refl) is }
+failed_on sees folder lack d error new_error before after (Ok answer) looks was e is = was e (sym (looks.unfailed (answered answer)) ∙ is)
+failed_on sees folder lack d error new_error before after (Err Memory) looks was e is = was e (sym (looks.unfailed refused_otherwise) ∙ is)
+failed_on sees folder lack d error new_error before after (Err Failed) looks was e is =
+    record { lack = lack; fails = of_some (sees.fails (file_of folder lack)) new_error e (looks.fault refl) is }

@@ -1,6 +1,7 @@
--- The text of an error's line. What another crate's fault says is free, and what stands before it
--- isn't: the option, the path, the line, the server and the request.
-use Rattle.std.specs.Prelude.{◌≡◌, ℕ, List, ◌++◌, IfSome, codes, decimal, string_bytes}
+-- The text of an error's line. What another crate's fault says is free, and what stands around it
+-- isn't: the option, the path, the line, the hint, the server and the request.
+use Rattle.std.specs.Prelude.{◌≡◌, ℕ, List, [], ◌++◌, Option, None, Some, IfSome, codes, decimal}
+use Rattle.std.specs.Prelude.{string_bytes}
 use Rattle.std.specs.Fmt.{debug_str}
 use Rattle.commands.specs.declared.error.CommandError.{CommandError}
 use Rattle.commands.specs.declared.error.CommandError.TheVariants.{Accept, Address, Connection}
@@ -9,6 +10,10 @@ use Rattle.commands.specs.declared.error.CommandError.TheVariants.{NotAFile, Num
 use Rattle.commands.specs.declared.error.CommandError.TheVariants.{Process, Random, Server, Text}
 use Rattle.commands.specs.declared.error.CommandError.TheVariants.{TooLarge, Unlike, Words}
 use Rattle.commands.specs.declared.error.CommandError.TheVariants.{WrongBytes}
+use Rattle.commands.specs.declared.hint.Hint.{Hint}
+use Rattle.commands.specs.declared.hint.Hint.TheVariants.{BlankAtEnd, CarriageReturn, LaterStep}
+use Rattle.commands.specs.declared.hint.Hint.TheVariants.{NoLine, NoNewline, NoStep, NotEscaped}
+use Rattle.commands.specs.declared.hint.Hint.TheVariants.{OwnStep}
 
 -- a text in quotes, as Rust's `{:?}` shows it, which is stated of ASCII alone
 abbrev pub IsQuoted : List ℕ → List ℕ → Type 0
@@ -35,10 +40,23 @@ abbrev pub IsOfOption : List ℕ → List ℕ → List ℕ → List ℕ → Type
 IsOfOption option said given text = (quoted : List ℕ) × IsQuoted given quoted
     × (text ≡ codes "--" ++ said_of option (said ++ (codes ", not " ++ quoted)))
 
--- some words of a fault in this line of a file
-abbrev pub IsWordsInLine : List ℕ → ℕ → List ℕ → Type 0
-IsWordsInLine path line text =
-    (said : List ℕ) × IsWordsOf (codes "line " ++ decimal line) said × IsOfPath path said text
+-- what may be wrong with a line that can't be read
+abbrev pub hint_words : Option Hint → List ℕ
+hint_words None = []
+hint_words (Some CarriageReturn) = codes "; the line ends with CR LF"
+hint_words (Some BlankAtEnd) = codes "; a blank ends the line"
+hint_words (Some NoNewline) = codes "; the text has no newline at its end"
+hint_words (Some NoLine) = codes "; the text ends before it"
+hint_words (Some NotEscaped) = codes
+    "; in a path every byte but letters, digits and -._~/ is escaped, a space as %20"
+hint_words (Some LaterStep) = codes "; a later step has it"
+hint_words (Some OwnStep) = codes "; the step itself has it"
+hint_words (Some NoStep) = codes "; no step has it"
+
+-- some words of a fault in this line of a file, and behind them those of the hint
+abbrev pub IsWordsInLine : List ℕ → ℕ → Option Hint → List ℕ → Type 0
+IsWordsInLine path line hint text = (words : List ℕ)
+    × IsOfPath path (said_of (codes "line " ++ decimal line) (words ++ hint_words hint)) text
 
 -- some words of a fault of a request to a server: what was asked, and of which digest
 abbrev pub IsWordsOfRequest : List ℕ → List ℕ → List ℕ → List ℕ → Type 0
@@ -51,7 +69,7 @@ IsErrorText (Digest option given fault) text =
     (said : List ℕ) × IsOfOption option.now said (string_bytes given) text
 IsErrorText (Number option greatest given) text = IsOfOption option.now
     (codes "a decimal number of at most " ++ decimal greatest) (string_bytes given) text
-IsErrorText (Text path fault hint) text = IsWordsInLine (string_bytes path) fault.line text
+IsErrorText (Text path fault hint) text = IsWordsInLine (string_bytes path) fault.line hint text
 IsErrorText (File path fault) text = IsWordsAt (string_bytes path) text
 IsErrorText (NotAFile path) text = IsOfPath (string_bytes path) (codes "not a file") text
 IsErrorText (TooLarge path) text =

@@ -1,5 +1,5 @@
 -- What the errors of a command tell.
-use Rattle.std.specs.Prelude.{◌≡◌, ◌↔◌, ◌⊎◌, ℕ, List, Option, Some, None, string_bytes}
+use Rattle.std.specs.Prelude.{◌≡◌, ◌↔◌, ◌⊎◌, ℕ, List, Option, Some, None, codes, string_bytes}
 use Rattle.blob_digest.specs.Digest.{DigestValue, IsDigest}
 use Rattle.blob_digest.specs.Text.{digest_text, BeginsWithHash}
 use Rattle.blob_digest.specs.declared.error.DigestError.TheVariants.{BadHex}
@@ -13,6 +13,10 @@ use Rattle.std.specs.declared.io.Error.{Error}
 use Rattle.commands.specs.declared.error.CommandError.{CommandError}
 use Rattle.commands.specs.declared.error.CommandError.TheVariants.{Digest, Entry, File, NotAFile}
 use Rattle.commands.specs.declared.error.CommandError.TheVariants.{Memory, Server, TooLarge, Unlike}
+use Rattle.commands.specs.declared.failure.Failure.{Failure}
+use Rattle.commands.specs.declared.failure.Method.{Method}
+use Rattle.commands.specs.declared.failure.Method.TheVariants.{GetBlob, GetResult, PutBlob}
+use Rattle.commands.specs.declared.failure.Method.TheVariants.{PutResult}
 
 -- the text of an option spells no digest, or memory ran out
 abbrev pub IsDigestFault : List ℕ → List ℕ → CommandError → Type 0
@@ -41,19 +45,41 @@ IsUnlikeWanted option wanted text (Unlike o w t) =
     (o.now ≡ option) × (w.now ≡ wanted) × (string_bytes t ≡ text)
 IsUnlikeWanted option wanted text _ = ⊥
 
+-- the words for a request
+abbrev pub method_text : Method → List ℕ
+method_text GetBlob = codes "get of blob"
+method_text GetResult = codes "get of result"
+method_text PutBlob = codes "put of blob"
+method_text PutResult = codes "put of result"
+
 -- the error tells which server refused what, of which digest and for which fault
-abbrev pub IsServerFault : List ℕ → List ℕ → DigestValue → Fault → CommandError → Type 0
-IsServerFault address asked d fault (Server server what digest told) =
-    (string_bytes server ≡ address) × (what.now ≡ asked) × (string_bytes digest ≡ digest_text d)
-    × (told ≡ fault)
-IsServerFault address asked d fault _ = ⊥
+abbrev pub IsServerFault : List ℕ → Method → DigestValue → Fault → CommandError → Type 0
+IsServerFault address method d fault (Server server asked digest told) =
+    (string_bytes server ≡ address) × (asked.now ≡ method_text method)
+    × (string_bytes digest ≡ digest_text d) × (told ≡ fault)
+IsServerFault address method d fault _ = ⊥
 
 -- the error of a call that was refused: that fault, where it failed and the connection has one
-abbrev pub TellsRefusal : List ℕ → List ℕ → DigestValue → Option Fault → FetchError → CommandError
+abbrev pub TellsRefusal : List ℕ → Method → DigestValue → Option Fault → FetchError → CommandError
     → Type 0
-TellsRefusal address asked d (Some fault) refusals.Failed e = IsServerFault address asked d fault e
-TellsRefusal address asked d (Some fault) refusals.Memory e = e ≡ Memory
-TellsRefusal address asked d None refusal e = e ≡ Memory
+TellsRefusal address method d (Some fault) refusals.Failed e =
+    IsServerFault address method d fault e
+TellsRefusal address method d (Some fault) refusals.Memory e = e ≡ Memory
+TellsRefusal address method d None refusal e = e ≡ Memory
+
+-- so it is with the request that failed last
+abbrev pub TellsFailure : List ℕ → Option Failure → FetchError → CommandError → Type 0
+TellsFailure address (Some f) refusal e =
+    TellsRefusal address f.method f.digest (Some f.fault) refusal e
+TellsFailure address None refusal e = e ≡ Memory
+
+-- that is the request of a call that was refused, where it failed, and else the one before it
+abbrev pub kept_failure : Option Failure → Method → DigestValue → Option Fault → FetchError
+    → Option Failure
+kept_failure before method d (Some fault) refusals.Failed =
+    Some (record { method = method; digest = d; fault = fault })
+kept_failure before method d (Some fault) refusals.Memory = before
+kept_failure before method d None refusal = before
 
 -- the error tells this of what stands at the place, or under the digest
 abbrev pub IsEntryFault : List ℕ → List ℕ → CommandError → Type 0

@@ -1,25 +1,27 @@
 -- Why `get` ends without its answer: the first fault, in the order server, digest, connection and
 -- work.
-use Rattle.std.specs.Prelude.{◌≡◌, ◌≢◌, ◌⊎◌, ℕ, List, Option, None, Some, codes, string_bytes}
+use Rattle.std.specs.Prelude.{◌≡◌, ◌≢◌, ◌⊎◌, ℕ, List, [], Option, None, Some, codes}
+use Rattle.std.specs.Prelude.{string_bytes}
 use Rattle.std.specs.declared.alloc.Global.{Global}
 use Rattle.blob_digest.specs.Digest.{DigestValue, digest_of}
 use Rattle.blob_digest.specs.Text.{digest_text}
 use Rattle.blob_source.specs.Source.{Telling}
-use Rattle.blob_source.specs.declared.source.FetchError.{FetchError}
 use Rattle.checkout.specs.Refused.{FailsCheckout}
 use Rattle.checkout.specs.declared.error.CheckoutError.{CheckoutError}
 use Rattle.checkout.specs.declared.error.CheckoutError.TheVariants as trees
 use Rattle.clap.specs.Words.{Row, first_of}
 use Rattle.command_lines.specs.CommandLine.{option_text}
-use Rattle.commands.specs.Faults.{IsDigestFault, IsEntryFault, TellsRefusal}
+use Rattle.commands.specs.Faults.{IsDigestFault, IsEntryFault}
 use Rattle.commands.specs.Got.{IsBlobOver}
-use Rattle.commands.specs.Places.{CameOver, Comes, FailsOver, FailsToConnect, IsToldOver, LacksOver}
+use Rattle.commands.specs.Places.{CameOver, FailsOver, FailsToConnect, IsToldOver, LacksOver}
+use Rattle.commands.specs.Places.{RefusesAt}
 use Rattle.commands.specs.Printed.{StartsGet}
 use Rattle.commands.specs.Refusal.{IsPrintFault}
 use Rattle.commands.specs.Words.{AllValid, FailsFirst, server_words}
 use Rattle.commands.specs.World.{Sight}
 use Rattle.commands.specs.declared.error.CommandError.{CommandError}
 use Rattle.commands.specs.declared.error.CommandError.TheVariants.{File, Memory, WrongBytes}
+use Rattle.commands.specs.declared.failure.Method.TheVariants.{GetBlob}
 use Rattle.http_core.specs.declared.event.Area.TheVariants.{Cas}
 use Rattle.messages.specs.Path.{path_text}
 use Rattle.remote.specs.Line.{ConnectionValue}
@@ -39,19 +41,11 @@ pub record ComesWrong (start : ConnectionValue) (digest : DigestValue) : Type 0 
   pub came : CameOver start Cas digest.hash bytes
   pub other : digest_of bytes ≢ digest
 
--- the error tells the connection's fault at the blob
-pub record RefusesGet (start : ConnectionValue) (address : List ℕ) (digest : DigestValue)
-    (e : CommandError) : Type 0 where
-  pub now : ConnectionValue
-  pub came : Comes start now
-  pub refusal : FetchError
-  pub told : TellsRefusal address (codes "get of blob") digest now.fault refusal e
-
 -- why a blob wasn't written, over a connection to the server at this address
 pub data FailsGetBlob (start : ConnectionValue) (address : List ℕ) (digest : DigestValue)
     (e : CommandError) : Type 0 where
   in_memory : e ≡ Memory → FailsGetBlob start address digest e
-  in_reply : RefusesGet start address digest e → FailsGetBlob start address digest e
+  in_reply : RefusesAt start address GetBlob digest [] e → FailsGetBlob start address digest e
   in_bytes : ComesWrong start digest → IsWrongBytes address digest e
       → FailsGetBlob start address digest e
   in_output : (bytes : List ℕ) → IsBlobOver start digest bytes → IsPrintFault e
@@ -62,14 +56,14 @@ pub data FailsGetBlob (start : ConnectionValue) (address : List ℕ) (digest : D
 -- The error tells why a tree wasn't written. Where a blob of it is missing, that is so told, and
 -- the output takes no line of that.
 abbrev pub TellsTree : ConnectionValue → List ℕ → CheckoutError Global → CommandError → Type 0
-TellsTree start address (trees.Missing d) e = ∥ FailsOver start e ∥₁
+TellsTree start address (trees.Missing d) e = ∥ FailsOver start address e ∥₁
     ⊎ (∥ LacksOver start Cas d.hash ∥₁ × IsPrintFault e)
 TellsTree start address (trees.Wrong d) e = IsWrongBytes address d e
 TellsTree start address (trees.Malformed d) e =
     IsEntryFault (digest_text d) (codes "not a Directory") e
 TellsTree start address (trees.TooDeep path) e =
     IsEntryFault (path_text path) (codes "a path of more than 64 names") e
-TellsTree start address trees.Fetch e = ∥ FailsOver start e ∥₁
+TellsTree start address trees.Fetch e = ∥ FailsOver start address e ∥₁
 TellsTree start address (trees.Place path fault) e = e ≡ File path fault
 TellsTree start address trees.Memory e = e ≡ Memory
 

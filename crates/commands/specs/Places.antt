@@ -5,12 +5,13 @@ use Rattle.std.specs.declared.alloc.Global.{Global}
 use Rattle.blob_digest.specs.Digest.{DigestValue}
 use Rattle.blob_source.specs.Source.{Blobs, Telling}
 use Rattle.blob_source.specs.declared.source.FetchError.{FetchError}
+use Rattle.blob_source.specs.declared.source.FetchError.TheVariants.{Failed}
 use Rattle.http_core.specs.declared.event.Area.{Area}
 use Rattle.http_core.specs.declared.event.Area.TheVariants.{Ac, Cas}
 use Rattle.remote.specs.Flow.{unknown}
 use Rattle.remote.specs.Folder.{IsNothingAt, entry_path}
 use Rattle.remote.specs.Folder as folders
-use Rattle.remote.specs.Line.{ConnectionValue, Gets, Puts, RefusesRequest, Request}
+use Rattle.remote.specs.Line.{ConnectionValue, Gets, Puts, RefusesRequest, Request, get, put}
 use Rattle.remote.specs.Remote.{blobs_of, results_of}
 use Rattle.remote.specs.Table.{HasAnswer, KeepsNone}
 use Rattle.remote.specs.declared.fault.Fault.{Fault}
@@ -23,10 +24,14 @@ use Rattle.text_verifier.specs.Texts.{Question}
 use Rattle.text_verifier.specs.declared.answering.Answer.{Answer}
 use Rattle.text_verifier.specs.declared.lack.Lack.{Lack}
 use Rattle.text_verifier.specs.declared.lack.Lack.TheVariants.{Blob, ActionResult}
-use Rattle.commands.specs.Faults.{error_of_file}
+use Rattle.commands.specs.Faults.{IsServerFault, OrMemory, error_of_file}
 use Rattle.commands.specs.World.{Sight}
 use Rattle.commands.specs.declared.error.CommandError.{CommandError}
-use Rattle.commands.specs.declared.error.CommandError.TheVariants.{Connection, Memory, Server}
+use Rattle.commands.specs.declared.error.CommandError.TheVariants.{Connection, Memory}
+use Rattle.commands.specs.declared.failure.Failure.{Failure}
+use Rattle.commands.specs.declared.failure.Method.{Method}
+use Rattle.commands.specs.declared.failure.Method.TheVariants.{GetBlob, GetResult, PutBlob}
+use Rattle.commands.specs.declared.failure.Method.TheVariants.{PutResult}
 
 -- nothing was asked so far
 pub record IsFresh {S A : Type 0} (r : Remote S A) : Type 0 where
@@ -61,17 +66,19 @@ pub record IsOfFolder (sees : Sight) (folder : List ℕ) (told : Telling) : Type
   pub blobs : WereRead sees folder (codes "cas") told.blobs
   pub results : WereRead sees folder (codes "ac") told.results
 
--- the world told that nothing is where this folder would have the blob's file, or the result's
+-- where this folder would have the blob's file, or the result's
+abbrev pub file_of : List ℕ → Lack → List ℕ
+file_of folder (Blob d) = entry_path folder (codes "cas") d
+file_of folder (ActionResult d) = entry_path folder (codes "ac") d
+
+-- the world told that nothing is there
 abbrev pub LacksInFolder : Sight → List ℕ → Lack → Type 0
-LacksInFolder sees folder (Blob d) = IsNothingAt sees.fails (entry_path folder (codes "cas") d)
-LacksInFolder sees folder (ActionResult d) =
-    IsNothingAt sees.fails (entry_path folder (codes "ac") d)
+LacksInFolder sees folder lack = IsNothingAt sees.fails (file_of folder lack)
 
 -- a file of the store couldn't be read, for this
 pub record FailsInStore (sees : Sight) (folder : List ℕ) (e : FileError Global) : Type 0 where
-  pub part : List ℕ
-  pub digest : DigestValue
-  pub fails : sees.fails (entry_path folder part digest) e
+  pub lack : Lack
+  pub fails : sees.fails (file_of folder lack) e
 
 -- What a store in this folder tells, what it keeps as nothing, and its last failure are of files
 -- there.
@@ -143,15 +150,45 @@ pub record IsClientOver (start now : ConnectionValue) (told : Telling) : Type 0 
   pub blobs : CameAllOver start Cas told.blobs
   pub results : CameAllOver start Ac told.results
 
--- the error tells of this fault of a connection, or that memory ran out
-abbrev pub TellsOfFault : Option Fault → CommandError → Type 0
-TellsOfFault fault (Server server asked digest told) = fault ≡ Some told
-TellsOfFault fault Memory = Unit {0}
-TellsOfFault fault _ = ⊥
+-- what is asked for under a hash, or put there with this body
+abbrev pub request_of : Method → List ℕ → List ℕ → Request
+request_of GetBlob hash body = get Cas hash
+request_of GetResult hash body = get Ac hash
+request_of PutBlob hash body = put Cas hash body
+request_of PutResult hash body = put Ac hash body
 
--- the error tells of the last fault of the connection
-abbrev pub FailsOver : ConnectionValue → CommandError → Type 0
-FailsOver start e = (now : ConnectionValue) × Comes start now × TellsOfFault now.fault e
+-- the request was refused over the connection, for this fault
+pub record IsRefused (start : ConnectionValue) (asked : Request) (fault : Fault) : Type 0 where
+  pub old : ConnectionValue
+  pub new : ConnectionValue
+  pub before : Comes start old
+  pub is : RefusesRequest old new asked Failed
+  pub kept : new.fault ≡ Some fault
+
+-- and the error tells that the server at this address refused it
+pub record RefusesAt (start : ConnectionValue) (address : List ℕ) (method : Method)
+    (digest : DigestValue) (body : List ℕ) (e : CommandError) : Type 0 where
+  pub fault : Fault
+  pub why : IsRefused start (request_of method digest.hash body) fault
+  pub told : IsServerFault address method digest fault e
+
+-- a request was refused so
+pub record RefusesSome (start : ConnectionValue) (address : List ℕ) (e : CommandError)
+    : Type 0 where
+  pub method : Method
+  pub digest : DigestValue
+  pub body : List ℕ
+  pub is : RefusesAt start address method digest body e
+
+-- so it was, or memory ran out
+abbrev pub FailsOver : ConnectionValue → List ℕ → CommandError → Type 0
+FailsOver start address = OrMemory (RefusesSome start address)
+
+-- What is kept as the request that failed last was refused. Where nothing is kept no call failed.
+abbrev pub KeepsRefused : ConnectionValue → ConnectionValue → Option Failure → Type 0
+KeepsRefused start now None = now.failures ≡ start.failures
+KeepsRefused start now (Some f) =
+    (body : List ℕ) × IsRefused start (request_of f.method f.digest.hash body) f.fault
 
 abbrev pub IsToldOver : ConnectionValue → Telling → Type 0
 IsToldOver start told = (now : ConnectionValue) × IsClientOver start now told

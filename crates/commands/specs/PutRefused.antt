@@ -1,23 +1,20 @@
 -- Why `put` ends without its line: the first fault, in the order words, connection, what stands at
 -- the path or below it together with the server's refusals, and output.
-use Rattle.std.specs.Prelude.{◌≡◌, ℕ, suc, List, ◌∷◌, ◌++◌, Some, codes}
+use Rattle.std.specs.Prelude.{◌≡◌, ℕ, suc, List, ◌∷◌, ◌++◌, codes}
 use Rattle.std.specs.List.{Contains}
 use Rattle.std.specs.declared.alloc.Global.{Global}
 use Rattle.blob_digest.specs.Digest.{DigestValue, digest_of}
-use Rattle.blob_source.specs.declared.source.FetchError.TheVariants.{Failed}
 use Rattle.clap.specs.Words.{Row}
 use Rattle.command_lines.specs.CommandLine.{option_text}
-use Rattle.http_core.specs.declared.event.Area.TheVariants.{Cas}
 use Rattle.messages.specs.Directory.{directory_bytes}
 use Rattle.messages.specs.DirectoryRules.{DirectoryValue, IsDirectory}
 use Rattle.messages.specs.Name.{IsName}
 use Rattle.messages.specs.Order.{IsAscending}
 use Rattle.messages.specs.Target.{IsTarget}
-use Rattle.remote.specs.Line.{ConnectionValue, RefusesRequest, put}
-use Rattle.remote.specs.declared.fault.Fault.{Fault}
+use Rattle.remote.specs.Line.{ConnectionValue}
 use Rattle.remote.specs.declared.files.FileError.{FileError}
-use Rattle.commands.specs.Faults.{IsEntryFault, IsServerFault, error_of_file}
-use Rattle.commands.specs.Places.{Comes, FailsToConnect}
+use Rattle.commands.specs.Faults.{IsEntryFault, error_of_file}
+use Rattle.commands.specs.Places.{FailsToConnect, RefusesAt}
 use Rattle.commands.specs.Printed.{IsConnectedTo}
 use Rattle.commands.specs.Put.{IsListed, PutsPath}
 use Rattle.commands.specs.Refusal.{IsPrintFault}
@@ -25,6 +22,7 @@ use Rattle.commands.specs.Words.{AllValid, FailsFirst, server_words}
 use Rattle.commands.specs.World.{Sight, a_link}
 use Rattle.commands.specs.declared.error.CommandError.{CommandError}
 use Rattle.commands.specs.declared.error.CommandError.TheVariants.{Memory}
+use Rattle.commands.specs.declared.failure.Method.TheVariants.{PutBlob}
 
 -- what stands at the place has no name that can be put
 pub record HasNoName (place name : List ℕ) (e : CommandError) : Type 0 where
@@ -42,15 +40,8 @@ pub record HasNameTwice (place : List ℕ) (names : List (List ℕ)) (e : Comman
   pub told : IsEntryFault place (codes "two entries of one name") e
 
 -- the server at the address refused a PUT of this blob over the connection, which was opened so
-pub record RefusesPut (start : ConnectionValue) (address bytes : List ℕ) (e : CommandError)
-    : Type 0 where
-  pub old : ConnectionValue
-  pub new : ConnectionValue
-  pub before : Comes start old
-  pub refused : RefusesRequest old new (put Cas (digest_of bytes).hash bytes) Failed
-  pub fault : Fault
-  pub kept : new.fault ≡ Some fault
-  pub told : IsServerFault address (codes "put of blob") (digest_of bytes) fault e
+abbrev pub RefusesPut : ConnectionValue → List ℕ → List ℕ → CommandError → Type 0
+RefusesPut start address bytes = RefusesAt start address PutBlob (digest_of bytes) bytes
 
 -- the folder at the place was read, and has an entry of this name
 pub record HasEntry (sees : Sight) (place name : List ℕ) : Type 0 where

@@ -74,11 +74,11 @@ abbrev pub FailsRecord : Sight → List Row → PlanValue → CommandError → T
 FailsRecord sees options plan =
     FailsText sees (option_text options (codes "record")) (IsRecordFault (names_of plan))
 
--- the server can't be reached, or the connection to it failed
+-- the server can't be reached, or refused a request over the connection
 abbrev pub FailsServer : Sight → List ℕ → List ℕ → CommandError → Type 0
 FailsServer sees address prefix e = FailsToConnect sees address e
     ⊎ ((start : ConnectionValue) × IsConnected sees address address prefix start
-    × FailsOver start e)
+    × FailsOver start address e)
 
 -- a file of the store that the options name can't be read, or the server that they name is at fault
 abbrev pub FailsAtPlace : Sight → List Row → CommandError → Type 0

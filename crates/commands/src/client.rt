@@ -3,18 +3,18 @@ ghost use Rattle.blob_digest.specs.Digest.{digest_of};
 ghost use Rattle.blob_source.specs.Called.{Calls};
 ghost use Rattle.blob_source.specs.Sink.{IsPut, PutsBlob};
 ghost use Rattle.blob_source.specs.Source.{AsksBlob, AsksResult, bytes_of};
-ghost use Rattle.commands.specs.Faults.{TellsRefusal};
+ghost use Rattle.commands.specs.Faults.{OrMemory, TellsFailure, TellsRefusal};
 ghost use Rattle.commands.specs.Places.{AreLacked, FailsOver, FailsToConnect, IsClientOver};
-ghost use Rattle.commands.specs.Places.{IsConnected, IsFresh, LacksIt, LacksOver, TellsOfFault};
+ghost use Rattle.commands.specs.Places.{IsConnected, IsFresh, KeepsRefused, LacksIt, LacksOver};
 ghost use Rattle.commands.specs.Put.{TakesBlob};
 ghost use Rattle.commands.specs.PutRefused.{RefusesPut};
-ghost use Rattle.commands.specs.Faults.{OrMemory};
 ghost use Rattle.commands.specs.Status.{status_of};
 ghost use Rattle.http_core.specs.declared.event.Area.TheVariants.{Ac, Cas};
 ghost use Rattle.remote.specs.Remote.{blobs_of, connection_of, results_of, telling_of};
 
 use crate::connecting::ServerOptions;
 use crate::error::CommandError;
+use crate::failure::{Failure, Method, keep_failure};
 use crate::world::World;
 use blob_digest::Digest;
 use blob_source::{BlobSink, BlobSource, FetchError};
@@ -37,15 +37,15 @@ impl Origin for Brand {
     ghost start = { no_connection };
 }
 
-/// A remote over the marked connection, that knows what it was asked last.
+/// A remote over the marked connection, that knows which request failed last.
 #[derive(Drop)]
 pub struct Client<S: Stream + Drop, K: Origin> {
     remote: Remote<S, Global>,
-    asked: &'static str,
-    digest: Digest,
+    failure: Option<Failure>,
     of: PhantomData<K>,
     ghost over: { ∥ IsClientOver K.start (connection_of S.flow remote) (telling_of remote) ∥₁ },
     ghost lacked: { ∥ AreLacked (LacksIt K.start) (blobs_of remote) (results_of remote) ∥₁ },
+    ghost refused: { ∥ KeepsRefused K.start (connection_of S.flow remote) failure ∥₁ },
 }
 
 impl<S: Stream + Drop, K: Origin> Client<S, K> {
@@ -57,8 +57,7 @@ impl<S: Stream + Drop, K: Origin> Client<S, K> {
     {
         Client {
             remote,
-            asked: "",
-            digest: Digest::empty(),
+            failure: None,
             of: PhantomData,
         }
     }
@@ -75,11 +74,12 @@ impl<S: Stream + Drop, K: Origin> Client<S, K> {
         ensures refused { IfErr result (OrMemory
             (λ e. ∥ RefusesPut K.start (string_bytes server.now.address) bytes.now e ∥₁)) }
     {
-        self.asked = "put of blob";
         match self.remote.send_blob(alloc, bytes) {
             Ok(digest) => Ok(digest),
             Err(refusal) => {
-                self.digest = Digest::of(bytes);
+                let digest = Digest::of(bytes);
+                let fault = self.remote.last_fault();
+                keep_failure(&mut self.failure, Method::PutBlob, &digest, fault, refusal);
                 Err(self.error(alloc, server, refusal)?)
             }
         }
@@ -105,7 +105,8 @@ impl<S: Stream + Drop, K: Origin> Client<S, K> {
         lack: &Lack,
     ) -> Result<(), CommandError>
         ensures lacked { OnOk result (∥ LacksIt K.start lack.now ∥₁) }
-        ensures fault { IfErr result (λ e. ∥ FailsOver K.start e ∥₁) }
+        ensures fault { IfErr result
+            (λ e. ∥ FailsOver K.start (string_bytes server.now.address) e ∥₁) }
         ensures status { IfErr result (λ e. status_of e ≡ 3) }
     {
         let refusal = match self.look_again(alloc, lack) {
@@ -116,21 +117,36 @@ impl<S: Stream + Drop, K: Origin> Client<S, K> {
         Err(self.error(alloc, server, refusal)?)
     }
 
-    /// The error of the last call, which was refused.
+    /// The error of a call that was refused: of the request that failed last, where it failed.
     pub fn error(
         &self,
         alloc: Global,
         server: &ServerOptions,
         refusal: FetchError,
     ) -> Result<CommandError, AllocError>
-        ensures over { IfOk result (λ e. ∥ FailsOver K.start e ∥₁) }
+        ensures over { IfOk result
+            (λ e. ∥ FailsOver K.start (string_bytes server.now.address) e ∥₁) }
         ensures status { IfOk result (λ e. status_of e ≡ 3) }
-        ensures error { IfOk result (TellsRefusal (string_bytes server.now.address)
-            self.now.asked.now self.now.digest (connection_of S.flow self.now.remote).fault
-            refusal) }
+        ensures error { IfOk result
+            (TellsFailure (string_bytes server.now.address) self.now.failure refusal) }
+        // Where a call failed, that memory is wanting isn't told in its place.
+        ensures failed { IfOk result (λ e. refusal ≡ FetchError.Failed → e ≡ CommandError.Memory
+            → ∥ (telling_of self.now.remote).failures ≡ K.start.failures ∥₁) }
     {
-        let fault = self.remote.last_fault();
-        server_error(alloc, server, self.asked, &self.digest, fault, refusal)
+        match &self.failure {
+            Some(failure) => {
+                let fault = Some(failure.fault);
+                server_error(
+                    alloc,
+                    server,
+                    failure.method,
+                    &failure.digest,
+                    fault,
+                    refusal,
+                )
+            }
+            None => Ok(CommandError::Memory),
+        }
     }
 }
 
@@ -148,9 +164,14 @@ impl<S: Stream + Drop, K: Origin> BlobSource<Global> for Client<S, K> {
         ensures lacked { IfOk result
             (λ answer. IfNone answer (∥ LacksOver K.start Cas digest.now.hash ∥₁)) }
     {
-        self.asked = "get of blob";
-        self.digest = *digest;
-        self.remote.fetch(alloc, digest)
+        match self.remote.fetch(alloc, digest) {
+            Ok(found) => Ok(found),
+            Err(refusal) => {
+                let fault = self.remote.last_fault();
+                keep_failure(&mut self.failure, Method::GetBlob, digest, fault, refusal);
+                Err(refusal)
+            }
+        }
     }
 
     fn result(&mut self, alloc: Global, digest: &Digest) -> Result<Option<Vec<u8>>, FetchError>
@@ -161,9 +182,14 @@ impl<S: Stream + Drop, K: Origin> BlobSource<Global> for Client<S, K> {
         ensures lacked { IfOk result
             (λ answer. IfNone answer (∥ LacksOver K.start Ac digest.now.hash ∥₁)) }
     {
-        self.asked = "get of result";
-        self.digest = *digest;
-        self.remote.result(alloc, digest)
+        match self.remote.result(alloc, digest) {
+            Ok(found) => Ok(found),
+            Err(refusal) => {
+                let fault = self.remote.last_fault();
+                keep_failure(&mut self.failure, Method::GetResult, digest, fault, refusal);
+                Err(refusal)
+            }
+        }
     }
 }
 
@@ -176,14 +202,12 @@ impl<S: Stream + Drop, K: Origin> BlobSink<Global> for Client<S, K> {
             (telling_of self.new.remote) (IsErrOf result FetchError.Failed) }
         ensures taken { OnOk result (∥ TakesBlob K.start bytes.now ∥₁) }
     {
-        self.asked = "put of blob";
         match self.remote.put_blob(alloc, bytes) {
-            Ok(digest) => {
-                self.digest = digest;
-                Ok(digest)
-            }
+            Ok(digest) => Ok(digest),
             Err(refusal) => {
-                self.digest = Digest::of(bytes);
+                let digest = Digest::of(bytes);
+                let fault = self.remote.last_fault();
+                keep_failure(&mut self.failure, Method::PutBlob, &digest, fault, refusal);
                 Err(refusal)
             }
         }
@@ -195,9 +219,14 @@ impl<S: Stream + Drop, K: Origin> BlobSink<Global> for Client<S, K> {
         digest: &Digest,
         bytes: &[u8],
     ) -> Result<(), FetchError> {
-        self.asked = "put of result";
-        self.digest = *digest;
-        self.remote.put_result(alloc, digest, bytes)
+        match self.remote.put_result(alloc, digest, bytes) {
+            Ok(()) => Ok(()),
+            Err(refusal) => {
+                let fault = self.remote.last_fault();
+                keep_failure(&mut self.failure, Method::PutResult, digest, fault, refusal);
+                Err(refusal)
+            }
+        }
     }
 }
 
@@ -205,20 +234,19 @@ impl<S: Stream + Drop, K: Origin> BlobSink<Global> for Client<S, K> {
 pub(crate) fn server_error(
     alloc: Global,
     server: &ServerOptions,
-    asked: &'static str,
+    method: Method,
     digest: &Digest,
     fault: Option<Fault>,
     refusal: FetchError,
 ) -> Result<CommandError, AllocError>
-    ensures tells { IfOk result (TellsOfFault fault) }
     ensures status { IfOk result (λ e. status_of e ≡ 3) }
     ensures error { IfOk result
-        (TellsRefusal (string_bytes server.now.address) asked.now digest.now fault refusal) }
+        (TellsRefusal (string_bytes server.now.address) method digest.now fault refusal) }
 {
     match fault {
         Some(fault) if refusal == FetchError::Failed => Ok(CommandError::Server {
             server: String::from_str(alloc, server.address.as_str())?,
-            asked,
+            asked: method.text(),
             digest: digest.write_text(alloc)?,
             fault,
         }),

@@ -1,4 +1,4 @@
-ghost use Rattle.std.specs.Prelude.{◌≡◌, ◌∷◌, [], IfOk, IsTrue, codes};
+ghost use Rattle.std.specs.Prelude.{◌≡◌, ◌∷◌, [], IfOk, IsTrue, codes, string_bytes};
 ghost use Rattle.std.specs.Io.{ReadsAtMost, WritesAtMost};
 ghost use Rattle.std.specs.Io.Buffered.{reader_buffer, reader_inner};
 ghost use Rattle.clap.specs.Words.{found_of, rows_of};
@@ -189,7 +189,11 @@ impl<'r, R: Net<Stream = TcpStream>> Connection<'r, R> {
         alloc: Global,
         rt: &'r R,
         server: &ServerOptions,
-    ) -> io::Result<Connection<'r, R>> {
+    ) -> io::Result<Connection<'r, R>>
+        ensures address { IfOk result
+            (λ c. string_bytes c.address ≡ string_bytes server.now.address) }
+        ensures timeout { IfOk result (λ c. c.timeout ≡ server.now.timeout) }
+    {
         let address = String::from_str(alloc, server.address.as_str())?;
         let stream = connect(rt, server.address.as_str(), server.timeout)?;
         Ok(Connection {

@@ -98,7 +98,7 @@ fn faulty_line(
     hint: &Option<Hint>,
 ) -> Result<String, AllocError>
     ensures { IfOk result
-        (λ text. IsWordsInLine path.now fault.now.line (string_bytes text)) }
+        (λ text. IsWordsInLine path.now fault.now.line hint.now (string_bytes text)) }
 {
     let line = fault.line;
     let head = format!(in alloc; "line {line}")?;

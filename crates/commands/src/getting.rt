@@ -15,6 +15,7 @@ use crate::client::{open, server_error};
 use crate::connecting::{ServerOptions, read_server};
 use crate::ended::{Ended, Note};
 use crate::error::CommandError;
+use crate::failure::Method;
 use crate::options::read_digest;
 use crate::printing::print_all;
 use crate::trees::get_tree;
@@ -67,7 +68,7 @@ fn get_blob<S: Stream + Drop>(
         }
         Err(refusal) => {
             let fault = remote.last_fault();
-            Err(server_error(alloc, server, "get of blob", digest, fault, refusal)?)
+            Err(server_error(alloc, server, Method::GetBlob, digest, fault, refusal)?)
         }
     }
 }

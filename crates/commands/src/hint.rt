@@ -1,3 +1,6 @@
+ghost use Rattle.std.specs.Prelude.{◌≡◌, Some};
+ghost use Rattle.commands.specs.ErrorText.{hint_words};
+
 use plan::{Fault, PlanError};
 
 /// What may be wrong with a line that can't be read.
@@ -27,7 +30,9 @@ impl Hint {
     }
 
     /// Its words, behind those of the fault.
-    fn text(self) -> &'static str {
+    fn text(self) -> &'static str
+        ensures { result.now ≡ hint_words (Some self) }
+    {
         match self {
             Hint::CarriageReturn => "; the line ends with CR LF",
             Hint::BlankAtEnd => "; a blank ends the line",
@@ -44,7 +49,9 @@ impl Hint {
 }
 
 /// The words of a hint, where there is one.
-pub(crate) fn hint_text(hint: &Option<Hint>) -> &'static str {
+pub(crate) fn hint_text(hint: &Option<Hint>) -> &'static str
+    ensures { result.now ≡ hint_words hint.now }
+{
     match hint {
         Some(hint) => hint.text(),
         None => "",

@@ -8,6 +8,7 @@ mod connecting;
 mod ended;
 mod error;
 mod error_text;
+mod failure;
 mod files;
 mod getting;
 mod hint;

@@ -1,3 +1,6 @@
+ghost use Rattle.std.specs.Prelude.{◌≡◌, ◌+◌, ◌/◌, ◌++◌, IfOk, None, codes, decimal, false, min};
+ghost use Rattle.std.specs.Prelude.{string_bytes};
+
 use crate::terminal_line::TerminalLine;
 use std::alloc::{AllocError, Global};
 use std::io::Write;
@@ -17,7 +20,11 @@ pub(crate) struct PutProgress<T: Write + Drop> {
 }
 
 impl<T: Write + Drop> PutProgress<T> {
-    pub(crate) fn new(terminal: Option<T>) -> PutProgress<T> {
+    pub(crate) fn new(terminal: Option<T>) -> PutProgress<T>
+        ensures terminal { result.line.terminal ≡ terminal }
+        ensures unwritten { result.line.is_written ≡ false }
+        ensures none { (result.files ≡ 0) × (result.bytes ≡ 0) }
+    {
         PutProgress {
             line: TerminalLine::new(terminal),
             last: None,
@@ -27,30 +34,49 @@ impl<T: Write + Drop> PutProgress<T> {
     }
 
     /// Counts a file that was put. The line is written anew where the last one stands long enough.
-    pub(crate) fn count<R: AllocGlobal + Clock>(&mut self, rt: &R, bytes: usize) {
+    pub(crate) fn count<R: AllocGlobal + Clock>(&mut self, rt: &R, bytes: usize)
+        ensures files { self.new.files ≡ min (self.old.files + 1) 18446744073709551615 }
+        ensures bytes { self.new.bytes ≡ min (self.old.bytes + bytes) 18446744073709551615 }
+        ensures silent { self.old.line.terminal ≡ None → self.new.line ≡ self.old.line }
+    {
         self.files = self.files.saturating_add(1);
         self.bytes = self.bytes.saturating_add(bytes as u64);
-        if !self.line.has_terminal() {
-            return;
-        }
-        let Ok(now) = Instant::now(rt) else {
-            return;
-        };
-        if self.last.is_none_or(|last| now.duration_since(last) >= Duration::from_millis(STANDS)) {
-            if let Ok(text) = self.text(rt.alloc()) {
-                self.line.write(text.as_str());
-            }
-            self.last = Some(now);
+        if self.line.has_terminal() {
+            self.show(rt);
         }
     }
 
-    fn text(&self, alloc: Global) -> Result<String, AllocError> {
+    /// Writes the line anew, where the last one stands long enough.
+    fn show<R: AllocGlobal + Clock>(&mut self, rt: &R)
+        ensures files { self.new.files ≡ self.old.files }
+        ensures bytes { self.new.bytes ≡ self.old.bytes }
+    {
+        let Ok(now) = Instant::now(rt) else {
+            return;
+        };
+        if self.last.is_some_and(|last| now.duration_since(last) < Duration::from_millis(STANDS)) {
+            return;
+        }
+        self.last = Some(now);
+        if let Ok(text) = self.text(rt.alloc()) {
+            self.line.write(text.as_str());
+        }
+    }
+
+    fn text(&self, alloc: Global) -> Result<String, AllocError>
+        ensures { IfOk result (λ text. string_bytes text
+            ≡ codes "put " ++ (decimal self.now.files ++ (codes " files, "
+            ++ (decimal (self.now.bytes / 1048576) ++ codes " MiB")))) }
+    {
         let mebibytes = self.bytes / 1_048_576;
         format!(in alloc; "put {} files, {mebibytes} MiB", self.files)
     }
 
     /// Takes the line away.
-    pub(crate) fn clear(&mut self) {
+    pub(crate) fn clear(&mut self)
+        ensures cleared { self.new.line.is_written ≡ false }
+        ensures silent { self.old.line.terminal ≡ None → self.new.line.terminal ≡ None }
+    {
         self.line.clear();
     }
 }

@@ -1,6 +1,6 @@
 ghost use Rattle.std.specs.Prelude.{◌≡◌, IfSome, IsTrue, string_bytes};
 ghost use Rattle.commands.specs.Places.{FailsInFolder, IsInFolder, LacksInFolder};
-ghost use Rattle.remote.specs.Folder.{place_of};
+ghost use Rattle.remote.specs.Folder.{IsFreshFolder, place_of};
 
 use crate::error::CommandError;
 use crate::world::{FilesOf, World};
@@ -36,6 +36,7 @@ pub(crate) struct Shelf<'w, W: World, K: Place> {
 impl<'w, W: World, K: Place> Shelf<'w, W, K> {
     pub(crate) fn new(alloc: Global, files: &'w FilesOf<'w, W>, folder: String) -> Shelf<'w, W, K>
         requires { K.place ≡ string_bytes folder }
+        ensures { IsFreshFolder (string_bytes folder) result.store }
     {
         Shelf {
             store: FolderSource::new(alloc, files, folder),

@@ -210,7 +210,8 @@ fn confirm_lack<S: Stream + Drop, K: Origin>(
     lack: &Option<Lack>,
 ) -> Result<(), CommandError>
     ensures lacked { OnOk result (IfSome lack.now (λ lack. ∥ LacksIt K.start lack ∥₁)) }
-    ensures fault { IfErr result (λ e. ∥ FailsOver K.start e ∥₁) }
+    ensures fault { IfErr result
+        (λ e. ∥ FailsOver K.start (string_bytes server.now.address) e ∥₁) }
 {
     match lack {
         Some(lack) => client.confirm(alloc, server, lack),
@@ -229,7 +230,8 @@ fn judge_over<S: Stream + Drop, K: Origin>(
     requires fresh { IsFresh remote }
     ensures answered { IfOk result
         (IsAnsweredBy (IsToldOver K.start) (LacksIt K.start) case.now) }
-    ensures fault { IfErr result (λ e. ∥ FailsOver K.start e ∥₁) }
+    ensures fault { IfErr result
+        (λ e. ∥ FailsOver K.start (string_bytes server.now.address) e ∥₁) }
 {
     let mut client: Client<S, K> = Client::new(remote);
     match answer_question(alloc, case, &mut client) {

@@ -1,4 +1,4 @@
-use Rattle.std.proofs.Common.{inl, inr}
+use Rattle.std.proofs.Common.{inl, inr, string_bytes}
 use Rattle.std.proofs.Math.Logic.{∥∥₁_map}
 use Rattle.remote.specs.Remote.{connection_of}
 use Rattle.commands.specs.Places.{IsToldOver}
@@ -19,8 +19,9 @@ returns-in-Ok-clause-told g c =
 pub returns-in_err-put_root-in-Ok-clause-fault : goal.returns-in_err-put_root-in-Ok-clause-fault
 returns-in_err-put_root-in-Ok-clause-fault g c =
     let asked = c.args.asked.now in
-    exit_by (FailsTelling g.K.Origin.start asked.jobs asked.plan asked.sources) _ c.from_residual.ensures.1
-    (putting_fails g.K.Origin.start asked.jobs asked.plan asked.sources _ c.in_err-put_root-in-Ok.ensures.fault)
+    let address = string_bytes asked.server.address in
+    exit_by (FailsTelling g.K.Origin.start address asked.jobs asked.plan asked.sources) _ c.from_residual.ensures.1
+    (putting_fails g.K.Origin.start address asked.jobs asked.plan asked.sources _ c.in_err-put_root-in-Ok.ensures.fault)
 
 pub returns-in-Err-Device-clause-fault : goal.returns-in-Err-Device-clause-fault
 returns-in-Err-Device-clause-fault g c =

@@ -1,4 +1,4 @@
-use Rattle.std.proofs.Common.{[], ◌∷◌, ◌++◌, inl, inr}
+use Rattle.std.proofs.Common.{[], ◌∷◌}
 use Rattle.clap.specs.Words.{found_of, rows_of}
 use Rattle.commands.proofs.Checking.{fails_in}
 use Rattle.commands.proofs.Exits.{exit_by}

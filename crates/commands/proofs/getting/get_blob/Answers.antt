@@ -1,15 +1,18 @@
-use Rattle.std.proofs.Common.{◌≡◌, ◌≢◌, ◌∙◌, Some, Ok, Option, Result, ℕ, inr, subst, sym, string_bytes}
+use Rattle.std.proofs.Common.{[], ◌≡◌, ◌≢◌, ◌∙◌, Some, Ok, Option, Result, ℕ, inr, subst, sym, string_bytes}
 use Rattle.std.specs.declared.alloc.Global.{Global}
 use Rattle.std.specs.declared.vec.Vec.{Vec}
 use Rattle.blob_digest.specs.Digest.{digest_of}
 use Rattle.blob_source.specs.declared.source.FetchError.{FetchError}
 use Rattle.http_core.specs.declared.event.Area.TheVariants.{Cas}
 use Rattle.remote.specs.Remote.{blobs_of, connection_of}
-use Rattle.std.specs.Prelude.{codes}
-use Rattle.commands.specs.Faults.{TellsRefusal}
-use Rattle.commands.specs.GetRefused.FailsGetBlob.{in_bytes, in_reply}
-use Rattle.commands.proofs.Tellings.{comes_on, got_bytes}
+use Rattle.commands.specs.GetRefused.{FailsGetBlob}
+use Rattle.commands.specs.GetRefused.FailsGetBlob.{in_bytes, in_memory, in_reply}
+use Rattle.commands.specs.Places.{RefusesAt}
 use Rattle.commands.specs.Places.Comes.{fresh}
+use Rattle.commands.specs.declared.failure.Method.TheVariants.{GetBlob}
+use Rattle.commands.proofs.Failures.{refused_at}
+use Rattle.commands.proofs.Refused.{or_memory}
+use Rattle.commands.proofs.Tellings.{got_bytes}
 use Rattle.commands.proofs.getting.get_blob.Goals as goal
 
 pub returns-then-has_digest-clause-right : goal.returns-then-has_digest-clause-right
@@ -49,10 +52,9 @@ returns-in_ok-server_error-in-Err-clause-fault g c =
     let old = c.args.remote.now in
     let new = c.fetch.new.self in
     let start = connection_of flow old in
-    in_reply (record {
-      now = connection_of flow new;
-      came = comes_on start Cas c.args.digest.now start (connection_of flow new) (blobs_of old) (blobs_of new) c.fetch.result c.fetch.ensures.asked fresh;
-      refusal = c.in-Err.refusal;
-      told = subst (λ f. TellsRefusal (string_bytes c.args.server.now.address) (codes "get of blob") c.args.digest.now f c.in-Err.refusal c.in_ok-server_error-in-Err.field-0)
-          c.last_fault-fault.ensures c.in_ok-server_error-in-Err.ensures.error;
-    })
+    let address = string_bytes c.args.server.now.address in
+    let digest = c.args.digest.now in
+    let e = c.in_ok-server_error-in-Err.field-0 in
+    or_memory (RefusesAt start address GetBlob digest []) (FailsGetBlob start address digest) e in_memory in_reply
+    (refused_at start start (connection_of flow new) address GetBlob digest [] c.last_fault-fault.result c.in-Err.refusal e fresh c.in-Err.ensures.asked.refused
+    (sym c.last_fault-fault.ensures) c.in_ok-server_error-in-Err.ensures.error)

@@ -24,5 +24,5 @@ returns-clause-fault g c =
     let address = string_bytes server.address in
     let start = connection_of g.W.Link.Stream.flow c.in_ok-remote.remote in
     let opened = subst (λ h. IsConnected sees address h server.prefix start) c.requires c.in_ok-remote.ensures.opened in
-    IfErr-weaker c.judge_over.result (λ e. ∥ FailsOver start e ∥₁) (λ e. ∥ FailsServer sees address server.prefix e ∥₁)
+    IfErr-weaker c.judge_over.result (λ e. ∥ FailsOver start address e ∥₁) (λ e. ∥ FailsServer sees address server.prefix e ∥₁)
     (λ e is. ∥∥₁_map is (λ fails. inr (start, opened, fails))) c.judge_over.ensures.fault

@@ -1,7 +1,8 @@
-use Rattle.std.proofs.Common.{subst}
+use Rattle.std.proofs.Common.{None, ap, subst, sym}
 use Rattle.http_core.specs.declared.event.Area.TheVariants.{Ac, Cas}
+use Rattle.remote.specs.Line.{ConnectionValue}
 use Rattle.remote.specs.Remote.{blobs_of, connection_of, results_of, telling_of}
-use Rattle.commands.specs.Places.{AreLacked, Comes, IsClientOver, LacksIt, LacksOver}
+use Rattle.commands.specs.Places.{AreLacked, Comes, IsClientOver, KeepsRefused, LacksIt, LacksOver}
 use Rattle.commands.specs.Places.Comes.{fresh}
 use Rattle.commands.proofs.Tellings.{none_lacked, none_unasked}
 use Rattle.commands.proofs.client.Client.new.Goals as goal
@@ -19,4 +20,6 @@ invariant_of-result g c =
       blobs = none_lacked (λ d. LacksOver g.K.Origin.start Cas d.hash) (blobs_of remote) c.requires.fresh.blobs;
       results = none_lacked (λ d. LacksOver g.K.Origin.start Ac d.hash) (results_of remote) c.requires.fresh.results;
     } in
-    record { over = ∣ over ∣₁; lacked = ∣ lacked ∣₁ }
+    let refused : KeepsRefused g.K.Origin.start (connection_of g.S.Stream.flow remote) None =
+    ap (λ (line : ConnectionValue). line.failures) (sym c.requires.start) in
+    record { over = ∣ over ∣₁; lacked = ∣ lacked ∣₁; refused = ∣ refused ∣₁ }

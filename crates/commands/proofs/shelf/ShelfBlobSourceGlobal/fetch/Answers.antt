@@ -3,6 +3,7 @@ use Rattle.std.proofs.Math.Logic.{∥∥₁_map}
 use Rattle.std.specs.Prelude.{codes}
 use Rattle.remote.specs.Folder.{IsNothingAt, LooksInFolder, blobs_of, entry_path, error_of}
 use Rattle.remote.specs.Table.{told_by}
+use Rattle.text_verifier.specs.declared.lack.Lack.TheVariants.{Blob}
 use Rattle.commands.specs.Places.{LacksAll, WereRead}
 use Rattle.commands.proofs.Tellings.{absent_on, failed_on, read_on}
 use Rattle.commands.proofs.shelf.ShelfBlobSourceGlobal.fetch.Goals as goal
@@ -29,6 +30,6 @@ invariant_of-self g c =
               c.fetch.ensures.told is.lacked.blobs;
           results = subst (LacksAll (λ e. IsNothingAt sees.fails (entry_path folder (codes "ac") e))) (sym c.fetch.ensures.untouched) is.lacked.results;
         };
-        failed = failed_on sees folder (codes "cas") d (error_of old) (error_of new) (blobs_of old) (blobs_of new) c.fetch.result looks is.failed;
+        failed = failed_on sees folder (Blob d) d (error_of old) (error_of new) (blobs_of old) (blobs_of new) c.fetch.result looks is.failed;
       });
     }

@@ -3,6 +3,7 @@ use Rattle.std.proofs.Math.Logic.{∥∥₁_map}
 use Rattle.std.specs.Prelude.{codes}
 use Rattle.remote.specs.Folder.{IsNothingAt, LooksInFolder, entry_path, error_of, results_of}
 use Rattle.remote.specs.Table.{told_by}
+use Rattle.text_verifier.specs.declared.lack.Lack.TheVariants.{ActionResult}
 use Rattle.commands.specs.Places.{LacksAll, WereRead}
 use Rattle.commands.proofs.Tellings.{absent_on, failed_on, read_on}
 use Rattle.commands.proofs.shelf.ShelfBlobSourceGlobal.result.Goals as goal
@@ -29,6 +30,6 @@ invariant_of-self g c =
               c.result.ensures.told is.lacked.results;
           blobs = subst (LacksAll (λ e. IsNothingAt sees.fails (entry_path folder (codes "cas") e))) (sym c.result.ensures.untouched) is.lacked.blobs;
         };
-        failed = failed_on sees folder (codes "ac") d (error_of old) (error_of new) (results_of old) (results_of new) c.result.result looks is.failed;
+        failed = failed_on sees folder (ActionResult d) d (error_of old) (error_of new) (results_of old) (results_of new) c.result.result looks is.failed;
       });
     }

@@ -1,0 +1,59 @@
+ghost use Rattle.std.specs.Prelude.{◌≡◌};
+ghost use Rattle.commands.specs.Faults.{kept_failure, method_text};
+
+use blob_digest::Digest;
+use blob_source::FetchError;
+use remote::Fault;
+
+/// What a request asks of a server.
+#[derive(Clone, Copy, Debug, PartialEq, Eq)]
+pub enum Method {
+    GetBlob,
+    GetResult,
+    PutBlob,
+    PutResult,
+}
+
+impl Method {
+    /// Its words.
+    pub(crate) fn text(self) -> &'static str
+        ensures { result.now ≡ method_text self }
+    {
+        match self {
+            Method::GetBlob => "get of blob",
+            Method::GetResult => "get of result",
+            Method::PutBlob => "put of blob",
+            Method::PutResult => "put of result",
+        }
+    }
+}
+
+/// A request that failed: what it asked, of which digest, and why it failed.
+#[derive(Clone, Copy, Debug)]
+pub struct Failure {
+    pub method: Method,
+    pub digest: Digest,
+    pub fault: Fault,
+}
+
+/// Keeps the request of a call that was refused, where it failed. Else what is kept stays.
+pub(crate) fn keep_failure(
+    kept: &mut Option<Failure>,
+    method: Method,
+    digest: &Digest,
+    fault: Option<Fault>,
+    refusal: FetchError,
+)
+    ensures { kept.new ≡ kept_failure kept.old method digest.now fault refusal }
+{
+    match fault {
+        Some(fault) if refusal == FetchError::Failed => {
+            *kept = Some(Failure {
+                method,
+                digest: *digest,
+                fault,
+            });
+        }
+        _ => {}
+    }
+}
