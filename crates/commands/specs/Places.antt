@@ -158,7 +158,7 @@ request_of PutBlob hash body = put Cas hash body
 request_of PutResult hash body = put Ac hash body
 
 -- the request was refused over the connection, for this fault
-pub record IsRefused (start : ConnectionValue) (asked : Request) (fault : Fault) : Type 0 where
+pub record IsRefusedFor (start : ConnectionValue) (asked : Request) (fault : Fault) : Type 0 where
   pub old : ConnectionValue
   pub new : ConnectionValue
   pub before : Comes start old
@@ -169,7 +169,7 @@ pub record IsRefused (start : ConnectionValue) (asked : Request) (fault : Fault)
 pub record RefusesAt (start : ConnectionValue) (address : List ℕ) (method : Method)
     (digest : DigestValue) (body : List ℕ) (e : CommandError) : Type 0 where
   pub fault : Fault
-  pub why : IsRefused start (request_of method digest.hash body) fault
+  pub why : IsRefusedFor start (request_of method digest.hash body) fault
   pub told : IsServerFault address method digest fault e
 
 -- a request was refused so
@@ -188,7 +188,7 @@ FailsOver start address = OrMemory (RefusesSome start address)
 abbrev pub KeepsRefused : ConnectionValue → ConnectionValue → Option Failure → Type 0
 KeepsRefused start now None = now.failures ≡ start.failures
 KeepsRefused start now (Some f) =
-    (body : List ℕ) × IsRefused start (request_of f.method f.digest.hash body) f.fault
+    (body : List ℕ) × IsRefusedFor start (request_of f.method f.digest.hash body) f.fault
 
 abbrev pub IsToldOver : ConnectionValue → Telling → Type 0
 IsToldOver start told = (now : ConnectionValue) × IsClientOver start now told
