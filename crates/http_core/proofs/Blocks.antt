@@ -1,9 +1,8 @@
 -- Where blocks end.
-use Rattle.std.proofs.Common.{append_assoc, ◌≢◌, ◌≡◌, ℕ, ◌≤◌, ◌<◌, ◌+◌, ◌-◌, ◌⊎◌, inl, inr, true, false, List, [], ◌∷◌, ◌++◌, take, drop, length, refl, sym, ◌∙◌, ap, subst, length-append, take-append-drop, arith}
+use Rattle.std.proofs.Common.{append_assoc, ◌≢◌, ◌≡◌, ℕ, ◌≤◌, ◌<◌, ◌+◌, ◌⊎◌, inl, inr, true, false, List, [], ◌∷◌, ◌++◌, take, length, refl, sym, ◌∙◌, ap, subst, length-append, arith}
 use Rattle.std.proofs.Math.Dec.{eqb}
 use Rattle.std.proofs.lemmas.Bool.Decides.{eqb_tells}
 use lib.Seq.{take-append_seam}
-use Rattle.std.proofs.lemmas.List.{length-drop}
 use Rattle.std.proofs.lemmas.List.{append-nil}
 use Rattle.std.specs.List.{AllByRecursion}
 use Rattle.http_core.specs.Block.{empty_line, EndsBlock, HasNoBlock, IsBlock}
@@ -62,10 +61,6 @@ no_block_through bytes (b ∷ plain) none (other, all) =
     let more : HasNoBlock (bytes ++ b ∷ []) = no_block_with bytes b none (λ h. other (last_is h.0 bytes b h.1)) in
     subst HasNoBlock (append_assoc bytes (b ∷ []) plain) (no_block_through (bytes ++ b ∷ []) plain more all)
 
-pub plain_with : (plain : List ℕ) (b : ℕ) → AllByRecursion (λ c. c ≢ 10) plain → b ≢ 10 → AllByRecursion (λ c. c ≢ 10) (plain ++ b ∷ [])
-plain_with [] b all other = (other, tt)
-plain_with (c ∷ plain) b (first, all) other = (first, plain_with plain b all other)
-
 -- none of the beginnings ends so, and the whole does
 pub block_of : (bytes : List ℕ) → ((n : ℕ) → n < length bytes → EndsBlock (take n bytes) → ⊥) → EndsBlock bytes → IsBlock bytes
 block_of bytes none ends = record { ends = ends; first = λ front rest e h. by front rest e h }
@@ -76,14 +71,6 @@ block_of bytes none ends = record { ends = ends; first = λ front rest e h. by f
         let n : length bytes ≡ length front + length (x ∷ rest) = ap length e ∙ length-append front (x ∷ rest) in
         let t : take (length front) bytes ≡ front = ap (take (length front)) e ∙ take-append_seam front (x ∷ rest) in
         absurd (none (length front) (omega arith) (subst EndsBlock (sym t) h))
-
--- a shorter beginning ends so
-pub no_block_of : (bytes : List ℕ) (n : ℕ) → n < length bytes → EndsBlock (take n bytes) → IsBlock bytes → ⊥
-no_block_of bytes n short h b =
-    let none : drop n bytes ≡ [] = b.first (take n bytes) (drop n bytes) (sym (take-append-drop n bytes)) h in
-    let k : length (drop n bytes) ≡ length bytes - n = length-drop n bytes in
-    let z : length (drop n bytes) ≡ 0 = ap length none in
-    omega arith
 
 -- one beginning more
 pub none_yet : (bytes : List ℕ) (end : ℕ) → ((n : ℕ) → n < end → EndsBlock (take n bytes) → ⊥) → (EndsBlock (take end bytes) → ⊥)

@@ -1,5 +1,5 @@
 -- A session within a piece.
-use Rattle.std.proofs.Common.{◌≡◌, ◌≢◌, ℕ, ◌≤◌, ◌+◌, ◌⊎◌, inl, inr, arith, Option, Some, None, List, [], ◌∷◌, ◌++◌, length, map, take, drop, refl, sym, ◌∙◌, ap, subst, append_assoc}
+use Rattle.std.proofs.Common.{◌≡◌, ◌≢◌, ℕ, ◌≤◌, ◌+◌, ◌⊎◌, inl, inr, arith, Option, Some, None, List, [], ◌∷◌, ◌++◌, length, map, take, drop, refl, sym, ◌∙◌, ap, subst, append_assoc, Result, Ok, Err, OnErr}
 use Rattle.std.proofs.Math.Seq.{take-add}
 use Rattle.std.proofs.lemmas.List.{append-nil, map-append, take_all, take-append-drop}
 use Rattle.http_core.specs.declared.event.Event.{Event}
@@ -8,6 +8,10 @@ use Rattle.http_core.specs.Session.{SessionState, Reading, Taking, Closed, Sessi
 use Rattle.std.specs.List.{AllByRecursion}
 use Rattle.http_core.proofs.Fitting.{valid_with}
 use Rattle.http_core.proofs.Standing.{Moves, stands_on, stands_event, stands_closed}
+
+pub on_err : {T E P : Type 0} (r : Result T E) → P → OnErr r P
+on_err (Ok x) p = tt
+on_err (Err e) p = p
 
 further : (stream piece rest : List ℕ) (at taken : ℕ) → rest ≡ drop at piece → (stream ++ take at piece) ++ take taken rest ≡ stream ++ take (at + taken) piece
 further stream piece rest at taken e = append_assoc stream (take at piece) (take taken rest) ∙ ap (λ z. stream ++ (take at piece ++ take taken z)) e ∙ ap (λ z. stream ++ z) (sym (take-add at taken piece))

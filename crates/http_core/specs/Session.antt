@@ -42,6 +42,11 @@ IsClosed s = s.state ≡ Closed
 abbrev pub IsOpen : SessionValue → Type 0
 IsOpen s = s.state ≢ Closed
 
+-- memory may be wanting for a piece: the session is open, and the piece has bytes
+pub record MayWant (s : SessionValue) (piece : List ℕ) : Type 0 where
+  pub opened : IsOpen s
+  pub some : 0 < length piece
+
 -- where a body comes it isn't whole, and it will not be too large
 abbrev pub IsWanting : Stage → List ℕ → Type 0
 IsWanting stages.Block body = ⊤

@@ -1,4 +1,4 @@
-ghost use Rattle.std.specs.Prelude.{◌≡◌, ◌↔◌, IsTrue, IfOk, IfSome, IsSome, string_bytes};
+ghost use Rattle.std.specs.Prelude.{◌≡◌, ◌↔◌, IsTrue, IfOk, OnErr, IfSome, IsSome, string_bytes};
 ghost use Rattle.std.specs.List.{list_all};
 ghost use Rattle.http_core.specs.Host.{is_delimiter, is_host_byte, is_host};
 
@@ -53,10 +53,11 @@ fn is_host(text: &[u8]) -> bool
 
 impl<A: Allocator + Copy> Host<A> {
     /// Reads a host: one or more of the bytes that a URI's host and port have, so that no line of a
-    /// request can end in it.
+    /// request can end in it. Any other text is refused without memory.
     pub fn read(alloc: A, text: &str) -> Result<Option<Host<A>>, AllocError>
         ensures text { IfOk result (λ found. IfSome found (λ host. host ≡ text.now)) }
         ensures found { IfOk result (λ found. IsSome found ↔ IsTrue (is_host text.now)) }
+        ensures memory { OnErr result (IsTrue (is_host text.now)) }
     {
         if !is_host(text.as_bytes()) {
             return Ok(None);

@@ -1,4 +1,4 @@
-ghost use Rattle.std.specs.Prelude.{◌≡◌, ◌↔◌, ◌==◌, IsTrue, IfOk, IfSome, IsSome};
+ghost use Rattle.std.specs.Prelude.{◌≡◌, ◌↔◌, ◌==◌, IsTrue, IfOk, OnErr, IfSome, IsSome};
 ghost use Rattle.std.specs.List.{list_all, slice_split};
 ghost use Rattle.http_core.specs.Prefix.{is_unreserved, is_segment, are_segments, is_prefix};
 
@@ -69,10 +69,11 @@ fn is_prefix(text: &[u8]) -> bool
 
 impl<A: Allocator + Copy> Prefix<A> {
     /// Reads a prefix: nothing, or 2 to 256 bytes of segments, each a `/` and one or more of the
-    /// unreserved characters of a URI.
+    /// unreserved characters of a URI. Any other text is refused without memory.
     pub fn read(alloc: A, text: &[u8]) -> Result<Option<Prefix<A>>, AllocError>
         ensures text { IfOk result (λ found. IfSome found (λ prefix. prefix ≡ text.now)) }
         ensures found { IfOk result (λ found. IsSome found ↔ IsTrue (is_prefix text.now)) }
+        ensures memory { OnErr result (IsTrue (is_prefix text.now)) }
     {
         if !is_prefix(text) {
             return Ok(None);

@@ -8,7 +8,8 @@ ghost use Rattle.blob_digest.specs.Body.{greatest_blob};
 ghost use Rattle.http_core.specs.Event.{IsValid, event_of};
 ghost use Rattle.http_core.specs.Judging.{Judges};
 ghost use Rattle.http_core.specs.Session.{SessionValue, Reading, Taking, Stands, Feeds, FeedsFirst};
-ghost use Rattle.http_core.specs.Session.{IsOpen, IsClosed, Takes, Follows, ended, held_bytes};
+ghost use Rattle.http_core.specs.Session.{IsOpen, IsClosed, MayWant, Takes, Follows, ended};
+ghost use Rattle.http_core.specs.Session.{held_bytes};
 ghost use Rattle.http_core.specs.Stream.{body_length, outcome};
 
 use crate::block::{MAX_BLOCK, ends_block, first_line};
@@ -78,11 +79,12 @@ impl<A: Allocator + Copy> Session<A> {
     }
 
     /// Takes the next piece of the stream, and answers the events that it completes. After an `Err`
-    /// the session is closed.
+    /// the session is closed. One that is closed, or gets no bytes, wants no memory.
     pub fn feed(&mut self, alloc: A, piece: &[u8]) -> Result<Vec<Event<A>, A>, AllocError>
         ensures ok { IfOk result
             (λ events. Feeds self.old piece.now (map event_of events.items) self.new) }
         ensures err { OnErr result (IsClosed self.new) }
+        ensures memory { OnErr result (MayWant self.old piece.now) }
         ensures prefix { self.new.prefix ≡ self.old.prefix }
     {
         match self.cut(alloc, piece) {
@@ -96,11 +98,12 @@ impl<A: Allocator + Copy> Session<A> {
 
     /// Takes the next piece of the stream as far as its first event, and answers how many bytes
     /// that is, and the event. Where the piece completes none, all of it is taken. After an `Err`
-    /// the session is closed.
+    /// the session is closed. One that is closed, or gets no bytes, wants no memory.
     pub fn next(&mut self, alloc: A, piece: &[u8]) -> Result<(usize, Option<Event<A>>), AllocError>
         ensures ok { IfOk result
             (λ x. FeedsFirst self.old piece.now x.0 (option_map event_of x.1) self.new) }
         ensures err { OnErr result (IsClosed self.new) }
+        ensures memory { OnErr result (MayWant self.old piece.now) }
         ensures prefix { self.new.prefix ≡ self.old.prefix }
     {
         let first = self.take_first(alloc, piece);
@@ -135,6 +138,7 @@ impl<A: Allocator + Copy> Session<A> {
     fn cut(&mut self, alloc: A, piece: &[u8]) -> Result<Vec<Event<A>, A>, AllocError>
         ensures ok { IfOk result
             (λ events. Feeds self.old piece.now (map event_of events.items) self.new) }
+        ensures memory { OnErr result (MayWant self.old piece.now) }
         ensures prefix { self.new.prefix ≡ self.old.prefix }
     {
         let mut events = Vec::new(alloc);
@@ -159,6 +163,7 @@ impl<A: Allocator + Copy> Session<A> {
     ) -> Result<(usize, Option<Event<A>>), AllocError>
         ensures ok { IfOk result
             (λ x. FeedsFirst self.old piece.now x.0 (option_map event_of x.1) self.new) }
+        ensures memory { OnErr result (MayWant self.old piece.now) }
         ensures prefix { self.new.prefix ≡ self.old.prefix }
     {
         let mut at = 0;

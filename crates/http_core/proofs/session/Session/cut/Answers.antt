@@ -2,11 +2,20 @@ use Rattle.std.proofs.Common.{◌≡◌, ap, ◌∙◌, subst, arith, ◌++◌, 
 use Rattle.std.specs.Prelude.{option_map, option_to_list}
 use Rattle.http_core.specs.Event.{EventValue, event_of}
 use Rattle.http_core.specs.Session.{Stands, Feeds}
-use Rattle.http_core.proofs.Pieces.{piece_fed, piece_done, valid_more, events_pushed, nothing_more}
+use Rattle.http_core.proofs.Pieces.{on_err, piece_fed, piece_done, valid_more, events_pushed, nothing_more}
 use Rattle.http_core.proofs.session.Session.cut.Goals as goal
 
 some_is_none : {X : Type 0} (x : EventValue) → x ∷ [] ≡ [] → X
 some_is_none x e = cc
+
+pub returns-in_err-taken-clause-memory : goal.returns-in_err-taken-clause-memory
+returns-in_err-taken-clause-memory g c =
+    on_err c.from_residual.result (record { opened = λ shut. c.in_err-taken.ensures.memory.opened (c.loop-at.invariant.closed shut).0; some = omega (arith, c.loop-at-test.true) })
+
+pub returns-in_err-push-clause-memory : goal.returns-in_err-push-clause-memory
+returns-in_err-push-clause-memory g c =
+    let fed : Feeds c.loop-at.self (take c.in_ok-taken.taken c.split_at.result.1.now) (event_of c.in-Some.event ∷ []) c.take_first.new.self = subst (λ z. Feeds c.loop-at.self (take c.in_ok-taken.taken c.split_at.result.1.now) (option_to_list (option_map event_of z)) c.take_first.new.self) c.in-Some.is c.in_ok-taken.ensures.ok.feeds in
+    on_err c.from_residual-in_err-push.result (record { opened = λ shut. some_is_none (event_of c.in-Some.event) (fed.closed (c.loop-at.invariant.closed shut).0).1; some = omega (arith, c.loop-at-test.true) })
 
 pub loop-at-preserved-in-Continue-branch-2 : goal.loop-at-preserved-in-Continue-branch-2
 loop-at-preserved-in-Continue-branch-2 g c =

@@ -5,7 +5,7 @@ use Rattle.http_core.specs.Event.{EventValue, event_of, IsValid}
 use Rattle.std.specs.List.{AllByRecursion}
 use Rattle.http_core.specs.Session.{SessionValue, Stands, Closed}
 use Rattle.http_core.proofs.Standing.{Moves}
-use Rattle.http_core.proofs.Pieces.{first_event_at, moves_further, holds_first, holds_last, piece_on, piece_closed, piece_done, not_open}
+use Rattle.http_core.proofs.Pieces.{on_err, first_event_at, moves_further, holds_first, holds_last, piece_on, piece_closed, piece_done, not_open}
 use Rattle.http_core.proofs.session.Session.take_first.Goals as goal
 use Rattle.http_core.proofs.session.Session.take_first.Goals.{then-loop-at-test+else-is_open, else-loop-at-test}
 
@@ -13,6 +13,11 @@ use Rattle.http_core.proofs.session.Session.take_first.Goals.{then-loop-at-test+
 whole : (s : SessionValue) (stream piece : List ℕ) (before : List EventValue) → Stands s (stream ++ piece) before → Stands s (stream ++ take (length piece) piece) (before ++ [])
 whole s stream piece before h =
     subst (λ z. Stands s (stream ++ take (length piece) piece) z) (sym (append-nil before)) (subst (λ z. Stands s (stream ++ z) before) (sym (take_all (length piece) piece (omega arith))) h)
+
+pub returns-in_err-taken-clause-memory : goal.returns-in_err-taken-clause-memory
+returns-in_err-taken-clause-memory g c =
+    let open_ : c.loop-at.self.state ≢ Closed = c.is_open.ensures.0 (search (rules, c.if-is_open.true)) in
+    on_err c.from_residual.result (record { opened = λ shut. open_ (c.loop-at.invariant.closed shut); some = omega (arith, c.loop-at-test.true) })
 
 pub returns-in-Some-clause-ok : goal.returns-in-Some-clause-ok
 returns-in-Some-clause-ok g c =
