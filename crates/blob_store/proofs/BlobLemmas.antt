@@ -18,11 +18,9 @@ use Rattle.blob_store.specs.Blobs.{AreBlobs, HasHash, found_in, held_under, all_
 use Rattle.blob_store.specs.Storing.{used}
 use Rattle.eviction.proofs.Looks.{lookup_moved}
 use Rattle.std.specs.Cmp.Lexicographic.{nat_list_eq_equiv}
-use Rattle.std.specs.Prelude.{Result, Ok, Err, IsErrAnd, IfErr}
-use Rattle.eviction.specs.declared.error.BoundedError.{BoundedError}
+use Rattle.std.specs.Prelude.{Result, Ok, Err, IsErrAnd}
 use Rattle.blob_store.specs.declared.error.BlobError.{BlobError}
 use Rattle.blob_store.specs.declared.error.BlobError.TheVariants.{Memory}
-use Rattle.blob_store.specs.BlobError.{of_bounded}
 
 module _ {X : Type 0} (P : X → Type 0) where
   pub all_filter : (p : X → Bool) (xs : List X) → AllByRecursion P xs → AllByRecursion P (filter p xs)
@@ -86,6 +84,14 @@ found_is h (e ∷ es) = elim (bytes_eq h e.0) as (λ b. cond b (Some e.1.bytes) 
 pub held_found : (es : List (List ℕ × Held)) (h : List ℕ) → bytes_eq (sha256 []) h ≡ false → bytes_under bytes_eq es h ≡ held_under (found_in es) h
 held_found es h off = sym (found_is h es) ∙ ap (λ y. cond y (Some []) (found_in es h)) (sym off)
 
+-- what isn't stored isn't held, but for no bytes
+pub not_held : (es : List (List ℕ × Held)) (h : List ℕ) → bytes_eq (sha256 []) h ≡ false → is_stored bytes_eq es h ≡ false → held_under (found_in es) h ≡ None
+not_held es h off none = sym (held_found es h off) ∙ nothing (lookup (bytes_eq h) es) none
+  where
+    nothing : (o : Option Held) → is_some o ≡ false → option_map (λ (x : Held). x.bytes) o ≡ None
+    nothing None e = refl
+    nothing (Some x) e = absurd cc
+
 -- what is held under a hash has it
 found_has_hash : (es : List (List ℕ × Held)) (h : List ℕ) → AreBlobs es → HasHash (found_in es h) h
 found_has_hash [] h a = tt
@@ -99,11 +105,6 @@ held_has_hash es h a = (elim (bytes_eq (sha256 []) h) as (λ y. bytes_eq (sha256
   | true ↦ λ t. (bytes_eq-Decides (sha256 []) h).0 t
   | false ↦ λ t. found_has_hash es h a
 ]) refl
-
--- what a passed-on refusal says
-pub told : {X : Type 0} (r : Result X BlobError) (f g : BoundedError) (Q : Type 0) → IsErrAnd r (λ e. e ≡ of_bounded f) → f ≡ g → Q → IfErr r (λ e. (e ≡ of_bounded g) × Q)
-told (Ok x) f g Q a h q = absurd a
-told (Err e) f g Q a h q = (a ∙ ap of_bounded h, q)
 
 -- lack of memory isn't told of as another refusal
 pub wanting_not : {X : Type 0} (r : Result X BlobError) (e : BlobError) → IsErrAnd r (λ x. x ≡ Memory) → (e ≡ Memory → ⊥) → r ≡ Err e → ⊥

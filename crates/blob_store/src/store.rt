@@ -127,11 +127,13 @@ impl<A: Allocator + Copy> BlobStore<A> {
 
     /// Puts a blob under its hash. What is held already stays, and moves to the front; the empty
     /// blob is held without being stored. A blob is refused, in this order, where it is too large,
-    /// has another hash, or doesn't fit beside the pinned ones.
+    /// has another hash, or doesn't fit beside the pinned ones. What is held wants no memory.
     pub fn put(&mut self, hash: [u8; 32], bytes: Vec<u8, A>) -> Result<(), BlobError>
         ensures ok { OnOk result (blob_put self.old hash bytes.items ≡ Some self.new) }
         ensures passed { OnOk result (refused_put self.old hash bytes.items ≡ None) }
         ensures refused { IfErr result (IsRefusal (refused_put self.old hash bytes.items)) }
+        ensures memory { result ≡ Err BlobError.Memory
+            → held_under (found_in self.old.entries) hash ≡ None }
         ensures err { OnErr result (self.new ≡ self.old) }
     {
         if bytes.len() > GREATEST_BLOB {
@@ -145,6 +147,8 @@ impl<A: Allocator + Copy> BlobStore<A> {
         ensures ok { OnOk result (blob_put self.old hash sealed ≡ Some self.new) }
         ensures passed { OnOk result (refused_put self.old hash sealed ≡ None) }
         ensures refused { IfErr result (IsRefusal (refused_put self.old hash sealed)) }
+        ensures memory { result ≡ Err BlobError.Memory
+            → held_under (found_in self.old.entries) hash ≡ None }
         ensures err { OnErr result (self.new ≡ self.old) }
     {
         if sealed.as_slice().len() > GREATEST_BLOB {

@@ -1,14 +1,23 @@
-use Rattle.std.proofs.Common.{◌≡◌, ◌<◌, arith, sym, ap, ◌∙◌, length, bytes_eq}
+use Rattle.std.proofs.Common.{◌≡◌, ◌<◌, List, ℕ, false, None, arith, sym, ap, ◌∙◌, subst, length, bytes_eq}
 use Rattle.std.proofs.lemmas.Bool.Decides.{nat_tests}
 use Rattle.std.proofs.lemmas.Slice.Eq.{bytes_eq-Decides}
 use Rattle.sha2.specs.Sha256.{sha256}
+use Rattle.eviction.specs.Kept.{Kept}
 use Rattle.eviction.specs.Entering.{entered}
+use Rattle.eviction.specs.Pinning.{is_stored}
 use Rattle.eviction.proofs.Entered.{entered_is}
-use Rattle.blob_store.proofs.BlobLemmas.{touched_blobs, entered_blobs}
+use Rattle.blob_store.specs.Blobs.{held_under, found_in}
+use Rattle.blob_store.proofs.BlobLemmas.{touched_blobs, entered_blobs, not_held}
 use Rattle.blob_store.proofs.store.BlobStore.put_sealed.Goals as goal
 
 pub invariant_of-self : goal.invariant_of-self
 invariant_of-self g c = rw c.touch-held.ensures.moves (touched_blobs c.args.hash c.self.inside.blobs.entries c.self.invariant.0, c.self.invariant.1, c.self.invariant.2)
+
+pub returns-in_err-put-clause-memory : goal.returns-in_err-put-clause-memory
+returns-in_err-put-clause-memory g c _ =
+    let off = ap (λ n. bytes_eq n c.args.hash) (sym c.self.invariant.2) ∙ sym c.eq.ensures ∙ c.if-eq.false in
+    let none : is_stored bytes_eq c.self.inside.blobs.entries c.args.hash ≡ false = sym c.contains.ensures ∙ c.if-contains.false in
+    subst (λ (t : Kept (List ℕ)). held_under (found_in t.entries) c.args.hash ≡ None) c.self.view_is (not_held c.self.inside.blobs.entries c.args.hash off none)
 
 pub invariant_of-self-2 : goal.invariant_of-self-2
 invariant_of-self-2 g c =
