@@ -1,11 +1,9 @@
 -- One Tree more that was read.
 use Rattle.std.proofs.Common.{◌≡◌, ℕ, Bool, true, false, cond, List, [], ◌∷◌, ◌++◌, Option, Some, None, is_some, unwrap_or, refl, sym, ap, subst, ◌∙◌, Less, Equal, Greater}
 use Rattle.std.specs.Prelude.{IfSome}
-use Rattle.std.specs.Option.{option_and_then}
 use Rattle.std.specs.declared.cmp.Ordering.{Ordering}
 use Rattle.std.specs.declared.vec.Vec.{Vec}
 use Rattle.std.specs.Ordering.{is_eq, nat_cmp}
-use Rattle.std.specs.List.{AllByRecursion}
 use Rattle.std.specs.BTreeMap.{BTreeMap, get}
 use Rattle.std.specs.Cmp.Lexicographic.{slice_cmp}
 use Rattle.std.proofs.lemmas.Map.Lookups.{exact_bytes, exact_pairs, exact_unsigned}
@@ -41,28 +39,6 @@ module _ {A : Type 0} (found : List ℕ → Option (List ℕ)) where
       by : (b : Bool) → is_some (cond b (Some files) (get digest_cmp old q)) ≡ true
       by true = refl
       by false = h
-
-  read_right : (trees : BTreeMap DigestValue (Option (Vec DigestValue A))) → AreRight trees found → (d : DigestValue) → is_read trees d ≡ true → known trees d ≡ files_of found by_messages d
-  read_right trees right d read = by (get digest_cmp trees d) (right d) read
-    where
-      by : (o : Option (Option (Vec DigestValue A))) → IfSome o (λ fs. listed fs ≡ files_of found by_messages d) → is_some o ≡ true → option_and_then listed o ≡ files_of found by_messages d
-      by None r h = absurd cc
-      by (Some fs) r h = r
-
-  -- Trees that were read are known
-  pub all_known : (trees : BTreeMap DigestValue (Option (Vec DigestValue A))) → AreRight trees found → (rs : List Reference) → AllByRecursion (λ r. r.is_tree ≡ true → is_read trees r.digest ≡ true) rs → AreKnown trees found rs
-  all_known trees right [] all = tt
-  all_known trees right (r ∷ rs) all = (λ t. read_right trees right r.digest (all.0 t), all_known trees right rs all.1)
-
-  pub all_still : (old new : BTreeMap DigestValue (Option (Vec DigestValue A))) → ((d : DigestValue) → is_read old d ≡ true → is_read new d ≡ true) → (rs : List Reference)
-      → AllByRecursion (λ r. r.is_tree ≡ true → is_read old r.digest ≡ true) rs → AllByRecursion (λ r. r.is_tree ≡ true → is_read new r.digest ≡ true) rs
-  all_still old new keep [] all = tt
-  all_still old new keep (r ∷ rs) all = (λ t. keep r.digest (all.0 t), all_still old new keep rs all.1)
-
-  pub one_more : (trees : BTreeMap DigestValue (Option (Vec DigestValue A))) (rs : List Reference) (r : Reference) → AllByRecursion (λ r. r.is_tree ≡ true → is_read trees r.digest ≡ true) rs → (r.is_tree ≡ true → is_read trees r.digest ≡ true)
-      → AllByRecursion (λ r. r.is_tree ≡ true → is_read trees r.digest ≡ true) (rs ++ r ∷ [])
-  one_more trees [] r all h = (h, tt)
-  one_more trees (x ∷ rs) r all h = (all.0, one_more trees rs r all.1 h)
 
   -- ---- what is known is what is found
 

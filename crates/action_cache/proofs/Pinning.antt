@@ -22,7 +22,7 @@ use Rattle.sha2.specs.Sha256.{sha256}
 use Rattle.blob_store.proofs.BlobLemmas.{held_is_found}
 use Rattle.action_cache.proofs.Pins.{pin_tied, plain-repinned}
 use Rattle.action_cache.proofs.Changes.{under-plain}
-use Rattle.action_cache.proofs.Unpinning.{all_among, mark, under-marks}
+use Rattle.action_cache.proofs.Unpinning.{mark, under-marks}
 
 -- what is complete is held: each blob that is named
 module _ (found : List ℕ → Option (List ℕ)) (h : List ℕ) where
@@ -154,9 +154,6 @@ module _ (reader : Reader) (limit rl : ℕ) (blobs results : List (List ℕ × H
             present : (o : Option Held) → is_some (option_map (λ (x : Held). x.bytes) o) ≡ is_some o
             present None = refl
             present (Some x) = refl
-
-        pub blobs_held : all_stored bytes_eq blobs ks ≡ true
-        blobs_held = all_among (λ k. is_some (lookup (bytes_eq k) blobs)) ks named_held
 
         pub result_held : all_stored bytes_eq results (h ∷ []) ≡ true
         result_held = ap (λ o. is_some o && true) held
