@@ -10,7 +10,7 @@ use Rattle.tree.specs.Form.{NodeValue}
 use Rattle.tree.specs.FlatTree.{FlatValue}
 use Rattle.tree.proofs.Descent.{under_still}
 use Rattle.checkout.specs.declared.error.CheckoutError.{CheckoutError}
-use Rattle.checkout.specs.Refused.{Refuses, FailsEntry, FailsEntries, FailsCheckout}
+use Rattle.checkout.specs.Refused.{Refuses, FailsOneEntry, FailsEntries, FailsCheckout}
 use Rattle.checkout.specs.Folder.{Works, FolderValue, Written, with_written}
 use Rattle.checkout.specs.Folder.Written.{a_folder, a_file, a_link}
 use Rattle.checkout.specs.Written.{place_below, IsWrittenFor, AreWritten, IsGained, MakesEntry, MakesEntries}
@@ -79,7 +79,7 @@ module _ {F : Type 0} (works : Works F) (folder : List ℕ) (all : FlatValue) wh
 
   -- the next one isn't written
   pub next_fails : {B C : Blobs} {A : Type 0} (refuses : Refuses) (old mid : F) (p : List Name) (s : Standing NodeValue) (left : FlatValue) (e : CheckoutError A) → Grows B C
-      → SoFar works B old mid folder all ((p, s) ∷ left) → FailsEntry refuses C (place_below folder (path_text p)) s e → FailsEntries (IsGained works old) refuses C folder all e
+      → SoFar works B old mid folder all ((p, s) ∷ left) → FailsOneEntry refuses C (place_below folder (path_text p)) s e → FailsEntries (IsGained works old) refuses C folder all e
   next_fails refuses old mid p s left e grows so_far fails = record {
     done = so_far.done;
     path = p;

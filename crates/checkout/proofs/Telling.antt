@@ -30,7 +30,7 @@ unfolded_still grows h = record {
 
 -- what wasn't made at a path
 pub place_fails : {A T : Type 0} (refuses : Refuses) (path : List ℕ) (made : Result T Error) (e : CheckoutError A) → FailsAt path made e → IfErr made (refuses path) → FailsPlace refuses path e
-place_fails refuses path made (errors.Place p fault) h refused = (h.0, subst (λ r. IfErr r (refuses path)) h.1 refused)
+place_fails refuses path made (errors.Place p fault) h refused = (h.0, h.1, subst (λ r. IfErr r (refuses path)) h.2 refused)
 place_fails refuses path made errors.Memory h refused = tt
 place_fails refuses path made (errors.Missing d) h refused = absurd h
 place_fails refuses path made (errors.Wrong d) h refused = absurd h

@@ -1,6 +1,9 @@
 -- Why a tree isn't written.
-use Rattle.std.specs.Prelude.{◌≡◌, ◌⊎◌, ℕ, Bool, List, [], ◌∷◌, ◌++◌, Result, Err, string_bytes}
+use Rattle.std.specs.Prelude.{◌≡◌, ◌≢◌, ◌⊎◌, ℕ, Bool, List, [], ◌∷◌, ◌++◌, Result, Err}
+use Rattle.std.specs.Prelude.{IsErr, string_bytes}
+use Rattle.std.specs.IoError.{error_kind}
 use Rattle.std.specs.declared.io.Error.{Error}
+use Rattle.std.specs.declared.io.ErrorKind.TheVariants.{OutOfMemory}
 use Rattle.blob_digest.specs.Digest.{DigestValue}
 use Rattle.messages.specs.Path.{path_text}
 use Rattle.messages.specs.declared.node.Node.TheVariants.{File}
@@ -22,10 +25,11 @@ use Rattle.checkout.specs.declared.error.CheckoutError.TheVariants.{TooDeep, Fet
 abbrev pub Refuses : Type 1
 Refuses = List ℕ → Error → Type 0
 
--- why nothing was made at a path: the system's error is told, unless memory ran out
+-- why a call made nothing at a path: the system's error is told, unless memory ran out
 abbrev pub FailsAt : {A T : Type 0} → List ℕ → Result T Error → CheckoutError A → Type 0
-FailsAt path made (Place p fault) = (string_bytes p ≡ path) × (made ≡ Err fault)
-FailsAt path made Memory = Unit {0}
+FailsAt path made (Place p fault) = (error_kind fault ≢ OutOfMemory) × (string_bytes p ≡ path)
+    × (made ≡ Err fault)
+FailsAt path made Memory = IsErr made
 FailsAt path made e = ⊥
 
 -- why a content isn't had: nothing or other bytes are told under its digest, unless the source
@@ -54,16 +58,17 @@ StopsUnfold (trees.Absent path) = ⊥
 StopsUnfold (trees.Conflict path) = ⊥
 StopsUnfold e = Unit {0}
 
--- why the system made nothing at a path
+-- Why the system made nothing at a path. That memory ran out is told as that.
 abbrev pub FailsPlace : {A : Type 0} → Refuses → List ℕ → CheckoutError A → Type 0
-FailsPlace refuses place (Place p fault) = (string_bytes p ≡ place) × refuses place fault
+FailsPlace refuses place (Place p fault) = (error_kind fault ≢ OutOfMemory)
+    × (string_bytes p ≡ place) × refuses place fault
 FailsPlace refuses place Memory = Unit {0}
 FailsPlace refuses place e = ⊥
 
 -- Why an entry isn't written: it is a file whose content isn't had, or the system refuses it there.
-abbrev pub FailsEntry : {A : Type 0} → Refuses → Blobs → List ℕ → Standing NodeValue
+abbrev pub FailsOneEntry : {A : Type 0} → Refuses → Blobs → List ℕ → Standing NodeValue
     → CheckoutError A → Type 0
-FailsEntry refuses B place s e = FailsPlace refuses place e
+FailsOneEntry refuses B place s e = FailsPlace refuses place e
     ⊎ ((d : DigestValue) × (x : Bool) × (s ≡ a_leaf (File d x)) × FailsContent B d e)
 
 -- Why entries aren't written: one isn't, and those before it are. `has` says what a folder has
@@ -78,7 +83,7 @@ pub record FailsEntries {A : Type 0} (has : List (List ℕ × Written) → Type 
   pub written : List (List ℕ × Written)
   pub of_done : AreWritten B folder done written
   pub before : has written
-  pub fails : FailsEntry refuses B (place_below folder (path_text path)) standing e
+  pub fails : FailsOneEntry refuses B (place_below folder (path_text path)) standing e
 
 -- Why the tree under a digest isn't written, the first reason: it isn't had, or the folder isn't
 -- taken, or one of the tree's entries isn't written, while the folder has those before it.

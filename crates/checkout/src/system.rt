@@ -1,3 +1,5 @@
+ghost use Rattle.std.specs.Prelude.{◌≡◌, true, false, Ok, Err, MatchOption, MatchResult};
+
 use crate::writer::FolderWriter;
 use std::fs::OpenOptions;
 use std::io::{ErrorKind, Write};
@@ -19,9 +21,12 @@ pub struct SystemWriter<'r, R>(pub &'r R);
 #[derive(Drop)]
 pub struct SystemFolder;
 
-/// Whether a folder has no entry.
-fn is_empty<R: Files + Alloc>(rt: &R, path: &str) -> io::Result<bool> {
-    match fs::read_dir(&rt, path)?.next() {
+/// Whether a folder has no entry, by the first that is told of it.
+fn is_empty<T: Drop>(first: Option<io::Result<T>>) -> io::Result<bool>
+    ensures { MatchOption first (result ≡ Ok true) (λ told. MatchResult told
+        (λ _. result ≡ Ok false) (λ fault. result ≡ Err fault)) }
+{
+    match first {
         None => Ok(true),
         Some(Ok(_entry)) => Ok(false),
         Some(Err(fault)) => Err(fault),
@@ -39,7 +44,7 @@ impl<'r, R: Files + Alloc> FolderWriter for SystemWriter<'r, R> {
         match fs::create_dir(self.0, path) {
             Ok(()) => Ok(SystemFolder),
             Err(fault) if fault.kind() == ErrorKind::AlreadyExists => {
-                if is_empty(self.0, path)? {
+                if is_empty(fs::read_dir(&self.0, path)?.next())? {
                     return Ok(SystemFolder);
                 }
                 Err(io::Error::from(ErrorKind::DirectoryNotEmpty))

@@ -8,7 +8,7 @@ ghost use Rattle.tree.specs.Unfolded.{ExplainsUnfold, IsUnfolded};
 ghost use Rattle.checkout.specs.Folder.{IsHad, empty_folder};
 ghost use Rattle.checkout.specs.Written.{HoldsTree, IsGained, MakesEntry, MakesEntries};
 ghost use Rattle.checkout.specs.Written.{place_below};
-ghost use Rattle.checkout.specs.Refused.{FailsAt, FailsContent, FailsEntry, FailsEntries};
+ghost use Rattle.checkout.specs.Refused.{FailsAt, FailsContent, FailsOneEntry, FailsEntries};
 ghost use Rattle.checkout.specs.Refused.{FailsTree, FailsCheckout, StopsUnfold};
 
 use crate::error::CheckoutError;
@@ -65,6 +65,7 @@ fn error_of<A: Allocator>(error: TreeError<A>) -> CheckoutError<A>
     ensures lacks { (B : Blobs) (d : DigestValue)
         → Explains (FailsBlob B d) error → FailsContent B d result }
     ensures fetch { (result ≡ CheckoutError.Fetch) ↔ (error ≡ TreeError.Fetch) }
+    ensures memory { (result ≡ CheckoutError.Memory) ↔ (error ≡ TreeError.Memory) }
 {
     match error {
         TreeError::BlobMissing(digest) => CheckoutError::Missing(digest),
@@ -112,7 +113,7 @@ fn write_entry<A: Allocator + Copy, S: BlobSource<A>, W: FolderWriter>(
 ) -> Result<(), CheckoutError<A>>
     ensures made { OnOk result (MakesEntry W.works (S.tells source.new).blobs folder.old
         folder.new place.now (entry_value entry.now)) }
-    ensures refused { IfErr result (FailsEntry W.works.refuses (S.tells source.new).blobs
+    ensures refused { IfErr result (FailsOneEntry W.works.refuses (S.tells source.new).blobs
         place.now (entry_value entry.now)) }
     ensures called { Called (S.tells source.old) (S.tells source.new)
         (IsErrOf result CheckoutError.Fetch) }

@@ -4,7 +4,7 @@ use Rattle.std.proofs.lemmas.Result.{err_from_is_err_and}
 use Rattle.blob_source.proofs.Asking.{ok_no_error}
 use Rattle.blob_source.proofs.Calling.{called_none, called_no, called_on, called_exit}
 use Rattle.tree.specs.FlatTree.{entry_value, path_values}
-use Rattle.checkout.specs.Refused.{FailsEntry}
+use Rattle.checkout.specs.Refused.{FailsOneEntry}
 use Rattle.checkout.specs.Written.{place_below}
 use Rattle.checkout.specs.declared.error.CheckoutError.TheVariants.{Memory}
 use Rattle.checkout.proofs.Entries.{SoFar, none_yet, next_one, next_fails, all_done, none_left}
@@ -47,7 +47,7 @@ returns-in_err-write_entry-clause-refused g c =
     let so_far = subst (λ es. SoFar works blobs c.args.folder.now c.loop-below.folder c.args.path.now all (path_values es)) steps c.loop-below.invariant.so_far in
     let at = c.as_str-in-loop-below.ensures.value ∙ c.in_ok-place.ensures ∙ ap (λ t. place_below c.args.path.now t) c.as_str.ensures.value in
     rw (p.1, p.2) (next_fails works c.args.path.now all works.refuses c.args.folder.now c.loop-below.folder c.in-Some.below (entry_value c.in-Some.entry) (path_values left) c.in_err-write_entry.field-0.0
-    c.write_entry.ensures.called.asked.blobs so_far (subst (λ q. FailsEntry works.refuses after q (entry_value c.in-Some.entry) c.in_err-write_entry.field-0.0) at c.in_err-write_entry.ensures.refused))
+    c.write_entry.ensures.called.asked.blobs so_far (subst (λ q. FailsOneEntry works.refuses after q (entry_value c.in-Some.entry) c.in_err-write_entry.field-0.0) at c.in_err-write_entry.ensures.refused))
 
 pub returns-in_err-write_entry-clause-called : goal.returns-in_err-write_entry-clause-called
 returns-in_err-write_entry-clause-called g c =
