@@ -9,7 +9,7 @@ use Rattle.remote.specs.Line.{ConnectionValue, Request, IsSameServer, IsUncounte
 use Rattle.remote.specs.Flow.{Flow, SendsFront}
 use Rattle.remote.proofs.Flows.{fronts_all, fronts_from, fronts_then}
 use Rattle.remote.specs.Reply.{ReceivedReply, IsReply, RoundTrip, RoundTripForSome}
-use Rattle.remote.specs.Steps.{Fails, Starves}
+use Rattle.remote.specs.Steps.{CountsFault, Starves}
 
 pub memory_failed : Memory ≡ Failed → ⊥
 memory_failed h = cc
@@ -25,7 +25,7 @@ uncounted h k = record { count = k.count ∙ h.count; fault = k.fault ∙ h.faul
 
 -- a connection that wasn't broken fails
 pub refuses_fault : (old mid new : ConnectionValue) (request : Request) (fault : Fault) (e : FetchError) → old.broken ≡ false → IsUncounted old mid → IsSameServer old mid
-    → SendsFront old.flow mid.flow (text_of old request) → IsConnectionFault old new request fault → Fails mid new fault e → RefusesRequest old new request e
+    → SendsFront old.flow mid.flow (text_of old request) → IsConnectionFault old new request fault → CountsFault mid new fault e → RefusesRequest old new request e
 refuses_fault old mid new request fault e open_ none server sent is h = record {
   broken = h.broken;
   failed = λ f. record { count = (h.failed f).0 ∙ ap (λ n. n + 1) none.count; fault = fault; kept = (h.failed f).1; is = is };
@@ -57,7 +57,7 @@ sends_trip {old} {mid} {request} asks =
 
 -- the reply has a status that is no answer
 pub refuses_status : (old mid new : ConnectionValue) (request : Request) (reply : ReceivedReply) (n : ℕ) (e : FetchError)
-    → IsReplied old mid request reply → reply.status ≡ n → is_answer request.body n ≡ false → Fails mid new (Status n) e → RefusesRequest old new request e
+    → IsReplied old mid request reply → reply.status ≡ n → is_answer request.body n ≡ false → CountsFault mid new (Status n) e → RefusesRequest old new request e
 refuses_status old mid new request reply n e asks is no_answer h =
     refuses_fault old mid new request (Status n) e asks.unbroken (record { count = asks.failures; fault = asks.fault }) asks.server
     (sends_trip asks)

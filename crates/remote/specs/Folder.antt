@@ -114,7 +114,8 @@ IsReadAt reads fails path None = IsNothingAt fails path
 IsReadAt reads fails path (Some bytes) = reads path bytes
 
 -- A call that asked for the file at a path, of this digest. What is kept is told without the file,
--- so that no fault of it is a failure, and else it is told what was read.
+-- so that no fault of it is a failure, and else it is told what was read. That no file is there is
+-- no failure.
 pub record LooksInFolder {A : Type 0}
     (reads : List ℕ → List ℕ → Type 0) (fails : List ℕ → FileError A → Type 0) (path : List ℕ)
     (d : DigestValue) (old new : Option (FileError A)) (before after : Table A)
@@ -129,4 +130,5 @@ pub record LooksInFolder {A : Type 0}
       → IfOk result (λ answer. IsReadAt reads fails path (bytes_of answer))
   pub failed : IsErrOf result Failed → IsSomeAnd new (IsFaultAt path)
   pub fault : IsErrOf result Failed → IsSomeAnd new (fails path)
+  pub real : IsErrOf result Failed → IsSomeAnd new (λ e. IsNotThere e → ⊥)
   pub unfailed : (IsErrOf result Failed → ⊥) → new ≡ old

@@ -145,15 +145,15 @@ IsStreamFault old new request =
     IsUnopened old new.flow ⊎ ComesInPart old new request
 
 -- no request goes out any more: one was refused, or a reply closed a stream that isn't opened anew
-abbrev pub IsOver : ConnectionValue → Type 0
-IsOver line = (line.broken ≡ true) ⊎ MayStayShut line
+abbrev pub AsksNoMore : ConnectionValue → Type 0
+AsksNoMore line = (line.broken ≡ true) ⊎ MayStayShut line
 
 -- The fault is Broken where no request goes out any more, and nothing was sent or read then.
 abbrev pub IsConnectionFault : ConnectionValue → ConnectionValue → Request → Fault → Type 0
 IsConnectionFault old new request Io = (old.broken ≡ false) × IsStreamFault old new request
 IsConnectionFault old new request BadReply = ComesBadly old new request
 IsConnectionFault old new request (Status status) = ComesStatus old new request status
-IsConnectionFault old new request Broken = IsOver old × (new.flow ≡ old.flow)
+IsConnectionFault old new request Broken = AsksNoMore old × (new.flow ≡ old.flow)
 
 -- a failure was counted, and its fault is kept
 pub record IsCounted (old new : ConnectionValue) (request : Request) : Type 0 where

@@ -93,7 +93,7 @@ CantOpen old new BadReply = ⊥
 CantOpen old new (Status status) = ⊥
 
 -- the fault is counted and told, unless the count is full
-pub record Fails (old new : ConnectionValue) (fault : Fault) (e : FetchError) : Type 0 where
+pub record CountsFault (old new : ConnectionValue) (fault : Fault) (e : FetchError) : Type 0 where
   pub flow : new.flow ≡ old.flow
   pub broken : new.broken ≡ true
   pub failed : e ≡ Failed → (new.failures ≡ old.failures + 1) × (new.fault ≡ Some fault)

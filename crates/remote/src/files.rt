@@ -1,4 +1,6 @@
-ghost use Rattle.std.specs.Prelude.{◌≡◌, ◌≢◌, ◌≤◌, ℕ, List, IfErr, IfOk, Ok, OnOk, vec_len};
+ghost use Rattle.std.specs.Prelude.{◌≡◌, ◌⊎◌, ◌<◌, ◌≤◌, ℕ, List, length, vec_len, Ok, Err, OnOk};
+ghost use Rattle.std.specs.Prelude.{IfErr, IfOk, IfSome, IsErrAnd, IsOk};
+ghost use Rattle.std.specs.declared.string.String.{String};
 ghost use Rattle.remote.specs.Folder.{IsErrorOf, IsReadable, TellsFault, TellsUnreadable};
 
 use std::alloc::{AllocError, Allocator};
@@ -75,36 +77,35 @@ pub fn read_file<R: Files + Alloc<A = A>, A: Allocator + Copy>(
     ensures few { IfOk result (λ bytes. vec_len bytes ≤ GREATEST_FILE) }
     ensures error { IfErr result (IsErrorOf path.now) }
 {
-    let metadata = match fs::metadata(rt, path) {
-        Ok(metadata) => metadata,
-        Err(fault) => return Err(io_error(rt.alloc(), path, fault)?),
-    };
+    let metadata = answered(rt.alloc(), path, fs::metadata(rt, path))?;
     check_metadata(rt.alloc(), path, &metadata)?;
-    let bytes = match read_bytes(rt, path, metadata.len() as usize) {
-        Ok(bytes) => bytes,
-        Err(fault) => return Err(io_error(rt.alloc(), path, fault)?),
-    };
-    // The file may have grown since.
-    if bytes.len() as u64 > GREATEST_FILE {
-        let path = String::from_str(rt.alloc(), path)?;
-        return Err(FileError::TooLarge { path });
-    }
-    Ok(bytes)
+    let file = answered(rt.alloc(), path, fs::open(rt, path))?;
+    read_whole(rt.alloc(), path, file, &metadata)
 }
 
-/// The bytes of a file that was just of this length: with room for all of them at once, and one
-/// byte more, the read that finds its end needs no other. Of one that has grown past the limit no
-/// more is read than shows that.
-fn read_bytes<R: Files + Alloc<A = A>, A: Allocator>(
-    rt: &R,
+/// The bytes of an open file that just had this metadata: with room for all of them at once, and
+/// one byte more, the read that finds its end needs no other. Of one that has grown past the limit
+/// no more is read than shows that.
+fn read_whole<F: Read + Drop, A: Allocator + Copy>(
+    alloc: A,
     path: &str,
-    length: usize,
-) -> io::Result<Vec<u8, A>>
-    requires { length ≤ GREATEST_FILE }
+    file: F,
+    metadata: &fs::Metadata,
+) -> Result<Vec<u8, A>, FileError<A>>
+    requires { IsReadable metadata.now }
+    ensures whole { IfOk result (λ bytes. IfSome (F.remaining file) (λ all. bytes.items ≡ all)) }
+    ensures few { IfOk result (λ bytes. vec_len bytes ≤ GREATEST_FILE) }
+    ensures large { (p : String A) → result ≡ Err (FileError.TooLarge p)
+        → IfSome (F.remaining file) (λ all. GREATEST_FILE < length all) }
+    ensures error { IfErr result (IsErrorOf path.now) }
 {
-    let mut bytes = Vec::with_capacity(rt.alloc(), length + 1)?;
-    let mut file = fs::open(rt, path)?.take(GREATEST_FILE + 1);
-    file.read_to_end(&mut bytes)?;
+    let mut bytes = Vec::with_capacity(alloc, metadata.len() as usize + 1)?;
+    let mut front = file.take(GREATEST_FILE + 1);
+    answered(alloc, path, front.read_to_end(&mut bytes))?;
+    if bytes.len() as u64 > GREATEST_FILE {
+        let path = String::from_str(alloc, path)?;
+        return Err(FileError::TooLarge { path });
+    }
     Ok(bytes)
 }
 
@@ -115,6 +116,7 @@ fn check_metadata<A: Allocator>(
     metadata: &fs::Metadata,
 ) -> Result<(), FileError<A>>
     ensures readable { OnOk result (IsReadable metadata.now) }
+    ensures taken { IsReadable metadata.now → IsOk result }
     ensures error { IfErr result (TellsUnreadable path.now metadata.now) }
 {
     if !metadata.is_file() {
@@ -126,6 +128,22 @@ fn check_metadata<A: Allocator>(
         return Err(FileError::TooLarge { path });
     }
     Ok(())
+}
+
+/// What the system answered of the file at a path, or why it didn't.
+fn answered<A: Allocator, T: Drop>(
+    alloc: A,
+    path: &str,
+    call: io::Result<T>,
+) -> Result<T, FileError<A>>
+    ensures same { IfOk result (λ value. call ≡ Ok value) }
+    ensures fault { IfErr result (λ e. IsErrAnd call (λ fault.
+        (e ≡ FileError.Memory) ⊎ TellsFault path.now fault e)) }
+{
+    match call {
+        Ok(value) => Ok(value),
+        Err(fault) => Err(io_error(alloc, path, fault)?),
+    }
 }
 
 /// The error of a file.

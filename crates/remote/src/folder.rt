@@ -1,4 +1,4 @@
-ghost use Rattle.std.specs.Prelude.{◌≡◌, ◌≢◌, ◌+◌, ◌≤◌, IfErr, IfOk, IsErrOf, IsSomeAnd, None};
+ghost use Rattle.std.specs.Prelude.{◌≡◌, ◌≢◌, ◌⊎◌, ◌+◌, ◌≤◌, IfErr, IfOk, IsErrOf, IsSomeAnd, None};
 ghost use Rattle.std.specs.Prelude.{Ok, OnErr, Some};
 ghost use Rattle.std.specs.Prelude.{◌↔◌, IsTrue, codes, string_bytes};
 ghost use Rattle.blob_source.specs.Called.{Calls};
@@ -82,6 +82,8 @@ impl<'r, F: FileReader<A>, A: Allocator + Copy> Folder<'r, F, A> {
     fn fail(&mut self, error: FileError<A>) -> FetchError
         ensures kept { result ≡ FetchError.Failed → self.new.error ≡ Some error }
         ensures real { result ≡ FetchError.Failed → error ≢ errors.Memory }
+        ensures full { (result ≡ FetchError.Failed → ⊥)
+            → (error ≡ errors.Memory) ⊎ (self.old.failures ≡ greatest_count) }
         ensures counted { result ≡ FetchError.Failed → self.new.failures ≡ self.old.failures + 1 }
         ensures risen { self.old.failures ≤ self.new.failures }
         ensures bounded { self.new.failures ≤ greatest_count }
@@ -110,6 +112,7 @@ impl<'r, F: FileReader<A>, A: Allocator + Copy> Folder<'r, F, A> {
             (IsErrorOf (entry_path (string_bytes self.now.place) part.now digest.now)) }
         ensures fault { IfErr result (λ e. e ≢ errors.Memory
             → F.fails (entry_path (string_bytes self.now.place) part.now digest.now) e) }
+        ensures real { IfErr result (λ e. IsNotThere e → ⊥) }
     {
         let path = entry_path(alloc, self.place.as_str(), part, digest)?;
         answer_of(self.files.read_at(alloc, path.as_str()))
@@ -139,6 +142,8 @@ impl<'r, F: FileReader<A>, A: Allocator + Copy> Folder<'r, F, A> {
             (IsFaultAt (entry_path (string_bytes self.old.place) part.now digest.now)) }
         ensures fault { IsErrOf result FetchError.Failed → IsSomeAnd self.new.error
             (F.fails (entry_path (string_bytes self.old.place) part.now digest.now)) }
+        ensures real { IsErrOf result FetchError.Failed
+            → IsSomeAnd self.new.error (λ e. IsNotThere e → ⊥) }
         ensures counted { IsErrOf result FetchError.Failed
             → self.new.failures ≡ self.old.failures + 1 }
         ensures unfailed { (IsErrOf result FetchError.Failed → ⊥) → self.new ≡ self.old }

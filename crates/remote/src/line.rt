@@ -3,7 +3,7 @@ ghost use Rattle.blob_source.specs.Source.{bytes_of};
 ghost use Rattle.remote.specs.Line.{ExplainsMemory, IsReplied, Gets, Puts, RefusesRequest, get};
 ghost use Rattle.remote.specs.Line.{is_taken, line_of, put, request};
 ghost use Rattle.remote.specs.Reply.{reply_value};
-ghost use Rattle.remote.specs.Steps.{CantOpen, Fails, Opens, Starves};
+ghost use Rattle.remote.specs.Steps.{CantOpen, CountsFault, Opens, Starves};
 
 use crate::fault::{Fault, Refusal};
 use crate::reply::{Reply, exchange};
@@ -29,7 +29,7 @@ pub(crate) struct Line<S: Drop, A: Allocator> {
 impl<S: Stream + Drop, A: Allocator + Copy> Line<S, A> {
     /// Counts a failure. One whose count is full is lack of memory instead.
     fn fail(&mut self, fault: Fault) -> FetchError
-        ensures { Fails (line_of S.flow self.old) (line_of S.flow self.new) fault result }
+        ensures { CountsFault (line_of S.flow self.old) (line_of S.flow self.new) fault result }
     {
         self.broken = true;
         let _count = self.failures;
@@ -50,8 +50,8 @@ impl<S: Stream + Drop, A: Allocator + Copy> Line<S, A> {
         FetchError::Memory
     }
 
-    /// Opens the stream anew where the server has closed it. `Broken` where a reply has and it can't
-    /// be opened anew, and `Io` where that failed.
+    /// Opens the stream anew where the server has closed it. `Broken` where a reply has and it
+    /// can't be opened anew, and `Io` where that failed.
     fn open(&mut self) -> Result<(), Fault>
         ensures opened { OnOk result (Opens (line_of S.flow self.old) (line_of S.flow self.new)) }
         ensures unopened { IfErr result

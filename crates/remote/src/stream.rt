@@ -1,4 +1,5 @@
-ghost use Rattle.std.specs.Prelude.{◌≡◌, ◌↔◌, false, IfSome, IsTrue, MatchResult, OnErr, OnOk};
+ghost use Rattle.std.specs.Prelude.{◌≡◌, ◌↔◌, [], false, IfSome, IsTrue, MatchResult, OnErr, OnOk};
+ghost use Rattle.std.specs.Prelude.{Some};
 ghost use Rattle.std.specs.Io.{ReadsAtMost, WritesAtMost};
 ghost use Rattle.std.specs.Io.KnownBytes.{ReadConsumes, WriteAppends};
 ghost use Rattle.std.specs.IoError.{error_kind};
@@ -47,9 +48,9 @@ pub trait Stream {
         ensures err { OnErr result (StaysClosed (flow self.old) (flow self.new)) };
 }
 
-/// A socket, of whose bytes nothing is known. It doesn't know how to be opened anew.
+/// A socket, of whose bytes nothing is known. It isn't opened anew.
 impl Stream for TcpStream {
-    ghost flow = { λ _. unknown };
+    ghost flow = { λ _. record unknown { later = Some []; is_renewable = Some false } };
 
     fn receive(&mut self, buf: &mut [u8]) -> io::Result<usize> {
         self.read(buf)
