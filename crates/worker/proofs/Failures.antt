@@ -7,7 +7,6 @@ use Rattle.blob_source.specs.Called.{Calls}
 use Rattle.blob_source.specs.Source.{Telling}
 use Rattle.blob_source.specs.declared.source.FetchError.{FetchError}
 use Rattle.blob_source.specs.declared.source.FetchError.TheVariants as fetching
-use Rattle.blob_source.proofs.Asking.{ok_no_error}
 use Rattle.actions.specs.Outcome.{OutcomeValue}
 use Rattle.tree.specs.declared.error.TreeError.TheVariants as tree
 use Rattle.runs.specs.Calls.{IsFinishFault}
@@ -21,7 +20,7 @@ use Rattle.worker.specs.declared.laid.LayoutError.TheVariants as laying
 use Rattle.worker.specs.declared.runner.RunError.{RunError}
 use Rattle.worker.specs.declared.runner.RunError.TheVariants as children
 use Rattle.worker.specs.Stopped.{IsStoreFault}
-use Rattle.worker.specs.Counted.{Counts, IsFetch, IsDevice}
+use Rattle.worker.specs.Counted.{Counts, IsFetch, IsFailure, IsDevice}
 use Rattle.worker.specs.Refusals.{of_fetch}
 
 module _ {a b : ℕ} where
@@ -90,19 +89,13 @@ module _ {a b : ℕ} where
   counts_engine (runs.Conflict p) h = counts_no (λ e. cc) (λ f. f) h
   counts_engine (runs.Memory) h = counts_no (λ e. cc) (λ f. f) h
 
-  pub counts_run : {A T : Type 0} (e : RunError A) → (IsErrOf {T = T} (Err e) children.Device → b ≡ a + 1) → ((IsErrOf {T = T} (Err e) children.Device → ⊥) → b ≡ a) → Counts a b (IsDevice (refusals.Run e))
-  counts_run (children.Device) failed unfailed = record { failed = λ f. failed refl; unfailed = λ none. absurd (none tt) }
-  counts_run (children.NotAbsolute) failed unfailed = counts_same (λ f. f) (unfailed (λ e. cc))
-  counts_run (children.BadOutput p) failed unfailed = counts_same (λ f. f) (unfailed (λ e. cc))
-  counts_run (children.Memory) failed unfailed = counts_same (λ f. f) (unfailed (λ e. cc))
-
   -- whatever a child came to, no failure is forgotten
-  pub counts_risen : {A T : Type 0} (r : Result T (RunError A)) → (IsErrOf r children.Device → b ≡ a + 1) → ((IsErrOf r children.Device → ⊥) → b ≡ a) → a ≤ b
-  counts_risen (Ok x) failed unfailed = let same = unfailed ok_no_error in omega (arith, same)
-  counts_risen (Err children.Device) failed unfailed = let rises = failed refl in omega (arith, rises)
-  counts_risen (Err children.NotAbsolute) failed unfailed = let same = unfailed (λ e. cc) in omega (arith, same)
-  counts_risen (Err (children.BadOutput p)) failed unfailed = let same = unfailed (λ e. cc) in omega (arith, same)
-  counts_risen (Err children.Memory) failed unfailed = let same = unfailed (λ e. cc) in omega (arith, same)
+  pub counts_risen : {A T : Type 0} (r : Result T (RunError A)) → Counts a b (IsErrAnd r IsFailure) → a ≤ b
+  counts_risen (Ok x) h = let same = h.unfailed (λ f. f) in omega (arith, same)
+  counts_risen (Err (children.Device p cause)) h = let rises = h.failed tt in omega (arith, rises)
+  counts_risen (Err children.NotAbsolute) h = let same = h.unfailed (λ f. f) in omega (arith, same)
+  counts_risen (Err (children.BadOutput p)) h = let same = h.unfailed (λ f. f) in omega (arith, same)
+  counts_risen (Err children.Memory) h = let same = h.unfailed (λ f. f) in omega (arith, same)
 
 -- an engine that doesn't take an outcome asks no store
 pub finish_no_fetch : {A : Type 0} (e : EngineValue) (w : ℕ) (v : OutcomeValue) (why : RunsError A) → IsFinishFault e w v why → IsFetch (refusals.Engine why) → ⊥

@@ -1,6 +1,6 @@
 -- A build goes on.
 use Rattle.std.proofs.Common.{◌≡◌, ℕ, ◌+◌, ◌<◌, ◌≤◌, true, List, [], ◌∷◌, ◌++◌, append_assoc, append-nil, length, length-append, set, Some, None, refl, ap, sym, ◌∙◌, subst, arith, inl, inr}
-use Rattle.std.specs.Prelude.{◌⊎◌, ◌↔◌, Result, Ok, Err, IsErr, IsSome, OnOk, slice_get}
+use Rattle.std.specs.Prelude.{◌⊎◌, IsSome, slice_get}
 use Rattle.std.proofs.lemmas.List.{map-append}
 use Rattle.blob_digest.specs.Digest.{DigestValue}
 use Rattle.actions.specs.Outcome.{OutcomeValue}
@@ -9,7 +9,6 @@ use Rattle.blob_source.specs.Sink.{KeepsRight}
 use Rattle.runs.specs.Engine.{JobValue, EngineValue, finished_in, job_in}
 use Rattle.runs.specs.Calls.{IsStarted, without_job}
 use Rattle.runs.specs.declared.starting.Job.{Job}
-use Rattle.runs.proofs.Places.{some_none}
 use Rattle.verifier.proofs.FreshRuns.{one_answer}
 use Rattle.worker.specs.declared.child.Child.{Child}
 use Rattle.worker.specs.Layout.{IsLayoutOf}
@@ -458,13 +457,3 @@ begun {A} {J} {y} {may} {from} {to} {B} {s} {t} u {i} {old} {mid} {new} {job} {b
     by : IsLaunched y may from to t u job.id (job_value job) mid new before behind → IsLaunched y may from to s u job.id (job_value job) mid new before behind
     by (inl (c, id, child, same, grown)) = inl (c, id, record { own = child.own; started = child.started; none = λ v held fits. child.none v (held_kept kept held) fits }, same, grown)
     by (inr taken_at_once) = inr taken_at_once
-
-pub lose_goes : {T E : Type 0} (r : Result T E) (id : ℕ) (old new : EngineValue) (j : JobValue) → IsErr r ↔ (job_in id old ≡ None) → OnOk r (new ≡ without_job id old) → job_in id old ≡ Some j → new ≡ without_job id old
-lose_goes (Ok x) id old new j none gone at = gone
-lose_goes (Err x) id old new j none gone at = absurd (some_none (job_in id old) j at (none.0 refl))
-
-pub job_gone : {A T E : Type 0} {B : Blobs} {i : ℕ} {old mid now new : EngineValue} {job : Job A} (r : Result T E) → IsStarted B i old mid job → now ≡ mid
-    → IsErr r ↔ (job_in job.id now ≡ None) → OnOk r (new ≡ without_job job.id now) → new ≡ without_job job.id mid
-job_gone {A} {T} {E} {B} {i} {old} {mid} {now} {new} {job} r s same none gone =
-    let at : job_in job.id now ≡ Some (job_value job) = subst (λ (e : EngineValue). job_in job.id e ≡ Some (job_value job)) (sym same) (started_value s) in
-    lose_goes r job.id now new (job_value job) none gone at ∙ ap (without_job job.id) same

@@ -1,12 +1,16 @@
 -- Why a build ends at a step.
 use Rattle.std.proofs.Common.{◌≡◌, ◌<◌, ◌≤◌, ℕ, true, List, [], ◌∷◌, ◌++◌, append_assoc, append-nil, length, map, refl, sym, ap, ◌∙◌, subst, arith, inl, inr}
-use Rattle.std.specs.Prelude.{Result, Ok, Err, OnOk, OnErr, IfErr}
+use Rattle.std.specs.Prelude.{Result, Ok, Err, OnOk, OnErr, IfErr, IsErrOf, string_bytes}
+use Rattle.action_messages.specs.Command.{CommandValue}
+use Rattle.blob_digest.specs.Digest.{DigestValue}
+use Rattle.blob_source.specs.Sink.{HasRight}
 use Rattle.blob_source.specs.Source.{Blobs, Telling}
 use Rattle.plan.specs.Values.{PlanValue}
 use Rattle.runs.specs.Engine.{EngineValue, IsEngine}
 use Rattle.runs.specs.declared.starting.Job.{Job}
 use Rattle.worker.specs.declared.error.Refusal.{Refusal}
 use Rattle.worker.specs.declared.error.Refusal.TheVariants as refusals
+use Rattle.worker.specs.declared.runner.RunError.{RunError}
 use Rattle.worker.specs.declared.runner.RunError.TheVariants as children
 use Rattle.worker.specs.declared.error.BuildError.{BuildError}
 use Rattle.worker.specs.declared.child.Child.{Child}
@@ -14,11 +18,13 @@ use Rattle.worker.specs.declared.turns.Turn.{Turn}
 use Rattle.worker.specs.declared.turns.Turn.TheVariants as turns
 use Rattle.worker.specs.Calls.{Call, started, launched, ran, taken, lost, IsLost, Does, Leads}
 use Rattle.worker.specs.Going.{IsJobIn, job_value, IsGoing, IsBegun, IsTurn, EndedWell, HasEndedFirst, GoesOnBy, taken_in}
-use Rattle.worker.specs.Outcomes.{Yields, YieldsNoMore, MayComeTo}
+use Rattle.worker.specs.Counted.{TellsFailure}
+use Rattle.worker.specs.Layout.{IsLayoutOf}
+use Rattle.worker.specs.Outcomes.{Yields, YieldsFor, YieldsNoMore, MayComeTo}
 use Rattle.worker.specs.Stored.{IsKept}
 use Rattle.worker.specs.Stopped.{ComesTo, StopsStep, IsRefusedBuild, IsStoreFault}
 use Rattle.worker.specs.Stopping.{StopsChild, StopsCollecting, StopsEnd, StopsSettling, StopsBeginning}
-use Rattle.worker.specs.Values.{EndValue, made, bad_at, Starts, StartsNone}
+use Rattle.worker.specs.Values.{LayoutValue, EndValue, made, bad_at, failed, IsAbsolute, Starts, StartsNone}
 use Rattle.worker.proofs.Goes.{Ends, Went, on_by, few_jobs, going_kept, led_kept, going_ran, going_lost, led_started, going_back, going_begun, none_kept, none_lost, none_starts}
 use Rattle.worker.proofs.Started.{after, job_of, job_is}
 use Rattle.worker.proofs.Taking.{loses_none}
@@ -32,15 +38,32 @@ module _ {A : Type 0} (y : Yields) (t : Telling) (e : EngineValue) where
   store_stops i refusals.Fetch h = tt
   store_stops i refusals.Memory h = tt
 
-  pub child_stops : (job : Job A) → IsJobIn e job → (r : Refusal A) → StopsChild t.blobs job.action.input job.command r → StopsStep y t e job.step r
-  child_stops job is (refusals.Engine why) h = absurd h
-  child_stops job is (refusals.Layout why) h = (job.id, job_value job, is.there, refl, h)
-  child_stops job is (refusals.Run children.NotAbsolute) h = (job.command, is.command, h)
-  child_stops job is (refusals.Run children.Device) h = (job.id, job_value job, is.there, refl, tt)
-  child_stops job is (refusals.Run (children.BadOutput path)) h = absurd h
-  child_stops job is (refusals.Run children.Memory) h = tt
-  child_stops job is refusals.Fetch h = tt
-  child_stops job is refusals.Memory h = tt
+  pub child_stops : (job : Job A) → IsJobIn e job → HasRight t.blobs job.digest → (r : Refusal A) → StopsChild y t.blobs job.action.input job.command r → StopsStep y t e job.step r
+  child_stops job is right (refusals.Engine why) h = absurd h
+  child_stops job is right (refusals.Layout why) h = (job.id, job_value job, is.there, refl, h)
+  child_stops job is right (refusals.Run children.NotAbsolute) h = (job.command, is.command, h)
+  child_stops job is right (refusals.Run (children.Device program cause)) (l, laid, may) =
+      (job.id, job_value job, is.there, refl, record { layout = l; laid = laid; command = job.command; of_step = is.command; may = may; action = right })
+  child_stops job is right (refusals.Run (children.BadOutput path)) h = absurd h
+  child_stops job is right (refusals.Run children.Memory) h = tt
+  child_stops job is right refusals.Fetch h = tt
+  child_stops job is right refusals.Memory h = tt
+
+-- what a runner told of a start that it refused, and of a child
+module _ {A T : Type 0} where
+  pub start_stops : (y z : Yields) (B : Blobs) (input : DigestValue) (c : CommandValue) (l : LayoutValue) (e : RunError A) → IsLayoutOf B input l → YieldsNoMore z y → (IsErrOf {T = T} (Err e) children.NotAbsolute → IsAbsolute c → ⊥)
+      → ((path : List (List ℕ)) → IsErrOf {T = T} (Err e) (children.BadOutput path) → ⊥) → TellsFailure (YieldsFor z l c) e → StopsChild y B input c (refusals.Run e)
+  start_stops y z B input c l children.NotAbsolute laid within refused bad told = refused refl
+  start_stops y z B input c l (children.Device program cause) laid within refused bad told = (l, laid, (within l c (failed (string_bytes program) cause) told.0, told.1))
+  start_stops y z B input c l (children.BadOutput path) laid within refused bad told = absurd (bad path refl)
+  start_stops y z B input c l children.Memory laid within refused bad told = tt
+
+  pub end_comes : (may : EndValue → Type 0) (e : RunError A) → (IsErrOf {T = T} (Err e) children.NotAbsolute → ⊥) → ((path : List (List ℕ)) → IsErrOf {T = T} (Err e) (children.BadOutput path) → may (bad_at path))
+      → TellsFailure may e → StopsCollecting may (refusals.Run e)
+  end_comes may children.NotAbsolute absolute bad told = absurd (absolute refl)
+  end_comes may (children.Device program cause) absolute bad told = told
+  end_comes may (children.BadOutput path) absolute bad told = bad path refl
+  end_comes may children.Memory absolute bad told = tt
 
 pub collecting_stops : {A J : Type 0} (may : J → EndValue → Type 0) (B : Blobs) (c : Child J) (e : EngineValue) (r : Refusal A) → StopsCollecting (may c.job) r → StopsEnd may B c e r
 collecting_stops may B c e (refusals.Engine why) h = absurd h
@@ -59,7 +82,7 @@ stops_within z y t e i (refusals.Engine why) within (inr (id, j, at, step, (v, c
     by (inr h) = inr h
 stops_within z y t e i (refusals.Layout why) within h = h
 stops_within z y t e i (refusals.Run children.NotAbsolute) within h = h
-stops_within z y t e i (refusals.Run children.Device) within h = h
+stops_within z y t e i (refusals.Run (children.Device program cause)) within (id, j, at, step, h) = (id, j, at, step, end_still e e within (λ d b at right. at) refl j (failed (string_bytes program) cause) h)
 stops_within z y t e i (refusals.Run (children.BadOutput path)) within (id, j, at, step, h) = (id, j, at, step, end_still e e within (λ d b at right. at) refl j (bad_at path) h)
 stops_within z y t e i (refusals.Run children.Memory) within h = tt
 stops_within z y t e i refusals.Fetch within h = tt
@@ -122,7 +145,7 @@ module _ (A J : Type 0) (y : Yields) (may : J → EndValue → Type 0) (from a b
         inr (c.id, f.jobs.0, f.jobs.1, f.jobs.2.of_child.step, (p.outcome, inl (record { produced = p; outcome = refl; may = ends k (made p) came; blobs = blobs; trees = trees }), fault))
     end_stops k (refusals.Layout why) h = absurd h
     end_stops k (refusals.Run children.NotAbsolute) h = absurd h
-    end_stops k (refusals.Run children.Device) h = (c.id, f.jobs.0, f.jobs.1, f.jobs.2.of_child.step, tt)
+    end_stops k (refusals.Run (children.Device program cause)) h = (c.id, f.jobs.0, f.jobs.1, f.jobs.2.of_child.step, ends k (failed (string_bytes program) cause) h)
     end_stops k (refusals.Run (children.BadOutput path)) h = (c.id, f.jobs.0, f.jobs.1, f.jobs.2.of_child.step, ends k (bad_at path) h)
     end_stops k (refusals.Run children.Memory) h = tt
     end_stops k refusals.Fetch h = tt

@@ -25,9 +25,9 @@ use Rattle.runs.proofs.Places.{set_other}
 use Rattle.verifier.proofs.FreshRuns.{one_answer}
 use Rattle.worker.specs.Storing.{HasAt, IsKeptBut, HasResultOf, IsResultOfStep, IsForForm, StoresStep, StoresSteps, IsHeldWhole}
 use Rattle.worker.specs.Calls.{IsResultFor}
-use Rattle.worker.specs.Outcomes.{directories_of, HasTree, HasTrees}
+use Rattle.worker.specs.Outcomes.{HasTree, HasTrees}
 use Rattle.worker.specs.Stored.{IsKept, IsToldOrTree, IsStored}
-use Rattle.worker.proofs.Keeping.{right_still, all_right_still, same_bytes, same_digest}
+use Rattle.worker.proofs.Keeping.{right_still, same_bytes, same_digest}
 use Rattle.worker.proofs.Telling.{recorded_still, trees_still}
 
 -- ---- one form

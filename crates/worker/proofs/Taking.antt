@@ -1,6 +1,6 @@
 -- A turn that is taken goes on.
-use Rattle.std.proofs.Common.{◌≡◌, ℕ, ◌+◌, ◌-◌, ◌<◌, ◌≤◌, List, [], ◌∷◌, ◌++◌, append_assoc, append-nil, length, map, Some, None, refl, ap, sym, ◌∙◌, subst, arith, inl, inr}
-use Rattle.std.specs.Prelude.{◌↔◌, Result, Ok, Err, IsErr, OnOk, OnErr}
+use Rattle.std.proofs.Common.{◌≡◌, ℕ, ◌+◌, ◌-◌, ◌<◌, ◌≤◌, List, [], ◌∷◌, ◌++◌, append_assoc, append-nil, length, map, Some, refl, ap, sym, ◌∙◌, subst, arith, inl, inr}
+use Rattle.std.specs.Prelude.{Result, Ok, Err, OnOk, OnErr}
 use Rattle.std.proofs.lemmas.List.{map-append}
 use Rattle.blob_source.specs.Source.{Telling}
 use Rattle.blob_source.specs.Sink.{HasRight, KeepsRight}
@@ -19,7 +19,7 @@ use Rattle.worker.proofs.Started.{after}
 use Rattle.worker.proofs.Keeping.{kept_none, kept_as, kept_then, right_still, all_right_still}
 use Rattle.worker.proofs.Storing.{result_for, steps_kept, steps_taken, steps_ran}
 use Rattle.worker.proofs.Telling.{trees_still}
-use Rattle.worker.proofs.Goes.{Ends, few_jobs, going_lost, lose_goes, puts_ended}
+use Rattle.worker.proofs.Goes.{Ends, few_jobs, going_lost, puts_ended}
 
 ends_right : {J : Type 0} (may : J → EndValue → Type 0) (t u : Telling) (c : Child J) (now new : EngineValue) → Ends may t u c now new → KeepsRight t.blobs u.blobs
 ends_right may t u c now new (inl e) = e.kept.blobs
@@ -55,11 +55,8 @@ module _ {A : Type 0} {y : Yields} {t : Telling} {most : ℕ} where
 
 -- a child is waited for and its job is lost
 module _ {J : Type 0} (now new : EngineValue) (c : Child J) (cs ds : List (Child J)) (is : cs ≡ c ∷ ds) (jobs : AreJobsOf IsJobOf now.jobs cs) where
-  jobs_now : AreJobsOf IsJobOf now.jobs (c ∷ ds)
+  pub jobs_now : AreJobsOf IsJobOf now.jobs (c ∷ ds)
   jobs_now = subst (AreJobsOf IsJobOf now.jobs) is jobs
-
-  pub lost_child : {T E : Type 0} (r : Result T E) → IsErr r ↔ (job_in c.id now ≡ None) → OnOk r (new ≡ without_job c.id now) → new ≡ without_job c.id now
-  lost_child r none gone = lose_goes r c.id now new jobs_now.0 none gone jobs_now.1
 
   pub lost_jobs : new ≡ without_job c.id now → AreJobsOf IsJobOf new.jobs ds
   lost_jobs gone = subst (λ (e : EngineValue). AreJobsOf IsJobOf e.jobs ds) (sym gone) jobs_now.3
@@ -100,10 +97,6 @@ no_child (x ∷ xs) jobs one few = absurd (omega (arith, one, few))
 pub on_ok : {T E : Type 0} {X : Type 0} (r : Result T E) → X → OnOk r X
 on_ok (Ok y) x = x
 on_ok (Err y) x = tt
-
--- a job that runs is lost
-pub lost_job : {T E : Type 0} (mid : EngineValue) (id : ℕ) (old new : EngineValue) (j : JobValue) (r : Result T E) → mid ≡ old → IsErr r ↔ (job_in id mid ≡ None) → OnOk r (new ≡ without_job id mid) → job_in id old ≡ Some j → new ≡ without_job id old
-lost_job mid id old new j r same none gone at = lose_goes r id mid new j none gone (subst (λ (e : EngineValue). job_in id e ≡ Some j) (sym same) at) ∙ ap (without_job id) same
 
 -- ---- what the store has
 

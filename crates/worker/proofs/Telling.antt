@@ -103,7 +103,7 @@ module _ {y z : Yields} {B C : Blobs} (old new : EngineValue) (within : YieldsNo
     laid = layout_still keeps h.laid;
     command = h.command;
     of_step = ap (λ cs. slice_get cs j.step) same ∙ h.of_step;
-    may = within h.layout h.command end h.may;
+    may = (within h.layout h.command end h.may.0, h.may.1);
     action = right_still keeps h.action;
   }
 
@@ -122,7 +122,7 @@ module _ {y z : Yields} {B C : Blobs} (old new : EngineValue) (within : YieldsNo
     laid = layout_still keeps h.laid;
     command = h.command;
     of_step = ap (λ cs. slice_get cs j.step) same ∙ h.of_step;
-    may_come = λ end may_end. within h.layout h.command end (h.may_come end may_end);
+    may_come = λ end may_end. let comes = h.may_come end may_end in (within h.layout h.command end comes.0, comes.1);
     action = right_still keeps h.action;
   }
 

@@ -1,11 +1,13 @@
--- Of which refusals a count tells.
-use Rattle.std.specs.Prelude.{◌≡◌, ◌+◌, ℕ}
+-- Of which refusals a count tells, and what is told of a process that failed.
+use Rattle.std.specs.Prelude.{◌≡◌, ◌+◌, ℕ, string_bytes}
 use Rattle.runs.specs.declared.error.RunsError.TheVariants as runs
 use Rattle.tree.specs.declared.error.TreeError.TheVariants as tree
 use Rattle.worker.specs.declared.error.Refusal.{Refusal}
 use Rattle.worker.specs.declared.error.Refusal.TheVariants as refusals
 use Rattle.worker.specs.declared.laid.LayoutError.TheVariants as laying
+use Rattle.worker.specs.declared.runner.RunError.{RunError}
 use Rattle.worker.specs.declared.runner.RunError.TheVariants as children
+use Rattle.worker.specs.Values.{EndValue, failed}
 
 -- a count rose, by one, exactly where the answer says that something failed
 pub record Counts (before after : ℕ) (fails : Type 0) : Type 0 where
@@ -20,6 +22,15 @@ IsFetch (refusals.Layout (laying.Source tree.Fetch)) = Unit {0}
 IsFetch r = ⊥
 
 -- the runner failed
+abbrev pub IsFailure : {A : Type 0} → RunError A → Type 0
+IsFailure (children.Device program cause) = Unit {0}
+IsFailure e = ⊥
+
 abbrev pub IsDevice : {A : Type 0} → Refusal A → Type 0
-IsDevice (refusals.Run children.Device) = Unit {0}
+IsDevice (refusals.Run e) = IsFailure e
 IsDevice r = ⊥
+
+-- a failure, if the error tells of one, is one that may be: its program and its cause
+abbrev pub TellsFailure : {A : Type 0} → (EndValue → Type 0) → RunError A → Type 0
+TellsFailure May (children.Device program cause) = May (failed (string_bytes program) cause)
+TellsFailure May e = Unit {0}

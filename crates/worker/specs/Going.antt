@@ -18,8 +18,7 @@ use Rattle.worker.specs.Layout.{IsLayoutOf}
 use Rattle.worker.specs.Values.{LayoutValue, ProducedValue, EndValue, made, Starts, StartsOne}
 use Rattle.worker.specs.Values.{StartsNone}
 use Rattle.worker.specs.Storing.{IsKeptBut, HasResultOf, IsHeldWhole}
-use Rattle.worker.specs.Outcomes.{Yields, HasAllRight, HasTrees, IsHeld, CanBeTaken}
-use Rattle.worker.specs.Stored.{IsKept}
+use Rattle.worker.specs.Outcomes.{Yields, YieldsFor, HasAllRight, HasTrees, IsHeld, CanBeTaken}
 use Rattle.worker.specs.Calls.{running, Call, WasStarted, IsBuiltWith, IsResultFor}
 use Rattle.worker.specs.Calls.{IsStartable}
 use Rattle.worker.specs.Watching.{taken_count, jobs_after}
@@ -45,7 +44,7 @@ pub record IsOwed (yields : Yields) (may : EndValue → Type 0) (B : Blobs) (e :
   pub laid : IsLayoutOf B j.input layout
   pub command : CommandValue
   pub of_step : slice_get e.commands j.step ≡ Some command
-  pub may_come : (end : EndValue) → may end → yields layout command end
+  pub may_come : (end : EndValue) → may end → YieldsFor yields layout command end
   pub action : HasRight B j.action
 
 -- the job is the child's, and what may come of the child is owed to it

@@ -14,7 +14,7 @@ use Rattle.blob_source.specs.Source.{Blobs, Telling}
 use Rattle.blob_source.specs.Sink.{HasRight}
 use Rattle.tree.specs.Tree.{Name}
 use Rattle.runs.specs.Engine.{JobValue, EngineValue}
-use Rattle.worker.specs.Values.{LayoutValue, ProducedValue, EndValue, made}
+use Rattle.worker.specs.Values.{LayoutValue, ProducedValue, EndValue, made, IsOf, program_of}
 use Rattle.worker.specs.Layout.{IsLayoutOf}
 
 -- what a runner may make of a layout and a command
@@ -26,6 +26,10 @@ abbrev pub YieldsNoMore : Yields → Yields → Type 0
 YieldsNoMore some all =
     (l : LayoutValue) (c : CommandValue) (e : EndValue) → some l c e → all l c e
 
+-- a runner yields this for the layout and the command, of whose program a failure is
+abbrev pub YieldsFor : Yields → LayoutValue → CommandValue → EndValue → Type 0
+YieldsFor yields l c e = yields l c e × IsOf (program_of c) e
+
 -- A job's child may come to this: the runner yields it for the layout that is told under the root
 -- of the job's input, and for the command of the job's step. The job's action is in the store.
 pub record MayComeTo (yields : Yields) (B : Blobs) (e : EngineValue) (j : JobValue) (end : EndValue)
@@ -34,7 +38,7 @@ pub record MayComeTo (yields : Yields) (B : Blobs) (e : EngineValue) (j : JobVal
   pub laid : IsLayoutOf B j.input layout
   pub command : CommandValue
   pub of_step : slice_get e.commands j.step ≡ Some command
-  pub may : yields layout command end
+  pub may : YieldsFor yields layout command end
   pub action : HasRight B j.action
 
 -- bytes with each blob's digest stand under it

@@ -10,6 +10,8 @@ use Rattle.tree.specs.Tree.{Name, Standing, a_leaf, a_directory}
 use Rattle.tree.specs.Form.{NodeValue}
 use Rattle.tree.specs.FlatTree.{FlatValue}
 use Rattle.tree.specs.TreeError.{Explains, FailsBlob}
+use Rattle.tree.specs.declared.error.TreeError.{TreeError}
+use Rattle.tree.specs.declared.error.TreeError.TheVariants as tree
 use Rattle.tree.specs.Unfolded.{IsUnfolded, ExplainsUnfold}
 use Rattle.worker.specs.declared.error.Refusal.{Refusal}
 use Rattle.worker.specs.declared.error.Refusal.TheVariants as refusals
@@ -21,6 +23,10 @@ abbrev pub of_fetch : {A : Type 0} → FetchError → Refusal A
 of_fetch fetching.Failed = refusals.Fetch
 of_fetch fetching.Memory = refusals.Memory
 
+abbrev pub of_tree : {A : Type 0} → TreeError A → LayoutError A
+of_tree tree.Memory = laying.Memory
+of_tree e = laying.Source e
+
 -- ---- why nothing is laid out
 
 -- an entry that is laid out: a directory, or a file whose content is told
@@ -28,11 +34,11 @@ abbrev pub IsLaid : Blobs → Standing NodeValue → Type 0
 IsLaid B s = (s ≡ a_directory) ⊎ ((b : List ℕ) × IsFileWith B b s)
 
 -- why one isn't: it is a link, or a file whose content isn't fetched
-abbrev pub FailsEntry : {A : Type 0} → Blobs → List Name → Standing NodeValue → LayoutError A
+abbrev pub FailsToLay : {A : Type 0} → Blobs → List Name → Standing NodeValue → LayoutError A
     → Type 0
-FailsEntry B p (a_leaf (nodes.File d x)) (laying.Source e) = Explains (FailsBlob B d) e
-FailsEntry B p (a_leaf (nodes.Link t)) (laying.LinkInput q) = q ≡ p
-FailsEntry B p s e = ⊥
+FailsToLay B p (a_leaf (nodes.File d x)) (laying.Source e) = Explains (FailsBlob B d) e
+FailsToLay B p (a_leaf (nodes.Link t)) (laying.LinkInput q) = q ≡ p
+FailsToLay B p s e = ⊥
 
 -- an entry isn't laid out, and all before it are
 pub record StopsAt {A : Type 0} (B : Blobs) (entries : FlatValue) (e : LayoutError A)
@@ -43,7 +49,7 @@ pub record StopsAt {A : Type 0} (B : Blobs) (entries : FlatValue) (e : LayoutErr
   pub left : FlatValue
   pub whole : entries ≡ done ++ (path, standing) ∷ left
   pub laid : AllByRecursion (λ entry. IsLaid B entry.1) done
-  pub fails : FailsEntry B path standing e
+  pub fails : FailsToLay B path standing e
 
 -- Why entries aren't laid out: the first that isn't, unless memory ran out.
 abbrev pub StopsLayout : {A : Type 0} → Blobs → FlatValue → LayoutError A → Type 0

@@ -1,5 +1,6 @@
 -- Why a build ends at a step.
 use Rattle.std.specs.Prelude.{◌≡◌, ◌⊎◌, ◌<◌, ◌++◌, ℕ, List, length, map, Some, slice_get}
+use Rattle.std.specs.Prelude.{string_bytes}
 use Rattle.action_messages.specs.Command.{CommandValue}
 use Rattle.actions.specs.Outcome.{OutcomeValue}
 use Rattle.blob_source.specs.Source.{Telling}
@@ -11,7 +12,7 @@ use Rattle.worker.specs.declared.runner.RunError.TheVariants as children
 use Rattle.worker.specs.Calls.{Call, lost, Leads, IsLed, IsStartable}
 use Rattle.worker.specs.Outcomes.{Yields, MayComeTo, IsYielded, CanBeTakenFor}
 use Rattle.worker.specs.Refusals.{IsLayoutFault}
-use Rattle.worker.specs.Values.{IsAbsolute, bad_at}
+use Rattle.worker.specs.Values.{IsAbsolute, bad_at, failed}
 
 -- what a job finishes with: what the runner yields for it, or what is taken from the store for it
 abbrev pub ComesTo : Yields → Telling → EngineValue → JobValue → OutcomeValue → Type 0
@@ -23,9 +24,9 @@ HasJobOf e i Is = (id : ℕ) × (j : JobValue) × (job_in id e ≡ Some j) × (j
 
 -- A step is refused: the engine doesn't start it, though it could be, or doesn't take what its job
 -- came to; or the input of its job isn't laid out; or its command doesn't name its program from the
--- root; or its job's child may come to nothing, as what stands at this path is no output. Of a
--- runner that failed it is said that a job of the step ran. That the store failed, and that memory
--- ran out, needs no reason here.
+-- root; or its job's child may come to nothing, as what stands at this path is no output, or as the
+-- process of this program fails by this cause. That the store failed, and that memory ran out, needs
+-- no reason here.
 abbrev pub StopsStep : {A : Type 0} → Yields → Telling → EngineValue → ℕ → Refusal A → Type 0
 StopsStep yields t e i (refusals.Engine why) = (IsStartable e i × IsStartFault t.blobs e i why)
     ⊎ HasJobOf e i (λ id j.
@@ -34,7 +35,8 @@ StopsStep yields t e i (refusals.Layout why) =
     HasJobOf e i (λ id j. IsLayoutFault t.blobs j.input why)
 StopsStep yields t e i (refusals.Run children.NotAbsolute) =
     (c : CommandValue) × (slice_get e.commands i ≡ Some c) × (IsAbsolute c → ⊥)
-StopsStep yields t e i (refusals.Run children.Device) = HasJobOf e i (λ id j. Unit {0})
+StopsStep yields t e i (refusals.Run (children.Device program cause)) =
+    HasJobOf e i (λ id j. MayComeTo yields t.blobs e j (failed (string_bytes program) cause))
 StopsStep yields t e i (refusals.Run (children.BadOutput path)) =
     HasJobOf e i (λ id j. MayComeTo yields t.blobs e j (bad_at path))
 StopsStep yields t e i (refusals.Run children.Memory) = Unit {0}

@@ -1,38 +1,34 @@
 -- Why a turn of a build is refused: words of private functions.
-use Rattle.std.specs.Prelude.{◌≡◌, ◌⊎◌, ℕ}
+use Rattle.std.specs.Prelude.{◌≡◌, ◌⊎◌, ℕ, string_bytes}
 use Rattle.blob_digest.specs.Digest.{DigestValue}
 use Rattle.action_messages.specs.Command.{CommandValue}
 use Rattle.blob_source.specs.Source.{Blobs, Telling}
 use Rattle.runs.specs.Engine.{EngineValue}
 use Rattle.runs.specs.Calls.{IsFinishFault, without_job}
-use Rattle.tree.specs.TreeError.{Explains, FailsBlob}
 use Rattle.worker.specs.declared.error.Refusal.{Refusal}
 use Rattle.worker.specs.declared.error.Refusal.TheVariants as refusals
-use Rattle.worker.specs.declared.laid.LayoutError.{LayoutError}
-use Rattle.worker.specs.declared.laid.LayoutError.TheVariants as laying
 use Rattle.worker.specs.declared.runner.RunError.TheVariants as children
 use Rattle.worker.specs.declared.child.Child.{Child}
 use Rattle.worker.specs.Calls.{IsLost, WasStarted}
 use Rattle.worker.specs.Going.{EndedWell}
-use Rattle.worker.specs.Outcomes.{Yields, HasAllRight, HasTrees}
+use Rattle.worker.specs.Layout.{IsLayoutOf}
+use Rattle.worker.specs.Outcomes.{Yields, YieldsFor, HasAllRight, HasTrees}
 use Rattle.worker.specs.Refusals.{IsLayoutFault}
 use Rattle.worker.specs.Stopped.{StopsStep, IsStoreFault}
 use Rattle.worker.specs.Stored.{IsKept}
-use Rattle.worker.specs.Values.{ProducedValue, EndValue, made, bad_at, IsAbsolute}
-
--- why a blob isn't fetched: it isn't told, unless the source failed or memory ran out
-abbrev pub IsContentFault : {A : Type 0} → Blobs → DigestValue → LayoutError A → Type 0
-IsContentFault B d (laying.Source e) = Explains (FailsBlob B d) e
-IsContentFault B d (laying.LinkInput p) = ⊥
-IsContentFault B d laying.Memory = Unit {0}
+use Rattle.worker.specs.Values.{LayoutValue, ProducedValue, EndValue, made, bad_at, failed}
+use Rattle.worker.specs.Values.{IsAbsolute}
 
 -- why a child isn't started for an input and a command
-abbrev pub StopsChild : {A : Type 0} → Blobs → DigestValue → CommandValue → Refusal A → Type 0
-StopsChild B input c (refusals.Engine why) = ⊥
-StopsChild B input c (refusals.Layout why) = IsLayoutFault B input why
-StopsChild B input c (refusals.Run children.NotAbsolute) = IsAbsolute c → ⊥
-StopsChild B input c (refusals.Run (children.BadOutput path)) = ⊥
-StopsChild B input c r = Unit {0}
+abbrev pub StopsChild : {A : Type 0} → Yields → Blobs → DigestValue → CommandValue → Refusal A
+    → Type 0
+StopsChild yields B input c (refusals.Engine why) = ⊥
+StopsChild yields B input c (refusals.Layout why) = IsLayoutFault B input why
+StopsChild yields B input c (refusals.Run children.NotAbsolute) = IsAbsolute c → ⊥
+StopsChild yields B input c (refusals.Run (children.BadOutput path)) = ⊥
+StopsChild yields B input c (refusals.Run (children.Device program cause)) = (l : LayoutValue)
+    × IsLayoutOf B input l × YieldsFor yields l c (failed (string_bytes program) cause)
+StopsChild yields B input c r = Unit {0}
 
 -- why a child comes to nothing that is collected
 abbrev pub StopsCollecting : {A : Type 0} → (EndValue → Type 0) → Refusal A → Type 0
@@ -40,6 +36,8 @@ StopsCollecting may (refusals.Engine why) = ⊥
 StopsCollecting may (refusals.Layout why) = ⊥
 StopsCollecting may (refusals.Run children.NotAbsolute) = ⊥
 StopsCollecting may (refusals.Run (children.BadOutput path)) = may (bad_at path)
+StopsCollecting may (refusals.Run (children.Device program cause)) =
+    may (failed (string_bytes program) cause)
 StopsCollecting may r = Unit {0}
 
 -- why the job of a child doesn't finish: the engine doesn't take what the child came to, or it came

@@ -3,6 +3,7 @@ use Rattle.std.specs.Prelude.{◌≡◌, ℕ, List, [], ◌∷◌, ◌++◌, map
 use Rattle.std.specs.declared.vec.Vec.{Vec}
 use Rattle.action_messages.specs.Command.{CommandValue}
 use Rattle.actions.specs.Outcome.{OutcomeValue}
+use Rattle.worker.specs.declared.failure.Cause.{Cause}
 
 -- folders and files with their contents, by paths
 pub record LayoutValue : Type 0 where
@@ -14,10 +15,12 @@ pub record ProducedValue : Type 0 where
   pub outcome : OutcomeValue
   pub blobs : List (List ℕ)
 
--- what comes of a child: an outcome with its blobs; or none, as what stands at a path is no output
+-- what comes of a child: an outcome with its blobs; or none, as what stands at a path is no output,
+-- or as the process of this program failed by this cause
 pub data EndValue : Type 0 where
   made : (p : ProducedValue) → EndValue
   bad_at : (path : List (List ℕ)) → EndValue
+  failed : (program : List ℕ) (cause : Cause) → EndValue
 
 -- a child that is started: what is laid out for it, and its command
 pub record StartValue : Type 0 where
@@ -50,3 +53,16 @@ blobs_of blobs = map (λ b. b.items) blobs
 -- the command names its program by a path from the root of the file system
 abbrev pub IsAbsolute : CommandValue → Type 0
 IsAbsolute c = (text : List ℕ) × (rest : List (List ℕ)) × (c.arguments ≡ (47 ∷ text) ∷ rest)
+
+-- the command's program, its first word
+abbrev pub first_word : List (List ℕ) → List ℕ
+first_word [] = []
+first_word (program ∷ arguments) = program
+
+abbrev pub program_of : CommandValue → List ℕ
+program_of c = first_word c.arguments
+
+-- a failure is one of this program
+abbrev pub IsOf : List ℕ → EndValue → Type 0
+IsOf program (failed p cause) = p ≡ program
+IsOf program e = Unit {0}

@@ -5,13 +5,14 @@ ghost use Rattle.worker.specs.Counted.{Counts, IsDevice, IsFetch};
 ghost use Rattle.worker.specs.Stored.{IsKept};
 ghost use Rattle.worker.specs.Storing.{Remembers, WerePut};
 ghost use Rattle.worker.specs.Calls.{IsStartable};
-ghost use Rattle.worker.specs.Outcomes.{YieldsNoMore};
+ghost use Rattle.worker.specs.Outcomes.{YieldsFor, YieldsNoMore};
 ghost use Rattle.worker.specs.Values.{LayoutValue, EndValue, StartsNone, StartsOne};
 ghost use Rattle.worker.specs.Going.{IsJobIn, job_value, IsBegun, IsLaunched};
 ghost use Rattle.worker.specs.Stopping.{StopsChild, StopsBeginning};
 ghost use Rattle.worker.specs.Stopped.{StopsStep};
 
 use crate::child::Child;
+use crate::ending::lose;
 use crate::error::{BuildError, Refusal};
 use crate::laying_out::layout;
 use crate::putting::{put_input, put_trees};
@@ -34,11 +35,12 @@ fn start_child<A: Allocator + Copy, S: BlobSink<A>, N: Runner<A>>(
     ensures kept { IsKept (S.tells sink.old) (S.tells sink.new) }
     ensures owed { IfOk result (λ child. (l : LayoutValue)
         × IsLayoutOf (S.tells sink.new).blobs job.now.action.input l
-        × ((e : EndValue) → N.may_give child e → N.yields runner.old l job.now.command e)
+        × ((e : EndValue) → N.may_give child e
+        → YieldsFor (N.yields runner.old) l job.now.command e)
         × StartsOne (N.starts runner.old) (N.starts runner.new)
         (record { layout = l; command = job.now.command })) }
     ensures unlisted { OnErr result (StartsNone (N.starts runner.old) (N.starts runner.new)) }
-    ensures refused { IfErr result (StopsChild (S.tells sink.new).blobs
+    ensures refused { IfErr result (StopsChild (N.yields runner.old) (S.tells sink.new).blobs
         job.now.action.input job.now.command) }
     ensures same { YieldsNoMore (N.yields runner.new) (N.yields runner.old) }
     ensures opened { OnOk result (N.alive runner.new ≡ N.alive runner.old + 1) }
@@ -144,7 +146,7 @@ pub(crate) fn begin<A: Allocator + Copy, S: BlobSink<A>, N: Runner<A>>(
     match launch(alloc, engine, sink, runner, put, children, &job) {
         Ok(()) => Ok(()),
         Err(refusal) => {
-            let _ = engine.lose(job.id);
+            lose(engine, job.id);
             Err(BuildError { step, refusal })
         }
     }

@@ -14,6 +14,7 @@ ghost use Rattle.worker.specs.Watching.{IsProgress, IsUpToDate, IsWatched};
 
 use crate::child::Child;
 use crate::counting::{before_turn, first_progress, progress_after};
+use crate::ending::lose;
 use crate::error::BuildError;
 use crate::remembering::Remembered;
 use crate::runner::Runner;
@@ -49,7 +50,7 @@ fn end_all<A: Allocator + Copy, N: Runner<A>>(
     while let Some(child) = rest.pop_front() {
         let Child { id, job, .. } = child;
         let _ = runner.finish(alloc, job);
-        let _ = engine.lose(id);
+        lose(engine, id);
     }
 }
 

@@ -1,4 +1,5 @@
 ghost use Rattle.std.specs.Prelude.{◌≡◌, ◌+◌, ◌-◌, ◌<◌, Some, IfErr, IfOk, OnOk, OnErr, length};
+ghost use Rattle.runs.specs.Calls.{without_job};
 ghost use Rattle.runs.specs.Engine.{JobValue, job_in};
 ghost use Rattle.std.specs.Result.{IsErrAnd};
 ghost use Rattle.worker.specs.Counted.{Counts, IsDevice, IsFetch};
@@ -19,6 +20,17 @@ use runs::{Engine, Job};
 use std::alloc::Allocator;
 use std::collections::VecDeque;
 use tree::BlobSink;
+
+/// Loses a job that runs.
+pub(crate) fn lose<A: Allocator + Copy>(engine: &mut Engine<'_, A>, id: u64)
+    requires { (j : JobValue) × (job_in id engine.old ≡ Some j) }
+    ensures { engine.new ≡ without_job id engine.old }
+{
+    match engine.lose(id) {
+        Ok(()) => {}
+        Err(_) => unreachable!(),
+    }
+}
 
 /// Waits for a child, and puts the blobs that it made and the Trees of its outcome.
 fn collect<A: Allocator + Copy, S: BlobSink<A>, N: Runner<A>>(
@@ -104,7 +116,7 @@ fn settle<A: Allocator + Copy, S: BlobSink<A>, N: Runner<A>>(
     match take(alloc, engine, sink, runner, child) {
         Ok(()) => put_outcome(alloc, engine, sink, step, &action),
         Err(refusal) => {
-            let _ = engine.lose(id);
+            lose(engine, id);
             Err(refusal)
         }
     }

@@ -1,24 +1,38 @@
-ghost use Rattle.std.specs.Prelude.{◌≡◌, ◌≢◌, ◌+◌, ◌-◌, ◌<◌, ◌↔◌, ℕ, List, Ok, IfOk, IsErr};
-ghost use Rattle.std.specs.Prelude.{IsErrOf, IsTrue, OnErr, OnOk};
+ghost use Rattle.std.specs.Prelude.{◌≡◌, ◌≢◌, ◌+◌, ◌-◌, ◌<◌, ◌↔◌, ℕ, List, Ok, Err, IfErr, IfOk};
+ghost use Rattle.std.specs.Prelude.{IsErr, IsErrOf, IsTrue, OnErr, OnOk, string_bytes};
+ghost use Rattle.std.specs.Result.{IsErrAnd};
 ghost use Rattle.blob_source.specs.Source.{greatest_count};
-ghost use Rattle.worker.specs.Counted.{Counts};
-ghost use Rattle.worker.specs.FailRunner.{FailsRun, IsFreshRunner};
-ghost use Rattle.worker.specs.FailRunner.{failures_of, inner_of, until_failure_of};
-ghost use Rattle.worker.specs.Outcomes.{YieldsNoMore};
-ghost use Rattle.worker.specs.Values.{IsAbsolute, EndValue, StartsNone, StartsOne, made, bad_at};
+ghost use Rattle.worker.specs.Counted.{Counts, IsFailure, TellsFailure};
+ghost use Rattle.worker.specs.FailRunner.{FailsRun, IsFreshRunner, failures_of, inner_of};
+ghost use Rattle.worker.specs.FailRunner.{may_give_of, program_in, until_failure_of, yields_of};
+ghost use Rattle.worker.specs.Outcomes.{YieldsFor, YieldsNoMore};
+ghost use Rattle.worker.specs.Values.{IsAbsolute, EndValue, StartsNone, StartsOne, bad_at, failed};
+ghost use Rattle.worker.specs.Values.{made, program_of};
 
+use crate::failure::{Cause, program_of};
 use crate::laid::Layout;
 use crate::runner::{Produced, RunError, Runner};
 use actions::Command;
 use std::alloc::Allocator;
 
-/// A runner that hands each call on to another, but for one, which fails: a start doesn't reach the
-/// other then, and what a finish answers is lost. Its count of failures is its own.
+/// The signal of which the call that fails tells.
+const OWN_SIGNAL: i32 = 9;
+
+/// A runner that hands each call on to another, but for one, which fails as if a signal had ended
+/// the process: a start doesn't reach the other then, and what a finish answers is lost. Its count
+/// of failures is its own.
 #[derive(Drop)]
 pub struct FailRunner<N> {
     inner: N,
     until_failure: u64,
     failures: u64,
+}
+
+/// A child of the other runner, with the program of its command.
+#[derive(Drop)]
+pub struct FailJob<J, A: Allocator> {
+    job: J,
+    program: String<A>,
 }
 
 impl<N> FailRunner<N> {
@@ -56,22 +70,23 @@ impl<N> FailRunner<N> {
     }
 
     /// Counts a failure. One whose count is full is lack of memory instead.
-    fn fail<T, A: Allocator>(&mut self) -> Result<T, RunError<A>>
-        ensures failed { failures_of self.old < greatest_count → IsErrOf result RunError.Device }
+    fn fail<T, A: Allocator>(&mut self, program: String<A>, cause: Cause) -> Result<T, RunError<A>>
+        ensures failed { failures_of self.old < greatest_count
+            → result ≡ Err (RunError.Device program cause) }
         ensures counted { Counts (failures_of self.old) (failures_of self.new)
-            (IsErrOf result RunError.Device) }
-        ensures err { IsErr result }
-        ensures number { until_failure_of self.new ≡ until_failure_of self.old }
-        ensures inner { inner_of self.new ≡ inner_of self.old }
+            (IsErrAnd result IsFailure) }
+        ensures told { IsErrAnd result (λ e. IsFailure e → e ≡ RunError.Device program cause) }
         ensures absolute { IsErrOf result RunError.NotAbsolute → ⊥ }
         ensures bad { (path : List (List ℕ)) → IsErrOf result (RunError.BadOutput path) → ⊥ }
+        ensures number { until_failure_of self.new ≡ until_failure_of self.old }
+        ensures inner { inner_of self.new ≡ inner_of self.old }
     {
         let count = &mut self.failures;
         let Some(failures) = count.checked_add(1) else {
             return Err(RunError::Memory);
         };
         *count = failures;
-        Err(RunError::Device)
+        Err(RunError::Device { program, cause })
     }
 
     /// Counts a call, and tells whether it is the one that fails.
@@ -95,27 +110,28 @@ impl<N> FailRunner<N> {
             → IsErrOf answer RunError.NotAbsolute }
         ensures bad { (path : List (List ℕ)) → IsErrOf result (RunError.BadOutput path)
             → IsErrOf answer (RunError.BadOutput path) }
+        ensures told { IfErr result (λ e. IsFailure e → answer ≡ Err e) }
         ensures passed { failures_of self.old < greatest_count → result ≡ answer }
         ensures counted { Counts (failures_of self.old) (failures_of self.new)
-            (IsErrOf result RunError.Device) }
+            (IsErrAnd result IsFailure) }
         ensures number { until_failure_of self.new ≡ until_failure_of self.old }
         ensures inner { inner_of self.new ≡ inner_of self.old }
     {
         match answer {
-            Err(RunError::Device) => self.fail(),
+            Err(RunError::Device { program, cause }) => self.fail(program, cause),
             answer => answer,
         }
     }
 }
 
-impl<A: Allocator, N: Runner<A>> Runner<A> for FailRunner<N> {
-    type Job = N::Job;
+impl<A: Allocator + Copy, N: Runner<A>> Runner<A> for FailRunner<N> {
+    type Job = FailJob<N::Job, A>;
 
-    ghost use Rattle.worker.specs.FailRunner.{failures_of, inner_of};
+    ghost use Rattle.worker.specs.FailRunner.{failures_of, inner_of, may_give_of, yields_of};
 
-    ghost yields = { λ r. N.yields (inner_of r) };
+    ghost yields = { yields_of N.yields };
 
-    ghost may_give = { N.may_give };
+    ghost may_give = { may_give_of N.may_give };
 
     ghost starts = { λ r. N.starts (inner_of r) };
 
@@ -128,10 +144,10 @@ impl<A: Allocator, N: Runner<A>> Runner<A> for FailRunner<N> {
         alloc: A,
         layout: &Layout<A>,
         command: &Command<A>,
-    ) -> Result<N::Job, RunError<A>>
-        ensures gives { IfOk result (λ job. (e : EndValue)
-            → N.may_give job e → N.yields (inner_of self.new) layout.now command.now e) }
-        ensures same { YieldsNoMore (N.yields (inner_of self.new)) (N.yields (inner_of self.old)) }
+    ) -> Result<FailJob<N::Job, A>, RunError<A>>
+        ensures gives { IfOk result (λ job. (e : EndValue) → may_give_of N.may_give job e
+            → YieldsFor (yields_of N.yields self.new) layout.now command.now e) }
+        ensures same { YieldsNoMore (yields_of N.yields self.new) (yields_of N.yields self.old) }
         ensures listed { OnOk result (StartsOne (N.starts (inner_of self.old))
             (N.starts (inner_of self.new))
             (record { layout = layout.now; command = command.now })) }
@@ -143,39 +159,45 @@ impl<A: Allocator, N: Runner<A>> Runner<A> for FailRunner<N> {
             (N.alive (inner_of self.new) ≡ N.alive (inner_of self.old)) }
         ensures refused { IsErrOf result RunError.NotAbsolute → IsAbsolute command.now → ⊥ }
         ensures bad { (path : List (List ℕ)) → IsErrOf result (RunError.BadOutput path) → ⊥ }
-        ensures failed { IsErrOf result RunError.Device
-            → failures_of self.new ≡ failures_of self.old + 1 }
-        ensures unfailed { (IsErrOf result RunError.Device → ⊥)
-            → failures_of self.new ≡ failures_of self.old }
-        ensures fails { FailsRun N.failures self.old self.new result }
+        ensures device { IfErr result
+            (TellsFailure (YieldsFor (yields_of N.yields self.new) layout.now command.now)) }
+        ensures counted { Counts (failures_of self.old) (failures_of self.new)
+            (IsErrAnd result IsFailure) }
+        ensures fails { FailsRun N.failures (program_of command.now) self.old self.new result }
         ensures unreached { until_failure_of self.old ≡ 1
             → inner_of self.new ≡ inner_of self.old }
     {
-        if self.is_due() {
-            return self.fail();
+        let is_due = self.is_due();
+        let program = program_of(alloc, command)?;
+        if is_due {
+            return self.fail(program, Cause::Signal(OWN_SIGNAL));
         }
         let started = self.inner.start(alloc, layout, command);
-        self.pass_on(started)
+        let job = self.pass_on(started)?;
+        Ok(FailJob { job, program })
     }
 
-    fn finish(&mut self, alloc: A, job: N::Job) -> Result<Produced<A>, RunError<A>>
-        ensures gave { IfOk result (λ p. N.may_give job (made p)) }
+    fn finish(&mut self, alloc: A, job: FailJob<N::Job, A>) -> Result<Produced<A>, RunError<A>>
+        ensures gave { IfOk result (λ p. may_give_of N.may_give job (made p)) }
         ensures bad { (path : List (List ℕ)) → IsErrOf result (RunError.BadOutput path)
-            → N.may_give job (bad_at path) }
-        ensures same { YieldsNoMore (N.yields (inner_of self.new)) (N.yields (inner_of self.old)) }
+            → may_give_of N.may_give job (bad_at path) }
+        ensures same { YieldsNoMore (yields_of N.yields self.new) (yields_of N.yields self.old) }
         ensures unlisted { StartsNone (N.starts (inner_of self.old)) (N.starts (inner_of self.new)) }
         ensures closed { N.alive (inner_of self.new) ≡ N.alive (inner_of self.old) - 1 }
         ensures absolute { IsErrOf result RunError.NotAbsolute → ⊥ }
-        ensures failed { IsErrOf result RunError.Device
-            → failures_of self.new ≡ failures_of self.old + 1 }
-        ensures unfailed { (IsErrOf result RunError.Device → ⊥)
-            → failures_of self.new ≡ failures_of self.old }
-        ensures fails { FailsRun N.failures self.old self.new result }
+        ensures device { IfErr result (TellsFailure (may_give_of N.may_give job)) }
+        ensures counted { Counts (failures_of self.old) (failures_of self.new)
+            (IsErrAnd result IsFailure) }
+        ensures fails { FailsRun N.failures (program_in job) self.old self.new result }
+        // It takes no memory to tell of it.
+        ensures failed { until_failure_of self.old ≡ 1 → failures_of self.old < greatest_count
+            → IsErrAnd result IsFailure }
     {
+        let FailJob { job, program } = job;
         let is_due = self.is_due();
         let made = self.inner.finish(alloc, job);
         if is_due {
-            return self.fail();
+            return self.fail(program, Cause::Signal(OWN_SIGNAL));
         }
         self.pass_on(made)
     }

@@ -1,5 +1,6 @@
 ghost use Rattle.std.specs.Prelude.{◌≡◌};
 ghost use Rattle.worker.specs.declared.laid.LayoutError.TheVariants as laying;
+ghost use Rattle.worker.specs.Refusals.{of_tree};
 
 use messages::Path;
 use std::alloc::{AllocError, AllocFailed, Allocator};
@@ -36,6 +37,17 @@ pub enum LayoutError<A: Allocator> {
     /// No memory was left.
     #[error("out of memory")]
     Memory,
+}
+
+impl<A: Allocator> From<TreeError<A>> for LayoutError<A> {
+    ghost from_gives = { λ error e. e ≡ of_tree error };
+
+    fn from(error: TreeError<A>) -> LayoutError<A> {
+        match error {
+            TreeError::Memory => LayoutError::Memory,
+            error => LayoutError::Source(error),
+        }
+    }
 }
 
 impl<A: Allocator> From<AllocError> for LayoutError<A> {

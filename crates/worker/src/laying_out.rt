@@ -1,58 +1,16 @@
 ghost use Rattle.std.specs.Prelude.{◌≡◌, IfOk, IfErr, IsErrOf, IsPermutation};
 ghost use Rattle.action_messages.specs.Ascending.{IsSortedByText};
-ghost use Rattle.blob_source.specs.Called.{Called, Calls};
-ghost use Rattle.blob_source.specs.Source.{Asks, IsBlobUnder};
+ghost use Rattle.blob_source.specs.Called.{Called};
 ghost use Rattle.tree.specs.FlatTree.{path_values};
-ghost use Rattle.tree.specs.Unfolded.{IsUnfolded};
 ghost use Rattle.worker.specs.Gathering.{AreGathered};
 ghost use Rattle.worker.specs.Layout.{IsLayoutOf};
-ghost use Rattle.worker.specs.Stopping.{IsContentFault};
-ghost use Rattle.worker.specs.Refusals.{IsTreeFault, StopsLayout, IsLayoutFault};
+ghost use Rattle.worker.specs.Refusals.{StopsLayout, IsLayoutFault};
 
 use crate::laid::{Layout, LayoutError};
 use blob_digest::Digest;
 use messages::Path;
 use std::alloc::Allocator;
-use tree::{BlobSource, FetchError, Fetched, FlatEntry, FlatTree, TreeError, fetch_blob, unfold};
-
-/// The content with a digest. Refusals: `BlobMissing` and `BlobWrong`.
-fn fetch_content<A: Allocator + Copy, S: BlobSource<A>>(
-    alloc: A,
-    digest: &Digest,
-    source: &mut S,
-) -> Result<Vec<u8, A>, LayoutError<A>>
-    ensures told { IfOk result
-        (λ content. IsBlobUnder (S.tells source.new).blobs digest.now content.items) }
-    ensures refused { IfErr result (IsContentFault (S.tells source.new).blobs digest.now) }
-    ensures called { Calls (Asks 1) (S.tells source.old) (S.tells source.new)
-        (IsErrOf result (LayoutError.Source TreeError.Fetch)) }
-{
-    match fetch_blob(alloc, source, digest) {
-        Ok(Fetched::Missing) => Err(LayoutError::Source(TreeError::BlobMissing(*digest))),
-        Ok(Fetched::Wrong) => Err(LayoutError::Source(TreeError::BlobWrong(*digest))),
-        Ok(Fetched::Right(content)) => Ok(content),
-        Err(FetchError::Failed) => Err(LayoutError::Source(TreeError::Fetch)),
-        Err(FetchError::Memory) => Err(LayoutError::Memory),
-    }
-}
-
-/// The tree with a digest. Refusals: `BlobMissing`, `BlobWrong`, `BlobMalformed` and `TooDeep`.
-fn read_tree<A: Allocator + Copy, S: BlobSource<A>>(
-    alloc: A,
-    root: &Digest,
-    source: &mut S,
-) -> Result<FlatTree<A>, LayoutError<A>>
-    ensures told { IfOk result (IsUnfolded (S.tells source.new).blobs root.now) }
-    ensures refused { IfErr result (IsTreeFault (S.tells source.new).blobs root.now) }
-    ensures called { Called (S.tells source.old) (S.tells source.new)
-        (IsErrOf result (LayoutError.Source TreeError.Fetch)) }
-{
-    match unfold(alloc, root, source) {
-        Ok(tree) => Ok(tree),
-        Err(TreeError::Memory) => Err(LayoutError::Memory),
-        Err(error) => Err(LayoutError::Source(error)),
-    }
-}
+use tree::{BlobSource, FlatEntry, TreeError, fetch_content, unfold};
 
 /// The directories and the files among the entries, in their order.
 fn gather<A: Allocator + Copy, S: BlobSource<A>>(
@@ -74,7 +32,7 @@ fn gather<A: Allocator + Copy, S: BlobSource<A>>(
             FlatEntry::Dir => folders.push(path)?,
             FlatEntry::Link { .. } => return Err(LayoutError::LinkInput(path)),
             FlatEntry::File { digest, .. } => {
-                let content = fetch_content(alloc, &digest, source)?;
+                let content = fetch_content(alloc, source, &digest)?;
                 files.push((path, content))?;
             }
         }
@@ -111,7 +69,7 @@ pub fn layout<A: Allocator + Copy, S: BlobSource<A>>(
     ensures called { Called (S.tells source.old) (S.tells source.new)
         (IsErrOf result (LayoutError.Source TreeError.Fetch)) }
 {
-    let tree = read_tree(alloc, root, source)?;
+    let tree = unfold(alloc, root, source)?;
     let gathered = gather(alloc, tree.into_entries(alloc)?, source)?;
     Ok(sort(gathered))
 }

@@ -9,6 +9,7 @@ mod counting;
 mod ending;
 mod error;
 mod fail_runner;
+mod failure;
 mod laid;
 mod laws;
 mod laying_out;
@@ -21,7 +22,8 @@ mod watching;
 
 pub use building::build;
 pub use error::{BuildError, Refusal};
-pub use fail_runner::FailRunner;
+pub use fail_runner::{FailJob, FailRunner};
+pub use failure::{Cause, program_of};
 pub use laid::{Layout, LayoutError};
 pub use laws::{a_build_takes_two_steps, actions_are_of_steps, steps_are_yielded_or_taken};
 pub use laying_out::layout;

@@ -1,8 +1,11 @@
-ghost use Rattle.std.specs.Prelude.{◌≡◌, ◌+◌, ◌-◌, ℕ, IfOk, IsErrOf, OnOk, OnErr};
+ghost use Rattle.std.specs.Prelude.{◌≡◌, ◌+◌, ◌-◌, ℕ, IfErr, IfOk, IsErrOf, OnOk, OnErr};
+ghost use Rattle.std.specs.Result.{IsErrAnd};
 ghost use Rattle.worker.specs.declared.runner.RunError.TheVariants as errors;
-ghost use Rattle.worker.specs.Outcomes.{YieldsNoMore};
+ghost use Rattle.worker.specs.Counted.{Counts, IsFailure, TellsFailure};
+ghost use Rattle.worker.specs.Outcomes.{YieldsFor, YieldsNoMore};
 ghost use Rattle.worker.specs.Values.{IsAbsolute, StartsOne, StartsNone, made, bad_at};
 
+use crate::failure::Cause;
 use crate::laid::Layout;
 use actions::{Command, Outcome};
 use messages::Path;
@@ -32,9 +35,10 @@ pub enum RunError<A: Allocator> {
     /// The first argument doesn't begin with a slash.
     #[error("the program isn't named by a path from the root")]
     NotAbsolute,
-    /// The runner failed, and counted that. A runner whose count is full answers `Memory` instead.
-    #[error("the runner failed")]
-    Device,
+    /// The process of a program failed, and the runner counted that. A runner whose count is full
+    /// answers `Memory` instead.
+    #[error("the process failed")]
+    Device { program: String<A>, cause: Cause },
     /// What stands at the path is no output.
     #[error("what stands at an output path is no output")]
     BadOutput(Path<A>),
@@ -91,7 +95,7 @@ pub trait Runner<A: Allocator> {
         command: &Command<A>,
     ) -> Result<Self::Job, RunError<A>>
         ensures gives { IfOk result (λ job. (e : EndValue)
-            → may_give job e → yields self.new layout.now command.now e) }
+            → may_give job e → YieldsFor (yields self.new) layout.now command.now e) }
         ensures same { YieldsNoMore (yields self.new) (yields self.old) }
         ensures listed { OnOk result (StartsOne (starts self.old) (starts self.new)
             (record { layout = layout.now; command = command.now })) }
@@ -100,10 +104,10 @@ pub trait Runner<A: Allocator> {
         ensures unopened { OnErr result (alive self.new ≡ alive self.old) }
         ensures refused { IsErrOf result RunError.NotAbsolute → IsAbsolute command.now → ⊥ }
         ensures bad { (path : List (List ℕ)) → IsErrOf result (RunError.BadOutput path) → ⊥ }
-        ensures failed { IsErrOf result RunError.Device
-            → failures self.new ≡ failures self.old + 1 }
-        ensures unfailed { (IsErrOf result RunError.Device → ⊥)
-            → failures self.new ≡ failures self.old };
+        ensures device { IfErr result
+            (TellsFailure (YieldsFor (yields self.new) layout.now command.now)) }
+        ensures counted { Counts (failures self.old) (failures self.new)
+            (IsErrAnd result IsFailure) };
 
     /// Waits for a child, which is spent also where the call is refused.
     fn finish(&mut self, alloc: A, job: Self::Job) -> Result<Produced<A>, RunError<A>>
@@ -114,8 +118,7 @@ pub trait Runner<A: Allocator> {
         ensures unlisted { StartsNone (starts self.old) (starts self.new) }
         ensures closed { alive self.new ≡ alive self.old - 1 }
         ensures absolute { IsErrOf result RunError.NotAbsolute → ⊥ }
-        ensures failed { IsErrOf result RunError.Device
-            → failures self.new ≡ failures self.old + 1 }
-        ensures unfailed { (IsErrOf result RunError.Device → ⊥)
-            → failures self.new ≡ failures self.old };
+        ensures device { IfErr result (TellsFailure (may_give job)) }
+        ensures counted { Counts (failures self.old) (failures self.new)
+            (IsErrAnd result IsFailure) };
 }

@@ -1,8 +1,11 @@
 use Rattle.worker.proofs.Keeping.{kept_trans, kept_some}
-use Rattle.std.proofs.Common.{refl, subst, inl, inr}
+use Rattle.std.proofs.Common.{◌≡◌, ◌∙◌, Some, refl, ap, subst, sym, inl, inr}
+use Rattle.runs.specs.Calls.{without_job}
+use Rattle.runs.specs.Engine.{EngineValue, job_in}
+use Rattle.worker.specs.Going.{job_value}
 use Rattle.worker.specs.Stopped.{StopsStep}
-use Rattle.worker.proofs.Started.{started_in, was_started}
-use Rattle.worker.proofs.Goes.{begun, job_gone}
+use Rattle.worker.proofs.Started.{started_in, started_value, was_started}
+use Rattle.worker.proofs.Goes.{begun}
 use Rattle.worker.proofs.Knowing.{known_of, knows_still, knows_started}
 use Rattle.worker.proofs.PutOnce.{put_still}
 use Rattle.blob_source.proofs.Asking.{ok_no_error}
@@ -11,6 +14,11 @@ use Rattle.worker.proofs.beginning.begin.Goals as goal
 
 pub launch-requires : goal.launch-requires
 launch-requires g c = record { job = started_in c.in-Ok.ensures.started; put = put_still _ (kept_some c.start.ensures.called).blobs c.requires.knows.put }
+
+pub lose-requires : goal.lose-requires
+lose-requires g c =
+    let job = c.in-Ok.job in
+    (job_value job, subst (λ (e : EngineValue). job_in job.id e ≡ Some (job_value job)) (sym c.in-Err-launch.ensures.unchanged) (started_value c.in-Ok.ensures.started))
 
 pub returns-in-Ok-launch-clause-kept : goal.returns-in-Ok-launch-clause-kept
 returns-in-Ok-launch-clause-kept g c = kept_trans (kept_some c.start.ensures.called) c.launch.ensures.kept
@@ -54,7 +62,7 @@ returns-clause-stopped g c =
         c.in-Ok.job.id,
         c.start.new.self,
         was_started started t.blobs c.launch.ensures.kept.blobs,
-        job_gone c.lose.result started c.in-Err-launch.ensures.unchanged c.lose.ensures.no_job c.lose.ensures.lost,
+        c.lose.ensures ∙ ap (without_job c.in-Ok.job.id) c.in-Err-launch.ensures.unchanged,
         subst (λ i. StopsStep (g.N.Runner.yields c.args.runner.now) t c.start.new.self i c.in-Err-launch.refusal) started.prepared.of_step c.in-Err-launch.ensures.refused,
       ),
     )

@@ -103,7 +103,9 @@ returns-in_err-finish-clause-refused g c =
 pub returns-in_err-child-clause-refused : goal.returns-in_err-child-clause-refused
 returns-in_err-child-clause-refused g c =
     let p = err_from_is_err_and c.from_residual-in_err-child.result c.from_residual-in_err-child.ensures.1 in
-    rw (p.1, p.2) (child_stops (g.N.Runner.yields c.args.runner.now) (g.S.BlobSource.tells c.start_child.new.sink) c.args.engine.now c.args.job.now c.requires.job c.in_err-child.field-0.0 c.in_err-child.ensures.refused)
+    rw (p.1, p.2) (child_stops (g.N.Runner.yields c.args.runner.now) (g.S.BlobSource.tells c.start_child.new.sink) c.args.engine.now c.args.job.now c.requires.job
+    (subst (HasRight (g.S.BlobSource.tells c.start_child.new.sink).blobs) (sym c.requires.job.digest) (right_still (kept_trans c.recorded_outcome.ensures.kept c.start_child.ensures.kept).blobs c.in_ok-put_input.ensures.held))
+    c.in_err-child.field-0.0 c.in_err-child.ensures.refused)
 
 pub returns-in_err-put_input-clause-fetched : goal.returns-in_err-put_input-clause-fetched
 returns-in_err-put_input-clause-fetched g c = counts_exit IsFetch c.from_residual.result c.from_residual.ensures.1 (c.in_err-put_input.ensures.fetched)

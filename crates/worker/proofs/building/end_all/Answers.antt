@@ -1,27 +1,20 @@
 use Rattle.std.proofs.Common.{arith, refl}
-use Rattle.worker.proofs.Taking.{lost_child, lost_jobs, lost_goes, lost_count, loses_none}
+use Rattle.worker.proofs.Taking.{jobs_now, lost_jobs, lost_goes, lost_count, loses_none}
 use Rattle.worker.proofs.Failures.{counts_risen}
 use Rattle.worker.proofs.building.end_all.Goals as goal
 
+pub lose-requires : goal.lose-requires
+lose-requires g c =
+    let jobs = jobs_now c.loop-child.engine c.loop-child.engine c.in-Some.child c.loop-child.rest.items c.pop_front.new.self.items c.in-Some.ensures.items c.loop-child.invariant.there in (jobs.0, jobs.1)
+
 pub loop-child-preserved : goal.loop-child-preserved
 loop-child-preserved g c =
-    let lost = lost_child c.loop-child.engine c.lose.new.self c.in-Some.child c.loop-child.rest.items c.pop_front.new.self.items c.in-Some.ensures.items c.loop-child.invariant.there c.lose.result c.lose.ensures.no_job c.lose.ensures.lost in
+    let lost = c.lose.ensures in
     record {
       none = λ h. absurd (let none = (c.loop-child.invariant.none h).0 in let some = c.in-Some.ensures.items in cc);
-      device = let was = c.loop-child.invariant.device in let now = counts_risen c.finish.result c.finish.ensures.failed c.finish.ensures.unfailed in omega (arith, was, now);
-      there = lost_jobs c.loop-child.engine c.lose.new.self c.in-Some.child c.loop-child.rest.items c.pop_front.new.self.items c.in-Some.ensures.items c.loop-child.invariant.there lost;
-      going = λ entry s t most first h. let was = c.loop-child.invariant.going entry s t most first h in lost_goes c.loop-child.engine c.lose.new.self c.in-Some.child c.loop-child.rest.items c.pop_front.new.self.items c.in-Some.ensures.items c.loop-child.invariant.there g.row.A.Denot (g.N.Runner.yields entry) g.N.Runner.may_give lost (g.N.Runner.starts entry) (g.N.Runner.starts c.loop-child.runner) (g.N.Runner.starts c.finish.new.self) c.finish.ensures.unlisted s t most first c.args.engine.now h.led.built.led.calls was.0 was.1;
-      alive = λ count h. lost_count c.in-Some.child c.loop-child.rest.items c.pop_front.new.self.items c.in-Some.ensures.items count _ _ (c.loop-child.invariant.alive count h) c.finish.ensures.closed;
-    }
-
-pub loop-child-preserved-in-Some-8 : goal.loop-child-preserved-in-Some-8
-loop-child-preserved-in-Some-8 g c =
-    let lost = lost_child c.loop-child.engine c.lose.new.self c.in-Some.child c.loop-child.rest.items c.pop_front.new.self.items c.in-Some.ensures.items c.loop-child.invariant.there c.lose.result c.lose.ensures.no_job c.lose.ensures.lost in
-    record {
-      none = λ h. absurd (let none = (c.loop-child.invariant.none h).0 in let some = c.in-Some.ensures.items in cc);
-      device = let was = c.loop-child.invariant.device in let now = counts_risen c.finish.result c.finish.ensures.failed c.finish.ensures.unfailed in omega (arith, was, now);
-      there = lost_jobs c.loop-child.engine c.lose.new.self c.in-Some.child c.loop-child.rest.items c.pop_front.new.self.items c.in-Some.ensures.items c.loop-child.invariant.there lost;
-      going = λ entry s t most first h. let was = c.loop-child.invariant.going entry s t most first h in lost_goes c.loop-child.engine c.lose.new.self c.in-Some.child c.loop-child.rest.items c.pop_front.new.self.items c.in-Some.ensures.items c.loop-child.invariant.there g.row.A.Denot (g.N.Runner.yields entry) g.N.Runner.may_give lost (g.N.Runner.starts entry) (g.N.Runner.starts c.loop-child.runner) (g.N.Runner.starts c.finish.new.self) c.finish.ensures.unlisted s t most first c.args.engine.now h.led.built.led.calls was.0 was.1;
+      device = let was = c.loop-child.invariant.device in let now = counts_risen c.finish.result c.finish.ensures.counted in omega (arith, was, now);
+      there = lost_jobs c.loop-child.engine c.lose.new.engine c.in-Some.child c.loop-child.rest.items c.pop_front.new.self.items c.in-Some.ensures.items c.loop-child.invariant.there lost;
+      going = λ entry s t most first h. let was = c.loop-child.invariant.going entry s t most first h in lost_goes c.loop-child.engine c.lose.new.engine c.in-Some.child c.loop-child.rest.items c.pop_front.new.self.items c.in-Some.ensures.items c.loop-child.invariant.there g.row.A.Denot (g.N.Runner.yields entry) g.N.Runner.may_give lost (g.N.Runner.starts entry) (g.N.Runner.starts c.loop-child.runner) (g.N.Runner.starts c.finish.new.self) c.finish.ensures.unlisted s t most first c.args.engine.now h.led.built.led.calls was.0 was.1;
       alive = λ count h. lost_count c.in-Some.child c.loop-child.rest.items c.pop_front.new.self.items c.in-Some.ensures.items count _ _ (c.loop-child.invariant.alive count h) c.finish.ensures.closed;
     }
 

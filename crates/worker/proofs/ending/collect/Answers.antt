@@ -1,11 +1,12 @@
 use Rattle.std.proofs.Common.{ap, subst}
+use Rattle.std.proofs.lemmas.Result.{err_from_is_err_and}
+use Rattle.worker.proofs.Stopping.{end_comes}
 use Rattle.worker.specs.Values.{ProducedValue, blobs_of}
 use Rattle.worker.specs.Outcomes.{HasAllRight}
 use Rattle.worker.proofs.Keeping.{kept_trans, all_right_still}
 use Rattle.std.proofs.Common.{◌∙◌}
-use Rattle.blob_source.proofs.Asking.{ok_no_error}
 use Rattle.worker.specs.Counted.{IsDevice, IsFetch}
-use Rattle.worker.proofs.Failures.{counts_none, counts_same, counts_from, counts_exit, counts_run, store_no_device}
+use Rattle.worker.proofs.Failures.{counts_none, counts_same, counts_from, counts_exit, store_no_device}
 use Rattle.worker.proofs.ending.collect.Goals as goal
 
 pub returns-in_err-put_trees-clause-kept : goal.returns-in_err-put_trees-clause-kept
@@ -26,11 +27,16 @@ returns-clause-gave g c =
       subst (λ (p : ProducedValue). HasAllRight end p.blobs) c.outcome.view_is (all_right_still put end bs c.put_trees.ensures.kept.blobs held),
     )
 
+pub returns-in_err-outcome-clause-refused : goal.returns-in_err-outcome-clause-refused
+returns-in_err-outcome-clause-refused g c =
+    let p = err_from_is_err_and c.from_residual.result c.from_residual.ensures.1 in
+    rw (p.1, p.2) (end_comes (g.N.Runner.may_give c.args.job) c.in_err-outcome.field-0.0 c.in_err-outcome.ensures.absolute c.in_err-outcome.ensures.bad c.in_err-outcome.ensures.device)
+
 pub returns-in_err-outcome-clause-fetched : goal.returns-in_err-outcome-clause-fetched
 returns-in_err-outcome-clause-fetched g c = counts_exit IsFetch c.from_residual.result c.from_residual.ensures.1 (counts_none (λ f. f))
 
 pub returns-in_err-outcome-clause-device : goal.returns-in_err-outcome-clause-device
-returns-in_err-outcome-clause-device g c = counts_exit IsDevice c.from_residual.result c.from_residual.ensures.1 (counts_run _ c.in_err-outcome.ensures.failed c.in_err-outcome.ensures.unfailed)
+returns-in_err-outcome-clause-device g c = counts_exit IsDevice c.from_residual.result c.from_residual.ensures.1 c.in_err-outcome.ensures.counted
 
 pub returns-in_err-put_all-clause-fetched : goal.returns-in_err-put_all-clause-fetched
 returns-in_err-put_all-clause-fetched g c = counts_exit IsFetch c.from_residual-in_err-put_all.result c.from_residual-in_err-put_all.ensures.1 (c.in_err-put_all.ensures.fetched)
@@ -39,13 +45,13 @@ pub returns-in_err-put_trees-clause-fetched : goal.returns-in_err-put_trees-clau
 returns-in_err-put_trees-clause-fetched g c = counts_from (c.in_ok-put_all.ensures.fetched.unfailed (λ f. f)) (counts_exit IsFetch c.from_residual-in_err-put_trees.result c.from_residual-in_err-put_trees.ensures.1 (c.in_err-put_trees.ensures.fetched))
 
 pub returns-in_err-put_all-clause-device : goal.returns-in_err-put_all-clause-device
-returns-in_err-put_all-clause-device g c = counts_from (c.in_ok-outcome.ensures.unfailed ok_no_error) (counts_exit IsDevice c.from_residual-in_err-put_all.result c.from_residual-in_err-put_all.ensures.1 (counts_none (store_no_device c.in_err-put_all.field-0.0 c.in_err-put_all.ensures.failed)))
+returns-in_err-put_all-clause-device g c = counts_from (c.in_ok-outcome.ensures.counted.unfailed (λ f. f)) (counts_exit IsDevice c.from_residual-in_err-put_all.result c.from_residual-in_err-put_all.ensures.1 (counts_none (store_no_device c.in_err-put_all.field-0.0 c.in_err-put_all.ensures.failed)))
 
 pub returns-in_err-put_trees-clause-device : goal.returns-in_err-put_trees-clause-device
-returns-in_err-put_trees-clause-device g c = counts_from (c.in_ok-outcome.ensures.unfailed ok_no_error) (counts_exit IsDevice c.from_residual-in_err-put_trees.result c.from_residual-in_err-put_trees.ensures.1 (counts_none (store_no_device c.in_err-put_trees.field-0.0 c.in_err-put_trees.ensures.failed)))
+returns-in_err-put_trees-clause-device g c = counts_from (c.in_ok-outcome.ensures.counted.unfailed (λ f. f)) (counts_exit IsDevice c.from_residual-in_err-put_trees.result c.from_residual-in_err-put_trees.ensures.1 (counts_none (store_no_device c.in_err-put_trees.field-0.0 c.in_err-put_trees.ensures.failed)))
 
 pub returns-clause-fetched : goal.returns-clause-fetched
 returns-clause-fetched g c = counts_same (λ f. f) (c.in_ok-put_trees.ensures.fetched.unfailed (λ f. f) ∙ c.in_ok-put_all.ensures.fetched.unfailed (λ f. f))
 
 pub returns-clause-device : goal.returns-clause-device
-returns-clause-device g c = counts_same (λ f. f) (c.in_ok-outcome.ensures.unfailed ok_no_error)
+returns-clause-device g c = counts_same (λ f. f) (c.in_ok-outcome.ensures.counted.unfailed (λ f. f))

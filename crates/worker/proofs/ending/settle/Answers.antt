@@ -1,7 +1,9 @@
-use Rattle.std.proofs.Common.{inl, inr}
+use Rattle.std.proofs.Common.{◌≡◌, ◌∙◌, Some, ap, subst, sym, inl, inr}
+use Rattle.runs.specs.Calls.{without_job}
+use Rattle.runs.specs.Engine.{EngineValue, job_in}
 use Rattle.std.proofs.lemmas.Result.{IfErr-weaker}
 use Rattle.worker.proofs.Lefts.{finished_there}
-use Rattle.worker.proofs.Taking.{ends_put, lost_job, on_ok}
+use Rattle.worker.proofs.Taking.{ends_put, on_ok}
 use Rattle.worker.proofs.Failures.{counts_same, counts_from, put_no_device}
 use Rattle.worker.proofs.ending.settle.Goals as goal
 
@@ -9,6 +11,11 @@ pub put_outcome-requires : goal.put_outcome-requires
 put_outcome-requires g c =
     let e = c.in-Ok.ensures.ended in
     finished_there c.args.engine.now c.take.new.engine c.args.child.id c.args.child.step e.produced.outcome c.requires.there.0 c.plan.ensures.valid e.finished c.requires.there.1 c.requires.there.2.step
+
+pub lose-requires : goal.lose-requires
+lose-requires g c =
+    let j = c.requires.there in
+    (j.0, subst (λ (e : EngineValue). job_in c.args.child.id e ≡ Some j.0) (sym c.in-Err.ensures.unchanged) j.1)
 
 pub returns-in-Ok-clause-ended : goal.returns-in-Ok-clause-ended
 returns-in-Ok-clause-ended g c =
@@ -20,10 +27,9 @@ returns-in-Ok-clause-stopped g c =
 
 pub returns-in-Err-clause-stopped : goal.returns-in-Err-clause-stopped
 returns-in-Err-clause-stopped g c =
-    let unmoved = c.in-Err.ensures.unchanged in
     let j = c.requires.there in
     inl (
-      (j.0, j.1, lost_job c.take.new.engine c.args.child.id c.args.engine.now c.lose.new.self j.0 c.lose.result unmoved c.lose.ensures.no_job c.lose.ensures.lost j.1),
+      (j.0, j.1, c.lose.ensures ∙ ap (without_job c.args.child.id) c.in-Err.ensures.unchanged),
       c.take.ensures.kept,
       c.in-Err.ensures.refused,
     )

@@ -6,7 +6,7 @@ use Rattle.blob_source.proofs.Asking.{ok_no_error}
 use Rattle.blob_source.proofs.Calling.{called_none, called_no, called_on, called_exit, calls_some}
 use Rattle.tree.specs.FlatTree.{entry_value, path_values}
 use Rattle.worker.specs.Values.{contents_of}
-use Rattle.worker.proofs.Gathering.{GoesOn, gathers_first, gathers_folder, gathers_file, file_fault, link_fault, gathers_end}
+use Rattle.worker.proofs.Gathering.{GoesOn, gathers_first, gathers_folder, gathers_file, file_fault, link_fault, gathers_end, tree_called}
 use Rattle.worker.proofs.Sorting.{none_left}
 use Rattle.worker.proofs.laying_out.gather.Goals as goal
 
@@ -65,11 +65,11 @@ returns-in_err-content-in-File-clause-refused g c =
     let goes = subst (λ es. GoesOn blobs all c.loop-path.folders.items files (path_values es)) steps c.loop-path.invariant.goes in
     let at = subst (λ e. GoesOn blobs all c.loop-path.folders.items files ((c.in-Some.path, entry_value e) ∷ path_values left)) c.in-File.is goes in
     rw (p.1, p.2) (file_fault blobs all c.loop-path.folders.items files c.in-Some.path (path_values left) c.in-File.digest c.in-File.executable at
-    (g.S.BlobSource.tells c.fetch_content.new.source).blobs c.fetch_content.ensures.called.asked.some.blobs c.in_err-content-in-File.field-0.0 c.in_err-content-in-File.ensures.refused)
+    (g.S.BlobSource.tells c.fetch_content.new.source).blobs c.fetch_content.ensures.called.asked.some.blobs c.in_err-content-in-File.field-0.0 c.in_err-content-in-File.ensures.faulty)
 
 pub returns-in_err-content-in-File-clause-called : goal.returns-in_err-content-in-File-clause-called
 returns-in_err-content-in-File-clause-called g c =
-    called_on c.loop-path.invariant.called (called_exit c.from_residual-in_err-content-in-File.ensures.1 (calls_some c.in_err-content-in-File.ensures.called))
+    called_on c.loop-path.invariant.called (called_exit c.from_residual-in_err-content-in-File.ensures.1 (tree_called {U = Unit {0}} c.in_err-content-in-File.field-0.0 (calls_some c.in_err-content-in-File.ensures.called)))
 
 pub loop-path-preserved : goal.loop-path-preserved
 loop-path-preserved g c =

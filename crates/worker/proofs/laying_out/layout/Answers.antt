@@ -1,13 +1,22 @@
 -- A tree that is told, and its entries.
-use Rattle.std.proofs.Common.{subst, inr}
+use Rattle.std.proofs.Common.{subst, inl, inr}
 use Rattle.std.proofs.lemmas.Result.{err_from_is_err_and}
 use Rattle.blob_source.proofs.Asking.{ok_no_error}
 use Rattle.blob_source.proofs.Calling.{called_ok, called_no, called_exit}
 use Rattle.worker.specs.Gathering.{AreGathered}
 use Rattle.worker.specs.Refusals.{StopsLayout}
+use Rattle.worker.proofs.Gathering.{tree_called, tree_fault}
 use Rattle.worker.proofs.Layouts.{laid_out}
 use Rattle.worker.proofs.Telling.{unfolded_still}
 use Rattle.worker.proofs.laying_out.layout.Goals as goal
+
+pub returns-in_err-tree-clause-refused : goal.returns-in_err-tree-clause-refused
+returns-in_err-tree-clause-refused g c =
+    let p = err_from_is_err_and c.from_residual.result c.from_residual.ensures.1 in
+    rw (p.1, p.2) (inl (tree_fault (g.S.BlobSource.tells c.unfold.new.source).blobs c.args.root.now c.in_err-tree.field-0.0 c.in_err-tree.ensures.refused))
+
+pub returns-in_err-tree-clause-called : goal.returns-in_err-tree-clause-called
+returns-in_err-tree-clause-called g c = called_exit c.from_residual.ensures.1 (tree_called {U = Unit {0}} c.in_err-tree.field-0.0 c.in_err-tree.ensures.called)
 
 pub returns-in_err-gathered-clause-refused : goal.returns-in_err-gathered-clause-refused
 returns-in_err-gathered-clause-refused g c =
