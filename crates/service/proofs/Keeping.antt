@@ -8,9 +8,9 @@ use Rattle.cache_server.specs.Cache.{CacheValue}
 use Rattle.cache_server.specs.History.{HistoryEntry, End}
 use Rattle.std.specs.Prelude.{Ok, Err}
 use Rattle.cache_server.specs.Server.{ServerValue, ServerStands, IsOpenAt, session_at}
-use Rattle.cache_server.specs.declared.error.ConnError.TheVariants.{Memory}
+use Rattle.cache_server.specs.declared.error.ConnError.TheVariants.{Memory, ReadFault}
 use Rattle.service.specs.Sockets.{Cause, EndsAs, Failed, Finished, Shut, Silent, Why}
-use Rattle.service.specs.Talks.{entry_number, AreApart, IsShut, IsReason, Unless, HasEnded, AreBelow, ServesEach}
+use Rattle.service.specs.Talks.{entry_number, AreApart, IsShut, IsReason, OrCutOff, HasEnded, AreBelow, ServesEach}
 use Rattle.service.specs.Talks as talks
 use Rattle.service.specs.Member.{MemberValue, TalksOn, MayEndNow, AreOf, HasMovedOn, new_member}
 use Rattle.service.specs.Together.{member_at, TalksOrEnded, KeepsTogether, GoesOnTogether, AreSame, OthersAreSame, MovesOnAt, MayEndAt, EntersAt, EndsAt, EndsIfAny}
@@ -34,22 +34,26 @@ below_more : (n : ℕ) (entries : List HistoryEntry) → AreBelow n entries → 
 below_more n [] t = tt
 below_more n (e ∷ es) (b, bs) = (omega arith, below_more n es bs)
 
-none_is_some : {A X : Type 0} (o : Option A) (x : A) → o ≡ Some x → o ≡ None → X
+pub none_is_some : {A X : Type 0} (o : Option A) (x : A) → o ≡ Some x → o ≡ None → X
 none_is_some o x e f = let g : Some x ≡ None = sym e ∙ f in cc
 
 -- ---- why a connection may end
 
-uncut : (cut : Bool) (P : Type 0) → P → Unless cut P
-uncut true P h = tt
-uncut false P h = h
+uncut : (cut : Bool) (why : Why) (P : Type 0) → P → OrCutOff cut why P
+uncut true why P h = inl h
+uncut false why P h = h
 
-lost_may : (cut : Bool) (over : Cause → Type 0) (shut : Type 0) (lost : Cause → Type 0) (left unsent : List ℕ) (why : Why) → ((cause : Cause) → over cause → lost cause) → Unless cut (IsReason over shut left unsent why) → Unless cut (IsReason lost shut left unsent why)
-lost_may true over shut lost left unsent why f h = tt
-lost_may false over shut lost left unsent (Ok done) f (inl (o, p, q)) = inl (f Finished o, p, q)
-lost_may false over shut lost left unsent (Ok done) f (inr (h, o, q)) = inr (h, f Shut o, q)
-lost_may false over shut lost left unsent (Err e) f (inl none) = inl none
-lost_may false over shut lost left unsent (Err e) f (inr (inl o)) = inr (inl (f (Failed e) o))
-lost_may false over shut lost left unsent (Err e) f (inr (inr (o, q))) = inr (inr (f Silent o, q))
+lost_reason : (over : Cause → Type 0) (shut : Type 0) (lost : Cause → Type 0) (left unsent : List ℕ) (why : Why) → ((cause : Cause) → over cause → lost cause) → IsReason over shut left unsent why → IsReason lost shut left unsent why
+lost_reason over shut lost left unsent (Ok done) f (inl (o, p, q)) = inl (f Finished o, p, q)
+lost_reason over shut lost left unsent (Ok done) f (inr (h, o, q)) = inr (h, f Shut o, q)
+lost_reason over shut lost left unsent (Err e) f (inl none) = inl none
+lost_reason over shut lost left unsent (Err e) f (inr (inl o)) = inr (inl (f (Failed e) o))
+lost_reason over shut lost left unsent (Err e) f (inr (inr (o, q))) = inr (inr (f Silent o, q))
+
+lost_may : (cut : Bool) (over : Cause → Type 0) (shut : Type 0) (lost : Cause → Type 0) (left unsent : List ℕ) (why : Why) → ((cause : Cause) → over cause → lost cause) → OrCutOff cut why (IsReason over shut left unsent why) → OrCutOff cut why (IsReason lost shut left unsent why)
+lost_may true over shut lost left unsent why f (inl h) = inl (lost_reason over shut lost left unsent why f h)
+lost_may true over shut lost left unsent why f (inr told) = inr told
+lost_may false over shut lost left unsent why f h = lost_reason over shut lost left unsent why f h
 
 module _ {S : Type 0} (cut : Bool) (spoke : ℕ → S → List ℕ → List ℕ → Type 0) (ended : ℕ → List ℕ → List ℕ → Why → Type 0) (lost : ℕ → Cause → Type 0) where
   abbrev KeepsSo : List (ℕ × MemberValue S) → ℕ → ServerValue → List (ℕ × MemberValue S) → ℕ → ServerValue → Type 0
@@ -69,8 +73,8 @@ module _ {S : Type 0} (cut : Bool) (spoke : ℕ → S → List ℕ → List ℕ 
     stands = keeps.stands;
     same = keeps.same;
     theirs = keeps.theirs;
-    each = λ k h. subst (TalksOrEnded cut spoke ended lost prefix opening history keeps.entries k) (sym (same k)) (keeps.each k h);
-    fresh = λ k h. same k ∙ keeps.fresh k h;
+    each = λ k h. subst (TalksOrEnded cut spoke ended lost prefix opening history keeps.entries k) (sym (same.0 k)) (keeps.each k h);
+    fresh = λ k h. same.0 k ∙ keeps.fresh k h;
   }
 
   pub keeps_same : (members members' : List (ℕ × MemberValue S)) (accepted : ℕ) (server : ServerValue) → AreSame members members' → GoesOnTogether cut spoke ended lost members accepted server members' accepted server
@@ -141,7 +145,7 @@ module _ {S : Type 0} (cut : Bool) (spoke : ℕ → S → List ℕ → List ℕ 
       is = ends.said k l.read l.sent l.said;
       talks = l.talks;
       may = lost_may cut (over stream) (IsShut prefix k (history ++ entries)) (lost k) l.left l.unsent why (λ cause. ends.found k l.read l.sent cause l.said)
-          (uncut cut (IsReason (over stream) (IsShut prefix k (history ++ entries)) l.left l.unsent why) l.may);
+          (uncut cut why (IsReason (over stream) (IsShut prefix k (history ++ entries)) l.left l.unsent why) l.may);
     }
 
   keeps_moved_so : (over : S → Cause → Type 0) (members members' : List (ℕ × MemberValue S)) (accepted : ℕ) (old new : ServerValue) (k : ℕ)
@@ -187,13 +191,13 @@ module _ {S : Type 0} (cut : Bool) (spoke : ℕ → S → List ℕ → List ℕ 
   abbrev MayEndSo : (S → Cause → Type 0) → ℕ → ServerValue → MemberValue S → Why → Type 0
   MayEndSo over k server m why =
       (prefix : List ℕ) (opening : CacheValue) (history entries : List HistoryEntry) → ServerStands opening server (history ++ entries) → server.prefix ≡ prefix
-      → Unless cut (IsReason (over m.stream) (IsShut prefix k (history ++ entries)) m.left m.unsent why)
+      → OrCutOff cut why (IsReason (over m.stream) (IsShut prefix k (history ++ entries)) m.left m.unsent why)
 
   ended_so : (over : S → Cause → Type 0) (why : Why) (members members' : List (ℕ × MemberValue S)) (accepted : ℕ) (old new : ServerValue) (k : ℕ)
       → (ends : EndsAt spoke over ended lost k why old members new members') → MayEndSo over k old ends.m why → KeepsSo members accepted old members' accepted new
   ended_so over why members members' accepted old new k ends may prefix opening history keeps =
       let h : TalksOn spoke prefix opening history keeps.entries k ends.m = holds_at prefix opening history members accepted old k ends.m keeps ends.held in
-      let m : Unless cut (IsReason (over ends.m.stream) (IsShut prefix k (history ++ keeps.entries)) ends.m.left ends.m.unsent why) = may prefix opening history keeps.entries keeps.stands keeps.same in
+      let m : OrCutOff cut why (IsReason (over ends.m.stream) (IsShut prefix k (history ++ keeps.entries)) ends.m.left ends.m.unsent why) = may prefix opening history keeps.entries keeps.stands keeps.same in
       keeps_with prefix opening history members members' accepted old new k (End k ∷ []) keeps
       (is_open prefix opening history members accepted old k ends.m keeps ends.held) (refl, tt) ends.others
       (subst (λ (z : List HistoryEntry). ServerStands opening new z) (append_assoc history keeps.entries (End k ∷ [])) (ends.stands opening (history ++ keeps.entries) keeps.stands))
@@ -229,7 +233,7 @@ module _ {S : Type 0} (cut : Bool) (spoke : ℕ → S → List ℕ → List ℕ 
 
       so : (m : MemberValue S) → member_at members k ≡ Some m → MayEndSo over k old m why
       so m e prefix opening history entries stands same =
-          uncut cut (IsReason (over m.stream) (IsShut prefix k (history ++ entries)) m.left m.unsent why)
+          uncut cut why (IsReason (over m.stream) (IsShut prefix k (history ++ entries)) m.left m.unsent why)
           (may_end opening old k (history ++ entries) prefix (over m.stream) m.left m.unsent why stands same
           (subst (λ (z : MemberValue S). IsReason (over z.stream) (IsOpenAt (session_at old k) → ⊥) z.left z.unsent why) (same_member (member_at members k) m may.held e) may.may))
 
@@ -238,7 +242,7 @@ module _ {S : Type 0} (cut : Bool) (spoke : ℕ → S → List ℕ → List ℕ 
       → MovesOnAt None spoke over k old members between mid → EndsIfAny spoke over ended lost k (Err Memory) between mid new members' → GoesOnTogether cut spoke ended lost members accepted old members' accepted new
   keeps_lost over members mid members' accepted old between new k moves ends =
       keeps_further members mid members' accepted accepted accepted old between new (keeps_moved over members mid accepted old between k moves)
-      (keeps_ended_so over (Err Memory) mid members' accepted between new k (λ m e prefix opening history entries stands same. uncut cut (IsReason (over m.stream) (IsShut prefix k (history ++ entries)) m.left m.unsent (Err Memory)) (inl refl)) ends)
+      (keeps_ended_so over (Err Memory) mid members' accepted between new k (λ m e prefix opening history entries stands same. uncut cut (Err Memory) (IsReason (over m.stream) (IsShut prefix k (history ++ entries)) m.left m.unsent (Err Memory)) (inl refl)) ends)
 
   keeps_entered_so : (members members' : List (ℕ × MemberValue S)) (accepted : ℕ) (server : ServerValue) (stream : S)
       → spoke accepted stream [] [] → EntersAt accepted stream members members' → KeepsSo members accepted server members' (accepted + 1) server
@@ -321,7 +325,7 @@ cut_talks spoke ended lost prefix opening history entries k None h = record {
   why = h.why;
   is = h.is;
   talks = h.talks;
-  may = tt;
+  may = inl h.may;
 }
 
 pub keeps_cut : {S : Type 0} (spoke : ℕ → S → List ℕ → List ℕ → Type 0) (ended : ℕ → List ℕ → List ℕ → Why → Type 0) (lost : ℕ → Cause → Type 0) (prefix : List ℕ) (opening : CacheValue) (history : List HistoryEntry) (members : List (ℕ × MemberValue S)) (accepted : ℕ) (server : ServerValue)
@@ -335,7 +339,7 @@ keeps_cut spoke ended lost prefix opening history members accepted server keeps 
   fresh = keeps.fresh;
 }
 
--- any of them is ended
-pub cut_ended : {S : Type 0} (spoke : ℕ → S → List ℕ → List ℕ → Type 0) (ended : ℕ → List ℕ → List ℕ → Why → Type 0) (lost : ℕ → Cause → Type 0) (over : S → Cause → Type 0) (why : Why) (members members' : List (ℕ × MemberValue S)) (accepted : ℕ) (old new : ServerValue) (k : ℕ)
-    → EndsIfAny spoke over ended lost k why old members new members' → GoesOnTogether true spoke ended lost members accepted old members' accepted new
-cut_ended spoke ended lost over why members members' accepted old new k ends = keeps_ended_so true spoke ended lost over why members members' accepted old new k (λ m e prefix opening history entries stands same. tt) ends
+-- any of them is ended, which is told as a fault of reading
+pub cut_ended : {S : Type 0} (spoke : ℕ → S → List ℕ → List ℕ → Type 0) (ended : ℕ → List ℕ → List ℕ → Why → Type 0) (lost : ℕ → Cause → Type 0) (over : S → Cause → Type 0) (members members' : List (ℕ × MemberValue S)) (accepted : ℕ) (old new : ServerValue) (k : ℕ)
+    → EndsIfAny spoke over ended lost k (Err ReadFault) old members new members' → GoesOnTogether true spoke ended lost members accepted old members' accepted new
+cut_ended spoke ended lost over members members' accepted old new k ends = keeps_ended_so true spoke ended lost over (Err ReadFault) members members' accepted old new k (λ m e prefix opening history entries stands same. inr refl) ends

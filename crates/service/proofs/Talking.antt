@@ -22,7 +22,9 @@ use Rattle.service.specs.Sockets.{Cause, Failed, Finished, IsBroken, ReadsFrom, 
 use Rattle.std.specs.declared.io.Error.{Error}
 use Rattle.service.specs.Talks.{entry_number, fault_of_silence, AreApart, Answered, Talks, IsShut, IsReason, HasEnded}
 use Rattle.service.specs.Talks as talks
-use Rattle.service.specs.Member.{MemberValue, unsent_of, TalksOn, MayEndNow, FailsFor, EndsFor, EndsWell, TalksOnUnless, AreOf, HasMovedOn, MovesOn, Passes, PassesSent}
+use Rattle.service.specs.Member.{MemberValue, unsent_of, TalksOn, MayEndNow, FailsFor, GoesAfter, EndsWell, TalksOnUnless, AreOf, HasMovedOn, MovesOn, Passes, PassesSent, end_of}
+use Rattle.service.specs.declared.turn.Turn.{Turn}
+use Rattle.service.specs.declared.turn.Turn.TheVariants.{Again, Waits, Held, Ends}
 
 -- ---- entries of other connections
 
@@ -172,11 +174,13 @@ text_unsent (Some a) = refl
 -- ---- faults
 
 -- the fault after which it ends is one for which it is over
-pub fails_for : (Q : ConnError → Type 0) (fault : Error) (cause : ConnError) (end : Option Why) → (IsBroken fault → Q cause) → EndsFor fault cause end → FailsFor Q end
-fails_for Q fault cause None f h = tt
-fails_for Q fault cause (Some (Ok done)) f h = h
-fails_for Q fault cause (Some (Err e)) f (inl (room, none)) = inl none
-fails_for Q fault cause (Some (Err e)) f (inr (broken, is)) = inr (subst Q (sym is) (f broken))
+pub fails_for : (Q : ConnError → Type 0) (fault : Error) (cause : ConnError) (turn : Turn) → (IsBroken fault → Q cause) → GoesAfter fault cause turn → FailsFor Q (end_of turn)
+fails_for Q fault cause Again f h = tt
+fails_for Q fault cause Waits f h = tt
+fails_for Q fault cause Held f h = tt
+fails_for Q fault cause (Ends (Ok done)) f h = h
+fails_for Q fault cause (Ends (Err e)) f (inl (room, none)) = inl none
+fails_for Q fault cause (Ends (Err e)) f (inr (broken, is)) = inr (subst Q (sym is) (f broken))
 
 -- ---- silence
 

@@ -53,11 +53,11 @@ gone_more {S} spoke over ended lost number why s t old new ends gone k h = by_te
   where
     at : EndsIfAny spoke over ended lost number why s old t new → member_at new number ≡ None
     at (inl e) = e.gone
-    at (inr (none, same, all)) = all number ∙ none
+    at (inr (none, same, all)) = all.0 number ∙ none
 
     others : EndsIfAny spoke over ended lost number why s old t new → (k ≡ number → ⊥) → member_at new k ≡ member_at old k
     others (inl e) n = e.others k n
-    others (inr (none, same, all)) n = all k
+    others (inr (none, same, all)) n = all.0 k
 
     less : (k < number) ⊎ (number ≤ k) → (k ≡ number → ⊥) → k < number
     less (inl l) n = l

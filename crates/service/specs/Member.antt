@@ -31,10 +31,6 @@ unsent_of (Some answer) sent = drop sent (text_of answer)
 abbrev pub new_member : {S : Type 0} → S → MemberValue S
 new_member stream = record { stream = stream; left = []; unsent = [] }
 
--- the same connection, its stream as it is now
-abbrev pub with_stream : {S : Type 0} → MemberValue S → S → MemberValue S
-with_stream m stream = record { stream = stream; left = m.left; unsent = m.unsent }
-
 -- it goes on: what was read and what was sent is as the entries say
 pub record TalksOn
     {S : Type 0} (spoke : ℕ → S → List ℕ → List ℕ → Type 0) (prefix : List ℕ)
@@ -71,12 +67,14 @@ FailsFor fails None = ⊤
 FailsFor fails (Some (Ok done)) = ⊥
 FailsFor fails (Some (Err e)) = (e ≡ Memory) ⊎ fails e
 
--- After a call failed with this fault: it ends without memory or as broken, with this error, and
--- goes on where the system has nothing for it or it was interrupted.
-abbrev pub EndsFor : Error → ConnError → Option Why → Type 0
-EndsFor fault other None = (error_kind fault ≡ WouldBlock) ⊎ (error_kind fault ≡ Interrupted)
-EndsFor fault other (Some (Ok done)) = ⊥
-EndsFor fault other (Some (Err e)) =
+-- After a call failed with this fault: it goes on at once where it was interrupted, waits where the
+-- system has nothing for it, and ends without memory, or as broken with this error.
+abbrev pub GoesAfter : Error → ConnError → Turn → Type 0
+GoesAfter fault other Again = error_kind fault ≡ Interrupted
+GoesAfter fault other Waits = error_kind fault ≡ WouldBlock
+GoesAfter fault other Held = ⊥
+GoesAfter fault other (Ends (Ok done)) = ⊥
+GoesAfter fault other (Ends (Err e)) =
     ((error_kind fault ≡ OutOfMemory) × (e ≡ Memory)) ⊎ (IsBroken fault × (e ≡ other))
 
 -- it ends only without a fault, where this holds

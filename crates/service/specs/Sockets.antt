@@ -1,5 +1,5 @@
 -- What is said of a stream: which connection it is, what was read of it, and what was sent to it.
-use Rattle.std.specs.Prelude.{◌≡◌, ℕ, List, ◌++◌, Result}
+use Rattle.std.specs.Prelude.{◌≡◌, ℕ, ◌+◌, List, ◌++◌, Result}
 use Rattle.std.specs.IoError.{error_kind}
 use Rattle.std.specs.declared.io.Error.{Error}
 use Rattle.std.specs.declared.io.ErrorKind.TheVariants.{Interrupted, OutOfMemory, WouldBlock}
@@ -35,6 +35,18 @@ Stays spoke old new =
 -- its writing side stays ended, where it was
 abbrev pub StaysShut : {S : Type 0} → (S → Cause → Type 0) → S → S → Type 0
 StaysShut over old new = over old Shut → over new Shut
+
+-- as many places are free as were
+abbrev pub KeepsPlaces : {N : Type 0} → (N → ℕ → Type 0) → N → N → Type 0
+KeepsPlaces places old new = (free : ℕ) → places old free → places new free
+
+-- one fewer is free, if one was
+abbrev pub TakesPlace : {N : Type 0} → (N → ℕ → Type 0) → N → N → Type 0
+TakesPlace places old new = (free : ℕ) → places old (free + 1) → places new free
+
+-- one more is free
+abbrev pub GivesPlace : {N : Type 0} → (N → ℕ → Type 0) → N → N → Type 0
+GivesPlace places old new = (free : ℕ) → places old free → places new (free + 1)
 
 -- a fault of the stream: not that it has nothing yet, was interrupted, or found no memory
 pub record IsBroken (e : Error) : Type 0 where

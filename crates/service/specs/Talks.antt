@@ -1,5 +1,5 @@
 -- What is asked over connections, and what is answered there.
-use Rattle.std.specs.Prelude.{◌≡◌, ◌⊎◌, ℕ, ◌<◌, Bool, true, false, ⊤, List, [], ◌∷◌, ◌++◌, None}
+use Rattle.std.specs.Prelude.{◌≡◌, ◌⊎◌, ℕ, ◌<◌, Bool, true, false, List, [], ◌∷◌, ◌++◌, None}
 use Rattle.std.specs.Prelude.{Ok, Err}
 use Rattle.std.specs.IoError.{error_kind}
 use Rattle.std.specs.declared.io.Error.{Error}
@@ -80,10 +80,10 @@ IsReason over shut left unsent (Ok done) =
 IsReason over shut left unsent (Err e) =
     (e ≡ Memory) ⊎ (over (Failed e) ⊎ (over Silent × (e ≡ fault_of_silence unsent)))
 
--- so it is, unless the whole run was cut off
-abbrev pub Unless : Bool → Type 0 → Type 0
-Unless false P = P
-Unless true P = ⊤
+-- so it is, or the whole run was cut off, which is told as a fault of reading
+abbrev pub OrCutOff : Bool → Why → Type 0 → Type 0
+OrCutOff false why P = P
+OrCutOff true why P = P ⊎ (why ≡ Err ReadFault)
 
 -- The connection has ended, after these entries, and none of it comes later. Until then a beginning
 -- of what was read of it came to the server, and a beginning of the answers to that was sent, to
@@ -103,7 +103,8 @@ pub record HasEnded
   pub why : Why
   pub is : ended k read sent why
   pub talks : Talks prefix opening history before k read sent left unsent
-  pub may : Unless cut (IsReason (lost k) (IsShut prefix k (history ++ before)) left unsent why)
+  pub may : OrCutOff cut why
+      (IsReason (lost k) (IsShut prefix k (history ++ before)) left unsent why)
 
 -- each entry is of a connection with a number below this one
 abbrev pub AreBelow : ℕ → List HistoryEntry → Type 0

@@ -1,6 +1,6 @@
 -- Open connections, each under its number, and a server.
-use Rattle.std.specs.Prelude.{◌≡◌, ℕ, ◌<◌, ◌≤◌, ◌⊎◌, Bool, false, List, [], ◌∷◌, ◌++◌, Option}
-use Rattle.std.specs.Prelude.{Some, None}
+use Rattle.std.specs.Prelude.{◌≡◌, ℕ, ◌+◌, ◌<◌, ◌≤◌, ◌⊎◌, Bool, false, List, ◌++◌, length}
+use Rattle.std.specs.Prelude.{Option, Some, None}
 use Rattle.std.specs.Ordering.{nat_cmp}
 use Rattle.std.specs.BTreeMap.{is_at}
 use Rattle.std.specs.Map.{lookup}
@@ -50,15 +50,38 @@ pub record GoesOnTogether
       → KeepsTogether cut spoke ended lost prefix opening history members' accepted' server'
 
 -- so it is after a call, however many were accepted
-abbrev pub GoesOn :
+abbrev pub LeavesTogether :
     {S : Type 0} → (ℕ → S → List ℕ → List ℕ → Type 0) → (ℕ → List ℕ → List ℕ → Why → Type 0)
     → (ℕ → Cause → Type 0) → (old new : List (ℕ × MemberValue S) × ServerValue) → Type 0
-GoesOn spoke ended lost old new =
+LeavesTogether spoke ended lost old new =
     (accepted : ℕ) → GoesOnTogether false spoke ended lost old.0 accepted old.1 new.0 accepted new.1
+
+-- Of so many places each is free or a connection's, whose number is below this one.
+pub record ArePlaced
+    {N S : Type 0} (places : N → ℕ → Type 0) (all : ℕ)
+    (sockets : N) (members : List (ℕ × MemberValue S)) (accepted : ℕ) : Type 0 where
+  pub free : ℕ
+  pub are : places sockets free
+  pub sum : free + length members ≡ all
+  pub fresh : (k : ℕ) → accepted ≤ k → member_at members k ≡ None
+
+-- so it is afterwards, where it was so before
+pub record StaysPlaced
+    {N S : Type 0} (places : N → ℕ → Type 0) (all : ℕ)
+    (sockets : N) (members : List (ℕ × MemberValue S)) (accepted : ℕ)
+    (sockets' : N) (members' : List (ℕ × MemberValue S)) (accepted' : ℕ) : Type 0 where
+  pub on : ArePlaced places all sockets members accepted
+      → ArePlaced places all sockets' members' accepted'
+
+-- so it is after a call, however many places there are, and however many were accepted
+abbrev pub LeavesPlaced :
+    {N S : Type 0} → (N → ℕ → Type 0) → (old new : N × List (ℕ × MemberValue S)) → Type 0
+LeavesPlaced places old new =
+    (all accepted : ℕ) → StaysPlaced places all old.0 old.1 accepted new.0 new.1 accepted
 
 -- the same connections
 abbrev pub AreSame : {S : Type 0} → List (ℕ × MemberValue S) → List (ℕ × MemberValue S) → Type 0
-AreSame old new = (j : ℕ) → member_at new j ≡ member_at old j
+AreSame old new = ((j : ℕ) → member_at new j ≡ member_at old j) × (length new ≡ length old)
 
 -- all but one connection are the same
 abbrev pub OthersAreSame :
@@ -76,6 +99,7 @@ pub record MovesOnAt
   pub held : member_at members k ≡ Some before
   pub at : member_at members' k ≡ Some after
   pub others : OthersAreSame k members members'
+  pub many : length members' ≡ length members
   pub moves : MovesOn end spoke over k old before new after
 
 -- a new connection
@@ -84,6 +108,7 @@ pub record EntersAt
     (old new : List (ℕ × MemberValue S)) : Type 0 where
   pub at : member_at new k ≡ Some (new_member stream)
   pub others : OthersAreSame k old new
+  pub more : member_at old k ≡ None → length new ≡ length old + 1
 
 -- the connection with the number may end for this reason
 pub record MayEndAt

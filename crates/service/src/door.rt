@@ -1,17 +1,19 @@
 //! How connections come in.
-ghost use Rattle.std.specs.Prelude.{◌≡◌, ◌<◌, ◌≤◌, ◌↔◌, [], IfErr, IfOk, IfSome, IsTrue, OnErr};
-ghost use Rattle.std.specs.Prelude.{OnOk, false};
+ghost use Rattle.std.specs.Prelude.{◌≡◌, ◌+◌, ◌<◌, ◌≤◌, ◌↔◌, [], IfErr, IfNone, IfOk, IfSome};
+ghost use Rattle.std.specs.Prelude.{IsTrue, OnErr, OnOk, false, length};
 ghost use Rattle.std.specs.IoError.{error_kind};
 ghost use Rattle.std.specs.declared.io.ErrorKind.TheVariants.{WouldBlock};
 ghost use Rattle.cache_server.specs.Server.{ServerValue};
+ghost use Rattle.service.specs.Sockets.{KeepsPlaces, TakesPlace};
 ghost use Rattle.service.specs.Talks.{AcceptsNone};
-ghost use Rattle.service.specs.Together.{AreSame, EntersAt, GoesOnTogether};
+ghost use Rattle.service.specs.Together.{AreSame, EntersAt, GoesOnTogether, StaysPlaced};
 
 use crate::member::Member;
 use crate::sockets::{Peer, Sockets};
 use crate::together::Together;
+use cache_server::ConnError;
 use log::{Log, warn};
-use std::alloc::AllocError;
+use std::alloc::Global;
 use std::io;
 use std::io::ErrorKind;
 use std::net::SocketAddr;
@@ -28,44 +30,53 @@ fn finds_none(fault: &io::Error) -> bool
 }
 
 impl<S: Peer + Drop> Together<S> {
-    /// Accepts the connections that wait, as long as there is a place for them.
-    #[tactic(auto, using(crate::proofs::Keeping::keeps_nowhere, crate::proofs::Keeping::keeps_further, crate::proofs::Keeping::keeps_same, crate::proofs::Keeping::keeps_entered))]
+    /// Accepts the connections that wait, as long as fewer than `at_once` are open.
+    #[tactic(auto, using(crate::proofs::Keeping::keeps_nowhere, crate::proofs::Keeping::keeps_further, crate::proofs::Keeping::keeps_same, crate::proofs::Keeping::keeps_entered, crate::proofs::Places::placed_nowhere, crate::proofs::Places::placed_further))]
     pub(crate) fn accept_some<R: AllocGlobal + Clock + Log, N: Sockets<Stream = S>>(
         &mut self,
         rt: &R,
         sockets: &mut N,
         accepted: &mut u64,
         connections: u64,
+        at_once: usize,
     ) -> io::Result<()>
         requires { accepted.old ≤ connections }
         ensures keeps { (server : ServerValue) → GoesOnTogether false S.spoke N.ended N.lost
             self.old.members.entries accepted.old server
             self.new.members.entries accepted.new server }
+        ensures places { StaysPlaced N.places at_once
+            sockets.old self.old.members.entries accepted.old
+            sockets.new self.new.members.entries accepted.new }
         ensures within { accepted.new ≤ connections }
         ensures fails { IfErr result (AcceptsNone N.failed N.refused sockets.new) }
         ensures none { OnErr result (self.new.members.entries ≡ []) }
     {
         for _ in 0..u64::MAX {
-            if !self.waits || *accepted >= connections || self.members.len() >= self.at_once {
+            if !self.waits || *accepted >= connections || self.members.len() >= at_once {
                 return Ok(());
             }
-            self.accept_one(rt, sockets, accepted, connections)?;
+            self.accept_one(rt, sockets, accepted, connections, at_once)?;
         }
         Ok(())
     }
 
-    /// Accepts a connection, if one waits. One for which memory is wanting is dropped.
+    /// Accepts a connection, if one waits. One for which memory is wanting is ended at once.
     fn accept_one<R: AllocGlobal + Clock + Log, N: Sockets<Stream = S>>(
         &mut self,
         rt: &R,
         sockets: &mut N,
         accepted: &mut u64,
         connections: u64,
+        at_once: usize,
     ) -> io::Result<()>
-        requires { accepted.old < connections }
+        requires more { accepted.old < connections }
+        requires place { length self.old.members.entries < at_once }
         ensures keeps { (server : ServerValue) → GoesOnTogether false S.spoke N.ended N.lost
             self.old.members.entries accepted.old server
             self.new.members.entries accepted.new server }
+        ensures places { StaysPlaced N.places at_once
+            sockets.old self.old.members.entries accepted.old
+            sockets.new self.new.members.entries accepted.new }
         ensures within { accepted.new ≤ connections }
         ensures fails { IfErr result (AcceptsNone N.failed N.refused sockets.new) }
         ensures none { OnErr result (self.new.members.entries ≡ []) }
@@ -74,13 +85,17 @@ impl<S: Peer + Drop> Together<S> {
         let Some((stream, peer)) = self.next(rt, sockets, number)? else {
             return Ok(());
         };
-        if self.enter(rt, number, stream, peer).is_err() {
-            self.line.clear();
-            warn!(rt; "{number}: not accepted: out of memory");
-            self.waits = self.members.is_empty();
-            return Ok(());
+        let now = self.timer.now(rt);
+        match self.enter(rt.alloc(), number, stream, peer, now) {
+            Ok(()) => *accepted = number + 1,
+            Err(stream) => {
+                sockets.end(stream, Err(ConnError::Memory));
+                self.line.clear();
+                warn!(rt; "{number}: not accepted: out of memory");
+                self.waits = self.members.is_empty();
+                return Ok(());
+            }
         }
-        *accepted = number + 1;
         Ok(())
     }
 
@@ -94,8 +109,13 @@ impl<S: Peer + Drop> Together<S> {
     ) -> io::Result<Option<(S, SocketAddr)>>
         ensures same { self.new.members.entries ≡ self.old.members.entries }
         ensures said { IfOk result (λ found. IfSome found (λ it. S.spoke number it.0 [] [])) }
+        ensures takes { IfOk result (λ found. IfSome found (λ it.
+            TakesPlace N.places sockets.old sockets.new)) }
+        ensures keeps { IfOk result (λ found.
+            IfNone found (KeepsPlaces N.places sockets.old sockets.new)) }
         ensures fails { IfErr result (AcceptsNone N.failed N.refused sockets.new) }
         ensures none { OnErr result (self.new.members.entries ≡ []) }
+        ensures stays { OnErr result (KeepsPlaces N.places sockets.old sockets.new) }
     {
         for failed in 0..TRIES {
             let fault = match sockets.accept(number) {
@@ -120,25 +140,34 @@ impl<S: Peer + Drop> Together<S> {
         Ok(None)
     }
 
-    /// A connection takes a place.
-    fn enter<R: AllocGlobal + Clock>(
+    /// A connection takes a place, or comes back where memory is wanting.
+    fn enter(
         &mut self,
-        rt: &R,
+        alloc: Global,
         number: u64,
         stream: S,
         peer: SocketAddr,
-    ) -> Result<(), AllocError>
+        now: u64,
+    ) -> Result<(), S>
         ensures ok { OnOk result (EntersAt number stream
             self.old.members.entries self.new.members.entries) }
         ensures err { OnErr result (AreSame self.old.members.entries self.new.members.entries) }
+        ensures back { IfErr result (λ it. it ≡ stream) }
+        ensures wake { OnOk result (IfSome self.old.idle (λ idle. self.new.wake ≤ now + idle)) }
     {
-        let member = Member::new(rt.alloc(), stream, peer, self.timer.now(rt));
-        let deadline = member.deadline(self.idle, false);
-        self.members.insert(number, member)?;
-        if let Some(deadline) = deadline {
-            self.wake = self.wake.min(deadline);
+        let idle = self.idle;
+        let member = Member::new(alloc, stream, peer, now);
+        match self.members.insert(number, member) {
+            Ok(_) => self.queue(number),
+            Err(refused) => {
+                let (_, member) = refused.value;
+                let (stream, _, _) = member.into_parts();
+                return Err(stream);
+            }
         }
-        self.queue(number);
+        if let Some(idle) = idle {
+            self.wake = self.wake.min(now.saturating_add(idle));
+        }
         Ok(())
     }
 }

@@ -1,7 +1,7 @@
 //! How connections end.
-ghost use Rattle.std.specs.Prelude.{◌≡◌, ◌<◌, ℕ, None, true};
-ghost use Rattle.service.specs.Together.{AreSame, EndsIfAny, GoesOnTogether, OthersAreSame};
-ghost use Rattle.service.specs.Together.{member_at};
+ghost use Rattle.std.specs.Prelude.{◌≡◌, ◌+◌, ◌<◌, ℕ, IsSome, IsTrue, None, length, true};
+ghost use Rattle.service.specs.Together.{AreSame, EndsIfAny, GoesOnTogether, LeavesPlaced};
+ghost use Rattle.service.specs.Together.{OthersAreSame, member_at};
 
 use crate::load::Load;
 use crate::member::Member;
@@ -14,6 +14,7 @@ use std::alloc::Global;
 
 impl<S: Peer + Drop> Together<S> {
     /// Ends the connection with the number, if it is open.
+    #[tactic(auto, using(crate::proofs::Places::placed_still))]
     pub(crate) fn end<R: Log, N: Sockets<Stream = S>>(
         &mut self,
         rt: &R,
@@ -22,8 +23,12 @@ impl<S: Peer + Drop> Together<S> {
         number: u64,
         why: Result<(), ConnError>,
     )
-        ensures { EndsIfAny S.spoke S.over N.ended N.lost number why
+        ensures ends { EndsIfAny S.spoke S.over N.ended N.lost number why
             server.old self.old.members.entries server.new self.new.members.entries }
+        ensures places { LeavesPlaced N.places (sockets.old, self.old.members.entries)
+            (sockets.new, self.new.members.entries) }
+        ensures again { IsSome (member_at self.old.members.entries number)
+            → IsTrue self.new.waits }
     {
         let Some(member) = self.take(number) else {
             return;
@@ -45,12 +50,14 @@ impl<S: Peer + Drop> Together<S> {
             self.old.members.entries self.new.members.entries }
         ensures same { result ≡ None
             → AreSame self.old.members.entries self.new.members.entries }
+        ensures fewer { IsSome result
+            → length self.new.members.entries + 1 ≡ length self.old.members.entries }
     {
         self.members.remove(&number)
     }
 
     /// Ends the connections that are still open.
-    #[tactic(auto, using(crate::proofs::Keeping::keeps_nowhere, crate::proofs::Keeping::keeps_further, crate::proofs::Keeping::cut_ended))]
+    #[tactic(auto, using(crate::proofs::Keeping::keeps_nowhere, crate::proofs::Keeping::keeps_further, crate::proofs::Keeping::cut_ended, crate::proofs::Places::placed_nowhere))]
     pub(crate) fn end_all<R: Log, N: Sockets<Stream = S>>(
         &mut self,
         rt: &R,
@@ -61,6 +68,8 @@ impl<S: Peer + Drop> Together<S> {
         ensures keeps { GoesOnTogether true S.spoke N.ended N.lost
             self.old.members.entries accepted server.old
             self.new.members.entries accepted server.new }
+        ensures places { LeavesPlaced N.places (sockets.old, self.old.members.entries)
+            (sockets.new, self.new.members.entries) }
         ensures all { (k : ℕ) → k < accepted → member_at self.new.members.entries k ≡ None }
     {
         for number in 0..accepted {

@@ -78,6 +78,8 @@ impl Sockets for Epoll {
 
     ghost lost = { λ _ _. Unit {0} };
 
+    ghost places = { λ _ _. Unit {0} };
+
     ghost failed = { λ _ _. Unit {0} };
 
     ghost refused = { λ _ _. Unit {0} };

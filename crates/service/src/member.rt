@@ -1,6 +1,6 @@
 ghost use Rattle.std.specs.Prelude.{◌≡◌, ◌↔◌, [], take, drop, IfErr, IfOk, IfSome, IsTrue, OnErr};
 ghost use Rattle.cache_server.specs.Server.{IsOpenAt, session_at};
-ghost use Rattle.service.specs.Member.{EndsFor, EndsWell, MovesOn, Passes, PassesSent};
+ghost use Rattle.service.specs.Member.{EndsWell, GoesAfter, MovesOn, Passes, PassesSent};
 ghost use Rattle.service.specs.Member.{end_of, new_member, unsent_of};
 ghost use Rattle.service.specs.Sockets.{Failed, IsBroken, SendsTo, Shut, Stays};
 ghost use Rattle.service.specs.Talks.{IsReason};
@@ -191,8 +191,9 @@ impl<S: Peer + Drop> Member<S> {
         pressed: bool,
         now: u64,
     ) -> Option<Result<(), ConnError>>
-        ensures { IfSome result (λ why. IsReason (S.over self.now.stream) (IsTrue is_open → ⊥)
-            self.now.left self.now.unsent why) }
+        ensures reason { IfSome result (λ why. IsReason (S.over self.now.stream)
+            (IsTrue is_open → ⊥) self.now.left self.now.unsent why) }
+        ensures known { IfSome result (λ why. why ≡ Err ConnError.Memory → ⊥) }
     {
         let allowed = self.deadline(idle, pressed)?.saturating_sub(self.moved);
         let silent = now.saturating_sub(self.moved);
@@ -312,7 +313,8 @@ impl<S: Peer + Drop> Member<S> {
     #[tactic(auto, using(crate::proofs::Talking::sends_lost, crate::proofs::Talking::sends_over, crate::proofs::Talking::sends_more))]
     fn pass(&mut self, count: usize, now: u64) -> Turn
         requires { count ≡ 0 → S.over self.old.stream (Failed ConnError.WriteFault) }
-        ensures { PassesSent (end_of result) S.spoke S.over count self.old self.new }
+        ensures passes { PassesSent (end_of result) S.spoke S.over count self.old self.new }
+        ensures none { count ≡ 0 → end_of result ≡ Some (Err ConnError.WriteFault) }
     {
         let Some(sent) = self.sent.checked_add(count) else {
             return Turn::Ends(Err(ConnError::Memory));
@@ -502,7 +504,7 @@ impl<S: Peer + Drop> Member<S> {
 /// What comes of a call that failed: without memory, where the system has nothing for it, where it
 /// was interrupted, and otherwise.
 fn after_fault(fault: &io::Error, other: ConnError) -> Turn
-    ensures { EndsFor fault.now other (end_of result) }
+    ensures { GoesAfter fault.now other result }
 {
     match fault.kind() {
         ErrorKind::OutOfMemory => Turn::Ends(Err(ConnError::Memory)),

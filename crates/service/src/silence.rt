@@ -1,6 +1,6 @@
 //! Which connections were silent for too long.
-ghost use Rattle.std.specs.Prelude.{IfSome};
-ghost use Rattle.service.specs.Together.{GoesOn, MayEndAt};
+ghost use Rattle.std.specs.Prelude.{◌≡◌, IfSome};
+ghost use Rattle.service.specs.Together.{LeavesPlaced, LeavesTogether, MayEndAt};
 
 use crate::load::GREATEST;
 use crate::sockets::{Peer, Sockets};
@@ -12,15 +12,17 @@ use std::time::Clock;
 
 impl<S: Peer + Drop> Together<S> {
     /// Ends the connections that were silent for too long.
-    #[tactic(auto, using(crate::proofs::Keeping::keeps_nowhere, crate::proofs::Keeping::keeps_further))]
+    #[tactic(auto, using(crate::proofs::Keeping::keeps_nowhere, crate::proofs::Keeping::keeps_further, crate::proofs::Places::placed_nowhere))]
     pub(crate) fn sweep<R: AllocGlobal + Clock + Log, N: Sockets<Stream = S>>(
         &mut self,
         rt: &R,
         sockets: &mut N,
         server: &mut Server<Global>,
     )
-        ensures { GoesOn S.spoke N.ended N.lost (self.old.members.entries, server.old)
-            (self.new.members.entries, server.new) }
+        ensures keeps { LeavesTogether S.spoke N.ended N.lost
+            (self.old.members.entries, server.old) (self.new.members.entries, server.new) }
+        ensures places { LeavesPlaced N.places (sockets.old, self.old.members.entries)
+            (sockets.new, self.new.members.entries) }
     {
         let now = self.timer.now(rt);
         let pressed = self.scales.load.requests >= GREATEST || self.is_full();
@@ -50,7 +52,7 @@ impl<S: Peer + Drop> Together<S> {
     }
 
     /// Ends the connection with the number, if it was silent for too long.
-    #[tactic(auto, using(crate::proofs::Keeping::keeps_nowhere, crate::proofs::Keeping::keeps_ended))]
+    #[tactic(auto, using(crate::proofs::Keeping::keeps_nowhere, crate::proofs::Keeping::keeps_ended, crate::proofs::Places::placed_nowhere))]
     fn give_up<R: Log, N: Sockets<Stream = S>>(
         &mut self,
         rt: &R,
@@ -60,8 +62,10 @@ impl<S: Peer + Drop> Together<S> {
         pressed: bool,
         now: u64,
     )
-        ensures { GoesOn S.spoke N.ended N.lost (self.old.members.entries, server.old)
-            (self.new.members.entries, server.new) }
+        ensures keeps { LeavesTogether S.spoke N.ended N.lost
+            (self.old.members.entries, server.old) (self.new.members.entries, server.new) }
+        ensures places { LeavesPlaced N.places (sockets.old, self.old.members.entries)
+            (sockets.new, self.new.members.entries) }
     {
         match self.silence(server, number, pressed, now) {
             Some(why) => self.end(rt, sockets, server, number, why),
@@ -77,8 +81,9 @@ impl<S: Peer + Drop> Together<S> {
         pressed: bool,
         now: u64,
     ) -> Option<Result<(), ConnError>>
-        ensures { IfSome result (λ why.
+        ensures may { IfSome result (λ why.
             MayEndAt S.over number server.now self.now.members.entries why) }
+        ensures known { IfSome result (λ why. why ≡ Err ConnError.Memory → ⊥) }
     {
         let is_open = server.is_open(number);
         let idle = self.idle;

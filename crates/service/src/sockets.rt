@@ -1,11 +1,13 @@
 ghost use Rattle.std.specs.Prelude.{◌≡◌, ◌≤◌, ◌↔◌, ℕ, List, [], take, IfErr, IfOk, IsTrue, OnErr};
+ghost use Rattle.std.specs.Prelude.{OnOk};
 ghost use Rattle.cache_server.specs.declared.error.ConnError.{ConnError};
 ghost use Rattle.std.specs.Io.{ReadsAtMost, WritesAtMost};
 ghost use Rattle.std.specs.IoError.{error_kind};
 ghost use Rattle.std.specs.declared.io.Error.{Error};
 ghost use Rattle.std.specs.declared.io.ErrorKind.TheVariants.{WouldBlock};
-ghost use Rattle.service.specs.Sockets.{Cause, EndsAs, Failed, Finished, IsBroken, ReadsFrom};
-ghost use Rattle.service.specs.Sockets.{SendsTo, Shut, Silent, Stays, StaysShut, Why};
+ghost use Rattle.service.specs.Sockets.{Cause, EndsAs, Failed, Finished, GivesPlace, IsBroken};
+ghost use Rattle.service.specs.Sockets.{KeepsPlaces, ReadsFrom, SendsTo, Shut, Silent, Stays};
+ghost use Rattle.service.specs.Sockets.{StaysShut, TakesPlace, Why};
 ghost use Rattle.service.specs.Turns.{FailsAfter};
 
 use cache_server::ConnError;
@@ -82,6 +84,9 @@ pub trait Sockets {
     /// That it was over then, and why.
     ghost lost: { ℕ → Cause → Type 0 };
 
+    /// That so many more connections may be open. Only the calls that open and end them change it.
+    ghost places: { Self → ℕ → Type 0 };
+
     /// That so many accepts in a row have failed, up to the last, and not for want of a connection.
     ghost failed: { Self → ℕ → Type 0 };
 
@@ -96,13 +101,17 @@ pub trait Sockets {
         ensures said { IfOk result (λ accepted. Self.Stream.spoke number accepted.0 [] []) }
         ensures fails { IfErr result (λ e. (error_kind e ≡ WouldBlock → ⊥)
             → FailsAfter failed 0 1 self.old self.new) }
-        ensures last { IfErr result (refused self.new) };
+        ensures last { IfErr result (refused self.new) }
+        ensures takes { OnOk result (TakesPlace places self.old self.new) }
+        ensures keeps { OnErr result (KeepsPlaces places self.old self.new) };
 
     /// Ends a connection, and is told why.
     fn end(&mut self, stream: Self::Stream, why: Result<(), ConnError>)
-        ensures { EndsAs Self.Stream.spoke Self.Stream.over stream why ended lost };
+        ensures ends { EndsAs Self.Stream.spoke Self.Stream.over stream why ended lost }
+        ensures gives { GivesPlace places self.old self.new };
 
     /// Waits until the system has something, for so long at most, and adds it to what is ready.
     fn wait(&mut self, timeout: Option<Duration>, ready: &mut Vec<Ready, Global>) -> io::Result<()>
-        ensures { IfErr result broken };
+        ensures fails { IfErr result broken }
+        ensures keeps { KeepsPlaces places self.old self.new };
 }

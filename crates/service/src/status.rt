@@ -1,4 +1,4 @@
-ghost use Rattle.std.specs.Prelude.{◌≡◌, ◌+◌, ◌<◌, ◌≤◌, ◌⊎◌, min, IsSome, None, Some, is_some};
+ghost use Rattle.std.specs.Prelude.{◌≡◌, ◌+◌, ◌<◌, ◌≤◌, min, IsSome, None, Some, is_some};
 
 use std::io::{IsTerminal, Stderr, Write};
 
@@ -43,6 +43,7 @@ impl StatusLine {
     pub(crate) fn new(terminal: Option<Stderr>) -> StatusLine
         ensures terminal { result.terminal ≡ terminal }
         ensures unwritten { result.shown ≡ None }
+        ensures times { (result.next ≡ 0) × (result.due ≡ u64.MAX) }
     {
         StatusLine {
             terminal,
@@ -70,13 +71,19 @@ impl StatusLine {
     /// second before.
     pub(crate) fn show(&mut self, status: Status, now: u64)
         ensures silent { self.old.terminal ≡ None → self.new ≡ self.old }
-        ensures rare { now < self.old.next → self.new.shown ≡ self.old.shown }
-        ensures shown { IsSome self.old.terminal → self.old.next ≤ now
-            → self.new.shown ≡ Some status }
-        ensures paced { (self.new.shown ≡ self.old.shown)
-            ⊎ (self.new.next ≡ min (now + 1000) 18446744073709551615) }
-        ensures due { IsSome self.old.terminal
-            → (self.new.shown ≡ Some status) ⊎ (self.new.due ≡ self.old.next) }
+        ensures terminal { is_some self.new.terminal ≡ is_some self.old.terminal }
+        ensures stands { self.old.shown ≡ Some status
+            → (self.new.shown ≡ Some status) × (self.new.next ≡ self.old.next) }
+        ensures rare { now < self.old.next
+            → (self.new.shown ≡ self.old.shown) × (self.new.next ≡ self.old.next) }
+        ensures written { IsSome self.old.terminal → (self.old.shown ≡ Some status → ⊥)
+            → self.old.next ≤ now
+            → (self.new.shown ≡ Some status) × (self.new.next ≡ min (now + 1000) u64.MAX) }
+        // It is due again only where it doesn't say that yet.
+        ensures told { IsSome self.old.terminal → self.new.shown ≡ Some status
+            → self.new.due ≡ u64.MAX }
+        ensures due { IsSome self.old.terminal → (self.new.shown ≡ Some status → ⊥)
+            → self.new.due ≡ self.new.next }
     {
         let Some(terminal) = &mut self.terminal else {
             return;
@@ -99,8 +106,8 @@ impl StatusLine {
     /// Takes the line away, for what else is told there.
     pub(crate) fn clear(&mut self)
         ensures cleared { self.new.shown ≡ None }
-        ensures paced { self.new.next ≡ self.old.next }
-        ensures silent { self.old.terminal ≡ None → self.new.terminal ≡ None }
+        ensures paced { (self.new.next ≡ self.old.next) × (self.new.due ≡ self.old.due) }
+        ensures terminal { is_some self.new.terminal ≡ is_some self.old.terminal }
     {
         if self.shown.is_none() {
             return;

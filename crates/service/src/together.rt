@@ -2,12 +2,12 @@ ghost use Rattle.std.specs.Prelude.{◌≡◌, ◌≤◌, ℕ, [], None, IfErr, 
 ghost use Rattle.std.specs.IoError.{error_kind};
 ghost use Rattle.std.specs.declared.io.ErrorKind.TheVariants.{OutOfMemory};
 ghost use Rattle.service.specs.Talks.{Serves, Stops};
-ghost use Rattle.service.specs.Together.{AreSame, GoesOnTogether, member_at};
+ghost use Rattle.service.specs.Together.{AreSame, GoesOnTogether, StaysPlaced, member_at};
 
 use crate::desk::Desk;
 use crate::epoll::Epoll;
 use crate::error::NotAccepted;
-use crate::load::Scales;
+use crate::load::{GREATEST, Scales};
 use crate::member::Member;
 use crate::sockets::{Peer, Sockets};
 use crate::status::{ErrorTerminal, Status, StatusLine};
@@ -29,13 +29,13 @@ const EVENTS: usize = 256;
 pub(crate) struct Together<S: Peer> {
     // The open ones, each under its number.
     pub(crate) members: BTreeMap<u64, Member<S>, Global>,
-    // How many may be open.
-    pub(crate) at_once: usize,
     // Those with something to do, each once.
     pub(crate) ready: Vec<u64, Global>,
     // Those that wait until others hold less.
     pub(crate) held: Vec<u64, Global>,
     pub(crate) scales: Scales,
+    // How many bytes of a request each may keep, where all together hold too much.
+    pub(crate) share: u64,
     // A connection may wait to be accepted.
     pub(crate) waits: bool,
     pub(crate) idle: Option<u64>,
@@ -94,13 +94,15 @@ pub fn serve_sockets<R: AllocGlobal + Clock + Log, N: Sockets>(
     server: &mut Server<Global>,
 ) -> Result<(), NotAccepted>
     // Of each connection a beginning of what was read came to the server, and the answers to that
-    // were sent but for a part of one; and it ended for a reason, unless the run was cut off. What
+    // were sent but for a part of one; and it ended for a reason, or was cut off with the run. What
     // came led to the server, in the order of its calls.
     ensures ok { OnOk result
         (Serves false N.ended N.lost server.old connections server.new) }
     ensures err { IfErr result (λ fault.
         Serves true N.ended N.lost server.old fault.accepted server.new) }
     ensures few { IfErr result (λ fault. fault.accepted ≤ connections) }
+    // Never were more than so many open, and none is in the end.
+    ensures places { N.places sockets.old at_once → N.places sockets.new at_once }
     // It was cut off; or none was open, and a hundred accepts in a row failed.
     ensures stops { IfErr result (λ fault. Stops N.failed N.refused N.broken
         (Serves false N.ended N.lost server.old fault.accepted server.new)
@@ -111,7 +113,7 @@ pub fn serve_sockets<R: AllocGlobal + Clock + Log, N: Sockets>(
         Ok(together) => together,
         Err(fault) => return Err(NotAccepted { accepted, fault }),
     };
-    let served = together.serve(rt, sockets, &mut accepted, connections, server);
+    let served = together.serve(rt, sockets, &mut accepted, connections, at_once, server);
     together.line.clear();
     match served {
         Ok(()) => Ok(()),
@@ -138,10 +140,10 @@ impl<S: Peer + Drop> Together<S> {
         let alloc = rt.alloc();
         Ok(Together {
             members: BTreeMap::new(alloc),
-            at_once,
             ready: Vec::with_capacity(alloc, at_once)?,
             held: Vec::new(alloc),
             scales: Scales::new(),
+            share: GREATEST / (at_once as u64).max(1),
             waits: true,
             idle: match &idle {
                 Some(time) => Some(millis(time)),
@@ -167,20 +169,25 @@ impl<S: Peer + Drop> Together<S> {
         Some(Duration::from_millis(left))
     }
 
-    /// Serves so many connections, to the end of each, or as many as can be accepted.
-    #[tactic(auto, using(crate::proofs::Keeping::keeps_nowhere, crate::proofs::Keeping::keeps_further, crate::proofs::Keeping::keeps_same))]
+    /// Serves so many connections, up to `at_once` at a time, to the end of each, or as many as can
+    /// be accepted.
+    #[tactic(auto, using(crate::proofs::Keeping::keeps_nowhere, crate::proofs::Keeping::keeps_further, crate::proofs::Keeping::keeps_same, crate::proofs::Places::placed_nowhere, crate::proofs::Places::placed_further, crate::proofs::Places::placed_still))]
     fn serve<R: AllocGlobal + Clock + Log, N: Sockets<Stream = S>>(
         &mut self,
         rt: &R,
         sockets: &mut N,
         accepted: &mut u64,
         connections: u64,
+        at_once: usize,
         server: &mut Server<Global>,
     ) -> io::Result<()>
         requires { accepted.old ≤ connections }
         ensures keeps { GoesOnTogether false S.spoke N.ended N.lost
             self.old.members.entries accepted.old server.old
             self.new.members.entries accepted.new server.new }
+        ensures places { StaysPlaced N.places at_once
+            sockets.old self.old.members.entries accepted.old
+            sockets.new self.new.members.entries accepted.new }
         ensures within { accepted.new ≤ connections }
         ensures all { OnOk result (accepted.new ≡ connections) }
         ensures gone { OnOk result ((k : ℕ) → member_at self.new.members.entries k ≡ None) }
@@ -189,7 +196,7 @@ impl<S: Peer + Drop> Together<S> {
     {
         let mut events = Vec::with_capacity(rt.alloc(), EVENTS)?;
         for _ in 0..u64::MAX {
-            self.accept_some(rt, sockets, accepted, connections)?;
+            self.accept_some(rt, sockets, accepted, connections, at_once)?;
             if *accepted >= connections && self.members.is_empty() {
                 return Ok(());
             }

@@ -1,7 +1,7 @@
 //! A turn of each that has something to do.
 ghost use Rattle.std.specs.Prelude.{◌≡◌, None, IfSome};
 ghost use Rattle.service.specs.Member.{end_of};
-ghost use Rattle.service.specs.Together.{AreSame, GoesOn, MovesOnAt};
+ghost use Rattle.service.specs.Together.{AreSame, LeavesPlaced, LeavesTogether, MovesOnAt};
 
 use crate::load::{GREATEST, Leave};
 use crate::sockets::{Peer, Sockets};
@@ -15,15 +15,17 @@ use std::time::Clock;
 
 impl<S: Peer + Drop> Together<S> {
     /// A turn of each member that has something to do.
-    #[tactic(auto, using(crate::proofs::Keeping::keeps_nowhere, crate::proofs::Keeping::keeps_further, crate::proofs::Keeping::keeps_same))]
+    #[tactic(auto, using(crate::proofs::Keeping::keeps_nowhere, crate::proofs::Keeping::keeps_further, crate::proofs::Keeping::keeps_same, crate::proofs::Places::placed_nowhere))]
     pub(crate) fn run<R: AllocGlobal + Clock + Log, N: Sockets<Stream = S>>(
         &mut self,
         rt: &R,
         sockets: &mut N,
         server: &mut Server<Global>,
     )
-        ensures { GoesOn S.spoke N.ended N.lost (self.old.members.entries, server.old)
-            (self.new.members.entries, server.new) }
+        ensures keeps { LeavesTogether S.spoke N.ended N.lost
+            (self.old.members.entries, server.old) (self.new.members.entries, server.new) }
+        ensures places { LeavesPlaced N.places (sockets.old, self.old.members.entries)
+            (sockets.new, self.new.members.entries) }
     {
         let now = self.timer.now(rt);
         let mut ready = mem::replace(&mut self.ready, Vec::new(rt.alloc()));
@@ -41,7 +43,7 @@ impl<S: Peer + Drop> Together<S> {
     }
 
     /// A turn of the member with the number.
-    #[tactic(auto, using(crate::proofs::Keeping::keeps_same, crate::proofs::Keeping::keeps_further, crate::proofs::Keeping::keeps_moved, crate::proofs::Keeping::keeps_left, crate::proofs::Keeping::keeps_lost))]
+    #[tactic(auto, using(crate::proofs::Keeping::keeps_same, crate::proofs::Keeping::keeps_further, crate::proofs::Keeping::keeps_moved, crate::proofs::Keeping::keeps_left, crate::proofs::Keeping::keeps_lost, crate::proofs::Places::placed_still, crate::proofs::Places::placed_moved))]
     fn turn<R: AllocGlobal + Log, N: Sockets<Stream = S>>(
         &mut self,
         rt: &R,
@@ -50,8 +52,10 @@ impl<S: Peer + Drop> Together<S> {
         number: u64,
         now: u64,
     )
-        ensures { GoesOn S.spoke N.ended N.lost (self.old.members.entries, server.old)
-            (self.new.members.entries, server.new) }
+        ensures keeps { LeavesTogether S.spoke N.ended N.lost
+            (self.old.members.entries, server.old) (self.new.members.entries, server.new) }
+        ensures places { LeavesPlaced N.places (sockets.old, self.old.members.entries)
+            (sockets.new, self.new.members.entries) }
     {
         let Some((turn, was_held)) = self.advance(server, number, now) else {
             return;
@@ -108,7 +112,7 @@ impl<S: Peer + Drop> Together<S> {
         let kept = if self.scales.load.requests < GREATEST || is_senior {
             u64::MAX
         } else {
-            GREATEST / (self.at_once as u64).max(1)
+            self.share
         };
         Leave {
             answers: !self.is_full(),

@@ -1,6 +1,7 @@
 use Rattle.std.proofs.Common.{◌≡◌, ℕ, None, List, [], ◌∷◌, length, refl, arith}
 use Rattle.service.specs.Member.{MemberValue}
 use Rattle.service.specs.Together.{member_at}
+use Rattle.service.proofs.Places.{placed_further, placed_whole}
 use Rattle.service.proofs.Whole.{serves_kept}
 use Rattle.service.proofs.together.serve_sockets.Goals as goal
 
@@ -12,3 +13,18 @@ pub returns-then-is_empty-clause-err : goal.returns-then-is_empty-clause-err
 returns-then-is_empty-clause-err g c opening history stands =
     serves_kept _ g.N.Sockets.ended g.N.Sockets.lost opening history c.in-Ok.together.members.entries c.serve-served.new.self.members.entries c.serve-served.new.accepted c.args.server.now c.serve-served.new.server
     c.in-Ok.ensures.ok c.serve-served.ensures.keeps (none_open c.serve-served.new.self.members.entries (c.is_empty.ensures.0 c.if-is_empty.true)) stands
+
+pub returns-then-is_empty-clause-places : goal.returns-then-is_empty-clause-places
+returns-then-is_empty-clause-places g c are =
+    placed_whole c.args.sockets.now c.serve-served.new.sockets c.in-Ok.together.members.entries c.serve-served.new.self.members.entries c.serve-served.new.accepted
+    c.in-Ok.ensures.ok c.serve-served.ensures.places (λ k below. none_open c.serve-served.new.self.members.entries (c.is_empty.ensures.0 c.if-is_empty.true) k) are
+
+pub returns-in-Ok-served-clause-places : goal.returns-in-Ok-served-clause-places
+returns-in-Ok-served-clause-places g c are =
+    placed_whole c.args.sockets.now c.serve-served.new.sockets c.in-Ok.together.members.entries c.serve-served.new.self.members.entries c.serve-served.new.accepted
+    c.in-Ok.ensures.ok c.serve-served.ensures.places (λ k below. c.in-Ok-served.ensures.gone k) are
+
+pub returns-clause-places : goal.returns-clause-places
+returns-clause-places g c are =
+    placed_whole c.args.sockets.now c.end_all.new.sockets c.in-Ok.together.members.entries c.end_all.new.self.members.entries c.serve-served.new.accepted
+    c.in-Ok.ensures.ok (placed_further c.serve-served.ensures.places (c.end_all.ensures.places c.args.at_once c.serve-served.new.accepted)) c.end_all.ensures.all are

@@ -14,7 +14,7 @@ pub returns-in-Err : goal.returns-in-Err
 returns-in-Err g c =
     moves_from g.S.Peer.spoke g.S.Peer.over (end_of c.after_fault.result) c.args.number c.args.server.now c.args.server.now c.args.self.now _ _ c.self.view_is
     (stays_moves g.S.Peer.spoke g.S.Peer.over (end_of c.after_fault.result) c.args.number c.args.server.now _ _ c.in-Err.ensures.fault refl refl
-    (fails_for (λ e. g.S.Peer.over c.read.new.self (Failed e)) c.in-Err.fault ReadFault (end_of c.after_fault.result) c.in-Err.ensures.broken c.after_fault.ensures))
+    (fails_for (λ e. g.S.Peer.over c.read.new.self (Failed e)) c.in-Err.fault ReadFault c.after_fault.result c.in-Err.ensures.broken c.after_fault.ensures))
 
 pub returns-then-count-eq0 : goal.returns-then-count-eq0
 returns-then-count-eq0 g c =

@@ -7,9 +7,9 @@ use Rattle.service.proofs.member.Member.send.Goals as goal
 pub returns-in-Ok : goal.returns-in-Ok
 returns-in-Ok g c =
     sent_passes g.S.Peer.spoke g.S.Peer.over (end_of c.pass.result) c.args.self.now c.write_some.new.self c.pass.new.self c.in-Ok.count
-    c.in-Ok.ensures.sent c.write_some.ensures.left c.write_some.ensures.unsent c.pass.ensures
+    c.in-Ok.ensures.sent c.write_some.ensures.left c.write_some.ensures.unsent c.pass.ensures.passes
 
 pub returns-in-Err : goal.returns-in-Err
 returns-in-Err g c =
     stays_passes g.S.Peer.spoke g.S.Peer.over (end_of c.after_fault.result) c.args.self.now c.write_some.new.self
-    c.in-Err.ensures.fault c.write_some.ensures.left c.write_some.ensures.unsent (fails_for (λ e. g.S.Peer.over c.write_some.new.self.stream (Failed e)) c.in-Err.fault WriteFault (end_of c.after_fault.result) c.in-Err.ensures.broken c.after_fault.ensures)
+    c.in-Err.ensures.fault c.write_some.ensures.left c.write_some.ensures.unsent (fails_for (λ e. g.S.Peer.over c.write_some.new.self.stream (Failed e)) c.in-Err.fault WriteFault c.after_fault.result c.in-Err.ensures.broken c.after_fault.ensures)

@@ -9,5 +9,6 @@ returns-clause-some g c = record {
   held = search rules;
   at = search rules;
   others = λ j n. search rules;
+  many = search rules;
   moves = subst (λ (z : MemberValue g.row.S.Denot). MovesOn (end_of c.turn-turn.result) g.S.Peer.spoke g.S.Peer.over c.args.number c.args.server.now z c.turn-turn.new.server c.turn-turn.new.self) c.queue.ensures c.turn-turn.ensures;
 }

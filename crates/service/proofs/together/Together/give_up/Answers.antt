@@ -2,7 +2,7 @@ use Rattle.std.proofs.Common.{false}
 use Rattle.service.proofs.Keeping.{keeps_ended}
 use Rattle.service.proofs.together.Together.give_up.Goals as goal
 
-pub returns-in-Some : goal.returns-in-Some
-returns-in-Some g c accepted =
+pub returns-in-Some-clause-keeps : goal.returns-in-Some-clause-keeps
+returns-in-Some-clause-keeps g c accepted =
     keeps_ended false g.S.Peer.spoke g.N.Sockets.ended g.N.Sockets.lost g.S.Peer.over c.in-Some.why c.args.self.now.members.entries c.end.new.self.members.entries
-    accepted c.args.server.now c.end.new.server c.args.number c.in-Some.ensures c.end.ensures
+    accepted c.args.server.now c.end.new.server c.args.number c.in-Some.ensures.may c.end.ensures.ends

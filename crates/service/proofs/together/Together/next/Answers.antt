@@ -10,6 +10,7 @@ pub loop-failed-preserved : goal.loop-failed-preserved
 loop-failed-preserved g c = record {
   tried = fails_on g.N.Sockets.failed 0 c.loop-failed.failed 1 c.args.sockets.now c.loop-failed.sockets c.accept.new.self c.loop-failed.invariant.tried
       (c.in-Err.ensures.fails (λ e. not_both c.finds_none.result c.if-finds_none.false (c.finds_none.ensures.1 e)));
+  places = λ free h. c.in-Err.ensures.keeps free (c.loop-failed.invariant.places free h);
   same = c.loop-failed.invariant.same;
 }
 

@@ -20,5 +20,5 @@ at : {S : Type 0} (over : S → Cause → Type 0) (k : ℕ) (server : ServerValu
 at over k server members m is_open (Some why) held told may = record { m = m; held = held; may = by_session (over m.stream) (IsTrue is_open → ⊥) (IsOpenAt (session_at server k) → ⊥) m.left m.unsent why (λ f o. f (told o)) may }
 at over k server members m is_open None held told may = may
 
-pub returns-in-Some : goal.returns-in-Some
-returns-in-Some g c = at g.S.Peer.over c.args.number c.args.server.now c.args.self.now.members.entries c.in-Some.member.now c.is_open-is_open.result c.silence.result (sym c.in-Some.ensures.value) c.is_open-is_open.ensures.1 c.silence.ensures
+pub returns-in-Some-clause-may : goal.returns-in-Some-clause-may
+returns-in-Some-clause-may g c = at g.S.Peer.over c.args.number c.args.server.now c.args.self.now.members.entries c.in-Some.member.now c.is_open-is_open.result c.silence.result (sym c.in-Some.ensures.value) c.is_open-is_open.ensures.1 c.silence.ensures.reason

@@ -1,0 +1,131 @@
+-- Places for connections: each is free or has one.
+use Rattle.std.proofs.Common.{◌≡◌, ℕ, zero, suc, ◌+◌, ◌<◌, ◌≤◌, ◌⊎◌, inl, inr, true, false, cond, Option, Some, None, List, [], ◌∷◌, length, refl, sym, ◌∙◌, ap, subst, arith}
+use Rattle.std.proofs.Math.Dec.{eqb}
+use Rattle.std.proofs.lemmas.Bool.{cases_lt}
+use Rattle.std.proofs.lemmas.Bool.Decides.{eqb_tells}
+use Rattle.std.proofs.lemmas.Cmp.{nat_cmp_total, tied_itself}
+use Rattle.std.specs.Ordering.{is_eq}
+use Rattle.std.specs.declared.cmp.Ordering.{Ordering}
+use Rattle.cache_server.specs.Server.{ServerValue}
+use Rattle.service.specs.Sockets.{Cause, Why, GivesPlace, KeepsPlaces, TakesPlace}
+use Rattle.service.specs.Member.{MemberValue}
+use Rattle.service.specs.Together.{member_at, ArePlaced, StaysPlaced, AreSame, OthersAreSame, MovesOnAt, EntersAt}
+use Rattle.service.proofs.Keeping.{none_is_some}
+
+none_left : {S : Type 0} (members : List (ℕ × MemberValue S)) → ((k : ℕ) → member_at members k ≡ None) → length members ≡ 0
+none_left [] gone = refl
+none_left (m ∷ members) gone = none_is_some (member_at (m ∷ members) m.0) m.1 own (gone m.0)
+  where
+    own : member_at (m ∷ members) m.0 ≡ Some m.1
+    own = ap (λ (o : Ordering). cond (is_eq o) (Some m.1) (member_at members m.0)) (tied_itself nat_cmp_total m.0)
+
+-- all connections but one are as they were, and that one isn't new
+fresh_but : {S : Type 0} (k : ℕ) (l m : List (ℕ × MemberValue S)) (a : ℕ) → OthersAreSame k l m → (a ≤ k → member_at m k ≡ None)
+    → ((j : ℕ) → a ≤ j → member_at l j ≡ None) → (j : ℕ) → a ≤ j → member_at m j ≡ None
+fresh_but {S} k l m a others own fresh j above = by_test (eqb_tells j k)
+  where
+    by_test : ((eqb j k ≡ true) × (j ≡ k)) ⊎ ((eqb j k ≡ false) × (j ≡ k → ⊥)) → member_at m j ≡ None
+    by_test (inl (t, e)) = subst (λ (i : ℕ). member_at m i ≡ None) (sym e) (own (subst (λ (i : ℕ). a ≤ i) e above))
+    by_test (inr (f, n)) = others j n ∙ fresh j above
+
+module _ {N S : Type 0} {places : N → ℕ → Type 0} {all : ℕ} where
+  pub placed_nowhere : (s : N) (l : List (ℕ × MemberValue S)) (a : ℕ) → StaysPlaced places all s l a s l a
+  placed_nowhere s l a = record { on = λ h. h }
+
+  pub placed_further : {s t u : N} {l m n : List (ℕ × MemberValue S)} {a b c : ℕ} → StaysPlaced places all s l a t m b → StaysPlaced places all t m b u n c → StaysPlaced places all s l a u n c
+  placed_further p q = record { on = λ h. q.on (p.on h) }
+
+  -- as many are free, and the connections are the same
+  pub placed_same : (s t : N) (l m : List (ℕ × MemberValue S)) (a : ℕ) → KeepsPlaces places s t → AreSame l m → StaysPlaced places all s l a t m a
+  placed_same s t l m a keeps same = record {
+    on = λ h. record {
+      free = h.free;
+      are = keeps h.free h.are;
+      sum = ap (λ (z : ℕ). h.free + z) same.1 ∙ h.sum;
+      fresh = λ k above. same.0 k ∙ h.fresh k above;
+    };
+  }
+
+  pub placed_still : (s : N) (l m : List (ℕ × MemberValue S)) (a : ℕ) → AreSame l m → StaysPlaced places all s l a s m a
+  placed_still s l m a same = placed_same s s l m a (λ free h. h) same
+
+  pub placed_waiting : (s t : N) (l m : List (ℕ × MemberValue S)) (a : ℕ) → KeepsPlaces places s t → m ≡ l → StaysPlaced places all s l a t m a
+  placed_waiting s t l m a keeps e = placed_same s t l m a keeps (λ k. ap (λ (z : List (ℕ × MemberValue S)). member_at z k) e, ap length e)
+
+  pub placed_moved : (end : Option Why) (spoke : ℕ → S → List ℕ → List ℕ → Type 0) (over : S → Cause → Type 0) (k : ℕ) (old new : ServerValue) (s : N) (l m : List (ℕ × MemberValue S)) (a : ℕ)
+      → MovesOnAt end spoke over k old l new m → StaysPlaced places all s l a s m a
+  placed_moved end spoke over k old new s l m a moves = record {
+    on = λ h. record {
+      free = h.free;
+      are = h.are;
+      sum = ap (λ (z : ℕ). h.free + z) moves.many ∙ h.sum;
+      fresh = fresh_but k l m a moves.others (λ above. none_is_some (member_at l k) moves.before moves.held (h.fresh k above)) h.fresh;
+    };
+  }
+
+  -- one has ended
+  pub placed_left : (k : ℕ) (s t : N) (l m : List (ℕ × MemberValue S)) (a : ℕ) → GivesPlace places s t → length m + 1 ≡ length l → member_at m k ≡ None → OthersAreSame k l m
+      → StaysPlaced places all s l a t m a
+  placed_left k s t l m a gives fewer gone others = record {
+    on = λ h. record {
+      free = h.free + 1;
+      are = gives h.free h.are;
+      sum = let e : h.free + length l ≡ all = h.sum in omega (arith, fewer, e);
+      fresh = fresh_but k l m a others (λ above. gone) h.fresh;
+    };
+  }
+
+  -- a place is free, so it can be taken
+  taken : (s t : N) (l : List (ℕ × MemberValue S)) (a : ℕ) → TakesPlace places s t → length l < all → ArePlaced places all s l a
+      → (free : ℕ) × places t free × (free + 1 + length l ≡ all)
+  taken s t l a takes less h = by h.free h.are h.sum
+    where
+      by : (free : ℕ) → places s free → free + length l ≡ all → (free : ℕ) × places t free × (free + 1 + length l ≡ all)
+      by zero are sum = absurd (omega (arith, less, sum))
+      by (suc free) are sum = (free, takes free (let e : suc free ≡ free + 1 = omega arith in subst (places s) e are), omega (arith, sum))
+
+  -- one has come in
+  pub placed_entered : (s t : N) (k : ℕ) (stream : S) (l m : List (ℕ × MemberValue S)) → TakesPlace places s t → length l < all → EntersAt k stream l m → StaysPlaced places all s l k t m (k + 1)
+  placed_entered s t k stream l m takes less enters = record { on = λ h. go h (taken s t l k takes less h) }
+    where
+      go : ArePlaced places all s l k → ((free : ℕ) × places t free × (free + 1 + length l ≡ all)) → ArePlaced places all t m (k + 1)
+      go h (free, are, sum) = record {
+        free = free;
+        are = are;
+        sum = let more : length m ≡ length l + 1 = enters.more (h.fresh k (omega arith)) in omega (arith, more, sum);
+        fresh = λ j above. enters.others j (λ (e : j ≡ k). absurd (omega arith)) ∙ h.fresh j (omega arith);
+      }
+
+  -- one came in, and was ended at once
+  pub placed_back : (s t u : N) (l m : List (ℕ × MemberValue S)) (a : ℕ) → TakesPlace places s t → GivesPlace places t u → length l < all → AreSame l m → StaysPlaced places all s l a u m a
+  placed_back s t u l m a takes gives less same = record { on = λ h. go h (taken s t l a takes less h) }
+    where
+      go : ArePlaced places all s l a → ((free : ℕ) × places t free × (free + 1 + length l ≡ all)) → ArePlaced places all u m a
+      go h (free, are, sum) = record {
+        free = free + 1;
+        are = gives free are;
+        sum = ap (λ (z : ℕ). free + 1 + z) same.1 ∙ sum;
+        fresh = λ k above. same.0 k ∙ h.fresh k above;
+      }
+
+  -- from none that is open, to none
+  pub placed_whole : (s t : N) (none m : List (ℕ × MemberValue S)) (a : ℕ) → none ≡ [] → StaysPlaced places all s none 0 t m a → ((k : ℕ) → k < a → member_at m k ≡ None) → places s all → places t all
+  placed_whole s t none m a e stays gone are = by (stays.on first)
+    where
+      first : ArePlaced places all s none 0
+      first = record {
+        free = all;
+        are = are;
+        sum = let z : length none ≡ 0 = ap length e in omega (arith, z);
+        fresh = λ k above. ap (λ (z : List (ℕ × MemberValue S)). member_at z k) e;
+      }
+
+      by : ArePlaced places all t m a → places t all
+      by h = let z : length m ≡ 0 = none_left m each in let sum : h.free + length m ≡ all = h.sum in let all_free : h.free ≡ all = omega (arith, z, sum) in subst (places t) all_free h.are
+        where
+          order : (k : ℕ) → (k < a) ⊎ (a ≤ k) → member_at m k ≡ None
+          order k (inl below) = gone k below
+          order k (inr above) = h.fresh k above
+
+          each : (k : ℕ) → member_at m k ≡ None
+          each k = order k (cases_lt k a)
