@@ -48,6 +48,10 @@ TakesPlace places old new = (free : ℕ) → places old (free + 1) → places ne
 abbrev pub GivesPlace : {N : Type 0} → (N → ℕ → Type 0) → N → N → Type 0
 GivesPlace places old new = (free : ℕ) → places old free → places new (free + 1)
 
+-- no byte comes to be at hand there
+abbrev pub StaysDry : {S : Type 0} → (S → Type 0) → S → S → Type 0
+StaysDry dry old new = dry old → dry new
+
 -- a fault of the stream: not that it has nothing yet, was interrupted, or found no memory
 pub record IsBroken (e : Error) : Type 0 where
   pub has : error_kind e ≡ WouldBlock → ⊥

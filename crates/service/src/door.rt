@@ -1,13 +1,12 @@
 //! How connections come in.
-ghost use Rattle.std.specs.Prelude.{◌≡◌, ◌+◌, ◌<◌, ◌≤◌, ◌↔◌, [], IfErr, IfNone, IfOk, IfSome};
-ghost use Rattle.std.specs.Prelude.{IsTrue, OnErr, OnOk, false, length};
-ghost use Rattle.std.specs.IoError.{error_kind};
-ghost use Rattle.std.specs.declared.io.ErrorKind.TheVariants.{WouldBlock};
+ghost use Rattle.std.specs.Prelude.{◌≡◌, ◌+◌, ◌<◌, ◌≤◌, [], IfErr, IfNone, IfOk, IfSome};
+ghost use Rattle.std.specs.Prelude.{OnErr, OnOk, false, length};
 ghost use Rattle.cache_server.specs.Server.{ServerValue};
 ghost use Rattle.service.specs.Sockets.{KeepsPlaces, TakesPlace};
 ghost use Rattle.service.specs.Talks.{AcceptsNone};
 ghost use Rattle.service.specs.Together.{AreSame, EntersAt, GoesOnTogether, StaysPlaced};
 
+use crate::error::finds_none;
 use crate::member::Member;
 use crate::sockets::{Peer, Sockets};
 use crate::together::Together;
@@ -15,19 +14,11 @@ use cache_server::ConnError;
 use log::{Log, warn};
 use std::alloc::Global;
 use std::io;
-use std::io::ErrorKind;
 use std::net::SocketAddr;
 use std::time::Clock;
 
 /// How often in a row it is tried to accept a connection while none is open.
 const TRIES: u32 = 100;
-
-/// Whether the fault says that no connection waits.
-fn finds_none(fault: &io::Error) -> bool
-    ensures { IsTrue result ↔ (error_kind fault.now ≡ WouldBlock) }
-{
-    matches!(fault.kind(), ErrorKind::WouldBlock)
-}
 
 impl<S: Peer + Drop> Together<S> {
     /// Accepts the connections that wait, as long as fewer than `at_once` are open.

@@ -47,6 +47,8 @@ impl Peer for TcpStream {
 
     ghost over = { λ _ _. Unit {0} };
 
+    ghost dry = { λ _. Unit {0} };
+
     fn read(&mut self, buffer: &mut [u8]) -> io::Result<usize> {
         let mut stream = &*self;
         Read::read(&mut stream, buffer)

@@ -1,4 +1,9 @@
+ghost use Rattle.std.specs.Prelude.{◌≡◌, ◌↔◌, IsTrue};
+ghost use Rattle.std.specs.IoError.{error_kind};
+ghost use Rattle.std.specs.declared.io.ErrorKind.TheVariants.{WouldBlock};
+
 use std::io;
+use std::io::ErrorKind;
 use thiserror::Error;
 
 /// No more connections could be accepted.
@@ -8,4 +13,11 @@ pub struct NotAccepted {
     /// How many were accepted and served before.
     pub accepted: u64,
     pub fault: io::Error,
+}
+
+/// Whether the fault says that the system has nothing yet.
+pub(crate) fn finds_none(fault: &io::Error) -> bool
+    ensures { IsTrue result ↔ (error_kind fault.now ≡ WouldBlock) }
+{
+    matches!(fault.kind(), ErrorKind::WouldBlock)
 }

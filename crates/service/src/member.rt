@@ -6,6 +6,7 @@ ghost use Rattle.service.specs.Sockets.{Failed, IsBroken, SendsTo, Shut, Stays};
 ghost use Rattle.service.specs.Talks.{IsReason};
 
 use crate::desk::Desk;
+use crate::error::finds_none;
 use crate::load::{Leave, Load};
 use crate::part::{gather, next_of};
 use crate::sockets::Peer;
@@ -71,7 +72,7 @@ pub(crate) struct Member<S: Peer> {
 impl<S: Peer> Model for Member<S> {
     ghost use Rattle.service.specs.Member.{MemberValue, unsent_of};
     ghost use Rattle.service.specs.Sockets.{Shut};
-    ghost use Rattle.std.specs.Prelude.{IsSome, drop};
+    ghost use Rattle.std.specs.Prelude.{◌≡◌, IsSome, drop, false};
 
     ghost Value = { MemberValue S };
 
@@ -81,7 +82,8 @@ impl<S: Peer> Model for Member<S> {
       unsent = unsent_of m.answer m.sent;
     } };
 
-    ghost invariant = { λ m. IsSome m.lingering → S.over m.stream Shut };
+    ghost invariant = { λ m. (IsSome m.lingering → S.over m.stream Shut)
+        × (m.readable ≡ false → S.dry m.stream) };
 }
 
 impl<S: Peer + Drop> Member<S> {
@@ -447,16 +449,16 @@ impl<S: Peer + Drop> Member<S> {
         let count = match self.stream.read(buffer) {
             Ok(count) => count,
             Err(fault) => {
-                self.readable = fault.kind() == ErrorKind::Interrupted;
+                self.readable = !finds_none(&fault);
                 return after_fault(&fault, ConnError::ReadFault);
             }
         };
+        self.readable = count >= buffer.len() || self.read_closed;
         if count == 0 {
             return Turn::Ends(Ok(()));
         }
         self.traffic.read = self.traffic.read.saturating_add(count as u64);
         self.moved = now;
-        self.readable = count >= buffer.len() || self.read_closed;
         let (piece, _) = buffer.split_at(count);
         let before = server.counts();
         match server.next(desk.alloc, number, piece) {

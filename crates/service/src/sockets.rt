@@ -1,5 +1,5 @@
-ghost use Rattle.std.specs.Prelude.{◌≡◌, ◌≤◌, ◌↔◌, ℕ, List, [], take, IfErr, IfOk, IsTrue, OnErr};
-ghost use Rattle.std.specs.Prelude.{OnOk};
+ghost use Rattle.std.specs.Prelude.{◌≡◌, ◌<◌, ◌≤◌, ◌↔◌, ℕ, List, [], length, take, IfErr, IfOk, IsTrue};
+ghost use Rattle.std.specs.Prelude.{OnErr, OnOk};
 ghost use Rattle.cache_server.specs.declared.error.ConnError.{ConnError};
 ghost use Rattle.std.specs.Io.{ReadsAtMost, WritesAtMost};
 ghost use Rattle.std.specs.IoError.{error_kind};
@@ -7,7 +7,7 @@ ghost use Rattle.std.specs.declared.io.Error.{Error};
 ghost use Rattle.std.specs.declared.io.ErrorKind.TheVariants.{WouldBlock};
 ghost use Rattle.service.specs.Sockets.{Cause, EndsAs, Failed, Finished, GivesPlace, IsBroken};
 ghost use Rattle.service.specs.Sockets.{KeepsPlaces, ReadsFrom, SendsTo, Shut, Silent, Stays};
-ghost use Rattle.service.specs.Sockets.{StaysShut, TakesPlace, Why};
+ghost use Rattle.service.specs.Sockets.{StaysDry, StaysShut, TakesPlace, Why};
 ghost use Rattle.service.specs.Turns.{FailsAfter};
 
 use cache_server::ConnError;
@@ -34,6 +34,9 @@ pub trait Peer {
     /// That it is over, and why. Only the calls that found it so, or made it so, say it.
     ghost over: { Self → Cause → Type 0 };
 
+    /// That no byte is at hand there, until an event tells of some.
+    ghost dry: { Self → Type 0 };
+
     /// Reads some bytes into a buffer that has room, none only at the end.
     fn read(&mut self, buffer: &mut [u8]) -> io::Result<usize>
         ensures bound { ReadsAtMost result buffer.new }
@@ -42,6 +45,8 @@ pub trait Peer {
         ensures fault { OnErr result (Stays spoke self.old self.new) }
         ensures shut { StaysShut over self.old self.new }
         ensures end { IfOk result (λ count. count ≡ 0 → over self.new Finished) }
+        ensures short { IfOk result (λ count. count < length buffer.new → dry self.new) }
+        ensures nothing { IfErr result (λ e. error_kind e ≡ WouldBlock → dry self.new) }
         ensures broken { IfErr result (λ e. IsBroken e
             → over self.new (Failed ConnError.ReadFault)) };
 
@@ -52,6 +57,7 @@ pub trait Peer {
             SendsTo spoke self.old (take count bytes.now) self.new) }
         ensures fault { OnErr result (Stays spoke self.old self.new) }
         ensures shut { StaysShut over self.old self.new }
+        ensures waits { StaysDry dry self.old self.new }
         ensures end { IfOk result (λ count. count ≡ 0
             → over self.new (Failed ConnError.WriteFault)) }
         ensures broken { IfErr result (λ e. IsBroken e
@@ -70,7 +76,8 @@ pub trait Peer {
     /// Drops some of what still comes, none only at the end or with no room.
     fn discard(&mut self, buffer: &mut [u8]) -> io::Result<usize>
         ensures stays { Stays spoke self.old self.new }
-        ensures shut { StaysShut over self.old self.new };
+        ensures shut { StaysShut over self.old self.new }
+        ensures nothing { IfErr result (λ e. error_kind e ≡ WouldBlock → dry self.new) };
 }
 
 /// Where connections come from.
