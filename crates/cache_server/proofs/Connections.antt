@@ -1,12 +1,12 @@
 -- A run over one connection.
-use Rattle.std.proofs.Common.{◌≡◌, ℕ, inl, inr, Option, Some, None, List, [], ◌++◌, ◌≤◌, length, take, arith, refl, sym, ◌∙◌, ap, subst, append_assoc}
+use Rattle.std.proofs.Common.{◌≡◌, ℕ, ◌+◌, inl, inr, Option, Some, None, List, [], ◌∷◌, ◌++◌, ◌<◌, ◌≤◌, length, take, arith, refl, sym, ◌∙◌, ap, subst, append_assoc}
 use Rattle.std.proofs.lemmas.List.{append-nil, length-append}
 use Rattle.std.specs.Io.KnownBytes.{Appends, Consumes, Keeps, IsAtEnd}
 use Rattle.std.proofs.KnownBytes.{Appends-nil, Appends-trans, Consumes-nil, Consumes-trans, Consumes-kept}
 use Rattle.http_core.specs.Event.{EventValue}
 use Rattle.http_core.specs.Stream.{Cuts}
 use Rattle.http_core.specs.Session.{SessionState, Closed, SessionValue, Stands, Feeds, Leaves, Holds}
-use Rattle.http_core.proofs.Cutting.{cut_within, HasMore, empty_partial}
+use Rattle.http_core.proofs.Cutting.{cut_once, cuts_closed, cut_within, HasMore, empty_partial}
 use Rattle.cache_server.specs.Cache.{CacheValue}
 use Rattle.cache_server.specs.Writing.{TellsBut, StopsTelling}
 use Rattle.cache_server.specs.Connection.{Runs, RunsBut, BreaksOff, ReadsNoFurther}
@@ -51,7 +51,7 @@ unfolding Cuts
 nothing_cut prefix = (empty_partial prefix, refl)
 
 -- so far
-pub record RunsOn (prefix : List ℕ) (old : CacheValue) (input input_left written_before written : Option (List ℕ)) (session : SessionValue) (now : CacheValue) : Type 0 where
+pub record RunsOn (prefix : List ℕ) (old : CacheValue) (input input_left written_before written : Option (List ℕ)) (session : SessionValue) (now : CacheValue) (turns : ℕ) : Type 0 where
   pub read : List ℕ
   pub text : List ℕ
   pub before : List EventValue
@@ -61,16 +61,41 @@ pub record RunsOn (prefix : List ℕ) (old : CacheValue) (input input_left writt
   pub stands : Stands session read before
   pub answers : ServesAll old before text now
   pub goes_on : IsOpenAfter prefix read before
+  -- each turn read a byte or more
+  pub turned : turns ≤ length read
 
-unfoldable pub runs_first : (prefix : List ℕ) (old : CacheValue) (input written : Option (List ℕ)) (session : SessionValue) → session.prefix ≡ prefix → Stands session [] [] → RunsOn prefix old input input written written session old
-runs_first prefix old input written session same s = record { read = []; text = []; before = []; same = same; consumes = Consumes-nil input; appends = Appends-nil written; stands = s; answers = serves_none old; goes_on = record { rest = []; cut = nothing_cut prefix } }
+unfoldable pub runs_first : (prefix : List ℕ) (old : CacheValue) (input written : Option (List ℕ)) (session : SessionValue) → session.prefix ≡ prefix → Stands session [] [] → RunsOn prefix old input input written written session old 0
+runs_first prefix old input written session same s = record { read = []; text = []; before = []; same = same; consumes = Consumes-nil input; appends = Appends-nil written; stands = s; answers = serves_none old; goes_on = record { rest = []; cut = nothing_cut prefix }; turned = omega arith }
+
+-- where events are left bytes are, and none before them closes
+undone : (prefix stream piece front rest : List ℕ) (done others : List EventValue) (a b : Option (List ℕ)) → piece ≡ front ++ rest
+    → Cuts prefix (stream ++ front) done a → Cuts prefix (stream ++ piece) (done ++ others) b → 0 < length others → (0 < length rest) × (a ≡ None → ⊥)
+undone prefix stream piece front rest done others a b whole c d some = (some_left rest by_rest, by_close)
+  where
+    longer : done ≡ done ++ others → ⊥
+    longer e = let n : length done ≡ length done + length others = ap length e ∙ length-append done others in omega (arith, n, some)
+
+    some_left : (bytes : List ℕ) → (bytes ≡ [] → ⊥) → 0 < length bytes
+    some_left [] filled = absurd (filled refl)
+    some_left (b ∷ bytes) filled = omega arith
+
+    by_rest : rest ≡ [] → ⊥
+    by_rest none =
+        let same : piece ≡ front = whole ∙ ap (λ z. front ++ z) none ∙ append-nil front in
+        longer (cut_once prefix (stream ++ front) done (done ++ others) a b c (subst (λ z. Cuts prefix (stream ++ z) (done ++ others) b) same d)).0
+
+    by_close : a ≡ None → ⊥
+    by_close shut =
+        let all : Cuts prefix ((stream ++ front) ++ rest) done None = cuts_closed prefix (stream ++ front) rest done (subst (Cuts prefix (stream ++ front) done) shut c) in
+        let here : (stream ++ front) ++ rest ≡ stream ++ piece = append_assoc stream front rest ∙ ap (λ z. stream ++ z) (sym whole) in
+        longer (cut_once prefix (stream ++ piece) done (done ++ others) None b (subst (λ z. Cuts prefix z done None) here all) d).0
 
 -- all of the events are told
 pub all_answered : (old new : CacheValue) (events : List EventValue) (before after : Option (List ℕ)) (t : TellsBut old events before after new [] []) → ServesAll old events t.told new
 all_answered old new events before after t =
     subst (λ z. ServesAll old z t.told new) (sym (t.whole ∙ append-nil t.done)) (subst (λ z. ServesAll old t.done z new) (append-nil t.told) t.answers)
 
-module _ (prefix : List ℕ) (old : CacheValue) (input left more written_before written : Option (List ℕ)) (session : SessionValue) (now : CacheValue) (r : RunsOn prefix old input left written_before written session now) where
+module _ (prefix : List ℕ) (old : CacheValue) (input left more written_before written : Option (List ℕ)) (session : SessionValue) (now : CacheValue) (turns : ℕ) (r : RunsOn prefix old input left written_before written session now turns) where
   -- at the end of the input
   pub runs_ended : (count : ℕ) (buffer : List ℕ) → count ≡ 0 → Consumes left more (take count buffer) → IsAtEnd more → Runs prefix old input more written_before written now
   runs_ended count buffer zero_is c end =
@@ -89,7 +114,7 @@ module _ (prefix : List ℕ) (old : CacheValue) (input left more written_before 
       )
 
   -- given up between two pieces
-  pub runs_stopped : Keeps left more → (begun : List ℕ) × RunsBut prefix old input more written_before written now [] [] (Some begun)
+  pub runs_stopped : Keeps left more → (begun : List ℕ) × (runs : RunsBut prefix old input more written_before written now [] [] (Some begun)) × (turns ≤ length runs.front)
   runs_stopped kept = (
     r.goes_on.rest,
     record {
@@ -101,26 +126,32 @@ module _ (prefix : List ℕ) (old : CacheValue) (input left more written_before 
       no_further = nothing_further prefix r.read r.before r.goes_on;
       few_left = omega arith;
     },
+    r.turned,
   )
 
   module _ (piece : List ℕ) (few : length piece ≤ 65536) (read : Consumes left more piece) where
     -- given up before the piece was cut
-    pub runs_unfed : RunsBut prefix old input more written_before written now piece [] (Some r.goes_on.rest)
-    runs_unfed = record {
-      front = r.read;
-      told = r.text;
-      consumes = Consumes-trans input left more r.read piece r.consumes read;
-      appends = r.appends;
-      answered = record { events = r.before; cut = r.goes_on.cut; answers = subst (λ z. ServesAll old r.before z now) (sym (append-nil r.text)) r.answers };
-      no_further = piece_further prefix r.read piece (r.read ++ piece) r.before r.goes_on few refl;
-      few_left = few;
-    }
+    pub runs_unfed : 0 < length piece → BreaksOff prefix old input more written_before written now Memory
+    runs_unfed some = (
+      piece,
+      r.goes_on.rest,
+      record {
+        front = r.read;
+        told = r.text;
+        consumes = Consumes-trans input left more r.read piece r.consumes read;
+        appends = r.appends;
+        answered = record { events = r.before; cut = r.goes_on.cut; answers = subst (λ z. ServesAll old r.before z now) (sym (append-nil r.text)) r.answers };
+        no_further = piece_further prefix r.read piece (r.read ++ piece) r.before r.goes_on few refl;
+        few_left = few;
+      },
+      inl some,
+    )
 
     module _ (new : SessionValue) (after : CacheValue) (written_more : Option (List ℕ)) (events : List EventValue) (feeds : Feeds session piece events new) where
       -- a piece whose events are all answered
       module _ (t : TellsBut now events written written_more after [] []) where
-        pub runs_more : (new.state ≡ Closed → ⊥) → RunsOn prefix old input more written_before written_more new after
-        runs_more o = record {
+        pub runs_more : 0 < length piece → (new.state ≡ Closed → ⊥) → RunsOn prefix old input more written_before written_more new after (turns + 1)
+        runs_more some o = record {
           read = r.read ++ piece;
           text = r.text ++ t.told;
           before = r.before ++ events;
@@ -130,6 +161,7 @@ module _ (prefix : List ℕ) (old : CacheValue) (input left more written_before 
           stands = feeds.stands r.read r.before r.stands;
           answers = serves_join old now after r.before events r.text t.told r.answers (all_answered now after events written written_more t);
           goes_on = subst (λ p. IsOpenAfter p (r.read ++ piece) (r.before ++ events)) (feeds.prefix ∙ r.same) (stands_open new (r.read ++ piece) (r.before ++ events) o (feeds.stands r.read r.before r.stands));
+          turned = let n : length (r.read ++ piece) ≡ length r.read + length piece = length-append r.read piece in omega (arith, n, r.turned, some);
         }
 
         pub runs_closed : new.state ≡ Closed → Runs prefix old input more written_before written_more after
@@ -155,7 +187,7 @@ module _ (prefix : List ℕ) (old : CacheValue) (input left more written_before 
 
       -- given up in its answers
       pub runs_broken : (others : List EventValue) (lost : List ℕ) → TellsBut now events written written_more after others lost
-          → (rest : List ℕ) × (cut : Option (List ℕ)) × RunsBut prefix old input more written_before written_more after rest lost cut
+          → (rest : List ℕ) × (cut : Option (List ℕ)) × RunsBut prefix old input more written_before written_more after rest lost cut × (0 < length others → (0 < length rest) × (cut ≡ None → ⊥))
       runs_broken others lost t =
           let c : (rest : Option (List ℕ)) × Cuts session.prefix r.read r.before rest = stands_cut session r.read r.before r.stands in
           let d : (rest : Option (List ℕ)) × Cuts new.prefix (r.read ++ piece) (r.before ++ events) rest = stands_cut new (r.read ++ piece) (r.before ++ events) (feeds.stands r.read r.before r.stands) in
@@ -178,22 +210,32 @@ module _ (prefix : List ℕ) (old : CacheValue) (input left more written_before 
               no_further = piece_further prefix r.read piece ((r.read ++ h.front) ++ h.rest) r.before r.goes_on few (sym whole);
               few_left = let n = ap length h.whole ∙ length-append h.front h.rest in omega (arith, n, few);
             },
+            undone session.prefix r.read piece h.front h.rest (r.before ++ t.done) others h.left d.0 h.whole h.cut (subst (λ z. Cuts session.prefix (r.read ++ piece) z d.0) (sym (append_assoc r.before t.done others)) e),
           )
+
+      at_request : (rest : List ℕ) (cut : Option (List ℕ)) → RunsBut prefix old input more written_before written_more after rest [] cut → 0 < length rest → (cut ≡ None → ⊥)
+          → BreaksOff prefix old input more written_before written_more after Memory
+      at_request rest None runs some goes = absurd (goes refl)
+      at_request rest (Some begun) runs some goes = (rest, begun, runs, inl some)
 
       pub runs_broken_by : (e : ConnError) → StopsTelling now events written written_more after e → BreaksOff prefix old input more written_before written_more after e
       runs_broken_by ReadFault t = absurd t
-      runs_broken_by Memory (others, t) = runs_broken others [] t
-      runs_broken_by WriteFault (others, lost, t) =
-          let x : (rest : List ℕ) × (cut : Option (List ℕ)) × RunsBut prefix old input more written_before written_more after rest lost cut = runs_broken others lost t in (x.0, lost, x.1, x.2)
+      runs_broken_by Memory (event, others, t) = let x = runs_broken (event ∷ others) [] t in let y = x.3 (omega arith) in at_request x.0 x.1 x.2 y.0 y.1
+      runs_broken_by WriteFault (others, lost, t) = let x = runs_broken others lost t in (x.0, lost, x.1, x.2)
 
 -- given up before the first piece
-pub runs_none : (prefix : List ℕ) (old : CacheValue) (input written : Option (List ℕ)) → RunsBut prefix old input input written written old [] [] (Some [])
-runs_none prefix old input written = record {
-  front = [];
-  told = [];
-  consumes = Consumes-nil input;
-  appends = Appends-nil written;
-  answered = record { events = []; cut = nothing_cut prefix; answers = serves_none old };
-  no_further = nothing_further prefix [] [] (record { rest = []; cut = nothing_cut prefix });
-  few_left = omega arith;
-}
+pub runs_none : (prefix : List ℕ) (old : CacheValue) (input written : Option (List ℕ)) → BreaksOff prefix old input input written written old Memory
+runs_none prefix old input written = (
+  [],
+  [],
+  record {
+    front = [];
+    told = [];
+    consumes = Consumes-nil input;
+    appends = Appends-nil written;
+    answered = record { events = []; cut = nothing_cut prefix; answers = serves_none old };
+    no_further = nothing_further prefix [] [] (record { rest = []; cut = nothing_cut prefix });
+    few_left = omega arith;
+  },
+  inr (inl refl),
+)

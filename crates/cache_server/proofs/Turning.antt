@@ -11,7 +11,7 @@ use Rattle.http_core.specs.Session.{SessionValue, IsClosed}
 use Rattle.http_core.specs.Session as sessions
 use Rattle.cache_server.specs.Cache.{CacheValue}
 use Rattle.cache_server.specs.History.{HistoryEntry, Piece, stream_of, CacheAfter, Brings, AnswersTo}
-use Rattle.cache_server.specs.Server.{ServerValue, session_at, StandsSo, KeepsSession, ServerStands, StandsOrFails, IsSessionFor}
+use Rattle.cache_server.specs.Server.{ServerValue, session_at, StandsSo, KeepsSession, KeepsOthers, ServerStands, StandsOrFails, IsSessionFor, IsOpenAt}
 use Rattle.cache_server.specs.Sessions.{IsClosedAt, ClosesAt, OpensAt, FeedsFirstAt}
 use Rattle.cache_server.specs.Turn.{AnswersIfAny, AnswersOne, IsOneAnswerTo}
 use Rattle.cache_server.proofs.Serving.{ServesAll, serves_none, serves_one, serves_join}
@@ -185,6 +185,25 @@ one_answer old mid new k piece taken text opens t =
       answered = subst (λ z. AnswersIfAny z t.event text new.cache) opens.kept.cache t.answered;
       prefix = t.prefix ∙ opens.kept.prefix;
     }
+
+-- ---- without memory
+
+-- the session that took a request was open
+no_event : {X : Type 0} (event : EventValue) → event ∷ [] ≡ [] → X
+no_event event e = cc
+
+pub open_before : (old mid : ServerValue) (k : ℕ) (piece : List ℕ) (taken : ℕ) (event : EventValue) → FeedsFirstAt old k piece taken (Some event) mid → IsOpenAt (session_at old k)
+open_before old mid k piece taken event f = subst IsOpenAt (sym f.held) (λ shut. no_event event (f.feeds.feeds.closed shut).1)
+
+-- so the connection was, or it was new
+pub was_open : (prefix : List ℕ) (held now : Option SessionValue) (session : SessionValue) → IsSessionFor prefix held session → now ≡ Some session → IsOpenAt now → IsOpenAt held
+was_open prefix None now session f at o = tt
+was_open prefix (Some held) now session same at o =
+    let open_ : sessions.IsOpen session = subst IsOpenAt at o in
+    subst sessions.IsOpen same open_
+
+pub keeps_join : (a b c : ServerValue) (k : ℕ) → KeepsOthers a k b → KeepsOthers b k c → KeepsOthers a k c
+keeps_join a b c k f g = record { cache = g.cache ∙ f.cache; prefix = g.prefix ∙ f.prefix; others = λ j n. g.others j n ∙ f.others j n }
 
 -- what follows of a call's value and of its error
 pub of_result : {T E C : Type 0} (P : T → Type 0) (Q : Type 0) (r : Result T E) → IfOk r P → OnErr r Q → ((x : T) → P x → C) → (Q → C) → C

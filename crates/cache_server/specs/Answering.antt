@@ -2,7 +2,7 @@
 use Rattle.std.specs.Prelude.{ℕ, List, [], ◌∷◌, ◌++◌, false}
 use Rattle.http_core.specs.Event.{EventValue, Asked, Refused}
 use Rattle.http_core.specs.Reply.{ReplyValue, bare, reply_text}
-use Rattle.cache_server.specs.Cache.{CacheValue, applied}
+use Rattle.cache_server.specs.Cache.{CacheValue, MayWant, applied}
 use Rattle.cache_server.specs.Counts.{count_one}
 
 -- the text that answers the event, and the cache after it; a refused request is counted
@@ -13,6 +13,11 @@ answered c (Refused status close) = (
   reply_text (bare status) close,
   record { state = c.state; counts = count_one false false c.counts },
 )
+
+-- what memory may be wanting for: a refused request is answered without any
+abbrev pub MayWantFor : CacheValue → EventValue → Type 0
+MayWantFor c (Asked ask close) = MayWant c.state ask
+MayWantFor c (Refused status close) = ⊥
 
 -- the texts that answer the events one after another, and the cache after them
 unfoldable pub answered_all : CacheValue → List EventValue → List ℕ × CacheValue

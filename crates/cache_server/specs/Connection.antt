@@ -1,5 +1,5 @@
 -- What a run over one connection reads, writes and does.
-use Rattle.std.specs.Prelude.{◌≡◌, ℕ, ◌≤◌, ◌⊎◌, List, [], ◌++◌, length, Option, Some, None}
+use Rattle.std.specs.Prelude.{◌≡◌, ℕ, ◌≤◌, ◌<◌, ◌⊎◌, List, [], ◌++◌, length, Option, Some, None}
 use Rattle.std.specs.Io.KnownBytes.{Appends, Consumes, IsAtEnd}
 use Rattle.http_core.specs.Event.{EventValue}
 use Rattle.http_core.specs.Stream.{Cuts}
@@ -27,6 +27,12 @@ pub record ReadsNoFurther (prefix read : List ℕ) : Type 0 where
   pub rest : List ℕ
   pub open_before : Cuts prefix earlier events (Some rest)
 
+-- Bytes of a request that isn't answered are left of what was read, or nothing was read; else there
+-- were more pieces than a machine word counts.
+abbrev pub StopsShort : List ℕ → List ℕ → Type 0
+StopsShort front rest =
+    (0 < length rest) ⊎ (front ≡ []) ⊎ (18446744073709551615 ≤ length front)
+
 module _ (prefix : List ℕ) (old : CacheValue) (input input_left before after : Option (List ℕ))
     (new : CacheValue) where
   -- The requests in what was read did their work, but for the rest of it, of at most one piece, and
@@ -45,9 +51,11 @@ module _ (prefix : List ℕ) (old : CacheValue) (input input_left before after :
   Runs = (left : Option (List ℕ)) × RunsBut [] [] left × (IsAtEnd input_left ⊎ (left ≡ None))
 
   -- Where the reader failed all that was read is answered, and nothing in it closes; without memory
-  -- only whole answers are written.
+  -- only whole answers are written, of requests that don't close, and not all.
   abbrev pub BreaksOff : ConnError → Type 0
   BreaksOff ReadFault = (begun : List ℕ) × RunsBut [] [] (Some begun)
-  BreaksOff Memory = (rest : List ℕ) × (left : Option (List ℕ)) × RunsBut rest [] left
+  BreaksOff Memory =
+      (rest : List ℕ) × (begun : List ℕ) × (runs : RunsBut rest [] (Some begun))
+      × StopsShort runs.front rest
   BreaksOff WriteFault =
       (rest : List ℕ) × (lost : List ℕ) × (left : Option (List ℕ)) × RunsBut rest lost left

@@ -1,5 +1,5 @@
 -- Answers on a writer: what it had, and what it has then.
-use Rattle.std.specs.Prelude.{◌≡◌, ℕ, List, [], ◌++◌, Option}
+use Rattle.std.specs.Prelude.{◌≡◌, ℕ, List, [], ◌∷◌, ◌++◌, Option}
 use Rattle.std.specs.Io.KnownBytes.{Appends}
 use Rattle.http_core.specs.Event.{EventValue}
 use Rattle.cache_server.specs.Answering.{answered_all}
@@ -25,8 +25,9 @@ module _ (old : CacheValue) (events : List EventValue) (before after : Option (L
     pub answers : answered_all old done ≡ (told ++ lost, new)
     pub appends : Appends before after told
 
-  -- without memory whole answers are written
+  -- without memory for an answer those before it are written
   abbrev pub StopsTelling : ConnError → Type 0
-  StopsTelling Memory = (others : List EventValue) × TellsBut others []
+  StopsTelling Memory =
+      (event : EventValue) × (others : List EventValue) × TellsBut (event ∷ others) []
   StopsTelling WriteFault = (others : List EventValue) × (lost : List ℕ) × TellsBut others lost
   StopsTelling ReadFault = ⊥

@@ -5,7 +5,7 @@ ghost use Rattle.http_core.specs.Event.{Get, Put, ask_of, event_of};
 ghost use Rattle.http_core.specs.Reply.{bare, content_bytes};
 ghost use Rattle.http_core.specs.declared.event.Area.TheVariants.{Ac, Cas};
 ghost use Rattle.cache_server.specs.Answer.{text_of};
-ghost use Rattle.cache_server.specs.Answering.{answered};
+ghost use Rattle.cache_server.specs.Answering.{MayWantFor, answered};
 ghost use Rattle.cache_server.specs.Cache.{MayWant, applied, empty_cache, found_reply, step};
 ghost use Rattle.cache_server.specs.Status.{IsStatusOf, WantsMemory};
 
@@ -208,6 +208,7 @@ impl<A: Allocator + Copy> Cache<A> {
         ensures ok { IfOk result
             (λ answer. answered self.old (event_of event) ≡ (text_of answer, self.new)) }
         ensures err { OnErr result (self.new ≡ self.old) }
+        ensures memory { OnErr result (MayWantFor self.old (event_of event)) }
     {
         match event {
             Event::Ask(ask, close) => {

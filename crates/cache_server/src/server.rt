@@ -1,4 +1,4 @@
-ghost use Rattle.std.specs.Prelude.{◌≡◌, ◌↔◌, List, ◌++◌, [], take, IfOk, OnErr, OnOk, None};
+ghost use Rattle.std.specs.Prelude.{◌≡◌, ◌↔◌, ℕ, List, ◌++◌, [], take, IfOk, OnErr, OnOk, None};
 ghost use Rattle.std.specs.Prelude.{IsSome, IsTrue, Some, option_map, unwrap_or};
 ghost use Rattle.http_core.specs.Event.{event_of};
 ghost use Rattle.cache_server.specs.Answer.{text_of};
@@ -66,6 +66,8 @@ impl<A: Allocator + Copy> Server<A> {
             → AnswersTo self.old.prefix opening history (Piece connection piece.now) text.items) }
         ensures ok { OnOk result (LeadsTo self.old (Piece connection piece.now) self.new) }
         ensures err { OnErr result (LeadsToFailure self.old connection piece.now self.new) }
+        ensures others { (j : ℕ) → (j ≡ connection → ⊥)
+            → session_at self.new j ≡ session_at self.old j }
         ensures prefix { self.new.prefix ≡ self.old.prefix }
     {
         self.open(alloc, connection)?;
@@ -86,7 +88,7 @@ impl<A: Allocator + Copy> Server<A> {
     /// The answer to the first request that the piece completes on the connection, which is a new
     /// one where none has the number, and how many bytes of the piece were taken: those to the end
     /// of that request, or all where it completes none. After an `Err` the connection is closed: it
-    /// answers nothing more.
+    /// answers nothing more, and its request wasn't done. One that is closed wants no memory.
     pub fn next(
         &mut self,
         alloc: A,
@@ -102,6 +104,8 @@ impl<A: Allocator + Copy> Server<A> {
         ensures ok { IfOk result (λ x.
             LeadsTo self.old (Piece connection (take x.0 piece.now)) self.new) }
         ensures err { OnErr result (LeadsToFailure self.old connection piece.now self.new) }
+        ensures kept { OnErr result (KeepsOthers self.old connection self.new) }
+        ensures memory { OnErr result (IsOpenAt (session_at self.old connection)) }
         ensures prefix { self.new.prefix ≡ self.old.prefix }
     {
         self.open(alloc, connection)?;
@@ -156,6 +160,7 @@ impl<A: Allocator + Copy> Server<A> {
         ensures ok { IfOk result (λ x.
             AnswersOne self.old connection piece.now x.0 (option_map text_of x.1) self.new) }
         ensures err { OnErr result (ClosesAt self.old connection self.new) }
+        ensures memory { OnErr result (IsOpenAt (session_at self.old connection)) }
     {
         let (taken, event) = self.first(alloc, connection, piece)?;
         let Some(event) = event else {
@@ -174,6 +179,7 @@ impl<A: Allocator + Copy> Server<A> {
     fn open(&mut self, alloc: A, connection: u64) -> Result<(), AllocError>
         ensures ok { OnOk result (OpensAt self.old connection self.new) }
         ensures err { OnErr result (ClosesAt self.old connection self.new) }
+        ensures none { OnErr result (session_at self.old connection ≡ None) }
     {
         if self.sessions.contains_key(&connection) {
             return Ok(());
@@ -193,6 +199,7 @@ impl<A: Allocator + Copy> Server<A> {
         ensures ok { IfOk result (λ x.
             FeedsFirstAt self.old connection piece.now x.0 (option_map event_of x.1) self.new) }
         ensures err { OnErr result (ClosesAt self.old connection self.new) }
+        ensures memory { OnErr result (IsOpenAt (session_at self.old connection)) }
     {
         if let Some(session) = self.sessions.get_mut(&connection) {
             return session.next(alloc, piece);

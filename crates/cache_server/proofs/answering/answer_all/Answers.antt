@@ -30,7 +30,7 @@ returns-in_err-answer-clause-err g c =
     let steps : c.loop-event.event-iterator.rest.items ≡ c.in-Some.event ∷ left = search rules in
     let on = subst (λ z. TellsOn c.args.cache.now (map event_of c.args.events.items) (map event_of z) (g.W.Write.contents c.args.writer.now) (g.W.Write.contents c.loop-event.writer) c.loop-event.cache) steps c.loop-event.invariant.2 in
     err_and (StopsTelling c.args.cache.now (map event_of c.args.events.items) (g.W.Write.contents c.args.writer.now) (g.W.Write.contents c.loop-event.writer) c.answer.new.self) c.from_residual.result Memory c.from_residual.ensures.1
-    (map event_of (c.in-Some.event ∷ left), told_so_far c.args.cache.now c.loop-event.cache c.answer.new.self (map event_of c.args.events.items) (map event_of (c.in-Some.event ∷ left)) (g.W.Write.contents c.args.writer.now) (g.W.Write.contents c.loop-event.writer) on c.in_err-answer.ensures.err)
+    (event_of c.in-Some.event, map event_of left, told_so_far c.args.cache.now c.loop-event.cache c.answer.new.self (map event_of c.args.events.items) (map event_of (c.in-Some.event ∷ left)) (g.W.Write.contents c.args.writer.now) (g.W.Write.contents c.loop-event.writer) on c.in_err-answer.ensures.err)
 
 pub returns-in_err-write_answer-clause-err : goal.returns-in_err-write_answer-clause-err
 returns-in_err-write_answer-clause-err g c =

@@ -68,6 +68,18 @@ returns-clause-answers g c opening history stands =
     opened_answers opening c.args.self.now c.open.new.self c.loop-at.self c.args.connection history c.in_ok-open.ensures.ok stands c.args.piece.now c.loop-at.text.items
     (subst (λ z. HasFed c.open.new.self c.args.connection z c.loop-at.text.items c.loop-at.self) whole c.loop-at.invariant.fed)
 
+pub returns-in_err-open-clause-others : goal.returns-in_err-open-clause-others
+returns-in_err-open-clause-others g c = c.in_err-open.ensures.err.kept.others
+
+pub returns-in_err-taken-clause-others : goal.returns-in_err-taken-clause-others
+returns-in_err-taken-clause-others g c j other = c.in_err-taken.ensures.err.kept.others j other ∙ c.loop-at.invariant.fed.others j other ∙ c.in_ok-open.ensures.ok.kept.others j other
+
+pub returns-then-is_err-clause-others : goal.returns-then-is_err-clause-others
+returns-then-is_err-clause-others g c j other = c.close.ensures.kept.others j other ∙ c.in_ok-taken.ensures.ok.others j other ∙ c.loop-at.invariant.fed.others j other ∙ c.in_ok-open.ensures.ok.kept.others j other
+
+pub returns-clause-others : goal.returns-clause-others
+returns-clause-others g c j other = c.loop-at.invariant.fed.others j other ∙ c.in_ok-open.ensures.ok.kept.others j other
+
 pub returns-in_err-open-clause-prefix : goal.returns-in_err-open-clause-prefix
 returns-in_err-open-clause-prefix g c = c.in_err-open.ensures.err.kept.prefix
 

@@ -1,12 +1,13 @@
-use Rattle.std.proofs.Common.{[], take, refl, ◌∙◌}
+use Rattle.std.proofs.Common.{[], take, refl, sym, ◌∙◌, subst}
 use Rattle.std.specs.Prelude.{option_map, unwrap_or}
 use Rattle.std.proofs.lemmas.Result.{IfOk-weaker, on_err_weaker}
 use Rattle.cache_server.specs.Answer.{text_of}
+use Rattle.cache_server.specs.Server.{IsOpenAt, session_at}
 use Rattle.cache_server.specs.Sessions.{ClosesAt}
 use Rattle.cache_server.specs.Turn.{AnswersOne}
 use Rattle.cache_server.proofs.Serving.{on_err}
 use Rattle.cache_server.proofs.Standing.{stands_closed}
-use Rattle.cache_server.proofs.Turning.{is_there, fed_none, fed_turn, opened_stands, opened_answer, opened_breaks, one_answer, of_result}
+use Rattle.cache_server.proofs.Turning.{is_there, fed_none, fed_turn, opened_stands, opened_answer, opened_breaks, one_answer, was_open, keeps_join, of_result}
 use Rattle.cache_server.proofs.server.Server.next.Goals as goal
 
 pub turn-requires : goal.turn-requires
@@ -15,6 +16,20 @@ turn-requires g c = is_there _ c.in_ok-open.ensures.ok.session c.in_ok-open.ensu
 pub returns-in_err-open-clause-err : goal.returns-in_err-open-clause-err
 returns-in_err-open-clause-err g c =
     on_err c.from_residual.result (λ opening history stands. stands_closed opening c.args.self.now c.open.new.self c.args.connection c.args.piece.now history c.in_err-open.ensures.err stands)
+
+pub returns-in_err-open-clause-kept : goal.returns-in_err-open-clause-kept
+returns-in_err-open-clause-kept g c = on_err c.from_residual.result c.in_err-open.ensures.err.kept
+
+pub returns-in_err-open-clause-memory : goal.returns-in_err-open-clause-memory
+returns-in_err-open-clause-memory g c = on_err c.from_residual.result (subst IsOpenAt (sym c.in_err-open.ensures.none) tt)
+
+pub returns-clause-kept : goal.returns-clause-kept
+returns-clause-kept g c =
+    on_err_weaker c.turn.result (λ closes. keeps_join c.args.self.now c.open.new.self c.turn.new.self c.args.connection c.in_ok-open.ensures.ok.kept closes.kept) c.turn.ensures.err
+
+pub returns-clause-memory : goal.returns-clause-memory
+returns-clause-memory g c =
+    on_err_weaker c.turn.result (λ o. was_open c.args.self.now.prefix (session_at c.args.self.now c.args.connection) (session_at c.open.new.self c.args.connection) c.in_ok-open.ensures.ok.session c.in_ok-open.ensures.ok.held c.in_ok-open.ensures.ok.at o) c.turn.ensures.memory
 
 pub returns-clause-one : goal.returns-clause-one
 returns-clause-one g c =

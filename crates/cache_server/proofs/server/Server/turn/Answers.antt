@@ -4,8 +4,13 @@ use Rattle.http_core.specs.Event.{event_of}
 use Rattle.cache_server.specs.Answer.{text_of}
 use Rattle.cache_server.specs.Server.{ServerValue}
 use Rattle.cache_server.specs.Sessions.{FeedsFirstAt}
-use Rattle.cache_server.proofs.Turning.{first_answered, closes_fed}
+use Rattle.cache_server.proofs.Turning.{first_answered, closes_fed, open_before}
 use Rattle.cache_server.proofs.server.Server.turn.Goals as goal
+
+pub returns-in-Err-clause-memory : goal.returns-in-Err-clause-memory
+returns-in-Err-clause-memory g c =
+    open_before c.args.self.now c.first.new.self c.args.connection c.args.piece.now c.in_ok-taken.taken (event_of c.in-Some.event)
+    (subst (λ z. FeedsFirstAt c.args.self.now c.args.connection c.args.piece.now c.in_ok-taken.taken (option_map event_of z) c.first.new.self) c.in-Some.is c.in_ok-taken.ensures.ok)
 
 pub returns-in_default-clause-ok : goal.returns-in_default-clause-ok
 returns-in_default-clause-ok g c =
