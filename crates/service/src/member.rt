@@ -1,8 +1,9 @@
-ghost use Rattle.std.specs.Prelude.{◌≡◌, ◌↔◌, [], take, drop, IfErr, IfOk, IfSome, IsTrue, OnErr};
+ghost use Rattle.std.specs.Prelude.{◌≡◌, ◌-◌, ◌≤◌, ◌↔◌, [], take, drop, IfErr, IfOk, IfSome};
+ghost use Rattle.std.specs.Prelude.{IsTrue, OnErr};
 ghost use Rattle.cache_server.specs.Server.{IsOpenAt, session_at};
 ghost use Rattle.service.specs.Member.{EndsWell, GoesAfter, MovesOn, Passes, PassesSent};
 ghost use Rattle.service.specs.Member.{end_of, new_member, unsent_of};
-ghost use Rattle.service.specs.Sockets.{Failed, IsBroken, SendsTo, Shut, Stays};
+ghost use Rattle.service.specs.Sockets.{Failed, IsBroken, SendsTo, Shut, Silent, Stays};
 ghost use Rattle.service.specs.Talks.{IsReason};
 
 use crate::desk::Desk;
@@ -197,9 +198,8 @@ impl<S: Peer + Drop> Member<S> {
             (IsTrue is_open → ⊥) self.now.left self.now.unsent why) }
         ensures known { IfSome result (λ why. why ≡ Err ConnError.Memory → ⊥) }
     {
-        let allowed = self.deadline(idle, pressed)?.saturating_sub(self.moved);
-        let silent = now.saturating_sub(self.moved);
-        if !self.stream.is_silent(silent, allowed) {
+        let deadline = self.deadline(idle, pressed)?;
+        if !was_silent(&self.stream, self.moved, deadline, now) {
             return None;
         }
         if !self.is_sent() {
@@ -501,6 +501,14 @@ impl<S: Peer + Drop> Member<S> {
             self.at = 0;
         }
     }
+}
+
+/// Whether the stream was silent for too long: since it moved a byte, to its deadline.
+fn was_silent<S: Peer>(stream: &S, moved: u64, deadline: u64, now: u64) -> bool
+    ensures is { IsTrue result ↔ (deadline - moved ≤ now - moved) }
+    ensures found { IsTrue result → S.over stream.now Silent }
+{
+    stream.is_silent(now.saturating_sub(moved), deadline.saturating_sub(moved))
 }
 
 /// What comes of a call that failed: without memory, where the system has nothing for it, where it
