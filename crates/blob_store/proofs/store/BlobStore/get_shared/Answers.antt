@@ -1,6 +1,6 @@
-use Rattle.std.proofs.Common.{◌≡◌, false, List, ℕ, IsSome, Result, Ok, Err, OnErr, sym, ap, ◌∙◌, subst, bytes_eq}
+use Rattle.std.proofs.Common.{List, ℕ, IsSome, Result, Ok, Err, OnErr, sym, ap, ◌∙◌, subst, bytes_eq}
 use Rattle.eviction.specs.Kept.{Kept, bytes_under}
-use Rattle.blob_store.specs.Blobs.{HasHash, held_under, found_in}
+use Rattle.blob_store.specs.Blobs.{HasHash}
 use Rattle.blob_store.proofs.BlobLemmas.{held_has_hash, held_found, touched_blobs}
 use Rattle.blob_store.proofs.store.BlobStore.get_shared.Goals as goal
 

@@ -1,4 +1,4 @@
-use Rattle.std.proofs.Common.{◌≡◌, List, ℕ, true, false, bytes_eq, Err, refl, ap, sym, subst, ◌∙◌}
+use Rattle.std.proofs.Common.{◌≡◌, List, ℕ, true, bytes_eq, refl, ap, sym, subst, ◌∙◌}
 use Rattle.eviction.specs.Kept.{Kept}
 use Rattle.eviction.specs.Pinning.{one_less, all_pinned}
 use Rattle.blob_store.specs.declared.error.BlobError.TheVariants.{Memory, NotPinned}
