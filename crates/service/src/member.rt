@@ -1,18 +1,18 @@
-ghost use Rattle.std.specs.Prelude.{◌≡◌, ◌-◌, ◌≤◌, ◌↔◌, [], take, drop, IfErr, IfOk, IfSome};
-ghost use Rattle.std.specs.Prelude.{IsTrue, OnErr};
+ghost use Rattle.std.specs.Prelude.{◌≡◌, ◌↔◌, [], take, drop, IfErr, IfOk, IfSome, IsTrue, OnErr};
 ghost use Rattle.cache_server.specs.Server.{IsOpenAt, session_at};
-ghost use Rattle.service.specs.Member.{EndsWell, GoesAfter, MovesOn, Passes, PassesSent};
+ghost use Rattle.service.specs.Member.{EndsWell, MovesOn, Passes, PassesSent};
 ghost use Rattle.service.specs.Member.{end_of, new_member, unsent_of};
-ghost use Rattle.service.specs.Sockets.{Failed, IsBroken, SendsTo, Shut, Silent, Stays};
+ghost use Rattle.service.specs.Sockets.{Failed, IsBroken, SendsTo, Shut, Stays};
 ghost use Rattle.service.specs.Talks.{IsReason};
 
 use crate::desk::Desk;
 use crate::error::finds_none;
 use crate::load::{Leave, Load};
 use crate::part::{gather, next_of};
+use crate::silence::was_silent;
 use crate::sockets::Peer;
 use crate::telling::Traffic;
-use crate::turn::Turn;
+use crate::turn::{Turn, after_fault};
 use cache_server::{Answer, ConnError, Server};
 use std::alloc::Global;
 use std::io::ErrorKind;
@@ -500,26 +500,5 @@ impl<S: Peer + Drop> Member<S> {
             self.input = Vec::new(alloc);
             self.at = 0;
         }
-    }
-}
-
-/// Whether the stream was silent for too long: since it moved a byte, to its deadline.
-fn was_silent<S: Peer>(stream: &S, moved: u64, deadline: u64, now: u64) -> bool
-    ensures is { IsTrue result ↔ (deadline - moved ≤ now - moved) }
-    ensures found { IsTrue result → S.over stream.now Silent }
-{
-    stream.is_silent(now.saturating_sub(moved), deadline.saturating_sub(moved))
-}
-
-/// What comes of a call that failed: without memory, where the system has nothing for it, where it
-/// was interrupted, and otherwise.
-fn after_fault(fault: &io::Error, other: ConnError) -> Turn
-    ensures { GoesAfter fault.now other result }
-{
-    match fault.kind() {
-        ErrorKind::OutOfMemory => Turn::Ends(Err(ConnError::Memory)),
-        ErrorKind::WouldBlock => Turn::Waits,
-        ErrorKind::Interrupted => Turn::Again,
-        _ => Turn::Ends(Err(other)),
     }
 }
