@@ -3,3 +3,5 @@ pub mod Rooms
 pub mod Saying
 pub mod Walks
 pub mod Gathered
+pub mod Exits
+pub mod Ends

@@ -1,6 +1,9 @@
 -- What is collected of a child.
 use Rattle.std.specs.Prelude.{◌≡◌, ◌≢◌, ◌⊎◌, ◌↔◌, ℕ, zero, suc, Bool, false, List, [], ◌∷◌, ◌++◌}
 use Rattle.std.specs.Prelude.{Some, None, Contains}
+use Rattle.std.specs.IoError.{error_kind}
+use Rattle.std.specs.declared.io.Error.{Error}
+use Rattle.std.specs.declared.io.ErrorKind.TheVariants.{InvalidData}
 use Rattle.std.specs.List.{AllByRecursion}
 use Rattle.blob_digest.specs.Digest.{DigestValue, digest_of}
 use Rattle.messages.specs.Name.{IsName}
@@ -149,6 +152,11 @@ IsBadFolder works ended (suc most) place = works.lists ended place None
 abbrev pub HasNoOutput : {R C E : Type 0} → Works R C E → E → List ℕ → Type 0
 HasNoOutput works ended place = (s : PlaceStanding) × works.stands ended place s
     × IsNoOutput works ended (IsBadFolder works ended 64) place s
+
+-- The error by which nothing is collected: a call that looks was refused by it; or the names that
+-- were listed don't fit one tree.
+abbrev pub IsUnread : {R C E : Type 0} → Works R C E → E → Error → Type 0
+IsUnread works ended error = works.unread ended error ⊎ (error_kind error ≡ InvalidData)
 
 -- ---- one path more
 

@@ -1,10 +1,13 @@
 -- Where a job's files stand, and what is made before its process starts.
-use Rattle.std.specs.Prelude.{ℕ, List, [], ◌∷◌, ◌++◌, Option, Some, None, decimal, map}
+use Rattle.std.specs.Prelude.{◌≡◌, ◌⊎◌, ℕ, List, [], ◌∷◌, ◌++◌, Option, Some, None, decimal, map}
+use Rattle.std.specs.IoError.{error_kind}
+use Rattle.std.specs.declared.io.Error.{Error}
+use Rattle.std.specs.declared.io.ErrorKind.TheVariants.{OutOfMemory}
 use Rattle.std.specs.Path.{path_parent}
 use Rattle.messages.specs.Path.{path_text}
 use Rattle.action_messages.specs.Command.{CommandValue}
 use Rattle.worker.specs.Values.{LayoutValue}
-use Rattle.processes.specs.Workshop.{RoomValue}
+use Rattle.processes.specs.Workshop.{Works, RoomValue}
 
 -- the text of a path below a folder
 abbrev pub place_below : List ℕ → List ℕ → List ℕ
@@ -57,3 +60,8 @@ room_of_job folder l c = record (room_of_layout folder l) {
   folders = (folders_below folder l.folders ++ working_folders folder c.working_directory)
       ++ folders_above (start_of folder c.working_directory) c.output_paths;
 }
+
+-- the error by which a child isn't started: a call of the workshop was refused by it, or it is lack
+-- of memory
+abbrev pub IsUnstarted : {R C E : Type 0} → Works R C E → Error → Type 0
+IsUnstarted works error = works.unstarted error ⊎ (error_kind error ≡ OutOfMemory)

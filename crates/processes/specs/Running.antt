@@ -1,15 +1,25 @@
 -- Jobs in a workshop, and what may come of them.
-use Rattle.std.specs.Prelude.{◌≡◌, ℕ, ℤ, List, Some, Contains, string_bytes}
+use Rattle.std.specs.Prelude.{◌≡◌, ◌⊎◌, ℕ, ℤ, List, Contains, Result, Ok, Err, string_bytes}
 use Rattle.std.specs.List.{AllByRecursion}
 use Rattle.action_messages.specs.Command.{CommandValue}
 use Rattle.messages.specs.Path.{path_text}
-use Rattle.worker.specs.Values.{LayoutValue, EndValue, made, bad_at, StartValue, IsAbsolute}
+use Rattle.std.specs.declared.io.Error.{Error}
+use Rattle.worker.specs.Values.{LayoutValue, ProducedValue, EndValue, made, bad_at, failed}
+use Rattle.worker.specs.Values.{StartValue, IsAbsolute, program_of}
+use Rattle.worker.specs.declared.failure.Cause.TheVariants.{Unstarted, Unread, Signal}
+use Rattle.worker.specs.declared.runner.RunError.{RunError}
+use Rattle.worker.specs.declared.runner.RunError.TheVariants as children
+use Rattle.processes.specs.declared.disk.ChildErrors.{ChildErrors}
+use Rattle.processes.specs.declared.disk.Disk.{Disk}
 use Rattle.processes.specs.declared.tally.Tally.{Tally}
 use Rattle.processes.specs.declared.running.ProcessRunner.{ProcessRunner}
 use Rattle.processes.specs.declared.running.ProcessJob.{ProcessJob}
+use Rattle.processes.specs.declared.workshop.Exit.{Exit}
+use Rattle.processes.specs.declared.workshop.Exit.TheVariants.{Code}
+use Rattle.processes.specs.declared.workshop.Exit.TheVariants as exits
 use Rattle.processes.specs.Workshop.{Works}
-use Rattle.processes.specs.Laying.{place_below, start_of, room_of_job}
-use Rattle.processes.specs.Collected.{AreCollected, HasNoOutput}
+use Rattle.processes.specs.Laying.{folder_of, place_below, start_of, room_of_job}
+use Rattle.processes.specs.Collected.{AreCollected, HasNoOutput, IsUnread}
 
 -- how many children haven't been waited for yet
 abbrev pub alive_in : Tally → ℕ
@@ -32,6 +42,10 @@ work_of r = string_bytes r.work
 abbrev pub next_of : {W A : Type 0} → ProcessRunner W A → ℕ
 next_of r = r.next
 
+-- what is done with the errors of processes
+abbrev pub errors_of : {R : Type 0} → Disk R → ChildErrors
+errors_of d = d.errors
+
 -- what stood at the paths below a folder after a process has ended with a code: the outputs of an
 -- outcome, or at one of them what is no output
 abbrev pub WasLeft : {R C E : Type 0} → Works R C E → E → List ℕ → List (List (List ℕ)) → ℤ
@@ -40,6 +54,8 @@ WasLeft works end start paths code (made p) =
     (p.outcome.exit_code ≡ code) × AreCollected works end start paths p.outcome p.blobs
 WasLeft works end start paths code (bad_at path) =
     Contains paths path × HasNoOutput works end (place_below start (path_text path))
+WasLeft works end start paths code (failed program (Unread error)) = IsUnread works end error
+WasLeft works end start paths code (failed program cause) = ⊥
 
 -- A child ended so: it was waited for and ended with a code, and this stood after that at the paths
 -- below the folder that it started in.
@@ -47,8 +63,19 @@ pub record EndedWith {R C E : Type 0} (works : Works R C E) (child : C) (start :
     (paths : List (List (List ℕ))) (e : EndValue) : Type 0 where
   pub end : E
   pub code : ℤ
-  pub ended : works.ended child end (Some code)
+  pub ended : works.ended child end (Code code)
   pub left : WasLeft works end start paths code e
+
+-- A child of a program came to this: it ended so, with a code; or a signal ended it; or the call
+-- that waits for it, or one that looks at what it left, was refused by this error.
+abbrev pub CameOf : {R C E : Type 0} → Works R C E → C → List ℕ → List ℕ → List (List (List ℕ))
+    → EndValue → Type 0
+CameOf {R} {C} {E} works child program start paths (failed p (Signal number)) =
+    (p ≡ program) × ((end : E) × works.ended child end (exits.Signal number))
+CameOf works child program start paths (failed p (Unread error)) = (p ≡ program)
+    × (works.unwaited child error ⊎ EndedWith works child start paths (failed p (Unread error)))
+CameOf works child program start paths (failed p (Unstarted error)) = ⊥
+CameOf works child program start paths e = EndedWith works child start paths e
 
 -- A child was started for a command in a folder that was made new, with the layout and what the
 -- command wants beside it, and nothing else.
@@ -57,21 +84,44 @@ pub record IsJobLaunched {R C E : Type 0} (works : Works R C E) (folder : List �
   pub is_start : start ≡ start_of folder c.working_directory
   pub started : works.runs child (room_of_job folder l c) c start
 
--- children were started, one for each of these
-abbrev pub HaveStarted : {R C E : Type 0} → Works R C E → List StartValue → Type 0
-HaveStarted {R} {C} works = AllByRecursion (λ s. (folder : List ℕ) × (child : C) × (start : List ℕ)
-    × IsJobLaunched works folder s.layout s.command child start)
+-- children were started, one for each of these, each in a numbered folder below one folder
+abbrev pub HaveStarted : {R C E : Type 0} → Works R C E → List ℕ → List StartValue → Type 0
+HaveStarted {R} {C} works work = AllByRecursion (λ s. (number : ℕ) × (child : C) × (start : List ℕ)
+    × IsJobLaunched works (folder_of work number) s.layout s.command child start)
 
--- The command names its program from the root. A child was started so, and ended so.
-pub record IsJobRun {R C E : Type 0} (works : Works R C E) (l : LayoutValue) (c : CommandValue)
-    (e : EndValue) : Type 0 where
+-- The command names its program from the root. A child was started so, in a numbered folder, and
+-- came to this.
+pub record IsJobRun {R C E : Type 0} (works : Works R C E) (work : List ℕ) (l : LayoutValue)
+    (c : CommandValue) (e : EndValue) : Type 0 where
   pub absolute : IsAbsolute c
-  pub folder : List ℕ
+  pub number : ℕ
   pub child : C
   pub start : List ℕ
-  pub launched : IsJobLaunched works folder l c child start
-  pub came : EndedWith works child start c.output_paths e
+  pub launched : IsJobLaunched works (folder_of work number) l c child start
+  pub came : CameOf works child (program_of c) start c.output_paths e
+
+-- What may come of a layout and a command: a child was started and came to this; or none was, as a
+-- call that makes its room or starts it was refused by this error.
+abbrev pub may_yield : {R C E : Type 0} → Works R C E → List ℕ → LayoutValue → CommandValue
+    → EndValue → Type 0
+may_yield works work l c (failed program (Unstarted error)) =
+    IsAbsolute c × (program ≡ program_of c) × works.unstarted error
+may_yield works work l c e = IsJobRun works work l c e
 
 -- what may come of a job
 abbrev pub may_come : {R C E A : Type 0} → Works R C E → ProcessJob C A → EndValue → Type 0
-may_come works job = EndedWith works job.child (string_bytes job.start) job.outputs.items
+may_come works job = CameOf works job.started.child (string_bytes job.program)
+    (string_bytes job.started.start) job.started.outputs.items
+
+-- what was told as a child was waited for
+abbrev pub IsEnded : {R C E : Type 0} → Works R C E → C → Result (E × Exit) Error → Type 0
+IsEnded works child (Ok told) = works.ended child told.0 told.1
+IsEnded works child (Err error) = works.unwaited child error
+
+-- an answer tells what came of a child
+abbrev pub EndsAs : {A : Type 0} → (EndValue → Type 0) → Result ProducedValue (RunError A) → Type 0
+EndsAs Came (Ok p) = Came (made p)
+EndsAs Came (Err (children.BadOutput path)) = Came (bad_at path)
+EndsAs Came (Err (children.Device program cause)) = Came (failed (string_bytes program) cause)
+EndsAs Came (Err children.Memory) = Unit {0}
+EndsAs Came (Err children.NotAbsolute) = ⊥

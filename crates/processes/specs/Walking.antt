@@ -1,7 +1,20 @@
--- What a walk through a folder adds to a flat tree.
-use Rattle.std.specs.Prelude.{◌≡◌, ◌≢◌, ℕ, ◌<◌, ◌≤◌, List, ◌∷◌, ◌++◌, length, take, Contains}
+-- What a walk through a folder adds to a flat tree, and why it ends: words of private functions.
+use Rattle.std.specs.Prelude.{◌≡◌, ◌≢◌, ◌⊎◌, ℕ, ◌<◌, ◌≤◌, List, ◌∷◌, ◌++◌, length, take, Contains}
+use Rattle.std.specs.IoError.{error_kind}
+use Rattle.std.specs.declared.io.Error.{Error}
+use Rattle.std.specs.declared.io.ErrorKind.TheVariants.{InvalidData, OutOfMemory}
+use Rattle.messages.specs.declared.error.MessageError.{MessageError}
+use Rattle.messages.specs.declared.error.MessageError.TheVariants as messages
+use Rattle.tree.specs.declared.error.AddError.{AddError}
+use Rattle.tree.specs.declared.error.AddError.TheVariants as adding
+use Rattle.std.specs.declared.string.String.{String}
 use Rattle.tree.specs.Tree.{Name, nothing, a_directory}
 use Rattle.tree.specs.FlatTree.{FlatValue, standing_in}
+use Rattle.worker.specs.declared.failure.Cause.{Cause}
+use Rattle.worker.specs.declared.runner.RunError.{RunError}
+use Rattle.worker.specs.declared.runner.RunError.TheVariants as children
+use Rattle.processes.specs.declared.trouble.Trouble.{Trouble}
+use Rattle.processes.specs.declared.trouble.Trouble.TheVariants.{Unread, NoOutput, Memory}
 use Rattle.processes.specs.Workshop.{Works}
 use Rattle.processes.specs.Collected.{IsContentAt, IsFolderAt}
 
@@ -33,3 +46,31 @@ pub record IsWalked {R C E : Type 0} (works : Works R C E) (ended : E) (place : 
   pub folder : IsFolderAt works ended more place (λ q. standing_in new (path ++ q))
   pub only : (b : List ℕ) → Contains more b
       → IsContentAt works ended place (λ q. standing_in new (path ++ q)) b
+
+-- ---- what a trouble is of
+
+-- of a system's error: lack of memory, or that error
+abbrev pub IsOfSystem : Error → Trouble → Type 0
+IsOfSystem error t = ((error_kind error ≡ OutOfMemory) × (t ≡ Memory))
+    ⊎ ((error_kind error ≢ OutOfMemory) × (t ≡ Unread error))
+
+-- of what is no message, or no name or path
+abbrev pub IsOfMessage : MessageError → Trouble → Type 0
+IsOfMessage error t = ((error ≡ messages.Memory) × (t ≡ Memory))
+    ⊎ ((error ≢ messages.Memory) × (t ≡ NoOutput))
+
+-- of a path for which there was no room in a tree or an outcome
+abbrev pub IsOfAdding : {A : Type 0} → AddError A → Trouble → Type 0
+IsOfAdding adding.Memory t = t ≡ Memory
+IsOfAdding (adding.Overlap path) t =
+    (error : Error) × (error_kind error ≡ InvalidData) × (t ≡ Unread error)
+
+-- what a trouble tells of an error, if it tells of one
+abbrev pub TellsOf : (Error → Type 0) → Trouble → Type 0
+TellsOf Fails (Unread error) = Fails error
+TellsOf Fails t = Unit {0}
+
+-- the refusal of a program that failed by a cause, which is of this error of the system
+abbrev pub IsFailedBy : {A : Type 0} → String A → Error → Cause → RunError A → Type 0
+IsFailedBy program error cause r = ((error_kind error ≡ OutOfMemory) × (r ≡ children.Memory))
+    ⊎ ((error_kind error ≢ OutOfMemory) × (r ≡ children.Device program cause))

@@ -1,6 +1,8 @@
 -- What may be said of a place in which processes run, by what was done there and what it told.
-use Rattle.std.specs.Prelude.{ℕ, ℤ, List, [], ◌∷◌, ◌++◌, Option}
+use Rattle.std.specs.Prelude.{ℕ, List, [], ◌++◌, Option}
+use Rattle.std.specs.declared.io.Error.{Error}
 use Rattle.action_messages.specs.Command.{CommandValue}
+use Rattle.processes.specs.declared.workshop.Exit.{Exit}
 use Rattle.processes.specs.declared.workshop.Standing.{Standing}
 
 -- A folder that was made where nothing stood, and all that was made in it since: folders, and files
@@ -29,14 +31,20 @@ pub record Works (Room Child Ended : Type 0) : Type 1 where
   pub runs : Child → RoomValue → CommandValue → List ℕ → Type 0
   -- the child was waited for
   pub waited : Child → Type 0
-  -- the child has ended, with this code or by a signal
-  pub ended : Child → Ended → Option ℤ → Type 0
+  -- the child has ended so
+  pub ended : Child → Ended → Exit → Type 0
   -- after that this was found at the path, links being followed
   pub stands : Ended → List ℕ → Standing → Type 0
   -- after that these names were found in the folder at the path, or that one is no text
   pub lists : Ended → List ℕ → Option (List (List ℕ)) → Type 0
   -- after that the file at the path was read, and had these bytes, or more than a blob has
   pub holds : Ended → List ℕ → Option (List ℕ) → Type 0
+  -- a call that makes a room or something in it, or starts a child there, was refused by this error
+  pub unstarted : Error → Type 0
+  -- the call that waits for the child was
+  pub unwaited : Child → Error → Type 0
+  -- after its end a call that looks at what it left was
+  pub unread : Ended → Error → Type 0
 
 -- what the room has becomes this
 abbrev pub Becomes : {R C E : Type 0} → Works R C E → R → R → (RoomValue → RoomValue) → Type 0
@@ -57,4 +65,7 @@ nothing_known = record {
   stands = λ _ _ _. Unit {0};
   lists = λ _ _ _. Unit {0};
   holds = λ _ _ _. Unit {0};
+  unstarted = λ _. Unit {0};
+  unwaited = λ _ _. Unit {0};
+  unread = λ _ _. Unit {0};
 }

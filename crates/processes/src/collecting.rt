@@ -1,7 +1,12 @@
-ghost use Rattle.std.specs.Prelude.{◌≡◌, ℕ, List, Contains, Err, IfOk, IsErrOf, OnOk};
+ghost use Rattle.std.specs.Prelude.{◌≡◌, ℕ, List, Contains, Err, IfErr, IfOk, IsErrOf, OnOk};
+ghost use Rattle.std.specs.Prelude.{string_bytes};
+ghost use Rattle.std.specs.declared.io.Error.{Error};
 ghost use Rattle.messages.specs.Path.{path_text};
-ghost use Rattle.worker.specs.Values.{blobs_of};
-ghost use Rattle.processes.specs.Collected.{AreCollected, HasNoOutput, IsMore};
+ghost use Rattle.worker.specs.Counted.{TellsFailure};
+ghost use Rattle.worker.specs.Values.{blobs_of, failed};
+ghost use Rattle.worker.specs.declared.failure.Cause.TheVariants.{Unread};
+ghost use Rattle.processes.specs.Collected.{AreCollected, HasNoOutput, IsMore, IsUnread};
+ghost use Rattle.processes.specs.Walking.{TellsOf};
 ghost use Rattle.processes.specs.Laying.{place_below};
 
 use crate::laying::place_below;
@@ -26,6 +31,7 @@ fn take_output<A: Allocator + Copy, W: Workshop>(
     ensures more { OnOk result (IsMore W.works ended.now place.now path.now outcome.old
         (blobs_of blobs.old.items) outcome.new (blobs_of blobs.new.items)) }
     ensures bad { IsErrOf result Trouble.NoOutput → HasNoOutput W.works ended.now place.now }
+    ensures failed { IfErr result (TellsOf (IsUnread W.works ended.now)) }
 {
     let output = match workshop.look(ended, place)? {
         Standing::Nothing => return Ok(()),
@@ -41,11 +47,12 @@ fn take_output<A: Allocator + Copy, W: Workshop>(
     Ok(())
 }
 
-/// What stands at the paths below a folder, as the outcome of an exit code, and its blobs.
+/// What stands at the paths below a folder, as the outcome of a program's exit code, and its blobs.
 pub(crate) fn collect<A: Allocator + Copy, W: Workshop>(
     alloc: A,
     workshop: &W,
     ended: &W::Ended,
+    program: String<A>,
     folder: &str,
     paths: &[Path<A>],
     exit_code: i32,
@@ -57,6 +64,8 @@ pub(crate) fn collect<A: Allocator + Copy, W: Workshop>(
     ensures bad { (path : List (List ℕ)) → IsErrOf result (RunError.BadOutput path)
         → Contains paths.now path
         × HasNoOutput W.works ended.now (place_below folder.now (path_text path)) }
+    ensures failed { IfErr result (TellsFailure (λ e. (error : Error)
+        × (e ≡ failed (string_bytes program) (Unread error)) × IsUnread W.works ended.now error)) }
 {
     let mut outcome = Outcome::new(alloc, exit_code);
     let mut blobs = Vec::new(alloc);
@@ -74,7 +83,7 @@ pub(crate) fn collect<A: Allocator + Copy, W: Workshop>(
             &mut blobs,
         ) {
             Ok(()) => {}
-            Err(trouble) => return Err(trouble.at(alloc, path)),
+            Err(trouble) => return Err(trouble.at(alloc, program, path)),
         }
     }
     Ok(Produced { outcome, blobs })

@@ -1,11 +1,16 @@
+ghost use Rattle.std.specs.Prelude.{◌≡◌, IfSome};
+ghost use Rattle.std.specs.Process.{exit_code, exit_signal};
+ghost use Rattle.processes.specs.Running.{errors_of};
+
 use crate::launching::process_of;
-use crate::workshop::{Standing, Workshop};
+use crate::workshop::{Exit, Standing, Workshop};
 use actions::Command;
 use blob_digest::GREATEST_BLOB;
 use std::alloc::Allocator;
 use std::fs::File;
 use std::io::{ErrorKind, Read, Write};
-use std::process::{Child, Stdio};
+use std::os::unix::process::ExitStatusExt;
+use std::process::{Child, ExitStatus, Stdio};
 use std::rt::{Files, Processes};
 use std::{fs, io};
 
@@ -37,7 +42,9 @@ pub struct Disk<'r, R> {
 
 impl<'r, R> Disk<'r, R> {
     /// The system that a handle reaches, and what becomes of the errors of its processes.
-    pub fn new(rt: &'r R, errors: ChildErrors) -> Disk<'r, R> {
+    pub fn new(rt: &'r R, errors: ChildErrors) -> Disk<'r, R>
+        ensures { errors_of result ≡ errors }
+    {
         Disk { rt, errors }
     }
 }
@@ -58,6 +65,17 @@ fn standing_of(metadata: &fs::Metadata) -> Standing {
         Standing::File
     } else {
         Standing::Other
+    }
+}
+
+/// How a process ended, as the status tells for which it was waited.
+fn exit_of(status: &ExitStatus) -> Exit
+    ensures code { IfSome (exit_code status.now) (λ code. result ≡ Exit.Code code) }
+    ensures signal { IfSome (exit_signal status.now) (λ number. result ≡ Exit.Signal number) }
+{
+    match status.code() {
+        Some(code) => Exit::Code(code),
+        None => Exit::Signal(status.signal().unwrap_or(0)),
     }
 }
 
@@ -96,9 +114,10 @@ impl<'r, R: Files + Processes + Alloc + Clone + Drop> Workshop for Disk<'r, R> {
         process_of(alloc, command, folder, self.errors)?.spawn(self.rt)
     }
 
-    fn wait(&self, child: Child<R::Started>) -> io::Result<(HasEnded, Option<i32>)> {
+    fn wait(&self, child: Child<R::Started>) -> io::Result<(HasEnded, Exit)> {
         let mut child = child;
-        Ok((HasEnded, child.wait()?.code()))
+        let status = child.wait()?;
+        Ok((HasEnded, exit_of(&status)))
     }
 
     fn look(&self, _ended: &HasEnded, path: &str) -> io::Result<Standing> {

@@ -1,16 +1,17 @@
-ghost use Rattle.std.specs.Prelude.{◌≡◌, IfOk, OnOk, string_bytes};
+ghost use Rattle.std.specs.Prelude.{◌≡◌, IfErr, IfOk, OnOk, string_bytes};
 ghost use Rattle.worker.specs.Values.{contents_of};
 ghost use Rattle.processes.specs.Workshop.{Becomes, with_files, with_folders};
 ghost use Rattle.processes.specs.Laying.{above_in, files_below, folders_above, folders_below};
-ghost use Rattle.processes.specs.Laying.{place_below, room_of_layout, start_of, working_folders};
+ghost use Rattle.processes.specs.Laying.{IsUnstarted, place_below, room_of_layout, start_of};
+ghost use Rattle.processes.specs.Laying.{working_folders};
 ghost use Rattle.std.specs.Path.{path_parent};
 ghost use Rattle.messages.specs.Path.{path_text};
 
-use crate::trouble::Trouble;
 use crate::workshop::Workshop;
 use actions::Command;
 use messages::Path;
 use std::alloc::{AllocError, Allocator};
+use std::io;
 use worker::Layout;
 
 /// The place of a path below a folder.
@@ -31,9 +32,10 @@ fn make_folders<A: Allocator + Copy, W: Workshop>(
     room: &mut W::Room,
     folder: &str,
     paths: &[Path<A>],
-) -> Result<(), Trouble>
-    ensures { OnOk result
+) -> io::Result<()>
+    ensures made { OnOk result
         (Becomes W.works room.old room.new (with_folders (folders_below folder.now paths.now))) }
+    ensures failed { IfErr result (IsUnstarted W.works) }
 {
     for path in paths {
         let place = place_below(alloc, folder, path.as_str())?;
@@ -49,9 +51,10 @@ fn write_files<A: Allocator + Copy, W: Workshop>(
     room: &mut W::Room,
     folder: &str,
     files: &[(Path<A>, Vec<u8, A>)],
-) -> Result<(), Trouble>
-    ensures { OnOk result (Becomes W.works room.old room.new
+) -> io::Result<()>
+    ensures written { OnOk result (Becomes W.works room.old room.new
         (with_files (files_below folder.now (contents_of files.now)))) }
+    ensures failed { IfErr result (IsUnstarted W.works) }
 {
     for file in files {
         let place = place_below(alloc, folder, file.0.as_str())?;
@@ -66,8 +69,9 @@ pub(crate) fn lay_out<A: Allocator + Copy, W: Workshop>(
     workshop: &W,
     folder: &str,
     layout: &Layout<A>,
-) -> Result<W::Room, Trouble>
-    ensures { IfOk result (λ room. W.works.has room (room_of_layout folder.now layout.now)) }
+) -> io::Result<W::Room>
+    ensures laid { IfOk result (λ room. W.works.has room (room_of_layout folder.now layout.now)) }
+    ensures failed { IfErr result (IsUnstarted W.works) }
 {
     let mut room = workshop.make_new(folder)?;
     make_folders(alloc, workshop, &mut room, folder, &layout.folders)?;
@@ -83,11 +87,12 @@ pub(crate) fn make_start<A: Allocator, W: Workshop>(
     room: &mut W::Room,
     folder: &str,
     command: &Command<A>,
-) -> Result<String<A>, Trouble>
+) -> io::Result<String<A>>
     ensures start { IfOk result
         (λ start. string_bytes start ≡ start_of folder.now command.now.working_directory) }
     ensures made { OnOk result (Becomes W.works room.old room.new
         (with_folders (working_folders folder.now command.now.working_directory))) }
+    ensures failed { IfErr result (IsUnstarted W.works) }
 {
     match command.working_directory() {
         Some(path) => {
@@ -106,9 +111,10 @@ fn make_parent<A: Allocator, W: Workshop>(
     room: &mut W::Room,
     start: &str,
     path: &Path<A>,
-) -> Result<(), Trouble>
-    ensures { OnOk result (Becomes W.works room.old room.new
+) -> io::Result<()>
+    ensures made { OnOk result (Becomes W.works room.old room.new
         (with_folders (above_in start.now (path_parent (path_text path.now))))) }
+    ensures failed { IfErr result (IsUnstarted W.works) }
 {
     match std::path::Path::new(path.as_str()).parent() {
         Some(above) => {
@@ -127,9 +133,10 @@ pub(crate) fn make_parents<A: Allocator + Copy, W: Workshop>(
     room: &mut W::Room,
     start: &str,
     outputs: &[Path<A>],
-) -> Result<(), Trouble>
-    ensures { OnOk result
+) -> io::Result<()>
+    ensures made { OnOk result
         (Becomes W.works room.old room.new (with_folders (folders_above start.now outputs.now))) }
+    ensures failed { IfErr result (IsUnstarted W.works) }
 {
     for path in outputs {
         make_parent(alloc, workshop, room, start, path)?;

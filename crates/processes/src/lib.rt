@@ -14,4 +14,4 @@ mod workshop;
 
 pub use disk::{ChildErrors, Disk};
 pub use running::{ProcessJob, ProcessRunner};
-pub use workshop::{Standing, Workshop};
+pub use workshop::{Exit, Standing, Workshop};

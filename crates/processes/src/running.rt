@@ -1,22 +1,21 @@
-ghost use Rattle.std.specs.Prelude.{◌≡◌, ◌+◌, ℕ, ℤ, List, Err, IfOk, IsErrOf, IsTrue, Ok};
-ghost use Rattle.std.specs.Prelude.{OnErr, OnOk, Some, string_bytes};
-ghost use Rattle.worker.specs.Values.{IsAbsolute, bad_at};
+ghost use Rattle.std.specs.Prelude.{◌≡◌, ◌+◌, IfErr, IfOk, IsTrue, OnErr, OnOk, string_bytes};
+ghost use Rattle.worker.specs.Values.{IsAbsolute};
+ghost use Rattle.worker.specs.declared.failure.Cause.TheVariants.{Signal};
 ghost use Rattle.messages.specs.Path.{begins_with_slash};
-ghost use Rattle.processes.specs.Collected.{AreCollected};
-ghost use Rattle.processes.specs.Laying.{folder_of};
-ghost use Rattle.processes.specs.Running.{IsJobLaunched, WasLeft, alive_of, failures_of, work_of};
-ghost use Rattle.processes.specs.Running.{next_of};
+ghost use Rattle.processes.specs.Laying.{IsUnstarted, folder_of};
+ghost use Rattle.processes.specs.Running.{CameOf, EndsAs, IsEnded, IsJobLaunched, alive_of};
+ghost use Rattle.processes.specs.Running.{failures_of, next_of, work_of};
 
 use crate::collecting::collect;
 use crate::laying::{lay_out, make_parents, make_start};
 use crate::tally::Tally;
-use crate::trouble::Trouble;
-use crate::workshop::Workshop;
+use crate::trouble::failed_by;
+use crate::workshop::{Exit, Workshop};
 use actions::Command;
 use messages::Path;
 use std::alloc::{AllocError, Allocator};
 use std::io;
-use worker::{Layout, Produced, RunError, Runner};
+use worker::{Cause, Layout, Produced, RunError, Runner, program_of};
 
 /// Runs jobs as processes, each in a new folder of its own, which is named by a number.
 #[derive(Drop)]
@@ -27,13 +26,20 @@ pub struct ProcessRunner<W, A: Allocator> {
     tally: Tally,
 }
 
-/// A process that was started for a command.
+/// A process that was started.
 #[derive(Drop)]
-pub struct ProcessJob<C, A: Allocator> {
+pub(crate) struct Started<C, A: Allocator> {
     child: C,
     /// The folder that it started in, and the output paths below it.
     start: String<A>,
     outputs: Vec<Path<A>, A>,
+}
+
+/// A process that was started for a command of this program.
+#[derive(Drop)]
+pub struct ProcessJob<C, A: Allocator> {
+    started: Started<C, A>,
+    program: String<A>,
 }
 
 impl<W, A: Allocator> ProcessRunner<W, A> {
@@ -89,8 +95,9 @@ fn copy_paths<A: Allocator + Copy>(
 }
 
 impl<W: Workshop, A: Allocator + Copy> ProcessRunner<W, A> {
-    /// The folder of the next job. Each number is used once, whether or not a child is started.
-    fn next_folder(&mut self, alloc: A) -> Result<String<A>, Trouble>
+    /// The folder of the next job. Each number is used once, whether or not a child is started; that
+    /// there is none left is lack of memory.
+    fn next_folder(&mut self, alloc: A) -> Result<String<A>, AllocError>
         ensures folder { IfOk result
             (λ folder. string_bytes folder ≡ folder_of (work_of self.old) (next_of self.old)) }
         ensures used { OnOk result (next_of self.new ≡ next_of self.old + 1) }
@@ -100,11 +107,11 @@ impl<W: Workshop, A: Allocator + Copy> ProcessRunner<W, A> {
     {
         let number = self.next;
         let Some(next) = number.checked_add(1) else {
-            return Err(Trouble::Device);
+            return Err(AllocError);
         };
         self.next = next;
         let work = self.work.as_str();
-        Ok(format!(in alloc; "{work}/{number}")?)
+        format!(in alloc; "{work}/{number}")
     }
 
     /// Starts a child for a command in a new folder, where the layout was made.
@@ -113,12 +120,14 @@ impl<W: Workshop, A: Allocator + Copy> ProcessRunner<W, A> {
         alloc: A,
         layout: &Layout<A>,
         command: &Command<A>,
-    ) -> Result<ProcessJob<W::Child, A>, Trouble>
-        ensures launched { IfOk result (λ job.
+    ) -> io::Result<Started<W::Child, A>>
+        ensures launched { IfOk result (λ s.
             IsJobLaunched W.works (folder_of (work_of self.old) (next_of self.old))
-            layout.now command.now job.child (string_bytes job.start)) }
+            layout.now command.now s.child (string_bytes s.start)) }
         ensures used { OnOk result (next_of self.new ≡ next_of self.old + 1) }
-        ensures outputs { IfOk result (λ job. job.outputs.items ≡ command.now.output_paths) }
+        ensures outputs { IfOk result (λ s. s.outputs.items ≡ command.now.output_paths) }
+        ensures failed { IfErr result (IsUnstarted W.works) }
+        ensures work { work_of self.new ≡ work_of self.old }
         ensures opened { OnOk result (alive_of self.new ≡ alive_of self.old + 1) }
         ensures unopened { OnErr result (alive_of self.new ≡ alive_of self.old) }
         ensures failures { failures_of self.new ≡ failures_of self.old }
@@ -132,7 +141,7 @@ impl<W: Workshop, A: Allocator + Copy> ProcessRunner<W, A> {
         let child = self
             .tally
             .start(alloc, workshop, room, command, start.as_str())?;
-        Ok(ProcessJob {
+        Ok(Started {
             child,
             start,
             outputs,
@@ -140,43 +149,50 @@ impl<W: Workshop, A: Allocator + Copy> ProcessRunner<W, A> {
     }
 }
 
-/// What a child that ended so came to: the outcome of its exit code and of what stands at the
-/// output paths. One that a signal ended came to nothing.
+/// The failure of a program that a signal ended.
+fn ended_by<A: Allocator>(program: String<A>, number: i32) -> RunError<A>
+    ensures { result ≡ RunError.Device program (Signal number) }
+{
+    RunError::Device {
+        program,
+        cause: Cause::Signal(number),
+    }
+}
+
+/// What a child of a program that ended so came to: the outcome of its exit code and of what stands
+/// at the output paths; or a failure, as of one that a signal ended.
 fn come_to<A: Allocator + Copy, W: Workshop>(
     alloc: A,
     workshop: &W,
-    ended: io::Result<(W::Ended, Option<i32>)>,
+    ended: io::Result<(W::Ended, Exit)>,
+    program: String<A>,
     start: &str,
     outputs: &[Path<A>],
 ) -> Result<Produced<A>, RunError<A>>
-    ensures outputs { IfOk result (λ p. (e : W.Ended) × (ended ≡ Ok (e, Some p.outcome.exit_code))
-        × AreCollected W.works e start.now outputs.now p.outcome p.blobs) }
-    ensures error { result ≡ Err RunError.NotAbsolute → ⊥ }
-    ensures bad { (path : List (List ℕ)) → IsErrOf result (RunError.BadOutput path)
-        → (e : W.Ended) × (code : ℤ) × (ended ≡ Ok (e, Some code))
-        × WasLeft W.works e start.now outputs.now code (bad_at path) }
+    ensures { (child : W.Child) → IsEnded W.works child ended
+        → EndsAs (CameOf W.works child (string_bytes program) start.now outputs.now) result }
 {
-    let (end, code) = match ended {
+    let (end, exit) = match ended {
         Ok(told) => told,
-        Err(error) => return Err(Trouble::from(error).into_error()),
+        Err(error) => return Err(failed_by(program, error, Cause::Unread(error))),
     };
-    match code {
-        Some(exit_code) => collect(alloc, workshop, &end, start, outputs, exit_code),
-        None => Err(RunError::Device),
+    match exit {
+        Exit::Code(code) => collect(alloc, workshop, &end, program, start, outputs, code),
+        Exit::Signal(number) => Err(ended_by(program, number)),
     }
 }
 
 impl<W: Workshop + Drop, A: Allocator + Copy> Runner<A> for ProcessRunner<W, A> {
     type Job = ProcessJob<W::Child, A>;
 
-    ghost use Rattle.processes.specs.Running.{HaveStarted, IsJobRun, alive_of, failures_of};
-    ghost use Rattle.processes.specs.Running.{may_come};
+    ghost use Rattle.processes.specs.Running.{HaveStarted, alive_of, failures_of, may_come};
+    ghost use Rattle.processes.specs.Running.{may_yield, work_of};
 
-    ghost yields = { λ r l c e. IsJobRun W.works l c e };
+    ghost yields = { λ r. may_yield W.works (work_of r) };
 
     ghost may_give = { λ job e. may_come W.works job e };
 
-    ghost starts = { λ _ ss. HaveStarted W.works ss };
+    ghost starts = { λ r. HaveStarted W.works (work_of r) };
 
     ghost alive = { alive_of };
 
@@ -191,9 +207,13 @@ impl<W: Workshop + Drop, A: Allocator + Copy> Runner<A> for ProcessRunner<W, A> 
         if !is_absolute(command) {
             return Err(RunError::NotAbsolute);
         }
+        let program = program_of(alloc, command)?;
         match self.launch(alloc, layout, command) {
-            Ok(job) => Ok(job),
-            Err(trouble) => Err(self.tally.refuse(trouble.into_error())),
+            Ok(started) => Ok(ProcessJob { started, program }),
+            Err(error) => {
+                let refusal = failed_by(program, error, Cause::Unstarted(error));
+                Err(self.tally.refuse(refusal))
+            }
         }
     }
 
@@ -202,13 +222,15 @@ impl<W: Workshop + Drop, A: Allocator + Copy> Runner<A> for ProcessRunner<W, A> 
         alloc: A,
         job: ProcessJob<W::Child, A>,
     ) -> Result<Produced<A>, RunError<A>> {
-        let ProcessJob {
+        let ProcessJob { started, program } = job;
+        let Started {
             child,
             start,
             outputs,
-        } = job;
+        } = started;
         let ended = self.tally.wait(&self.workshop, child);
-        match come_to(alloc, &self.workshop, ended, start.as_str(), &outputs) {
+        let workshop = &self.workshop;
+        match come_to(alloc, workshop, ended, program, start.as_str(), &outputs) {
             Ok(produced) => Ok(produced),
             Err(error) => Err(self.tally.refuse(error)),
         }

@@ -1,8 +1,11 @@
-ghost use Rattle.std.specs.Prelude.{◌≡◌, ◌+◌, ◌-◌, ℕ, List, IfOk, OnErr, OnOk};
+ghost use Rattle.std.specs.Prelude.{◌≡◌, ◌⊎◌, ◌+◌, ◌-◌, ◌<◌, IfErr, IfOk, OnErr, OnOk};
+ghost use Rattle.blob_source.specs.Source.{greatest_count};
+ghost use Rattle.worker.specs.Counted.{Counts, IsFailure};
+ghost use Rattle.processes.specs.Laying.{IsUnstarted};
 ghost use Rattle.processes.specs.Workshop.{StartsIn};
 ghost use Rattle.processes.specs.Running.{alive_in, failures_in};
 
-use crate::workshop::Workshop;
+use crate::workshop::{Exit, Workshop};
 use actions::Command;
 use std::alloc::Allocator;
 use std::io;
@@ -41,6 +44,7 @@ impl Tally {
         ensures runs { IfOk result (StartsIn W.works room command.now folder.now) }
         ensures opened { OnOk result (alive_in self.new ≡ alive_in self.old + 1) }
         ensures unopened { OnErr result (alive_in self.new ≡ alive_in self.old) }
+        ensures failed { IfErr result (IsUnstarted W.works) }
         ensures failures { failures_in self.new ≡ failures_in self.old }
     {
         let Some(more) = self.alive.checked_add(1) else {
@@ -56,9 +60,10 @@ impl Tally {
         &mut self,
         workshop: &W,
         child: W::Child,
-    ) -> io::Result<(W::Ended, Option<i32>)>
+    ) -> io::Result<(W::Ended, Exit)>
         ensures waited { W.works.waited child }
         ensures ended { IfOk result (λ e. W.works.ended child e.0 e.1) }
+        ensures failed { IfErr result (W.works.unwaited child) }
         ensures closed { alive_in self.new ≡ alive_in self.old - 1 }
         ensures failures { failures_in self.new ≡ failures_in self.old }
     {
@@ -69,26 +74,21 @@ impl Tally {
 
     /// The refusal, and a failure is counted. Where the count is full it is lack of memory.
     pub(crate) fn refuse<A: Allocator>(&mut self, error: RunError<A>) -> RunError<A>
-        ensures failed { result ≡ RunError.Device
-            → failures_in self.new ≡ failures_in self.old + 1 }
-        ensures unfailed { (result ≡ RunError.Device → ⊥)
-            → failures_in self.new ≡ failures_in self.old }
-        ensures others { (error ≡ RunError.Device → ⊥) → result ≡ error }
-        ensures same { result ≡ RunError.NotAbsolute → error ≡ RunError.NotAbsolute }
-        ensures device { result ≡ RunError.Device → error ≡ RunError.Device }
-        ensures bad { (path : List (List ℕ)) → result ≡ RunError.BadOutput path
-            → error ≡ RunError.BadOutput path }
+        ensures told { failures_in self.old < greatest_count → result ≡ error }
+        ensures others { (IsFailure error → ⊥) → result ≡ error }
+        ensures only { (result ≡ error) ⊎ (result ≡ RunError.Memory) }
+        ensures counted { Counts (failures_in self.old) (failures_in self.new) (IsFailure result) }
         ensures alive { alive_in self.new ≡ alive_in self.old }
     {
-        if !matches!(&error, RunError::Device) {
-            return error;
-        }
-        match self.failures.checked_add(1) {
-            Some(more) => {
-                self.failures = more;
-                RunError::Device
-            }
-            None => RunError::Memory,
+        match error {
+            RunError::Device { program, cause } => match self.failures.checked_add(1) {
+                Some(more) => {
+                    self.failures = more;
+                    RunError::Device { program, cause }
+                }
+                None => RunError::Memory,
+            },
+            error => error,
         }
     }
 }

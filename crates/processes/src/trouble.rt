@@ -1,19 +1,22 @@
-ghost use Rattle.std.specs.Prelude.{◌≡◌, ◌≢◌, ℕ, List};
-ghost use Rattle.messages.specs.declared.error.MessageError.TheVariants as messages;
+ghost use Rattle.std.specs.Prelude.{◌≡◌, ℕ, List};
+ghost use Rattle.std.specs.declared.io.Error.{Error};
+ghost use Rattle.processes.specs.Walking.{IsFailedBy, IsOfAdding, IsOfMessage, IsOfSystem};
 ghost use Rattle.processes.specs.declared.trouble.Trouble.TheVariants as troubles;
+ghost use Rattle.worker.specs.Counted.{IsFailure};
+ghost use Rattle.worker.specs.declared.failure.Cause.TheVariants.{Unread};
 
 use messages::{MessageError, Path};
 use std::alloc::{AllocError, AllocFailed, Allocator};
 use std::io;
 use std::io::ErrorKind;
 use tree::AddError;
-use worker::RunError;
+use worker::{Cause, RunError};
 
-/// Why something isn't done, before it is counted.
+/// Why nothing is collected at a place, before it is counted.
 #[derive(Drop)]
 pub(crate) enum Trouble {
-    /// A folder, a file or a process failed.
-    Device,
+    /// What stands there couldn't be read.
+    Unread(io::Error),
     /// What stands there is no output.
     NoOutput,
     /// No memory was left.
@@ -21,13 +24,13 @@ pub(crate) enum Trouble {
 }
 
 impl From<io::Error> for Trouble {
-    ghost from_gives = { λ _ e. e ≡ troubles.NoOutput → ⊥ };
+    ghost from_gives = { IsOfSystem };
 
     fn from(error: io::Error) -> Trouble {
-        if error.kind() == ErrorKind::OutOfMemory {
-            return Trouble::Memory;
+        match error.kind() {
+            ErrorKind::OutOfMemory => Trouble::Memory,
+            _ => Trouble::Unread(error),
         }
-        Trouble::Device
     }
 }
 
@@ -48,7 +51,7 @@ impl<T: Drop> From<AllocFailed<T>> for Trouble {
 }
 
 impl From<MessageError> for Trouble {
-    ghost from_gives = { λ error e. e ≡ troubles.NoOutput → error ≢ messages.Memory };
+    ghost from_gives = { IsOfMessage };
 
     fn from(error: MessageError) -> Trouble {
         match error {
@@ -60,41 +63,55 @@ impl From<MessageError> for Trouble {
 
 /// The output paths of a command are apart, and a folder has a name once: else the system failed.
 impl<A: Allocator> From<AddError<A>> for Trouble {
-    ghost from_gives = { λ _ e. e ≡ troubles.NoOutput → ⊥ };
+    ghost from_gives = { IsOfAdding };
 
     fn from(error: AddError<A>) -> Trouble {
         match error {
             AddError::Memory => Trouble::Memory,
-            AddError::Overlap(_) => Trouble::Device,
+            AddError::Overlap(_) => Trouble::Unread(io::Error::from(ErrorKind::InvalidData)),
         }
     }
 }
 
 impl Trouble {
-    /// The refusal of what concerns no output path.
-    pub(crate) fn into_error<A: Allocator>(self) -> RunError<A>
-        ensures absolute { result ≡ RunError.NotAbsolute → ⊥ }
-        ensures bad { (path : List (List ℕ)) → result ≡ RunError.BadOutput path → ⊥ }
-    {
-        match self {
-            Trouble::Memory => RunError::Memory,
-            Trouble::Device | Trouble::NoOutput => RunError::Device,
-        }
-    }
-
-    /// The refusal of what concerns an output path.
-    pub(crate) fn at<A: Allocator>(self, alloc: A, path: &Path<A>) -> RunError<A>
+    /// The refusal of what concerns an output path of a program's command.
+    pub(crate) fn at<A: Allocator>(
+        self,
+        alloc: A,
+        program: String<A>,
+        path: &Path<A>,
+    ) -> RunError<A>
         ensures absolute { result ≡ RunError.NotAbsolute → ⊥ }
         ensures bad { (bad : List (List ℕ)) → result ≡ RunError.BadOutput bad
             → (bad ≡ path.now) × (self ≡ Trouble.NoOutput) }
+        ensures failed { IsFailure result → (error : Error) × (self ≡ Trouble.Unread error)
+            × (result ≡ RunError.Device program (Unread error)) }
     {
         match self {
-            Trouble::Device => RunError::Device,
+            Trouble::Unread(error) => RunError::Device {
+                program,
+                cause: Cause::Unread(error),
+            },
             Trouble::Memory => RunError::Memory,
             Trouble::NoOutput => match Path::copy_of(alloc, path) {
                 Ok(path) => RunError::BadOutput(path),
                 Err(_e) => RunError::Memory,
             },
         }
+    }
+}
+
+/// The refusal of a program that failed by this cause, which is a system's error. Lack of memory
+/// isn't told as a failure.
+pub(crate) fn failed_by<A: Allocator>(
+    program: String<A>,
+    error: io::Error,
+    cause: Cause,
+) -> RunError<A>
+    ensures { IsFailedBy program error cause result }
+{
+    match error.kind() {
+        ErrorKind::OutOfMemory => RunError::Memory,
+        _ => RunError::Device { program, cause },
     }
 }

@@ -1,13 +1,13 @@
 ghost use Rattle.std.specs.Prelude.{◌≡◌, ◌+◌, ℕ, List, [], ◌∷◌, ◌++◌, length, map};
-ghost use Rattle.std.specs.Prelude.{Some, None, IfOk, IsErrOf, OnOk};
+ghost use Rattle.std.specs.Prelude.{Some, None, IfErr, IfOk, IsErrOf, OnOk};
 ghost use Rattle.blob_digest.specs.Digest.{digest_of};
 ghost use Rattle.messages.specs.Directory.{directory_bytes};
 ghost use Rattle.messages.specs.Name.{IsName};
 ghost use Rattle.tree.specs.Lookup.{names_in};
 ghost use Rattle.worker.specs.Outcomes.{directories_of};
 ghost use Rattle.worker.specs.Values.{blobs_of};
-ghost use Rattle.processes.specs.Collected.{IsBadFolder, IsTreeAt};
-ghost use Rattle.processes.specs.Walking.{IsBare, IsWalked};
+ghost use Rattle.processes.specs.Collected.{IsBadFolder, IsTreeAt, IsUnread};
+ghost use Rattle.processes.specs.Walking.{IsBare, IsWalked, TellsOf};
 
 use crate::laying::place_below;
 use crate::trouble::Trouble;
@@ -15,6 +15,8 @@ use crate::workshop::{Standing, Workshop};
 use blob_digest::{Digest, Sealed};
 use messages::{Directory, Name, Path, Tree};
 use std::alloc::Allocator;
+use std::io;
+use std::io::ErrorKind;
 use tree::{FlatEntry, FlatTree, fold};
 
 /// The most names of a path in a folder.
@@ -31,6 +33,7 @@ pub(crate) fn keep_file<A: Allocator + Copy, W: Workshop>(
     ensures kept { IfOk result (λ d. (b : List ℕ) × W.works.holds ended.now place.now (Some b)
         × (d ≡ digest_of b) × (blobs_of blobs.new.items ≡ blobs_of blobs.old.items ++ b ∷ [])) }
     ensures bad { IsErrOf result Trouble.NoOutput → W.works.holds ended.now place.now None }
+    ensures failed { IfErr result (TellsOf (W.works.unread ended.now)) }
 {
     let Some(bytes) = workshop.read(alloc, ended, place)? else {
         return Err(Trouble::NoOutput);
@@ -50,6 +53,7 @@ fn path_below<A: Allocator + Copy>(
     ensures path { IfOk result (λ p. p ≡ names_in above.now ++ name.now ∷ []) }
     ensures bad { IsErrOf result Trouble.NoOutput
         → IsName name.now → length (names_in above.now) ≡ 64 }
+    ensures failed { IfErr result (TellsOf (λ error. ⊥)) }
 {
     let name = Name::new(alloc, name.as_bytes())?;
     match above {
@@ -76,6 +80,7 @@ fn walk<A: Allocator + Copy, W: Workshop>(
         tree.old tree.new (blobs_of blobs.old.items) (blobs_of blobs.new.items)) }
     ensures bad { IsErrOf result Trouble.NoOutput
         → IsBadFolder W.works ended.now most place.now }
+    ensures failed { IfErr result (TellsOf (IsUnread W.works ended.now)) }
 {
     let Some(names) = workshop.list(alloc, ended, place)? else {
         return Err(Trouble::NoOutput);
@@ -151,6 +156,7 @@ pub(crate) fn keep_folder<A: Allocator + Copy, W: Workshop>(
         × IsTreeAt W.works ended.now place.now t own
         × (blobs_of blobs.new.items ≡ blobs_of blobs.old.items ++ own)) }
     ensures bad { IsErrOf result Trouble.NoOutput → IsBadFolder W.works ended.now 64 place.now }
+    ensures failed { IfErr result (TellsOf (IsUnread W.works ended.now)) }
 {
     let mut tree = FlatTree::new(alloc);
     let top = None;
@@ -162,6 +168,6 @@ pub(crate) fn keep_folder<A: Allocator + Copy, W: Workshop>(
         Ok(tree) => Ok(tree),
         Err(Trouble::Memory) => Err(Trouble::Memory),
         // The Directories of a fold are those of a Tree: else the system failed.
-        Err(_) => Err(Trouble::Device),
+        Err(_) => Err(Trouble::Unread(io::Error::from(ErrorKind::InvalidData))),
     }
 }

@@ -1,4 +1,4 @@
-ghost use Rattle.std.specs.Prelude.{[], ◌∷◌, IfOk, OnOk, map, option_map, string_bytes};
+ghost use Rattle.std.specs.Prelude.{[], ◌∷◌, IfErr, IfOk, OnOk, map, option_map, string_bytes};
 
 use actions::Command;
 use std::alloc::Allocator;
@@ -13,6 +13,13 @@ pub enum Standing {
     Folder,
     /// A fifo, a socket or a device, or a link that leads to itself.
     Other,
+}
+
+/// How a process ended: with a code, or by a signal.
+#[derive(Clone, Copy, Debug, PartialEq, Eq)]
+pub enum Exit {
+    Code(i32),
+    Signal(i32),
 }
 
 /// Where processes are run: its folders and files, and its children.
@@ -34,17 +41,20 @@ pub trait Workshop {
 
     /// Makes a folder where nothing stands.
     fn make_new(&self, path: &str) -> io::Result<Self::Room>
-        ensures { IfOk result (λ room. works.has room (empty_room path.now)) };
+        ensures made { IfOk result (λ room. works.has room (empty_room path.now)) }
+        ensures failed { IfErr result works.unstarted };
 
     /// Makes a folder of a room, and those above it, so far as they aren't there.
     fn make_all(&self, room: &mut Self::Room, path: &str) -> io::Result<()>
-        ensures { OnOk result
-            (Becomes works room.old room.new (with_folders (path.now ∷ []))) };
+        ensures made { OnOk result
+            (Becomes works room.old room.new (with_folders (path.now ∷ []))) }
+        ensures failed { IfErr result works.unstarted };
 
     /// Writes a file of a room.
     fn write(&self, room: &mut Self::Room, path: &str, bytes: &[u8]) -> io::Result<()>
-        ensures { OnOk result
-            (Becomes works room.old room.new (with_files ((path.now, bytes.now) ∷ []))) };
+        ensures written { OnOk result
+            (Becomes works room.old room.new (with_files ((path.now, bytes.now) ∷ []))) }
+        ensures failed { IfErr result works.unstarted };
 
     /// Starts a process in a folder of a room, with exactly the command's arguments and
     /// environment. It has no input, and what it writes to its standard output is thrown away.
@@ -55,16 +65,19 @@ pub trait Workshop {
         command: &Command<A>,
         folder: &str,
     ) -> io::Result<Self::Child>
-        ensures { IfOk result (StartsIn works room command.now folder.now) };
+        ensures runs { IfOk result (StartsIn works room command.now folder.now) }
+        ensures failed { IfErr result works.unstarted };
 
-    /// Waits for a process. It answers its exit code, and `None` where a signal ended it.
-    fn wait(&self, child: Self::Child) -> io::Result<(Self::Ended, Option<i32>)>
+    /// Waits for a process, and answers how it ended.
+    fn wait(&self, child: Self::Child) -> io::Result<(Self::Ended, Exit)>
         ensures waited { works.waited child }
-        ensures ended { IfOk result (λ e. works.ended child e.0 e.1) };
+        ensures ended { IfOk result (λ e. works.ended child e.0 e.1) }
+        ensures failed { IfErr result (works.unwaited child) };
 
     /// What stands at a path.
     fn look(&self, ended: &Self::Ended, path: &str) -> io::Result<Standing>
-        ensures { IfOk result (works.stands ended.now path.now) };
+        ensures told { IfOk result (works.stands ended.now path.now) }
+        ensures failed { IfErr result (works.unread ended.now) };
 
     /// The names in a folder. `None` where one is no UTF-8.
     fn list<A: Allocator + Copy>(
@@ -73,8 +86,9 @@ pub trait Workshop {
         ended: &Self::Ended,
         path: &str,
     ) -> io::Result<Option<Vec<String<A>, A>>>
-        ensures { IfOk result (λ names. works.lists ended.now path.now
-            (option_map (λ v. map string_bytes v.items) names)) };
+        ensures told { IfOk result (λ names. works.lists ended.now path.now
+            (option_map (λ v. map string_bytes v.items) names)) }
+        ensures failed { IfErr result (works.unread ended.now) };
 
     /// The bytes of a file. `None` where they are more than a blob has.
     fn read<A: Allocator>(
@@ -83,6 +97,7 @@ pub trait Workshop {
         ended: &Self::Ended,
         path: &str,
     ) -> io::Result<Option<Vec<u8, A>>>
-        ensures { IfOk result
-            (λ found. works.holds ended.now path.now (option_map (λ b. b.items) found)) };
+        ensures told { IfOk result
+            (λ found. works.holds ended.now path.now (option_map (λ b. b.items) found)) }
+        ensures failed { IfErr result (works.unread ended.now) };
 }

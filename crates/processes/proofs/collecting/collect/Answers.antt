@@ -7,7 +7,8 @@ use Rattle.processes.specs.Laying.{place_below}
 use Rattle.messages.specs.Path.{path_text}
 use Rattle.worker.specs.declared.runner.RunError.{RunError}
 use Rattle.worker.specs.declared.runner.RunError.TheVariants as children
-use Rattle.processes.specs.Collected.{HasNoOutput, IsSettled}
+use Rattle.processes.specs.Collected.{HasNoOutput, IsSettled, IsUnread}
+use Rattle.processes.proofs.Ends.{trouble_tells}
 use Rattle.processes.proofs.Gathered.{so_far_taken}
 use Rattle.processes.proofs.collecting.collect.Goals as goal
 
@@ -40,3 +41,6 @@ returns-in-Err-clause-bad g c path is =
     let bad : HasNoOutput works ended c.as_str-in-loop-path.result.now = c.in-Err.ensures.bad (ap Err at.1) in
     subst (λ p. Contains c.args.paths.now p × HasNoOutput works ended (place_below folder (path_text p))) (sym at.0)
     ((c.loop-path.path-index, c.loop-path-test.true, sym c.path-item.is), subst (HasNoOutput works ended) place bad)
+
+pub returns-in-Err-clause-failed : goal.returns-in-Err-clause-failed
+returns-in-Err-clause-failed g c = trouble_tells (IsUnread g.W.Workshop.works c.args.ended.now) c.in-Err.trouble c.args.program c.at.result c.in-Err.ensures.failed c.at.ensures.failed

@@ -10,7 +10,7 @@ pub returns-in-Nothing-clause-more : goal.returns-in-Nothing-clause-more
 returns-in-Nothing-clause-more g c = record {
   own = [];
   blobs = sym (append-nil (blobs_of c.args.blobs.now.items));
-  more = inl (subst (λ s. g.W.Workshop.works.stands c.args.ended.now c.args.place.now s) c.in-Nothing.is c.in_ok-look.ensures, refl, refl);
+  more = inl (subst (λ s. g.W.Workshop.works.stands c.args.ended.now c.args.place.now s) c.in-Nothing.is c.in_ok-look.ensures.told, refl, refl);
 }
 
 pub returns-clause-more : goal.returns-clause-more
@@ -23,13 +23,13 @@ returns-clause-more g c =
     let made : (own : List (List ℕ)) × (blobs_of c.match-branch-2.blobs.items ≡ before ++ own) × IsOutputAt works ended place (output_value output) own = elim c.match-branch-2.branch [
       | in-File+in_ok-digest-in-File w ↦ (
           let e = w.in_ok-digest-in-File.ensures.kept in
-          let stands = subst (λ s. works.stands ended place s) w.in-File.is c.in_ok-look.ensures in
+          let stands = subst (λ s. works.stands ended place s) w.in-File.is c.in_ok-look.ensures.told in
           subst (λ bs. (own : List (List ℕ)) × (blobs_of bs.items ≡ before ++ own) × IsOutputAt works ended place (output_value output) own) (sym w.blobs-is)
           (subst (λ o. (own : List (List ℕ)) × (blobs_of w.keep_file.new.blobs.items ≡ before ++ own) × IsOutputAt works ended place (output_value o) own) (sym w.output-is)
           (e.0 ∷ [], e.3, ((refl, stands, (e.0, e.1, e.2, (0, omega arith, refl))), λ x h. subst (λ y. works.holds ended place (Some y)) (contains_one e.0 x h) e.1))))
       | in-Folder+in_ok-keep_folder-in-Folder w ↦ (
           let e = w.in_ok-keep_folder-in-Folder.ensures.tree in
-          let stands = subst (λ s. works.stands ended place s) w.in-Folder.is c.in_ok-look.ensures in
+          let stands = subst (λ s. works.stands ended place s) w.in-Folder.is c.in_ok-look.ensures.told in
           subst (λ bs. (own : List (List ℕ)) × (blobs_of bs.items ≡ before ++ own) × IsOutputAt works ended place (output_value output) own) (sym w.blobs-is)
           (subst (λ o. (own : List (List ℕ)) × (blobs_of w.keep_folder.new.blobs.items ≡ before ++ own) × IsOutputAt works ended place (output_value o) own) (sym w.output-is)
           (e.0, e.2, (stands, e.1))))

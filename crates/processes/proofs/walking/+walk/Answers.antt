@@ -54,21 +54,21 @@ loop-name-preserved g t c =
           (subst (λ bs. IsSoFar works ended place path (map string_bytes (take (i + 1) names)) c.args.tree.now w.add.new.self before (blobs_of bs.items)) (sym w.blobs-is)
           (one_file works ended place path string_bytes names i c.name-item.result c.loop-name-test.true c.name-item.is c.args.tree.now c.loop-name.tree w.add.new.self before between c.loop-name.invariant _ _
           at w.in_ok-add-in-File.ensures.added w.in_ok-add-in-File.ensures.room _ looked (blobs_of w.keep_file.new.blobs.items) w.in_ok-digest-in-File.ensures.kept.0 w.in_ok-digest-in-File.digest refl
-          (subst (λ s. works.stands ended c.as_str-in-loop-name-2.result.now s) w.in-File.is c.in_ok-look.ensures) w.as_str-in-File.result.now (w.as_str-in-File.ensures.value ∙ spot)
+          (subst (λ s. works.stands ended c.as_str-in-loop-name-2.result.now s) w.in-File.is c.in_ok-look.ensures.told) w.as_str-in-File.result.now (w.as_str-in-File.ensures.value ∙ spot)
           w.in_ok-digest-in-File.ensures.kept.1 w.in_ok-digest-in-File.ensures.kept.2 w.in_ok-digest-in-File.ensures.kept.3))
       | in-Folder+in_ok-copy_of-in-Folder+in_ok-add-in-Folder+in_ok-walk-in-Folder+in-None-1 w ↦
           subst (λ t. IsSoFar works ended place path (map string_bytes (take (i + 1) names)) c.args.tree.now t before (blobs_of c.match-branch-6.blobs.items)) (sym w.tree-is)
           (subst (λ bs. IsSoFar works ended place path (map string_bytes (take (i + 1) names)) c.args.tree.now w.walk.new.tree before (blobs_of bs.items)) (sym w.blobs-is)
           (one_folder works ended place path string_bytes names i c.name-item.result c.loop-name-test.true c.name-item.is c.args.tree.now c.loop-name.tree w.add-in-Folder.new.self before between c.loop-name.invariant a_directory _
           (w.in_ok-copy_of-in-Folder.ensures ∙ at) w.in_ok-add-in-Folder.ensures.added w.in_ok-add-in-Folder.ensures.room _ looked w.walk.new.tree (blobs_of w.walk.new.blobs.items) refl
-          (subst (λ s. works.stands ended c.as_str-in-loop-name-2.result.now s) w.in-Folder.is c.in_ok-look.ensures) w.as_str-in-Folder.result.now (w.as_str-in-Folder.ensures.value ∙ spot)
+          (subst (λ s. works.stands ended c.as_str-in-loop-name-2.result.now s) w.in-Folder.is c.in_ok-look.ensures.told) w.as_str-in-Folder.result.now (w.as_str-in-Folder.ensures.value ∙ spot)
           c.in_ok-path.path at w.in_ok-walk-in-Folder.ensures.walked))
       | in-Folder+in_ok-copy_of-in-Folder+in_ok-add-in-Folder+in_ok-walk-in-Folder+in-Some-1 w ↦
           subst (λ t. IsSoFar works ended place path (map string_bytes (take (i + 1) names)) c.args.tree.now t before (blobs_of c.match-branch-6.blobs.items)) (sym w.tree-is)
           (subst (λ bs. IsSoFar works ended place path (map string_bytes (take (i + 1) names)) c.args.tree.now w.walk.new.tree before (blobs_of bs.items)) (sym w.blobs-is)
           (one_folder works ended place path string_bytes names i c.name-item.result c.loop-name-test.true c.name-item.is c.args.tree.now c.loop-name.tree w.add-in-Folder.new.self before between c.loop-name.invariant a_directory _
           (w.in_ok-copy_of-in-Folder.ensures ∙ at) w.in_ok-add-in-Folder.ensures.added w.in_ok-add-in-Folder.ensures.room _ looked w.walk.new.tree (blobs_of w.walk.new.blobs.items) refl
-          (subst (λ s. works.stands ended c.as_str-in-loop-name-2.result.now s) w.in-Folder.is c.in_ok-look.ensures) w.as_str-in-Folder.result.now (w.as_str-in-Folder.ensures.value ∙ spot)
+          (subst (λ s. works.stands ended c.as_str-in-loop-name-2.result.now s) w.in-Folder.is c.in_ok-look.ensures.told) w.as_str-in-Folder.result.now (w.as_str-in-Folder.ensures.value ∙ spot)
           c.in_ok-path.path at w.in_ok-walk-in-Folder.ensures.walked))
     ]
 
@@ -81,7 +81,7 @@ returns-clause-walked g t c =
     let all : map string_bytes (take i names) ≡ map string_bytes c.in-Some.names.items =
     ap (map string_bytes) (take_all i names end ∙ c.deref-name-items.ensures.value) in
     let listed : works.lists c.args.ended.now c.args.place.now (Some (map string_bytes c.in-Some.names.items)) =
-    subst (λ o. works.lists c.args.ended.now c.args.place.now (option_map (λ v. map string_bytes v.items) o)) c.in-Some.is c.in_ok-names.ensures in
+    subst (λ o. works.lists c.args.ended.now c.args.place.now (option_map (λ v. map string_bytes v.items) o)) c.in-Some.is c.in_ok-names.ensures.told in
     all_seen works c.args.ended.now c.args.place.now (names_in c.args.above.now) (map string_bytes (take i names)) c.args.tree.now c.loop-name.tree
     (blobs_of c.args.blobs.now.items) (blobs_of c.loop-name.blobs.items) (subst (λ xs. works.lists c.args.ended.now c.args.place.now (Some xs)) (sym all) listed) c.loop-name.invariant
 
@@ -95,7 +95,7 @@ returns-in_err-path-clause-bad g t c told =
     let bad : p.0 ≡ NoOutput = (let both = sym p.1 ∙ told in cc) in
     let all : length (names_in c.args.above.now) + c.args.most ≡ 64 = first_of (assumption c.requires, search rules) in
     bad_name g.W.Workshop.works c.args.ended.now c.args.place.now c.args.most (map string_bytes names) n
-    (subst (λ o. g.W.Workshop.works.lists c.args.ended.now c.args.place.now (option_map (λ v. map string_bytes v.items) o)) c.in-Some.is c.in_ok-names.ensures) one
+    (subst (λ o. g.W.Workshop.works.lists c.args.ended.now c.args.place.now (option_map (λ v. map string_bytes v.items) o)) c.in-Some.is c.in_ok-names.ensures.told) one
     (λ some name.
     let full = c.in_err-path.ensures.bad (ap Err (sym p.2 ∙ bad)) (subst IsName (sym c.as_str.ensures.value) name) in
     omega (arith, some, full, all))
@@ -109,11 +109,11 @@ returns-in_err-digest-in-File-clause-bad g t c told =
     let n = string_bytes c.name-item.result in
     let one : Contains (map string_bytes names) n =
     subst (λ xs. Contains (map string_bytes xs) n) c.deref-name-items.ensures.value (one_of string_bytes c.deref-name-items.result.now c.loop-name.name-index c.name-item.result c.loop-name-test.true c.name-item.is) in
-    let listed = subst (λ o. works.lists ended place (option_map (λ v. map string_bytes v.items) o)) c.in-Some.is c.in_ok-names.ensures in
+    let listed = subst (λ o. works.lists ended place (option_map (λ v. map string_bytes v.items) o)) c.in-Some.is c.in_ok-names.ensures.told in
     let spot : string_bytes c.in_ok-place.place ≡ place_below place n = c.in_ok-place.ensures ∙ ap (λ x. place_below place x) c.as_str-in-loop-name.ensures.value in
     let p = err_from_is_err_and c.from_residual-in_err-digest-in-File.result c.from_residual-in_err-digest-in-File.ensures.1 in
     let bad : p.0 ≡ NoOutput = (let both = sym p.1 ∙ told in cc) in
-    let stands = subst (λ q. works.stands ended q standings.File) (c.as_str-in-loop-name-2.ensures.value ∙ spot) (subst (λ s. works.stands ended c.as_str-in-loop-name-2.result.now s) c.in-File.is c.in_ok-look.ensures) in
+    let stands = subst (λ q. works.stands ended q standings.File) (c.as_str-in-loop-name-2.ensures.value ∙ spot) (subst (λ s. works.stands ended c.as_str-in-loop-name-2.result.now s) c.in-File.is c.in_ok-look.ensures.told) in
     let none = subst (λ q. works.holds ended q None) (c.as_str-in-File.ensures.value ∙ spot) (c.in_err-digest-in-File.ensures.bad (ap Err (sym p.2 ∙ bad))) in
     bad_below works ended place c.args.most c.in-Some-checked_sub.fewer (map string_bytes names) n standings.File (one_fewer c.args.most c.in-Some-checked_sub.fewer c.in-Some-checked_sub.ensures) listed one stands (inr none)
 
@@ -126,11 +126,11 @@ returns-in_err-walk-in-Folder-clause-bad g t c told =
     let n = string_bytes c.name-item.result in
     let one : Contains (map string_bytes names) n =
     subst (λ xs. Contains (map string_bytes xs) n) c.deref-name-items.ensures.value (one_of string_bytes c.deref-name-items.result.now c.loop-name.name-index c.name-item.result c.loop-name-test.true c.name-item.is) in
-    let listed = subst (λ o. works.lists ended place (option_map (λ v. map string_bytes v.items) o)) c.in-Some.is c.in_ok-names.ensures in
+    let listed = subst (λ o. works.lists ended place (option_map (λ v. map string_bytes v.items) o)) c.in-Some.is c.in_ok-names.ensures.told in
     let spot : string_bytes c.in_ok-place.place ≡ place_below place n = c.in_ok-place.ensures ∙ ap (λ x. place_below place x) c.as_str-in-loop-name.ensures.value in
     let p = err_from_is_err_and c.from_residual-in_err-walk-in-Folder.result c.from_residual-in_err-walk-in-Folder.ensures.1 in
     let bad : p.0 ≡ NoOutput = (let both = sym p.1 ∙ told in cc) in
-    let stands = subst (λ q. works.stands ended q standings.Folder) (c.as_str-in-loop-name-2.ensures.value ∙ spot) (subst (λ s. works.stands ended c.as_str-in-loop-name-2.result.now s) c.in-Folder.is c.in_ok-look.ensures) in
+    let stands = subst (λ q. works.stands ended q standings.Folder) (c.as_str-in-loop-name-2.ensures.value ∙ spot) (subst (λ s. works.stands ended c.as_str-in-loop-name-2.result.now s) c.in-Folder.is c.in_ok-look.ensures.told) in
     let below = subst (IsBadFolder works ended c.in-Some-checked_sub.fewer) (c.as_str-in-Folder.ensures.value ∙ spot) (c.in_err-walk-in-Folder.ensures.bad (ap Err (sym p.2 ∙ bad))) in
     bad_below works ended place c.args.most c.in-Some-checked_sub.fewer (map string_bytes names) n standings.Folder (one_fewer c.args.most c.in-Some-checked_sub.fewer c.in-Some-checked_sub.ensures) listed one stands (inr below)
 
@@ -143,8 +143,8 @@ returns-in-Nothing-clause-bad g t c told =
     let n = string_bytes c.name-item.result in
     let one : Contains (map string_bytes names) n =
     subst (λ xs. Contains (map string_bytes xs) n) c.deref-name-items.ensures.value (one_of string_bytes c.deref-name-items.result.now c.loop-name.name-index c.name-item.result c.loop-name-test.true c.name-item.is) in
-    let listed = subst (λ o. works.lists ended place (option_map (λ v. map string_bytes v.items) o)) c.in-Some.is c.in_ok-names.ensures in
+    let listed = subst (λ o. works.lists ended place (option_map (λ v. map string_bytes v.items) o)) c.in-Some.is c.in_ok-names.ensures.told in
     let spot : string_bytes c.in_ok-place.place ≡ place_below place n = c.in_ok-place.ensures ∙ ap (λ x. place_below place x) c.as_str-in-loop-name.ensures.value in
-    let stands = subst (λ q. works.stands ended q c.in_ok-look.field-0) (c.as_str-in-loop-name-2.ensures.value ∙ spot) c.in_ok-look.ensures in
+    let stands = subst (λ q. works.stands ended q c.in_ok-look.field-0) (c.as_str-in-loop-name-2.ensures.value ∙ spot) c.in_ok-look.ensures.told in
     bad_below works ended place c.args.most c.in-Some-checked_sub.fewer (map string_bytes names) n c.in_ok-look.field-0 (one_fewer c.args.most c.in-Some-checked_sub.fewer c.in-Some-checked_sub.ensures) listed one stands
     (bad_standing works ended (IsBadFolder works ended c.in-Some-checked_sub.fewer) (place_below place n) c.in_ok-look.field-0 c.in-Nothing.is)
