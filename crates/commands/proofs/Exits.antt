@@ -1,5 +1,5 @@
 -- The exit of a `?`, and of a call whose result is returned.
-use Rattle.std.proofs.Common.{◌≡◌, sym, subst}
+use Rattle.std.proofs.Common.{◌≡◌, ◌⊎◌, inl, inr, sym, subst}
 use Rattle.std.specs.Prelude.{Result, Ok, Err, IfErr}
 use Rattle.std.specs.Result.{IsErrAnd}
 use Rattle.std.proofs.lemmas.Result.{err_from_is_err_and}
@@ -12,3 +12,7 @@ exit_by Q r exit h =
 pub err_weaker : {T E : Type 0} (r : Result T E) (P Q : E → Type 0) → ((e : E) → P e → Q e) → IfErr r P → IfErr r Q
 err_weaker (Ok x) P Q f h = tt
 err_weaker (Err e) P Q f h = f e h
+
+pub or_else : {P Q R : Type 0} → P ⊎ Q → (Q → R) → P ⊎ R
+or_else (inl p) by = inl p
+or_else (inr q) by = inr (by q)

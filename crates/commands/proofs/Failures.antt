@@ -1,5 +1,6 @@
 -- What is told of a request that failed.
-use Rattle.std.proofs.Common.{◌≡◌, ◌∙◌, List, ℕ, Option, Some, None, inl, inr, refl, subst, sym}
+use Rattle.std.proofs.Common.{◌≡◌, ◌∙◌, List, ℕ, Option, Some, None, Result, Ok, Err, IfErr, inl, inr, refl, subst, sym}
+use Rattle.std.specs.Prelude.{IsErrOf}
 use Rattle.std.proofs.Math.Logic.{∥∥₁_map}
 use Rattle.blob_digest.specs.Digest.{DigestValue, digest_of}
 use Rattle.blob_source.specs.declared.source.FetchError.{FetchError}
@@ -14,7 +15,7 @@ use Rattle.commands.specs.declared.error.CommandError.TheVariants.{Memory}
 use Rattle.commands.specs.declared.failure.Failure.{Failure}
 use Rattle.commands.specs.declared.failure.Method.{Method}
 use Rattle.commands.specs.declared.failure.Method.TheVariants.{PutBlob}
-use Rattle.commands.proofs.Tellings.{some_not_none}
+use Rattle.commands.proofs.Tellings.{answered, refused_otherwise, some_not_none}
 
 memory_unfailed : ◌≡◌ {A = FetchError} refusals.Memory refusals.Failed → ⊥
 memory_unfailed e = cc
@@ -32,16 +33,16 @@ pub keeps_on : (start old new : ConnectionValue) (before : Option Failure) → n
 keeps_on start old new None same kept = same ∙ kept
 keeps_on start old new (Some f) same kept = kept
 
-pub keeps_next : (start old new : ConnectionValue) (before : Option Failure) (method : Method) (d : DigestValue) (body : List ℕ)
-    (fault : Option Fault) (refusal : FetchError) → Comes start old → RefusesRequest old new (request_of method d.hash body) refusal
-    → new.fault ≡ fault → KeepsRefused start old before → KeepsRefused start new (kept_failure before method d fault refusal)
-keeps_next start old new before method d body (Some fault) refusals.Failed came refused is kept =
+pub keeps_after : {T : Type 0} (start old new : ConnectionValue) (before : Option Failure) (method : Method) (d : DigestValue) (body : List ℕ)
+    (result : Result T FetchError) (fault : Option Fault) → IfErr result (RefusesRequest old new (request_of method d.hash body))
+    → ((IsErrOf result refusals.Failed → ⊥) → new.failures ≡ old.failures) → new.fault ≡ fault → Comes start old → KeepsRefused start old before
+    → KeepsRefused start new (kept_failure before method d result fault)
+keeps_after start old new before method d body (Ok x) fault refused unfailed is came kept = keeps_on start old new before (unfailed (answered x)) kept
+keeps_after start old new before method d body (Err refusals.Memory) None refused unfailed is came kept = keeps_on start old new before (unfailed refused_otherwise) kept
+keeps_after start old new before method d body (Err refusals.Memory) (Some fault) refused unfailed is came kept = keeps_on start old new before (unfailed refused_otherwise) kept
+keeps_after start old new before method d body (Err refusals.Failed) None refused unfailed is came kept = absurd (has_fault old new method d.hash body refused is)
+keeps_after start old new before method d body (Err refusals.Failed) (Some fault) refused unfailed is came kept =
     (body, record { old = old; new = new; before = came; is = refused; kept = is })
-keeps_next start old new before method d body None refusals.Failed came refused is kept = absurd (has_fault old new method d.hash body refused is)
-keeps_next start old new before method d body (Some fault) refusals.Memory came refused is kept =
-    keeps_on start old new before (refused.unfailed memory_unfailed).count kept
-keeps_next start old new before method d body None refusals.Memory came refused is kept =
-    keeps_on start old new before (refused.unfailed memory_unfailed).count kept
 
 -- ---- what is told
 
@@ -81,7 +82,7 @@ refused_at start old new address method d body None refusal e came refused is to
 -- a blob that is put
 pub blob_refused : (start old new : ConnectionValue) (address bytes : List ℕ) (before : Option Failure) (fault : Option Fault) (refusal : FetchError)
     (e : CommandError) → ∥ Comes start old ∥₁ → RefusesRequest old new (request_of PutBlob (digest_of bytes).hash bytes) refusal → new.fault ≡ fault
-    → TellsFailure address (kept_failure before PutBlob (digest_of bytes) fault refusal) refusal e → OrMemory (λ x. ∥ RefusesPut start address bytes x ∥₁) e
+    → TellsFailure address (kept_failure {T = DigestValue} before PutBlob (digest_of bytes) (Err refusal) fault) refusal e → OrMemory (λ x. ∥ RefusesPut start address bytes x ∥₁) e
 blob_refused start old new address bytes before (Some fault) refusals.Failed e came refused is told = inr (∥∥₁_map came (λ comes. record {
   fault = fault;
   why = record { old = old; new = new; before = comes; is = refused; kept = is };

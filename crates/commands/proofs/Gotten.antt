@@ -10,12 +10,12 @@ use Rattle.clap.specs.Words.{Row, first_of}
 use Rattle.command_lines.specs.CommandLine.{option_text}
 use Rattle.remote.specs.Line.{ConnectionValue}
 use Rattle.text_verifier.specs.Texts.{IsDigestText}
-use Rattle.commands.specs.GetRefused.{FailsGet, FailsGot, FailsGetTree, TellsTree}
+use Rattle.commands.specs.GetRefused.{FailsGet, FailsGot, FailsGetTree, TellsCheckout}
 use Rattle.commands.specs.GetRefused.FailsGet.{in_work}
 use Rattle.commands.specs.GetRefused.FailsGetTree.{in_memory, in_tree}
 use Rattle.commands.specs.Options.{IsServerOf}
 use Rattle.commands.specs.Places.{IsConnected, IsToldOver}
-use Rattle.commands.specs.Printed.{GetsAsked, IsGot, StartsGet}
+use Rattle.commands.specs.Printed.{BeginsGot, GetsAsked, GetsPart, IsGot, StartsGet}
 use Rattle.commands.specs.Words.{AllValid, server_words}
 use Rattle.commands.specs.World.{Sight}
 use Rattle.commands.specs.declared.connecting.ServerOptions.{ServerOptions}
@@ -30,7 +30,7 @@ on_err (Err e) h by = by h
 
 pub tree_fails : (sees : Sight) (start : ConnectionValue) (address : List ℕ) (digest : DigestValue) (folder : List ℕ) (told : Telling)
     (error : CheckoutError Global) (e : CommandError) → ∥ IsToldOver start told ∥₁ → FailsCheckout sees.holds sees.unwritten told.blobs digest folder error
-    → (e ≡ Memory) ⊎ TellsTree start address error e → FailsGetTree sees start address digest folder e
+    → (e ≡ Memory) ⊎ TellsCheckout start address error e → FailsGetTree sees start address digest folder e
 tree_fails sees start address digest folder told error e over fails (inl memory) = in_memory memory
 tree_fails sees start address digest folder told error e over fails (inr tells) = in_tree told error over fails tells
 
@@ -66,3 +66,6 @@ module _ (sees : Sight) (options : List Row) (start : ConnectionValue) (digest :
         by (Ok ended) h = tt
         by (Err e) h = in_work digest start starts
             (subst (λ o. FailsGot sees o start (option_text options (codes "server")) digest e) (sym is) (subst (λ a. FailsGot sees into start a digest e) same h))
+
+    pub begun_by : (old new : Option (List ℕ)) → OnErr result (BeginsGot sees into start digest old new) → OnErr result (GetsPart sees options old new)
+    begun_by old new h = on_err result h (λ begins. inr (digest, start, starts, subst (λ o. BeginsGot sees o start digest old new) (sym is) begins))

@@ -1,5 +1,10 @@
 -- Names of children, which ascend where the names that were read do.
-use Rattle.std.proofs.Common.{◌≡◌, ◌≢◌, ◌∙◌, ℕ, List, [], ◌∷◌, ◌++◌, ap, inl, inr, subst, sym}
+use Rattle.std.proofs.Common.{◌≡◌, ◌≢◌, ◌∙◌, ◌+◌, ◌<◌, ℕ, List, [], ◌∷◌, ◌++◌, ap, arith, false, get_or, inl, inr, length, map, string_bytes, subst, sym}
+use Rattle.std.proofs.lemmas.List.{get_or-map, length-map}
+use Rattle.std.specs.Ordering.{is_lt}
+use Rattle.std.specs.Prelude.{IsSorted, string_cmp}
+use Rattle.std.specs.declared.alloc.Global.{Global}
+use Rattle.std.specs.declared.string.String.{String}
 use Rattle.std.specs.List.{AllByRecursion}
 use Rattle.std.specs.declared.cmp.Ordering.TheVariants.{Less, Equal}
 use Rattle.messages.specs.DirectoryRules.{AreNames, DirectoryValue, directory_names, file_names, symlink_names}
@@ -156,3 +161,14 @@ nothing_follows = record {
   symlinks_before = λ m all. all;
   named = λ up. record { files_ascend = tt; directories_ascend = tt; symlinks_ascend = tt; files_apart = tt; links_apart = tt; symlinks_apart = tt };
 }
+
+-- texts in order are so by their bytes
+pub ordered_bytes : (names : List (String Global)) → IsSorted string_cmp names → IsSorted bytes_cmp (map string_bytes names)
+ordered_bytes [] ordered = λ k d low less. absurd (omega (arith, less))
+ordered_bytes (x ∷ names) ordered = λ k d low less.
+    let all = x ∷ names in
+    let long : k + 1 < length all = subst (λ n. k + 1 < n) (length-map all string_bytes) less in
+    let first = get_or-map string_bytes all k x d (omega (arith, long)) in
+    let next = get_or-map string_bytes all (k + 1) x d long in
+    subst (λ a. is_lt (bytes_cmp a (get_or (map string_bytes all) k d)) ≡ false) (sym next)
+    (subst (λ b. is_lt (bytes_cmp (string_bytes (get_or all (k + 1) x)) b) ≡ false) (sym first) (ordered k x low long))

@@ -1,15 +1,17 @@
 -- What a refused put is told for.
 use Rattle.std.proofs.Common.{◌≡◌, ◌∙◌, ◌-◌, ◌<◌, ℕ, suc, List, ◌∷◌, ◌++◌, Result, Ok, Err, IfErr, ap, arith, codes, inl, inr, get_or, length, map, refl, string_bytes, subst, sym}
 use Rattle.std.proofs.lemmas.List.{get_or-map, length-map}
+use Rattle.std.specs.Prelude.{IsSorted}
 use Rattle.std.specs.declared.alloc.Global.{Global}
 use Rattle.std.specs.declared.string.String.{String}
 use Rattle.blob_digest.specs.Digest.{DigestValue}
 use Rattle.messages.specs.Directory.{directory_bytes}
 use Rattle.messages.specs.DirectoryRules.{DirectoryValue, IsDirectory}
+use Rattle.messages.specs.Order.{bytes_cmp}
 use Rattle.remote.specs.Line.{ConnectionValue}
 use Rattle.commands.specs.Children.{AreNamed}
 use Rattle.commands.specs.PutRefused.{FailsBelow, FailsHere, HasEntry, HasNoName, LinksToNoText, RefusesPut}
-use Rattle.commands.specs.Faults.{IsEntryFault, OrMemory}
+use Rattle.commands.specs.Faults.{TellsOfEntry, OrMemory}
 use Rattle.commands.specs.PutRefused.FailsBelow.{below, here, too_deep}
 use Rattle.commands.specs.PutRefused.FailsHere.{file_refused, folder_refused, in_memory, name_twice, no_name, no_text}
 use Rattle.commands.specs.Refusal.{IsPrintFault}
@@ -40,22 +42,25 @@ entry_at sees place names i item n lists less is named = record {
 }
 
 -- the error tells what stands at the place, or below it, and isn't put to the server
-abbrev pub Fails : Sight → ConnectionValue → ServerOptions → ℕ → List ℕ → CommandError → Type 0
-Fails sees start server left place e = FailsBelow sees start (string_bytes server.address) e left place
+abbrev pub IsUnput : Sight → ConnectionValue → ServerOptions → ℕ → List ℕ → CommandError → Type 0
+IsUnput sees start server left place e = FailsBelow sees start (string_bytes server.address) e left place
+
+-- so many names further down
+pub further_down : (left : ℕ) → (left ≡ 0 → ⊥) → suc (left - 1) ≡ left
+further_down left some = omega (arith, some)
 
 module _ (sees : Sight) (start : ConnectionValue) (address place : List ℕ) where
   -- what is at fault at an entry is so for its folder, where paths may go further down
   pub further : (left : ℕ) (name path : List ℕ) (e : CommandError) → (left ≡ 0 → ⊥) → HasEntry sees place name → path ≡ place ++ 47 ∷ name
       → FailsBelow sees start address e (left - 1) path → FailsBelow sees start address e left place
   further left name path e some entry at fails =
-      let deep : suc (left - 1) ≡ left = omega (arith, some) in
-      subst (λ k. FailsBelow sees start address e k place) deep (below (left - 1) place name entry (subst (FailsBelow sees start address e (left - 1)) at fails))
+      subst (λ k. FailsBelow sees start address e k place) (further_down left some) (below (left - 1) place name entry (subst (FailsBelow sees start address e (left - 1)) at fails))
 
   pub deepest : (left : ℕ) (name path : List ℕ) (e : CommandError) → left ≡ 0 → HasEntry sees place name → path ≡ place ++ 47 ∷ name
-      → OrMemory (IsEntryFault path (codes "more than 64 names deep")) e → FailsBelow sees start address e left place
+      → OrMemory (TellsOfEntry path (codes "more than 64 names deep")) e → FailsBelow sees start address e left place
   deepest left name path e none entry at fails =
-      or_memory (IsEntryFault path (codes "more than 64 names deep")) (λ x. FailsBelow sees start address x left place) e (λ m. here left place (in_memory m))
-      (λ is. subst (λ k. FailsBelow sees start address e k place) (sym none) (too_deep place name entry (subst (λ p. IsEntryFault p (codes "more than 64 names deep") e) at is))) fails
+      or_memory (TellsOfEntry path (codes "more than 64 names deep")) (λ x. FailsBelow sees start address x left place) e (λ m. here left place (in_memory m))
+      (λ is. subst (λ k. FailsBelow sees start address e k place) (sym none) (too_deep place name entry (subst (λ p. TellsOfEntry p (codes "more than 64 names deep") e) at is))) fails
 
   pub name_fails : (name path : List ℕ) (e : CommandError) → HasEntry sees place name → path ≡ place ++ 47 ∷ name
       → OrMemory (HasNoName path name) e → FailsHere sees start address place e
@@ -67,18 +72,18 @@ module _ (sees : Sight) (start : ConnectionValue) (address place : List ℕ) whe
   target_fails target e stands fails =
       or_memory (LinksToNoText place target) (FailsHere sees start address place) e in_memory (no_text target stands) fails
 
-  pub names_fail : (names : List (List ℕ)) (d : DirectoryValue) (e : CommandError) → sees.lists place names → Follows names d
-      → OrMemory (λ x. ¬ AreNamed d × IsEntryFault place (codes "two entries of one name") x) e → FailsHere sees start address place e
-  names_fail names d e lists follows fails =
-      or_memory (λ x. ¬ AreNamed d × IsEntryFault place (codes "two entries of one name") x) (FailsHere sees start address place) e in_memory
-      (λ is. name_twice names lists (record { twice = λ up. is.0 (follows.named up); told = is.1 })) fails
+  pub names_fail : (names : List (List ℕ)) (d : DirectoryValue) (e : CommandError) → sees.lists place names → IsSorted bytes_cmp names → Follows names d
+      → OrMemory (λ x. ¬ AreNamed d × TellsOfEntry place (codes "two entries of one name") x) e → FailsHere sees start address place e
+  names_fail names d e lists ordered follows fails =
+      or_memory (λ x. ¬ AreNamed d × TellsOfEntry place (codes "two entries of one name") x) (FailsHere sees start address place) e in_memory
+      (λ is. name_twice names lists (record { ordered = ordered; twice = λ up. is.0 (follows.named up); told = is.1 })) fails
 
   pub file_fails : (bytes : List ℕ) (e : CommandError) → sees.reads place bytes
       → OrMemory (λ x. ∥ RefusesPut start address bytes x ∥₁) e → FailsHere sees start address place e
   file_fails bytes e reads fails = or_memory (λ x. ∥ RefusesPut start address bytes x ∥₁) (FailsHere sees start address place) e in_memory (file_refused bytes reads) fails
 
   pub directory_fails : (left : ℕ) (names : List (List ℕ)) (d : DirectoryValue) (bytes : List ℕ) (result : Result DigestValue CommandError) → IsDirectory d
-      → sees.lists place names → IsPutSoFar sees start place names d → bytes ≡ directory_bytes d
+      → sees.lists place names → IsPutSoFar sees start left place names d → bytes ≡ directory_bytes d
       → IfErr result (OrMemory (λ e. ∥ RefusesPut start address bytes e ∥₁)) → IfErr result (λ e. FailsBelow sees start address e left place)
   directory_fails left names d bytes (Ok digest) valid lists so_far is fails = tt
   directory_fails left names d bytes (Err e) valid lists so_far is fails =

@@ -1,6 +1,6 @@
 -- What a client and a store keep is what their calls brought.
 use Rattle.std.proofs.Common.{◌≡◌, ◌≢◌, ◌⊎◌, ◌∙◌, ℕ, List, Option, Some, None, Result, Ok, Err, IfOk, inl, inr, refl, sym, ap, subst, Ordering}
-use Rattle.std.specs.Prelude.{IfNone, IsSomeAnd, OnOk}
+use Rattle.std.specs.Prelude.{IfErr, IfNone, IsSomeAnd, OnOk}
 use Rattle.std.proofs.Math.Logic.{∥∥₁_map₂}
 use Rattle.std.specs.Ordering.{nat_cmp, ordering_reverse, ordering_then}
 use Rattle.std.specs.Cmp.Lexicographic.{slice_cmp}
@@ -16,7 +16,7 @@ use Rattle.blob_source.specs.declared.source.FetchError.{FetchError}
 use Rattle.http_core.specs.declared.event.Area.{Area}
 use Rattle.remote.specs.Folder.{IsNothingAt, IsReadAt, LooksInFolder}
 use Rattle.blob_source.specs.declared.source.FetchError.TheVariants.{Failed, Memory}
-use Rattle.remote.specs.Line.{ConnectionValue, Gets, Puts, get, put}
+use Rattle.remote.specs.Line.{ConnectionValue, Gets, Puts, RefusesRequest, get, put}
 use Rattle.remote.specs.Remote.{LooksUp, Stores}
 use Rattle.remote.specs.Table.{HasAnswer, IsSameBut, KeepsNone, answers, bytes_kept, told_by}
 use Rattle.remote.specs.declared.files.FileError.{FileError}
@@ -108,11 +108,12 @@ module _ {A : Type 0} (start : ConnectionValue) (area : Area) (d : DigestValue) 
       anew : (b : List ℕ) → told_by before d ≡ None → told_by after d ≡ Some b → CameOver start area d.hash b
       anew b none is = absurd (some_not_none (sym is ∙ ap bytes_kept (looks.unheld.same d) ∙ none))
 
-module _ {A T : Type 0} (start : ConnectionValue) (area : Area) (d : DigestValue) (bytes : List ℕ) (old new : ConnectionValue) (before after : Table A) where
-  pub comes_by_put : (result : Result T FetchError) → Stores area d bytes old new before after result → Comes start old → Comes start new
-  comes_by_put (Ok x) stores came = taken old new area d.hash bytes came stores.taken
-  comes_by_put (Err e) stores came = refused old new (put area d.hash bytes) e came stores.refused
+pub comes_by_put : {T : Type 0} (start : ConnectionValue) (area : Area) (hash bytes : List ℕ) (old new : ConnectionValue) (result : Result T FetchError)
+    → OnOk result (Puts old new area hash bytes) → IfErr result (RefusesRequest old new (put area hash bytes)) → Comes start old → Comes start new
+comes_by_put start area hash bytes old new (Ok x) takes refuses came = taken old new area hash bytes came takes
+comes_by_put start area hash bytes old new (Err e) takes refuses came = refused old new (put area hash bytes) e came refuses
 
+module _ {A T : Type 0} (start : ConnectionValue) (area : Area) (d : DigestValue) (bytes : List ℕ) (old new : ConnectionValue) (before after : Table A) where
   -- what is kept came over it, or it took it
   pub came_by_put : (result : Result T FetchError) → Stores area d bytes old new before after result → Comes start old
       → PutsAt d bytes (told_by before) (told_by after) → CameAllOver start area (told_by before) → CameAllOver start area (told_by after)
@@ -261,7 +262,7 @@ of_some P (Some y) x h e = subst P (same_of e) h
 pub answered : {X : Type 0} (x : X) → ◌≡◌ {A = Result X FetchError} (Ok x) (Err Failed) → ⊥
 answered x e = cc
 
-refused_otherwise : {X : Type 0} → ◌≡◌ {A = Result X FetchError} (Err Memory) (Err Failed) → ⊥
+pub refused_otherwise : {X : Type 0} → ◌≡◌ {A = Result X FetchError} (Err Memory) (Err Failed) → ⊥
 refused_otherwise e = cc
 
 -- the error of the last failure tells of a file in the folder

@@ -40,9 +40,6 @@ pub up_to_kept : (old mid new : Option (List ℕ)) (text rest : List ℕ) → Ap
 up_to_kept old mid new text rest h same =
     record { beginning = h.beginning; cut = h.cut; appended = Appends-kept old mid new h.beginning h.appended same }
 
-pub beginning_by : (old new : Option (List ℕ)) (text rest : List ℕ) → AppendsUpTo old new text rest → AppendsBeginning old new text
-beginning_by old new text rest h = record { rest = rest; up_to = h }
-
 -- what a call appended: all, or a part
 pub beginning_of_all : (old new : Option (List ℕ)) (text : List ℕ) → Appends old new text → AppendsBeginning old new text
 beginning_of_all old new text h =
@@ -55,6 +52,27 @@ pub beginning_of : {E : Type 0} (old new : Option (List ℕ)) (text : List ℕ) 
     → OnErr result (AppendsPart old new text) → AppendsBeginning old new text
 beginning_of old new text (Ok x) all part = beginning_of_all old new text all
 beginning_of old new text (Err e) all part = beginning_of_part old new text part
+
+-- of a text in two pieces: a beginning of the first, or the first and a part of the second
+pub beginning_of_front : (old new : Option (List ℕ)) (front back text : List ℕ) → text ≡ front ++ back → AppendsBeginning old new front → AppendsBeginning old new text
+beginning_of_front old new front back text e h = record {
+  rest = h.rest ++ back;
+  up_to = record {
+    beginning = h.up_to.beginning;
+    cut = e ∙ ap (λ l. l ++ back) h.up_to.cut ∙ append_assoc h.up_to.beginning h.rest back;
+    appended = h.up_to.appended;
+  };
+}
+
+pub beginning_of_back : (old mid new : Option (List ℕ)) (front back text : List ℕ) → text ≡ front ++ back → Appends old mid front → AppendsPart mid new back → AppendsBeginning old new text
+beginning_of_back old mid new front back text e h part = record {
+  rest = part.rest;
+  up_to = record {
+    beginning = front ++ part.up_to.beginning;
+    cut = e ∙ ap (λ l. front ++ l) part.up_to.cut ∙ sym (append_assoc front part.up_to.beginning part.rest);
+    appended = Appends-trans old mid new front part.up_to.beginning h part.up_to.appended;
+  };
+}
 
 -- of a text without a newline only what has none is appended
 pub no_line_of_part : (old new : Option (List ℕ)) (text : List ℕ) → HasNoNewline text → AppendsPart old new text → PrintsNoLine old new

@@ -7,8 +7,8 @@ use Rattle.tree.specs.Form.{NodeValue}
 use Rattle.commands.specs.declared.children.Children.{Children}
 
 -- what stands in a folder, so far as it was read
-abbrev pub children_of : Children → DirectoryValue
-children_of c = directory_with c.files.items c.directories.items c.symlinks.items
+abbrev pub folder_read : Children → DirectoryValue
+folder_read c = directory_with c.files.items c.directories.items c.symlinks.items
 
 abbrev pub AreNamed : DirectoryValue → Type 0
 AreNamed d = AreNames (file_names d.files) (directory_names d.directories)

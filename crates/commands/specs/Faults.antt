@@ -1,5 +1,6 @@
 -- What the errors of a command tell.
-use Rattle.std.specs.Prelude.{◌≡◌, ◌↔◌, ◌⊎◌, ℕ, List, Option, Some, None, codes, string_bytes}
+use Rattle.std.specs.Prelude.{◌≡◌, ◌↔◌, ◌⊎◌, ℕ, List, Option, Some, None, Result, Ok, Err, codes}
+use Rattle.std.specs.Prelude.{string_bytes}
 use Rattle.blob_digest.specs.Digest.{DigestValue, IsDigest}
 use Rattle.blob_digest.specs.Text.{digest_text, BeginsWithHash}
 use Rattle.blob_digest.specs.declared.error.DigestError.TheVariants.{BadHex}
@@ -73,18 +74,20 @@ TellsFailure address (Some f) refusal e =
     TellsRefusal address f.method f.digest (Some f.fault) refusal e
 TellsFailure address None refusal e = e ≡ Memory
 
--- that is the request of a call that was refused, where it failed, and else the one before it
-abbrev pub kept_failure : Option Failure → Method → DigestValue → Option Fault → FetchError
-    → Option Failure
-kept_failure before method d (Some fault) refusals.Failed =
+-- that is the request of a call that failed, for the fault of the connection; after another call it
+-- is the one before it
+abbrev pub kept_failure : {T : Type 0} → Option Failure → Method → DigestValue
+    → Result T FetchError → Option Fault → Option Failure
+kept_failure before method d (Ok x) fault = before
+kept_failure before method d (Err refusal) None = before
+kept_failure before method d (Err refusals.Failed) (Some fault) =
     Some (record { method = method; digest = d; fault = fault })
-kept_failure before method d (Some fault) refusals.Memory = before
-kept_failure before method d None refusal = before
+kept_failure before method d (Err refusals.Memory) (Some fault) = before
 
 -- the error tells this of what stands at the place, or under the digest
-abbrev pub IsEntryFault : List ℕ → List ℕ → CommandError → Type 0
-IsEntryFault place words (Entry p fault) = (string_bytes p ≡ place) × (fault.now ≡ words)
-IsEntryFault place words _ = ⊥
+abbrev pub TellsOfEntry : List ℕ → List ℕ → CommandError → Type 0
+TellsOfEntry place words (Entry p fault) = (string_bytes p ≡ place) × (fault.now ≡ words)
+TellsOfEntry place words _ = ⊥
 
 -- so it is, or memory ran out
 abbrev pub OrMemory : (CommandError → Type 0) → CommandError → Type 0

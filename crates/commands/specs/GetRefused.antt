@@ -11,7 +11,7 @@ use Rattle.checkout.specs.declared.error.CheckoutError.{CheckoutError}
 use Rattle.checkout.specs.declared.error.CheckoutError.TheVariants as trees
 use Rattle.clap.specs.Words.{Row, first_of}
 use Rattle.command_lines.specs.CommandLine.{option_text}
-use Rattle.commands.specs.Faults.{IsDigestFault, IsEntryFault}
+use Rattle.commands.specs.Faults.{IsDigestFault, TellsOfEntry}
 use Rattle.commands.specs.Got.{IsBlobOver}
 use Rattle.commands.specs.Places.{CameOver, FailsOver, FailsToConnect, IsToldOver, LacksOver}
 use Rattle.commands.specs.Places.{RefusesAt}
@@ -55,17 +55,17 @@ pub data FailsGetBlob (start : ConnectionValue) (address : List ℕ) (digest : D
 
 -- The error tells why a tree wasn't written. Where a blob of it is missing, that is so told, and
 -- the output takes no line of that.
-abbrev pub TellsTree : ConnectionValue → List ℕ → CheckoutError Global → CommandError → Type 0
-TellsTree start address (trees.Missing d) e = ∥ FailsOver start address e ∥₁
+abbrev pub TellsCheckout : ConnectionValue → List ℕ → CheckoutError Global → CommandError → Type 0
+TellsCheckout start address (trees.Missing d) e = ∥ FailsOver start address e ∥₁
     ⊎ (∥ LacksOver start Cas d.hash ∥₁ × IsPrintFault e)
-TellsTree start address (trees.Wrong d) e = IsWrongBytes address d e
-TellsTree start address (trees.Malformed d) e =
-    IsEntryFault (digest_text d) (codes "not a Directory") e
-TellsTree start address (trees.TooDeep path) e =
-    IsEntryFault (path_text path) (codes "a path of more than 64 names") e
-TellsTree start address trees.Fetch e = ∥ FailsOver start address e ∥₁
-TellsTree start address (trees.Place path fault) e = e ≡ File path fault
-TellsTree start address trees.Memory e = e ≡ Memory
+TellsCheckout start address (trees.Wrong d) e = IsWrongBytes address d e
+TellsCheckout start address (trees.Malformed d) e =
+    TellsOfEntry (digest_text d) (codes "not a Directory") e
+TellsCheckout start address (trees.TooDeep path) e =
+    TellsOfEntry (path_text path) (codes "a path of more than 64 names") e
+TellsCheckout start address trees.Fetch e = ∥ FailsOver start address e ∥₁
+TellsCheckout start address (trees.Place path fault) e = e ≡ File path fault
+TellsCheckout start address trees.Memory e = e ≡ Memory
 
 -- why the tree that was told over the connection wasn't written into the folder
 pub data FailsGetTree (sees : Sight) (start : ConnectionValue) (address : List ℕ)
@@ -73,7 +73,7 @@ pub data FailsGetTree (sees : Sight) (start : ConnectionValue) (address : List �
   in_memory : e ≡ Memory → FailsGetTree sees start address digest folder e
   in_tree : (told : Telling) (error : CheckoutError Global) → ∥ IsToldOver start told ∥₁
       → FailsCheckout sees.holds sees.unwritten told.blobs digest folder error
-      → TellsTree start address error e → FailsGetTree sees start address digest folder e
+      → TellsCheckout start address error e → FailsGetTree sees start address digest folder e
 
 -- ---- the command
 

@@ -1,5 +1,5 @@
 -- What was written for a blob that was asked of a server.
-use Rattle.std.specs.Prelude.{◌≡◌, ◌⊎◌, ℕ, List, Option, None, Some, string_bytes}
+use Rattle.std.specs.Prelude.{◌≡◌, ◌≢◌, ◌⊎◌, ℕ, List, Option, None, Some, string_bytes}
 use Rattle.std.specs.Io.KnownBytes.{Appends}
 use Rattle.blob_digest.specs.Digest.{DigestValue, digest_of, empty_digest}
 use Rattle.blob_digest.specs.Text.{digest_text}
@@ -31,19 +31,20 @@ NotesNoBlob address digest (Some (NoBlob server text)) =
     (string_bytes server ≡ address) × (string_bytes text ≡ digest_text digest)
 NotesNoBlob address digest _ = ⊥
 
--- the reply came over it that there is none, nothing was written, and the note says why
+-- The reply came over it that there is none, nothing was written, and the note says why. The empty
+-- blob is never missing.
 pub record WritesNothing (start : ConnectionValue) (address : List ℕ) (digest : DigestValue)
     (note : Option Note) (old new : Option (List ℕ)) : Type 0 where
+  pub some : digest ≢ empty_digest
   pub now : ConnectionValue
   pub none : Gets start now Cas digest.hash None
   pub unprinted : new ≡ old
   pub noted : NotesNoBlob address digest note
 
--- a beginning of a blob with the digest
-pub record WritesPart (digest : DigestValue) (old new : Option (List ℕ)) : Type 0 where
-  pub bytes : List ℕ
-  pub right : digest_of bytes ≡ digest
-  pub begun : AppendsBeginning old new bytes
+-- nothing was written, or a beginning of such bytes
+abbrev pub BeginsBlob : ConnectionValue → DigestValue → Option (List ℕ) → Option (List ℕ) → Type 0
+BeginsBlob start digest old new = (new ≡ old)
+    ⊎ ((bytes : List ℕ) × IsBlobOver start digest bytes × AppendsBeginning old new bytes)
 
 -- the blob with the digest, or nothing where the server at the address has none
 abbrev pub Writes : ConnectionValue → List ℕ → DigestValue → Option (List ℕ) → Option (List ℕ)

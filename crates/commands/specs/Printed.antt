@@ -18,12 +18,13 @@ use Rattle.text_verifier.specs.Answered.{IsJudged}
 use Rattle.text_verifier.specs.Lacking.{lack_of}
 use Rattle.text_verifier.specs.Texts.{HasTexts, Question, IsDigestText}
 use Rattle.text_verifier.specs.declared.lack.Lack.{Lack}
-use Rattle.commands.specs.Got.{Writes, WritesPart}
+use Rattle.commands.specs.Got.{BeginsBlob, Writes}
 use Rattle.commands.specs.Options.{IsServerOf, number_of, number_or}
 use Rattle.commands.specs.Places.{IsOfFolder, IsOfServer, IsConnected, LacksAtServer}
 use Rattle.commands.specs.Places.{LacksInFolder}
 use Rattle.commands.specs.Put.{PutsPath}
-use Rattle.commands.specs.Trees.{BeginsMissing, IsTreeGot}
+use Rattle.commands.specs.Told.{AppendsBeginning}
+use Rattle.commands.specs.Trees.{BeginsLack, IsTreeGot}
 use Rattle.commands.specs.Words.{AllValid, server_words}
 use Rattle.commands.specs.World.{Serving, Sight}
 use Rattle.commands.specs.declared.ended.Ended.{Ended}
@@ -101,6 +102,11 @@ pub record PrintsVerdict (sees : Sight) (options : List Row) (old new : Option (
   pub judged : JudgesAsked sees options verdict
   pub printed : Appends old new (report_line verdict)
 
+-- nothing was printed, or a beginning of such a line
+abbrev pub BeginsVerdict : Sight → List Row → Option (List ℕ) → Option (List ℕ) → Type 0
+BeginsVerdict sees options old new = (new ≡ old) ⊎ ((verdict : Verdict Global)
+    × JudgesAsked sees options verdict × AppendsBeginning old new (report_line verdict))
+
 -- the world told that no folder is at the path
 abbrev pub LacksFolder : Sight → List ℕ → Type 0
 LacksFolder sees path = sees.leads path false ⊎ IsNothingAt sees.fails path
@@ -144,13 +150,18 @@ pub record GetsAsked (sees : Sight) (options : List Row) (old new : Option (List
   pub got : IsGot sees (first_of (codes "into") options) start
       (option_text options (codes "server")) digest old new ended
 
--- Nothing was written, or a beginning of a blob whose digest the options spell; or where they name
--- a folder, a beginning of the line of a blob that the server lacks.
-abbrev pub GetsPart : List Row → Option (List ℕ) → Option (List ℕ) → Type 0
-GetsPart options old new = (new ≡ old)
-    ⊎ (((digest : DigestValue) × (first_of (codes "into") options ≡ None)
-    × IsDigestText (option_text options (codes "digest")) digest × WritesPart digest old new)
-    ⊎ (IsSome (first_of (codes "into") options) × BeginsMissing old new))
+-- Nothing was written, or a beginning of that blob; or with words of a folder, a beginning of the
+-- line of a blob that the server lacks.
+abbrev pub BeginsGot : Sight → Option (List ℕ) → ConnectionValue → DigestValue → Option (List ℕ)
+    → Option (List ℕ) → Type 0
+BeginsGot sees None start digest old new = BeginsBlob start digest old new
+BeginsGot sees (Some folder) start digest old new = BeginsLack sees start digest folder old new
+
+-- so it is of what the options ask for
+abbrev pub GetsPart : Sight → List Row → Option (List ℕ) → Option (List ℕ) → Type 0
+GetsPart sees options old new = (new ≡ old)
+    ⊎ ((digest : DigestValue) × (start : ConnectionValue) × StartsGet sees options digest start
+    × BeginsGot sees (first_of (codes "into") options) start digest old new)
 
 -- What was read at the path is put to the server that the options name, and the line of its digest
 -- was printed.
@@ -161,6 +172,13 @@ pub record PrintsDigest (sees : Sight) (options : List Row) (old new : Option (L
   pub digest : DigestValue
   pub put : PutsPath sees start (option_text options (codes "path")) digest
   pub printed : Appends old new (digest_text digest ++ 10 ∷ [])
+
+-- nothing was printed, or a beginning of such a line
+abbrev pub BeginsDigest : Sight → List Row → Option (List ℕ) → Option (List ℕ) → Type 0
+BeginsDigest sees options old new = (new ≡ old)
+    ⊎ ((start : ConnectionValue) × (digest : DigestValue) × IsConnectedTo sees options start
+    × PutsPath sees start (option_text options (codes "path")) digest
+    × AppendsBeginning old new (digest_text digest ++ 10 ∷ []))
 
 -- ---- serve
 
@@ -188,6 +206,12 @@ pub record ServesAsked (sees : Sight) (options : List Row) (old new : Option (Li
   pub listens : sees.listens (option_text options (codes "listen")) address
   pub printed : Appends old new (listening_line address)
   pub served : sees.serves (serving_of options address)
+
+-- nothing was printed, or the line or a beginning of it, of an address where a socket so listens
+abbrev pub BeginsListening : Sight → List Row → Option (List ℕ) → Option (List ℕ) → Type 0
+BeginsListening sees options old new = (new ≡ old) ⊎ ((address : SocketAddr)
+    × sees.listens (option_text options (codes "listen")) address
+    × AppendsBeginning old new (listening_line address))
 
 -- what the words of `serve` ask for is as they say
 pub record IsAsked (options : List Row) (asked : Asked) : Type 0 where

@@ -1,5 +1,5 @@
 -- What `put` puts: what was read at a path and below it, and the blobs that the server took.
-use Rattle.std.specs.Prelude.{◌⊎◌, ℕ, false, List, ◌∷◌, ◌++◌, Some}
+use Rattle.std.specs.Prelude.{◌⊎◌, ℕ, suc, false, List, ◌∷◌, ◌++◌, Some}
 use Rattle.std.specs.List.{Contains}
 use Rattle.blob_digest.specs.Digest.{DigestValue, digest_of}
 use Rattle.http_core.specs.declared.event.Area.TheVariants.{Cas}
@@ -32,21 +32,25 @@ StandsAs sees place (File digest executable) = sees.stands place a_file
 StandsAs sees place (Dir digest) = sees.stands place a_folder
 StandsAs sees place (Link target) = sees.stands place (a_link target)
 
--- What was read at a place is this node, and the server took its blob and each blob below it. A
--- file is put by its bytes, without its executable bit, a folder by the Directory of what is in it.
-pub data IsPutAt (sees : Sight) (start : ConnectionValue) : List ℕ → NodeValue → Type 0 where
-  file_put : (place bytes : List ℕ) → sees.reads place bytes → ∥ TakesBlob start bytes ∥₁
-      → IsPutAt sees start place (File (digest_of bytes) false)
-  link_put : (place target : List ℕ) → sees.stands place (a_link target)
-      → IsPutAt sees start place (Link target)
-  folder_put : (place : List ℕ) (d : DirectoryValue) → IsDirectory d → IsListed sees place d
+-- What was read at a place is this node, and the server took its blob and each blob below it, where
+-- no more than so many nodes stand one below another. A file is put by its bytes, without its
+-- executable bit, a folder by the Directory of what is in it.
+pub data IsPutAt (sees : Sight) (start : ConnectionValue) : ℕ → List ℕ → NodeValue → Type 0 where
+  file_put : (left : ℕ) (place bytes : List ℕ) → sees.reads place bytes
+      → ∥ TakesBlob start bytes ∥₁
+      → IsPutAt sees start (suc left) place (File (digest_of bytes) false)
+  link_put : (left : ℕ) (place target : List ℕ) → sees.stands place (a_link target)
+      → IsPutAt sees start (suc left) place (Link target)
+  folder_put : (left : ℕ) (place : List ℕ) (d : DirectoryValue) → IsDirectory d
+      → IsListed sees place d
       → ((n : List ℕ) (x : NodeValue) → IsChild n d (Some x) → StandsAs sees (place ++ 47 ∷ n) x)
       → ((n : List ℕ) (x : NodeValue) → IsChild n d (Some x)
-      → IsPutAt sees start (place ++ 47 ∷ n) x)
+      → IsPutAt sees start left (place ++ 47 ∷ n) x)
       → ∥ TakesBlob start (directory_bytes d) ∥₁
-      → IsPutAt sees start place (Dir (digest_of (directory_bytes d)))
+      → IsPutAt sees start (suc left) place (Dir (digest_of (directory_bytes d)))
 
--- the digest is that of the file or the folder that was read at the path
+-- The digest is that of the file or the folder that was read at the path, below which paths have at
+-- most 64 names.
 abbrev pub PutsPath : Sight → ConnectionValue → List ℕ → DigestValue → Type 0
 PutsPath sees start path digest =
-    IsPutAt sees start path (File digest false) ⊎ IsPutAt sees start path (Dir digest)
+    IsPutAt sees start 65 path (File digest false) ⊎ IsPutAt sees start 65 path (Dir digest)

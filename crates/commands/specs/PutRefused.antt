@@ -1,6 +1,6 @@
 -- Why `put` ends without its line: the first fault, in the order words, connection, what stands at
 -- the path or below it together with the server's refusals, and output.
-use Rattle.std.specs.Prelude.{◌≡◌, ℕ, suc, List, ◌∷◌, ◌++◌, codes}
+use Rattle.std.specs.Prelude.{◌≡◌, ℕ, suc, List, ◌∷◌, ◌++◌, IsSorted, codes}
 use Rattle.std.specs.List.{Contains}
 use Rattle.std.specs.declared.alloc.Global.{Global}
 use Rattle.blob_digest.specs.Digest.{DigestValue, digest_of}
@@ -9,11 +9,11 @@ use Rattle.command_lines.specs.CommandLine.{option_text}
 use Rattle.messages.specs.Directory.{directory_bytes}
 use Rattle.messages.specs.DirectoryRules.{DirectoryValue, IsDirectory}
 use Rattle.messages.specs.Name.{IsName}
-use Rattle.messages.specs.Order.{IsAscending}
+use Rattle.messages.specs.Order.{IsAscending, bytes_cmp}
 use Rattle.messages.specs.Target.{IsTarget}
 use Rattle.remote.specs.Line.{ConnectionValue}
 use Rattle.remote.specs.declared.files.FileError.{FileError}
-use Rattle.commands.specs.Faults.{IsEntryFault, error_of_file}
+use Rattle.commands.specs.Faults.{TellsOfEntry, error_of_file}
 use Rattle.commands.specs.Places.{FailsToConnect, RefusesAt}
 use Rattle.commands.specs.Printed.{IsConnectedTo}
 use Rattle.commands.specs.Put.{IsListed, PutsPath}
@@ -27,17 +27,18 @@ use Rattle.commands.specs.declared.failure.Method.TheVariants.{PutBlob}
 -- what stands at the place has no name that can be put
 pub record HasNoName (place name : List ℕ) (e : CommandError) : Type 0 where
   pub none : ¬ IsName name
-  pub told : IsEntryFault place (codes "no name of at most 255 bytes") e
+  pub told : TellsOfEntry place (codes "no name of at most 255 bytes") e
 
 -- the link at the place leads to this, which can't be put
 pub record LinksToNoText (place target : List ℕ) (e : CommandError) : Type 0 where
   pub none : ¬ IsTarget target
-  pub told : IsEntryFault place (codes "a link to no text of at most 4096 bytes") e
+  pub told : TellsOfEntry place (codes "a link to no text of at most 4096 bytes") e
 
--- the names in the folder at the place don't ascend
+-- the names in the folder at the place are in order, and don't ascend: one of them stands twice
 pub record HasNameTwice (place : List ℕ) (names : List (List ℕ)) (e : CommandError) : Type 0 where
+  pub ordered : IsSorted bytes_cmp names
   pub twice : ¬ IsAscending names
-  pub told : IsEntryFault place (codes "two entries of one name") e
+  pub told : TellsOfEntry place (codes "two entries of one name") e
 
 -- the server at the address refused a PUT of this blob over the connection, which was opened so
 abbrev pub RefusesPut : ConnectionValue → List ℕ → List ℕ → CommandError → Type 0
@@ -73,7 +74,7 @@ pub data FailsBelow (sees : Sight) (start : ConnectionValue) (address : List ℕ
   here : (left : ℕ) (place : List ℕ) → FailsHere sees start address place e
       → FailsBelow sees start address e left place
   too_deep : (place name : List ℕ) → HasEntry sees place name
-      → IsEntryFault (place ++ 47 ∷ name) (codes "more than 64 names deep") e
+      → TellsOfEntry (place ++ 47 ∷ name) (codes "more than 64 names deep") e
       → FailsBelow sees start address e 0 place
   below : (left : ℕ) (place name : List ℕ) → HasEntry sees place name
       → FailsBelow sees start address e left (place ++ 47 ∷ name)

@@ -8,8 +8,8 @@ use Rattle.service.specs.declared.error.NotAccepted.{NotAccepted}
 use Rattle.commands.specs.Options.{IsAddress, number_of}
 use Rattle.commands.specs.Printed.{serving_of}
 use Rattle.commands.specs.Refusal.{IsPrintFault}
-use Rattle.commands.specs.Words.{AllValid, Check, FailsFirst, has_prefix, is_number, is_wanted}
-use Rattle.commands.specs.Words.{where_said}
+use Rattle.commands.specs.Words.{AllValid, Check, FailsFirst, has_number_up_to, has_prefix}
+use Rattle.commands.specs.Words.{is_wanted, where_said}
 use Rattle.commands.specs.World.{Sight}
 use Rattle.commands.specs.declared.error.CommandError.{CommandError}
 use Rattle.commands.specs.declared.error.CommandError.TheVariants.{Accept, Address, Memory, Random}
@@ -21,20 +21,20 @@ listens_at options = is_wanted options (codes "listen") (codes "HOST:PORT") IsAd
 
 abbrev pub is_idle : List Row → Check
 is_idle options =
-    where_said options (codes "idle") (is_number options (codes "idle") 9223372036854775807)
+    where_said options (codes "idle") (has_number_up_to options (codes "idle") 9223372036854775807)
 
 abbrev pub is_at_once : List Row → List Check
 is_at_once options =
-    where_said options (codes "at-once") (is_number options (codes "at-once") 1024)
+    where_said options (codes "at-once") (has_number_up_to options (codes "at-once") 1024)
     ∷ where_said options (codes "at-once") (is_wanted options (codes "at-once")
     (codes "a number from 1 to 1024") (λ text. number_of text ≢ 0)) ∷ []
 
 abbrev pub serve_words : List Row → List Check
 serve_words options =
     listens_at options
-    ∷ is_number options (codes "connections") 18446744073709551615
-    ∷ is_number options (codes "limit") 9223372036854775807
-    ∷ is_number options (codes "result-limit") 9223372036854775807
+    ∷ has_number_up_to options (codes "connections") 18446744073709551615
+    ∷ has_number_up_to options (codes "limit") 9223372036854775807
+    ∷ has_number_up_to options (codes "result-limit") 9223372036854775807
     ∷ is_idle options ∷ (is_at_once options ++ has_prefix options ∷ [])
 
 -- ---- faults

@@ -30,31 +30,33 @@ pub record WritesTree (sees : Sight) (start : ConnectionValue) (digest : DigestV
   pub unprinted : new ≡ old
 
 -- The tree wasn't written since a blob of it is missing: the reply over the connection was that
--- there is none, and the line of that was printed.
+-- there is none, and the line of that was appended, or as much of it as is said here.
 pub record PrintsLack (start : ConnectionValue) (error : CheckoutError Global)
-    (old new : Option (List ℕ)) : Type 0 where
+    (appends : List ℕ → Type 0) : Type 0 where
   pub lacked : DigestValue
   pub is : error ≡ Missing lacked
   pub replied : ∥ LacksOver start Cas lacked.hash ∥₁
-  pub printed : Appends old new (missing_line lacked)
+  pub printed : appends (missing_line lacked)
 
 -- so it is with the tree that was told over the connection
 pub record LacksTree (sees : Sight) (start : ConnectionValue) (digest : DigestValue)
-    (folder : List ℕ) (old new : Option (List ℕ)) : Type 0 where
+    (folder : List ℕ) (appends : List ℕ → Type 0) : Type 0 where
   pub told : Telling
   pub over : ∥ IsToldOver start told ∥₁
   pub error : CheckoutError Global
   pub fails : FailsCheckout sees.holds sees.unwritten told.blobs digest folder error
-  pub lacks : PrintsLack start error old new
+  pub lacks : PrintsLack start error appends
 
 -- one of both, and the line of a blob stands without a note
 abbrev pub IsTreeGot : Sight → ConnectionValue → DigestValue → List ℕ → Option (List ℕ)
     → Option (List ℕ) → Ended → Type 0
 IsTreeGot sees start digest folder old new Done = WritesTree sees start digest folder old new
-IsTreeGot sees start digest folder old new (No None) = LacksTree sees start digest folder old new
+IsTreeGot sees start digest folder old new (No None) =
+    LacksTree sees start digest folder (Appends old new)
 IsTreeGot sees start digest folder old new (No (Some note)) = ⊥
 
--- nothing was printed, or a beginning of the line of a blob
-abbrev pub BeginsMissing : Option (List ℕ) → Option (List ℕ) → Type 0
-BeginsMissing old new = (new ≡ old)
-    ⊎ ((lacked : DigestValue) × AppendsBeginning old new (missing_line lacked))
+-- nothing was printed, or a beginning of that line
+abbrev pub BeginsLack : Sight → ConnectionValue → DigestValue → List ℕ → Option (List ℕ)
+    → Option (List ℕ) → Type 0
+BeginsLack sees start digest folder old new =
+    (new ≡ old) ⊎ LacksTree sees start digest folder (AppendsBeginning old new)

@@ -44,8 +44,8 @@ IsNumberFault option greatest text (Number o g t) =
 IsNumberFault option greatest text _ = ⊥
 
 -- the text of an option is a number that is no greater
-abbrev pub is_number : List Row → List ℕ → ℕ → Check
-is_number options option greatest = record {
+abbrev pub has_number_up_to : List Row → List ℕ → ℕ → Check
+has_number_up_to options option greatest = record {
   valid = IsUpTo greatest (option_text options option);
   fault = IsNumberFault option greatest (option_text options option);
 }

@@ -63,8 +63,8 @@ pub record Sight : Type 1 where
   pub unserved : Serving → NotAccepted → Type 0
 
 -- nothing is known of it
-abbrev pub nothing_known : Sight
-nothing_known = record {
+abbrev pub sees_nothing : Sight
+sees_nothing = record {
   reads = λ _ _. Unit {0};
   lists = λ _ _. Unit {0};
   stands = λ _ _. Unit {0};

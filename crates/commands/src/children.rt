@@ -1,6 +1,6 @@
 ghost use Rattle.std.specs.Prelude.{◌≡◌, IfErr, IfOk, OnOk, codes};
-ghost use Rattle.commands.specs.Children.{AddsName, AreNamed, HasOneMore, children_of};
-ghost use Rattle.commands.specs.Faults.{IsEntryFault, OrMemory};
+ghost use Rattle.commands.specs.Children.{AddsName, AreNamed, HasOneMore, folder_read};
+ghost use Rattle.commands.specs.Faults.{TellsOfEntry, OrMemory};
 ghost use Rattle.messages.specs.DirectoryRules.{IsDirectory};
 ghost use Rattle.tree.specs.Form.{no_children, node_value};
 
@@ -19,7 +19,7 @@ pub(crate) struct Children {
 impl Children {
     /// Nothing.
     pub(crate) fn new(alloc: Global) -> Children
-        ensures { children_of result ≡ no_children }
+        ensures { folder_read result ≡ no_children }
     {
         Children {
             files: Vec::new(alloc),
@@ -30,9 +30,9 @@ impl Children {
 
     /// One more child, after the others of its kind.
     pub(crate) fn push(&mut self, name: Name<Global>, node: Node<Global>) -> Result<(), AllocError>
-        ensures child { OnOk result (HasOneMore name (node_value node) (children_of self.old)
-            (children_of self.new)) }
-        ensures named { OnOk result (AddsName name (children_of self.old) (children_of self.new)) }
+        ensures child { OnOk result (HasOneMore name (node_value node) (folder_read self.old)
+            (folder_read self.new)) }
+        ensures named { OnOk result (AddsName name (folder_read self.old) (folder_read self.new)) }
     {
         match node {
             Node::File { digest, executable } => self.files.push(FileNode {
@@ -52,11 +52,11 @@ impl Children {
         alloc: Global,
         place: &str,
     ) -> Result<Directory<Global>, CommandError>
-        ensures value { IfOk result (λ d. d ≡ children_of self) }
+        ensures value { IfOk result (λ d. d ≡ folder_read self) }
         ensures valid { IfOk result IsDirectory }
         ensures refused { IfErr result (OrMemory
-            (λ e. ¬ AreNamed (children_of self)
-            × IsEntryFault place.now (codes "two entries of one name") e)) }
+            (λ e. ¬ AreNamed (folder_read self)
+            × TellsOfEntry place.now (codes "two entries of one name") e)) }
     {
         match Directory::new(self.files, self.directories, self.symlinks) {
             Ok(directory) => Ok(directory),

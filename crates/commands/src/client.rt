@@ -74,14 +74,13 @@ impl<S: Stream + Drop, K: Origin> Client<S, K> {
         ensures refused { IfErr result (OrMemory
             (λ e. ∥ RefusesPut K.start (string_bytes server.now.address) bytes.now e ∥₁)) }
     {
-        match self.remote.send_blob(alloc, bytes) {
+        let put = self.remote.send_blob(alloc, bytes);
+        let digest = digest_put(&put, bytes);
+        let fault = self.remote.last_fault();
+        keep_failure(&mut self.failure, Method::PutBlob, &digest, &put, fault);
+        match put {
             Ok(digest) => Ok(digest),
-            Err(refusal) => {
-                let digest = Digest::of(bytes);
-                let fault = self.remote.last_fault();
-                keep_failure(&mut self.failure, Method::PutBlob, &digest, fault, refusal);
-                Err(self.error(alloc, server, refusal)?)
-            }
+            Err(refusal) => Err(self.error(alloc, server, refusal)?),
         }
     }
 
@@ -164,14 +163,10 @@ impl<S: Stream + Drop, K: Origin> BlobSource<Global> for Client<S, K> {
         ensures lacked { IfOk result
             (λ answer. IfNone answer (∥ LacksOver K.start Cas digest.now.hash ∥₁)) }
     {
-        match self.remote.fetch(alloc, digest) {
-            Ok(found) => Ok(found),
-            Err(refusal) => {
-                let fault = self.remote.last_fault();
-                keep_failure(&mut self.failure, Method::GetBlob, digest, fault, refusal);
-                Err(refusal)
-            }
-        }
+        let found = self.remote.fetch(alloc, digest);
+        let fault = self.remote.last_fault();
+        keep_failure(&mut self.failure, Method::GetBlob, digest, &found, fault);
+        found
     }
 
     fn result(&mut self, alloc: Global, digest: &Digest) -> Result<Option<Vec<u8>>, FetchError>
@@ -182,14 +177,10 @@ impl<S: Stream + Drop, K: Origin> BlobSource<Global> for Client<S, K> {
         ensures lacked { IfOk result
             (λ answer. IfNone answer (∥ LacksOver K.start Ac digest.now.hash ∥₁)) }
     {
-        match self.remote.result(alloc, digest) {
-            Ok(found) => Ok(found),
-            Err(refusal) => {
-                let fault = self.remote.last_fault();
-                keep_failure(&mut self.failure, Method::GetResult, digest, fault, refusal);
-                Err(refusal)
-            }
-        }
+        let found = self.remote.result(alloc, digest);
+        let fault = self.remote.last_fault();
+        keep_failure(&mut self.failure, Method::GetResult, digest, &found, fault);
+        found
     }
 }
 
@@ -202,15 +193,11 @@ impl<S: Stream + Drop, K: Origin> BlobSink<Global> for Client<S, K> {
             (telling_of self.new.remote) (IsErrOf result FetchError.Failed) }
         ensures taken { OnOk result (∥ TakesBlob K.start bytes.now ∥₁) }
     {
-        match self.remote.put_blob(alloc, bytes) {
-            Ok(digest) => Ok(digest),
-            Err(refusal) => {
-                let digest = Digest::of(bytes);
-                let fault = self.remote.last_fault();
-                keep_failure(&mut self.failure, Method::PutBlob, &digest, fault, refusal);
-                Err(refusal)
-            }
-        }
+        let put = self.remote.put_blob(alloc, bytes);
+        let digest = digest_put(&put, bytes);
+        let fault = self.remote.last_fault();
+        keep_failure(&mut self.failure, Method::PutBlob, &digest, &put, fault);
+        put
     }
 
     fn put_result(
@@ -219,14 +206,21 @@ impl<S: Stream + Drop, K: Origin> BlobSink<Global> for Client<S, K> {
         digest: &Digest,
         bytes: &[u8],
     ) -> Result<(), FetchError> {
-        match self.remote.put_result(alloc, digest, bytes) {
-            Ok(()) => Ok(()),
-            Err(refusal) => {
-                let fault = self.remote.last_fault();
-                keep_failure(&mut self.failure, Method::PutResult, digest, fault, refusal);
-                Err(refusal)
-            }
-        }
+        let put = self.remote.put_result(alloc, digest, bytes);
+        let fault = self.remote.last_fault();
+        keep_failure(&mut self.failure, Method::PutResult, digest, &put, fault);
+        put
+    }
+}
+
+/// The digest of bytes that were put, or weren't.
+fn digest_put(put: &Result<Digest, FetchError>, bytes: &[u8]) -> Digest
+    requires { IfOk put.now (λ digest. digest ≡ digest_of bytes.now) }
+    ensures { result ≡ digest_of bytes.now }
+{
+    match put {
+        Ok(digest) => *digest,
+        Err(_) => Digest::of(bytes),
     }
 }
 

@@ -1,6 +1,7 @@
 ghost use Rattle.std.specs.Prelude.{◌≡◌, ◌∷◌, [], IfOk, IsTrue, codes, string_bytes};
 ghost use Rattle.std.specs.Io.{ReadsAtMost, WritesAtMost};
 ghost use Rattle.std.specs.Io.Buffered.{reader_buffer, reader_inner};
+ghost use Rattle.std.specs.Io.KnownBytes.{ReadConsumes, WriteAppends};
 ghost use Rattle.clap.specs.Words.{found_of, rows_of};
 ghost use Rattle.command_lines.specs.CommandLine.{option_text};
 ghost use Rattle.commands.specs.Options.{IsServerOf, IsTimeout, number_or};
@@ -149,7 +150,8 @@ const BROKEN_OFF: u32 = 1000;
 /// Reads, and reads again where a signal interrupted that: nothing was read then. (A process that
 /// was stopped and goes on sees that, since the socket has a limit on silence.)
 fn read_again<T: Read>(reader: &mut T, buf: &mut [u8]) -> io::Result<usize>
-    ensures { ReadsAtMost result buf.new }
+    ensures bound { ReadsAtMost result buf.new }
+    ensures bytes { ReadConsumes (T.remaining reader.old) (T.remaining reader.new) result buf.new }
 {
     for _ in 0..BROKEN_OFF {
         match reader.read(buf) {
@@ -162,7 +164,8 @@ fn read_again<T: Read>(reader: &mut T, buf: &mut [u8]) -> io::Result<usize>
 
 /// Writes, and writes again where a signal interrupted that.
 fn write_again<T: Write>(writer: &mut T, buf: &[u8]) -> io::Result<usize>
-    ensures { WritesAtMost result buf.now }
+    ensures bound { WritesAtMost result buf.now }
+    ensures bytes { WriteAppends (T.contents writer.old) (T.contents writer.new) result buf.now }
 {
     for _ in 0..BROKEN_OFF {
         match writer.write(buf) {

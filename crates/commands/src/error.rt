@@ -1,5 +1,5 @@
 ghost use Rattle.std.specs.Prelude.{◌≡◌};
-ghost use Rattle.commands.specs.Faults.{IsEntryFault, OrMemory};
+ghost use Rattle.commands.specs.Faults.{TellsOfEntry, OrMemory};
 ghost use Rattle.commands.specs.Status.{status_of};
 
 use crate::hint::Hint;
@@ -127,7 +127,7 @@ impl<T: Drop> From<AllocFailed<T>> for CommandError {
 
 /// The error of what stands at a place and can't be put.
 pub(crate) fn entry_error(alloc: Global, place: &str, fault: &'static str) -> CommandError
-    ensures { OrMemory (IsEntryFault place.now fault.now) result }
+    ensures { OrMemory (TellsOfEntry place.now fault.now) result }
 {
     match String::from_str(alloc, place) {
         Ok(path) => CommandError::Entry { path, fault },

@@ -36,18 +36,21 @@ pub struct Failure {
     pub fault: Fault,
 }
 
-/// Keeps the request of a call that was refused, where it failed. Else what is kept stays.
-pub(crate) fn keep_failure(
+/// Keeps the request of a call that failed. Else what is kept stays.
+pub(crate) fn keep_failure<T>(
     kept: &mut Option<Failure>,
     method: Method,
     digest: &Digest,
+    answer: &Result<T, FetchError>,
     fault: Option<Fault>,
-    refusal: FetchError,
 )
-    ensures { kept.new ≡ kept_failure kept.old method digest.now fault refusal }
+    ensures { kept.new ≡ kept_failure kept.old method digest.now answer.now fault }
 {
+    let Err(refusal) = answer else {
+        return;
+    };
     match fault {
-        Some(fault) if refusal == FetchError::Failed => {
+        Some(fault) if *refusal == FetchError::Failed => {
             *kept = Some(Failure {
                 method,
                 digest: *digest,

@@ -1,9 +1,9 @@
-ghost use Rattle.std.specs.Prelude.{◌≡◌, ◌⊎◌, None, Some, IfErr, IfNone, IfOk, IfSome, OnErr};
-ghost use Rattle.std.specs.Prelude.{◌↔◌, IsTrue, string_bytes};
-ghost use Rattle.blob_digest.specs.Digest.{digest_of};
+ghost use Rattle.std.specs.Prelude.{◌≡◌, ◌≢◌, ◌↔◌, None, Some, IfErr, IfNone, IfOk, IfSome, IsTrue};
+ghost use Rattle.std.specs.Prelude.{OnErr, string_bytes};
+ghost use Rattle.blob_digest.specs.Digest.{digest_of, empty_digest};
 ghost use Rattle.clap.specs.Words.{found_of, rows_of};
 ghost use Rattle.commands.specs.GetRefused.{FailsGetBlob, FailsGet};
-ghost use Rattle.commands.specs.Got.{IsBlobOver, NotesNoBlob, Writes, WritesPart};
+ghost use Rattle.commands.specs.Got.{BeginsBlob, IsBlobOver, NotesNoBlob, Writes};
 ghost use Rattle.commands.specs.Places.{IsFresh};
 ghost use Rattle.commands.specs.Printed.{GetsAsked, GetsPart};
 ghost use Rattle.commands.specs.Status.{status_of};
@@ -48,6 +48,7 @@ fn get_blob<S: Stream + Drop>(
         IsBlobOver (connection_of S.flow remote.old) digest.now bytes.items)) }
     ensures none { IfOk result (λ found. IfNone found (Gets (connection_of S.flow remote.old)
         (connection_of S.flow remote.new) Cas digest.now.hash None)) }
+    ensures some { IfOk result (λ found. IfNone found (digest.now ≢ empty_digest)) }
     ensures status { IfErr result (λ e. status_of e ≡ 3) }
     ensures fault { IfErr result (FailsGetBlob (connection_of S.flow remote.old)
         (string_bytes server.now.address) digest.now) }
@@ -96,8 +97,8 @@ fn print_blob<S: Stream + Drop, O: Write>(
     requires { IsFresh remote }
     ensures printed { IfOk result (Writes (connection_of S.flow remote)
         (string_bytes server.now.address) digest.now (O.contents out.old) (O.contents out.new)) }
-    ensures begun { OnErr result ((O.contents out.new ≡ O.contents out.old)
-        ⊎ WritesPart digest.now (O.contents out.old) (O.contents out.new)) }
+    ensures begun { OnErr result (BeginsBlob (connection_of S.flow remote) digest.now
+        (O.contents out.old) (O.contents out.new)) }
     ensures status { IfErr result (λ e. status_of e ≡ 3) }
     ensures fault { IfErr result (FailsGetBlob (connection_of S.flow remote)
         (string_bytes server.now.address) digest.now) }
@@ -121,8 +122,8 @@ pub fn run_get<W: World, O: Write>(
     ensures answered { IfOk result (GetsAsked W.sees (rows_of (found_of matches.now))
         (O.contents out.old) (O.contents out.new)) }
     // A refusal leaves no byte that isn't the blob's, or of the line of one that the server lacks.
-    ensures begun { OnErr result
-        (GetsPart (rows_of (found_of matches.now)) (O.contents out.old) (O.contents out.new)) }
+    ensures begun { OnErr result (GetsPart W.sees (rows_of (found_of matches.now))
+        (O.contents out.old) (O.contents out.new)) }
     ensures unprinted { IfErr result
         (λ fault. status_of fault ≡ 2 → O.contents out.new ≡ O.contents out.old) }
     // It is for the first fault: what comes before it has none.

@@ -9,56 +9,50 @@ use std::time::{Clock, Duration, Instant};
 /// How many milliseconds a line stands at least.
 const STANDS: u64 = 100;
 
+/// What hears of each file that was put.
+pub(crate) trait Counter {
+    fn count(&mut self, bytes: usize);
+}
+
 /// How far a `put` is, told on a terminal in one line that is written over. Without a terminal
 /// nothing is told.
 #[derive(Drop)]
-pub(crate) struct PutProgress<T: Write + Drop> {
+pub(crate) struct PutProgress<R: Drop, T: Write + Drop> {
+    rt: R,
     line: TerminalLine<T>,
     last: Option<Instant>,
     files: u64,
     bytes: u64,
 }
 
-impl<T: Write + Drop> PutProgress<T> {
-    pub(crate) fn new(terminal: Option<T>) -> PutProgress<T>
-        ensures terminal { result.line.terminal ≡ terminal }
-        ensures unwritten { result.line.is_written ≡ false }
-        ensures none { (result.files ≡ 0) × (result.bytes ≡ 0) }
+impl<R: AllocGlobal + Clock + Clone + Drop, T: Write + Drop> PutProgress<R, T> {
+    pub(crate) fn new(rt: &R, terminal: Option<T>) -> Result<PutProgress<R, T>, AllocError>
+        ensures terminal { IfOk result (λ put. put.line.terminal ≡ terminal) }
+        ensures unwritten { IfOk result (λ put. put.line.is_written ≡ false) }
+        ensures none { IfOk result (λ put. (put.files ≡ 0) × (put.bytes ≡ 0)) }
     {
-        PutProgress {
+        Ok(PutProgress {
+            rt: rt.clone()?,
             line: TerminalLine::new(terminal),
             last: None,
             files: 0,
             bytes: 0,
-        }
-    }
-
-    /// Counts a file that was put. The line is written anew where the last one stands long enough.
-    pub(crate) fn count<R: AllocGlobal + Clock>(&mut self, rt: &R, bytes: usize)
-        ensures files { self.new.files ≡ min (self.old.files + 1) 18446744073709551615 }
-        ensures bytes { self.new.bytes ≡ min (self.old.bytes + bytes) 18446744073709551615 }
-        ensures silent { self.old.line.terminal ≡ None → self.new.line ≡ self.old.line }
-    {
-        self.files = self.files.saturating_add(1);
-        self.bytes = self.bytes.saturating_add(bytes as u64);
-        if self.line.has_terminal() {
-            self.show(rt);
-        }
+        })
     }
 
     /// Writes the line anew, where the last one stands long enough.
-    fn show<R: AllocGlobal + Clock>(&mut self, rt: &R)
+    fn show(&mut self)
         ensures files { self.new.files ≡ self.old.files }
         ensures bytes { self.new.bytes ≡ self.old.bytes }
     {
-        let Ok(now) = Instant::now(rt) else {
+        let Ok(now) = Instant::now(&self.rt) else {
             return;
         };
         if self.last.is_some_and(|last| now.duration_since(last) < Duration::from_millis(STANDS)) {
             return;
         }
         self.last = Some(now);
-        if let Ok(text) = self.text(rt.alloc()) {
+        if let Ok(text) = self.text(self.rt.alloc()) {
             self.line.write(text.as_str());
         }
     }
@@ -78,5 +72,20 @@ impl<T: Write + Drop> PutProgress<T> {
         ensures silent { self.old.line.terminal ≡ None → self.new.line.terminal ≡ None }
     {
         self.line.clear();
+    }
+}
+
+impl<R: AllocGlobal + Clock + Clone + Drop, T: Write + Drop> Counter for PutProgress<R, T> {
+    /// Counts a file that was put. The line is written anew where the last one stands long enough.
+    fn count(&mut self, bytes: usize)
+        ensures files { self.new.files ≡ min (self.old.files + 1) 18446744073709551615 }
+        ensures bytes { self.new.bytes ≡ min (self.old.bytes + bytes) 18446744073709551615 }
+        ensures silent { self.old.line.terminal ≡ None → self.new.line ≡ self.old.line }
+    {
+        self.files = self.files.saturating_add(1);
+        self.bytes = self.bytes.saturating_add(bytes as u64);
+        if self.line.has_terminal() {
+            self.show();
+        }
     }
 }

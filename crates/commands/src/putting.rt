@@ -1,30 +1,33 @@
-ghost use Rattle.std.specs.Prelude.{◌≡◌, ◌∷◌, ◌++◌, [], false, IfErr, IfOk, OnOk};
-ghost use Rattle.std.specs.Prelude.{string_bytes};
+ghost use Rattle.std.specs.Prelude.{◌≡◌, ◌⊎◌, ◌∷◌, ◌++◌, ℕ, suc, [], false, IfErr, IfOk};
+ghost use Rattle.std.specs.Prelude.{OnErr, OnOk, string_bytes};
 ghost use Rattle.std.specs.Io.KnownBytes.{Appends};
 ghost use Rattle.blob_digest.specs.Text.{digest_text};
 ghost use Rattle.clap.specs.Words.{found_of, rows_of};
 ghost use Rattle.commands.specs.Places.{IsFresh};
-ghost use Rattle.commands.specs.Printed.{PrintsDigest};
-ghost use Rattle.commands.specs.Put.{IsPutAt, PutsPath};
+ghost use Rattle.commands.specs.Printed.{BeginsDigest, PrintsDigest};
+ghost use Rattle.commands.specs.Put.{IsPutAt, PutsPath, StandsAs};
 ghost use Rattle.commands.specs.PutRefused.{FailsBelow, FailsHere, FailsPut, HasNoName};
 ghost use Rattle.commands.specs.PutRefused.{LinksToNoText};
 ghost use Rattle.commands.specs.Faults.{OrMemory};
 ghost use Rattle.commands.specs.Refusal.{IsPrintFault};
 ghost use Rattle.commands.specs.Status.{status_of};
+ghost use Rattle.commands.specs.Told.{AppendsBeginning};
 ghost use Rattle.messages.specs.declared.node.Node.TheVariants as nodes;
 ghost use Rattle.remote.specs.Remote.{connection_of};
+ghost use Rattle.tree.specs.Form.{node_value};
 
 use crate::children::Children;
 use crate::client::{Client, Origin, open};
 use crate::connecting::{ServerOptions, read_server};
 use crate::error::{CommandError, entry_error};
-use crate::progress::PutProgress;
+use crate::printing::print_all;
+use crate::progress::{Counter, PutProgress};
 use crate::world::{Found, World};
 use blob_digest::Digest;
 use clap::ArgMatches;
 use command_lines::text_of;
 use messages::{Encode, MessageError, Name, Node, Target};
-use remote::{Remote, Stream};
+use remote::Remote;
 use std::alloc::Global;
 use std::io::Write;
 use std::marker::Brand;
@@ -58,41 +61,75 @@ fn target_at(alloc: Global, place: &str, target: &str) -> Result<Target<Global>,
 }
 
 /// Puts the file at a place; gives its digest.
-fn put_file<R: AllocGlobal + Clock, W: World, S: Stream + Drop, K: Origin, T: Write + Drop>(
-    rt: &R,
+fn put_file<W: World, K: Origin, P: Counter>(
+    alloc: Global,
     world: &W,
     server: &ServerOptions,
-    client: &mut Client<S, K>,
-    progress: &mut PutProgress<T>,
+    client: &mut Client<W::Link, K>,
+    progress: &mut P,
     place: &str,
 ) -> Result<Digest, CommandError>
-    ensures put { IfOk result (λ digest.
-        IsPutAt W.sees K.start place.now (nodes.File digest false)) }
+    ensures put { IfOk result (λ digest. (left : ℕ)
+        → IsPutAt W.sees K.start (suc left) place.now (nodes.File digest false)) }
     ensures refused { IfErr result
         (FailsHere W.sees K.start (string_bytes server.now.address) place.now) }
 {
-    let bytes = world.read(rt.alloc(), place)?;
-    let digest = client.put(rt.alloc(), server, &bytes)?;
-    progress.count(rt, bytes.len());
+    let bytes = world.read(alloc, place)?;
+    let digest = client.put(alloc, server, &bytes)?;
+    progress.count(bytes.len());
     Ok(digest)
+}
+
+/// Puts what stands at a place, below which paths have so many names at most; gives its node.
+#[cycle(put_folder)]
+fn put_node<W: World, K: Origin, P: Counter>(
+    alloc: Global,
+    world: &W,
+    server: &ServerOptions,
+    client: &mut Client<W::Link, K>,
+    progress: &mut P,
+    place: &str,
+    left: u32,
+) -> Result<Node<Global>, CommandError>
+    ensures stands { IfOk result (λ node. StandsAs W.sees place.now (node_value node)) }
+    ensures put { IfOk result
+        (λ node. IsPutAt W.sees K.start (suc left) place.now (node_value node)) }
+    ensures refused { IfErr result
+        (λ e. FailsBelow W.sees K.start (string_bytes server.now.address) e left place.now) }
+{
+    let found = world.look(alloc, place)?;
+    let node = match found {
+        Found::Folder => Node::Dir(put_folder(
+            alloc, world, server, client, progress, place, left,
+        )?),
+        Found::Link(target) => Node::Link {
+            target: target_at(alloc, place, target.as_str())?,
+        },
+        Found::File => Node::File {
+            digest: put_file(alloc, world, server, client, progress, place)?,
+            executable: false,
+        },
+    };
+    Ok(node)
 }
 
 /// Puts what stands in the folder at a place, and then its Directory; gives that one's digest. The
 /// paths below it have so many names at most.
-fn put_folder<R: AllocGlobal + Clock, W: World, S: Stream + Drop, K: Origin, T: Write + Drop>(
-    rt: &R,
+#[cycle(put_folder)]
+fn put_folder<W: World, K: Origin, P: Counter>(
+    alloc: Global,
     world: &W,
     server: &ServerOptions,
-    client: &mut Client<S, K>,
-    progress: &mut PutProgress<T>,
+    client: &mut Client<W::Link, K>,
+    progress: &mut P,
     place: &str,
     left: u32,
 ) -> Result<Digest, CommandError>
-    ensures put { IfOk result (λ digest. IsPutAt W.sees K.start place.now (nodes.Dir digest)) }
+    ensures put { IfOk result
+        (λ digest. IsPutAt W.sees K.start (suc left) place.now (nodes.Dir digest)) }
     ensures refused { IfErr result
         (λ e. FailsBelow W.sees K.start (string_bytes server.now.address) e left place.now) }
 {
-    let alloc = rt.alloc();
     let names = world.list(alloc, place)?;
     let mut children = Children::new(alloc);
     for name in names.iter() {
@@ -101,25 +138,8 @@ fn put_folder<R: AllocGlobal + Clock, W: World, S: Stream + Drop, K: Origin, T: 
         if left == 0 {
             return Err(entry_error(alloc, below.as_str(), "more than 64 names deep"));
         }
-        let found = world.look(alloc, below.as_str())?;
-        let node = match found {
-            Found::Folder => Node::Dir(put_folder(
-                rt,
-                world,
-                server,
-                client,
-                progress,
-                below.as_str(),
-                left - 1,
-            )?),
-            Found::Link(target) => Node::Link {
-                target: target_at(alloc, below.as_str(), target.as_str())?,
-            },
-            Found::File => Node::File {
-                digest: put_file(rt, world, server, client, progress, below.as_str())?,
-                executable: false,
-            },
-        };
+        let path = below.as_str();
+        let node = put_node(alloc, world, server, client, progress, path, left - 1)?;
         children.push(name, node)?;
     }
     let directory = children.into_directory(alloc, place)?;
@@ -128,27 +148,25 @@ fn put_folder<R: AllocGlobal + Clock, W: World, S: Stream + Drop, K: Origin, T: 
 }
 
 /// Puts what stands at the path, over the marked connection; gives its digest.
-fn put_over<R, W: World, S: Stream + Drop, K: Origin, T: Write + Drop>(
-    rt: &R,
+fn put_over<W: World, K: Origin, P: Counter>(
+    alloc: Global,
     world: &W,
     server: &ServerOptions,
-    remote: Remote<S, Global>,
-    progress: &mut PutProgress<T>,
+    remote: Remote<W::Link, Global>,
+    progress: &mut P,
     place: String,
 ) -> Result<Digest, CommandError>
-where
-    R: AllocGlobal + Clock,
-    requires start { K.start ≡ connection_of S.flow remote }
+    requires start { K.start ≡ connection_of W.Link.flow remote }
     requires fresh { IsFresh remote }
     ensures put { IfOk result (PutsPath W.sees K.start (string_bytes place)) }
     ensures refused { IfErr result (λ e. FailsBelow W.sees K.start
         (string_bytes server.now.address) e 64 (string_bytes place)) }
 {
-    let mut client: Client<S, K> = Client::new(remote);
+    let mut client: Client<W::Link, K> = Client::new(remote);
     let place = place.as_str();
-    if world.is_folder(rt.alloc(), place)? {
+    if world.is_folder(alloc, place)? {
         put_folder(
-            rt,
+            alloc,
             world,
             server,
             &mut client,
@@ -157,7 +175,7 @@ where
             GREATEST_DEPTH,
         )
     } else {
-        put_file(rt, world, server, &mut client, progress, place)
+        put_file(alloc, world, server, &mut client, progress, place)
     }
 }
 
@@ -165,14 +183,14 @@ where
 fn print_digest<O: Write>(alloc: Global, digest: &Digest, out: &mut O) -> Result<(), CommandError>
     ensures printed { OnOk result
         (Appends (O.contents out.old) (O.contents out.new) (digest_text digest.now ++ 10 ∷ [])) }
+    ensures begun { OnErr result ((O.contents out.new ≡ O.contents out.old)
+        ⊎ AppendsBeginning (O.contents out.old) (O.contents out.new)
+        (digest_text digest.now ++ 10 ∷ [])) }
     ensures fault { IfErr result (OrMemory IsPrintFault) }
 {
     let mut line = digest.write_text(alloc)?;
     line.push('\n')?;
-    out.write_all(line.as_bytes())
-        .map_err(CommandError::Output)?;
-    out.flush().map_err(CommandError::Output)?;
-    Ok(())
+    print_all(out, line.as_bytes())
 }
 
 /// Puts the file or the folder that the words name, and prints its digest. On a terminal it tells
@@ -185,21 +203,31 @@ pub fn run_put<R, W: World, O: Write, T: Write + Drop>(
     terminal: Option<T>,
 ) -> Result<(), CommandError>
 where
-    R: AllocGlobal + Clock,
+    R: AllocGlobal + Clock + Clone + Drop,
     ensures printed { OnOk result
         (PrintsDigest W.sees (rows_of (found_of matches.now))
         (O.contents out.old) (O.contents out.new)) }
+    // A refusal leaves no byte that isn't of that line.
+    ensures begun { OnErr result (BeginsDigest W.sees (rows_of (found_of matches.now))
+        (O.contents out.old) (O.contents out.new)) }
     ensures unprinted { IfErr result
         (λ fault. status_of fault ≡ 2 → O.contents out.new ≡ O.contents out.old) }
-    // A refusal is for the first fault: what comes before it has none.
+    // It is for the first fault: what comes before it has none.
     ensures refused { IfErr result (FailsPut W.sees (rows_of (found_of matches.now))) }
 {
     let alloc = rt.alloc();
     let server = read_server(alloc, matches)?;
     let place = String::from_str(alloc, text_of(matches, "path"))?;
     let remote = open(alloc, world, &server)?;
-    let mut progress = PutProgress::new(terminal);
-    let put = put_over::<R, W, W::Link, Brand, T>(rt, world, &server, remote, &mut progress, place);
+    let mut progress = PutProgress::new(rt, terminal)?;
+    let put = put_over::<W, Brand, PutProgress<R, T>>(
+        alloc,
+        world,
+        &server,
+        remote,
+        &mut progress,
+        place,
+    );
     progress.clear();
     let digest = put?;
     print_digest(alloc, &digest, out)?;

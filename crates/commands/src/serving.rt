@@ -1,19 +1,22 @@
-ghost use Rattle.std.specs.Prelude.{◌≡◌, ◌≤◌, ◌<◌, ◌^◌, ◌∷◌, [], IfErr, IfOk, OnOk, codes};
+ghost use Rattle.std.specs.Prelude.{◌≡◌, ◌⊎◌, ◌≤◌, ◌<◌, ◌^◌, ◌∷◌, [], IfErr, IfOk, OnErr, OnOk};
+ghost use Rattle.std.specs.Prelude.{codes};
 ghost use Rattle.std.specs.Io.KnownBytes.{Appends};
 ghost use Rattle.clap.specs.Words.{found_of, rows_of};
 ghost use Rattle.command_lines.specs.CommandLine.{option_text};
 ghost use Rattle.commands.specs.Options.{IsNumber, number_of, number_or};
-ghost use Rattle.commands.specs.Printed.{IsAsked, ServesAsked, listening_line};
+ghost use Rattle.commands.specs.Printed.{BeginsListening, IsAsked, ServesAsked, listening_line};
 ghost use Rattle.commands.specs.Faults.{OrMemory};
 ghost use Rattle.commands.specs.Refusal.{IsPrintFault};
 ghost use Rattle.commands.specs.ServeRefused.{FailsServe, FailsToListen, is_at_once, is_idle};
 ghost use Rattle.commands.specs.ServeRefused.{listens_at, serve_words};
 ghost use Rattle.commands.specs.Status.{status_of};
-ghost use Rattle.commands.specs.Words.{IsCheckedBy, is_number};
+ghost use Rattle.commands.specs.Told.{AppendsBeginning};
+ghost use Rattle.commands.specs.Words.{IsCheckedBy, has_number_up_to};
 
 use crate::connecting::read_prefix;
 use crate::error::CommandError;
 use crate::options::{is_address, number_in, unlike};
+use crate::printing::print_all;
 use crate::world::{Listening, Service, World};
 use cache_server::Cache;
 use clap::ArgMatches;
@@ -58,7 +61,7 @@ fn read_number(
         IsNumber (option_text (rows_of (found_of matches.now)) option.now)
         × (number ≡ number_of (option_text (rows_of (found_of matches.now)) option.now))) }
     ensures checked { IsCheckedBy
-        (is_number (rows_of (found_of matches.now)) option.now greatest ∷ []) result }
+        (has_number_up_to (rows_of (found_of matches.now)) option.now greatest ∷ []) result }
 {
     let text = text_of(matches, option);
     match number_in(text) {
@@ -164,16 +167,16 @@ fn print_address<O: Write>(
 ) -> Result<(), CommandError>
     ensures printed { OnOk result
         (Appends (O.contents out.old) (O.contents out.new) (listening_line address.now)) }
+    ensures begun { OnErr result ((O.contents out.new ≡ O.contents out.old)
+        ⊎ AppendsBeginning (O.contents out.old) (O.contents out.new)
+        (listening_line address.now)) }
     ensures fault { IfErr result (OrMemory IsPrintFault) }
 {
     let address = address.to_string(alloc)?;
     let mut line = String::from_str(alloc, "listening ")?;
     line.push_str(address.as_str())?;
     line.push_str("\n")?;
-    out.write_all(line.as_bytes())
-        .map_err(CommandError::Output)?;
-    out.flush().map_err(CommandError::Output)?;
-    Ok(())
+    print_all(out, line.as_bytes())
 }
 
 /// Prints the address where it listens, and serves as many connections as the words say.
@@ -185,9 +188,12 @@ pub fn run_serve<R: AllocGlobal + RandomSource, W: World, O: Write>(
 ) -> Result<(), CommandError>
     ensures served { OnOk result (ServesAsked W.sees (rows_of (found_of matches.now))
         (O.contents out.old) (O.contents out.new)) }
+    // A refusal leaves no byte that isn't of the address's line.
+    ensures begun { OnErr result (BeginsListening W.sees (rows_of (found_of matches.now))
+        (O.contents out.old) (O.contents out.new)) }
     ensures unprinted { IfErr result (λ fault. status_of fault ≡ 2
         → O.contents out.new ≡ O.contents out.old) }
-    // A refusal is for the first fault: what comes before it has none.
+    // It is for the first fault: what comes before it has none.
     ensures refused { IfErr result (FailsServe W.sees (rows_of (found_of matches.now))) }
 {
     let alloc = rt.alloc();

@@ -42,8 +42,9 @@ impl<T: Write + Drop> TerminalLine<T> {
         }
     }
 
-    /// Takes the line away.
+    /// Takes the line away, where there is a text in it.
     pub fn clear(&mut self)
+        ensures idle { self.old.is_written ≡ false → self.new ≡ self.old }
         ensures cleared { self.new.is_written ≡ false }
         ensures silent { self.old.terminal ≡ None → self.new.terminal ≡ None }
     {

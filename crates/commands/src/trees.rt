@@ -1,10 +1,11 @@
 ghost use Rattle.std.specs.Prelude.{◌≡◌, ◌⊎◌, IfErr, IfOk, OnErr, OnOk, string_bytes};
 ghost use Rattle.std.specs.Io.KnownBytes.{Appends};
-ghost use Rattle.commands.specs.GetRefused.{FailsGetTree, TellsTree};
+ghost use Rattle.commands.specs.GetRefused.{FailsGetTree, TellsCheckout};
 ghost use Rattle.commands.specs.Places.{IsFresh};
 ghost use Rattle.commands.specs.Refusal.{IsPrintFault};
 ghost use Rattle.commands.specs.Status.{status_of};
-ghost use Rattle.commands.specs.Trees.{BeginsMissing, IsTreeGot, PrintsLack, missing_line};
+ghost use Rattle.commands.specs.Told.{AppendsBeginning};
+ghost use Rattle.commands.specs.Trees.{BeginsLack, IsTreeGot, PrintsLack, missing_line};
 ghost use Rattle.remote.specs.Remote.{connection_of};
 
 use crate::client::{Client, Origin};
@@ -34,7 +35,8 @@ fn missing_line(alloc: Global, digest: &Digest) -> Result<String, AllocError>
 fn print_missing<O: Write>(alloc: Global, digest: &Digest, out: &mut O) -> Result<(), CommandError>
     ensures printed { OnOk result
         (Appends (O.contents out.old) (O.contents out.new) (missing_line digest.now)) }
-    ensures begun { OnErr result (BeginsMissing (O.contents out.old) (O.contents out.new)) }
+    ensures begun { OnErr result ((O.contents out.new ≡ O.contents out.old)
+        ⊎ AppendsBeginning (O.contents out.old) (O.contents out.new) (missing_line digest.now)) }
     ensures fault { IfErr result (λ e. (e ≡ CommandError.Memory) ⊎ IsPrintFault e) }
     ensures status { IfErr result (λ e. status_of e ≡ 3) }
 {
@@ -52,10 +54,11 @@ fn print_lack<S: Stream + Drop, K: Origin, O: Write>(
     out: &mut O,
 ) -> Result<(), CommandError>
     ensures printed { OnOk result
-        (PrintsLack K.start error (O.contents out.old) (O.contents out.new)) }
-    ensures begun { OnErr result (BeginsMissing (O.contents out.old) (O.contents out.new)) }
+        (PrintsLack K.start error (Appends (O.contents out.old) (O.contents out.new))) }
+    ensures begun { OnErr result ((O.contents out.new ≡ O.contents out.old)
+        ⊎ PrintsLack K.start error (AppendsBeginning (O.contents out.old) (O.contents out.new))) }
     ensures fault { IfErr result (λ e. (e ≡ CommandError.Memory)
-        ⊎ TellsTree K.start (string_bytes server.now.address) error e) }
+        ⊎ TellsCheckout K.start (string_bytes server.now.address) error e) }
     ensures status { IfErr result (λ e. status_of e ≡ 3) }
 {
     match error {
@@ -95,7 +98,8 @@ fn get_over<W: World, S: Stream + Drop, K: Origin, O: Write>(
     requires fresh { IsFresh remote }
     ensures got { IfOk result (IsTreeGot W.sees K.start digest.now (string_bytes folder)
         (O.contents out.old) (O.contents out.new)) }
-    ensures begun { OnErr result (BeginsMissing (O.contents out.old) (O.contents out.new)) }
+    ensures begun { OnErr result (BeginsLack W.sees K.start digest.now (string_bytes folder)
+        (O.contents out.old) (O.contents out.new)) }
     ensures fault { IfErr result (FailsGetTree W.sees K.start (string_bytes server.now.address)
         digest.now (string_bytes folder)) }
     ensures status { IfErr result (λ e. status_of e ≡ 3) }
@@ -124,7 +128,8 @@ pub(crate) fn get_tree<W: World, O: Write>(
     requires fresh { IsFresh remote }
     ensures got { IfOk result (IsTreeGot W.sees (connection_of W.Link.flow remote) digest.now
         folder.now (O.contents out.old) (O.contents out.new)) }
-    ensures begun { OnErr result (BeginsMissing (O.contents out.old) (O.contents out.new)) }
+    ensures begun { OnErr result (BeginsLack W.sees (connection_of W.Link.flow remote) digest.now
+        folder.now (O.contents out.old) (O.contents out.new)) }
     ensures fault { IfErr result (FailsGetTree W.sees (connection_of W.Link.flow remote)
         (string_bytes server.now.address) digest.now folder.now) }
     ensures status { IfErr result (λ e. status_of e ≡ 3) }

@@ -1,24 +1,22 @@
 ghost use Rattle.std.specs.Prelude.{◌≡◌, ◌∷◌, ◌↔◌, [], IfErr, IfOk, IfSome, IsTrue};
 ghost use Rattle.std.specs.Prelude.{None, OnErr, OnOk, codes, string_bytes};
 ghost use Rattle.std.specs.Io.KnownBytes.{Appends};
-ghost use Rattle.blob_source.specs.Source.{Telling};
 ghost use Rattle.clap.specs.Words.{found_of, first_of, rows_of};
 ghost use Rattle.command_lines.specs.CommandLine.{option_text};
 ghost use Rattle.commands.specs.Ended.{is_done};
 ghost use Rattle.commands.specs.Places.{FailsInFolder, FailsOver, IsFresh, IsOfFolder};
 ghost use Rattle.commands.specs.Places.{IsOfServer, IsAnsweredBy, IsToldOver, LacksAtServer};
 ghost use Rattle.commands.specs.Places.{LacksInFolder, LacksIt};
-ghost use Rattle.commands.specs.Printed.{AsksQuestion, IsNamedPlace, IsOfPlace, LacksAtPlace};
-ghost use Rattle.commands.specs.Printed.{LacksFolder, NotesStore, PrintsVerdict};
+ghost use Rattle.commands.specs.Printed.{AsksQuestion, BeginsVerdict, IsNamedPlace, IsOfPlace};
+ghost use Rattle.commands.specs.Printed.{LacksAtPlace, LacksFolder, NotesStore, PrintsVerdict};
 ghost use Rattle.commands.specs.Refusal.{FailsDigests, FailsAtPlace, FailsPlan, FailsRecord};
 ghost use Rattle.commands.specs.Refusal.{FailsServer, FailsVerify, HasPlanRead, IsPrintFault};
 ghost use Rattle.commands.specs.Status.{status_of};
-ghost use Rattle.commands.specs.Told.{PrintsNoLine};
+ghost use Rattle.commands.specs.Told.{AppendsBeginning, PrintsNoLine};
 ghost use Rattle.commands.specs.Words.{IsCheckedBy, IsSaid, IsToldInWords, goes_with_server};
 ghost use Rattle.commands.specs.Words.{place_words};
 ghost use Rattle.remote.specs.Remote.{connection_of};
 ghost use Rattle.report.specs.Line.{IsOneLine};
-ghost use Rattle.text_verifier.specs.Answered.{IsAnswer};
 ghost use Rattle.text_verifier.specs.Texts.{IsDigestText};
 ghost use Rattle.verifier.specs.Verdict.{IsYes};
 
@@ -289,6 +287,8 @@ fn print_line<O: Write>(answer: &Answer<Global>, out: &mut O) -> Result<(), Comm
     requires { IsOneLine (string_bytes answer.now.line) }
     ensures printed { OnOk result (Appends (O.contents out.old) (O.contents out.new)
         (string_bytes answer.now.line)) }
+    ensures begun { OnErr result (AppendsBeginning (O.contents out.old) (O.contents out.new)
+        (string_bytes answer.now.line)) }
     ensures unended { OnErr result (PrintsNoLine (O.contents out.old) (O.contents out.new)) }
     ensures fault { IfErr result IsPrintFault }
 {
@@ -351,8 +351,11 @@ pub fn run_verify<W: World, O: Write>(
     ensures noted { IfOk result (NotesStore W.sees (rows_of (found_of matches.now))) }
     ensures unprinted { IfErr result
         (λ fault. status_of fault ≡ 2 → O.contents out.new ≡ O.contents out.old) }
+    // A refusal leaves no byte that isn't of that line, and no newline.
+    ensures begun { OnErr result (BeginsVerdict W.sees (rows_of (found_of matches.now))
+        (O.contents out.old) (O.contents out.new)) }
     ensures unended { OnErr result (PrintsNoLine (O.contents out.old) (O.contents out.new)) }
-    // A refusal is for the first fault: what comes before it has none.
+    // It is for the first fault: what comes before it has none.
     ensures refused { IfErr result (FailsVerify W.sees (rows_of (found_of matches.now))) }
 {
     let build = read_place(alloc, matches)?;

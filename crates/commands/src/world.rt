@@ -1,7 +1,8 @@
-ghost use Rattle.std.specs.Prelude.{IfErr, IfOk, IsErrOf, OnOk, map, string_bytes};
+ghost use Rattle.std.specs.Prelude.{IfErr, IfOk, IsErrOf, IsSorted, OnOk, map, string_bytes};
 ghost use Rattle.blob_source.specs.Called.{Called};
 ghost use Rattle.checkout.specs.Refused.{FailsCheckout};
 ghost use Rattle.checkout.specs.Written.{HoldsTree};
+ghost use Rattle.messages.specs.Order.{bytes_cmp};
 ghost use Rattle.remote.specs.Folder.{IsErrorOf};
 
 use crate::connecting::{Connection, ServerOptions};
@@ -69,6 +70,8 @@ pub trait World {
     /// The names in a folder, in the order of their bytes.
     fn list(&self, alloc: Global, path: &str) -> Result<Vec<String>, FileError<Global>>
         ensures listed { IfOk result (λ names. sees.lists path.now (map string_bytes names.items)) }
+        ensures ordered { IfOk result
+            (λ names. IsSorted bytes_cmp (map string_bytes names.items)) }
         ensures error { IfErr result (IsErrorOf path.now) }
         ensures fault { IfErr result (sees.fails path.now) };
 
@@ -142,9 +145,9 @@ where
 {
     type Link = Connection<'r, R>;
 
-    ghost use Rattle.commands.specs.World.{nothing_known};
+    ghost use Rattle.commands.specs.World.{sees_nothing};
 
-    ghost sees = { nothing_known };
+    ghost sees = { sees_nothing };
 
     fn read(&self, alloc: Global, path: &str) -> Result<Vec<u8>, FileError<Global>> {
         let _alloc = alloc;

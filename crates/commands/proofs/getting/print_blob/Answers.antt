@@ -20,7 +20,7 @@ returns-in_err-print_all-clause-begun g c =
     let digest = c.args.digest.now in
     let blob : IsBlobOver start digest bytes = subst (λ o. IfSome o (λ (b : Vec ℕ Global). IsBlobOver start digest b.items)) c.in-Some.is c.in_ok-bytes.ensures.right in
     where_err c.from_residual-in_err-print_all.result
-    (inr (record { bytes = bytes; right = blob.right; begun = subst (AppendsBeginning old new) c.deref.ensures.value c.in_err-print_all.ensures.begun }))
+    (inr (bytes, blob, subst (AppendsBeginning old new) c.deref.ensures.value c.in_err-print_all.ensures.begun))
 
 pub returns-in_err-print_all-clause-fault : goal.returns-in_err-print_all-clause-fault
 returns-in_err-print_all-clause-fault g c =

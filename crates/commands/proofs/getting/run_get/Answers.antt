@@ -1,9 +1,9 @@
-use Rattle.std.proofs.Common.{rules, ◌≡◌, None, Some, refl, sym, subst, string_bytes, inr}
-use Rattle.std.specs.Prelude.{IsSome, codes}
+use Rattle.std.proofs.Common.{rules, ◌≡◌, None, Some, string_bytes}
+use Rattle.std.specs.Prelude.{codes}
 use Rattle.clap.specs.Words.{first_of, found_of, rows_of}
 use Rattle.commands.specs.Printed.{StartsGet}
 use Rattle.remote.specs.Remote.{connection_of}
-use Rattle.commands.proofs.Gotten.{asked_by, on_err, refused_by, starts_get}
+use Rattle.commands.proofs.Gotten.{asked_by, begun_by, refused_by, starts_get}
 use Rattle.commands.proofs.getting.run_get.Goals as goal
 
 pub returns-in-Some-clause-answered : goal.returns-in-Some-clause-answered
@@ -32,9 +32,25 @@ returns-in-Some-clause-refused g c =
 
 pub returns-in-Some-clause-begun : goal.returns-in-Some-clause-begun
 returns-in-Some-clause-begun g c =
+    let sees = g.W.World.sees in
     let rows = rows_of (found_of c.args.matches.now) in
+    let start = connection_of g.W.Link.Stream.flow c.in_ok-remote.remote in
+    let digest = c.in_ok-digest.digest in
     let into : first_of (codes "into") rows ≡ Some c.in-Some.folder.now = search rules in
-    on_err c.get_tree.result c.get_tree.ensures.begun (λ begins. inr (inr (subst IsSome (sym into) refl, begins)))
+    let starts : StartsGet sees rows digest start = starts_get sees rows start digest c.in_ok-server.server c.in_ok-server.ensures.server c.in_ok-server.ensures.checked
+    c.in_ok-digest.ensures.found c.in_ok-remote.ensures.opened in
+    begun_by sees rows start digest starts (Some c.in-Some.folder.now) into c.get_tree.result (g.O.Write.contents c.args.out.now) (g.O.Write.contents c.get_tree.new.out) c.get_tree.ensures.begun
+
+pub returns-clause-begun : goal.returns-clause-begun
+returns-clause-begun g c =
+    let sees = g.W.World.sees in
+    let rows = rows_of (found_of c.args.matches.now) in
+    let start = connection_of g.W.Link.Stream.flow c.in_ok-remote.remote in
+    let digest = c.in_ok-digest.digest in
+    let into : first_of (codes "into") rows ≡ None = search rules in
+    let starts : StartsGet sees rows digest start = starts_get sees rows start digest c.in_ok-server.server c.in_ok-server.ensures.server c.in_ok-server.ensures.checked
+    c.in_ok-digest.ensures.found c.in_ok-remote.ensures.opened in
+    begun_by sees rows start digest starts None into c.print_blob.result (g.O.Write.contents c.args.out.now) (g.O.Write.contents c.print_blob.new.out) c.print_blob.ensures.begun
 
 pub returns-clause-answered : goal.returns-clause-answered
 returns-clause-answered g c =

@@ -1,4 +1,4 @@
-use Rattle.std.proofs.Common.{false, refl, string_bytes, subst, sym}
+use Rattle.std.proofs.Common.{false, refl, string_bytes, subst, suc, sym}
 use Rattle.messages.specs.declared.node.Node.TheVariants.{File}
 use Rattle.commands.specs.Put.{IsPutAt}
 use Rattle.commands.specs.Put.IsPutAt.{file_put}
@@ -27,5 +27,5 @@ returns-clause-put g c =
     let sees = g.W.World.sees in
     let start = g.K.Origin.start in
     let place = c.args.place.now in
-    subst (λ digest. IsPutAt sees start place (File digest false)) (sym c.in_ok-digest.ensures.named)
-    (file_put place c.deref.result.now (subst (λ bytes. sees.reads place bytes) (sym c.deref.ensures.value) c.in_ok-bytes.ensures.read) c.in_ok-digest.ensures.taken)
+    λ left. subst (λ digest. IsPutAt sees start (suc left) place (File digest false)) (sym c.in_ok-digest.ensures.named)
+    (file_put left place c.deref.result.now (subst (λ bytes. sees.reads place bytes) (sym c.deref.ensures.value) c.in_ok-bytes.ensures.read) c.in_ok-digest.ensures.taken)

@@ -1,4 +1,7 @@
-use Rattle.std.proofs.Common.{refl, string_bytes, subst}
+use Rattle.std.proofs.Common.{ℕ, false, inl, inr, refl, string_bytes, subst, suc}
+use Rattle.std.proofs.lemmas.Result.{IfOk-weaker}
+use Rattle.messages.specs.declared.node.Node.TheVariants.{Dir, File}
+use Rattle.commands.specs.Put.{IsPutAt, PutsPath}
 use Rattle.commands.specs.PutRefused.{FailsBelow, FailsHere}
 use Rattle.commands.specs.PutRefused.FailsBelow.{here}
 use Rattle.commands.specs.PutRefused.FailsHere.{unread}
@@ -21,3 +24,17 @@ returns-clause-refused g c =
     let place = c.as_str-place.result.now in
     err_weaker c.put_file.result (FailsHere sees start address place) (λ e. FailsBelow sees start address e 64 (string_bytes c.args.place))
     (λ e fails. subst (FailsBelow sees start address e 64) c.as_str-place.ensures.value (here 64 place fails)) c.put_file.ensures.refused
+
+pub returns-then-branch-clause-put : goal.returns-then-branch-clause-put
+returns-then-branch-clause-put g c =
+    let sees = g.W.World.sees in
+    let start = g.K.Origin.start in
+    IfOk-weaker c.put_folder.result (λ digest. IsPutAt sees start 65 c.as_str-place.result.now (Dir digest)) (PutsPath sees start (string_bytes c.args.place))
+    (λ digest put. inr (subst (λ p. IsPutAt sees start 65 p (Dir digest)) c.as_str-place.ensures.value put)) c.put_folder.ensures.put
+
+pub returns-clause-put : goal.returns-clause-put
+returns-clause-put g c =
+    let sees = g.W.World.sees in
+    let start = g.K.Origin.start in
+    IfOk-weaker c.put_file.result (λ digest. (left : ℕ) → IsPutAt sees start (suc left) c.as_str-place.result.now (File digest false)) (PutsPath sees start (string_bytes c.args.place))
+    (λ digest put. inl (subst (λ p. IsPutAt sees start 65 p (File digest false)) c.as_str-place.ensures.value (put 64))) c.put_file.ensures.put

@@ -9,9 +9,10 @@ use Rattle.commands.specs.PutRefused.FailsPut.{in_connection, in_memory, in_outp
 use Rattle.commands.specs.Refusal.{IsPrintFault}
 use Rattle.commands.specs.Status.{status_of}
 use Rattle.commands.specs.Words.{FailsFirst, server_words}
-use Rattle.commands.proofs.Exits.{exit_by}
+use Rattle.commands.proofs.Exits.{exit_by, or_else}
 use Rattle.commands.proofs.Placed.{opened_to}
 use Rattle.commands.proofs.Refused.{not_words, or_memory}
+use Rattle.commands.proofs.Writing.{where_err}
 use Rattle.commands.proofs.putting.run_put.Goals as goal
 
 pub returns-in_err-server-clause-refused : goal.returns-in_err-server-clause-refused
@@ -32,6 +33,10 @@ returns-in_err-remote-clause-refused g c =
     exit_by (FailsPut sees options) _ c.from_residual-in_err-remote.ensures.1
     (in_connection c.in_ok-server.ensures.checked
     (subst (λ a. FailsToConnect sees a c.in_err-remote.field-0.0) c.in_ok-server.ensures.server.address c.in_err-remote.ensures.fault))
+
+pub returns-in_err-progress-clause-refused : goal.returns-in_err-progress-clause-refused
+returns-in_err-progress-clause-refused g c =
+    exit_by (FailsPut g.W.World.sees (rows_of (found_of c.args.matches.now))) _ c.from_residual-in_err-progress.ensures.1 (in_memory refl)
 
 pub returns-in_err-digest-clause-refused : goal.returns-in_err-digest-clause-refused
 returns-in_err-digest-clause-refused g c =
@@ -59,6 +64,19 @@ returns-in_err-print_digest-clause-refused g c =
     })
     (subst (λ p. PutsPath sees start p c.in_ok-digest.digest) (c.in_ok-place.ensures.ok ∙ c.text_of.ensures) c.in_ok-digest.ensures.put))
     c.in_err-print_digest.ensures.fault)
+
+pub returns-in_err-print_digest-clause-begun : goal.returns-in_err-print_digest-clause-begun
+returns-in_err-print_digest-clause-begun g c =
+    let sees = g.W.World.sees in
+    let options = rows_of (found_of c.args.matches.now) in
+    let start = connection_of g.W.Link.Stream.flow c.in_ok-remote.remote in
+    where_err c.from_residual-in_err-print_digest.result (or_else c.in_err-print_digest.ensures.begun (λ begun. (
+      start,
+      c.in_ok-digest.digest,
+      opened_to sees options c.in_ok-server.server start c.in_ok-server.ensures.server c.in_ok-remote.ensures.opened,
+      subst (λ p. PutsPath sees start p c.in_ok-digest.digest) (c.in_ok-place.ensures.ok ∙ c.text_of.ensures) c.in_ok-digest.ensures.put,
+      begun,
+    )))
 
 pub returns-in_err-print_digest-clause-unprinted : goal.returns-in_err-print_digest-clause-unprinted
 returns-in_err-print_digest-clause-unprinted g c =

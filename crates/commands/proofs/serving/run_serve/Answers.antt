@@ -1,4 +1,4 @@
-use Rattle.std.proofs.Common.{◌≡◌, codes, refl, rules, subst}
+use Rattle.std.proofs.Common.{◌≡◌, codes, inr, refl, rules, subst}
 use Rattle.clap.specs.Words.{found_of, rows_of}
 use Rattle.command_lines.specs.CommandLine.{option_text}
 use Rattle.commands.specs.Refusal.{IsPrintFault}
@@ -6,8 +6,10 @@ use Rattle.commands.specs.ServeRefused.{FailsServe, FailsToListen, serve_words}
 use Rattle.commands.specs.ServeRefused.FailsServe.{in_address, in_connections, in_memory, in_output, in_words}
 use Rattle.commands.specs.Status.{status_of}
 use Rattle.commands.specs.Words.{FailsFirst}
-use Rattle.commands.proofs.Exits.{exit_by}
+use Rattle.commands.specs.Printed.{listening_line}
+use Rattle.commands.proofs.Exits.{exit_by, or_else}
 use Rattle.commands.proofs.Refused.{not_words, or_memory}
+use Rattle.commands.proofs.Writing.{beginning_of_all, where_err}
 use Rattle.commands.proofs.serving.run_serve.Goals as goal
 
 pub returns-in_err-asked-clause-refused : goal.returns-in_err-asked-clause-refused
@@ -51,3 +53,22 @@ returns-in-Err-clause-refused g c =
     let address = c.in_ok-listening.listening.address in
     in_connections address c.in-Err.fault c.in_ok-asked.ensures.checked (subst (λ a. sees.listens a address) c.in_ok-asked.ensures.asked.address c.in_ok-listening.ensures.listens)
     (search rules) refl
+
+pub returns-in_err-print_address-clause-begun : goal.returns-in_err-print_address-clause-begun
+returns-in_err-print_address-clause-begun g c =
+    let address = c.in_ok-listening.listening.address in
+    where_err c.from_residual-in_err-print_address.result (or_else c.in_err-print_address.ensures.begun (λ begun. (
+      address,
+      subst (λ a. g.W.World.sees.listens a address) c.in_ok-asked.ensures.asked.address c.in_ok-listening.ensures.listens,
+      begun,
+    )))
+
+-- the whole line was printed
+pub returns-in-Err-clause-begun : goal.returns-in-Err-clause-begun
+returns-in-Err-clause-begun g c =
+    let address = c.in_ok-listening.listening.address in
+    inr (
+      address,
+      subst (λ a. g.W.World.sees.listens a address) c.in_ok-asked.ensures.asked.address c.in_ok-listening.ensures.listens,
+      beginning_of_all (g.O.Write.contents c.args.out.now) (g.O.Write.contents c.print_address.new.out) (listening_line address) c.in_ok-print_address.ensures.printed,
+    )

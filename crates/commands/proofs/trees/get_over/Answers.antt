@@ -5,8 +5,9 @@ use Rattle.checkout.specs.Refused.{FailsCheckout}
 use Rattle.checkout.specs.Written.{HoldsTree}
 use Rattle.remote.specs.Remote.{connection_of, telling_of}
 use Rattle.commands.specs.GetRefused.{FailsGetTree}
-use Rattle.commands.proofs.Exits.{exit_by}
+use Rattle.commands.proofs.Exits.{exit_by, or_else}
 use Rattle.commands.proofs.Gotten.{tree_fails}
+use Rattle.commands.proofs.Writing.{where_err}
 use Rattle.commands.proofs.trees.get_over.Goals as goal
 
 pub returns-in-Ok-clause-got : goal.returns-in-Ok-clause-got
@@ -29,6 +30,17 @@ returns-clause-got g c =
       fails = subst (λ f. FailsCheckout {A = Global} g.W.World.sees.holds g.W.World.sees.unwritten (telling_of source.remote).blobs c.args.digest.now f c.in-Err.error) c.as_str.ensures.value c.in-Err.ensures.refused;
       lacks = c.in_ok-print_lack-in-Err.ensures.printed;
     }
+
+pub returns-in_err-print_lack-in-Err-clause-begun : goal.returns-in_err-print_lack-in-Err-clause-begun
+returns-in_err-print_lack-in-Err-clause-begun g c =
+    let source = c.check_out.new.source in
+    where_err c.from_residual.result (or_else c.in_err-print_lack-in-Err.ensures.begun (λ lacks. record {
+      told = telling_of source.remote;
+      over = ∥∥₁_map source.over (λ over. (connection_of g.S.Stream.flow source.remote, over));
+      error = c.in-Err.error;
+      fails = subst (λ f. FailsCheckout {A = Global} g.W.World.sees.holds g.W.World.sees.unwritten (telling_of source.remote).blobs c.args.digest.now f c.in-Err.error) c.as_str.ensures.value c.in-Err.ensures.refused;
+      lacks = lacks;
+    }))
 
 pub returns-in_err-print_lack-in-Err-clause-fault : goal.returns-in_err-print_lack-in-Err-clause-fault
 returns-in_err-print_lack-in-Err-clause-fault g c =

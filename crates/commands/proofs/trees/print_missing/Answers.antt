@@ -16,4 +16,4 @@ returns-clause-begun g c =
     let old = g.O.Write.contents c.args.out.now in
     let new = g.O.Write.contents c.print_all.new.out in
     on_err c.print_all.result c.print_all.ensures.begun
-    (λ begun. inr (c.args.digest.now, subst (AppendsBeginning old new) (c.as_bytes.ensures.value ∙ c.in_ok-line.ensures) begun))
+    (λ begun. inr (subst (AppendsBeginning old new) (c.as_bytes.ensures.value ∙ c.in_ok-line.ensures) begun))

@@ -1,8 +1,9 @@
-use Rattle.std.proofs.Common.{refl, rules, subst, sym}
+use Rattle.std.proofs.Common.{inl, inr, refl, rules, subst, sym}
 use Rattle.std.specs.Prelude.{◌↔◌, IsTrue}
 use Rattle.clap.specs.Words.{found_of, rows_of}
 use Rattle.verifier.specs.Verdict.{IsYes}
 use Rattle.commands.specs.Printed.{JudgesAsked}
+use Rattle.commands.specs.Told.{AppendsBeginning}
 use Rattle.commands.specs.Refusal.{FailsVerify}
 use Rattle.commands.specs.Refusal.FailsVerify.{in_memory, in_output, in_place, in_record, in_words}
 use Rattle.commands.specs.Words.{FailsFirst, place_words}
@@ -22,6 +23,9 @@ returns-in_err-build-clause-refused g c =
 pub returns-in_err-case-clause-unended : goal.returns-in_err-case-clause-unended
 returns-in_err-case-clause-unended g c =
     where_err c.from_residual-in_err-case.result (no_line_of_same (g.O.Write.contents c.args.out.now) (g.O.Write.contents c.args.out.now) refl)
+
+pub returns-in_err-case-clause-begun : goal.returns-in_err-case-clause-begun
+returns-in_err-case-clause-begun g c = where_err c.from_residual-in_err-case.result (inl refl)
 
 pub returns-in_err-case-clause-refused : goal.returns-in_err-case-clause-refused
 returns-in_err-case-clause-refused g c =
@@ -46,6 +50,16 @@ returns-in_err-print_line-clause-refused g c =
     record { question = c.in_ok-case.case; asks = c.in_ok-case.ensures.asks; told = is.0; source = is.1; judged = is.2.judged; lacks = lacked_by sees rows c.in_ok-case.case is.2.verdict c.in_ok-answer.answer.lack is.2.lack is.3 } in
     exit_by (FailsVerify g.W.World.sees (rows_of (found_of c.args.matches.now))) _ c.from_residual-in_err-print_line.ensures.1
     (in_output is.2.verdict judged c.in_err-print_line.ensures.fault)
+
+pub returns-in_err-print_line-clause-begun : goal.returns-in_err-print_line-clause-begun
+returns-in_err-print_line-clause-begun g c =
+    let is = c.in_ok-answer.ensures.answered in
+    let sees = g.W.World.sees in
+    let rows = rows_of (found_of c.args.matches.now) in
+    let judged : JudgesAsked sees rows is.2.verdict =
+    record { question = c.in_ok-case.case; asks = c.in_ok-case.ensures.asks; told = is.0; source = is.1; judged = is.2.judged; lacks = lacked_by sees rows c.in_ok-case.case is.2.verdict c.in_ok-answer.answer.lack is.2.lack is.3 } in
+    where_err c.from_residual-in_err-print_line.result
+    (inr (is.2.verdict, judged, subst (AppendsBeginning (g.O.Write.contents c.args.out.now) (g.O.Write.contents c.print_line.new.out)) is.2.tells.line c.in_err-print_line.ensures.begun))
 
 pub returns-clause-printed : goal.returns-clause-printed
 returns-clause-printed g c =

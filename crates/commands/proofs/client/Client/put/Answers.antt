@@ -1,16 +1,17 @@
-use Rattle.std.proofs.Common.{◌≡◌, string_bytes, subst, sym}
+use Rattle.std.proofs.Common.{◌≡◌, IfErr, OnOk, string_bytes, subst, sym}
 use Rattle.std.proofs.Math.Logic.{∥∥₁_map, ∥∥₁_map₂}
 use Rattle.blob_digest.specs.Digest.{digest_of}
 use Rattle.http_core.specs.declared.event.Area.TheVariants.{Ac, Cas}
-use Rattle.remote.specs.Line.{put}
+use Rattle.remote.specs.Line.{RefusesRequest, put}
 use Rattle.remote.specs.Remote.{connection_of}
 use Rattle.remote.specs.Table.{told_by}
 use Rattle.commands.specs.Faults.{TellsFailure, kept_failure}
 use Rattle.commands.specs.Places.{CameAllOver, KeepsRefused}
-use Rattle.commands.specs.Places.Comes.{refused, taken}
 use Rattle.commands.specs.declared.failure.Method.TheVariants.{PutBlob}
-use Rattle.commands.proofs.Failures.{blob_refused, keeps_next, keeps_on}
-use Rattle.commands.proofs.Tellings.{LacksAllOver, answered}
+use Rattle.commands.specs.Put.{TakesBlob}
+use Rattle.commands.proofs.Failures.{blob_refused, keeps_after}
+use Rattle.commands.proofs.Taken.{taken_by_put}
+use Rattle.commands.proofs.Tellings.{LacksAllOver, comes_by_put}
 use Rattle.commands.proofs.client.Client.put.Goals as goal
 
 -- what is told stays, and the connection comes on
@@ -19,34 +20,14 @@ invariant_of-self g c =
     let start = g.K.Origin.start in
     let flow = g.S.Stream.flow in
     let old = connection_of flow c.args.self.now.remote in
-    let new = connection_of flow c.send_blob.new.self in
-    let sent = c.in-Ok.ensures.sent in
-    record {
-      over = ∥∥₁_map c.args.self.now.over (λ over. record {
-        came = taken old new Cas (digest_of c.args.bytes.now).hash c.args.bytes.now over.came sent.taken;
-        blobs = subst (λ t. CameAllOver start Cas (told_by t)) (sym sent.blobs) over.blobs;
-        results = subst (λ t. CameAllOver start Ac (told_by t)) (sym sent.results) over.results;
-      });
-      lacked = ∥∥₁_map c.args.self.now.lacked (λ lacked. record {
-        blobs = subst (LacksAllOver start Cas) (sym sent.blobs) lacked.blobs;
-        results = subst (LacksAllOver start Ac) (sym sent.results) lacked.results;
-      });
-      refused = ∥∥₁_map c.args.self.now.refused (keeps_on start old new c.args.self.now.failure (sent.called.unfailed (answered c.in-Ok.digest)));
-    }
-
-pub invariant_of-self-in-Err : goal.invariant_of-self-in-Err
-invariant_of-self-in-Err g c =
-    let start = g.K.Origin.start in
-    let flow = g.S.Stream.flow in
-    let old = connection_of flow c.args.self.now.remote in
-    let new = connection_of flow c.send_blob.new.self in
+    let new = connection_of flow c.send_blob-put.new.self in
     let bytes = c.args.bytes.now in
-    let sent = c.in-Err.ensures.sent in
-    let kept = subst (λ x. c.keep_failure.new.kept ≡ kept_failure c.args.self.now.failure PutBlob x c.last_fault-fault.result c.in-Err.refusal)
-    c.of-digest.ensures c.keep_failure.ensures in
+    let sent = c.send_blob-put.ensures.sent in
+    let kept = subst (λ x. c.keep_failure.new.kept ≡ kept_failure c.args.self.now.failure PutBlob x c.send_blob-put.result c.last_fault-fault.result)
+    c.digest_put-digest.ensures c.keep_failure.ensures in
     record {
       over = ∥∥₁_map c.args.self.now.over (λ over. record {
-        came = refused old new (put Cas (digest_of bytes).hash bytes) c.in-Err.refusal over.came sent.refused;
+        came = comes_by_put start Cas (digest_of bytes).hash bytes old new c.send_blob-put.result sent.taken sent.refused over.came;
         blobs = subst (λ t. CameAllOver start Cas (told_by t)) (sym sent.blobs) over.blobs;
         results = subst (λ t. CameAllOver start Ac (told_by t)) (sym sent.results) over.results;
       });
@@ -55,15 +36,16 @@ invariant_of-self-in-Err g c =
         results = subst (LacksAllOver start Ac) (sym sent.results) lacked.results;
       });
       refused = subst (λ f. ∥ KeepsRefused start new f ∥₁) (sym kept)
-          (∥∥₁_map₂ c.args.self.now.over c.args.self.now.refused (λ over before. keeps_next start old new c.args.self.now.failure PutBlob (digest_of bytes) bytes
-          c.last_fault-fault.result c.in-Err.refusal over.came sent.refused (sym c.last_fault-fault.ensures) before));
+          (∥∥₁_map₂ c.args.self.now.over c.args.self.now.refused (λ over before. keeps_after start old new c.args.self.now.failure PutBlob (digest_of bytes) bytes
+          c.send_blob-put.result c.last_fault-fault.result sent.refused sent.called.unfailed (sym c.last_fault-fault.ensures) over.came before));
     }
 
 pub returns-in-Ok-clause-taken : goal.returns-in-Ok-clause-taken
 returns-in-Ok-clause-taken g c =
     let flow = g.S.Stream.flow in
-    ∥∥₁_map c.args.self.now.over
-    (λ over. record { old = connection_of flow c.args.self.now.remote; new = connection_of flow c.send_blob.new.self; before = over.came; is = c.in-Ok.ensures.sent.taken })
+    subst (λ r. OnOk r (∥ TakesBlob g.K.Origin.start c.args.bytes.now ∥₁)) c.in-Ok.is
+    (taken_by_put g.K.Origin.start (connection_of flow c.args.self.now.remote) (connection_of flow c.send_blob-put.new.self) c.args.bytes.now c.send_blob-put.result
+    c.send_blob-put.ensures.sent.taken (∥∥₁_map c.args.self.now.over (λ over. over.came)))
 
 pub returns-in_ok-error-in-Err-clause-refused : goal.returns-in_ok-error-in-Err-clause-refused
 returns-in_ok-error-in-Err-clause-refused g c =
@@ -72,8 +54,11 @@ returns-in_ok-error-in-Err-clause-refused g c =
     let bytes = c.args.bytes.now in
     let refusal = c.in-Err.refusal in
     let e = c.in_ok-error-in-Err.field-0 in
-    let kept = subst (λ x. c.keep_failure.new.kept ≡ kept_failure c.args.self.now.failure PutBlob x c.last_fault-fault.result refusal)
-    c.of-digest.ensures c.keep_failure.ensures in
-    blob_refused g.K.Origin.start (connection_of flow c.args.self.now.remote) (connection_of flow c.send_blob.new.self) address bytes
-    c.args.self.now.failure c.last_fault-fault.result refusal e (∥∥₁_map c.args.self.now.over (λ over. over.came)) c.in-Err.ensures.sent.refused
+    let kept = subst (λ r. c.keep_failure.new.kept ≡ kept_failure c.args.self.now.failure PutBlob (digest_of bytes) r c.last_fault-fault.result) c.in-Err.is
+    (subst (λ x. c.keep_failure.new.kept ≡ kept_failure c.args.self.now.failure PutBlob x c.send_blob-put.result c.last_fault-fault.result)
+    c.digest_put-digest.ensures c.keep_failure.ensures) in
+    let old = connection_of flow c.args.self.now.remote in
+    let new = connection_of flow c.send_blob-put.new.self in
+    blob_refused g.K.Origin.start old new address bytes c.args.self.now.failure c.last_fault-fault.result refusal e (∥∥₁_map c.args.self.now.over (λ over. over.came))
+    (subst (λ r. IfErr r (RefusesRequest old new (put Cas (digest_of bytes).hash bytes))) c.in-Err.is c.send_blob-put.ensures.sent.refused)
     (sym c.last_fault-fault.ensures) (subst (λ f. TellsFailure address f refusal e) kept c.in_ok-error-in-Err.ensures.error)

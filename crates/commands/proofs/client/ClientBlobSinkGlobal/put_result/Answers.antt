@@ -1,12 +1,12 @@
-use Rattle.std.proofs.Common.{Err, Ok, subst, sym}
+use Rattle.std.proofs.Common.{subst, sym}
 use Rattle.std.proofs.Math.Logic.{∥∥₁_map, ∥∥₁_map₂}
 use Rattle.http_core.specs.declared.event.Area.TheVariants.{Ac, Cas}
 use Rattle.remote.specs.Remote.{connection_of, results_of}
 use Rattle.remote.specs.Table.{told_by}
 use Rattle.commands.specs.Places.{CameAllOver, KeepsRefused}
 use Rattle.commands.specs.declared.failure.Method.TheVariants.{PutResult}
-use Rattle.commands.proofs.Failures.{keeps_next, keeps_on}
-use Rattle.commands.proofs.Tellings.{LacksAllOver, answered, came_by_put, comes_by_put, lacks_by_put, result_there}
+use Rattle.commands.proofs.Failures.{keeps_after}
+use Rattle.commands.proofs.Tellings.{LacksAllOver, came_by_put, comes_by_put, lacks_by_put, result_there}
 use Rattle.commands.proofs.client.ClientBlobSinkGlobal.put_result.Goals as goal
 
 pub invariant_of-self : goal.invariant_of-self
@@ -14,49 +14,24 @@ invariant_of-self g c =
     let start = g.K.Origin.start in
     let flow = g.S.Stream.flow in
     let old = c.args.self.now.remote in
-    let new = c.put_result.new.self in
+    let new = c.put_result-put.new.self in
     let d = c.args.digest.now in
     let bytes = c.args.bytes.now in
-    let put = c.in-Ok.ensures in
+    let put = c.put_result-put.ensures in
+    let kept = c.keep_failure.ensures in
     record {
       over = ∥∥₁_map c.args.self.now.over (λ over. record {
-        came = comes_by_put {T = Unit {0}} start Ac d bytes (connection_of flow old) (connection_of flow new) (results_of old) (results_of new) (Ok tt) put.stored over.came;
-        results = came_by_put {T = Unit {0}} start Ac d bytes (connection_of flow old) (connection_of flow new) (results_of old) (results_of new) (Ok tt) put.stored over.came
+        came = comes_by_put start Ac d.hash bytes (connection_of flow old) (connection_of flow new) c.put_result-put.result put.stored.taken put.stored.refused over.came;
+        results = came_by_put start Ac d bytes (connection_of flow old) (connection_of flow new) (results_of old) (results_of new) c.put_result-put.result put.stored over.came
             put.called.asked.results over.results;
         blobs = subst (λ t. CameAllOver start Cas (told_by t)) (sym put.untouched) over.blobs;
       });
       lacked = ∥∥₁_map c.args.self.now.lacked (λ lacked. record {
-        results = lacks_by_put {T = Unit {0}} start Ac d bytes (connection_of flow old) (connection_of flow new) (results_of old) (results_of new) (Ok tt) put.stored
-            (result_there {T = Unit {0}} d bytes (told_by (results_of new)) (Ok tt) put.held) lacked.results;
+        results = lacks_by_put start Ac d bytes (connection_of flow old) (connection_of flow new) (results_of old) (results_of new) c.put_result-put.result put.stored
+            (result_there d bytes (told_by (results_of new)) c.put_result-put.result put.held) lacked.results;
         blobs = subst (LacksAllOver start Cas) (sym put.untouched) lacked.blobs;
       });
-      refused = ∥∥₁_map c.args.self.now.refused
-          (keeps_on start (connection_of flow old) (connection_of flow new) c.args.self.now.failure (put.called.unfailed (answered {X = Unit {0}} tt)));
-    }
-
-pub invariant_of-self-in-Err : goal.invariant_of-self-in-Err
-invariant_of-self-in-Err g c =
-    let start = g.K.Origin.start in
-    let flow = g.S.Stream.flow in
-    let old = c.args.self.now.remote in
-    let new = c.put_result.new.self in
-    let d = c.args.digest.now in
-    let bytes = c.args.bytes.now in
-    let refusal = c.in-Err.refusal in
-    let put = c.in-Err.ensures in
-    record {
-      over = ∥∥₁_map c.args.self.now.over (λ over. record {
-        came = comes_by_put {T = Unit {0}} start Ac d bytes (connection_of flow old) (connection_of flow new) (results_of old) (results_of new) (Err refusal) put.stored over.came;
-        results = came_by_put {T = Unit {0}} start Ac d bytes (connection_of flow old) (connection_of flow new) (results_of old) (results_of new) (Err refusal) put.stored
-            over.came put.called.asked.results over.results;
-        blobs = subst (λ t. CameAllOver start Cas (told_by t)) (sym put.untouched) over.blobs;
-      });
-      lacked = ∥∥₁_map c.args.self.now.lacked (λ lacked. record {
-        results = lacks_by_put {T = Unit {0}} start Ac d bytes (connection_of flow old) (connection_of flow new) (results_of old) (results_of new) (Err refusal) put.stored
-            (result_there {T = Unit {0}} d bytes (told_by (results_of new)) (Err refusal) put.held) lacked.results;
-        blobs = subst (LacksAllOver start Cas) (sym put.untouched) lacked.blobs;
-      });
-      refused = subst (λ f. ∥ KeepsRefused start (connection_of flow new) f ∥₁) (sym c.keep_failure.ensures)
-          (∥∥₁_map₂ c.args.self.now.over c.args.self.now.refused (λ over kept. keeps_next start (connection_of flow old) (connection_of flow new)
-          c.args.self.now.failure PutResult d bytes c.last_fault-fault.result refusal over.came put.stored.refused (sym c.last_fault-fault.ensures) kept));
+      refused = subst (λ f. ∥ KeepsRefused start (connection_of flow new) f ∥₁) (sym kept)
+          (∥∥₁_map₂ c.args.self.now.over c.args.self.now.refused (λ over before. keeps_after start (connection_of flow old) (connection_of flow new)
+          c.args.self.now.failure PutResult d bytes c.put_result-put.result c.last_fault-fault.result put.stored.refused put.called.unfailed (sym c.last_fault-fault.ensures) over.came before));
     }

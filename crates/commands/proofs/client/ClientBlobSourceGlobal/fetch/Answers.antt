@@ -1,12 +1,12 @@
-use Rattle.std.proofs.Common.{[], Err, Ok, subst, sym}
+use Rattle.std.proofs.Common.{[], subst, sym}
 use Rattle.std.proofs.Math.Logic.{∥∥₁_map, ∥∥₁_map₂}
 use Rattle.http_core.specs.declared.event.Area.TheVariants.{Ac, Cas}
-use Rattle.remote.specs.Remote.{blobs_of, connection_of}
+use Rattle.remote.specs.Remote.{connection_of, blobs_of}
 use Rattle.remote.specs.Table.{told_by}
 use Rattle.commands.specs.Places.{CameAllOver, KeepsRefused}
 use Rattle.commands.specs.declared.failure.Method.TheVariants.{GetBlob}
-use Rattle.commands.proofs.Failures.{keeps_next, keeps_on}
-use Rattle.commands.proofs.Tellings.{LacksAllOver, answered, came_on, comes_on, lacks_now, lacks_on}
+use Rattle.commands.proofs.Failures.{keeps_after}
+use Rattle.commands.proofs.Tellings.{LacksAllOver, came_on, comes_on, lacks_now, lacks_on}
 use Rattle.commands.proofs.client.ClientBlobSourceGlobal.fetch.Goals as goal
 
 pub invariant_of-self : goal.invariant_of-self
@@ -14,56 +14,30 @@ invariant_of-self g c =
     let start = g.K.Origin.start in
     let flow = g.S.Stream.flow in
     let old = c.args.self.now.remote in
-    let new = c.fetch.new.self in
+    let new = c.fetch-found.new.self in
     let d = c.args.digest.now in
-    let found = c.in-Ok.found in
-    let is = c.in-Ok.ensures in
+    let is = c.fetch-found.ensures in
     record {
       over = ∥∥₁_map c.args.self.now.over (λ over. record {
-        came = comes_on start Cas d (connection_of flow old) (connection_of flow new) (blobs_of old) (blobs_of new) (Ok found) is.asked over.came;
-        blobs = came_on start Cas d (connection_of flow old) (connection_of flow new) (blobs_of old) (blobs_of new) (Ok found) is.asked over.came
+        came = comes_on start Cas d (connection_of flow old) (connection_of flow new) (blobs_of old) (blobs_of new) c.fetch-found.result is.asked over.came;
+        blobs = came_on start Cas d (connection_of flow old) (connection_of flow new) (blobs_of old) (blobs_of new) c.fetch-found.result is.asked over.came
             is.told is.called.asked.blobs over.blobs;
         results = subst (λ t. CameAllOver start Ac (told_by t)) (sym is.untouched) over.results;
       });
       lacked = ∥∥₁_map₂ c.args.self.now.over c.args.self.now.lacked (λ over lacked. record {
-        blobs = lacks_on start Cas d (connection_of flow old) (connection_of flow new) (blobs_of old) (blobs_of new) (Ok found) is.asked over.came
-            is.told lacked.blobs;
-        results = subst (LacksAllOver start Ac) (sym is.untouched) lacked.results;
-      });
-      refused = ∥∥₁_map c.args.self.now.refused
-          (keeps_on start (connection_of flow old) (connection_of flow new) c.args.self.now.failure (is.called.unfailed (answered found)));
-    }
-
-pub invariant_of-self-in-Err : goal.invariant_of-self-in-Err
-invariant_of-self-in-Err g c =
-    let start = g.K.Origin.start in
-    let flow = g.S.Stream.flow in
-    let old = c.args.self.now.remote in
-    let new = c.fetch.new.self in
-    let d = c.args.digest.now in
-    let refusal = c.in-Err.refusal in
-    let is = c.in-Err.ensures in
-    record {
-      over = ∥∥₁_map c.args.self.now.over (λ over. record {
-        came = comes_on start Cas d (connection_of flow old) (connection_of flow new) (blobs_of old) (blobs_of new) (Err refusal) is.asked over.came;
-        blobs = came_on start Cas d (connection_of flow old) (connection_of flow new) (blobs_of old) (blobs_of new) (Err refusal) is.asked over.came
-            is.told is.called.asked.blobs over.blobs;
-        results = subst (λ t. CameAllOver start Ac (told_by t)) (sym is.untouched) over.results;
-      });
-      lacked = ∥∥₁_map₂ c.args.self.now.over c.args.self.now.lacked (λ over lacked. record {
-        blobs = lacks_on start Cas d (connection_of flow old) (connection_of flow new) (blobs_of old) (blobs_of new) (Err refusal) is.asked over.came
+        blobs = lacks_on start Cas d (connection_of flow old) (connection_of flow new) (blobs_of old) (blobs_of new) c.fetch-found.result is.asked over.came
             is.told lacked.blobs;
         results = subst (LacksAllOver start Ac) (sym is.untouched) lacked.results;
       });
       refused = subst (λ f. ∥ KeepsRefused start (connection_of flow new) f ∥₁) (sym c.keep_failure.ensures)
-          (∥∥₁_map₂ c.args.self.now.over c.args.self.now.refused (λ over kept. keeps_next start (connection_of flow old) (connection_of flow new)
-          c.args.self.now.failure GetBlob d [] c.last_fault-fault.result refusal over.came is.asked.refused (sym c.last_fault-fault.ensures) kept));
+          (∥∥₁_map₂ c.args.self.now.over c.args.self.now.refused (λ over kept. keeps_after start (connection_of flow old) (connection_of flow new)
+          c.args.self.now.failure GetBlob d [] c.fetch-found.result c.last_fault-fault.result is.asked.refused is.called.unfailed (sym c.last_fault-fault.ensures) over.came kept));
     }
 
-pub returns-in-Ok-clause-lacked : goal.returns-in-Ok-clause-lacked
-returns-in-Ok-clause-lacked g c =
+pub returns-clause-lacked : goal.returns-clause-lacked
+returns-clause-lacked g c =
     let flow = g.S.Stream.flow in
     let old = c.args.self.now.remote in
-    let new = c.fetch.new.self in
-    lacks_now g.K.Origin.start Cas c.args.digest.now (connection_of flow old) (connection_of flow new) (blobs_of old) (blobs_of new) (Ok c.in-Ok.found)
-    c.in-Ok.ensures.asked (∥∥₁_map c.args.self.now.over (λ over. over.came)) c.in-Ok.ensures.told (∥∥₁_map c.args.self.now.lacked (λ lacked. lacked.blobs))
+    let new = c.fetch-found.new.self in
+    lacks_now g.K.Origin.start Cas c.args.digest.now (connection_of flow old) (connection_of flow new) (blobs_of old) (blobs_of new) c.fetch-found.result
+    c.fetch-found.ensures.asked (∥∥₁_map c.args.self.now.over (λ over. over.came)) c.fetch-found.ensures.told (∥∥₁_map c.args.self.now.lacked (λ lacked. lacked.blobs))

@@ -1,0 +1,18 @@
+use Rattle.std.proofs.Common.{◌≡◌, inr, rules, subst}
+use Rattle.std.specs.Prelude.{OnOk}
+use Rattle.std.specs.Io.KnownBytes.{Appends}
+use Rattle.commands.specs.Printed.{listening_line}
+use Rattle.commands.specs.Told.{AppendsBeginning}
+use Rattle.commands.proofs.Gotten.{on_err}
+use Rattle.commands.proofs.serving.print_address.Goals as goal
+
+pub returns-clause-printed : goal.returns-clause-printed
+returns-clause-printed g c =
+    let line : c.as_bytes.result.now ≡ listening_line c.args.address.now = search rules in
+    subst (λ l. OnOk c.print_all.result (Appends (g.O.Write.contents c.args.out.now) (g.O.Write.contents c.print_all.new.out) l)) line c.print_all.ensures.printed
+
+pub returns-clause-begun : goal.returns-clause-begun
+returns-clause-begun g c =
+    let line : c.as_bytes.result.now ≡ listening_line c.args.address.now = search rules in
+    on_err c.print_all.result c.print_all.ensures.begun
+    (λ begun. inr (subst (AppendsBeginning (g.O.Write.contents c.args.out.now) (g.O.Write.contents c.print_all.new.out)) line begun))
