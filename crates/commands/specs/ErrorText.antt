@@ -1,8 +1,9 @@
 -- The text of an error's line. What another crate's fault says is free, and what stands around it
--- isn't: the option, the path, the line, the hint, the server and the request.
+-- isn't: the option, the path, the line, the hint, the server, the request, the program and the
+-- signal.
 use Rattle.std.specs.Prelude.{◌≡◌, ℕ, List, [], ◌++◌, Option, None, Some, IfSome, codes, decimal}
 use Rattle.std.specs.Prelude.{string_bytes}
-use Rattle.std.specs.Fmt.{debug_str}
+use Rattle.std.specs.Fmt.{debug_str, signed_decimal}
 use Rattle.commands.specs.declared.error.CommandError.{CommandError}
 use Rattle.commands.specs.declared.error.CommandError.TheVariants.{Accept, Address, Connection}
 use Rattle.commands.specs.declared.error.CommandError.TheVariants.{Digest, Entry, File, Memory}
@@ -14,6 +15,10 @@ use Rattle.commands.specs.declared.hint.Hint.{Hint}
 use Rattle.commands.specs.declared.hint.Hint.TheVariants.{BlankAtEnd, CarriageReturn, LaterStep}
 use Rattle.commands.specs.declared.hint.Hint.TheVariants.{NoLine, NoNewline, NoStep, NotEscaped}
 use Rattle.commands.specs.declared.hint.Hint.TheVariants.{OwnStep}
+use Rattle.commands.specs.declared.process_fault.ProcessCause.{ProcessCause}
+use Rattle.commands.specs.declared.process_fault.ProcessCause.TheVariants.{Signal, Unread}
+use Rattle.commands.specs.declared.process_fault.ProcessCause.TheVariants.{Unstarted}
+use Rattle.commands.specs.declared.process_fault.ProcessFault.{ProcessFault}
 
 -- a text in quotes, as Rust's `{:?}` shows it, which is stated of ASCII alone
 abbrev pub IsQuoted : List ℕ → List ℕ → Type 0
@@ -63,6 +68,20 @@ abbrev pub IsWordsOfRequest : List ℕ → List ℕ → List ℕ → List ℕ �
 IsWordsOfRequest server asked digest text = (said : List ℕ)
     × IsWordsOf (asked ++ (codes " " ++ digest)) said × (text ≡ said_of server said)
 
+-- why a process came to nothing, by its program's name in quotes
+abbrev pub IsCauseText : List ℕ → ProcessCause → List ℕ → Type 0
+IsCauseText program (Unstarted fault) text = IsWordsOf (codes "can't run " ++ program) text
+IsCauseText program (Unread fault) text =
+    IsWordsOf (codes "can't read the outputs of " ++ program) text
+IsCauseText program (Signal number) text =
+    text ≡ program ++ (codes " was ended by signal " ++ signed_decimal number)
+
+-- that, at its place in the plan
+abbrev pub IsProcessText : ProcessFault → List ℕ → Type 0
+IsProcessText fault text = (quoted : List ℕ) × (said : List ℕ)
+    × IsQuoted (string_bytes fault.program) quoted × IsCauseText quoted fault.cause said
+    × (text ≡ said_of (string_bytes fault.place) said)
+
 abbrev pub IsErrorText : CommandError → List ℕ → Type 0
 IsErrorText (Words words) text = text ≡ string_bytes words
 IsErrorText (Digest option given fault) text =
@@ -85,8 +104,7 @@ IsErrorText (WrongBytes server digest) text = text ≡ said_of (string_bytes ser
 IsErrorText (Address place fault) text = IsWordsAt (string_bytes place) text
 IsErrorText (Accept fault) text =
     IsWordsOf (codes "no connection could be accepted after " ++ decimal fault.accepted) text
-IsErrorText (Process place) text = text
-    ≡ said_of (string_bytes place) (codes "the process can't be run, or was ended by a signal")
+IsErrorText (Process fault) text = IsProcessText fault text
 IsErrorText (Random fault) text = IsWordsOf (codes "random bytes") text
 IsErrorText (Output fault) text = IsWordsOf (codes "standard output") text
 IsErrorText Memory text = text ≡ codes "out of memory"

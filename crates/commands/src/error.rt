@@ -3,6 +3,7 @@ ghost use Rattle.commands.specs.Faults.{TellsOfEntry, OrMemory};
 ghost use Rattle.commands.specs.Status.{status_of};
 
 use crate::hint::Hint;
+use crate::process_fault::ProcessFault;
 use blob_digest::DigestError;
 use plan::PlanError;
 use remote::Fault;
@@ -67,9 +68,7 @@ pub enum CommandError {
         fault: io::Error,
     },
     Accept(NotAccepted),
-    Process {
-        place: String,
-    },
+    Process(ProcessFault),
     Random(io::Error),
     Output(io::Error),
     Memory,
@@ -95,7 +94,7 @@ impl CommandError {
             | CommandError::WrongBytes { .. }
             | CommandError::Address { .. }
             | CommandError::Accept(_)
-            | CommandError::Process { .. }
+            | CommandError::Process(_)
             | CommandError::Random(_)
             | CommandError::Output(_)
             | CommandError::Memory => 3,

@@ -1,9 +1,11 @@
 ghost use Rattle.std.specs.Prelude.{◌≡◌, ◌++◌, ℕ, List, IfOk, codes, decimal, string_bytes};
-ghost use Rattle.commands.specs.ErrorText.{IsErrorText, IsWordsAt, IsWordsInLine, IsWordsOf};
-ghost use Rattle.commands.specs.ErrorText.{IsWordsOfRequest, IsOfOption, IsOfPath, said_of};
+ghost use Rattle.commands.specs.ErrorText.{IsCauseText, IsErrorText, IsProcessText, IsWordsAt};
+ghost use Rattle.commands.specs.ErrorText.{IsWordsInLine, IsWordsOf, IsWordsOfRequest, IsOfOption};
+ghost use Rattle.commands.specs.ErrorText.{IsOfPath, said_of};
 
 use crate::error::CommandError;
 use crate::hint::{Hint, hint_text};
+use crate::process_fault::{ProcessCause, ProcessFault};
 use blob_digest::DigestError;
 use plan::PlanError;
 use remote::Fault;
@@ -13,9 +15,6 @@ use std::io;
 
 /// What is said of a file that isn't read.
 const TOO_LARGE: &str = "a file of more than 16777216 bytes";
-
-/// What is said of a step whose process came to nothing.
-const NO_PROCESS: &str = "the process can't be run, or was ended by a signal";
 
 /// What is said, behind what it is said of.
 fn said_of(alloc: Global, head: &str, said: &str) -> Result<String, AllocError>
@@ -146,6 +145,35 @@ fn not_accepted(alloc: Global, fault: &NotAccepted) -> Result<String, AllocError
     fault_of(alloc, head.as_str(), &fault.fault)
 }
 
+/// Why a process came to nothing, by its program's name in quotes.
+fn cause_text(alloc: Global, quoted: &str, cause: &ProcessCause) -> Result<String, AllocError>
+    ensures { IfOk result (λ text. IsCauseText quoted.now cause.now (string_bytes text)) }
+{
+    match cause {
+        ProcessCause::Unstarted(fault) => {
+            let head = format!(in alloc; "can't run {quoted}")?;
+            fault_of(alloc, head.as_str(), fault)
+        }
+        ProcessCause::Unread(fault) => {
+            let head = format!(in alloc; "can't read the outputs of {quoted}")?;
+            fault_of(alloc, head.as_str(), fault)
+        }
+        ProcessCause::Signal(number) => {
+            format!(in alloc; "{quoted} was ended by signal {number}")
+        }
+    }
+}
+
+/// That a process came to nothing: where, of which program, and why.
+fn process_text(alloc: Global, fault: &ProcessFault) -> Result<String, AllocError>
+    ensures { IfOk result (λ text. IsProcessText fault.now (string_bytes text)) }
+{
+    let program = fault.program.as_str();
+    let quoted = format!(in alloc; "{program:?}")?;
+    let said = cause_text(alloc, quoted.as_str(), &fault.cause)?;
+    said_of(alloc, fault.place.as_str(), said.as_str())
+}
+
 /// The text of an error.
 pub(crate) fn error_text(alloc: Global, error: &CommandError) -> Result<String, AllocError>
     ensures { IfOk result (λ text. IsErrorText error.now (string_bytes text)) }
@@ -184,7 +212,7 @@ pub(crate) fn error_text(alloc: Global, error: &CommandError) -> Result<String, 
         }
         CommandError::Address { address, fault } => fault_at(alloc, address.as_str(), fault),
         CommandError::Accept(fault) => not_accepted(alloc, fault),
-        CommandError::Process { place } => said_of(alloc, place.as_str(), NO_PROCESS),
+        CommandError::Process(fault) => process_text(alloc, fault),
         CommandError::Random(fault) => fault_of(alloc, "random bytes", fault),
         CommandError::Output(fault) => fault_of(alloc, "standard output", fault),
         CommandError::Memory => String::from_str(alloc, "out of memory"),
