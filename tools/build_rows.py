@@ -1,9 +1,9 @@
 #!/usr/bin/env python3
 """Tries `build` with real processes, over the program's own server: build_rows.py PROGRAM
 
-Steps that make a file, end with a code, name their program badly, make what is no output, read an input, are ended by a
-signal, and wait for each other, and such as can't be opened, started or laid out; links and folders at an output path, what
-a step writes beside its files, and what it is given; lines whose directories merge, and that don't; the second build of a
+Steps that make a file, end with a code, name their program badly, make what is no output, read an input, and wait for each
+other, and such as can't be opened, started or laid out; processes that come to nothing; links and folders at an output path,
+what a step writes beside its files, and what it is given; lines whose directories merge, and that don't; the second build of a
 plan, which runs nothing, one that goes on where a signal ended it, and two at once; two steps of one action; the `verify` of
 each record; folders that can't be those of the jobs; what stands at the record's path; and texts that can't be read. It
 prints a line for each row, and ends with status 1 where one failed. Nothing outside this machine is asked.
@@ -27,17 +27,15 @@ def rows_of_one_step(builds):
     done, first = builds.build(builds.one_step(printed))
     builds.expect_built("a file is made", done, first, MADE)
     builds.rows.tell("and one process was run", os.listdir(f"{first}/work") == ["0"], os.listdir(f"{first}/work"))
-    for name, words, out, status, why in [
-        ("an exit code", [*SHELL, "exit 3"], "failed step mk 103\n", 1, "step mk: exit code 3"),
-        ("a program by its name alone", ["sh", "-c", "exit 0"], "failed step mk 112\n", 1, "step mk: the program has no absolute path"),
-        ("a fifo", [*SHELL, "mkfifo out"], "failed step mk 114\n", 1, "step mk: path out is no output"),
-        ("nothing at the output path", [*SHELL, "exit 0"], "failed root 106\n", 1, "root: origin out is missing"),
-        ("a signal", [*SHELL, "kill -9 $$"], "", 3, ""),
+    for name, words, out, why in [
+        ("an exit code", [*SHELL, "exit 3"], "failed step mk 103\n", "step mk: exit code 3"),
+        ("a program by its name alone", ["sh", "-c", "exit 0"], "failed step mk 112\n", "step mk: the program has no absolute path"),
+        ("a fifo", [*SHELL, "mkfifo out"], "failed step mk 114\n", "step mk: path out is no output"),
+        ("nothing at the output path", [*SHELL, "exit 0"], "failed root 106\n", "root: origin out is missing"),
     ]:
         done, place = builds.build(builds.one_step(words))
-        builds.expect(name, done, place, out, status)
-        if why:
-            builds.rows.tell("and why is noted", done.stderr == f"note: {why}\n".encode(), done.stderr)
+        builds.expect(name, done, place, out, 1)
+        builds.rows.tell("and why is noted", done.stderr == f"note: {why}\n".encode(), done.stderr)
     done, place = builds.build(builds.one_step(printed))
     builds.expect_built("again: the result is the store's", done, place, MADE)
     builds.ran_nothing(place)
@@ -46,6 +44,25 @@ def rows_of_one_step(builds):
     given = builds.put(directory("a", NINE))
     done, place = builds.build(builds.one_step([*SHELL, 'read -r l < d/x; printf %s "$l" > out'], ["d/x src a"]), given)
     builds.expect_built("an input is read", done, place, MADE, 1, given)
+
+
+def rows_of_processes(builds):
+    """A process that can't be started, whose outputs can't be read, or that a signal ends: no line, and its error tells which."""
+    text = f"{builds.work}/text"
+    stores.write_file(text, b"no program")
+    deep = "/".join(["n" * 250] * 10)
+    for name, words, why in [
+        ("a program that isn't there", ["/none/x"], 'can\'t run "/none/x": No such file or directory (os error 2)'),
+        ("one whose name is quoted", ['/none/"\n é'], 'can\'t run "/none/\\"\\n é": No such file or directory (os error 2)'),
+        ("a program without its executable bit", [text], f'can\'t run "{text}": Permission denied (os error 13)'),
+        ("an output at a path of more than 4,095 bytes", [*SHELL, f"mkdir -p out/{deep} a/{deep}; mv a out/{deep}"],
+         'can\'t read the outputs of "/bin/sh": File name too long (os error 36)'),
+        ("a process that SIGKILL ends", [*SHELL, "kill -9 $$"], '"/bin/sh" was ended by signal 9'),
+        ("a process that SIGTERM ends", [*SHELL, "kill $$"], '"/bin/sh" was ended by signal 15'),
+    ]:
+        done, place = builds.build(builds.one_step(words))
+        builds.expect(name, done, place, "", 3)
+        builds.rows.tell("and it is told", done.stderr == f"error: step mk: {why}\n".encode(), done.stderr)
 
 
 def rows_of_refusals(builds):
@@ -289,6 +306,8 @@ def rows_of_the_folder(builds):
     steps = [("one", [*SHELL, 'rm -rf "$1"', "sh", gone], [], ()), ("two", [*SHELL, "exit 0"], [], ())]
     done, place = builds.build(builds.plan(steps, []))
     builds.expect("a folder that is gone once the first job has ended", done, place, "", 3)
+    told = b'error: step two: can\'t run "/bin/sh": No such file or directory (os error 2)\n'
+    builds.rows.tell("and the step and its program are told", done.stderr == told, done.stderr)
 
 
 def rows_of_the_record(builds):
@@ -382,6 +401,7 @@ def try_all(rows, program):
         builds = Builds(os.path.realpath(program), work, rows)
         try:
             rows_of_one_step(builds)
+            rows_of_processes(builds)
             rows_of_refusals(builds)
             rows_of_outputs(builds)
             rows_of_streams(builds)

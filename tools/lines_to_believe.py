@@ -12,7 +12,7 @@ ASIDE = {
     "action_cache": ["Survey"],
     "action_messages": ["Merging"],
     "cache_server": ["Sessions", "Writing"],
-    "cli": ["Running"],
+    "cli": ["Progress", "Running"],
     "commands": ["Children"],
     "eviction": ["Victims", "View"],
     "plan": ["Parts"],

@@ -8,49 +8,45 @@ use Rattle.commands.proofs.Placed.{of_options, opened_to}
 use Rattle.commands.specs.Printed.{IsOfOptions}
 use Rattle.commands.specs.World.{Sight}
 use Rattle.commands.specs.declared.error.CommandError.{CommandError}
-use Rattle.commands.specs.declared.error.CommandError.TheVariants.{Memory, Process}
+use Rattle.commands.specs.declared.error.CommandError.TheVariants.{Memory}
 use Rattle.std.proofs.Math.Logic.{∥∥₁_map}
 use Rattle.std.specs.declared.alloc.Global.{Global}
 use Rattle.std.specs.declared.string.String.{String}
 use Rattle.blob_digest.specs.Digest.{DigestValue}
 use Rattle.blob_source.specs.Source.{Telling}
 use Rattle.builder.proofs.Within.{told_within}
-use Rattle.builder.specs.Lines.{place_text}
 use Rattle.builder.specs.Built.{Seen}
 use Rattle.builder.specs.Telling.{IsBuildTold}
-use Rattle.builder.specs.declared.fault.Fault.{Fault}
-use Rattle.builder.specs.declared.fault.Fault.TheVariants.{Device}
-use Rattle.builder.specs.declared.fault.Place.{Place}
+use Rattle.builder.specs.declared.error.BuildPlanError.{BuildPlanError}
+use Rattle.builder.specs.declared.error.BuildPlanError.TheVariants.{Step}
 use Rattle.builder.specs.declared.telling.Told.{Told}
 use Rattle.builder.specs.declared.telling.Told.TheVariants.{Built, Failed}
 use Rattle.plan.specs.Values.{PlanValue}
 use Rattle.remote.specs.Line.{ConnectionValue}
 use Rattle.worker.specs.Outcomes.{Yields}
+use Rattle.worker.specs.declared.error.Refusal.TheVariants.{Run}
+use Rattle.worker.specs.declared.failure.Cause.{Cause}
+use Rattle.worker.specs.declared.runner.RunError.TheVariants.{Device}
 use Rattle.cli.specs.Built.{HoldsRoot, IsReadOf, IsToldBy, IsToldOf, StartsBuild, TellsAsked, any_yields, jobs_of}
 use Rattle.cli.specs.declared.building.Asked.{Asked}
-use Rattle.cli.specs.Refused.{FailsBuild, FailsTelling, ReachesServer, StopsAtProcess}
+use Rattle.cli.specs.Refused.{FailsBuild, FailsTelling, ReachesServer, StopsAtProcess, TellsProcess}
 use Rattle.cli.specs.Refused.FailsBuild.{in_memory, in_process, in_server}
 
 module _ (source : Telling → Type 0) (plan : PlanValue) (sources : DigestValue) (most : ℕ) (old new : Seen) (before : ∥ source old.store ∥₁) (after : ∥ source new.store ∥₁) (z : Yields) where
-  told_of : (r : Result (Told Global) Fault) → IsBuildTold z most plan sources old new r → IsToldBy source most plan sources r
+  told_of : (r : Result (Told Global) (BuildPlanError Global)) → IsBuildTold z most plan sources old new r → IsToldBy source most plan sources r
   told_of r h = record { before = old.store; before_is = before; after = new.store; after_is = after; is = told_within z any_yields most plan sources old new (λ l c p may. tt) r h }
 
-  pub told_as : (r it : Result (Told Global) Fault) → IsBuildTold z most plan sources old new r → r ≡ it → IsToldBy source most plan sources it
+  pub told_as : (r it : Result (Told Global) (BuildPlanError Global)) → IsBuildTold z most plan sources old new r → r ≡ it → IsToldBy source most plan sources it
   told_as r it h is = subst (IsToldBy source most plan sources) is (told_of r h)
 
-  pub stops_of : (place : Place) (fault : Fault) (text : String Global) (r : Result (Told Global) Fault) → IsBuildTold z most plan sources old new r → r ≡ Err fault → fault ≡ Device place
-      → string_bytes text ≡ place_text plan.steps place → StopsAtProcess source most plan sources (Process text)
-  stops_of place fault text r h err device is = record {
-    place = place;
-    ended = subst (λ (f : Fault). IsToldBy source most plan sources (Err f)) device (told_as r (Err fault) h err);
-    text = text;
-    text_is = is;
-    is = refl;
-  }
+  pub stops_of : (step : ℕ) (program : String Global) (cause : Cause) (e : CommandError) (r : Result (Told Global) (BuildPlanError Global)) → IsBuildTold z most plan sources old new r
+      → r ≡ Err (Step (record { step = step; refusal = Run (Device program cause) })) → TellsProcess plan step (string_bytes program) cause e → StopsAtProcess source most plan sources e
+  stops_of step program cause e r h err told =
+      record { step = step; program = program; cause = cause; ended = told_as r (Err (Step (record { step = step; refusal = Run (Device program cause) }))) h err; told = told }
 
 -- by what another kind of source told
 by_source : {P Q : Telling → Type 0} → ((told : Telling) → P told → Q told) → (most : ℕ) (plan : PlanValue) (sources : DigestValue)
-    → (r : Result (Told Global) Fault) → IsToldBy P most plan sources r → IsToldBy Q most plan sources r
+    → (r : Result (Told Global) (BuildPlanError Global)) → IsToldBy P most plan sources r → IsToldBy Q most plan sources r
 by_source f most plan sources r h = record { before = h.before; before_is = ∥∥₁_map h.before_is (f h.before); after = h.after; after_is = ∥∥₁_map h.after_is (f h.after); is = h.is }
 
 root_by : {P Q : Telling → Type 0} → ((told : Telling) → P told → Q told) → (r : Told Global) → HoldsRoot P r → HoldsRoot Q r
@@ -63,13 +59,15 @@ told_by f most plan sources r h = (by_source f most plan sources (Ok r) h.0, roo
 
 stops_by : {P Q : Telling → Type 0} → ((told : Telling) → P told → Q told) → (most jobs : ℕ) → most ≡ jobs → (plan : PlanValue) (sources : DigestValue)
     → (e : CommandError) → StopsAtProcess P most plan sources e → StopsAtProcess Q jobs plan sources e
-stops_by {P} {Q} f most jobs is plan sources e h = record {
-  place = h.place;
-  ended = subst (λ (n : ℕ). IsToldBy Q n plan sources (Err (Device h.place))) is (by_source f most plan sources (Err (Device h.place)) h.ended);
-  text = h.text;
-  text_is = h.text_is;
-  is = h.is;
-}
+stops_by {P} {Q} f most jobs is plan sources e h =
+    let came : Result (Told Global) (BuildPlanError Global) = Err (Step (record { step = h.step; refusal = Run (Device h.program h.cause) })) in
+    record {
+      step = h.step;
+      program = h.program;
+      cause = h.cause;
+      ended = subst (λ (n : ℕ). IsToldBy Q n plan sources came) is (by_source f most plan sources came h.ended);
+      told = h.told;
+    }
 
 -- a Directory of the root couldn't be put
 pub putting_fails : (start : ConnectionValue) (address : List ℕ) (most : ℕ) (plan : PlanValue) (sources : DigestValue) (e : CommandError)

@@ -3,17 +3,18 @@ use Rattle.std.proofs.Common.{◌≡◌, ◌∙◌, ◌⊎◌, ◌<◌, ◌≤�
 use Rattle.std.specs.Prelude.{codes, ◌↔◌, IsTrue, Option, Some, None, option_map, unwrap_or}
 use Rattle.std.specs.Option.{option_map_or}
 use Rattle.std.proofs.lemmas.Bool.{iff_false}
-use Rattle.clap.specs.Words.{IsAmong, Row, Text, fault_of}
+use Rattle.clap.specs.Words.{Row, Text}
 use Rattle.verifier.specs.Verdict.{IsYes}
-use Rattle.command_lines.specs.CommandLine.{CallsCommand, options_of, program_line}
-use Rattle.cli.specs.Built.{PrintsBuild}
+use Rattle.command_lines.specs.CommandLine.{CallsCommand, options_of}
+use Rattle.cli.specs.Built.{BeginsBuild, PrintsBuild}
 use Rattle.cli.specs.Refused.{FailsBuild}
-use Rattle.cli.specs.Ended.{EndsNo, Fails, IsDone, WantsHelp, WantsVersion}
+use Rattle.cli.specs.Ended.{BeginsAsked, EndsNo, Fails, IsDone}
+use Rattle.cli.specs.Ended.BeginsAsked as Begun
 use Rattle.cli.specs.Running.{Ends, TellsEnd}
 use Rattle.cli.specs.Ended.Fails.{in_build, in_get, in_put, in_serve, in_verify}
 use Rattle.cli.specs.Ended.IsDone.{built, got, yes}
 use Rattle.cli.specs.Ended.IsNo.{failed, no, none}
-use Rattle.commands.specs.Printed.{GetsAsked, NotesStore, PrintsVerdict}
+use Rattle.commands.specs.Printed.{GetsAsked, GetsPart, NotesStore, PrintsVerdict}
 use Rattle.commands.specs.Refusal.{FailsVerify}
 use Rattle.commands.specs.World.{Sight}
 use Rattle.commands.specs.Ended.{is_done}
@@ -22,7 +23,6 @@ use Rattle.commands.specs.PutRefused.{FailsPut}
 use Rattle.commands.specs.ServeRefused.{FailsServe}
 use Rattle.commands.specs.declared.ended.Ended.{Ended}
 use Rattle.commands.specs.declared.ended.Ended.TheVariants.{Done, No}
-use Rattle.clap.specs.declared.error.kind.ErrorKind.TheVariants.{DisplayHelp, DisplayVersion}
 use Rattle.commands.specs.Status.{status_of}
 use Rattle.commands.specs.declared.error.CommandError.{CommandError}
 use Rattle.commands.specs.declared.error.CommandError.TheVariants.{Words, Digest, Number, Text as TextFault, Unlike, File}
@@ -64,6 +64,12 @@ module _ {sees : Sight} (words : List Text) {rows : List Row} (is : rows ≡ opt
   build_ends {old} {new} Done called h = built called (subst (λ (o : List Row). PrintsBuild sees o old new Done) is h)
   build_ends {old} {new} (No note) called h = failed called (subst (λ (o : List Row). PrintsBuild sees o old new (No note)) is h)
 
+  pub get_begins : {old new : Option (List ℕ)} → CallsCommand words (codes "get") → GetsPart rows old new → BeginsAsked sees words old new
+  get_begins {old} {new} called h = Begun.got called (subst (λ (o : List Row). GetsPart o old new) is h)
+
+  pub build_begins : {old new : Option (List ℕ)} → CallsCommand words (codes "build") → BeginsBuild sees rows old new → BeginsAsked sees words old new
+  build_begins {old} {new} called h = Begun.built called (subst (λ (o : List Row). BeginsBuild sees o old new) is h)
+
   pub verify_fails : (e : CommandError) → CallsCommand words (codes "verify") → FailsVerify sees rows e → Fails sees words e
   verify_fails e called h = in_verify called (subst (λ (o : List Row). FailsVerify sees o e) is h)
 
@@ -78,13 +84,6 @@ module _ {sees : Sight} (words : List Text) {rows : List Row} (is : rows ≡ opt
 
   pub serve_fails : (e : CommandError) → CallsCommand words (codes "serve") → FailsServe sees rows e → Fails sees words e
   serve_fails e called h = in_serve called (subst (λ (o : List Row). FailsServe sees o e) is h)
-
--- words that call a command ask for no help
-pub no_help : (words : List Text) → fault_of program_line words ≡ [] → WantsHelp words → ⊥
-no_help words faultless asks = subst (IsAmong DisplayHelp) faultless asks
-
-pub no_version : (words : List Text) → fault_of program_line words ≡ [] → WantsVersion words → ⊥
-no_version words faultless asks = subst (IsAmong DisplayVersion) faultless asks
 
 not_less : (k : ℕ) → 2 + k < 2 → ⊥
 not_less k lt = omega arith
@@ -105,7 +104,7 @@ status_is (Server server asked digest fault) = inr refl
 status_is (WrongBytes server digest) = inr refl
 status_is (Address text fault) = inr refl
 status_is (Accept fault) = inr refl
-status_is (Process place) = inr refl
+status_is (Process fault) = inr refl
 status_is (Random fault) = inr refl
 status_is (Output fault) = inr refl
 status_is Memory = inr refl

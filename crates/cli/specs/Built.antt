@@ -1,5 +1,5 @@
 -- What `build` prints.
-use Rattle.std.specs.Prelude.{◌≡◌, ◌<◌, ℕ, List, [], ◌∷◌, Option, Some, Result, Ok, codes}
+use Rattle.std.specs.Prelude.{◌≡◌, ◌⊎◌, ◌<◌, ℕ, List, [], ◌∷◌, Option, Some, Result, Ok, codes}
 use Rattle.std.specs.Prelude.{string_bytes}
 use Rattle.std.specs.Io.KnownBytes.{Appends}
 use Rattle.std.specs.declared.alloc.Global.{Global}
@@ -7,7 +7,7 @@ use Rattle.blob_digest.specs.Digest.{DigestValue}
 use Rattle.blob_source.specs.Source.{Telling}
 use Rattle.builder.specs.Built.{store_alone}
 use Rattle.builder.specs.Telling.{IsBuildTold}
-use Rattle.builder.specs.declared.fault.Fault.{Fault}
+use Rattle.builder.specs.declared.error.BuildPlanError.{BuildPlanError}
 use Rattle.cli.specs.declared.building.Asked.{Asked}
 use Rattle.builder.specs.declared.telling.Told.{Told}
 use Rattle.builder.specs.declared.telling.Told.TheVariants.{Built, Failed}
@@ -16,6 +16,7 @@ use Rattle.command_lines.specs.CommandLine.{option_text}
 use Rattle.commands.specs.Options.{IsServerOf, number_of}
 use Rattle.commands.specs.Printed.{IsOfOptions}
 use Rattle.commands.specs.Refusal.{HasPlanRead}
+use Rattle.commands.specs.Told.{AppendsBeginning}
 use Rattle.commands.specs.Words.{AllValid, Check, IsUpTo, is_wanted, server_words}
 use Rattle.commands.specs.World.{Sight}
 use Rattle.commands.specs.declared.ended.Ended.{Ended}
@@ -39,7 +40,7 @@ HoldsRoot source (Failed line why) = Unit {0}
 -- By what such a source told before and after, this is told of a build of the plan, at most so many
 -- jobs running after each call: of the root, which is answered yes, or of the refusal that stands.
 pub record IsToldBy (source : Telling → Type 0) (most : ℕ) (plan : PlanValue)
-    (sources : DigestValue) (told : Result (Told Global) Fault) : Type 0 where
+    (sources : DigestValue) (told : Result (Told Global) (BuildPlanError Global)) : Type 0 where
   pub before : Telling
   pub before_is : ∥ source before ∥₁
   pub after : Telling
@@ -91,6 +92,7 @@ pub record IsReadOf (sees : Sight) (options : List Row) (asked : Asked) : Type 0
   pub asks : AsksBuild sees options asked.plan asked.sources
   pub jobs : asked.jobs ≡ jobs_of options
   pub server : IsServerOf options asked.server
+  pub work : string_bytes asked.work ≡ option_text options (codes "work")
 
 -- The folder of the jobs was read, and had nothing in it; and the record's file could be written.
 pub record StartsBuild (sees : Sight) (options : List Row) (plan : PlanValue)
@@ -115,3 +117,9 @@ pub record PrintsBuild (sees : Sight) (options : List Row) (old new : Option (Li
   pub noted : IsNoted sees options told
   pub is : ended ≡ ended_of told
   pub printed : Appends old new (line_of told)
+
+-- Nothing was printed, or a beginning of the line of what was told, whose record was written.
+abbrev pub BeginsBuild : Sight → List Row → Option (List ℕ) → Option (List ℕ) → Type 0
+BeginsBuild sees options old new = (new ≡ old)
+    ⊎ ((told : Told Global) × TellsAsked sees options told × IsNoted sees options told
+    × AppendsBeginning old new (line_of told))

@@ -6,17 +6,17 @@ use Rattle.clap.specs.declared.error.kind.ErrorKind.{ErrorKind}
 use Rattle.clap.specs.declared.error.kind.ErrorKind.TheVariants.{DisplayHelp, DisplayVersion}
 use Rattle.command_lines.specs.CommandLine.{CallsCommand, options_of, program_line}
 use Rattle.verifier.specs.Verdict.{IsYes}
-use Rattle.cli.specs.Built.{PrintsBuild}
+use Rattle.cli.specs.Built.{BeginsBuild, PrintsBuild}
 use Rattle.cli.specs.Help.{help_asked, version_line}
 use Rattle.cli.specs.Refused.{FailsBuild}
-use Rattle.commands.specs.Printed.{GetsAsked, NotesStore, PrintsDigest, PrintsVerdict}
+use Rattle.commands.specs.Printed.{GetsAsked, GetsPart, NotesStore, PrintsDigest, PrintsVerdict}
 use Rattle.commands.specs.Printed.{ServesAsked}
 use Rattle.commands.specs.GetRefused.{FailsGet}
 use Rattle.commands.specs.PutRefused.{FailsPut}
 use Rattle.commands.specs.Refusal.{FailsVerify, IsPrintFault}
 use Rattle.commands.specs.ServeRefused.{FailsServe}
 use Rattle.commands.specs.Status.{status_of}
-use Rattle.commands.specs.Told.{TellsNoteOf, TellsOf}
+use Rattle.commands.specs.Told.{AppendsBeginning, PrintsNoLine, TellsNoteOf, TellsOf}
 use Rattle.commands.specs.World.{Sight}
 use Rattle.commands.specs.declared.ended.Ended.TheVariants.{Done, No}
 use Rattle.commands.specs.declared.ended.Note.{Note}
@@ -34,6 +34,12 @@ WantsVersion words = IsAmong DisplayVersion (fault_of program_line words)
 pub data ShowsAsked (words : List Text) (old new : Option (List ℕ)) : Type 0 where
   help : WantsHelp words → Appends old new (help_asked words) → ShowsAsked words old new
   version : WantsVersion words → Appends old new version_line → ShowsAsked words old new
+
+-- or a beginning of it, or nothing
+pub data BeginsShown (words : List Text) (old new : Option (List ℕ)) : Type 0 where
+  nothing : new ≡ old → BeginsShown words old new
+  help : WantsHelp words → AppendsBeginning old new (help_asked words) → BeginsShown words old new
+  version : WantsVersion words → AppendsBeginning old new version_line → BeginsShown words old new
 
 -- The line of a yes was printed, or a blob, or the line of the digest of what was put, or that of
 -- the address where connections were served, or that of a build's root, or the help or the version.
@@ -71,6 +77,18 @@ pub record EndsNo (sees : Sight) (words : List Text) (old new old_err new_err : 
   pub told : TellsNoteOf note old_err new_err
 
 -- ---- why they come to neither
+
+-- That was begun, or what the called command answers: of `verify` no line is whole.
+pub data BeginsAsked (sees : Sight) (words : List Text) (old new : Option (List ℕ)) : Type 0 where
+  shown : BeginsShown words old new → BeginsAsked sees words old new
+  verified : CallsCommand words (codes "verify") → PrintsNoLine old new
+      → BeginsAsked sees words old new
+  got : CallsCommand words (codes "get") → GetsPart (options_of words) old new
+      → BeginsAsked sees words old new
+  built : CallsCommand words (codes "build") → BeginsBuild sees (options_of words) old new
+      → BeginsAsked sees words old new
+  put : CallsCommand words (codes "put") → BeginsAsked sees words old new
+  served : CallsCommand words (codes "serve") → BeginsAsked sees words old new
 
 -- the words are at fault, with more than to ask for help or the version
 pub record HasFault (words : List Text) : Type 0 where

@@ -9,8 +9,8 @@ use Rattle.std.specs.declared.string.String.{String}
 use Rattle.blob_digest.specs.Digest.{DigestValue}
 use Rattle.blob_source.specs.Source.{Telling}
 use Rattle.builder.specs.Lines.{place_text}
-use Rattle.builder.specs.declared.fault.Fault.TheVariants.{Device}
-use Rattle.builder.specs.declared.fault.Place.{Place}
+use Rattle.builder.specs.declared.error.BuildPlanError.TheVariants as errors
+use Rattle.builder.specs.declared.fault.Place.TheVariants.{Step}
 use Rattle.builder.specs.declared.telling.Told.{Told}
 use Rattle.clap.specs.Words.{Row}
 use Rattle.command_lines.specs.CommandLine.{option_text}
@@ -23,10 +23,17 @@ use Rattle.commands.specs.World.{Sight}
 use Rattle.commands.specs.declared.ended.Ended.TheVariants.{Done}
 use Rattle.commands.specs.declared.error.CommandError.{CommandError}
 use Rattle.commands.specs.declared.error.CommandError.TheVariants.{Memory, Process}
+use Rattle.commands.specs.declared.process_fault.ProcessCause.{ProcessCause}
+use Rattle.commands.specs.declared.process_fault.ProcessCause.TheVariants.{Signal, Unread}
+use Rattle.commands.specs.declared.process_fault.ProcessCause.TheVariants.{Unstarted}
 use Rattle.plan.specs.Values.{PlanValue}
 use Rattle.remote.specs.Line.{ConnectionValue}
 use Rattle.remote.specs.declared.files.FileError.{FileError}
 use Rattle.text_verifier.specs.Refused.{IsSpelled}
+use Rattle.worker.specs.declared.error.Refusal.TheVariants.{Run}
+use Rattle.worker.specs.declared.failure.Cause.{Cause}
+use Rattle.worker.specs.declared.failure.Cause.TheVariants as causes
+use Rattle.worker.specs.declared.runner.RunError.TheVariants.{Device}
 use Rattle.cli.specs.Built.{AsksBuild, IsNoted, IsToldBy, StartsBuild, TellsAsked, build_words}
 use Rattle.cli.specs.Built.{ended_of, jobs_of}
 
@@ -49,15 +56,29 @@ FailsToWrite sees path = OrMemory (IsFaultAtPath path (sees.unwritten path))
 abbrev pub FailsFolder : Sight → List ℕ → CommandError → Type 0
 FailsFolder sees path e = (e ≡ Memory) ⊎ (HasEntries sees path e ⊎ FailsAtPath sees path e)
 
--- By what such a source told, a build of the plan ended at a step of which a process couldn't be
--- run, or was ended by a signal. The error tells the step.
+-- the cause for which a process came to nothing, as an error tells it
+abbrev pub cause_of : Cause → ProcessCause
+cause_of (causes.Unstarted fault) = Unstarted fault
+cause_of (causes.Unread fault) = Unread fault
+cause_of (causes.Signal number) = Signal number
+
+-- the error tells of a process of this program, at this step of the plan, and of the cause
+abbrev pub TellsProcess : PlanValue → ℕ → List ℕ → Cause → CommandError → Type 0
+TellsProcess plan step program cause (Process fault) =
+    (string_bytes fault.place ≡ place_text plan.steps (Step step))
+    × (string_bytes fault.program ≡ program) × (fault.cause ≡ cause_of cause)
+TellsProcess plan step program cause _ = ⊥
+
+-- By what such a source told, a build of the plan ended at a step, of which a process of this
+-- program came to nothing for this cause. The error tells all three.
 pub record StopsAtProcess (source : Telling → Type 0) (most : ℕ) (plan : PlanValue)
     (sources : DigestValue) (e : CommandError) : Type 0 where
-  pub place : Place
-  pub ended : IsToldBy source most plan sources (Err (Device place))
-  pub text : String Global
-  pub text_is : string_bytes text ≡ place_text plan.steps place
-  pub is : e ≡ Process text
+  pub step : ℕ
+  pub program : String Global
+  pub cause : Cause
+  pub ended : IsToldBy source most plan sources
+      (Err (errors.Step (record { step = step; refusal = Run (Device program cause) })))
+  pub told : TellsProcess plan step (string_bytes program) cause e
 
 -- memory ran out, or a process was at fault, or the server at the address, over the connection that
 -- stood so at first

@@ -1,4 +1,5 @@
-ghost use Rattle.std.specs.Prelude.{◌≡◌, None, false};
+ghost use Rattle.std.specs.Prelude.{◌≡◌, IfOk, None, false, string_bytes};
+ghost use Rattle.cli.specs.Progress.{progress_line};
 
 use commands::TerminalLine;
 use plan::Plan;
@@ -42,7 +43,14 @@ impl<'a, T: Write + Drop> BuildProgress<'a, T> {
 }
 
 /// The line: steps finished of all, how many the store had, how many run, and which runs longest.
-fn line_of(alloc: Global, plan: &Plan<Global>, progress: Progress) -> Result<String, AllocError> {
+fn progress_line(
+    alloc: Global,
+    plan: &Plan<Global>,
+    progress: Progress,
+) -> Result<String, AllocError>
+    ensures { IfOk result (λ line.
+        string_bytes line ≡ progress_line plan.now.steps progress) }
+{
     let Progress {
         steps,
         finished,
@@ -51,13 +59,14 @@ fn line_of(alloc: Global, plan: &Plan<Global>, progress: Progress) -> Result<Str
         longest,
     } = progress;
     let counts = format!(in alloc; "build {finished} of {steps} steps, {taken} from the store")?;
-    match longest.and_then(|number| plan.steps().get(number)) {
-        None => Ok(counts),
-        Some(step) => format!(in alloc;
-            "{counts}, {running} running, longest {}",
-            step.name.as_str()
-        ),
-    }
+    let Some(number) = longest else {
+        return Ok(counts);
+    };
+    let Some(step) = plan.steps().get(number) else {
+        return Ok(counts);
+    };
+    let name = step.name.as_str();
+    format!(in alloc; "{counts}, {running} running, longest {name}")
 }
 
 impl<T: Write + Drop> Watcher for BuildProgress<'_, T> {
@@ -69,8 +78,8 @@ impl<T: Write + Drop> Watcher for BuildProgress<'_, T> {
         if !self.line.has_terminal() {
             return;
         }
-        if let Ok(text) = line_of(self.alloc, self.plan, progress) {
-            self.line.write(text.as_str());
+        if let Ok(line) = progress_line(self.alloc, self.plan, progress) {
+            self.line.write(line.as_str());
         }
     }
 }

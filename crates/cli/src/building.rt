@@ -2,35 +2,38 @@ ghost use Rattle.std.specs.Prelude.{◌≡◌, ◌⊎◌, ◌<◌, ◌↔◌, �
 ghost use Rattle.std.specs.Prelude.{OnErr, OnOk, codes, string_bytes};
 ghost use Rattle.std.specs.Io.KnownBytes.{Appends};
 ghost use Rattle.clap.specs.Words.{found_of, rows_of};
-ghost use Rattle.cli.specs.Built.{HoldsRoot, IsNoted, IsReadOf, IsToldOf, PrintsBuild, TellsAsked};
-ghost use Rattle.cli.specs.Built.{ended_of, jobs_of, line_of, names_jobs};
+ghost use Rattle.cli.specs.Built.{BeginsBuild, HoldsRoot, IsNoted, IsReadOf, IsToldOf, PrintsBuild};
+ghost use Rattle.cli.specs.Built.{TellsAsked, ended_of, jobs_of, line_of, names_jobs};
 ghost use Rattle.cli.specs.Refused.{FailsBuild, FailsFolder, FailsTelling, FailsToWrite};
+ghost use Rattle.cli.specs.Refused.{TellsProcess, cause_of};
 ghost use Rattle.commands.specs.Places.{FailsOver, IsFresh, IsToldOver};
 ghost use Rattle.commands.specs.Refusal.{IsPrintFault};
 ghost use Rattle.commands.specs.Status.{status_of};
+ghost use Rattle.commands.specs.Told.{AppendsBeginning};
 ghost use Rattle.commands.specs.Words.{IsCheckedBy};
 ghost use Rattle.command_lines.specs.CommandLine.{IsSet, option_text};
+ghost use Rattle.processes.specs.Running.{work_of};
 ghost use Rattle.remote.specs.Remote.{connection_of};
 
 use crate::build_progress::BuildProgress;
 use blob_digest::Digest;
-use builder::{Fault, Told, place_text, tell_build};
+use builder::{BuildPlanError, Fault, Place, Told, fault_of, place_text, tell_build};
 use clap::ArgMatches;
 use command_lines::{is_set, text_of};
 use commands::{
-    Client, CommandError, Ended, Note, Origin, ServerOptions, World, number_in, open, plan_in_file,
-    print_all, read_digest, read_server, unlike,
+    Client, CommandError, Ended, Note, Origin, ProcessCause, ProcessFault, ServerOptions, World,
+    number_in, open, plan_in_file, print_all, read_digest, read_server, unlike,
 };
 use plan::Plan;
 use processes::{ChildErrors, Disk, ProcessRunner};
 use remote::{Remote, Stream};
-use std::alloc::Global;
+use std::alloc::{AllocError, Global};
 use std::io;
 use std::io::{ErrorKind, Write};
 use std::marker::Brand;
 use std::rt::{Files, Processes};
 use tree::FetchError;
-use worker::{Refusal, put_all};
+use worker::{BuildError, Cause, Refusal, RunError, put_all};
 
 /// How many steps may run at once.
 const GREATEST_JOBS: u64 = 64;
@@ -42,6 +45,8 @@ struct Asked {
     server: ServerOptions,
     sources: Digest,
     plan: Plan<Global>,
+    /// The folder of the jobs.
+    work: String,
 }
 
 /// The number of jobs that the words give.
@@ -56,7 +61,8 @@ fn read_jobs(alloc: Global, matches: &ArgMatches<'_>) -> Result<usize, CommandEr
     }
 }
 
-/// Reads what the words ask for: the number of jobs, the server, the digest, and then the plan.
+/// Reads what the words ask for: the number of jobs, the server, the digest, and then the plan; and
+/// copies the path of the folder of the jobs.
 fn read_asked<W: World>(
     alloc: Global,
     world: &W,
@@ -69,11 +75,13 @@ fn read_asked<W: World>(
     let server = read_server(alloc, matches)?;
     let sources = read_digest(alloc, matches, "sources")?;
     let plan = plan_in_file(alloc, world, matches)?;
+    let work = String::from_str(alloc, text_of(matches, "work"))?;
     Ok(Asked {
         jobs,
         server,
         sources,
         plan,
+        work,
     })
 }
 
@@ -111,18 +119,46 @@ fn put_root<S: Stream + Drop, K: Origin>(
     }
 }
 
-/// What a build tells over the marked connection, whose processes run in a folder.
+/// The cause, as the error of a command tells it.
+fn cause_of(cause: Cause) -> ProcessCause
+    ensures { result ≡ cause_of cause }
+{
+    match cause {
+        Cause::Unstarted(fault) => ProcessCause::Unstarted(fault),
+        Cause::Unread(fault) => ProcessCause::Unread(fault),
+        Cause::Signal(number) => ProcessCause::Signal(number),
+    }
+}
+
+/// The error of a process of a step that came to nothing.
+fn process_error(
+    alloc: Global,
+    plan: &Plan<Global>,
+    step: usize,
+    program: String,
+    cause: Cause,
+) -> Result<CommandError, AllocError>
+    ensures { IfOk result (TellsProcess plan.now step (string_bytes program) cause) }
+{
+    Ok(CommandError::Process(ProcessFault {
+        place: place_text(alloc, plan, Place::Step(step))?,
+        program,
+        cause: cause_of(cause),
+    }))
+}
+
+/// What a build tells over the marked connection, whose processes run in the folder of the jobs.
 fn build_in_folder<R, S: Stream + Drop, K: Origin, T: Write + Drop>(
-    rt: &R,
-    work: String,
-    errors: ChildErrors,
+    alloc: Global,
     asked: &Asked,
     remote: Remote<S, Global>,
+    runner: ProcessRunner<Disk<'_, R>, Global>,
     progress: &mut BuildProgress<'_, T>,
 ) -> Result<Told<Global>, CommandError>
 where
     R: AllocGlobal + Files + Processes + Clone + Drop,
     requires some { 0 < asked.now.jobs }
+    requires folder { work_of runner ≡ string_bytes asked.now.work }
     requires start { K.start ≡ connection_of S.flow remote }
     requires fresh { IsFresh remote }
     ensures told { IfOk result
@@ -131,9 +167,8 @@ where
         asked.now.jobs asked.now.plan asked.now.sources) }
     ensures status { IfErr result (λ e. status_of e ≡ 3) }
 {
-    let alloc = rt.alloc();
     let mut client: Client<S, K> = Client::new(remote);
-    let mut runner = ProcessRunner::new(Disk::new(rt, errors), work);
+    let mut runner = runner;
     match tell_build(
         alloc,
         &asked.sources,
@@ -147,11 +182,14 @@ where
             put_root(alloc, &asked.server, &mut client, &told)?;
             Ok(told)
         }
-        Err(Fault::Device(place)) => Err(CommandError::Process {
-            place: place_text(alloc, &asked.plan, place)?,
-        }),
-        Err(Fault::Fetch(_)) => Err(client.error(alloc, &asked.server, FetchError::Failed)?),
-        Err(_e) => Err(CommandError::Memory),
+        Err(BuildPlanError::Step(BuildError {
+            step,
+            refusal: Refusal::Run(RunError::Device { program, cause }),
+        })) => Err(process_error(alloc, &asked.plan, step, program, cause)?),
+        Err(error) => match fault_of(&error) {
+            Fault::Fetch(_) => Err(client.error(alloc, &asked.server, FetchError::Failed)?),
+            _ => Err(CommandError::Memory),
+        },
     }
 }
 
@@ -216,18 +254,16 @@ where
 {
     let alloc = rt.alloc();
     let remote = open(alloc, world, &asked.server)?;
-    let work = text_of(matches, "work");
-    check_work(alloc, world, work)?;
+    check_work(alloc, world, asked.work.as_str())?;
     world.check_writable(alloc, text_of(matches, "record"))?;
-    let work = String::from_str(alloc, work)?;
-    let errors = errors_of(matches, &terminal);
+    let work = String::from_str(alloc, asked.work.as_str())?;
+    let runner = ProcessRunner::new(Disk::new(rt, errors_of(matches, &terminal)), work);
     let mut progress = BuildProgress::new(alloc, &asked.plan, terminal);
     let told = build_in_folder::<R, W::Link, Brand, T>(
-        rt,
-        work,
-        errors,
+        alloc,
         asked,
         remote,
+        runner,
         &mut progress,
     );
     progress.clear();
@@ -238,6 +274,8 @@ where
 fn print_told<O: Write>(told: &Told<Global>, out: &mut O) -> Result<(), CommandError>
     ensures printed { OnOk result
         (Appends (O.contents out.old) (O.contents out.new) (line_of told.now)) }
+    ensures begun { OnErr result
+        (AppendsBeginning (O.contents out.old) (O.contents out.new) (line_of told.now)) }
     ensures fault { IfErr result IsPrintFault }
     ensures status { IfErr result (λ e. status_of e ≡ 3) }
 {
@@ -270,7 +308,10 @@ where
     R: AllocGlobal + Files + Processes + Clone + Drop,
     ensures printed { IfOk result (PrintsBuild W.sees (rows_of (found_of matches.now))
         (O.contents out.old) (O.contents out.new)) }
-    // A refusal is for the first fault: what comes before it has none.
+    // A refusal leaves no byte that isn't of the line of such a build.
+    ensures begun { OnErr result (BeginsBuild W.sees (rows_of (found_of matches.now))
+        (O.contents out.old) (O.contents out.new)) }
+    // It is for the first fault: what comes before it has none.
     ensures refused { IfErr result (FailsBuild W.sees (rows_of (found_of matches.now))) }
     ensures unprinted { IfErr result
         (λ fault. status_of fault ≡ 2 → O.contents out.new ≡ O.contents out.old) }

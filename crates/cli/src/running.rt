@@ -1,10 +1,7 @@
-ghost use Rattle.std.specs.Prelude.{◌≡◌, ◌<◌, ◌≤◌, IfErr, IfOk, OnErr, codes, map, string_bytes};
-ghost use Rattle.cli.specs.Ended.{AreFaulty, EndsNo, EndsRefused, Fails, IsDone};
+ghost use Rattle.std.specs.Prelude.{◌≡◌, ◌<◌, ◌≤◌, IfErr, IfOk, OnErr, map, string_bytes};
+ghost use Rattle.cli.specs.Ended.{AreFaulty, BeginsAsked, EndsNo, EndsRefused, Fails, IsDone};
 ghost use Rattle.cli.specs.Running.{Ends, TellsEnd};
-ghost use Rattle.commands.specs.Printed.{GetsPart};
 ghost use Rattle.commands.specs.Status.{status_of};
-ghost use Rattle.commands.specs.Told.{PrintsNoLine};
-ghost use Rattle.command_lines.specs.CommandLine.{CallsCommand, options_of};
 
 use crate::building::run_build;
 use crate::showing::show;
@@ -51,12 +48,8 @@ where
     ensures unprinted { result ≡ 2 → O.contents out.new ≡ O.contents out.old }
     ensures silent { AreFaulty (map string_bytes words.now)
         → O.contents out.new ≡ O.contents out.old }
-    // With another status than 0 and 1 `verify` printed no whole line,
-    ensures unended { 2 ≤ result → CallsCommand (map string_bytes words.now) (codes "verify")
-        → PrintsNoLine (O.contents out.old) (O.contents out.new) }
-    // and `get` wrote nothing that isn't the beginning of the blob.
-    ensures begun { 2 ≤ result → CallsCommand (map string_bytes words.now) (codes "get")
-        → GetsPart (options_of (map string_bytes words.now))
+    // With another status than 0 and 1 what was printed is a beginning of what the words ask for.
+    ensures begun { 2 ≤ result → BeginsAsked W.sees (map string_bytes words.now)
         (O.contents out.old) (O.contents out.new) }
 {
     match run(rt, world, words, out, terminal) {
@@ -98,10 +91,7 @@ where
         (λ fault. status_of fault ≡ 2 → O.contents out.new ≡ O.contents out.old) }
     ensures silent { AreFaulty (map string_bytes words.now)
         → O.contents out.new ≡ O.contents out.old }
-    ensures unended { OnErr result (CallsCommand (map string_bytes words.now) (codes "verify")
-        → PrintsNoLine (O.contents out.old) (O.contents out.new)) }
-    ensures begun { OnErr result (CallsCommand (map string_bytes words.now) (codes "get")
-        → GetsPart (options_of (map string_bytes words.now))
+    ensures begun { OnErr result (BeginsAsked W.sees (map string_bytes words.now)
         (O.contents out.old) (O.contents out.new)) }
 {
     let matches = match parse(rt.alloc(), words) {

@@ -1,10 +1,11 @@
-ghost use Rattle.std.specs.Prelude.{◌≡◌, IfErr, OnOk, map, string_bytes};
+ghost use Rattle.std.specs.Prelude.{◌≡◌, IfErr, OnErr, OnOk, map, string_bytes};
 ghost use Rattle.std.specs.Io.KnownBytes.{Appends};
 ghost use Rattle.clap.specs.Words.{HasKind, fault_of};
-ghost use Rattle.cli.specs.Ended.{FailsInWords, ShowsAsked, WantsHelp, WantsVersion};
+ghost use Rattle.cli.specs.Ended.{BeginsShown, FailsInWords, ShowsAsked, WantsHelp, WantsVersion};
 ghost use Rattle.command_lines.specs.CommandLine.{program_line};
 ghost use Rattle.commands.specs.Refusal.{IsPrintFault};
 ghost use Rattle.commands.specs.Status.{status_of};
+ghost use Rattle.commands.specs.Told.{AppendsBeginning};
 
 use crate::help::help_asked;
 use clap::error::{Error, ErrorKind};
@@ -24,6 +25,8 @@ pub(crate) fn show<O: Write>(
     requires { HasKind (fault_of program_line (map string_bytes words.now)) error }
     ensures shown { OnOk result
         (ShowsAsked (map string_bytes words.now) (O.contents out.old) (O.contents out.new)) }
+    ensures begun { OnErr result
+        (BeginsShown (map string_bytes words.now) (O.contents out.old) (O.contents out.new)) }
     ensures fault { IfErr result (FailsInWords (map string_bytes words.now)) }
     ensures silent { ¬ WantsHelp (map string_bytes words.now)
         → ¬ WantsVersion (map string_bytes words.now) → O.contents out.new ≡ O.contents out.old }
@@ -44,6 +47,8 @@ pub(crate) fn show<O: Write>(
 fn print<O: Write>(text: &str, out: &mut O) -> Result<(), CommandError>
     ensures printed { OnOk result
         (Appends (O.contents out.old) (O.contents out.new) text.now) }
+    ensures begun { OnErr result
+        (AppendsBeginning (O.contents out.old) (O.contents out.new) text.now) }
     ensures fault { IfErr result IsPrintFault }
     ensures status { IfErr result (λ e. status_of e ≡ 3) }
 {

@@ -23,10 +23,11 @@ returns-in_err-put_root-in-Ok-clause-fault g c =
     exit_by (FailsTelling g.K.Origin.start address asked.jobs asked.plan asked.sources) _ c.from_residual.ensures.1
     (putting_fails g.K.Origin.start address asked.jobs asked.plan asked.sources _ c.in_err-put_root-in-Ok.ensures.fault)
 
-pub returns-in-Err-Device-clause-fault : goal.returns-in-Err-Device-clause-fault
-returns-in-Err-Device-clause-fault g c =
+pub returns-in-Err-Step-Run-Device-clause-fault : goal.returns-in-Err-Step-Run-Device-clause-fault
+returns-in-Err-Step-Run-Device-clause-fault g c =
     let remote = c.tell_build.new.sink.remote in
+    let arm = c.in-Err-Step-Run-Device in
     inr (inl (stops_of (IsToldOver g.K.Origin.start) c.args.asked.now.plan c.args.asked.now.sources c.args.asked.now.jobs _ _
     (∥∥₁_map c.new-client.result.over (λ over. (connection_of g.S.Stream.flow c.new-client.result.remote, over)))
     (∥∥₁_map c.tell_build.new.sink.over (λ over. (connection_of g.S.Stream.flow remote, over)))
-    _ c.in-Err-Device.place _ _ c.tell_build.result c.tell_build.ensures.told c.in-Err-Device.is c.in-Err-Device.field-0-is c.in_ok-place_text-in-Err-Device.ensures))
+    _ arm.step arm.program arm.cause _ c.tell_build.result c.tell_build.ensures.told arm.is c.in_ok-process_error-in-Err-Step-Run-Device.ensures))

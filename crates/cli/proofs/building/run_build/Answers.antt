@@ -1,5 +1,7 @@
+use Rattle.std.proofs.Common.{inr}
 use Rattle.clap.specs.Words.{found_of, rows_of}
 use Rattle.commands.proofs.Exits.{exit_by}
+use Rattle.commands.proofs.Writing.{where_err}
 use Rattle.cli.specs.Refused.{FailsBuild}
 use Rattle.cli.specs.Refused.FailsBuild.{in_output, in_record}
 use Rattle.cli.proofs.building.run_build.Goals as goal
@@ -13,6 +15,11 @@ pub returns-in_err-print_told-clause-refused : goal.returns-in_err-print_told-cl
 returns-in_err-print_told-clause-refused g c =
     exit_by (FailsBuild g.W.World.sees (rows_of (found_of c.args.matches.now))) _ c.from_residual-in_err-print_told.ensures.1
     (in_output c.in_ok-told.told c.in_ok-told.ensures.tells c.in_ok-write_record.ensures.noted c.in_err-print_told.ensures.fault)
+
+pub returns-in_err-print_told-clause-begun : goal.returns-in_err-print_told-clause-begun
+returns-in_err-print_told-clause-begun g c =
+    where_err c.from_residual-in_err-print_told.result
+    (inr (c.in_ok-told.told, c.in_ok-told.ensures.tells, c.in_ok-write_record.ensures.noted, c.in_err-print_told.ensures.begun))
 
 pub returns-clause-printed : goal.returns-clause-printed
 returns-clause-printed g c = record {

@@ -1,12 +1,13 @@
-use Rattle.std.proofs.Common.{◌≡◌, rules, inl, map, string_bytes, codes}
+use Rattle.std.proofs.Common.{◌≡◌, rules, map, string_bytes, codes}
 use Rattle.commands.specs.Status.{status_of}
 use Rattle.clap.specs.Words.{subcommand_of, subcommand_rows_of}
 use Rattle.command_lines.specs.CommandLine.{CallsCommand, program_line}
 use Rattle.command_lines.proofs.Called.{calls_one}
 use Rattle.commands.proofs.Exits.{exit_by}
-use Rattle.commands.proofs.Writing.{no_line_of_same, where_err}
-use Rattle.cli.proofs.CommandLines.{build_ends, build_fails, get_ends, get_fails, no_help, no_version, none_called, options_found, put_fails, serve_fails, verify_ends, verify_fails}
+use Rattle.commands.proofs.Writing.{where_err}
+use Rattle.cli.proofs.CommandLines.{build_begins, build_ends, build_fails, get_begins, get_ends, get_fails, none_called, options_found, put_fails, serve_fails, verify_ends, verify_fails}
 use Rattle.cli.specs.Ended.{Fails}
+use Rattle.cli.specs.Ended.BeginsAsked as Begun
 use Rattle.cli.specs.Ended.Fails.{in_words}
 use Rattle.cli.specs.Ended.IsDone.{shown}
 use Rattle.cli.proofs.running.run.Goals as goal
@@ -18,15 +19,8 @@ pub returns-in_err-show-in-Err-clause-refused : goal.returns-in_err-show-in-Err-
 returns-in_err-show-in-Err-clause-refused g c =
     exit_by (Fails g.W.World.sees (map string_bytes c.args.words.now)) _ c.from_residual.ensures.1 (in_words c.in_err-show-in-Err.ensures.fault)
 
-pub returns-in_err-show-in-Err-clause-unended : goal.returns-in_err-show-in-Err-clause-unended
-returns-in_err-show-in-Err-clause-unended g c =
-    let words = map string_bytes c.args.words.now in
-    where_err c.from_residual.result (λ called. no_line_of_same _ _ (c.in_err-show-in-Err.ensures.silent (no_help words called.faultless) (no_version words called.faultless)))
-
 pub returns-in_err-show-in-Err-clause-begun : goal.returns-in_err-show-in-Err-clause-begun
-returns-in_err-show-in-Err-clause-begun g c =
-    let words = map string_bytes c.args.words.now in
-    where_err c.from_residual.result (λ called. inl (c.in_err-show-in-Err.ensures.silent (no_help words called.faultless) (no_version words called.faultless)))
+returns-in_err-show-in-Err-clause-begun g c = where_err c.from_residual.result (Begun.shown c.in_err-show-in-Err.ensures.begun)
 
 pub unreachable-requires : goal.unreachable-requires
 unreachable-requires g c =
@@ -108,3 +102,38 @@ returns-in_err-run_serve-in-serve-clause-unprinted g c =
 pub returns-in_err-run_verify-in-verify-clause-unprinted : goal.returns-in_err-run_verify-in-verify-clause-unprinted
 returns-in_err-run_verify-in-verify-clause-unprinted g c =
     exit_by _ _ c.from_residual-in_err-run_verify-in-verify.ensures.1 c.in_err-run_verify-in-verify.ensures.unprinted
+
+pub returns-in_err-run_verify-in-verify-clause-begun : goal.returns-in_err-run_verify-in-verify-clause-begun
+returns-in_err-run_verify-in-verify-clause-begun g c =
+    let words = map string_bytes c.args.words.now in
+    let called : CallsCommand words (codes "verify") = record { faultless = c.in-Ok.ensures.fails; command_is = search rules } in
+    where_err c.from_residual-in_err-run_verify-in-verify.result
+    (Begun.verified called c.in_err-run_verify-in-verify.ensures.unended)
+
+pub returns-in_err-run_get-in-get-clause-begun : goal.returns-in_err-run_get-in-get-clause-begun
+returns-in_err-run_get-in-get-clause-begun g c =
+    let words = map string_bytes c.args.words.now in
+    let called : CallsCommand words (codes "get") = record { faultless = c.in-Ok.ensures.fails; command_is = search rules } in
+    let rows = options_found (subcommand_rows_of c.in-Ok.matches) (subcommand_of program_line words) _ c.in-Ok.ensures.called c.in-Some.ensures.rows in
+    where_err c.from_residual-in_err-run_get-in-get.result
+    (get_begins words rows called c.in_err-run_get-in-get.ensures.begun)
+
+pub returns-in_err-run_build-in-build-clause-begun : goal.returns-in_err-run_build-in-build-clause-begun
+returns-in_err-run_build-in-build-clause-begun g c =
+    let words = map string_bytes c.args.words.now in
+    let called : CallsCommand words (codes "build") = record { faultless = c.in-Ok.ensures.fails; command_is = search rules } in
+    let rows = options_found (subcommand_rows_of c.in-Ok.matches) (subcommand_of program_line words) _ c.in-Ok.ensures.called c.in-Some.ensures.rows in
+    where_err c.from_residual-in_err-run_build-in-build.result
+    (build_begins words rows called c.in_err-run_build-in-build.ensures.begun)
+
+pub returns-in_err-run_put-in-put-clause-begun : goal.returns-in_err-run_put-in-put-clause-begun
+returns-in_err-run_put-in-put-clause-begun g c =
+    let words = map string_bytes c.args.words.now in
+    let called : CallsCommand words (codes "put") = record { faultless = c.in-Ok.ensures.fails; command_is = search rules } in
+    where_err c.from_residual-in_err-run_put-in-put.result (Begun.put called)
+
+pub returns-in_err-run_serve-in-serve-clause-begun : goal.returns-in_err-run_serve-in-serve-clause-begun
+returns-in_err-run_serve-in-serve-clause-begun g c =
+    let words = map string_bytes c.args.words.now in
+    let called : CallsCommand words (codes "serve") = record { faultless = c.in-Ok.ensures.fails; command_is = search rules } in
+    where_err c.from_residual-in_err-run_serve-in-serve.result (Begun.served called)

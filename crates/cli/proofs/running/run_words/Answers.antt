@@ -41,10 +41,6 @@ returns-in-Ok-clause-unprinted g c =
     λ two. absurd (not_refused c.tell_ended.result (g.E.Write.contents c.args.err.now) (g.E.Write.contents c.tell_ended.new.err) c.in-Ok.ended c.tell_ended.ensures
     (subst (λ n. 2 ≤ n) (sym two) (omega arith)))
 
-pub returns-in-Ok-clause-unended : goal.returns-in-Ok-clause-unended
-returns-in-Ok-clause-unended g c =
-    λ many. absurd (not_refused c.tell_ended.result (g.E.Write.contents c.args.err.now) (g.E.Write.contents c.tell_ended.new.err) c.in-Ok.ended c.tell_ended.ensures many)
-
 pub returns-in-Ok-clause-begun : goal.returns-in-Ok-clause-begun
 returns-in-Ok-clause-begun g c =
     λ many. absurd (not_refused c.tell_ended.result (g.E.Write.contents c.args.err.now) (g.E.Write.contents c.tell_ended.new.err) c.in-Ok.ended c.tell_ended.ensures many)
