@@ -14,7 +14,7 @@ use Rattle.cli.specs.Running.{Ends, TellsEnd}
 use Rattle.cli.specs.Ended.Fails.{in_build, in_get, in_put, in_serve, in_verify}
 use Rattle.cli.specs.Ended.IsDone.{built, got, yes}
 use Rattle.cli.specs.Ended.IsNo.{failed, no, none}
-use Rattle.commands.specs.Printed.{GetsAsked, GetsPart, NotesStore, PrintsVerdict}
+use Rattle.commands.specs.Printed.{BeginsDigest, BeginsListening, BeginsVerdict, GetsAsked, GetsPart, NotesStore, PrintsVerdict}
 use Rattle.commands.specs.Refusal.{FailsVerify}
 use Rattle.commands.specs.World.{Sight}
 use Rattle.commands.specs.Ended.{is_done}
@@ -24,6 +24,7 @@ use Rattle.commands.specs.ServeRefused.{FailsServe}
 use Rattle.commands.specs.declared.ended.Ended.{Ended}
 use Rattle.commands.specs.declared.ended.Ended.TheVariants.{Done, No}
 use Rattle.commands.specs.Status.{status_of}
+use Rattle.commands.specs.Told.{PrintsNoLine}
 use Rattle.commands.specs.declared.error.CommandError.{CommandError}
 use Rattle.commands.specs.declared.error.CommandError.TheVariants.{Words, Digest, Number, Text as TextFault, Unlike, File}
 use Rattle.commands.specs.declared.error.CommandError.TheVariants.{NotAFile, TooLarge, Entry, Connection}
@@ -64,8 +65,17 @@ module _ {sees : Sight} (words : List Text) {rows : List Row} (is : rows ≡ opt
   build_ends {old} {new} Done called h = built called (subst (λ (o : List Row). PrintsBuild sees o old new Done) is h)
   build_ends {old} {new} (No note) called h = failed called (subst (λ (o : List Row). PrintsBuild sees o old new (No note)) is h)
 
-  pub get_begins : {old new : Option (List ℕ)} → CallsCommand words (codes "get") → GetsPart rows old new → BeginsAsked sees words old new
-  get_begins {old} {new} called h = Begun.got called (subst (λ (o : List Row). GetsPart o old new) is h)
+  pub verify_begins : {old new : Option (List ℕ)} → CallsCommand words (codes "verify") → BeginsVerdict sees rows old new → PrintsNoLine old new → BeginsAsked sees words old new
+  verify_begins {old} {new} called h none = Begun.verified called (subst (λ (o : List Row). BeginsVerdict sees o old new) is h) none
+
+  pub get_begins : {old new : Option (List ℕ)} → CallsCommand words (codes "get") → GetsPart sees rows old new → BeginsAsked sees words old new
+  get_begins {old} {new} called h = Begun.got called (subst (λ (o : List Row). GetsPart sees o old new) is h)
+
+  pub put_begins : {old new : Option (List ℕ)} → CallsCommand words (codes "put") → BeginsDigest sees rows old new → BeginsAsked sees words old new
+  put_begins {old} {new} called h = Begun.put called (subst (λ (o : List Row). BeginsDigest sees o old new) is h)
+
+  pub serve_begins : {old new : Option (List ℕ)} → CallsCommand words (codes "serve") → BeginsListening sees rows old new → BeginsAsked sees words old new
+  serve_begins {old} {new} called h = Begun.served called (subst (λ (o : List Row). BeginsListening sees o old new) is h)
 
   pub build_begins : {old new : Option (List ℕ)} → CallsCommand words (codes "build") → BeginsBuild sees rows old new → BeginsAsked sees words old new
   build_begins {old} {new} called h = Begun.built called (subst (λ (o : List Row). BeginsBuild sees o old new) is h)

@@ -9,8 +9,8 @@ use Rattle.verifier.specs.Verdict.{IsYes}
 use Rattle.cli.specs.Built.{BeginsBuild, PrintsBuild}
 use Rattle.cli.specs.Help.{help_asked, version_line}
 use Rattle.cli.specs.Refused.{FailsBuild}
-use Rattle.commands.specs.Printed.{GetsAsked, GetsPart, NotesStore, PrintsDigest, PrintsVerdict}
-use Rattle.commands.specs.Printed.{ServesAsked}
+use Rattle.commands.specs.Printed.{BeginsDigest, BeginsListening, BeginsVerdict, GetsAsked}
+use Rattle.commands.specs.Printed.{GetsPart, NotesStore, PrintsDigest, PrintsVerdict, ServesAsked}
 use Rattle.commands.specs.GetRefused.{FailsGet}
 use Rattle.commands.specs.PutRefused.{FailsPut}
 use Rattle.commands.specs.Refusal.{FailsVerify, IsPrintFault}
@@ -81,14 +81,16 @@ pub record EndsNo (sees : Sight) (words : List Text) (old new old_err new_err : 
 -- That was begun, or what the called command answers: of `verify` no line is whole.
 pub data BeginsAsked (sees : Sight) (words : List Text) (old new : Option (List ℕ)) : Type 0 where
   shown : BeginsShown words old new → BeginsAsked sees words old new
-  verified : CallsCommand words (codes "verify") → PrintsNoLine old new
+  verified : CallsCommand words (codes "verify") → BeginsVerdict sees (options_of words) old new
+      → PrintsNoLine old new → BeginsAsked sees words old new
+  got : CallsCommand words (codes "get") → GetsPart sees (options_of words) old new
       → BeginsAsked sees words old new
-  got : CallsCommand words (codes "get") → GetsPart (options_of words) old new
+  put : CallsCommand words (codes "put") → BeginsDigest sees (options_of words) old new
+      → BeginsAsked sees words old new
+  served : CallsCommand words (codes "serve") → BeginsListening sees (options_of words) old new
       → BeginsAsked sees words old new
   built : CallsCommand words (codes "build") → BeginsBuild sees (options_of words) old new
       → BeginsAsked sees words old new
-  put : CallsCommand words (codes "put") → BeginsAsked sees words old new
-  served : CallsCommand words (codes "serve") → BeginsAsked sees words old new
 
 -- the words are at fault, with more than to ask for help or the version
 pub record HasFault (words : List Text) : Type 0 where

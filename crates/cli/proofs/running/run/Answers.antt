@@ -5,7 +5,7 @@ use Rattle.command_lines.specs.CommandLine.{CallsCommand, program_line}
 use Rattle.command_lines.proofs.Called.{calls_one}
 use Rattle.commands.proofs.Exits.{exit_by}
 use Rattle.commands.proofs.Writing.{where_err}
-use Rattle.cli.proofs.CommandLines.{build_begins, build_ends, build_fails, get_begins, get_ends, get_fails, none_called, options_found, put_fails, serve_fails, verify_ends, verify_fails}
+use Rattle.cli.proofs.CommandLines.{build_begins, build_ends, build_fails, get_begins, get_ends, get_fails, none_called, options_found, put_begins, put_fails, serve_begins, serve_fails, verify_begins, verify_ends, verify_fails}
 use Rattle.cli.specs.Ended.{Fails}
 use Rattle.cli.specs.Ended.BeginsAsked as Begun
 use Rattle.cli.specs.Ended.Fails.{in_words}
@@ -107,33 +107,33 @@ pub returns-in_err-run_verify-in-verify-clause-begun : goal.returns-in_err-run_v
 returns-in_err-run_verify-in-verify-clause-begun g c =
     let words = map string_bytes c.args.words.now in
     let called : CallsCommand words (codes "verify") = record { faultless = c.in-Ok.ensures.fails; command_is = search rules } in
-    where_err c.from_residual-in_err-run_verify-in-verify.result
-    (Begun.verified called c.in_err-run_verify-in-verify.ensures.unended)
+    let rows = options_found (subcommand_rows_of c.in-Ok.matches) (subcommand_of program_line words) _ c.in-Ok.ensures.called c.in-Some.ensures.rows in
+    where_err c.from_residual-in_err-run_verify-in-verify.result (verify_begins words rows called c.in_err-run_verify-in-verify.ensures.begun c.in_err-run_verify-in-verify.ensures.unended)
 
 pub returns-in_err-run_get-in-get-clause-begun : goal.returns-in_err-run_get-in-get-clause-begun
 returns-in_err-run_get-in-get-clause-begun g c =
     let words = map string_bytes c.args.words.now in
     let called : CallsCommand words (codes "get") = record { faultless = c.in-Ok.ensures.fails; command_is = search rules } in
     let rows = options_found (subcommand_rows_of c.in-Ok.matches) (subcommand_of program_line words) _ c.in-Ok.ensures.called c.in-Some.ensures.rows in
-    where_err c.from_residual-in_err-run_get-in-get.result
-    (get_begins words rows called c.in_err-run_get-in-get.ensures.begun)
+    where_err c.from_residual-in_err-run_get-in-get.result (get_begins words rows called c.in_err-run_get-in-get.ensures.begun)
+
+pub returns-in_err-run_put-in-put-clause-begun : goal.returns-in_err-run_put-in-put-clause-begun
+returns-in_err-run_put-in-put-clause-begun g c =
+    let words = map string_bytes c.args.words.now in
+    let called : CallsCommand words (codes "put") = record { faultless = c.in-Ok.ensures.fails; command_is = search rules } in
+    let rows = options_found (subcommand_rows_of c.in-Ok.matches) (subcommand_of program_line words) _ c.in-Ok.ensures.called c.in-Some.ensures.rows in
+    where_err c.from_residual-in_err-run_put-in-put.result (put_begins words rows called c.in_err-run_put-in-put.ensures.begun)
+
+pub returns-in_err-run_serve-in-serve-clause-begun : goal.returns-in_err-run_serve-in-serve-clause-begun
+returns-in_err-run_serve-in-serve-clause-begun g c =
+    let words = map string_bytes c.args.words.now in
+    let called : CallsCommand words (codes "serve") = record { faultless = c.in-Ok.ensures.fails; command_is = search rules } in
+    let rows = options_found (subcommand_rows_of c.in-Ok.matches) (subcommand_of program_line words) _ c.in-Ok.ensures.called c.in-Some.ensures.rows in
+    where_err c.from_residual-in_err-run_serve-in-serve.result (serve_begins words rows called c.in_err-run_serve-in-serve.ensures.begun)
 
 pub returns-in_err-run_build-in-build-clause-begun : goal.returns-in_err-run_build-in-build-clause-begun
 returns-in_err-run_build-in-build-clause-begun g c =
     let words = map string_bytes c.args.words.now in
     let called : CallsCommand words (codes "build") = record { faultless = c.in-Ok.ensures.fails; command_is = search rules } in
     let rows = options_found (subcommand_rows_of c.in-Ok.matches) (subcommand_of program_line words) _ c.in-Ok.ensures.called c.in-Some.ensures.rows in
-    where_err c.from_residual-in_err-run_build-in-build.result
-    (build_begins words rows called c.in_err-run_build-in-build.ensures.begun)
-
-pub returns-in_err-run_put-in-put-clause-begun : goal.returns-in_err-run_put-in-put-clause-begun
-returns-in_err-run_put-in-put-clause-begun g c =
-    let words = map string_bytes c.args.words.now in
-    let called : CallsCommand words (codes "put") = record { faultless = c.in-Ok.ensures.fails; command_is = search rules } in
-    where_err c.from_residual-in_err-run_put-in-put.result (Begun.put called)
-
-pub returns-in_err-run_serve-in-serve-clause-begun : goal.returns-in_err-run_serve-in-serve-clause-begun
-returns-in_err-run_serve-in-serve-clause-begun g c =
-    let words = map string_bytes c.args.words.now in
-    let called : CallsCommand words (codes "serve") = record { faultless = c.in-Ok.ensures.fails; command_is = search rules } in
-    where_err c.from_residual-in_err-run_serve-in-serve.result (Begun.served called)
+    where_err c.from_residual-in_err-run_build-in-build.result (build_begins words rows called c.in_err-run_build-in-build.ensures.begun)
