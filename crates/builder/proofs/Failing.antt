@@ -49,7 +49,7 @@ module _ {A : Type 0} (place : Place) where
   tells (refusals.Layout (layouts.LinkInput q)) = (refl, refl)
   tells (refusals.Layout layouts.Memory) = (refl, refl)
   tells (refusals.Run children.NotAbsolute) = (refl, refl)
-  tells (refusals.Run children.Device) = (refl, refl)
+  tells (refusals.Run (children.Device p cause)) = (refl, refl)
   tells (refusals.Run (children.BadOutput q)) = (refl, refl)
   tells (refusals.Run children.Memory) = (refl, refl)
   tells refusals.Fetch = (refl, refl)
@@ -98,11 +98,11 @@ exit_device Is x r exit by f =
 
 -- what a count says of a build's answer, of its fault
 module _ {A T : Type 0} {a b : ℕ} {r : Result T (BuildPlanError A)} where
-  pub failed_as : {e : BuildPlanError A} {x : Fault} → r ≡ Err e → fault_of e ≡ x → Counts a b (IsErrAnd r (λ y. IsRunnerFailure (fault_of y))) → Counts a b (IsRunnerFailure x)
-  failed_as is fault k = subst (λ x. Counts a b (IsRunnerFailure x)) fault (subst (λ q. Counts a b (IsErrAnd q (λ y. IsRunnerFailure (fault_of y)))) is k)
+  pub as_told : (P : BuildPlanError A → Type 0) {e : BuildPlanError A} → r ≡ Err e → Counts a b (IsErrAnd r P) → Counts a b (P e)
+  as_told P {e} is k = subst (λ q. Counts a b (IsErrAnd q P)) is k
 
   pub unfailed_as : {e : BuildPlanError A} {x : Fault} → r ≡ Err e → fault_of e ≡ x → (IsRunnerFailure x → ⊥) → Counts a b (IsErrAnd r (λ y. IsRunnerFailure (fault_of y))) → b ≡ a
-  unfailed_as is fault other k = (failed_as is fault k).unfailed other
+  unfailed_as is fault other k = (subst (λ x. Counts a b (IsRunnerFailure x)) fault (as_told (λ y. IsRunnerFailure (fault_of y)) is k)).unfailed other
 
   pub none_failed : {v : T} → r ≡ Ok v → Counts a b (IsErrAnd r (λ y. IsRunnerFailure (fault_of y))) → b ≡ a
   none_failed is k = (subst (λ q. Counts a b (IsErrAnd q (λ y. IsRunnerFailure (fault_of y)))) is k).unfailed (λ f. f)

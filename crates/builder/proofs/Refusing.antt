@@ -1,5 +1,5 @@
 -- That a build ran, and what is told of it; and where each step has finished there is a record.
-use Rattle.std.proofs.Common.{◌≡◌, ℕ, List, [], ◌∷◌, Option, Some, None, Result, Err, refl, ap, ◌∙◌}
+use Rattle.std.proofs.Common.{◌≡◌, ℕ, List, [], ◌∷◌, Option, Some, None, Result, refl, ap, subst, inr, ◌∙◌}
 use Rattle.std.specs.Prelude.{IsSome, option_map}
 use Rattle.std.specs.List.{AllByRecursion}
 use Rattle.std.specs.Result.{IsErrAnd}
@@ -15,10 +15,12 @@ use Rattle.worker.specs.Outcomes.{Yields}
 use Rattle.worker.specs.Watching.{IsProgress, IsWatched}
 use Rattle.worker.proofs.Acts.{led_same, puts_act}
 use Rattle.builder.specs.Built.{Builds, BuiltValue, Ran, Seen}
-use Rattle.builder.specs.Telling.{IsBuildTold, Tells}
+use Rattle.builder.specs.Telling.{IsBuildTold}
 use Rattle.builder.specs.declared.error.BuildPlanError.{BuildPlanError}
+use Rattle.builder.specs.declared.error.BuildPlanError.TheVariants as errors
+use Rattle.runs.specs.declared.error.RunsError.TheVariants as runs
 use Rattle.builder.specs.declared.fault.Fault.{Fault}
-use Rattle.builder.specs.Faults.{fault_of}
+use Rattle.builder.specs.Faults.{HasNoNumber, fault_of}
 use Rattle.builder.specs.declared.fault.Fault.TheVariants.{Device, Fetch, Memory, Refused}
 use Rattle.builder.specs.declared.fault.Place.{Place}
 use Rattle.builder.specs.declared.telling.Told.{Told}
@@ -43,17 +45,17 @@ ran_by A y most plan sources old new opening ending first last asked opened led 
 
 -- memory ran out as it was told
 pub memory_told : {A : Type 0} (y : Yields) (most : ℕ) (plan : PlanValue) (sources : DigestValue) (old new : Seen) (came : Result BuiltValue (BuildPlanError A)) → Builds A y most plan sources old new came
-    → (r : Result (Told A) Fault) → IsErrAnd r (λ x. x ≡ Memory) → IsBuildTold y most plan sources old new r
+    → (r : Result (Told A) (BuildPlanError A)) → IsErrAnd r (λ x. x ≡ errors.Root runs.Memory) → IsBuildTold y most plan sources old new r
 memory_told y most plan sources old new came builds r exit =
     let p = err_from_is_err_and r exit in
-    rw (p.1, p.2) (record { came = came; builds = builds; tells = tt })
+    rw (p.1, p.2) (record { came = came; builds = builds; tells = record { unnumbered = tt; is = inr refl } })
 
--- what isn't refused has no number, and is told
-pub fault_told : {A : Type 0} (plan : PlanValue) (error : BuildPlanError A) (fault : Fault) → fault ≡ fault_of error → ((place : Place) (number : ℕ) → fault ≡ Refused place number → ⊥) → Tells plan (Err fault) (Err error)
-fault_told plan error (Refused place number) is other = absurd (other place number refl)
-fault_told plan error (Fetch place) is other = (is, tt)
-fault_told plan error (Device place) is other = (is, tt)
-fault_told plan error Memory is other = tt
+-- what isn't refused has no number
+pub unnumbered : {A : Type 0} (error : BuildPlanError A) (fault : Fault) → fault ≡ fault_of error → ((place : Place) (number : ℕ) → fault ≡ Refused place number → ⊥) → HasNoNumber (fault_of error)
+unnumbered error (Refused place number) is other = absurd (other place number refl)
+unnumbered error (Fetch place) is other = subst HasNoNumber is tt
+unnumbered error (Device place) is other = subst HasNoNumber is tt
+unnumbered error Memory is other = subst HasNoNumber is tt
 
 kept_all : (fs : List (Option FinishedValue)) → AllByRecursion IsSome fs → (ds : List DigestValue) × (kept_digests fs ≡ Some ds)
 kept_all [] all = ([], refl)

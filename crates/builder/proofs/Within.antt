@@ -10,7 +10,6 @@ use Rattle.builder.specs.Built.{BuiltValue, Builds, Ran, Seen, store_alone}
 use Rattle.builder.specs.Telling.{IsBuildTold}
 use Rattle.builder.specs.declared.error.BuildPlanError.{BuildPlanError}
 use Rattle.builder.specs.declared.error.BuildPlanError.TheVariants.{Opening, Step, Root}
-use Rattle.builder.specs.declared.fault.Fault.{Fault}
 use Rattle.builder.specs.declared.telling.Told.{Told}
 
 module _ {A : Type 0} (z y : Yields) (most : ℕ) (plan : PlanValue) (sources : DigestValue) (old new : Seen) (within : YieldsNoMore z y) where
@@ -41,5 +40,5 @@ module _ {A : Type 0} (z y : Yields) (most : ℕ) (plan : PlanValue) (sources : 
   builds_within (Err (Step error)) (first, last, r, h) = (first, last, ran_within first last r, refused_within A z y new.store within h)
   builds_within (Err (Root error)) (first, last, r, h) = (first, last, ran_within first last r, record { complete = h.complete; stands = h.stands; unfailed = refl })
 
-  pub told_within : (told : Result (Told A) Fault) → IsBuildTold z most plan sources old new told → IsBuildTold y most plan sources (store_alone old.store) (store_alone new.store) told
+  pub told_within : (told : Result (Told A) (BuildPlanError A)) → IsBuildTold z most plan sources old new told → IsBuildTold y most plan sources (store_alone old.store) (store_alone new.store) told
   told_within told h = record { came = h.came; builds = builds_within h.came h.builds; tells = h.tells }

@@ -61,7 +61,7 @@ of_layout place layouts.Memory = Memory
 -- of a child
 abbrev pub of_run : {A : Type 0} → Place → RunError A → Fault
 of_run place children.NotAbsolute = Refused place 112
-of_run place children.Device = Device place
+of_run place (children.Device program cause) = Device place
 of_run place (children.BadOutput path) = Refused place 114
 of_run place children.Memory = Memory
 

@@ -1,12 +1,11 @@
 -- What a build tells.
-use Rattle.std.specs.Prelude.{◌≡◌, ℕ, List, length, Result, Ok, Err, string_bytes}
+use Rattle.std.specs.Prelude.{◌≡◌, ◌⊎◌, ℕ, List, length, Result, Ok, Err, string_bytes}
 use Rattle.blob_digest.specs.Digest.{DigestValue}
 use Rattle.plan.specs.Record.{record_text}
 use Rattle.plan.specs.Values.{PlanValue}
 use Rattle.worker.specs.Outcomes.{Yields}
 use Rattle.worker.specs.Values.{blobs_of}
 use Rattle.builder.specs.declared.error.BuildPlanError.{BuildPlanError}
-use Rattle.builder.specs.declared.fault.Fault.{Fault}
 use Rattle.builder.specs.declared.fault.Fault.TheVariants.{Refused, Memory}
 use Rattle.builder.specs.declared.fault.Place.{Place}
 use Rattle.builder.specs.declared.telling.Told.{Told}
@@ -32,21 +31,27 @@ pub record TellsFailed {A : Type 0} (plan : PlanValue) (error : BuildPlanError A
   pub line_is : line ≡ failed_text plan.steps place number
   pub why_is : why ≡ why_text plan.steps place error
 
--- What is told of what came of a plan: the root, a refusal with a number, or a fault that has none.
--- Memory may run out as it is told.
-abbrev pub Tells : {A : Type 0} → PlanValue → Result (Told A) Fault
+-- What came of a plan can't be told in a line: it ended with this error, which has no number; or
+-- memory ran out as it was told.
+pub record IsUntold {A : Type 0} (came : Result BuiltValue (BuildPlanError A))
+    (error : BuildPlanError A) : Type 0 where
+  pub unnumbered : HasNoNumber (fault_of error)
+  pub is : (came ≡ Err error) ⊎ (fault_of error ≡ Memory)
+
+-- what is told of what came of a plan: the root, or a refusal with a number
+abbrev pub Tells : {A : Type 0} → PlanValue → Result (Told A) (BuildPlanError A)
     → Result BuiltValue (BuildPlanError A) → Type 0
 Tells plan (Ok (Built line noted directories)) (Ok b) =
     TellsBuilt plan b (string_bytes line) noted.items (blobs_of directories.items)
 Tells plan (Ok (Failed line why)) (Err error) =
     TellsFailed plan error (string_bytes line) (string_bytes why)
-Tells plan (Err Memory) came = Unit {0}
-Tells plan (Err fault) (Err error) = (fault ≡ fault_of error) × HasNoNumber fault
+Tells plan (Err error) came = IsUntold came error
 Tells plan told came = ⊥
 
 -- it is told of what came of this plan
 pub record IsBuildTold {A : Type 0} (yields : Yields) (most : ℕ) (plan : PlanValue)
-    (sources : DigestValue) (old new : Seen) (told : Result (Told A) Fault) : Type 0 where
+    (sources : DigestValue) (old new : Seen) (told : Result (Told A) (BuildPlanError A))
+    : Type 0 where
   pub came : Result BuiltValue (BuildPlanError A)
   pub builds : Builds A yields most plan sources old new came
   pub tells : Tells plan told came

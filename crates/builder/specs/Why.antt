@@ -65,7 +65,7 @@ layout_words layouts.Memory = codes "out of memory"
 
 abbrev pub child_words : {A : Type 0} → RunError A → List ℕ
 child_words children.NotAbsolute = codes "the program has no absolute path"
-child_words children.Device = codes "the process failed"
+child_words (children.Device program cause) = codes "the process failed"
 child_words (children.BadOutput path) = about_path (codes "path") path (codes "is no output")
 child_words children.Memory = codes "out of memory"
 

@@ -1,8 +1,9 @@
 ghost use Rattle.std.specs.Prelude.{◌≡◌};
 ghost use Rattle.builder.specs.declared.error.BuildPlanError.TheVariants as errors;
+ghost use Rattle.runs.specs.declared.error.RunsError.TheVariants as runs;
 
 use runs::{OpenError, RunsError};
-use std::alloc::Allocator;
+use std::alloc::{AllocError, Allocator};
 use thiserror::Error;
 use worker::BuildError;
 
@@ -16,9 +17,17 @@ pub enum BuildPlanError<A: Allocator> {
     /// A step was refused.
     #[error("a step was refused")]
     Step(BuildError<A>),
-    /// The root was refused, or there was no memory for the record.
+    /// The root was refused, or there was no memory for the record or for what is told.
     #[error("the root was refused")]
     Root(RunsError<A>),
+}
+
+impl<A: Allocator> From<AllocError> for BuildPlanError<A> {
+    ghost from_gives = { λ _ e. e ≡ errors.Root runs.Memory };
+
+    fn from(_e: AllocError) -> BuildPlanError<A> {
+        BuildPlanError::Root(RunsError::Memory)
+    }
 }
 
 impl<A: Allocator> From<OpenError<A>> for BuildPlanError<A> {

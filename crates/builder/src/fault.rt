@@ -1,11 +1,10 @@
 ghost use Rattle.std.specs.Prelude.{◌≡◌};
 ghost use Rattle.builder.specs.Faults.{fault_of, of_layout, of_opening, of_refusal, of_run};
 ghost use Rattle.builder.specs.Faults.{of_runs, of_source, of_told};
-ghost use Rattle.builder.specs.declared.fault.Fault.TheVariants as faults;
 
 use crate::error::BuildPlanError;
 use runs::{OpenError, RunsError};
-use std::alloc::{AllocError, AllocFailed, Allocator};
+use std::alloc::Allocator;
 use thiserror::Error;
 use tree::TreeError;
 use worker::{LayoutError, Refusal, RunError};
@@ -33,22 +32,6 @@ pub enum Fault {
     /// No memory was left.
     #[error("out of memory")]
     Memory,
-}
-
-impl From<AllocError> for Fault {
-    ghost from_gives = { λ _ e. e ≡ faults.Memory };
-
-    fn from(_e: AllocError) -> Fault {
-        Fault::Memory
-    }
-}
-
-impl<T: Drop> From<AllocFailed<T>> for Fault {
-    ghost from_gives = { λ _ e. e ≡ faults.Memory };
-
-    fn from(_e: AllocFailed<T>) -> Fault {
-        Fault::Memory
-    }
 }
 
 /// The fault of a Directory, a frame or a command that can't be read.
@@ -124,7 +107,7 @@ fn of_run<A: Allocator>(place: Place, error: &RunError<A>) -> Fault
 {
     match error {
         RunError::NotAbsolute => Fault::Refused(place, 112),
-        RunError::Device => Fault::Device(place),
+        RunError::Device { .. } => Fault::Device(place),
         RunError::BadOutput(_) => Fault::Refused(place, 114),
         RunError::Memory => Fault::Memory,
     }

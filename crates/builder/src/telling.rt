@@ -2,11 +2,12 @@ ghost use Rattle.std.specs.Prelude.{◌≡◌, ◌<◌, IfOk, Ok};
 ghost use Rattle.std.specs.Result.{IsErrAnd};
 ghost use Rattle.blob_source.specs.Sink.{KeepsRight};
 ghost use Rattle.builder.specs.Built.{seen};
-ghost use Rattle.builder.specs.Faults.{IsRunnerFailure, IsStoreFailure};
+ghost use Rattle.builder.specs.Faults.{IsRunnerFailure, IsStoreFailure, fault_of};
 ghost use Rattle.builder.specs.Telling.{IsBuildTold, Tells};
 ghost use Rattle.worker.specs.Counted.{Counts};
 
 use crate::building::{Built, build_plan};
+use crate::error::BuildPlanError;
 use crate::fault::{Fault, fault_of};
 use crate::line::{built_line, failed_line};
 use crate::why::why_text;
@@ -57,7 +58,8 @@ fn tell_root<A: Allocator + Copy>(
 }
 
 /// Builds a plan, as `build_plan` does, and tells what it came to in a line; and in the text of the
-/// record, where it came to its root, or in words, why it was refused.
+/// record, where it came to its root, or in words, why it was refused. An error without a number
+/// has no line.
 pub fn tell_build<A: Allocator + Copy, S: BlobSink<A>, N: Runner<A>, W: Watcher>(
     alloc: A,
     sources: &Digest,
@@ -66,11 +68,11 @@ pub fn tell_build<A: Allocator + Copy, S: BlobSink<A>, N: Runner<A>, W: Watcher>
     runner: &mut N,
     watcher: &mut W,
     jobs: usize,
-) -> Result<Told<A>, Fault>
+) -> Result<Told<A>, BuildPlanError<A>>
     requires some { 0 < jobs }
     // What is told is what came of the plan: the line, the record and the Directories are those of
-    // a build that came to its root; or line and words tell the refusal; or the fault has no
-    // number.
+    // a build that came to its root; or line and words tell the refusal; or the error, which has no
+    // number, is the build's own.
     ensures told { IsBuildTold (N.yields runner.old) jobs plan.now sources.now
         (seen (S.tells sink.old) (N.starts runner.old) (N.failures runner.old)
         (W.told watcher.old))
@@ -82,20 +84,20 @@ pub fn tell_build<A: Allocator + Copy, S: BlobSink<A>, N: Runner<A>, W: Watcher>
     // The store failed exactly where that is told, and the runner at least there, and there alone
     // where one job runs at once.
     ensures fetched { Counts (S.tells sink.old).failures (S.tells sink.new).failures
-        (IsErrAnd result IsStoreFailure) }
-    ensures device { IsErrAnd result IsRunnerFailure
+        (IsErrAnd result (λ e. IsStoreFailure (fault_of e))) }
+    ensures device { IsErrAnd result (λ e. IsRunnerFailure (fault_of e))
         → N.failures runner.old < N.failures runner.new }
     ensures alone { jobs ≡ 1 → Counts (N.failures runner.old) (N.failures runner.new)
-        (IsErrAnd result IsRunnerFailure) }
+        (IsErrAnd result (λ e. IsRunnerFailure (fault_of e))) }
 {
-    match build_plan(alloc, *sources, plan, sink, runner, watcher, jobs) {
-        Ok(built) => Ok(tell_root(alloc, plan, built)?),
-        Err(error) => match fault_of(&error) {
-            Fault::Refused(place, number) => Ok(Told::Failed {
-                line: failed_line(alloc, plan, place, number)?,
-                why: why_text(alloc, plan, place, &error)?,
-            }),
-            fault => Err(fault),
-        },
-    }
+    let error = match build_plan(alloc, *sources, plan, sink, runner, watcher, jobs) {
+        Ok(built) => return Ok(tell_root(alloc, plan, built)?),
+        Err(error) => error,
+    };
+    let Fault::Refused(place, number) = fault_of(&error) else {
+        return Err(error);
+    };
+    let line = failed_line(alloc, plan, place, number)?;
+    let why = why_text(alloc, plan, place, &error)?;
+    Ok(Told::Failed { line, why })
 }

@@ -119,7 +119,7 @@ fn child_words<A: Allocator + Copy, B: Allocator>(
 {
     match error {
         RunError::NotAbsolute => String::from_str(alloc, "the program has no absolute path"),
-        RunError::Device => String::from_str(alloc, "the process failed"),
+        RunError::Device { .. } => String::from_str(alloc, "the process failed"),
         RunError::BadOutput(path) => about_path(alloc, "path", path, "is no output"),
         RunError::Memory => String::from_str(alloc, "out of memory"),
     }
