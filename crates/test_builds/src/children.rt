@@ -2,15 +2,17 @@
 //! is built twice over one store.
 ghost use Rattle.std.specs.Prelude.{◌<◌};
 
-use crate::answers::{Answer, Broken, count_in, is, said};
+use crate::answers::{Answer, Broken, count_in, is, said, word};
 use crate::counting::{Came, Counting, Noting};
 use crate::stock::source_of;
 use blob_digest::Digest;
-use builder::{Fault, Told, tell_build};
+use builder::{BuildPlanError, Fault, Told, fault_of, place_text, tell_build};
 use plan::Plan;
 use std::alloc::{AllocError, Allocator, Global};
+use std::io;
 use test_support::Row;
 use tree::MemorySource;
+use worker::{Cause, Refusal, RunError};
 
 /// What came of a build.
 #[derive(Drop)]
@@ -42,10 +44,13 @@ pub fn answer<A: Allocator + Copy>(
 
 /// What a row's text says of each child.
 pub fn came_of(text: &[u8]) -> Came {
-    if is(text, "out") || is(text, "out unheard") {
-        Came::File("out", "123456789")
-    } else {
-        Came::Code(if is(text, "0") { 0 } else { 3 })
+    match word(text) {
+        "out" | "out unheard" => Came::File("out", "123456789"),
+        "unstarted" => Came::Fails(Cause::Unstarted(io::Error::from_raw_os_error(2))),
+        "unread" => Came::Fails(Cause::Unread(io::Error::from_raw_os_error(5))),
+        "signal" => Came::Fails(Cause::Signal(9)),
+        "0" => Came::Code(0),
+        _ => Came::Code(3),
     }
 }
 
@@ -73,8 +78,7 @@ fn build_once<A: Allocator + Copy>(
         jobs,
     ) {
         Ok(told) => Some(told_of(global, &told)?),
-        Err(Fault::Memory) => None,
-        Err(fault) => Some(format!(in global; "{fault}")?),
+        Err(error) => error_told(global, plan, &error)?,
     };
     Ok(Tried {
         told,
@@ -95,6 +99,42 @@ pub fn told_of<A: Allocator>(global: Global, told: &Told<A>) -> Result<String, A
             let (line, why) = (line.as_str(), why.as_str());
             format!(in global; "{line}{why}\n")
         }
+    }
+}
+
+/// The program and the cause of a step's process that failed; nothing of another error.
+pub fn failure_told<A: Allocator>(
+    global: Global,
+    error: &BuildPlanError<A>,
+) -> Result<Option<String>, AllocError> {
+    let BuildPlanError::Step(refused) = error else {
+        return Ok(None);
+    };
+    let Refusal::Run(RunError::Device { program, cause }) = &refused.refusal else {
+        return Ok(None);
+    };
+    let program = program.as_str();
+    Ok(Some(match cause {
+        Cause::Unstarted(error) => format!(in global; "can't run {program}: {error}")?,
+        Cause::Unread(error) => format!(in global; "can't read what {program} left: {error}")?,
+        Cause::Signal(number) => format!(in global; "{program} was ended by signal {number}")?,
+    }))
+}
+
+/// The place of an error without a line, and the failure; nothing for lack of memory.
+fn error_told<A: Allocator + Copy>(
+    global: Global,
+    plan: &Plan<A>,
+    error: &BuildPlanError<A>,
+) -> Result<Option<String>, AllocError> {
+    let place = match fault_of(error) {
+        Fault::Fetch(place) | Fault::Device(place) | Fault::Refused(place, _) => place,
+        Fault::Memory => return Ok(None),
+    };
+    let place = place_text(global, plan, place)?;
+    match failure_told(global, error)? {
+        Some(failure) => Ok(Some(format!(in global; "{place}: {failure}\n")?)),
+        None => Ok(Some(place)),
     }
 }
 

@@ -1,12 +1,14 @@
-ghost use Rattle.std.specs.Prelude.{◌≡◌, IsTrue};
+ghost use Rattle.std.specs.Prelude.{◌≡◌, ℕ, List, Err, IsErrOf, IsTrue};
+ghost use Rattle.std.specs.Result.{IsErrAnd};
 ghost use Rattle.messages.specs.Path.{begins_with_slash};
+ghost use Rattle.worker.specs.Counted.{Counts, IsFailure};
 ghost use Rattle.worker.specs.Values.{IsAbsolute};
 
 use actions::{Command, Outcome, Output};
 use blob_digest::Digest;
 use messages::Path;
 use std::alloc::{AllocError, Allocator};
-use worker::{Layout, Produced, Progress, RunError, Runner, Watcher};
+use worker::{Cause, Layout, Produced, Progress, RunError, Runner, Watcher, program_of};
 
 /// What each child comes to.
 #[derive(Clone, Copy)]
@@ -15,6 +17,8 @@ pub enum Came {
     Code(i32),
     /// A file at the path, with this content.
     File(&'static str, &'static str),
+    /// This failure: of its start, where the system says so of that.
+    Fails(Cause),
 }
 
 /// Children of one kind, which it counts.
@@ -27,11 +31,14 @@ pub struct Counting {
     waited_for: u64,
     has_waited: bool,
     at_first: u64,
+    failures: u64,
 }
 
-/// A child that was started.
+/// A child that was started for a command of this program.
 #[derive(Drop)]
-pub struct Counted;
+pub struct Counted<A: Allocator> {
+    program: String<A>,
+}
 
 impl Counting {
     /// No child yet.
@@ -44,6 +51,7 @@ impl Counting {
             waited_for: 0,
             has_waited: false,
             at_first: 0,
+            failures: 0,
         }
     }
 
@@ -61,6 +69,26 @@ impl Counting {
     /// once, and how many were started in all.
     pub fn counts(&self) -> (u64, u64, u64) {
         (self.at_first, self.most, self.started)
+    }
+
+    /// Counts a failure. One whose count is full is lack of memory instead.
+    fn fail<T, A: Allocator>(
+        &mut self,
+        program: String<A>,
+        cause: Cause,
+    ) -> Result<T, RunError<A>>
+        ensures told { IsErrAnd result (λ e. IsFailure e → e ≡ RunError.Device program cause) }
+        ensures absolute { IsErrOf result RunError.NotAbsolute → ⊥ }
+        ensures bad { (path : List (List ℕ)) → IsErrOf result (RunError.BadOutput path) → ⊥ }
+        ensures counted { Counts self.old.failures self.new.failures (IsErrAnd result IsFailure) }
+        ensures alive { self.new.alive ≡ self.old.alive }
+    {
+        let count = &mut self.failures;
+        let Some(failures) = count.checked_add(1) else {
+            return Err(RunError::Memory);
+        };
+        *count = failures;
+        Err(RunError::Device { program, cause })
     }
 }
 
@@ -113,26 +141,33 @@ fn made_file<A: Allocator + Copy>(
 }
 
 impl<A: Allocator + Copy> Runner<A> for Counting {
-    type Job = Counted;
+    type Job = Counted<A>;
+
+    ghost use Rattle.std.specs.Prelude.{string_bytes};
+    ghost use Rattle.worker.specs.Values.{IsOf};
 
     ghost yields = { λ _ _ _ _. Unit {0} };
 
-    ghost may_give = { λ _ _. Unit {0} };
+    ghost may_give = { λ child e. IsOf (string_bytes child.program) e };
 
     ghost starts = { λ _ _. Unit {0} };
 
     ghost alive = { λ r. r.alive };
 
-    ghost failures = { λ _. 0 };
+    ghost failures = { λ r. r.failures };
 
     fn start(
         &mut self,
-        _alloc: A,
+        alloc: A,
         _layout: &Layout<A>,
         command: &Command<A>,
-    ) -> Result<Counted, RunError<A>> {
+    ) -> Result<Counted<A>, RunError<A>> {
         if !is_absolute(command) {
             return Err(RunError::NotAbsolute);
+        }
+        let program = program_of(alloc, command)?;
+        if let Came::Fails(Cause::Unstarted(error)) = self.came {
+            return self.fail(program, Cause::Unstarted(error));
         }
         let Some(alive) = self.alive.checked_add(1) else {
             return Err(RunError::Memory);
@@ -143,10 +178,10 @@ impl<A: Allocator + Copy> Runner<A> for Counting {
         if !self.has_waited {
             self.at_first = self.started;
         }
-        Ok(Counted)
+        Ok(Counted { program })
     }
 
-    fn finish(&mut self, alloc: A, _job: Counted) -> Result<Produced<A>, RunError<A>> {
+    fn finish(&mut self, alloc: A, job: Counted<A>) -> Result<Produced<A>, RunError<A>> {
         self.has_waited = true;
         self.waited_for = self.waited_for.saturating_add(1);
         self.alive = self.alive.saturating_sub(1);
@@ -156,6 +191,7 @@ impl<A: Allocator + Copy> Runner<A> for Counting {
                 blobs: Vec::new(alloc),
             }),
             Came::File(path, content) => Ok(made_file(alloc, path, content)?),
+            Came::Fails(cause) => self.fail(job.program, cause),
         }
     }
 }

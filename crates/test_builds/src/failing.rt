@@ -2,13 +2,13 @@
 //! build. Each call fails in turn, and one beyond the last.
 ghost use Rattle.std.specs.Prelude.{◌<◌};
 
-use crate::answers::{Answer, Broken, count_in, said};
-use crate::children::{came_of, told_of};
+use crate::answers::{Answer, Broken, count_in, said, word};
+use crate::children::{came_of, failure_told, told_of};
 use crate::counting::{Came, Counting};
 use crate::stock::{Case, case_of, source_of};
 use crate::verdicts::verdict_told;
 use blob_digest::Digest;
-use builder::{Fault, tell_build};
+use builder::{Fault, fault_of, tell_build};
 use plan::{Plan, Record};
 use std::alloc::Global;
 use test_support::Row;
@@ -63,7 +63,7 @@ fn judged_over(
 
 /// What comes of a build, and how many calls of its store and of its runner fail in turn.
 pub fn build(global: Global, stock: &[Row], fields: &[Vec<u8>]) -> Answer {
-    let [plan, came, jobs, _] = fields else {
+    let [plan, came, jobs, failure, _] = fields else {
         return Err(Broken::NoRow);
     };
     let tried = Tried {
@@ -72,6 +72,7 @@ pub fn build(global: Global, stock: &[Row], fields: &[Vec<u8>]) -> Answer {
         plan,
         came: came_of(came),
         jobs: count_in(jobs)?,
+        failure: word(failure),
     };
     let Ended::Told(told) = tried.build(0, 0, "")? else {
         return Err(Broken::NoRow);
@@ -104,6 +105,8 @@ struct Tried<'a> {
     plan: &'a [u8],
     came: Came,
     jobs: usize,
+    /// What is told of a call of the runner that fails.
+    failure: &'a str,
 }
 
 impl Tried<'_> {
@@ -158,11 +161,19 @@ impl Tried<'_> {
         if !runner.inner().is_idle() {
             return Ok(Ended::Otherwise);
         }
-        Ok(match told {
-            Ok(told) => Ended::Told(told_of(self.global, &told)?),
-            Err(Fault::Fetch(_)) if store.failures() == 1 => Ended::Failed,
-            Err(Fault::Device(_)) if runner.failures() == 1 => Ended::Failed,
-            Err(_) => Ended::Otherwise,
+        let error = match told {
+            Ok(told) => return Ok(Ended::Told(told_of(self.global, &told)?)),
+            Err(error) => error,
+        };
+        let failure = failure_told(self.global, &error)?;
+        Ok(match (fault_of(&error), failure) {
+            (Fault::Fetch(_), None) if store.failures() == 1 => Ended::Failed,
+            (Fault::Device(_), Some(words))
+                if runner.failures() == 1 && words.as_str() == self.failure =>
+            {
+                Ended::Failed
+            }
+            _ => Ended::Otherwise,
         })
     }
 }
