@@ -3,5 +3,4 @@ pub mod Rooms
 pub mod Saying
 pub mod Walks
 pub mod Gathered
-pub mod Exits
 pub mod Ends

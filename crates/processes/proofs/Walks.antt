@@ -27,7 +27,9 @@ use Rattle.processes.specs.declared.workshop.Standing.TheVariants as standings
 use Rattle.processes.specs.Workshop.{Works}
 use Rattle.processes.specs.Laying.{place_below}
 use Rattle.processes.specs.Collected.{AreKept, IsFileAt, place_at, HasNames, IsStandingOf, IsContentAt, IsTreeAt, IsNoOutput, IsBadFolder}
-use Rattle.processes.specs.Walking.{HasAbove, IsBare, LeavesOthers, IsWalked}
+use Rattle.processes.specs.Walking.{HasAbove, IsBare, IsOfMessage, LeavesOthers, IsWalked}
+use Rattle.processes.specs.declared.trouble.Trouble.{Trouble}
+use Rattle.processes.specs.declared.trouble.Trouble.TheVariants.{NoOutput}
 use Rattle.processes.proofs.Lists.{map_taken}
 
 -- ---- lists
@@ -392,3 +394,8 @@ pub bad_standing : {R C E : Type 0} (works : Works R C E) (ended : E) (IsBad : L
     → (s ≡ standings.Nothing) ⊎ IsNoOutput works ended IsBad place s
 bad_standing works ended IsBad place s (inl e) = inl e
 bad_standing works ended IsBad place s (inr e) = inr (subst (IsNoOutput works ended IsBad place) (sym e) tt)
+
+-- what no path could be made of isn't lack of memory
+pub message_bad : (x : MessageError) (t : Trouble) → IsOfMessage x t → t ≡ NoOutput → x ≢ messages.Memory
+message_bad x t (inl (memory, is)) told = λ e. absurd (let both = sym is ∙ told in cc)
+message_bad x t (inr (other, is)) told = other

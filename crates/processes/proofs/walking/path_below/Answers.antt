@@ -3,8 +3,7 @@ use Rattle.std.proofs.lemmas.Result.{err_from_is_err_and}
 use Rattle.messages.specs.Name.{IsName}
 use Rattle.tree.proofs.OwnDirectories.{no_refusal}
 use Rattle.processes.specs.declared.trouble.Trouble.TheVariants.{NoOutput}
-use Rattle.processes.proofs.Exits.{message_bad}
-use Rattle.processes.proofs.Walks.{full_path}
+use Rattle.processes.proofs.Walks.{full_path, message_bad}
 use Rattle.processes.proofs.walking.path_below.Goals as goal
 
 pub returns-in_err-name-clause-bad : goal.returns-in_err-name-clause-bad
