@@ -1,26 +1,19 @@
 -- What came of a child, and what is told of it.
-use Rattle.std.proofs.Common.{◌≡◌, ◌∙◌, ℕ, List, [], ◌∷◌, ◌++◌, refl, sym, subst, inl, inr}
-use Rattle.std.specs.Prelude.{◌⊎◌, ℤ, Result, Ok, Err, IfErr, IfOk, IsErrOf, Contains, string_bytes}
+use Rattle.std.proofs.Common.{◌≡◌, ℕ, List, subst, inl, inr}
+use Rattle.std.specs.Prelude.{◌⊎◌, Result, Ok, Err, IfErr, IfOk, string_bytes}
 use Rattle.std.specs.declared.io.Error.{Error}
 use Rattle.std.specs.declared.string.String.{String}
-use Rattle.action_messages.specs.Command.{CommandValue}
-use Rattle.messages.specs.Path.{path_text}
 use Rattle.worker.specs.Counted.{IsFailure, TellsFailure}
-use Rattle.worker.specs.Outcomes.{YieldsFor}
-use Rattle.worker.specs.Values.{LayoutValue, ProducedValue, EndValue, made, bad_at, failed, StartValue, IsAbsolute, program_of}
-use Rattle.worker.specs.declared.failure.Cause.TheVariants.{Unstarted, Unread, Signal}
+use Rattle.worker.specs.Values.{ProducedValue, EndValue, bad_at, failed}
+use Rattle.worker.specs.declared.failure.Cause.TheVariants.{Unread}
 use Rattle.worker.specs.declared.runner.RunError.{RunError}
 use Rattle.worker.specs.declared.runner.RunError.TheVariants as children
 use Rattle.processes.specs.declared.trouble.Trouble.{Trouble}
 use Rattle.processes.specs.declared.trouble.Trouble.TheVariants as troubles
 use Rattle.processes.specs.declared.workshop.Exit.{Exit}
-use Rattle.processes.specs.declared.workshop.Exit.TheVariants.{Code}
 use Rattle.processes.specs.Workshop.{Works}
-use Rattle.processes.specs.Laying.{IsUnstarted, folder_of, place_below}
-use Rattle.processes.specs.Collected.{AreCollected, HasNoOutput, IsUnread}
-use Rattle.processes.specs.Running.{CameOf, EndsAs, HaveStarted, IsEnded, IsJobLaunched, may_yield}
-use Rattle.processes.specs.Walking.{IsFailedBy, TellsOf}
-use Rattle.processes.proofs.Lists.{all_more}
+use Rattle.processes.specs.Running.{CameOf, EndsAs, IsEnded}
+use Rattle.processes.specs.Walking.{TellsOf}
 
 module _ {A : Type 0} (Came : EndValue → Type 0) where
   -- a refusal that is told as it is, or as lack of memory

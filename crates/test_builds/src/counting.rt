@@ -72,11 +72,7 @@ impl Counting {
     }
 
     /// Counts a failure. One whose count is full is lack of memory instead.
-    fn fail<T, A: Allocator>(
-        &mut self,
-        program: String<A>,
-        cause: Cause,
-    ) -> Result<T, RunError<A>>
+    fn fail<T, A: Allocator>(&mut self, program: String<A>, cause: Cause) -> Result<T, RunError<A>>
         ensures told { IsErrAnd result (λ e. IsFailure e → e ≡ RunError.Device program cause) }
         ensures absolute { IsErrOf result RunError.NotAbsolute → ⊥ }
         ensures bad { (path : List (List ℕ)) → IsErrOf result (RunError.BadOutput path) → ⊥ }

@@ -169,10 +169,7 @@ impl Tried<'_> {
         Ok(match (fault_of(&error), failure) {
             (Fault::Fetch(_), None) if store.failures() == 1 => Ended::Failed,
             (Fault::Device(_), Some(words))
-                if runner.failures() == 1 && words.as_str() == self.failure =>
-            {
-                Ended::Failed
-            }
+                if runner.failures() == 1 && words.as_str() == self.failure => { Ended::Failed }
             _ => Ended::Otherwise,
         })
     }
