@@ -9,7 +9,7 @@ use Rattle.command_lines.specs.CommandLine.{CallsCommand, options_of}
 use Rattle.cli.specs.Built.{BeginsBuild, PrintsBuild}
 use Rattle.cli.specs.Refused.{FailsBuild}
 use Rattle.cli.specs.Ended.{BeginsAsked, EndsNo, Fails, IsDone}
-use Rattle.cli.specs.Ended.BeginsAsked as Begun
+use Rattle.cli.specs.Ended.BeginsAsked.{built as build_begun, got as get_begun, put as put_begun, served as serve_begun, verified as verify_begun}
 use Rattle.cli.specs.Running.{Ends, TellsEnd}
 use Rattle.cli.specs.Ended.Fails.{in_build, in_get, in_put, in_serve, in_verify}
 use Rattle.cli.specs.Ended.IsDone.{built, got, yes}
@@ -66,19 +66,19 @@ module _ {sees : Sight} (words : List Text) {rows : List Row} (is : rows ≡ opt
   build_ends {old} {new} (No note) called h = failed called (subst (λ (o : List Row). PrintsBuild sees o old new (No note)) is h)
 
   pub verify_begins : {old new : Option (List ℕ)} → CallsCommand words (codes "verify") → BeginsVerdict sees rows old new → PrintsNoLine old new → BeginsAsked sees words old new
-  verify_begins {old} {new} called h none = Begun.verified called (subst (λ (o : List Row). BeginsVerdict sees o old new) is h) none
+  verify_begins {old} {new} called h none = verify_begun called (subst (λ (o : List Row). BeginsVerdict sees o old new) is h) none
 
   pub get_begins : {old new : Option (List ℕ)} → CallsCommand words (codes "get") → GetsPart sees rows old new → BeginsAsked sees words old new
-  get_begins {old} {new} called h = Begun.got called (subst (λ (o : List Row). GetsPart sees o old new) is h)
+  get_begins {old} {new} called h = get_begun called (subst (λ (o : List Row). GetsPart sees o old new) is h)
 
   pub put_begins : {old new : Option (List ℕ)} → CallsCommand words (codes "put") → BeginsDigest sees rows old new → BeginsAsked sees words old new
-  put_begins {old} {new} called h = Begun.put called (subst (λ (o : List Row). BeginsDigest sees o old new) is h)
+  put_begins {old} {new} called h = put_begun called (subst (λ (o : List Row). BeginsDigest sees o old new) is h)
 
   pub serve_begins : {old new : Option (List ℕ)} → CallsCommand words (codes "serve") → BeginsListening sees rows old new → BeginsAsked sees words old new
-  serve_begins {old} {new} called h = Begun.served called (subst (λ (o : List Row). BeginsListening sees o old new) is h)
+  serve_begins {old} {new} called h = serve_begun called (subst (λ (o : List Row). BeginsListening sees o old new) is h)
 
   pub build_begins : {old new : Option (List ℕ)} → CallsCommand words (codes "build") → BeginsBuild sees rows old new → BeginsAsked sees words old new
-  build_begins {old} {new} called h = Begun.built called (subst (λ (o : List Row). BeginsBuild sees o old new) is h)
+  build_begins {old} {new} called h = build_begun called (subst (λ (o : List Row). BeginsBuild sees o old new) is h)
 
   pub verify_fails : (e : CommandError) → CallsCommand words (codes "verify") → FailsVerify sees rows e → Fails sees words e
   verify_fails e called h = in_verify called (subst (λ (o : List Row). FailsVerify sees o e) is h)

@@ -1,5 +1,6 @@
-use Rattle.std.proofs.Common.{[], ◌∷◌}
+use Rattle.std.proofs.Common.{◌≡◌, [], ◌∷◌, codes, rules, string_bytes}
 use Rattle.clap.specs.Words.{found_of, rows_of}
+use Rattle.command_lines.specs.CommandLine.{option_text}
 use Rattle.commands.proofs.Checking.{fails_in}
 use Rattle.commands.proofs.Exits.{exit_by}
 use Rattle.commands.proofs.Refused.{or_memory}
@@ -36,12 +37,15 @@ returns-in_err-plan-clause-refused g c =
     (in_plan (c.in_ok-jobs.ensures.checked.0, c.in_ok-server.ensures.checked) (c.in_ok-sources.sources, c.in_ok-sources.ensures.found) c.in_err-plan.ensures.fault)
 
 pub returns-clause-read : goal.returns-clause-read
-returns-clause-read g c = record {
-  asks = record {
-    words = (c.in_ok-jobs.ensures.checked.0, c.in_ok-server.ensures.checked);
-    spelled = c.in_ok-sources.ensures.found;
-    plan_is = c.in_ok-plan.ensures.found;
-  };
-  jobs = c.in_ok-jobs.ensures.found;
-  server = c.in_ok-server.ensures.server;
-}
+returns-clause-read g c =
+    let work : string_bytes c.in_ok-work.work ≡ option_text (rows_of (found_of c.args.matches.now)) (codes "work") = search rules in
+    record {
+      asks = record {
+        words = (c.in_ok-jobs.ensures.checked.0, c.in_ok-server.ensures.checked);
+        spelled = c.in_ok-sources.ensures.found;
+        plan_is = c.in_ok-plan.ensures.found;
+      };
+      jobs = c.in_ok-jobs.ensures.found;
+      server = c.in_ok-server.ensures.server;
+      work = work;
+    }

@@ -7,7 +7,7 @@ use Rattle.commands.proofs.Exits.{exit_by}
 use Rattle.commands.proofs.Writing.{where_err}
 use Rattle.cli.proofs.CommandLines.{build_begins, build_ends, build_fails, get_begins, get_ends, get_fails, none_called, options_found, put_begins, put_fails, serve_begins, serve_fails, verify_begins, verify_ends, verify_fails}
 use Rattle.cli.specs.Ended.{Fails}
-use Rattle.cli.specs.Ended.BeginsAsked as Begun
+use Rattle.cli.specs.Ended.BeginsAsked.{shown as show_begun}
 use Rattle.cli.specs.Ended.Fails.{in_words}
 use Rattle.cli.specs.Ended.IsDone.{shown}
 use Rattle.cli.proofs.running.run.Goals as goal
@@ -20,7 +20,7 @@ returns-in_err-show-in-Err-clause-refused g c =
     exit_by (Fails g.W.World.sees (map string_bytes c.args.words.now)) _ c.from_residual.ensures.1 (in_words c.in_err-show-in-Err.ensures.fault)
 
 pub returns-in_err-show-in-Err-clause-begun : goal.returns-in_err-show-in-Err-clause-begun
-returns-in_err-show-in-Err-clause-begun g c = where_err c.from_residual.result (Begun.shown c.in_err-show-in-Err.ensures.begun)
+returns-in_err-show-in-Err-clause-begun g c = where_err c.from_residual.result (show_begun c.in_err-show-in-Err.ensures.begun)
 
 pub unreachable-requires : goal.unreachable-requires
 unreachable-requires g c =
