@@ -66,7 +66,7 @@ module _ {sees : Sight} (words : List Text) {rows : List Row} (is : rows ≡ opt
   build_ends {old} {new} (No note) called h = failed called (subst (λ (o : List Row). PrintsBuild sees o old new (No note)) is h)
 
   pub verify_begins : {old new : Option (List ℕ)} → CallsCommand words (codes "verify") → BeginsVerdict sees rows old new → PrintsNoLine old new → BeginsAsked sees words old new
-  verify_begins {old} {new} called h none = verify_begun called (subst (λ (o : List Row). BeginsVerdict sees o old new) is h) none
+  verify_begins {old} {new} called h unended = verify_begun called (subst (λ (o : List Row). BeginsVerdict sees o old new) is h) unended
 
   pub get_begins : {old new : Option (List ℕ)} → CallsCommand words (codes "get") → GetsPart sees rows old new → BeginsAsked sees words old new
   get_begins {old} {new} called h = get_begun called (subst (λ (o : List Row). GetsPart sees o old new) is h)
