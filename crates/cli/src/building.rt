@@ -182,10 +182,14 @@ where
             put_root(alloc, &asked.server, &mut client, &told)?;
             Ok(told)
         }
-        Err(BuildPlanError::Step(BuildError {
-            step,
-            refusal: Refusal::Run(RunError::Device { program, cause }),
-        })) => Err(process_error(alloc, &asked.plan, step, program, cause)?),
+        Err(
+            BuildPlanError::Step(
+                BuildError {
+                    step,
+                    refusal: Refusal::Run(RunError::Device { program, cause }),
+                },
+            ),
+        ) => Err(process_error(alloc, &asked.plan, step, program, cause)?),
         Err(error) => match fault_of(&error) {
             Fault::Fetch(_) => Err(client.error(alloc, &asked.server, FetchError::Failed)?),
             _ => Err(CommandError::Memory),
@@ -259,13 +263,7 @@ where
     let work = String::from_str(alloc, asked.work.as_str())?;
     let runner = ProcessRunner::new(Disk::new(rt, errors_of(matches, &terminal)), work);
     let mut progress = BuildProgress::new(alloc, &asked.plan, terminal);
-    let told = build_in_folder::<R, W::Link, Brand, T>(
-        alloc,
-        asked,
-        remote,
-        runner,
-        &mut progress,
-    );
+    let told = build_in_folder::<R, W::Link, Brand, T>(alloc, asked, remote, runner, &mut progress);
     progress.clear();
     told
 }

@@ -1,4 +1,4 @@
-use Rattle.std.proofs.Common.{◌≡◌, ◌∙◌, IfOk, Some, string_bytes, ℕ, List, ◌++◌, codes, decimal, length, ap, refl, subst, sym, rules}
+use Rattle.std.proofs.Common.{◌≡◌, ◌∙◌, Some, string_bytes, ℕ, List, ◌++◌, codes, decimal, length, ap, refl, subst, sym, rules}
 use Rattle.std.specs.Prelude.{option_and_then, slice_get}
 use Rattle.std.proofs.lemmas.Option.{slice_get_read}
 use Rattle.std.proofs.lemmas.Result.{IfOk-weaker}
@@ -20,6 +20,6 @@ returns c =
     let step = c.in-Some-get.step.now in
     let told = c.in-Some-get.ensures.lookup in
     let found : slice_get c.args.plan.now.steps c.in-Some.number ≡ Some step = subst (λ l. slice_get l c.in-Some.number ≡ Some step) c.steps.ensures.value
-        (slice_get_read c.steps.result.now (length c.steps.result.now) c.in-Some.number step refl told.3.0 told.1) in
+    (slice_get_read c.steps.result.now (length c.steps.result.now) c.in-Some.number step refl told.3.0 told.1) in
     let named : c.as_str-name.result.now ≡ step.name = search rules in
     IfOk-weaker c.format-2.result _ _ (λ line is. line_by c.args.plan.now.steps c.args.progress c.in-Some.number step (string_bytes c.in_ok-counts.counts) c.as_str-name.result.now (string_bytes line) c.in-Some.is found c.in_ok-counts.ensures.ok named is) c.format-2.ensures.ok

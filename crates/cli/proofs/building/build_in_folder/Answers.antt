@@ -37,8 +37,8 @@ returns-in-Err-Step-Run-clause-fault g c =
     let arm = c.in-Err-Step-Run in
     let step = arm.field-0-0.step in
     let err : ◌≡◌ {A = Result (Told Global) (BuildPlanError Global)} c.tell_build.result (Err (Step (record { step = step; refusal = Run (Device arm.program arm.cause) }))) =
-        arm.is ∙ ap (λ (e : BuildPlanError Global). Err e) (arm.field-0-is
-        ∙ ap (λ (r : Refusal Global). Step (record { step = step; refusal = r })) (arm.t22-in-Run-1-is ∙ ap (λ (e : RunError Global). Run e) arm.program-1-is)) in
+    arm.is ∙ ap (λ (e : BuildPlanError Global). Err e) (arm.field-0-is
+    ∙ ap (λ (r : Refusal Global). Step (record { step = step; refusal = r })) (arm.t22-in-Run-1-is ∙ ap (λ (e : RunError Global). Run e) arm.program-1-is)) in
     inr (inl (stops_of (IsToldOver g.K.Origin.start) c.args.asked.now.plan c.args.asked.now.sources c.args.asked.now.jobs _ _
     (∥∥₁_map c.new-client.result.over (λ over. (connection_of g.S.Stream.flow c.new-client.result.remote, over)))
     (∥∥₁_map c.tell_build.new.sink.over (λ over. (connection_of g.S.Stream.flow remote, over)))
