@@ -11,7 +11,6 @@ use Rattle.commands.specs.declared.error.CommandError.{CommandError}
 use Rattle.commands.specs.declared.error.CommandError.TheVariants.{Memory}
 use Rattle.std.proofs.Math.Logic.{∥∥₁_map}
 use Rattle.std.specs.declared.alloc.Global.{Global}
-use Rattle.std.specs.declared.string.String.{String}
 use Rattle.blob_digest.specs.Digest.{DigestValue}
 use Rattle.blob_source.specs.Source.{Telling}
 use Rattle.builder.proofs.Within.{told_within}
@@ -25,11 +24,12 @@ use Rattle.plan.specs.Values.{PlanValue}
 use Rattle.remote.specs.Line.{ConnectionValue}
 use Rattle.worker.specs.Outcomes.{Yields}
 use Rattle.worker.specs.declared.error.Refusal.TheVariants.{Run}
-use Rattle.worker.specs.declared.failure.Cause.{Cause}
 use Rattle.worker.specs.declared.runner.RunError.TheVariants.{Device}
 use Rattle.cli.specs.Built.{HoldsRoot, IsReadOf, IsToldBy, IsToldOf, StartsBuild, TellsAsked, any_yields, jobs_of}
 use Rattle.cli.specs.declared.building.Asked.{Asked}
 use Rattle.cli.specs.Refused.{FailsBuild, FailsTelling, ReachesServer, StopsAtProcess, TellsProcess}
+use Rattle.cli.specs.Running.{EndsFor}
+use Rattle.cli.specs.declared.building.Stopped.{Stopped}
 use Rattle.cli.specs.Refused.FailsBuild.{in_memory, in_process, in_server}
 
 module _ (source : Telling → Type 0) (plan : PlanValue) (sources : DigestValue) (most : ℕ) (old new : Seen) (before : ∥ source old.store ∥₁) (after : ∥ source new.store ∥₁) (z : Yields) where
@@ -39,10 +39,12 @@ module _ (source : Telling → Type 0) (plan : PlanValue) (sources : DigestValue
   pub told_as : (r it : Result (Told Global) (BuildPlanError Global)) → IsBuildTold z most plan sources old new r → r ≡ it → IsToldBy source most plan sources it
   told_as r it h is = subst (IsToldBy source most plan sources) is (told_of r h)
 
-  pub stops_of : (step : ℕ) (program : String Global) (cause : Cause) (e : CommandError) (r : Result (Told Global) (BuildPlanError Global)) → IsBuildTold z most plan sources old new r
-      → r ≡ Err (Step (record { step = step; refusal = Run (Device program cause) })) → TellsProcess plan step (string_bytes program) cause e → StopsAtProcess source most plan sources e
-  stops_of step program cause e r h err told =
-      record { step = step; program = program; cause = cause; ended = told_as r (Err (Step (record { step = step; refusal = Run (Device program cause) }))) h err; told = told }
+  -- a build ended for a process, and the error tells of it
+  pub stops_of : (ended : BuildPlanError Global) (stopped : Stopped) (e : CommandError) (r : Result (Told Global) (BuildPlanError Global)) → IsBuildTold z most plan sources old new r
+      → r ≡ Err ended → EndsFor ended stopped → TellsProcess plan stopped.step (string_bytes stopped.program) stopped.cause e → StopsAtProcess source most plan sources e
+  stops_of ended stopped e r h err so told =
+      let came : Result (Told Global) (BuildPlanError Global) = Err (Step (record { step = stopped.step; refusal = Run (Device stopped.program stopped.cause) })) in
+      record { step = stopped.step; program = stopped.program; cause = stopped.cause; ended = told_as r came h (subst (λ x. r ≡ Err x) so err); told = told }
 
 -- by what another kind of source told
 by_source : {P Q : Telling → Type 0} → ((told : Telling) → P told → Q told) → (most : ℕ) (plan : PlanValue) (sources : DigestValue)

@@ -1,4 +1,4 @@
-ghost use Rattle.std.specs.Prelude.{◌≡◌, ◌⊎◌, ◌<◌, ◌↔◌, ◌∷◌, [], IfErr, IfOk, IsSome};
+ghost use Rattle.std.specs.Prelude.{◌≡◌, ◌⊎◌, ◌<◌, ◌↔◌, ◌∷◌, [], IfErr, IfOk, IfSome, IsSome};
 ghost use Rattle.std.specs.Prelude.{OnErr, OnOk, codes, string_bytes};
 ghost use Rattle.std.specs.Io.KnownBytes.{Appends};
 ghost use Rattle.clap.specs.Words.{found_of, rows_of};
@@ -6,6 +6,7 @@ ghost use Rattle.cli.specs.Built.{BeginsBuild, HoldsRoot, IsNoted, IsReadOf, IsT
 ghost use Rattle.cli.specs.Built.{TellsAsked, ended_of, jobs_of, line_of, names_jobs};
 ghost use Rattle.cli.specs.Refused.{FailsBuild, FailsFolder, FailsTelling, FailsToWrite};
 ghost use Rattle.cli.specs.Refused.{TellsProcess, cause_of};
+ghost use Rattle.cli.specs.Running.{EndsFor};
 ghost use Rattle.commands.specs.Places.{FailsOver, IsFresh, IsToldOver};
 ghost use Rattle.commands.specs.Refusal.{IsPrintFault};
 ghost use Rattle.commands.specs.Status.{status_of};
@@ -130,20 +131,48 @@ fn cause_of(cause: Cause) -> ProcessCause
     }
 }
 
+/// A process of a step that came to nothing.
+#[derive(Drop)]
+struct Stopped {
+    step: usize,
+    program: String,
+    cause: Cause,
+}
+
+/// The process for which a build ended with this error.
+fn process_of(error: BuildPlanError<Global>) -> Option<Stopped>
+    ensures { IfSome result (EndsFor error) }
+{
+    let BuildPlanError::Step(failed) = error else {
+        return None;
+    };
+    let BuildError { step, refusal } = failed;
+    let Refusal::Run(fault) = refusal else {
+        return None;
+    };
+    match fault {
+        RunError::Device { program, cause } => Some(Stopped {
+            step,
+            program,
+            cause,
+        }),
+        _ => None,
+    }
+}
+
 /// The error of a process of a step that came to nothing.
 fn process_error(
     alloc: Global,
     plan: &Plan<Global>,
-    step: usize,
-    program: String,
-    cause: Cause,
+    stopped: Stopped,
 ) -> Result<CommandError, AllocError>
-    ensures { IfOk result (TellsProcess plan.now step (string_bytes program) cause) }
+    ensures { IfOk result
+        (TellsProcess plan.now stopped.step (string_bytes stopped.program) stopped.cause) }
 {
     Ok(CommandError::Process(ProcessFault {
-        place: place_text(alloc, plan, Place::Step(step))?,
-        program,
-        cause: cause_of(cause),
+        place: place_text(alloc, plan, Place::Step(stopped.step))?,
+        program: stopped.program,
+        cause: cause_of(stopped.cause),
     }))
 }
 
@@ -182,15 +211,11 @@ where
             put_root(alloc, &asked.server, &mut client, &told)?;
             Ok(told)
         }
-        Err(
-            BuildPlanError::Step(
-                BuildError {
-                    step,
-                    refusal: Refusal::Run(RunError::Device { program, cause }),
-                },
-            ),
-        ) => Err(process_error(alloc, &asked.plan, step, program, cause)?),
         Err(error) => match fault_of(&error) {
+            Fault::Device(_) => match process_of(error) {
+                Some(stopped) => Err(process_error(alloc, &asked.plan, stopped)?),
+                None => Err(CommandError::Memory),
+            },
             Fault::Fetch(_) => Err(client.error(alloc, &asked.server, FetchError::Failed)?),
             _ => Err(CommandError::Memory),
         },
