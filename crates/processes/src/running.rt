@@ -95,8 +95,8 @@ fn copy_paths<A: Allocator + Copy>(
 }
 
 impl<W: Workshop, A: Allocator + Copy> ProcessRunner<W, A> {
-    /// The folder of the next job. Each number is used once, whether or not a child is started; that
-    /// there is none left is lack of memory.
+    /// The folder of the next job. Each number is used once, whether or not a child is started.
+    /// That there is none left is lack of memory.
     fn next_folder(&mut self, alloc: A) -> Result<String<A>, AllocError>
         ensures folder { IfOk result
             (λ folder. string_bytes folder ≡ folder_of (work_of self.old) (next_of self.old)) }

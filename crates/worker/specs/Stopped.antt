@@ -25,8 +25,8 @@ HasJobOf e i Is = (id : ℕ) × (j : JobValue) × (job_in id e ≡ Some j) × (j
 -- A step is refused: the engine doesn't start it, though it could be, or doesn't take what its job
 -- came to; or the input of its job isn't laid out; or its command doesn't name its program from the
 -- root; or its job's child may come to nothing, as what stands at this path is no output, or as the
--- process of this program fails by this cause. That the store failed, and that memory ran out, needs
--- no reason here.
+-- process of this program fails by this cause. That the store failed, and that memory ran out,
+-- needs no reason here.
 abbrev pub StopsStep : {A : Type 0} → Yields → Telling → EngineValue → ℕ → Refusal A → Type 0
 StopsStep yields t e i (refusals.Engine why) = (IsStartable e i × IsStartFault t.blobs e i why)
     ⊎ HasJobOf e i (λ id j.
