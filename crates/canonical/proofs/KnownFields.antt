@@ -18,7 +18,7 @@ use Rattle.wire.proofs.Steps.{bind_ok, ok_is}
 use Rattle.canonical.specs.declared.error.CanonError.{CanonError}
 use Rattle.canonical.specs.declared.error.CanonError.TheVariants as errors
 use Rattle.canonical.specs.declared.shape.Entry.{Entry}
-use Rattle.canonical.specs.Checking.{GivesUnlessMemory}
+use Rattle.canonical.specs.Checking.{ChecksUnlessMemory}
 use Rattle.canonical.specs.Known.{SpellsEach, IsFieldOf, is_skipped, AreKnown, any_refusals_of, any_entry_kept, any_kept_if, any_field_kept, any_checked, any_fields_checked}
 use Rattle.canonical.specs.Shape.{shape_entry, has_wire_type, keeps_text}
 use Rattle.std.proofs.Math.ListN.{drop_of_length-le}
@@ -154,7 +154,7 @@ known_found entries skipped texts rs fits e = let a = all_known entries skipped 
 pub known_only : (entries : List Entry) (skipped : List ℕ) (texts : List (List ℕ)) (rs : List Record) → AllByRecursion IsBytes texts → SpellsEach texts rs → AreKnown entries skipped rs → any_fields_checked entries skipped texts ≡ Ok rs
 known_only entries skipped texts rs fits s k = ap (any_checked entries skipped) (spelled_texts texts rs fits s) ∙ known_checked entries skipped rs k
 
-pub is_found : {A : Type 0} (entries : List Entry) (skipped : List ℕ) (texts : List (List ℕ)) (r : Result (Vec Field A) CanonError) → AllByRecursion IsBytes texts → GivesUnlessMemory (λ v. records_of v.items) r (any_fields_checked entries skipped texts)
+pub is_found : {A : Type 0} (entries : List Entry) (skipped : List ℕ) (texts : List (List ℕ)) (r : Result (Vec Field A) CanonError) → AllByRecursion IsBytes texts → ChecksUnlessMemory (λ v. records_of v.items) r (any_fields_checked entries skipped texts)
     → IfOk r (λ v. SpellsEach texts (records_of v.items) × AreKnown entries skipped (records_of v.items))
 is_found entries skipped texts (Ok v) fits given = known_found entries skipped texts (records_of v.items) fits given
 is_found entries skipped texts (Err e) fits given = tt

@@ -6,7 +6,7 @@ ghost use Rattle.wire.specs.Reading.{any_record_at};
 ghost use Rattle.wire.specs.Record.{Record, record_of, records_of};
 ghost use Rattle.wire.specs.Steps.{Gives};
 ghost use Rattle.canonical.specs.declared.error.CanonError.{CanonError};
-ghost use Rattle.canonical.specs.Checking.{GivesUnlessMemory};
+ghost use Rattle.canonical.specs.Checking.{ChecksUnlessMemory};
 ghost use Rattle.canonical.specs.Known.{AreRead, GoesOn, any_field_kept, any_fields_checked};
 ghost use Rattle.canonical.specs.View.{slices};
 
@@ -32,21 +32,21 @@ pub fn check_any<'a, A: Allocator>(
         → IfOk result (λ v. AreRead shape.now skipped.now (slices texts.now) (records_of v.items)) }
     ensures only { (rs : List Record) → AllByRecursion IsBytes (slices texts.now)
         → AreRead shape.now skipped.now (slices texts.now) rs
-        → GivesUnlessMemory (λ v. records_of v.items) result (Ok rs) }
+        → ChecksUnlessMemory (λ v. records_of v.items) result (Ok rs) }
 
     // After known records, the record that can't be read or breaks a rule decides.
     ensures unread { (rest : List ℕ) (e : WireError) → AllByRecursion IsBytes (slices texts.now)
         → GoesOn shape.now skipped.now (slices texts.now) rest
         → 0 < length rest → any_record_at rest ≡ Err e
-        → GivesUnlessMemory (λ v. records_of v.items) result (Err (CanonError.Wire e)) }
+        → ChecksUnlessMemory (λ v. records_of v.items) result (Err (CanonError.Wire e)) }
     ensures broken { (rest others : List ℕ) (r : Record) (e : CanonError)
         → AllByRecursion IsBytes (slices texts.now)
         → GoesOn shape.now skipped.now (slices texts.now) rest
         → any_record_at rest ≡ Ok (r, others) → any_field_kept shape.now skipped.now r ≡ Err e
-        → GivesUnlessMemory (λ v. records_of v.items) result (Err e) }
+        → ChecksUnlessMemory (λ v. records_of v.items) result (Err e) }
 
     // The same in one equation.
-    ensures exact { GivesUnlessMemory (λ v. records_of v.items) result
+    ensures exact { ChecksUnlessMemory (λ v. records_of v.items) result
         (any_fields_checked shape.now skipped.now (slices texts.now)) }
 {
     any_checked(alloc, shape, skipped, texts)
@@ -58,7 +58,7 @@ fn any_checked<'a, A: Allocator>(
     skipped: &[u32],
     texts: &[&'a [u8]],
 ) -> Result<Vec<Field<'a>, A>, CanonError>
-    ensures { GivesUnlessMemory (λ v. records_of v.items) result
+    ensures { ChecksUnlessMemory (λ v. records_of v.items) result
         (any_fields_checked shape.now skipped.now (slices texts.now)) }
 {
     let mut fields = Vec::new(alloc);
