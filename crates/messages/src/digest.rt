@@ -3,6 +3,7 @@ ghost use Rattle.blob_digest.specs.DigestValue.{DigestValue, IsDigest};
 ghost use Rattle.messages.specs.Gives.{GivesUnlessMemory};
 ghost use Rattle.messages.specs.DigestMessage.{hash_of, digest_bytes, digest_in, decoded_digest};
 ghost use Rattle.wire.specs.Record.{records_of};
+ghost use Rattle.wire.specs.Steps.{Gives};
 
 use crate::error::MessageError;
 use crate::message::{Encode, Message, decode, read_fields};
@@ -15,7 +16,7 @@ use wire::Field;
 
 /// The hash that 64 lower-case hex digits spell.
 fn checked_hash(text: &[u8]) -> Result<[u8; 32], MessageError>
-    ensures { GivesUnlessMemory (λ h. h) result (hash_of text.now) }
+    ensures { Gives (λ h. h) result (hash_of text.now) }
 {
     match read_hash(text) {
         Some(hash) => Ok(hash),
@@ -25,7 +26,7 @@ fn checked_hash(text: &[u8]) -> Result<[u8; 32], MessageError>
 
 /// What the fields of a digest say.
 fn digest_in(fields: &[Field<'_>]) -> Result<Digest, MessageError>
-    ensures { GivesUnlessMemory (λ d. d) result (digest_in (records_of fields.now)) }
+    ensures { Gives (λ d. d) result (digest_in (records_of fields.now)) }
 {
     let hash = checked_hash(read_bytes(fields, 1))?;
     let size = read_int64(fields, 2);

@@ -1,5 +1,5 @@
 ghost use Rattle.std.specs.Prelude.{◌≡◌, ◌≤◌, ◌++◌, List, ℕ, Result, IfOk, OnOk, OnErr, option_map};
-ghost use Rattle.std.specs.Prelude.{map, take, length};
+ghost use Rattle.std.specs.Prelude.{map, take, length, None};
 ghost use Rattle.wire.specs.Spelling.{spelling};
 ghost use Rattle.canonical.specs.Fields.{element_fields, elements_at};
 ghost use Rattle.wire.specs.Bytes.{AreBytes};
@@ -83,8 +83,9 @@ pub fn read_optional<A: Allocator + Copy, M: Message<A>>(
     alloc: A,
     bytes: Option<&[u8]>,
 ) -> Result<Option<M>, MessageError>
-    ensures { GivesUnlessMemory (λ m. m) result
+    ensures exact { GivesUnlessMemory (λ m. m) result
         (in_option M.reads (option_map (λ x. x.now) bytes.entry)) }
+    ensures absent { bytes.entry ≡ None → result ≡ Ok None }
 {
     match bytes {
         Some(bytes) => Ok(Some(M::read(alloc, bytes)?)),

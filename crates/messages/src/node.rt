@@ -1,4 +1,4 @@
-ghost use Rattle.std.specs.Prelude.{◌≡◌, List, ℕ, option_map};
+ghost use Rattle.std.specs.Prelude.{◌≡◌, List, ℕ, None, Err, option_map};
 ghost use Rattle.messages.specs.Gives.{GivesUnlessMemory};
 ghost use Rattle.messages.specs.FileNode.{required_digest};
 
@@ -83,8 +83,9 @@ fn required_digest<A: Allocator + Copy>(
     alloc: A,
     bytes: Option<&[u8]>,
 ) -> Result<Digest, MessageError>
-    ensures { GivesUnlessMemory (λ d. d) result
+    ensures exact { GivesUnlessMemory (λ d. d) result
         (required_digest (option_map (λ x. x.now) bytes.entry)) }
+    ensures absent { bytes.entry ≡ None → result ≡ Err (MessageError.MissingField 2) }
 {
     match bytes {
         Some(bytes) => Digest::read(alloc, bytes),
