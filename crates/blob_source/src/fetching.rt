@@ -1,6 +1,6 @@
-ghost use Rattle.std.specs.Prelude.{◌≡◌, IfOk, IfErr, IsErrOf};
+ghost use Rattle.std.specs.Prelude.{◌≡◌, ◌≢◌, IfOk, IfErr, IsErrOf, IsOk};
 ghost use Rattle.blob_digest.specs.Digest.{empty_digest};
-ghost use Rattle.blob_source.specs.Source.{Asks, GrowsAt};
+ghost use Rattle.blob_source.specs.Source.{Asks, AsksBlob, GrowsAt};
 ghost use Rattle.blob_source.specs.Called.{Calls};
 ghost use Rattle.blob_source.specs.Fetched.{Fetches};
 ghost use Rattle.blob_source.specs.Told.{IsTold, IsFault};
@@ -66,6 +66,9 @@ pub fn fetch_blob<A: Allocator + Copy, S: BlobSource<A>>(
         (IsErrOf result FetchError.Failed) }
     ensures only { GrowsAt digest.now (S.tells source.old).blobs (S.tells source.new).blobs }
     ensures unasked { digest.now ≡ empty_digest → S.tells source.new ≡ S.tells source.old }
+    ensures empty { digest.now ≡ empty_digest → IsOk result }
+    ensures once { digest.now ≢ empty_digest
+        → AsksBlob digest.now (S.tells source.old) (S.tells source.new) }
 {
     if *digest == Digest::empty() {
         return Ok(Fetched::Right(Vec::new(alloc)));
@@ -96,6 +99,8 @@ pub fn fetch_message<A: Allocator + Copy, S: BlobSource<A>, M: Message<A>>(
         (IsErrOf result MessageFetchError.Failed) }
     ensures only { GrowsAt digest.now (S.tells source.old).blobs (S.tells source.new).blobs }
     ensures unasked { digest.now ≡ empty_digest → S.tells source.new ≡ S.tells source.old }
+    ensures once { digest.now ≢ empty_digest
+        → AsksBlob digest.now (S.tells source.old) (S.tells source.new) }
 {
     match fetch_blob(alloc, source, digest)? {
         Fetched::Missing => Err(MessageFetchError::Missing(*digest)),
