@@ -13,7 +13,7 @@ use Rattle.messages.proofs.Choices.{and_first, and_second, and_both, not_true, f
 use Rattle.messages.proofs.Orders.{ascending, ordered_behind-from}
 use Rattle.messages.proofs.Paths.{path_found, path_given, parts_of_path}
 use Rattle.action_messages.specs.Fields.{refused_unless}
-use Rattle.action_messages.specs.Ascending.{IsAscendingBy, is_ascending_past}
+use Rattle.action_messages.specs.Ascending.{IsAscendingBy, ascending_behind}
 use Rattle.action_messages.specs.Overlaps.{some_under, texts_of}
 use Rattle.action_messages.specs.Setting.{SettingValue, IsSetting}
 use Rattle.action_messages.specs.Command.{CommandValue, IsText, NamesProgram, IsVariable, variable_names, IsCommand, directory_text, has_byte, is_argument, are_arguments, is_variable_name, is_variable, some_argument, texts_checked, lists_checked, command_of, working_directory_of}
@@ -124,7 +124,7 @@ pub lists_found : (environment : List SettingValue) (output_paths : List (List (
 unfolding lists_checked
 lists_found environment output_paths e =
     let a = bind_ok (ordered_behind None (variable_names environment)) _ tt e in
-    let b = bind_ok (is_ascending_past bytes_cmp None (texts_of output_paths)) (λ _. refused_unless (not (some_under (texts_of output_paths) (texts_of output_paths))) SameName) tt a.2 in
+    let b = bind_ok (ascending_behind bytes_cmp None (texts_of output_paths)) (λ _. refused_unless (not (some_under (texts_of output_paths) (texts_of output_paths))) SameName) tt a.2 in
     record {
       names = ascending (variable_names environment) a.1;
       outputs = sorted.ascending bytes_cmp bytes_trans (texts_of output_paths) b.1;
@@ -135,7 +135,7 @@ pub lists_given : (environment : List SettingValue) (output_paths : List (List (
 unfolding lists_checked
 lists_given environment output_paths h =
     let a = ordered_behind-from (variable_names environment) h.names in
-    let b = sorted.is_ascending_past-from bytes_cmp (texts_of output_paths) h.outputs in
+    let b = sorted.ascending_behind-from bytes_cmp (texts_of output_paths) h.outputs in
     rw (a, b, h.under) refl
 
 pub command_made : (c : CommandValue) → AllByRecursion IsString c.arguments → AllByRecursion IsSetting c.environment → IfSome c.working_directory IsPath → AllByRecursion IsPath c.output_paths → texts_checked c.arguments c.environment ≡ Ok tt → lists_checked c.environment c.output_paths ≡ Ok tt → IsCommand c

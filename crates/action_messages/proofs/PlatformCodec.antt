@@ -26,10 +26,10 @@ use Rattle.messages.specs.Told.{told}
 use Rattle.messages.specs.Gives.{GivesUnlessMemory}
 use Rattle.messages.specs.Shapes.{repeated}
 use Rattle.messages.proofs.DirectoryCodec.{no_texts}
-use Rattle.action_messages.specs.Ascending.{IsAscendingBy, is_ascending_past}
+use Rattle.action_messages.specs.Ascending.{IsAscendingBy, ascending_behind}
 use Rattle.action_messages.specs.Setting.{SettingValue, IsSetting, setting_bytes, decoded_setting}
 use Rattle.action_messages.specs.Platform.{PlatformValue, IsPlatform, setting_cmp, platform_shape, platform_bytes, platform_entry, platform_of, platform_in, decoded_platform, platform_at}
-use Rattle.action_messages.proofs.Sorted.{IsTransitive, ascending, is_ascending_past-from}
+use Rattle.action_messages.proofs.Sorted.{IsTransitive, ascending, ascending_behind-from}
 use Rattle.action_messages.proofs.SettingCodec.{setting_codec}
 
 pub setting_total : IsTotalOrder setting_cmp
@@ -44,12 +44,12 @@ platform_parts p = (repeated 1 kinds.Message, element_fields 1 (map setting_byte
 platform_found : (p x : PlatformValue) → platform_of p ≡ Ok x → IsAscendingBy setting_cmp p.properties × (p ≡ x)
 unfolding platform_of
 platform_found p x h =
-    let a = bind_ok (is_ascending_past setting_cmp None p.properties) (λ _. Ok p) x h in
+    let a = bind_ok (ascending_behind setting_cmp None p.properties) (λ _. Ok p) x h in
     (ascending setting_cmp setting_trans p.properties a.1, ok_is {E = MessageError} p x a.2)
 
 pub platform_given : (p : PlatformValue) → IsAscendingBy setting_cmp p.properties → platform_of p ≡ Ok p
 unfolding platform_of
-platform_given p h = let o = is_ascending_past-from setting_cmp p.properties h in rw o refl
+platform_given p h = let o = ascending_behind-from setting_cmp p.properties h in rw o refl
 
 platform_message : IsMessage platform_shape platform_in platform_parts IsPlatform
 platform_message = record {

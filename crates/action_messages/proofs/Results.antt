@@ -8,14 +8,14 @@ use Rattle.messages.specs.declared.error.MessageError.{MessageError}
 use Rattle.messages.specs.declared.error.MessageError.TheVariants.{SameName}
 use Rattle.messages.specs.Order.{bytes_cmp}
 use Rattle.messages.proofs.Choices.{or_false, or_neither, not_true}
-use Rattle.action_messages.specs.Ascending.{is_ascending_past}
+use Rattle.action_messages.specs.Ascending.{ascending_behind}
 use Rattle.action_messages.specs.Overlaps.{some_under, some_cross, texts_of}
 use Rattle.action_messages.specs.Fields.{refused_unless}
 use Rattle.action_messages.specs.OutputFile.{OutputFileValue, IsOutputFile}
 use Rattle.action_messages.specs.OutputDirectory.{OutputDirectoryValue, IsOutputDirectory}
 use Rattle.action_messages.specs.OutputSymlink.{OutputSymlinkValue, IsOutputSymlink}
 use Rattle.action_messages.specs.ActionResult.{ActionResultValue, file_paths, directory_paths, symlink_paths, AreOutputPaths, IsActionResult, some_overlap, paths_checked, action_result_of}
-use Rattle.action_messages.proofs.Sorted.{ascending, is_ascending_past-from}
+use Rattle.action_messages.proofs.Sorted.{ascending, ascending_behind-from}
 use Rattle.action_messages.proofs.Searches.{bytes_trans}
 use Rattle.action_messages.proofs.Apart.{ArePaths, none_under, under_none, apart_within, within_apart, apart_from, from_apart, apart_join, apart_parts, from_join, from_parts}
 use Rattle.action_messages.proofs.Commands.{unless_ok}
@@ -38,9 +38,9 @@ paths_found f d l fs ds ls e =
     let t = texts_of f in
     let u = texts_of d in
     let v = texts_of l in
-    let a = bind_ok (is_ascending_past bytes_cmp None t) _ tt e in
-    let b = bind_ok (is_ascending_past bytes_cmp None u) _ tt a.2 in
-    let c = bind_ok (is_ascending_past bytes_cmp None v) (λ _. refused_unless (not (some_overlap t u v)) SameName) tt b.2 in
+    let a = bind_ok (ascending_behind bytes_cmp None t) _ tt e in
+    let b = bind_ok (ascending_behind bytes_cmp None u) _ tt a.2 in
+    let c = bind_ok (ascending_behind bytes_cmp None v) (λ _. refused_unless (not (some_overlap t u v)) SameName) tt b.2 in
     let none : some_overlap t u v ≡ false = not_true (some_overlap t u v) (unless_ok (not (some_overlap t u v)) SameName c.2) in
     let o5 = or_false (some_under t t || some_under u u || some_under v v || some_cross t u || some_cross t v) (some_cross u v) none in
     let o4 = or_false (some_under t t || some_under u u || some_under v v || some_cross t u) (some_cross t v) o5.0 in
@@ -67,9 +67,9 @@ paths_given f d l fs ds ls h =
     let t = texts_of f in
     let u = texts_of d in
     let v = texts_of l in
-    let a = is_ascending_past-from bytes_cmp t h.files_ascend in
-    let b = is_ascending_past-from bytes_cmp u h.directories_ascend in
-    let c = is_ascending_past-from bytes_cmp v h.symlinks_ascend in
+    let a = ascending_behind-from bytes_cmp t h.files_ascend in
+    let b = ascending_behind-from bytes_cmp u h.directories_ascend in
+    let c = ascending_behind-from bytes_cmp v h.symlinks_ascend in
     let whole = apart_parts (f ++ d) l h.apart in
     let both = apart_parts f d whole.0 in
     let crossed = from_parts f d l whole.2 in

@@ -15,7 +15,7 @@ use Rattle.messages.specs.declared.error.MessageError.TheVariants.{SameName}
 use Rattle.messages.specs.Order.{bytes_cmp}
 use Rattle.messages.specs.Shapes.{single, repeated}
 use Rattle.messages.specs.DigestMessage.{digest_bytes}
-use Rattle.action_messages.specs.Ascending.{IsAscendingBy, is_ascending_past}
+use Rattle.action_messages.specs.Ascending.{IsAscendingBy, ascending_behind}
 use Rattle.action_messages.specs.Overlaps.{ArePathsApart, some_under, some_cross, texts_of}
 use Rattle.action_messages.specs.Fields.{refused_unless}
 use Rattle.action_messages.specs.Stream.{StreamValue, IsStream}
@@ -98,9 +98,9 @@ some_overlap files directories symlinks =
 unfoldable pub paths_checked : List (List (List ℕ)) → List (List (List ℕ)) → List (List (List ℕ))
     → Result (Unit {0}) MessageError
 paths_checked files directories symlinks =
-    is_ascending_past bytes_cmp None (texts_of files) >>= λ _.
-    is_ascending_past bytes_cmp None (texts_of directories) >>= λ _.
-    is_ascending_past bytes_cmp None (texts_of symlinks) >>= λ _.
+    ascending_behind bytes_cmp None (texts_of files) >>= λ _.
+    ascending_behind bytes_cmp None (texts_of directories) >>= λ _.
+    ascending_behind bytes_cmp None (texts_of symlinks) >>= λ _.
     refused_unless
     (not (some_overlap (texts_of files) (texts_of directories) (texts_of symlinks))) SameName
 

@@ -27,9 +27,9 @@ pair_ascends Equal = Err Unsorted
 pair_ascends Greater = Err Unsorted
 
 -- the first pair of neighbours that doesn't ascend, after an element
-abbrev pub is_ascending_past : {X : Type 0} → (X → X → Ordering) → Option X → List X
+abbrev pub ascending_behind : {X : Type 0} → (X → X → Ordering) → Option X → List X
     → Result (Unit {0}) MessageError
-is_ascending_past cmp before [] = Ok tt
-is_ascending_past cmp None (x ∷ xs) = is_ascending_past cmp (Some x) xs
-is_ascending_past cmp (Some before) (x ∷ xs) =
-    pair_ascends (cmp before x) >>= λ _. is_ascending_past cmp (Some x) xs
+ascending_behind cmp before [] = Ok tt
+ascending_behind cmp None (x ∷ xs) = ascending_behind cmp (Some x) xs
+ascending_behind cmp (Some before) (x ∷ xs) =
+    pair_ascends (cmp before x) >>= λ _. ascending_behind cmp (Some x) xs

@@ -19,7 +19,7 @@ use Rattle.messages.specs.Path.{IsPath, path_of, path_text}
 use Rattle.messages.specs.Shapes.{single, repeated}
 use Rattle.messages.specs.Told.{shape_checked}
 use Rattle.action_messages.specs.Fields.{string_of, refused_unless}
-use Rattle.action_messages.specs.Ascending.{IsAscendingBy, is_ascending_past}
+use Rattle.action_messages.specs.Ascending.{IsAscendingBy, ascending_behind}
 use Rattle.action_messages.specs.Overlaps.{ArePathsApart, some_under, texts_of}
 use Rattle.action_messages.specs.Setting.{SettingValue, setting_bytes, decoded_setting}
 
@@ -116,7 +116,7 @@ unfoldable pub lists_checked : List SettingValue → List (List (List ℕ))
     → Result (Unit {0}) MessageError
 lists_checked environment output_paths =
     ordered_behind None (variable_names environment) >>= λ _.
-    is_ascending_past bytes_cmp None (texts_of output_paths) >>= λ _.
+    ascending_behind bytes_cmp None (texts_of output_paths) >>= λ _.
     refused_unless (not (some_under (texts_of output_paths) (texts_of output_paths))) SameName
 
 -- the command of these fields, or the first refusal

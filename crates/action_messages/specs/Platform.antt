@@ -18,7 +18,7 @@ use Rattle.messages.specs.declared.error.MessageError.TheVariants.{Wire}
 use Rattle.messages.specs.Order.{bytes_cmp}
 use Rattle.messages.specs.Shapes.{repeated}
 use Rattle.messages.specs.Told.{shape_checked}
-use Rattle.action_messages.specs.Ascending.{IsAscendingBy, is_ascending_past}
+use Rattle.action_messages.specs.Ascending.{IsAscendingBy, ascending_behind}
 use Rattle.action_messages.specs.Setting.{SettingValue, IsSetting, setting_bytes, decoded_setting}
 
 pub record PlatformValue : Type 0 where
@@ -52,7 +52,7 @@ platform_entry p = platform_entry_of p.properties
 
 -- the platform of these properties
 unfoldable pub platform_of : PlatformValue → Result PlatformValue MessageError
-platform_of p = is_ascending_past setting_cmp None p.properties >>= λ _. Ok p
+platform_of p = ascending_behind setting_cmp None p.properties >>= λ _. Ok p
 
 abbrev pub platform_in : List Record → Result PlatformValue MessageError
 platform_in rs =

@@ -1,5 +1,5 @@
 ghost use Rattle.std.specs.Prelude.{◌≡◌, ◌↔◌, Bool, None, Contains, IfOk, IfSome, IsOk, IsTrue};
-ghost use Rattle.std.specs.Prelude.{OnOk, Ok, map};
+ghost use Rattle.std.specs.Prelude.{List, [], OnOk, Ok, map};
 ghost use Rattle.std.specs.Bool.{OnTrue};
 ghost use Rattle.std.specs.List.{AllByRecursion, list_all};
 ghost use Rattle.std.specs.Option.{option_copied};
@@ -173,7 +173,8 @@ fn directory_text<A: Allocator>(directory: &Option<Path<A>>) -> &[u8]
 /// The working directory of this text, none where it is empty.
 #[tactic(auto, unfolding(crate::specs::Command::working_directory_of))]
 fn read_directory<A: Allocator>(alloc: A, text: &[u8]) -> Result<Option<Path<A>>, MessageError>
-    ensures { GivesUnlessMemory (λ d. d) result (working_directory_of text.now) }
+    ensures exact { GivesUnlessMemory (λ d. d) result (working_directory_of text.now) }
+    ensures root { text.now ≡ [] → result ≡ Ok None }
 {
     match text {
         [] => Ok(None),

@@ -1,4 +1,4 @@
-ghost use Rattle.std.specs.Prelude.{◌≡◌, IfOk, map};
+ghost use Rattle.std.specs.Prelude.{◌≡◌, None, IfOk, IsOk, map};
 ghost use Rattle.std.specs.String.{string_bytes};
 
 use crate::setting::Setting;
@@ -52,7 +52,8 @@ pub(crate) fn copy_directory<A: Allocator, B: Allocator>(
     alloc: A,
     path: &Option<Path<B>>,
 ) -> Result<Option<Path<A>>, AllocError>
-    ensures { IfOk result (λ copy. copy ≡ path.now) }
+    ensures copy { IfOk result (λ copy. copy ≡ path.now) }
+    ensures absent { path.now ≡ None → IsOk result }
 {
     match path {
         Some(path) => Ok(Some(Path::copy_of(alloc, path)?)),

@@ -6,7 +6,7 @@ ghost use Rattle.wire.specs.Record.{records_of};
 ghost use Rattle.canonical.specs.Fields.{element_fields, elements_at};
 ghost use Rattle.canonical.specs.Told.{each};
 ghost use Rattle.canonical.specs.View.{slices};
-ghost use Rattle.messages.specs.Gives.{GivesUnlessMemory};
+ghost use Rattle.messages.specs.Gives.{GivesUnlessMemory, RefusesBeforeMemory};
 ghost use Rattle.messages.specs.Path.{path_of};
 ghost use Rattle.action_messages.specs.Fields.{string_of, required};
 ghost use Rattle.action_messages.specs.Overlaps.{texts_of};
@@ -27,7 +27,8 @@ pub(crate) fn required<T>(number: u32, value: Option<T>) -> Result<T, MessageErr
 }
 
 fn copy_text<A: Allocator>(alloc: A, bytes: &[u8]) -> Result<String<A>, MessageError>
-    ensures { GivesUnlessMemory (λ t. string_bytes t) result (string_of bytes.now) }
+    ensures exact { GivesUnlessMemory (λ t. string_bytes t) result (string_of bytes.now) }
+    ensures refused { RefusesBeforeMemory result (string_of bytes.now) }
 {
     match str::from_utf8(bytes) {
         Ok(text) => Ok(String::from_str(alloc, text)?),

@@ -2,7 +2,7 @@ ghost use Rattle.std.specs.Prelude.{◌≡◌, ℕ, List, map, None, OnOk, IfOk,
 ghost use Rattle.std.specs.List.{AllByRecursion, list_any};
 ghost use Rattle.wire.specs.Steps.{Gives};
 ghost use Rattle.messages.specs.Order.{bytes_cmp, has_name, share_name};
-ghost use Rattle.action_messages.specs.Ascending.{IsAscendingBy, IsSortedByText, is_ascending_past};
+ghost use Rattle.action_messages.specs.Ascending.{IsAscendingBy, IsSortedByText, ascending_behind};
 ghost use Rattle.action_messages.specs.Overlaps.{IsPlace, is_under, lies_under_some, some_under};
 ghost use Rattle.action_messages.specs.Overlaps.{some_cross, texts_of};
 
@@ -64,7 +64,7 @@ pub(crate) fn sort_by_path<L: Listed, A: Allocator>(items: &mut Vec<L, A>)
 /// Whether the paths strictly ascend by their texts.
 pub(crate) fn check_paths<L: Listed>(items: &[L]) -> Result<(), MessageError>
     ensures exact { Gives (λ x. x) result
-        (is_ascending_past bytes_cmp None (texts_of (map L.path_in items.now))) }
+        (ascending_behind bytes_cmp None (texts_of (map L.path_in items.now))) }
     ensures kept { OnOk result (AllByRecursion L.keeps items.now) }
 {
     let mut before: Option<&[u8]> = None;

@@ -4,7 +4,7 @@ ghost use Rattle.wire.specs.Spelling.{spelling};
 ghost use Rattle.wire.specs.Steps.{Gives};
 ghost use Rattle.canonical.specs.Fields.{message_field};
 ghost use Rattle.messages.specs.Gives.{GivesUnlessMemory};
-ghost use Rattle.action_messages.specs.Ascending.{IsAscendingBy, is_ascending_past};
+ghost use Rattle.action_messages.specs.Ascending.{IsAscendingBy, ascending_behind};
 ghost use Rattle.action_messages.specs.Setting.{IsSetting};
 ghost use Rattle.action_messages.specs.Platform.{PlatformValue, IsPlatform, setting_cmp};
 ghost use Rattle.action_messages.specs.Platform.{platform_of, platform_entry, platform_at};
@@ -39,7 +39,7 @@ impl<A: Allocator> Model for Platform<A> {
 
 /// Whether the properties strictly ascend.
 fn check_properties<A: Allocator>(properties: &[Setting<A>]) -> Result<(), MessageError>
-    ensures exact { Gives (λ x. x) result (is_ascending_past setting_cmp None properties.now) }
+    ensures exact { Gives (λ x. x) result (ascending_behind setting_cmp None properties.now) }
     ensures kept { OnOk result (AllByRecursion IsSetting properties.now) }
 {
     let mut before: Option<&Setting<A>> = None;
@@ -128,8 +128,9 @@ pub(crate) fn read_platform<A: Allocator + Copy>(
     alloc: A,
     bytes: Option<&[u8]>,
 ) -> Result<Platform<A>, MessageError>
-    ensures { GivesUnlessMemory (λ p. p) result
+    ensures exact { GivesUnlessMemory (λ p. p) result
         (platform_at (option_map (λ x. x.now) bytes.entry)) }
+    ensures absent { bytes.entry ≡ None → IsOk result }
 {
     match bytes {
         None => Platform::new(Vec::new(alloc)),

@@ -1,4 +1,4 @@
-ghost use Rattle.std.specs.Prelude.{◌≡◌, ◌⊎◌, ℕ, ◌<◌, IfOk, IfErr, OnOk, Ok};
+ghost use Rattle.std.specs.Prelude.{◌≡◌, ◌⊎◌, ℕ, ◌<◌, IfOk, IfErr, IsOk, IsTrue, OnOk, Ok};
 ghost use Rattle.wire.specs.Record.{record_of, records_of, value_of};
 ghost use Rattle.messages.specs.Gives.{GivesUnlessMemory};
 ghost use Rattle.messages.specs.declared.error.MessageError.TheVariants.{Memory};
@@ -105,8 +105,9 @@ fn check_digest<A: Allocator + Copy>(
     number: u32,
     fields: &[Field<'_>],
 ) -> Result<(), MessageError>
-    ensures { GivesUnlessMemory (λ x. x) result
+    ensures exact { GivesUnlessMemory (λ x. x) result
         (digest_checked came number (records_of fields.now)) }
+    ensures came { IsTrue came → IsOk result }
 {
     if !came {
         let _read: Option<Digest> = read_any_optional(alloc, fields, number)?;
