@@ -14,7 +14,7 @@ import textwrap
 
 from harness import TOP, words_of
 
-HEAD = re.compile(r"(?:abbrev|data|record|syntax)\s+pub\s+(\S+)|pub\s+(?:data|record|abbrev)\s+(\S+)")
+HEAD = re.compile(r"(?:abbrev|unfoldable|data|record|syntax)\s+pub\s+(\S+)|pub\s+(?:data|record|abbrev)\s+(\S+)")
 
 
 class Definition:

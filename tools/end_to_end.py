@@ -4,10 +4,9 @@
 Each part prints a line for each row or test: the tests of tools/, the rows of words, a server, a client, a build and its store
 (word_rows.py, server_rows.py, client_rows.py, build_rows.py, store_rows.py), ten seconds of requests at random beside a model
 (soak.py), and each command with each request for memory refused and each call of the system failing in turn (fault_rows.py,
-where a C compiler is installed). Where Bazel is installed,
-the round trips with it run too (bazel_roundtrip.sh, and with nginx bazel_cache.sh). A line says what was left out. PROGRAM is
-crates/buildcache/out/buildcache, where `rt ci` leaves it. Nothing outside this machine is asked. The last line is
-'N passed, M failed', and the status 1 where one failed.
+where a C compiler is installed). Where Bazel is installed, the round trips with it run too (bazel_roundtrip.sh, and with nginx
+bazel_cache.sh). A line says what was left out. PROGRAM is crates/buildcache/out/buildcache, where `rt ci` leaves it. Nothing
+outside this machine is asked. The last line is 'N passed, M failed', and the status 1 where one failed.
 """
 
 import os

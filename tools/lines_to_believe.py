@@ -1,13 +1,13 @@
 #!/usr/bin/python3
-"""Prints the table of docs/DEFINITIONS.md that says how much has to be believed: the lines of each crate's specs/
-without blank lines, imports and comments. It takes no words."""
+"""Prints how much has to be believed, which docs/DEFINITIONS.md tells: a table of the lines of each crate's specs/, without
+blank lines, imports, comments and the files that ASIDE names. It takes no words."""
 
 import glob
 import os
 
 from harness import TOP, words_of
 
-# Words of private functions alone, and an example: no public claim rests on these.
+# Words of private functions alone, and examples (TwoSteps): no public claim rests on these.
 ASIDE = {
     "action_cache": ["Survey"],
     "action_messages": ["Merging"],

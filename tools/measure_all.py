@@ -1,5 +1,5 @@
 #!/usr/bin/env python3
-"""Measures all that docs/PERFORMANCE.md has, each beside its peer in turns: measure_all.py PROGRAM [PART ..]
+"""Measures the tables and times of docs/PERFORMANCE.md, each beside its peer in turns: measure_all.py PROGRAM [PART ..]
 
 Each part runs the tools that measure one thing, under their command lines, and says how many seconds they took. What is written
 for a while stands in memory (/dev/shm). First it prints the day, the machine and its load, which is to be near 0. The parts, in

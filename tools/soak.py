@@ -13,7 +13,7 @@ the order of each connection.
 
 Then a cache of 1,024 blobs is filled to its limit, a tenth of it pinned, and as many blobs are put three times over;
 every blob that was ever put is asked for. The rest is pinned, until nothing more is taken. Then come clients that
-misbehave: one that sends a byte a second, one that never reads, one that resets in a body, 10,000 connections one
+misbehave: one that is silent, sends a byte a second, never reads or resets in a body; 10,000 connections one
 after another, and the server killed in the middle of a PUT and started again; and at `serve --at-once` 1,000 that say
 nothing, and 100 that ask for much and take nothing, or stop in a body or a head. It prints what was asked, the answers by
 status, and the server's memory at the start and at the end; it ends with status 1 at the first answer that isn't the

@@ -3,7 +3,8 @@
 
 A mistake turns what some functions of a crate mean (crates/NAME/mistakes/*.edit; docs/CONTRIBUTING.md has the format). Each
 crate is checked once with all its mistakes in it, and each function that one turns has to be refused for a goal of its own.
-The functions that none turns aren't proved again: they are taken by their contracts. A mistake fails that is proved, that makes the text unreadable, or that is refused only since a proof names what is gone.
+The functions that none turns aren't proved again: they are taken by their contracts. A mistake fails that is proved, that makes
+the text unreadable, or that is refused only since a proof names what is gone.
 What can't stand in one check beside the others (it turns the same function, or no function but a type or a constant) gets a
 check of its own; so does a mistake whose function is left unproved only since it calls another that is turned.
 

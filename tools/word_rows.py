@@ -92,6 +92,7 @@ def try_missing(words):
         words.refuse(f"{command} with an unknown option", 2, [*words_of(command), "--nonsense"], "--nonsense")
         words.refuse(f"{command} with an option that lacks its text", 2, [*words_of(command), f"--{[*others][0]}"], f"--{[*others][0]}")
         words.refuse(f"{command} with a word too many", 2, [*words_of(command), "more"], "more")
+        words.refuse(f"{command} with a word after --", 2, [*words_of(command), "--", "more"])
         if own:
             words.refuse(f"{command} without its word", 2, words_of(command)[:-1])
     words.refuse("a word that is no UTF-8", 2, [b"\xff"])

@@ -4,12 +4,17 @@ is each file of tools/ and tools/tests/ that may be run, but tests."""
 
 import glob
 import os
+import re
 import subprocess
 import sys
 import tempfile
 import unittest
 
 TOP = os.path.dirname(os.path.dirname(os.path.dirname(os.path.realpath(__file__))))
+sys.path.insert(0, os.path.join(TOP, "tools"))
+
+import definitions  # noqa: E402
+
 TOOLS = sorted(
     os.path.relpath(it, TOP)
     for it in glob.glob(f"{TOP}/tools/*") + glob.glob(f"{TOP}/tools/tests/*")
@@ -75,6 +80,14 @@ class Tools(unittest.TestCase):
                 self.refuse(3, f"tools/{tool}", env={"BAZEL": "none", "BUILDCACHE": sys.executable})
                 self.refuse(3, f"tools/{tool}", env={"BUILDCACHE": "none"})
                 self.refuse(2, f"tools/{tool}", "word")
+
+    def test_definitions(self):
+        """Each public word of specs/ is found, whatever keyword it begins with."""
+        for file in glob.glob(f"{TOP}/crates/*/specs/*.antt"):
+            with open(file, encoding="utf-8") as text:
+                words = re.findall(r"^(?:\w+ )?pub (?!mod |use )", text.read(), re.M)
+            crate, name = file.split("/")[-3], os.path.basename(file)
+            self.assertEqual(len(words), len(definitions.definitions_of(crate, name)[1]), file)
 
 
 if __name__ == "__main__":
