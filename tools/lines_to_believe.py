@@ -20,7 +20,7 @@ ASIDE = {
     "remote": ["Steps"],
     "runs": ["TwoSteps"],
     "service": ["Member", "Together"],
-    "tree": ["Comparing", "Given", "Lines", "MergeParts", "Unfolding", "Visiting"],
+    "tree": ["Comparing", "Given", "Lines", "MergeExample", "MergeParts", "Unfolding", "Visiting"],
     "verifier": ["Answers", "Checks", "Stage", "TwoSteps"],
     "worker": ["Gathering", "Going", "Stopping", "Storing", "TwoSteps"],
 }

@@ -4,3 +4,4 @@ pub mod Within
 mod Failing
 mod Staying
 mod AsRun
+mod TwoStepsRuns

@@ -16,7 +16,7 @@ use Rattle.tree.specs.Form.{NodeValue, form, root}
 use Rattle.tree.specs.Merge.{merge}
 use Rattle.blob_source.specs.Source.{IsBlobUnder}
 use Rattle.verifier.specs.Build.{ActionMeaning, action_digest, StepFits, outcome_of, action_of}
-use Rattle.verifier.specs.Headline.{IsConcerned}
+use Rattle.verifier.specs.Headline.{IsConcerned, IsDirectoryInTree}
 use Rattle.verifier.specs.TwoSteps as two
 use Rattle.runs.proofs.VersionOne.{apart_merges}
 use Rattle.verifier.proofs.TwoSteps.{plan_valid, sources_named, input_named, newline_named, gen_tree_valid, fits, table_valid, out_path, res_path}
@@ -24,7 +24,7 @@ use Rattle.verifier.proofs.TwoStepsRecorded.{tree_kept, gen_action_told, use_act
 use Rattle.verifier.proofs.TwoStepsRun.{is_run, gen_digest, use_digest}
 use Rattle.verifier.proofs.TwoStepsBlobs.{no_clash}
 use Rattle.runs.specs.Engine.{FinishedValue, AllStand, TakesOutcome, IsEngine, finished_in}
-use Rattle.runs.specs.Mirrors.{IsFormOf, IsFinishedAs, Mirrors, IsConcernedIn, IsMirrored}
+use Rattle.runs.specs.Mirrors.{IsFormOf, IsFinishedAs, Mirrors, IsDirectoryOfEngine, IsConcernedIn, IsMirrored}
 use Rattle.runs.specs.Served.{IsLineOf, Keeps, Serves}
 use Rattle.runs.specs.TwoSteps as example
 use Rattle.verifier.proofs.FreshRuns.{one_answer}
@@ -71,10 +71,10 @@ engine_valid = record { stand = stand; count = refl; taken = taken; few = omega 
 abbrev file_node : DigestValue → NodeValue
 file_node d = nodes.File d false
 
-gen_form : IsFormOf example.gen_outcome two.gen.1
+pub gen_form : IsFormOf example.gen_outcome two.gen.1
 gen_form = record { exit_code = refl; outputs = λ p x. (λ h. h, λ h. h) }
 
-use_form : IsFormOf example.use_outcome two.uses.1
+pub use_form : IsFormOf example.use_outcome two.uses.1
 use_form = record { exit_code = refl; outputs = λ p x. (λ h. subst (λ d. Has d p x) (sym newline_named) h, λ h. subst (λ d. Has d p x) newline_named h) }
   where
     Has : DigestValue → List Name → NodeValue → Type 0
@@ -124,12 +124,8 @@ mirrors = record {
     actions (suc (suc i)) f at = absurd cc
 
 -- the engine has one Tree, which its source has too
-concerned : (b : List ℕ) → IsConcernedIn two.blobs example.engine two.meaning two.tree two.events b → IsConcerned two.blobs two.plan two.meaning two.tree two.table two.events b
-concerned b (inl (inl h)) = inl h
-concerned b (inl (inr (inl h))) = inr (inl h)
-concerned b (inl (inr (inr (inl (pair, (k, lt, e), h))))) = absurd (omega (arith, lt))
-concerned b (inl (inr (inr (inr h)))) = inr (inr (inr h))
-concerned b (inr (i, f, at, p, t, inside, m, among, is)) = by i f at inside
+pub in_engine : (b : List ℕ) → IsDirectoryOfEngine example.engine b → IsDirectoryInTree two.blobs b
+in_engine b (i, f, at, p, t, inside, m, among, is) = by i f at inside
   where
     one_tree : (p : List Name) (t : TreeValue) → Contains example.gen_outcome.outputs (p, outputs.Tree t) → two.gen_tree ≡ t
     one_tree p t (zero, lt, e) = let same : ◌≡◌ {A = OutputValue} (outputs.Tree two.gen_tree) (outputs.Tree t) = ap (λ (z : List Name × OutputValue). z.1) e in cc
@@ -139,15 +135,22 @@ concerned b (inr (i, f, at, p, t, inside, m, among, is)) = by i f at inside
     no_tree p t (zero, lt, e) = let same : ◌≡◌ {A = OutputValue} (outputs.File two.newline_digest false) (outputs.Tree t) = ap (λ (z : List Name × OutputValue). z.1) e in cc
     no_tree p t (suc k, lt, e) = omega (arith, lt)
 
-    by : (i : ℕ) (f : FinishedValue) → finished_in i example.engine ≡ Some f → Contains f.outcome.outputs (p, outputs.Tree t) → IsConcerned two.blobs two.plan two.meaning two.tree two.table two.events b
+    by : (i : ℕ) (f : FinishedValue) → finished_in i example.engine ≡ Some f → Contains f.outcome.outputs (p, outputs.Tree t) → IsDirectoryInTree two.blobs b
     by zero f at inside =
         let same : example.gen_finished ≡ f = cc in
         let tree = one_tree p t (subst (λ (g : FinishedValue). Contains g.outcome.outputs (p, outputs.Tree t)) (sym same) inside) in
-        inl (inr (two.gen_tree, gen_tree_valid, (two.tree_digest, tree_kept), m, subst (λ (u : TreeValue). Contains (u.root ∷ u.children) m) (sym tree) among, is))
+        (two.gen_tree, gen_tree_valid, (two.tree_digest, tree_kept), m, subst (λ (u : TreeValue). Contains (u.root ∷ u.children) m) (sym tree) among, is)
     by (suc zero) f at inside =
         let same : example.use_finished ≡ f = cc in
         absurd (no_tree p t (subst (λ (g : FinishedValue). Contains g.outcome.outputs (p, outputs.Tree t)) (sym same) inside))
     by (suc (suc i)) f at inside = absurd cc
+
+concerned : (b : List ℕ) → IsConcernedIn two.blobs example.engine two.meaning two.tree two.events b → IsConcerned two.blobs two.plan two.meaning two.tree two.table two.events b
+concerned b (inl (inl h)) = inl h
+concerned b (inl (inr (inl h))) = inr (inl h)
+concerned b (inl (inr (inr (inl (pair, (k, lt, e), h))))) = absurd (omega (arith, lt))
+concerned b (inl (inr (inr (inr h)))) = inr (inr (inr h))
+concerned b (inr h) = inl (inr (in_engine b h))
 
 pub is_mirrored : IsMirrored two.blobs example.engine two.tree two.meaning two.table two.events two.end
 is_mirrored = record {

@@ -21,4 +21,5 @@ pub mod MergeLooks
 pub mod Given
 pub mod MergeParts
 pub mod MergeAgrees
+pub mod MergeExample
 pub mod FailSink

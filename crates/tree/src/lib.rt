@@ -35,7 +35,9 @@ pub use laws::{
 };
 pub use looking_up::lookup;
 pub use memo::Memo;
-pub use merge_laws::{merges_are_single_valued, merges_are_unions, merges_tell_of_trees};
+pub use merge_laws::{
+    merges_are_single_valued, merges_are_unions, merges_meet_the_premises, merges_tell_of_trees,
+};
 pub use merging::{Within, merge};
 pub use messages::Node;
 pub use unfolding::unfold;

@@ -1,12 +1,14 @@
-ghost use Rattle.std.specs.Prelude.{◌≡◌, ◌≤◌, List, length};
+ghost use Rattle.std.specs.Prelude.{[], ◌∷◌, ◌≡◌, ◌≤◌, List, codes, length};
 ghost use Rattle.std.specs.List.{AllByRecursion};
 ghost use Rattle.blob_source.specs.Source.{Blobs};
 ghost use Rattle.tree.specs.Form.{NodeValue};
 ghost use Rattle.tree.specs.Graft.{graft, expand, HaveApartTargets};
 ghost use Rattle.tree.specs.Merge.{IsMergeOf, TreeLines, TellsMerge};
 ghost use Rattle.tree.specs.Merging.{NodeWithin, MergeFault, MergeLines, AreHeld, nodes_in};
-ghost use Rattle.tree.specs.Merging.{merged};
+ghost use Rattle.tree.specs.Merging.{conflict, merged};
 ghost use Rattle.tree.specs.MergeAgrees.{TellsOfMerges};
+ghost use Rattle.tree.specs.MergeExample.{CanBeTold, always_empty, lines_of_entries, met_tree};
+ghost use Rattle.tree.specs.MergeExample.{meeting_entries, unlike_entries};
 ghost use Rattle.tree.specs.MergeLooks.{MergeLooksAt};
 ghost use Rattle.tree.specs.Memo.{Asked};
 ghost use Rattle.tree.specs.Tree.{Name, Tree, Entry, Leaf, IsOrderedEntry};
@@ -50,4 +52,14 @@ pub fn merges_are_single_valued()
 /// and a conflict says that those merge into nothing. A law: it does nothing.
 pub fn merges_tell_of_trees()
     ensures tells { (blobs : Blobs) (lines : MergeLines) → TellsOfMerges blobs lines }
+{}
+
+/// Lines that meet, and lines that conflict, meet the premises of `merges_tell_of_trees`. A law: it
+/// does nothing.
+pub fn merges_meet_the_premises()
+    ensures meet { CanBeTold always_empty (lines_of_entries meeting_entries) meeting_entries }
+    ensures met { (merged always_empty (lines_of_entries meeting_entries)).passes met_tree }
+    ensures unlike { CanBeTold always_empty (lines_of_entries unlike_entries) unlike_entries }
+    ensures refused { (merged always_empty (lines_of_entries unlike_entries)).fails
+        (conflict (codes "a" ∷ [])) }
 {}

@@ -55,7 +55,7 @@ pub one_answer : {X : Type 0} (o : Option X) (x y : X) → o ≡ Some x → o �
 one_answer o x y e f = let both : ◌≡◌ {A = Option _} (Some x) (Some y) = sym e ∙ f in cc
 
 -- what a look-up finds is one of the entries
-found_one : {A : Type 0} (P : ℕ × A → Type 0) (j : ℕ) (es : List (ℕ × A)) (x : A) → AllByRecursion P es → lookup (λ k. k == j) es ≡ Some x → P (j, x)
+pub found_one : {A : Type 0} (P : ℕ × A → Type 0) (j : ℕ) (es : List (ℕ × A)) (x : A) → AllByRecursion P es → lookup (λ k. k == j) es ≡ Some x → P (j, x)
 found_one P j [] x h e = cc
 found_one {A} P j (y ∷ es) x h e = at (y.0 == j) refl e (found_one P j es x h.1)
   where
@@ -63,7 +63,7 @@ found_one {A} P j (y ∷ es) x h e = at (y.0 == j) refl e (found_one P j es x h.
     at true p e rest = let key : y.0 ≡ j = (Decides-eqb y.0 j).0 p in let value : y.1 ≡ x = cc in subst P (λ i. (key i, value i)) h.0
     at false p e rest = rest e
 
-kept_rest : {A : Type 0} (P : ℕ × A → Type 0) (j : ℕ) (es : List (ℕ × A)) → AllByRecursion P es → AllByRecursion P (remove_entry (λ k. k == j) es)
+pub kept_rest : {A : Type 0} (P : ℕ × A → Type 0) (j : ℕ) (es : List (ℕ × A)) → AllByRecursion P es → AllByRecursion P (remove_entry (λ k. k == j) es)
 kept_rest P j [] h = tt
 kept_rest P j (y ∷ es) h = elim (y.0 == j) as (λ q. AllByRecursion P (cond q es (y ∷ remove_entry (λ k. k == j) es))) [ true ↦ h.1 | false ↦ (h.0, kept_rest P j es h.1) ]
 

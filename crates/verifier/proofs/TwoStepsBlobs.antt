@@ -118,7 +118,7 @@ no_clash_among (b ∷ bs) all x y (suc k, lt, is) (suc j, mt, at) e =
     let first = both_true (list_all (λ (d : DigestValue). not (bytes_eq (digest_of b).hash d.hash)) (map digest_of bs)) (all_distinct (map digest_of bs)) all in
     no_clash_among bs first.1 x y (k, omega (arith, lt), is) (j, omega (arith, mt), at) e
 
-none_clash : NoClash (Contains all_blobs)
+pub none_clash : NoClash (Contains all_blobs)
 none_clash x y c d e = no_clash_among all_blobs (ap all_distinct digests_are ∙ are_distinct) x y c d e
 
 -- a blob that equals one of them is one of them
@@ -135,7 +135,7 @@ keeping_one (e ∷ es) d b is = by (is_eq (digest_cmp d e.0)) is (keeping_one es
     by true is rest = let same : e.1 ≡ b = cc in (0, omega arith, same)
     by false is rest = behind e.1 (map (λ (e : DigestValue × List ℕ). e.1) es) b (rest is)
 
-kept_one : (b : List ℕ) → IsValue two.blobs b → Contains all_blobs b
+pub kept_one : (b : List ℕ) → IsValue two.blobs b → Contains all_blobs b
 kept_one b v = Contains-append_left (map (λ (e : DigestValue × List ℕ). e.1) two.kept_blobs) others b (keeping_one two.kept_blobs v.0 b v.1)
 
 -- ---- only one of its blobs is a Tree
@@ -235,7 +235,7 @@ use_action_no_tree t e =
 made_blob : Contains all_blobs (top (form two.made))
 made_blob = (8, omega arith, refl)
 
-in_tree : (b : List ℕ) → IsDirectoryInTree two.blobs b → Contains all_blobs b
+pub in_tree : (b : List ℕ) → IsDirectoryInTree two.blobs b → Contains all_blobs b
 in_tree b (t, valid, v, m, inside, is) = by (keeping_one two.kept_blobs v.0 (tree_bytes t) v.1)
   where
     by : Contains (map (λ (e : DigestValue × List ℕ). e.1) two.kept_blobs) (tree_bytes t) → Contains all_blobs b
@@ -276,23 +276,23 @@ of_input b (inr (inl (inr (inl is)))) = same_blob (codes "123456789") b (11, ome
 of_input b (inr (inl (inr (inr none)))) = absurd none
 of_input b (inr (inr none)) = absurd none
 
-of_gen : (b : List ℕ) → IsBlobOfAction two.gen.0 b → Contains all_blobs b
+pub of_gen : (b : List ℕ) → IsBlobOfAction two.gen.0 b → Contains all_blobs b
 of_gen b (inl (inl is)) = same_blob (action_bytes (with_input two.gen.0.frame two.sources)) b (0, omega arith, refl) (is ∙ ap (λ d. action_bytes (with_input two.gen.0.frame d)) sources_named)
 of_gen b (inl (inr is)) = same_blob (frame_bytes two.gen.0.frame) b (5, omega arith, refl) is
 of_gen b (inr (inl is)) = same_blob (command_bytes two.gen.0.command) b (2, omega arith, refl) is
 of_gen b (inr (inr h)) = of_nothing b h
 
-of_uses : (b : List ℕ) → IsBlobOfAction two.uses.0 b → Contains all_blobs b
+pub of_uses : (b : List ℕ) → IsBlobOfAction two.uses.0 b → Contains all_blobs b
 of_uses b (inl (inl is)) = same_blob (action_bytes (with_input two.uses.0.frame two.input_digest)) b (1, omega arith, refl) (is ∙ ap (λ d. action_bytes (with_input two.uses.0.frame d)) input_named)
 of_uses b (inl (inr is)) = same_blob (frame_bytes two.uses.0.frame) b (6, omega arith, refl) is
 of_uses b (inr (inl is)) = same_blob (command_bytes two.uses.0.command) b (3, omega arith, refl) is
 of_uses b (inr (inr h)) = of_input b h
 
-made_by_gen : (b : List ℕ) → IsBlobOfOutcome two.gen.1 b → Contains all_blobs b
+pub made_by_gen : (b : List ℕ) → IsBlobOfOutcome two.gen.1 b → Contains all_blobs b
 made_by_gen b (e, (zero, lt, at), h) = of_made b (subst (λ (e : List Name × Entry Leaf). IsBlobOfEntry e.1 b) (sym at) h)
 made_by_gen b (e, (suc k, lt, at), h) = absurd (omega (arith, lt))
 
-made_by_uses : (b : List ℕ) → IsBlobOfOutcome two.uses.1 b → Contains all_blobs b
+pub made_by_uses : (b : List ℕ) → IsBlobOfOutcome two.uses.1 b → Contains all_blobs b
 made_by_uses b (e, (zero, lt, at), h) = same_blob (10 ∷ []) b (12, omega arith, refl) (subst (λ (e : List Name × Entry Leaf). IsBlobOfEntry e.1 b) (sym at) h)
 made_by_uses b (e, (suc k, lt, at), h) = absurd (omega (arith, lt))
 
@@ -309,7 +309,7 @@ of_chosen b (pair, (suc zero, lt, at), h) = by (subst (λ (z : ActionMeaning × 
     by (inr h) = made_by_uses b h
 of_chosen b (pair, (suc (suc k), lt, at), h) = absurd (omega (arith, lt))
 
-of_meaning : (b : List ℕ) → IsBlobOfMeaning two.meaning b → Contains all_blobs b
+pub of_meaning : (b : List ℕ) → IsBlobOfMeaning two.meaning b → Contains all_blobs b
 of_meaning b (inl (f, (zero, lt, at), is)) = same_blob (frame_bytes two.gen.0.frame) b (5, omega arith, refl) (is ∙ ap frame_bytes (sym at))
 of_meaning b (inl (f, (suc zero, lt, at), is)) = same_blob (frame_bytes two.uses.0.frame) b (6, omega arith, refl) (is ∙ ap frame_bytes (sym at))
 of_meaning b (inl (f, (suc (suc k), lt, at), is)) = absurd (omega (arith, lt))
