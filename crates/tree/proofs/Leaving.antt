@@ -33,10 +33,6 @@ leaves_at {own} {d} {old} {new} none h = record { same = same_at own d old new n
 
 -- ---- what isn't looked at
 
--- nothing was asked
-pub others_none : {Looks : Asked → Type 0} {B : Blobs} → LeavesOthers Looks B B
-others_none = record { same = λ d not. refl }
-
 -- a call, and one after it
 pub others_then : {first next both : Asked → Type 0} {old mid new : Blobs} → ((a : Asked) → first a → both a) → ((a : Asked) → next a → both a)
     → LeavesOthers first old mid → LeavesOthers next mid new → LeavesOthers both old new
