@@ -25,7 +25,7 @@ use Rattle.tree.specs.Form.{NodeValue, entry_node, form, top, root}
 use Rattle.tree.specs.Merge.{merge}
 use Rattle.tree.specs.MergeAgrees.{IsBlobIn}
 use Rattle.tree.specs.Merging.{WithinValue, in_source, MergeLines, IsHeldIn, AreHeld, merged}
-use Rattle.tree.specs.Merging.{IsDirectoryNode}
+use Rattle.tree.specs.Merging.{NamesDirectory}
 use Rattle.tree.proofs.MergeAlike.{Twin, Twins, first_of, second_of, firsts, seconds, IsTwin, AreTwins, merge_alike}
 use Rattle.blob_source.specs.Source.{Blobs, Grows, IsUnder, IsBlobUnder}
 use Rattle.blob_source.specs.Told.{IsTold, TellsDirectory, FailsDirectory}
@@ -112,13 +112,13 @@ form_paths [] = refl
 form_paths (e ∷ es) = ap (λ ps. e.0 ∷ ps) (form_paths es)
 
 -- where what is below a path is read
-lies_in : (o : OutcomeValue) (p : List Name) (x : NodeValue) → LooksIn o p (found x) → (w : WithinValue) × LiesWithin o p w × (IsDirectoryNode x → w ≡ in_source → ⊥)
+lies_in : (o : OutcomeValue) (p : List Name) (x : NodeValue) → LooksIn o p (found x) → (w : WithinValue) × LiesWithin o p w × (NamesDirectory x → w ≡ in_source → ⊥)
 lies_in o p x (inl (e, here, names, path, look)) = (within_output e.1, (e, here, (names, path), refl), by e.1 names look)
   where
-    by : (v : OutputValue) (names : List Name) → LooksBelow v names (found x) → IsDirectoryNode x → within_output v ≡ in_source → ⊥
-    by (outputs.File d b) [] look dir is = let same : x ≡ File d b = cc in subst IsDirectoryNode same dir
+    by : (v : OutputValue) (names : List Name) → LooksBelow v names (found x) → NamesDirectory x → within_output v ≡ in_source → ⊥
+    by (outputs.File d b) [] look dir is = let same : x ≡ File d b = cc in subst NamesDirectory same dir
     by (outputs.File d b) (n ∷ names) look dir is = cc
-    by (outputs.Link t) [] look dir is = let same : x ≡ Link t = cc in subst IsDirectoryNode same dir
+    by (outputs.Link t) [] look dir is = let same : x ≡ Link t = cc in subst NamesDirectory same dir
     by (outputs.Link t) (n ∷ names) look dir is = cc
     by (outputs.Tree t) names look dir is = cc
 lies_in o p x (inr (none, is)) = absurd (let e = is in cc)

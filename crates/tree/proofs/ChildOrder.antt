@@ -16,7 +16,7 @@ use Rattle.messages.specs.DirectoryRules.{DirectoryValue, directory_with, file_n
 use Rattle.messages.specs.Order.{IsAscending, ShareNone}
 use Rattle.tree.specs.Tree.{Name, name_cmp, IsBelowAll, IsOrdered}
 use Rattle.tree.specs.Form.{NodeValue, node_value, no_children, with_child, directory_of}
-use Rattle.tree.specs.Visiting.{joined}
+use Rattle.tree.specs.Visiting.{with_children}
 use Rattle.tree.specs.Unfolding.{leaves, child_values, made}
 use Rattle.tree.proofs.TreeLemmas.{name_itself, name_same, name_trans, below_trans}
 use Rattle.tree.proofs.VisitSteps.{none_after}
@@ -56,7 +56,7 @@ are_later n [] h = record { files = tt; directories = tt; symlinks = tt }
 are_later n (e ∷ es) h = later_child n e.0 e.1 (directory_of (leaves es)) h.0 (are_later n es h.1)
 
 -- in front of the others and last of its kind: the only one of it
-first_and_last : (n : Name) (x : NodeValue) (m : DirectoryValue) → AreLater n m → IsLast n x m → with_child n x m ≡ joined m (with_child n x no_children)
+first_and_last : (n : Name) (x : NodeValue) (m : DirectoryValue) → AreLater n m → IsLast n x m → with_child n x m ≡ with_children m (with_child n x no_children)
 first_and_last n (File d executable) m h last =
     let none = none_both (λ f. f.name) n m.files last h.files in
     let f : FileNodeValue = record { name = n; digest = d; executable = executable } in
@@ -79,7 +79,7 @@ first_and_last n (Dir d) m h last =
     let symlinks = sym (none_after m.symlinks) in
     λ i. record { files = files i; directories = directories i; symlinks = symlinks i }
 
-child_first : (m : Name) (y : NodeValue) (a b : DirectoryValue) → with_child m y (joined a b) ≡ joined (with_child m y a) b
+child_first : (m : Name) (y : NodeValue) (a b : DirectoryValue) → with_child m y (with_children a b) ≡ with_children (with_child m y a) b
 child_first m (File d executable) a b = refl
 child_first m (Link target) a b = refl
 child_first m (Dir d) a b = refl
@@ -102,12 +102,12 @@ new_of_rest n m (Dir f) d h = (h.directories.0, record { files = h.files; direct
 
 -- one child more
 inserted_child : (es : List (Name × NodeValue)) (n : Name) (x : NodeValue) → IsOrdered (leaves es) → IsNew n (directory_of (leaves es)) → IsLast n x (directory_of (leaves es))
-    → directory_of (leaves (insert_entry name_cmp es n x)) ≡ joined (directory_of (leaves es)) (with_child n x no_children)
+    → directory_of (leaves (insert_entry name_cmp es n x)) ≡ with_children (directory_of (leaves es)) (with_child n x no_children)
 inserted_child [] n x h new last = refl
 inserted_child (e ∷ es) n x h new last = by (name_cmp n e.0) refl (inserted_child es n x h.1 (new_of_rest n e.0 e.1 (directory_of (leaves es)) new).1 (last_of_rest n e.0 x e.1 (directory_of (leaves es)) last))
   where
-    by : (o : Ordering) → name_cmp n e.0 ≡ o → directory_of (leaves (insert_entry name_cmp es n x)) ≡ joined (directory_of (leaves es)) (with_child n x no_children)
-        → directory_of (leaves (match_ordering o ((n, x) ∷ e ∷ es) ((e.0, x) ∷ es) (e ∷ insert_entry name_cmp es n x))) ≡ joined (directory_of (leaves (e ∷ es))) (with_child n x no_children)
+    by : (o : Ordering) → name_cmp n e.0 ≡ o → directory_of (leaves (insert_entry name_cmp es n x)) ≡ with_children (directory_of (leaves es)) (with_child n x no_children)
+        → directory_of (leaves (match_ordering o ((n, x) ∷ e ∷ es) ((e.0, x) ∷ es) (e ∷ insert_entry name_cmp es n x))) ≡ with_children (directory_of (leaves (e ∷ es))) (with_child n x no_children)
     by Less c ih = first_and_last n x (directory_of (leaves (e ∷ es))) (are_later n (e ∷ es) (c, below_trans n e.0 (leaves es) c h.0)) last
     by Equal c ih = absurd ((new_of_rest n e.0 e.1 (directory_of (leaves es)) new).0 (sym (name_same n e.0 c)))
     by Greater c ih = ap (with_child e.0 e.1) ih ∙ child_first e.0 e.1 (directory_of (leaves es)) (with_child n x no_children)
@@ -170,7 +170,7 @@ module _ {A : Type 0} where
       later (f ∷ fs) h = (h.0, later fs h.1)
 
   more : (es fs : List (Name × Node A)) (n : Name) (v : Node A) → fs ≡ insert_entry name_cmp es n v → IsStrictlySortedBy name_cmp (keys_of es) → IsNew n (made es) → IsLast n (node_value v) (made es)
-      → made fs ≡ joined (made es) (with_child n (node_value v) no_children)
+      → made fs ≡ with_children (made es) (with_child n (node_value v) no_children)
   more es fs n v is sorted new last = ap made is ∙ ap (λ cs. directory_of (leaves cs)) (values_inserted es n v) ∙ inserted_child (child_values es) n (node_value v) (ordered_leaves es sorted) new last
 
   pub more_files : (es fs : List (Name × Node A)) (files : List FileNodeValue) (ds : List DirectoryNodeValue) (ls : List SymlinkNodeValue) (i : ℕ) (f : FileNodeValue) (v : Node A) (n : Name)
@@ -189,7 +189,7 @@ module _ {A : Type 0} where
       let front = ap (λ g. take i files ++ g ∷ []) whole ∙ take_one files i f lt in
       let dirs = none_after ds in
       let links = none_after ls in
-      step ∙ ap (λ x. joined (made es) (with_child n x no_children)) value ∙ ap (λ m. joined m (with_child n (File f.digest f.executable) no_children)) h ∙ (λ j. record { files = front j; directories = dirs j; symlinks = links j })
+      step ∙ ap (λ x. with_children (made es) (with_child n x no_children)) value ∙ ap (λ m. with_children m (with_child n (File f.digest f.executable) no_children)) h ∙ (λ j. record { files = front j; directories = dirs j; symlinks = links j })
 
   pub more_directories : (es fs : List (Name × Node A)) (files : List DirectoryNodeValue) (ls : List SymlinkNodeValue) (i : ℕ) (f : DirectoryNodeValue) (v : Node A) (n : Name)
       → i < length files → f ≡ get_or files i f → n ≡ f.name → node_value v ≡ Dir f.digest → IsAscending (directory_names files) → ShareNone (directory_names files) (symlink_names ls)
@@ -206,7 +206,7 @@ module _ {A : Type 0} where
       let whole : ◌≡◌ {A = DirectoryNodeValue} (record { name = n; digest = f.digest }) (get_or files i f) = ap (λ m. record { name = m; digest = f.digest }) name ∙ is in
       let front = ap (λ g. take i files ++ g ∷ []) whole ∙ take_one files i f lt in
       let links = none_after ls in
-      step ∙ ap (λ x. joined (made es) (with_child n x no_children)) value ∙ ap (λ m. joined m (with_child n (Dir f.digest) no_children)) h ∙ (λ j. record { files = []; directories = front j; symlinks = links j })
+      step ∙ ap (λ x. with_children (made es) (with_child n x no_children)) value ∙ ap (λ m. with_children m (with_child n (Dir f.digest) no_children)) h ∙ (λ j. record { files = []; directories = front j; symlinks = links j })
 
   pub more_symlinks : (es fs : List (Name × Node A)) (files : List SymlinkNodeValue) (i : ℕ) (f : SymlinkNodeValue) (v : Node A) (n : Name)
       → i < length files → f ≡ get_or files i f → n ≡ f.name → node_value v ≡ Link f.target → IsAscending (symlink_names files)
@@ -218,4 +218,4 @@ module _ {A : Type 0} where
       let step = more es fs n v at sorted (subst (IsNew n) (sym h) new) last in
       let whole : ◌≡◌ {A = SymlinkNodeValue} (record { name = n; target = f.target }) (get_or files i f) = ap (λ m. record { name = m; target = f.target }) name ∙ is in
       let front = ap (λ g. take i files ++ g ∷ []) whole ∙ take_one files i f lt in
-      step ∙ ap (λ x. joined (made es) (with_child n x no_children)) value ∙ ap (λ m. joined m (with_child n (Link f.target) no_children)) h ∙ (λ j. record { files = []; directories = []; symlinks = front j })
+      step ∙ ap (λ x. with_children (made es) (with_child n x no_children)) value ∙ ap (λ m. with_children m (with_child n (Link f.target) no_children)) h ∙ (λ j. record { files = []; directories = []; symlinks = front j })

@@ -14,7 +14,7 @@ use Rattle.tree.specs.FlatTree.{under, listed, FlatValue, IsListOf}
 use Rattle.tree.specs.declared.flat_tree.FlatEntry.{FlatEntry}
 use Rattle.tree.specs.declared.visiting.Line.{Line}
 use Rattle.tree.specs.declared.visiting.Visited.{Visited}
-use Rattle.tree.specs.Visiting.{first_under, led, items_of, line_entries, joined, IsVisitOf}
+use Rattle.tree.specs.Visiting.{first_under, led, items_of, line_entries, with_children, IsVisitOf}
 use Rattle.tree.proofs.TreeLemmas.{name_itself}
 use Rattle.tree.proofs.Sorted.{led_step}
 use Rattle.tree.proofs.Listings.{IsFirst, AllFirst, first_listed}
@@ -55,7 +55,7 @@ parts p q s r es fs h =
 pub record Left (made : DirectoryValue) (tops : List (List ℕ)) (rest : FlatValue) (t : Tree NodeValue) : Type 0 where
   pub tree : Tree NodeValue
   pub list : IsListOf rest tree
-  pub directory : joined made (directory_of tree) ≡ directory_of t
+  pub directory : with_children made (directory_of tree) ≡ directory_of t
   pub tops_left : tops ++ tops_below tree ≡ tops_below t
 
 pub record Lists (made : DirectoryValue) (tops : List (List ℕ)) (rest all : FlatValue) : Type 0 where
@@ -69,15 +69,15 @@ lists_same {made} {other} {tops} {others} {rest} {all} d e h = subst (λ m. List
 
 -- a child more, under a copy of its name
 pub lists_named : (was : DirectoryValue) (x : NodeValue) {n m : Name} {other : DirectoryValue} {tops others : List (List ℕ)} {rest all : FlatValue}
-    → m ≡ n → other ≡ joined was (with_child m x no_children) → others ≡ tops → Lists (joined was (with_child n x no_children)) tops rest all → Lists other others rest all
-lists_named was x same d e h = lists_same (d ∙ ap (λ k. joined was (with_child k x no_children)) same) e h
+    → m ≡ n → other ≡ with_children was (with_child m x no_children) → others ≡ tops → Lists (with_children was (with_child n x no_children)) tops rest all → Lists other others rest all
+lists_named was x same d e h = lists_same (d ∙ ap (λ k. with_children was (with_child k x no_children)) same) e h
 
 pub lists_leaf : (made : DirectoryValue) (tops : List (List ℕ)) (n : Name) (p : List Name) (x : NodeValue) (rest all : FlatValue) → Lists made tops ((n ∷ p, a_leaf x) ∷ rest) all
-    → Lists (joined made (with_child n x no_children)) tops rest all
+    → Lists (with_children made (with_child n x no_children)) tops rest all
 lists_leaf made tops n p x rest all h = record { left = λ t at. (let l = h.left t at in step l.tree t l.list l.directory l.tops_left) }
   where
-    step : (u t : Tree NodeValue) → IsListOf ((n ∷ p, a_leaf x) ∷ rest) u → joined made (directory_of u) ≡ directory_of t → tops ++ tops_below u ≡ tops_below t
-        → Left (joined made (with_child n x no_children)) tops rest t
+    step : (u t : Tree NodeValue) → IsListOf ((n ∷ p, a_leaf x) ∷ rest) u → with_children made (directory_of u) ≡ directory_of t → tops ++ tops_below u ≡ tops_below t
+        → Left (with_children made (with_child n x no_children)) tops rest t
     step empty t l d e = absurd (let same = l.listing in cc)
     step (folder m below r) t l d e = absurd (let same = (parts (n ∷ p) (m ∷ []) (a_leaf x) a_directory rest (under m (listed below) ++ listed r) l.listing).1 in cc)
     step (leaf m y r) t l d e =
@@ -90,19 +90,19 @@ lists_leaf made tops n p x rest all h = record { left = λ t at. (let l = h.left
         record {
           tree = r;
           list = record { ordered = l.ordered.1; listing = later };
-          directory = joined_assoc made (with_child n x no_children) (directory_of r) ∙ ap (joined made) (child_joined n x (directory_of r)) ∙ ap (λ k. joined made (with_child k x (directory_of r))) name
-              ∙ ap (λ y. joined made (with_child m y (directory_of r))) node ∙ d;
+          directory = joined_assoc made (with_child n x no_children) (directory_of r) ∙ ap (with_children made) (child_joined n x (directory_of r)) ∙ ap (λ k. with_children made (with_child k x (directory_of r))) name
+              ∙ ap (λ y. with_children made (with_child m y (directory_of r))) node ∙ d;
           tops_left = e;
         }
 
 -- what is left behind a directory
 pub lists_folder : (made : DirectoryValue) (tops below : List (List ℕ)) (d : DigestValue) (n : Name) (p : List Name) (rest all seen : FlatValue) → Lists made tops ((n ∷ p, a_directory) ∷ rest) all
     → seen ≡ led n rest → ((t : Tree NodeValue) → IsListOf seen t → (d ≡ root t) × (below ≡ visited t))
-    → Lists (joined made (with_child n (Dir d) no_children)) (tops ++ below) (drop (length seen) rest) all
+    → Lists (with_children made (with_child n (Dir d) no_children)) (tops ++ below) (drop (length seen) rest) all
 lists_folder made tops below d n p rest all seen h led_is visit = record { left = λ t at. (let l = h.left t at in step l.tree t l.list l.directory l.tops_left) }
   where
-    step : (u t : Tree NodeValue) → IsListOf ((n ∷ p, a_directory) ∷ rest) u → joined made (directory_of u) ≡ directory_of t → tops ++ tops_below u ≡ tops_below t
-        → Left (joined made (with_child n (Dir d) no_children)) (tops ++ below) (drop (length seen) rest) t
+    step : (u t : Tree NodeValue) → IsListOf ((n ∷ p, a_directory) ∷ rest) u → with_children made (directory_of u) ≡ directory_of t → tops ++ tops_below u ≡ tops_below t
+        → Left (with_children made (with_child n (Dir d) no_children)) (tops ++ below) (drop (length seen) rest) t
     step empty t l dir e = absurd (let same = l.listing in cc)
     step (leaf m y r) t l dir e = absurd (let same = (parts (n ∷ p) (m ∷ []) a_directory (a_leaf y) rest (listed r) l.listing).1 in cc)
     step (folder m b r) t l dir e =
@@ -117,8 +117,8 @@ lists_folder made tops below d n p rest all seen h led_is visit = record { left 
         record {
           tree = r;
           list = record { ordered = l.ordered.2; listing = ap (λ s. drop (length s) rest) inside ∙ ap (drop (length (listed b))) later ∙ drop_listed n (listed b) (listed r) };
-          directory = joined_assoc made (with_child n (Dir d) no_children) (directory_of r) ∙ ap (joined made) (child_joined n (Dir d) (directory_of r))
-              ∙ ap (λ k. joined made (with_child k (Dir d) (directory_of r))) (sym name) ∙ ap (λ e. joined made (with_child m (Dir e) (directory_of r))) told.0 ∙ dir;
+          directory = joined_assoc made (with_child n (Dir d) no_children) (directory_of r) ∙ ap (with_children made) (child_joined n (Dir d) (directory_of r))
+              ∙ ap (λ k. with_children made (with_child k (Dir d) (directory_of r))) (sym name) ∙ ap (λ e. with_children made (with_child m (Dir e) (directory_of r))) told.0 ∙ dir;
           tops_left = append_assoc tops below (tops_below r) ∙ ap (λ b. tops ++ (b ++ tops_below r)) told.1 ∙ e;
         }
 
@@ -147,7 +147,7 @@ no_root s rest (folder m b r) l = let same = (parts [] (m ∷ []) s a_directory 
 pub lists_end : (made : DirectoryValue) (tops : List (List ℕ)) (all : FlatValue) (t : Tree NodeValue) → Lists made tops [] all → IsListOf all t → (made ≡ directory_of t) × (tops ≡ tops_below t)
 lists_end made tops all t h at = (let l = h.left t at in step l.tree l.list l.directory l.tops_left)
   where
-    step : (u : Tree NodeValue) → IsListOf [] u → joined made (directory_of u) ≡ directory_of t → tops ++ tops_below u ≡ tops_below t → (made ≡ directory_of t) × (tops ≡ tops_below t)
+    step : (u : Tree NodeValue) → IsListOf [] u → with_children made (directory_of u) ≡ directory_of t → tops ++ tops_below u ≡ tops_below t → (made ≡ directory_of t) × (tops ≡ tops_below t)
     step empty l d e = (sym (joined_none made) ∙ d, sym (none_after tops) ∙ e)
     step (leaf m y r) l d e = absurd (let same = l.listing in cc)
     step (folder m b r) l d e = absurd (let same = l.listing in cc)

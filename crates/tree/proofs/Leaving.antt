@@ -1,9 +1,12 @@
--- What is told under the digests of some encodings stays as it was.
-use Rattle.std.proofs.Common.{◌≡◌, List, [], ◌∷◌, ℕ, refl, ◌∙◌}
+-- What is told under the digests of some encodings, and of what isn't looked at, stays as it was.
+use Rattle.std.proofs.Common.{◌≡◌, ◌≢◌, List, [], ◌∷◌, ℕ, refl, ap, ◌∙◌, inl, inr}
+use Rattle.std.specs.Prelude.{◌⊎◌}
 use Rattle.std.specs.List.{AllByRecursion}
-use Rattle.blob_digest.specs.Digest.{DigestValue, digest_of}
-use Rattle.blob_source.specs.Source.{Blobs, GrowsAt}
+use Rattle.blob_digest.specs.Digest.{DigestValue, digest_of, empty_digest}
+use Rattle.blob_source.specs.Source.{Blobs, GrowsAt, Telling}
 use Rattle.tree.specs.Difference.{IsNoneOf, LeavesOwn}
+use Rattle.tree.specs.Memo.{Asked, blob, LeavesOthers, LooksAtBlob}
+use Rattle.tree.proofs.Memos.{same_or_other}
 
 same_none : (own : List (List ℕ)) (B : Blobs) → AllByRecursion (λ b. B (digest_of b) ≡ B (digest_of b)) own
 same_none [] B = tt
@@ -27,3 +30,19 @@ leaves_then {own} {old} {mid} {new} h k = record { same = same_then own old mid 
 -- a fetch of another digest
 pub leaves_at : {own : List (List ℕ)} {d : DigestValue} {old new : Blobs} → IsNoneOf own d → GrowsAt d old new → LeavesOwn own old new
 leaves_at {own} {d} {old} {new} none h = record { same = same_at own d old new none h }
+
+-- ---- what isn't looked at
+
+-- a call, and one after it
+pub others_then : {first next both : Asked → Type 0} {old mid new : Blobs} → ((a : Asked) → first a → both a) → ((a : Asked) → next a → both a)
+    → LeavesOthers first old mid → LeavesOthers next mid new → LeavesOthers both old new
+others_then to on h k = record { same = λ d not. k.same d (λ at. not (on (blob d) at)) ∙ h.same d (λ at. not (to (blob d) at)) }
+
+-- a fetch of one blob
+pub others_at : {d : DigestValue} {old new : Telling} → GrowsAt d old.blobs new.blobs → (d ≡ empty_digest → new ≡ old) → LeavesOthers (LooksAtBlob d) old.blobs new.blobs
+others_at {d} {old} {new} grows unasked = record { same = λ e not. by e not (same_or_other e d) (same_or_other d empty_digest) }
+  where
+    by : (e : DigestValue) → (LooksAtBlob d (blob e) → ⊥) → (e ≡ d) ⊎ (e ≢ d) → (d ≡ empty_digest) ⊎ (d ≢ empty_digest) → new.blobs e ≡ old.blobs e
+    by e not (inr other) empty = grows.others e other
+    by e not (inl same) (inl empty) = ap (λ t. t.blobs e) (unasked empty)
+    by e not (inl same) (inr other) = absurd (not (ap blob same, other))

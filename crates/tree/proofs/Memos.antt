@@ -23,7 +23,7 @@ and_true true true e = (refl, refl)
 and_true true false e = cc
 and_true false b e = cc
 
-same_or_other : (d e : DigestValue) → (d ≡ e) ⊎ (d ≢ e)
+pub same_or_other : (d e : DigestValue) → (d ≡ e) ⊎ (d ≢ e)
 same_or_other d e = by (pointwise nat_eq d.hash e.hash && nat_eq d.size e.size) refl
   where
     by : (b : Bool) → (pointwise nat_eq d.hash e.hash && nat_eq d.size e.size) ≡ b → (d ≡ e) ⊎ (d ≢ e)

@@ -19,7 +19,7 @@ use Rattle.tree.specs.Form.{NodeValue}
 use Rattle.tree.specs.Lookup.{IsValue}
 use Rattle.tree.specs.MergeAgrees.{IsBlobIn}
 use Rattle.tree.specs.Stage.{Stage, ◌and_then◌}
-use Rattle.tree.specs.Merging.{WithinValue, in_source, in_tree, NodeWithin, MergeLines, MergeFault, IsHeldIn, AreHeld, IsDirectoryNode, IsFirstIn, ReadsWithin, gives_node, is_repeated, counted, child_lines, node_opened, line_opened, opened, CanMeetAt, CanMeet, met, node_here, lone, stands_or, entry_merged, each_name, first_names, names_with, add_first, lines_at, merged_in, merged}
+use Rattle.tree.specs.Merging.{WithinValue, in_source, in_tree, NodeWithin, MergeLines, MergeFault, IsHeldIn, AreHeld, NamesDirectory, IsFirstIn, ReadsWithin, gives_node, is_repeated, counted, child_lines, node_opened, line_opened, opened, CanMeetAt, CanMeet, met, node_here, lone, stands_or, entry_merged, each_name, first_names, names_with, add_first, lines_at, merged_in, merged}
 use Rattle.tree.proofs.DirectoryBytes.{directory_bytes_injective}
 use Rattle.tree.proofs.TreeDigests.{valid_digests, only_empty}
 use Rattle.tree.proofs.Listings.{all_join}
@@ -53,7 +53,7 @@ seconds ts = map {B = List Name × NodeWithin} (λ (t : List Name × Twin). (t.0
 
 -- a directory that is read in a source for the second is read there for the first
 pub record IsTwin (S : List ℕ → Type 0) (t : Twin) : Type 0 where
-  pub alike : IsDirectoryNode t.node → t.other ≡ in_source → t.one ≡ in_source
+  pub alike : NamesDirectory t.node → t.other ≡ in_source → t.one ≡ in_source
   pub first : (b : List ℕ) → IsBlobIn t.one b → S b
   pub second : (b : List ℕ) → IsBlobIn t.other b → S b
 

@@ -14,7 +14,7 @@ use Rattle.tree.specs.Unfolding.{ExplainsChild, IsFull}
 use Rattle.tree.specs.Lookup.{names_in}
 use Rattle.tree.specs.Merging.{WithinValue, NodeWithin, MergeLines, MergeFault, IsHeldIn, AreHeld, grouped, first_names, lines_at, counted, CanMeet, opened, lone, node_here, stands_or, entry_merged, each_name, merged_in, merged, ExplainsMerge}
 use Rattle.tree.specs.MergeLooks.{StandsOrLooksAt, MetLooksAt, OpenedLooksAt, EachLooksAt, MergeLooksIn, MergeLooksAt}
-use Rattle.tree.specs.MergeParts.{part_values, meeting, MeetingLooksAt}
+use Rattle.tree.specs.MergeParts.{part_values, lines_met, MeetingLooksAt}
 use Rattle.tree.proofs.StageLaws.{looks_here, looks_next}
 use Rattle.tree.proofs.MergeLooking.{steady_opened}
 use Rattle.tree.proofs.MergeStages.{all_lines_at, all_counted, stable_opened, stable_entry, stable_merged_in}
@@ -62,14 +62,14 @@ module _ (k : ℕ) (path : List Name) (n : Name) (given kept : MergeLines) (same
   name_stands x is B = lone_stands B (merged_in B k (path ++ n ∷ [])) k (path ++ n ∷ []) (counted [] given) x (ap lone (sym same) ∙ is)
 
   module _ (none : lone kept ≡ None) (child : List Name) (here : child ≡ path ++ n ∷ []) (B : Blobs) where
-    is_met : meeting B k child kept ≡ at_name k path B n given
-    is_met = ap (λ p. meeting B k p kept) here ∙ ap (meeting B k (path ++ n ∷ [])) same ∙ ap (λ o. stands_or o (meeting B k (path ++ n ∷ []) (counted [] given))) (sym (ap lone (sym same) ∙ none))
+    is_met : lines_met B k child kept ≡ at_name k path B n given
+    is_met = ap (λ p. lines_met B k p kept) here ∙ ap (lines_met B k (path ++ n ∷ [])) same ∙ ap (λ o. stands_or o (lines_met B k (path ++ n ∷ []) (counted [] given))) (sym (ap lone (sym same) ∙ none))
 
-    pub name_meets : (t : Tree NodeValue) → (meeting B k child kept).passes (whole t) → (later : Blobs) → Grows B later → (at_name k path later n given).passes (whole t)
+    pub name_meets : (t : Tree NodeValue) → (lines_met B k child kept).passes (whole t) → (later : Blobs) → Grows B later → (at_name k path later n given).passes (whole t)
     name_meets t h later g =
         (stable_entry k (path ++ n ∷ []) (counted [] given) (λ new. stable_merged_in k (path ++ n ∷ []) new)).still B later g (whole t) (subst (λ (s : Stage MergeFault (Entry NodeValue)). s.passes (whole t)) is_met h)
 
-    pub name_fails : (f : MergeFault) → (meeting B k child kept).fails f → (at_name k path B n given).fails f
+    pub name_fails : (f : MergeFault) → (lines_met B k child kept).fails f → (at_name k path B n given).fails f
     name_fails f h = subst (λ (s : Stage MergeFault (Entry NodeValue)). s.fails f) is_met h
 
     pub name_looks : (a : Asked) → MeetingLooksAt B k child kept a → look_name k path B n given a
@@ -87,10 +87,10 @@ module _ (k : ℕ) (path : List Name) (kept : MergeLines) (can : CanMeet k kept)
     read_later : (opened D kept).passes new
     read_later = (stable_opened kept).still C D grows new read
 
-    pub below_passes : (t : Tree NodeValue) → (merged_in D k path new).passes t → (meeting D k path kept).passes (whole t)
+    pub below_passes : (t : Tree NodeValue) → (merged_in D k path new).passes t → (lines_met D k path kept).passes (whole t)
     below_passes t h = comes_below D (merged_in D k path) k path kept new t can read_later h
 
-    pub below_fails : (f : MergeFault) → (merged_in D k path new).fails f → (meeting D k path kept).fails f
+    pub below_fails : (f : MergeFault) → (merged_in D k path new).fails f → (lines_met D k path kept).fails f
     below_fails f h = fails_below D (merged_in D k path) k path kept f new can read_later h
 
     pub below_looks : (a : Asked) → MergeLooksIn D k path new a → MeetingLooksAt D k path kept a

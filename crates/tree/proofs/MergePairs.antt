@@ -17,7 +17,7 @@ use Rattle.tree.specs.Tree.{Name, name_cmp, Tree, empty, leaf, folder, Entry, si
 use Rattle.tree.specs.Form.{form, directory_of, top, root, entry_node, leaf_node}
 use Rattle.tree.specs.Lookup.{IsValue}
 use Rattle.tree.specs.Stage.{◌and_then◌}
-use Rattle.tree.specs.Merging.{WithinValue, in_source, in_tree, NodeWithin, MergeLines, under_name, lines_at, IsHeldIn, AreHeld, IsDirectoryNode, CanMeetAt, ReadsWithin, child_lines, node_opened, line_opened, opened}
+use Rattle.tree.specs.Merging.{WithinValue, in_source, in_tree, NodeWithin, MergeLines, under_name, lines_at, IsHeldIn, AreHeld, NamesDirectory, CanMeetAt, ReadsWithin, child_lines, node_opened, line_opened, opened}
 use Rattle.tree.specs.Merge.{TreeLines}
 use Rattle.tree.specs.MergeAgrees.{IsBlobIn, IsBlobOfOne}
 use Rattle.tree.proofs.Children.{same_name}
@@ -249,7 +249,7 @@ contains_mapped f [] x (i, lt, is) = absurd (omega arith)
 contains_mapped f (y ∷ ys) x (zero, lt, is) = (0, omega arith, ap f is)
 contains_mapped f (y ∷ ys) x (suc i, lt, is) = behind (f y) (map f ys) (f x) (contains_mapped f ys x (i, omega (arith, lt), is))
 
-not_leaf : (x : Leaf) → IsDirectoryNode (leaf_node x) → ⊥
+not_leaf : (x : Leaf) → NamesDirectory (leaf_node x) → ⊥
 not_leaf (file c e) h = h
 not_leaf (link s) h = h
 
@@ -284,7 +284,7 @@ module _ (B : Blobs) (S : List ℕ → Type 0) (apart : NoClash S) (values : (b 
     are = (h, o.are);
     named = (tt, o.named);
   }
-  line_pairs [] g (single x) ks here rest h held can is o = absurd (not_leaf x (subst IsDirectoryNode h.node can))
+  line_pairs [] g (single x) ks here rest h held can is o = absurd (not_leaf x (subst NamesDirectory h.node can))
   line_pairs [] g (whole u) ks here rest h held can is o = record {
     pairs = children g.within u ++ o.pairs;
     gives = map-append (λ (x : List Name × Pair). (x.0, x.1.0)) (children g.within u) o.pairs ∙ (λ i. node_pairs g u h held here is i ++ o.gives i);

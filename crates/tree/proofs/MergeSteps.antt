@@ -8,7 +8,7 @@ use Rattle.blob_source.specs.Source.{Blobs, Grows}
 use Rattle.tree.specs.Tree.{Name, Tree, empty, leaf, folder, Entry, single, whole}
 use Rattle.tree.specs.Form.{NodeValue, no_children, with_child, directory_of, root}
 use Rattle.tree.specs.Folded.{tops_below, visited}
-use Rattle.tree.specs.Visiting.{joined}
+use Rattle.tree.specs.Visiting.{with_children}
 use Rattle.tree.specs.Stage.{Stage, ◌and_then◌}
 use Rattle.tree.specs.Merging.{NodeWithin, MergeLines, MergeFault, conflict, line_opened, opened, CanMeet, met, lone, stands_or, entry_merged, each_name}
 use Rattle.tree.proofs.VisitSteps.{none_after, joined_assoc, joined_none, child_joined}
@@ -19,7 +19,7 @@ module _ (at : Blobs → Name → MergeLines → Stage MergeFault (Entry NodeVal
   -- whatever is told later, what the names that are left come to ends what all come to
   pub record MergesOn (B : Blobs) (made : DirectoryValue) (tops : List (List ℕ)) (rest all : List (Name × MergeLines)) : Type 0 where
     pub passes : (later : Blobs) → Grows B later → (t : Tree NodeValue) → (each_name (at later) rest).passes t
-        → (u : Tree NodeValue) × (each_name (at later) all).passes u × (joined made (directory_of t) ≡ directory_of u) × (tops ++ tops_below t ≡ tops_below u)
+        → (u : Tree NodeValue) × (each_name (at later) all).passes u × (with_children made (directory_of t) ≡ directory_of u) × (tops ++ tops_below t ≡ tops_below u)
     pub fails : (later : Blobs) → Grows B later → (f : MergeFault) → (each_name (at later) rest).fails f → (each_name (at later) all).fails f
 
   pub merges_first : (B : Blobs) (all : List (Name × MergeLines)) → MergesOn B no_children [] all all
@@ -29,24 +29,24 @@ module _ (at : Blobs → Name → MergeLines → Stage MergeFault (Entry NodeVal
     later_too : (later : Blobs) → Grows C later → Grows B later
     later_too later g = λ e b h. g e b (grows e b h)
 
-    pub merges_leaf : (x : NodeValue) → ((later : Blobs) → Grows C later → (at later n given).passes (single x)) → MergesOn C (joined made (with_child n x no_children)) tops rest all
+    pub merges_leaf : (x : NodeValue) → ((later : Blobs) → Grows C later → (at later n given).passes (single x)) → MergesOn C (with_children made (with_child n x no_children)) tops rest all
     unfolding ◌and_then◌
     merges_leaf x here = record {
       passes = λ later g t h.
           let r = old.passes later (later_too later g) (leaf n x t) (single x, here later g, (t, h, refl)) in
-          (r.0, r.1, joined_assoc made (with_child n x no_children) (directory_of t) ∙ ap (joined made) (child_joined n x (directory_of t)) ∙ r.2, r.3);
+          (r.0, r.1, joined_assoc made (with_child n x no_children) (directory_of t) ∙ ap (with_children made) (child_joined n x (directory_of t)) ∙ r.2, r.3);
       fails = λ later g f h. old.fails later (later_too later g) f (inr (single x, here later g, inl h));
     }
 
     pub merges_folder : (u : Tree NodeValue) (d : DigestValue) (below : List (List ℕ)) → d ≡ root u → below ≡ visited u → ((later : Blobs) → Grows C later → (at later n given).passes (whole u))
-        → MergesOn C (joined made (with_child n (Dir d) no_children)) (tops ++ below) rest all
+        → MergesOn C (with_children made (with_child n (Dir d) no_children)) (tops ++ below) rest all
     unfolding ◌and_then◌
     merges_folder u d below digest visits here = record {
       passes = λ later g t h.
           let r = old.passes later (later_too later g) (folder n u t) (whole u, here later g, (t, h, refl)) in (
             r.0,
             r.1,
-            joined_assoc made (with_child n (Dir d) no_children) (directory_of t) ∙ ap (joined made) (child_joined n (Dir d) (directory_of t)) ∙ ap (λ e. joined made (with_child n (Dir e) (directory_of t))) digest ∙ r.2,
+            joined_assoc made (with_child n (Dir d) no_children) (directory_of t) ∙ ap (with_children made) (child_joined n (Dir d) (directory_of t)) ∙ ap (λ e. with_children made (with_child n (Dir e) (directory_of t))) digest ∙ r.2,
             append_assoc tops below (tops_below t) ∙ ap (λ b. tops ++ (b ++ tops_below t)) visits ∙ r.3,
           );
       fails = λ later g f h. old.fails later (later_too later g) f (inr (whole u, here later g, inl h));

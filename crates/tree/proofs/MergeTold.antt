@@ -13,8 +13,8 @@ use Rattle.tree.specs.Graft.{with_entry}
 use Rattle.tree.specs.Lookup.{IsValue}
 use Rattle.tree.specs.Merge.{gives_at, GivesOnly, IsMergeOf, TreeLines}
 use Rattle.tree.specs.Stage.{Stage, ◌and_then◌}
-use Rattle.tree.specs.Merging.{WithinValue, NodeWithin, MergeLines, MergeFault, conflict, unreadable, lines_at, first_names, counted, IsHeldIn, AreHeld, node_opened, line_opened, opened, IsDirectoryNode, CanMeetAt, met, lone, stands_or, entry_merged, each_name, merged_in, merged}
-use Rattle.tree.specs.MergeAgrees.{StandFor, IsBlobOfTrees, IsBlobOfEntries, IsOfMerge, TellsOfMerges}
+use Rattle.tree.specs.Merging.{WithinValue, NodeWithin, MergeLines, MergeFault, conflict, unreadable, lines_at, first_names, counted, IsHeldIn, AreHeld, node_opened, line_opened, opened, NamesDirectory, CanMeetAt, met, lone, stands_or, entry_merged, each_name, merged_in, merged}
+use Rattle.tree.specs.MergeAgrees.{GiveNodesOf, IsBlobOfTrees, IsBlobOfEntries, IsOfMerge, TellsOfMerges}
 use Rattle.tree.proofs.TreeLemmas.{one_or_two, apart_cmp}
 use Rattle.tree.proofs.SameTree.{cons, entry-cons, own_entry}
 use Rattle.tree.proofs.SameMap.{same_map}
@@ -154,7 +154,7 @@ module _ (S : List ℕ → Type 0) where
     where
       by : (p : List Name) (e : Entry Leaf) → gives_at p e [] ≡ a_directory → y.1.0.node ≡ entry_node e → CanMeetAt p y.1.0
       by [] (single x) is node = absurd (let both : ◌≡◌ {A = Standing Leaf} (a_leaf x) a_directory = is in cc)
-      by [] (whole u) is node = subst IsDirectoryNode (sym node) tt
+      by [] (whole u) is node = subst NamesDirectory (sym node) tt
       by (n ∷ p) e is node = tt
 
   -- and where no names are left they are one
@@ -366,18 +366,18 @@ paired [] es = []
 paired (l ∷ ls) [] = []
 paired (l ∷ ls) (e ∷ es) = (l.0, (l.1, e.1)) ∷ paired ls es
 
-paired_given : (ls : MergeLines) (es : TreeLines) → StandFor ls es → given (paired ls es) ≡ ls
+paired_given : (ls : MergeLines) (es : TreeLines) → GiveNodesOf ls es → given (paired ls es) ≡ ls
 paired_given [] es h = refl
 paired_given (l ∷ ls) [] h = absurd h
 paired_given (l ∷ ls) (e ∷ es) h = ap (λ k. l ∷ k) (paired_given ls es h.1)
 
-paired_stood : (ls : MergeLines) (es : TreeLines) → StandFor ls es → stood (paired ls es) ≡ es
+paired_stood : (ls : MergeLines) (es : TreeLines) → GiveNodesOf ls es → stood (paired ls es) ≡ es
 paired_stood [] [] h = refl
 paired_stood [] (e ∷ es) h = absurd h
 paired_stood (l ∷ ls) [] h = absurd h
 paired_stood (l ∷ ls) (e ∷ es) h = λ i. (h.0.target i, e.1) ∷ paired_stood ls es h.1 i
 
-paired_named : (ls : MergeLines) (es : TreeLines) → StandFor ls es → AllNamed (paired ls es)
+paired_named : (ls : MergeLines) (es : TreeLines) → GiveNodesOf ls es → AllNamed (paired ls es)
 paired_named [] es h = tt
 paired_named (l ∷ ls) [] h = absurd h
 paired_named (l ∷ ls) (e ∷ es) h = (subst HasNames (sym h.0.target) (by e.0 h.0.some), paired_named ls es h.1)
@@ -386,7 +386,7 @@ paired_named (l ∷ ls) (e ∷ es) h = (subst HasNames (sym h.0.target) (by e.0 
     by [] some = some refl
     by (n ∷ p) some = tt
 
-are_paired : (S : List ℕ → Type 0) (ls : MergeLines) (es : TreeLines) → StandFor ls es → ((b : List ℕ) → IsBlobOfTrees ls b → S b) → ((b : List ℕ) → IsBlobOfEntries es b → S b) → ArePairs S 64 (paired ls es)
+are_paired : (S : List ℕ → Type 0) (ls : MergeLines) (es : TreeLines) → GiveNodesOf ls es → ((b : List ℕ) → IsBlobOfTrees ls b → S b) → ((b : List ℕ) → IsBlobOfEntries es b → S b) → ArePairs S 64 (paired ls es)
 are_paired S [] es h trees entries = tt
 are_paired S (l ∷ ls) [] h trees entries = absurd h
 are_paired S (l ∷ ls) (e ∷ es) h trees entries = (
@@ -424,7 +424,7 @@ dir_of es t h = record { lines = good es h.lines h.deep; nothing_else = h.nothin
     good [] only deep = tt
     good (e ∷ es) only deep = (record { only = only.0; deep = deep.0 }, good es only.1 deep.1)
 
-module _ (B : Blobs) (ls : MergeLines) (es : TreeLines) (held : AreHeld ls) (stand : StandFor ls es) (apart : NoClash (IsOfMerge B ls es)) where
+module _ (B : Blobs) (ls : MergeLines) (es : TreeLines) (held : AreHeld ls) (stand : GiveNodesOf ls es) (apart : NoClash (IsOfMerge B ls es)) where
   are : ArePairs (IsOfMerge B ls es) 64 (paired ls es)
   are = are_paired (IsOfMerge B ls es) ls es stand (λ b h. inr (inl h)) (λ b h. inr (inr h))
 

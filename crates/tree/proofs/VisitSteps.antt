@@ -18,7 +18,7 @@ use Rattle.tree.specs.Form.{NodeValue, no_children, with_child, directory_of, ro
 use Rattle.tree.specs.Folded.{tops_below}
 use Rattle.tree.specs.declared.visiting.Line.{Line}
 use Rattle.tree.specs.declared.visiting.Visited.{Visited}
-use Rattle.tree.specs.Visiting.{first_under, led, items_of, lines_seen, joined, IsVisitOf}
+use Rattle.tree.specs.Visiting.{first_under, led, items_of, lines_seen, with_children, IsVisitOf}
 
 -- ---- children behind children
 
@@ -26,21 +26,21 @@ pub none_after : {A : Type 0} (xs : List A) → xs ++ [] ≡ xs
 none_after [] = refl
 none_after (x ∷ xs) = ap (λ ys. x ∷ ys) (none_after xs)
 
-pub joined_assoc : (a b c : DirectoryValue) → joined (joined a b) c ≡ joined a (joined b c)
+pub joined_assoc : (a b c : DirectoryValue) → with_children (with_children a b) c ≡ with_children a (with_children b c)
 joined_assoc a b c =
     let files = append_assoc a.files b.files c.files in
     let directories = append_assoc a.directories b.directories c.directories in
     let symlinks = append_assoc a.symlinks b.symlinks c.symlinks in
     λ i. record { files = files i; directories = directories i; symlinks = symlinks i }
 
-pub joined_none : (a : DirectoryValue) → joined a no_children ≡ a
+pub joined_none : (a : DirectoryValue) → with_children a no_children ≡ a
 joined_none a =
     let files = none_after a.files in
     let directories = none_after a.directories in
     let symlinks = none_after a.symlinks in
     λ i. record { files = files i; directories = directories i; symlinks = symlinks i }
 
-pub child_joined : (n : Name) (x : NodeValue) (m : DirectoryValue) → joined (with_child n x no_children) m ≡ with_child n x m
+pub child_joined : (n : Name) (x : NodeValue) (m : DirectoryValue) → with_children (with_child n x no_children) m ≡ with_child n x m
 child_joined n (File d e) m = refl
 child_joined n (Link t) m = refl
 child_joined n (Dir d) m = refl

@@ -4,7 +4,7 @@ use Rattle.std.specs.Prelude.{Contains, Result, Ok, Err}
 use Rattle.std.specs.BTreeMap.{get}
 use Rattle.blob_digest.specs.Digest.{DigestValue, digest_cmp, empty_digest}
 use Rattle.messages.specs.Directory.{directory_bytes}
-use Rattle.blob_source.specs.Source.{Telling, IsBlobUnder}
+use Rattle.blob_source.specs.Source.{Blobs, Telling, IsBlobUnder}
 use Rattle.tree.specs.declared.memo.Memo.{Memo}
 use Rattle.tree.specs.declared.memo.Kept.{Kept}
 use Rattle.tree.specs.declared.memo.Kept.TheVariants.{Bytes, Directory}
@@ -20,6 +20,11 @@ LooksAtBlob d a = (a ≡ blob d) × (d ≢ empty_digest)
 
 abbrev pub LooksAtResult : DigestValue → Asked → Type 0
 LooksAtResult d a = a ≡ result d
+
+-- No other blob is asked for than those that are looked at: each is told as before. A call that
+-- asks for one may tell more, so none does.
+pub record LeavesOthers (Looks : Asked → Type 0) (old new : Blobs) : Type 0 where
+  pub same : (d : DigestValue) → (Looks (blob d) → ⊥) → new d ≡ old d
 
 -- the bytes that are known of what may be asked for
 abbrev pub Known : Type 0

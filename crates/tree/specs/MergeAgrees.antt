@@ -12,18 +12,18 @@ use Rattle.tree.specs.Merging.{WithinValue, in_source, in_tree, NodeWithin, Merg
 use Rattle.tree.specs.Merging.{conflict, AreHeld, merged}
 
 -- a line gives at its target the node of an entry
-pub record StandsFor (l : List Name × NodeWithin) (e : List Name × Entry Leaf) : Type 0 where
+pub record GivesNodeOf (l : List Name × NodeWithin) (e : List Name × Entry Leaf) : Type 0 where
   pub target : l.0 ≡ e.0
   pub node : l.1.node ≡ entry_node e.1
   pub ordered : IsOrderedEntry e.1
   pub some : e.0 ≢ []
   pub few : length e.0 ≤ 64
 
-abbrev pub StandFor : MergeLines → TreeLines → Type 0
-StandFor [] [] = Unit {0}
-StandFor [] (e ∷ es) = ⊥
-StandFor (l ∷ ls) [] = ⊥
-StandFor (l ∷ ls) (e ∷ es) = StandsFor l e × StandFor ls es
+abbrev pub GiveNodesOf : MergeLines → TreeLines → Type 0
+GiveNodesOf [] [] = Unit {0}
+GiveNodesOf [] (e ∷ es) = ⊥
+GiveNodesOf (l ∷ ls) [] = ⊥
+GiveNodesOf (l ∷ ls) (e ∷ es) = GivesNodeOf l e × GiveNodesOf ls es
 
 -- ---- the blobs that are concerned
 
@@ -50,10 +50,10 @@ IsOfMerge B ls es b = IsValue B b ⊎ (IsBlobOfTrees ls b ⊎ IsBlobOfEntries es
 
 pub record TellsOfMerges (B : Blobs) (ls : MergeLines) : Type 0 where
   -- the digest names what the entries merge into
-  pub trees : (es : TreeLines) → AreHeld ls → StandFor ls es → NoClash (IsOfMerge B ls es)
+  pub trees : (es : TreeLines) → AreHeld ls → GiveNodesOf ls es → NoClash (IsOfMerge B ls es)
       → (T : Tree NodeValue) → (merged B ls).passes T
       → (t : Tree Leaf) × IsMergeOf es t × (root (form t) ≡ root T)
   -- and where there is a conflict they merge into nothing
-  pub conflicts : (es : TreeLines) → AreHeld ls → StandFor ls es → NoClash (IsOfMerge B ls es)
+  pub conflicts : (es : TreeLines) → AreHeld ls → GiveNodesOf ls es → NoClash (IsOfMerge B ls es)
       → (p : List Name) → (merged B ls).fails (conflict p)
       → (t : Tree Leaf) → IsMergeOf es t → ⊥

@@ -46,8 +46,8 @@ adds n y (g ∷ gs) =
     by_order (name_cmp n g.0) ((n, y ∷ []) ∷ g ∷ gs) ((g.0, g.1 ++ y ∷ []) ∷ gs) (g ∷ adds n y gs)
 
 -- what lines that meet at a path come to there, and what that looks at
-abbrev pub meeting : Blobs → ℕ → List Name → MergeLines → Stage MergeFault (Entry NodeValue)
-meeting B deeper path ls = met B (merged_in B deeper path) deeper path ls
+abbrev pub lines_met : Blobs → ℕ → List Name → MergeLines → Stage MergeFault (Entry NodeValue)
+lines_met B deeper path ls = met B (merged_in B deeper path) deeper path ls
 
 abbrev pub MeetingLooksAt : Blobs → ℕ → List Name → MergeLines → Asked → Type 0
 MeetingLooksAt B deeper path ls = MetLooksAt B (MergeLooksIn B deeper path) deeper ls

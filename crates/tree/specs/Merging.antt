@@ -169,12 +169,12 @@ opened B (l ∷ ls) =
 
 -- ---- what lines come to at a path
 
-abbrev pub IsDirectoryNode : NodeValue → Type 0
-IsDirectoryNode (Dir d) = Unit {0}
-IsDirectoryNode x = ⊥
+abbrev pub NamesDirectory : NodeValue → Type 0
+NamesDirectory (Dir d) = Unit {0}
+NamesDirectory x = ⊥
 
 abbrev pub CanMeetAt : List Name → NodeWithin → Type 0
-CanMeetAt [] g = IsDirectoryNode g.node
+CanMeetAt [] g = NamesDirectory g.node
 CanMeetAt (n ∷ p) g = Unit {0}
 
 -- Below the path are names left for `deeper` more, and what is given at it are directories.

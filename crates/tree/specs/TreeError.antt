@@ -9,7 +9,8 @@ use Rattle.tree.specs.declared.error.TreeError.{TreeError}
 use Rattle.tree.specs.declared.error.AddError.{AddError}
 use Rattle.tree.specs.declared.error.AddError.TheVariants as adding
 use Rattle.tree.specs.declared.error.TreeError.TheVariants.{Absent, BlobMissing, BlobWrong}
-use Rattle.tree.specs.declared.error.TreeError.TheVariants.{BlobMalformed, TooDeep, Conflict, Fetch, Memory}
+use Rattle.tree.specs.declared.error.TreeError.TheVariants.{BlobMalformed, TooDeep, Conflict}
+use Rattle.tree.specs.declared.error.TreeError.TheVariants.{Fetch, Memory}
 use Rattle.tree.specs.Tree.{Name}
 use Rattle.blob_source.specs.Source.{Blobs, IsMissing, IsWrong}
 use Rattle.blob_source.specs.Told.{Fault, missing, wrong, malformed}

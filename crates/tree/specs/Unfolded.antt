@@ -6,7 +6,8 @@ use Rattle.messages.specs.declared.node.Node.TheVariants.{Dir}
 use Rattle.messages.specs.DirectoryRules.{DirectoryValue}
 use Rattle.tree.specs.declared.error.TreeError.{TreeError}
 use Rattle.tree.specs.declared.error.TreeError.TheVariants.{Absent, BlobMissing, BlobWrong}
-use Rattle.tree.specs.declared.error.TreeError.TheVariants.{BlobMalformed, TooDeep, Conflict, Fetch, Memory}
+use Rattle.tree.specs.declared.error.TreeError.TheVariants.{BlobMalformed, TooDeep, Conflict}
+use Rattle.tree.specs.declared.error.TreeError.TheVariants.{Fetch, Memory}
 use Rattle.tree.specs.Tree.{Name, path_cmp, Tree, empty, leaf, folder}
 use Rattle.tree.specs.Tree.{Standing, nothing, a_leaf, a_directory}
 use Rattle.tree.specs.Form.{NodeValue, no_children, directory_of, root}

@@ -63,8 +63,8 @@ abbrev pub items_of : {A : Type 0} → List (Vec ℕ A) → List (List ℕ)
 items_of encodings = map (λ v. v.items) encodings
 
 -- the children of one directory, and after them those of another
-abbrev pub joined : DirectoryValue → DirectoryValue → DirectoryValue
-joined a b =
+abbrev pub with_children : DirectoryValue → DirectoryValue → DirectoryValue
+with_children a b =
     record {
       files = a.files ++ b.files;
       directories = a.directories

@@ -1,5 +1,5 @@
 ghost use Rattle.std.specs.Prelude.{◌≡◌, ◌≢◌, ◌↔◌, ◌<◌, ◌+◌, ◌*◌, length, map};
-ghost use Rattle.std.specs.Prelude.{MatchOption, IsNone, IfOk, IfErr, IfSome, IsErrOf};
+ghost use Rattle.std.specs.Prelude.{MatchOption, IsNone, IfOk, IfErr, IfSome, IsErrOf, Ok, None};
 ghost use Rattle.std.specs.List.{AllWithin, HoldsAt};
 ghost use Rattle.blob_digest.specs.Digest.{digest_of};
 ghost use Rattle.tree.specs.Comparing.{encodings_in, AreOwn};
@@ -156,6 +156,7 @@ pub fn first_difference<A: Allocator + Copy, S: BlobSource<A>>(
     requires valid { IsFoldOfValid grafted.now }
     requires known { IsKnownOf (known_by memo.old) (S.tells source.old) }
     ensures same { IfOk result (λ o. IsNone o ↔ (recorded.now ≡ grafted.now.root)) }
+    ensures none { recorded.now ≡ grafted.now.root → result ≡ Ok None }
     ensures found { IfOk result (λ o. IfSome o (λ x. FindsFirst (made_by grafted.now)
         (S.tells source.new).blobs grafted.now.root recorded.now (differing x))) }
     ensures refused { IfErr result (ExplainsDifference (FindsFirst (made_by grafted.now)

@@ -5,7 +5,8 @@ ghost use Rattle.blob_source.specs.Called.{Calls};
 ghost use Rattle.blob_source.specs.Sink.{IsPut, PutsBlob, PutsResult};
 ghost use Rattle.blob_source.specs.Source.{AsksBlob, AsksResult, bytes_of, greatest_count};
 ghost use Rattle.tree.specs.FailSink.{BeginsCall, CountsFailure, FailsOnce, IsFreshSink};
-ghost use Rattle.tree.specs.FailSink.{IsSameSink, failures_of, inner_of, telling_of, until_failure_of};
+ghost use Rattle.tree.specs.FailSink.{IsSameSink, failures_of, inner_of, telling_of};
+ghost use Rattle.tree.specs.FailSink.{until_failure_of};
 
 use blob_digest::Digest;
 use blob_source::{BlobSink, BlobSource, FetchError};

@@ -3,6 +3,8 @@ ghost use Rattle.blob_source.specs.Source.{Asks};
 ghost use Rattle.blob_source.specs.Called.{Calls};
 ghost use Rattle.tree.specs.Form.{node_value};
 ghost use Rattle.tree.specs.Lookup.{Looks, TellsOfTrees, found, nothing, names_in, looked};
+ghost use Rattle.tree.specs.LooksAt.{OnWay};
+ghost use Rattle.tree.specs.Memo.{LeavesOthers};
 ghost use Rattle.tree.specs.TreeError.{ExplainsLookup, IsAbsent};
 
 use crate::error::TreeError;
@@ -34,6 +36,10 @@ pub fn lookup<A: Allocator + Copy, S: BlobSource<A>>(
         root.now (names_in (option_map (λ p. p.now) path.entry)) nothing) }
     ensures called { Calls (Asks (length (names_in (option_map (λ p. p.now) path.entry))))
         (S.tells source.old) (S.tells source.new) (IsErrOf result TreeError.Fetch) }
+    // Nothing is asked for but the Directories on the way.
+    ensures only { LeavesOthers (OnWay (S.tells source.new).blobs root.now
+        (names_in (option_map (λ p. p.now) path.entry)))
+        (S.tells source.old).blobs (S.tells source.new).blobs }
 {
     match path {
         None => Ok(Node::Dir(*root)),
@@ -53,6 +59,8 @@ fn look_up<A: Allocator + Copy, S: BlobSource<A>>(
         (ExplainsLookup (S.tells source.new).blobs root.now path.now) }
     ensures called { Calls (Asks (length path.now)) (S.tells source.old) (S.tells source.new)
         (IsErrOf result TreeError.Fetch) }
+    ensures only { LeavesOthers (OnWay (S.tells source.new).blobs root.now path.now)
+        (S.tells source.old).blobs (S.tells source.new).blobs }
 {
     let names = path.to_names(alloc)?;
     match descend(alloc, root, &names, source)? {
@@ -74,6 +82,8 @@ fn descend<A: Allocator + Copy, S: BlobSource<A>>(
         (ExplainsLookup (S.tells source.new).blobs root.now names.now) }
     ensures called { Calls (Asks (length names.now)) (S.tells source.old) (S.tells source.new)
         (IsErrOf result TreeError.Fetch) }
+    ensures only { LeavesOthers (OnWay (S.tells source.new).blobs root.now names.now)
+        (S.tells source.old).blobs (S.tells source.new).blobs }
 {
     let mut node = Node::Dir(*root);
     for name in names {

@@ -15,7 +15,7 @@ ghost use Rattle.tree.specs.Merging.{child_lines};
 ghost use Rattle.tree.specs.Merging.{WithinValue, in_source, in_tree};
 ghost use Rattle.tree.specs.MergeLooks.{MergeLooksAt, MergeLooksIn, NodeLooksAt, OpenedLooksAt};
 ghost use Rattle.tree.specs.MergeParts.{AreValidLines, CountsAfter, IsVisitOfMerged, IsVisitOfMet};
-ghost use Rattle.tree.specs.MergeParts.{MeetingLooksAt, adds, group_values, meeting, part_value};
+ghost use Rattle.tree.specs.MergeParts.{MeetingLooksAt, adds, group_values, lines_met, part_value};
 ghost use Rattle.tree.specs.MergeParts.{part_values, within_of};
 
 use crate::error::TreeError;
@@ -333,9 +333,9 @@ fn meet<A: Allocator + Copy, S: BlobSource<A>>(
     requires known { IsKnownOf (known_by memo.old) (S.tells source.old) }
     requires held { AreHeld (part_values (within_of lines.now) parts.items) }
     requires depth { deeper + length path ≡ 64 }
-    ensures met { IfOk result (IsVisitOfMet (meeting (S.tells source.new).blobs deeper path
+    ensures met { IfOk result (IsVisitOfMet (lines_met (S.tells source.new).blobs deeper path
         (part_values (within_of lines.now) parts.items))) }
-    ensures refused { IfErr result (ExplainsMerge (meeting (S.tells source.new).blobs deeper path
+    ensures refused { IfErr result (ExplainsMerge (lines_met (S.tells source.new).blobs deeper path
         (part_values (within_of lines.now) parts.items)).fails) }
     ensures called { Called (S.tells source.old) (S.tells source.new)
         (IsErrOf result TreeError.Fetch) }

@@ -3,7 +3,7 @@ ghost use Rattle.blob_digest.specs.Digest.{digest_of};
 ghost use Rattle.messages.specs.declared.node.Node.TheVariants.{File, Link, Dir};
 ghost use Rattle.messages.specs.Directory.{directory_bytes};
 ghost use Rattle.tree.specs.Form.{node_value, no_children, with_child};
-ghost use Rattle.tree.specs.Visiting.{led, lines_seen, items_of, joined, children_directory};
+ghost use Rattle.tree.specs.Visiting.{led, lines_seen, items_of, with_children, children_directory};
 ghost use Rattle.tree.specs.Visiting.{tops_in};
 
 use blob_digest::Digest;
@@ -56,7 +56,7 @@ impl<A: Allocator + Copy> Children<A> {
     ) -> Result<(), AllocError>
         ensures directory { OnOk result
             (children_directory self.new
-            ≡ joined (children_directory self.old)
+            ≡ with_children (children_directory self.old)
             (with_child name (File digest executable) no_children)) }
         ensures tops { OnOk result (tops_in self.new ≡ tops_in self.old) }
     {
@@ -77,7 +77,7 @@ impl<A: Allocator + Copy> Children<A> {
     ) -> Result<(), AllocError>
         ensures directory { OnOk result
             (children_directory self.new
-            ≡ joined (children_directory self.old)
+            ≡ with_children (children_directory self.old)
             (with_child name (Link target.now) no_children)) }
         ensures tops { OnOk result (tops_in self.new ≡ tops_in self.old) }
     {
@@ -92,7 +92,7 @@ impl<A: Allocator + Copy> Children<A> {
     pub(crate) fn push(&mut self, alloc: A, name: Name<A>, node: &Node<A>) -> Result<(), AllocError>
         ensures directory { OnOk result
             (children_directory self.new
-            ≡ joined (children_directory self.old)
+            ≡ with_children (children_directory self.old)
             (with_child name (node_value node.now) no_children)) }
         ensures tops { OnOk result (tops_in self.new ≡ tops_in self.old) }
     {
@@ -117,7 +117,7 @@ impl<A: Allocator + Copy> Children<A> {
     ) -> Result<(), AllocError>
         ensures directory { OnOk result
             (children_directory self.new
-            ≡ joined (children_directory self.old)
+            ≡ with_children (children_directory self.old)
             (with_child name (Dir below.root) no_children)) }
         ensures tops { OnOk result
             (tops_in self.new ≡ tops_in self.old ++ items_of below.encodings.items) }

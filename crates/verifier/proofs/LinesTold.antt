@@ -13,7 +13,7 @@ use Rattle.tree.specs.Tree.{Name, Tree, Leaf, Entry, IsOrdered}
 use Rattle.tree.specs.Form.{NodeValue, entry_node, form, root}
 use Rattle.tree.specs.Lookup.{IsValue}
 use Rattle.tree.specs.Merge.{TreeLines, AreMergeable, merge}
-use Rattle.tree.specs.MergeAgrees.{StandFor, IsBlobIn, IsBlobOfTrees, IsBlobOfOne, IsBlobOfEntries, IsOfMerge}
+use Rattle.tree.specs.MergeAgrees.{GiveNodesOf, IsBlobIn, IsBlobOfTrees, IsBlobOfOne, IsBlobOfEntries, IsOfMerge}
 use Rattle.tree.specs.Merging.{NodeWithin, MergeLines, conflict, IsHeldIn, AreHeld, merged}
 use Rattle.tree.proofs.MergeTold.{merges_tell}
 use Rattle.tree.proofs.MergeTotal.{tells_merge}
@@ -46,7 +46,7 @@ module _ (S : List ℕ → Type 0) where
     pub record LinesTell (ls : List LineValue) (xs : MergeLines) : Type 0 where
       pub entries : TreeLines
       pub are : origins t s ls ≡ Some entries
-      pub stand : StandFor xs entries
+      pub stand : GiveNodesOf xs entries
       pub held : AreHeld xs
       pub trees : (b : List ℕ) → IsBlobOfTrees xs b → S b
       pub blobs : (b : List ℕ) → IsBlobOfEntries entries b → S b

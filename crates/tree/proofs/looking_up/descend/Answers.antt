@@ -6,6 +6,8 @@ use Rattle.messages.specs.Node.{child}
 use Rattle.blob_source.proofs.Asking.{asks_more, asks_then, ok_no_error}
 use Rattle.blob_source.proofs.Calling.{called_exit, called_no, calls_on}
 use Rattle.tree.proofs.Descent.{goes_dir, goes_child, goes_nowhere, goes_wrong}
+use Rattle.tree.proofs.Leaving.{others_at, others_then}
+use Rattle.tree.proofs.Ways.{way_dir, way_still, way_here, way_child}
 use Rattle.tree.proofs.looking_up.descend.Goals as goal
 
 pub returns-in_err-directory-clause-refused : goal.returns-in_err-directory-clause-refused
@@ -33,11 +35,42 @@ pub returns-in-None-clause-called : goal.returns-in-None-clause-called
 returns-in-None-clause-called g c =
     calls_on (asks_more c.loop-name-test.true) c.loop-name.invariant.called (called_no ok_no_error ok_no_error c.in_ok-directory.ensures.called)
 
+pub returns-in_err-directory-clause-only : goal.returns-in_err-directory-clause-only
+returns-in_err-directory-clause-only g c =
+    let grows = c.fetch_message.ensures.called.asked.some.blobs in
+    let way = way_dir _ c.args.root.now c.in-Dir.digest c.args.names.now _ c.loop-name.node c.in-Dir.is c.loop-name.invariant.way in
+    others_then (λ a. way_still _ _ c.args.root.now c.args.names.now a grows)
+    (way_here _ _ c.args.root.now c.in-Dir.digest c.args.names.now c.loop-name.name-index c.loop-name-test.true way grows) c.loop-name.invariant.only
+    (others_at c.fetch_message.ensures.only c.fetch_message.ensures.unasked)
+
+pub returns-in_err-next-clause-only : goal.returns-in_err-next-clause-only
+returns-in_err-next-clause-only g c =
+    let grows = c.fetch_message.ensures.called.asked.some.blobs in
+    let way = way_dir _ c.args.root.now c.in-Dir.digest c.args.names.now _ c.loop-name.node c.in-Dir.is c.loop-name.invariant.way in
+    others_then (λ a. way_still _ _ c.args.root.now c.args.names.now a grows)
+    (way_here _ _ c.args.root.now c.in-Dir.digest c.args.names.now c.loop-name.name-index c.loop-name-test.true way grows) c.loop-name.invariant.only
+    (others_at c.fetch_message.ensures.only c.fetch_message.ensures.unasked)
+
+pub returns-in-None-clause-only : goal.returns-in-None-clause-only
+returns-in-None-clause-only g c =
+    let grows = c.fetch_message.ensures.called.asked.some.blobs in
+    let way = way_dir _ c.args.root.now c.in-Dir.digest c.args.names.now _ c.loop-name.node c.in-Dir.is c.loop-name.invariant.way in
+    others_then (λ a. way_still _ _ c.args.root.now c.args.names.now a grows)
+    (way_here _ _ c.args.root.now c.in-Dir.digest c.args.names.now c.loop-name.name-index c.loop-name-test.true way grows) c.loop-name.invariant.only
+    (others_at c.fetch_message.ensures.only c.fetch_message.ensures.unasked)
+
 pub loop-name-preserved : goal.loop-name-preserved
 loop-name-preserved g c =
     let goes = goes_dir _ c.args.root.now c.in-Dir.digest c.args.names.now _ c.loop-name.node c.in-Dir.is c.loop-name.invariant.goes in
+    let grows = c.fetch_message.ensures.called.asked.some.blobs in
+    let way = way_dir _ c.args.root.now c.in-Dir.digest c.args.names.now _ c.loop-name.node c.in-Dir.is c.loop-name.invariant.way in
     record {
       called = calls_on asks_then c.loop-name.invariant.called (called_no ok_no_error (λ n. n) c.in_ok-directory.ensures.called);
       goes = goes_child _ _ c.args.root.now _ c.args.names.now c.loop-name.name-index c.name-item.result _ (Some c.in-Some.next) c.loop-name-test.true goes c.fetch_message.ensures.called.asked.some.blobs c.in_ok-directory.ensures.told c.name-item.is
           (sym c.in-Some.is ∙ (c.in_ok-next.ensures {u = tt}).exact ∙ ap (λ n. child n c.in_ok-directory.directory) c.as_bytes.ensures.value);
+      way = way_child _ _ c.args.root.now c.in-Dir.digest c.args.names.now c.loop-name.name-index c.loop-name-test.true way grows c.name-item.result _ (Some c.in-Some.next) c.in_ok-directory.ensures.told c.name-item.is
+          (sym c.in-Some.is ∙ (c.in_ok-next.ensures {u = tt}).exact ∙ ap (λ n. child n c.in_ok-directory.directory) c.as_bytes.ensures.value);
+      only = others_then (λ a. way_still _ _ c.args.root.now c.args.names.now a grows)
+          (way_here _ _ c.args.root.now c.in-Dir.digest c.args.names.now c.loop-name.name-index c.loop-name-test.true way grows) c.loop-name.invariant.only
+          (others_at c.fetch_message.ensures.only c.fetch_message.ensures.unasked);
     }

@@ -3,7 +3,10 @@ use Rattle.std.specs.Prelude.{Some}
 use Rattle.tree.specs.Form.{node_value}
 use Rattle.blob_source.specs.Source.{Asks}
 use Rattle.blob_source.specs.Called.{Calls}
+use Rattle.tree.specs.LooksAt.{OnWay}
+use Rattle.tree.specs.Memo.{LeavesOthers}
 use Rattle.tree.proofs.Descent.{GoesOn}
+use Rattle.tree.proofs.Ways.{WayGoesOn}
 use Rattle.tree.proofs.looking_up.descend.Given as goal
 
 abbrev pub invariant-loop-name : goal.invariant-loop-name
@@ -12,4 +15,6 @@ invariant-loop-name g l =
     record {
       called : Calls (Asks l.name-index) (tells l.fn.source) (tells l.source) ⊥;
       goes : GoesOn (tells l.source).blobs l.root l.names (Some (node_value l.node)) (drop l.name-index l.names);
+      way : WayGoesOn (tells l.source).blobs l.root l.names (Some (node_value l.node)) (drop l.name-index l.names);
+      only : LeavesOthers (OnWay (tells l.source).blobs l.root l.names) (tells l.fn.source).blobs (tells l.source).blobs;
     }

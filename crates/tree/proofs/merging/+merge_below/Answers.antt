@@ -14,9 +14,9 @@ use Rattle.messages.specs.Directory.{directory_bytes}
 use Rattle.messages.specs.declared.node.Node.TheVariants.{Dir}
 use Rattle.tree.specs.Merging.{AreHeld, CanMeet, grouped, lone, opened, merged_in}
 use Rattle.tree.specs.MergeLooks.{MergeLooksIn}
-use Rattle.tree.specs.MergeParts.{part_values, group_values, within_of, meeting, IsVisitOfMerged, IsVisitOfMet}
+use Rattle.tree.specs.MergeParts.{part_values, group_values, within_of, lines_met, IsVisitOfMerged, IsVisitOfMet}
 use Rattle.tree.specs.Unfolding.{ExplainsChild}
-use Rattle.tree.specs.Visiting.{children_directory, items_of, joined, tops_in}
+use Rattle.tree.specs.Visiting.{children_directory, items_of, with_children, tops_in}
 use Rattle.tree.proofs.Learning.{learns_none, learns_then, learns_refused, refused_exit}
 use Rattle.tree.proofs.MergeBelow.{at_name, look_name, GroupsHeld, grouped_held, counted_held, whole_passes, whole_fails, whole_looks, name_stands, name_meets, name_fails, name_looks, opening_looks, below_passes, below_fails, below_looks, can_more, no_lone, lone_some, lone_first, has_room}
 use Rattle.tree.proofs.MergeHeld.{opened_held}
@@ -49,7 +49,7 @@ meet-returns-in_err-parts-clause-refused g t c =
     let can = subst (λ ps. CanMeet c.args.deeper (part_values W ps)) c.deref.ensures.value ((c.can_meet.ensures W).0 is) in
     let C = (g.S.BlobSource.tells c.open_parts.new.source).blobs in
     let p = err_from_is_err_and c.from_residual.result c.from_residual.ensures.1 in
-    rw (p.1, p.2) (merge_explained (opened C ls).fails (meeting C c.args.deeper c.args.path ls).fails _ (λ f h. fails_opening C (merged_in C c.args.deeper c.args.path) c.args.deeper c.args.path ls f can h) c.in_err-parts.ensures.refused)
+    rw (p.1, p.2) (merge_explained (opened C ls).fails (lines_met C c.args.deeper c.args.path ls).fails _ (λ f h. fails_opening C (merged_in C c.args.deeper c.args.path) c.args.deeper c.args.path ls f can h) c.in_err-parts.ensures.refused)
 
 pub meet-returns-in_err-parts-clause-called : goal.meet-returns-in_err-parts-clause-called
 meet-returns-in_err-parts-clause-called g t c = called_exit c.from_residual.ensures.1 c.in_err-parts.ensures.called
@@ -87,8 +87,8 @@ meet-returns g t c =
     let opens = c.in_ok-parts.ensures {u = tt} in
     let below = c.merge_below.ensures in
     record {
-      met = IfOk-weaker c.merge_below.result (IsVisitOfMerged (merged_in D c.args.deeper path new)) (IsVisitOfMet (meeting D c.args.deeper path ls)) (λ v h. (h.0, below_passes c.args.deeper path ls can C D grows new opens.opened h.0 h.1, h.2)) below.merged;
-      refused = IfErr-weaker c.merge_below.result _ _ (λ e h. merge_explained (merged_in D c.args.deeper path new).fails (meeting D c.args.deeper path ls).fails e (below_fails c.args.deeper path ls can C D grows new opens.opened) h) below.refused;
+      met = IfOk-weaker c.merge_below.result (IsVisitOfMerged (merged_in D c.args.deeper path new)) (IsVisitOfMet (lines_met D c.args.deeper path ls)) (λ v h. (h.0, below_passes c.args.deeper path ls can C D grows new opens.opened h.0 h.1, h.2)) below.merged;
+      refused = IfErr-weaker c.merge_below.result _ _ (λ e h. merge_explained (merged_in D c.args.deeper path new).fails (lines_met D c.args.deeper path ls).fails e (below_fails c.args.deeper path ls can C D grows new opens.opened) h) below.refused;
       called = called_on (called_no ok_no_error (λ n. n) opens.called) below.called;
       learned = learns_then {t1 = g.S.BlobSource.tells c.open_parts.new.source} (opening_looks c.args.deeper path ls can C D grows) (below_looks c.args.deeper path ls can C D grows new opens.opened) (λ n. n) opens.learned below.learned;
     }
@@ -188,7 +188,7 @@ merge_below-returns-in_err-below-clause-refused g t c =
     let D = (g.S.BlobSource.tells c.meet.new.source).blobs in
     let more = c.meet.ensures.called.asked.blobs in
     let p = err_from_is_err_and c.from_residual-in_err-below.result c.from_residual-in_err-below.ensures.1 in
-    rw (p.1, p.2) (merge_explained (meeting D (c.args.deeper - 1) c.in_ok-path.path kept).fails (merged_in D c.args.deeper path ls).fails _
+    rw (p.1, p.2) (merge_explained (lines_met D (c.args.deeper - 1) c.in_ok-path.path kept).fails (merged_in D c.args.deeper path ls).fails _
     (λ f h. whole_fails c.args.deeper path ls c.requires.some D f (merges_fault at n given left (grouped ls) made tops more merges f
     (name_fails (c.args.deeper - 1) path n given kept same none c.in_ok-path.path (c.in_ok-path.ensures.path ∙ ap (λ o. names_in o ++ n ∷ []) c.as_ref.ensures.value) D f h))) c.in_err-below.ensures.refused)
 
@@ -276,7 +276,7 @@ merge_below-loop-name-preserved-then-is_lone g t c =
       finite = tt;
       called = c.loop-name.invariant.called;
       merges = subst (λ m. MergesOn at B m (tops_in c.push.new.self) left (grouped ls)) (sym pushed.directory)
-          (subst (λ ts. MergesOn at B (joined made (with_child n x no_children)) ts left (grouped ls)) (sym pushed.tops)
+          (subst (λ ts. MergesOn at B (with_children made (with_child n x no_children)) ts left (grouped ls)) (sym pushed.tops)
           (merges_leaf at n given left (grouped ls) made tops (λ e b h. h) merges x stands));
       looking = looks_on at look n given left (grouped ls) (λ e b h. h) looking (single x) stands;
       held = held.1;
@@ -315,7 +315,7 @@ merge_below-loop-name-preserved g t c =
       finite = tt;
       called = called_on c.loop-name.invariant.called (called_no ok_no_error (λ n. n) below.called);
       merges = subst (λ m. MergesOn at D m (tops_in c.push_folder.new.self) left (grouped ls)) (sym pushed.directory)
-          (subst (λ ts. MergesOn at D (joined made (with_child n (Dir v.root) no_children)) ts left (grouped ls)) (sym pushed.tops)
+          (subst (λ ts. MergesOn at D (with_children made (with_child n (Dir v.root) no_children)) ts left (grouped ls)) (sym pushed.tops)
           (merges_folder at n given left (grouped ls) made tops more merges below.met.0 v.root (items_of v.encodings.items) below.met.2.root below.met.2.encodings meets));
       looking = looks_on at look n given left (grouped ls) more looking (whole below.met.0) meets;
       held = held.1;
