@@ -15,7 +15,7 @@ use Rattle.actions.specs.declared.outcome.Output.TheVariants.{File, Link, Tree}
 use Rattle.action_messages.specs.Ascending.{IsAscendingBy}
 use Rattle.action_messages.specs.Overlaps.{texts_of}
 use Rattle.actions.specs.Outcome.{OutcomeValue, IsOutcome, output_value, outputs_in, paths_of_outputs}
-use Rattle.actions.specs.OutcomeLookup.{StandsOver, LooksBelow, LooksIn, names_left, within_output, LiesWithin}
+use Rattle.actions.specs.OutcomeLookup.{StandsOver, LooksBelow, LooksIn, names_left, within_output, LiesWithin, TakesMemory, LooksWithMemory}
 use Rattle.actions.proofs.TreeLookups.{holds_mapped, some_part}
 
 module _ {A : Type 0} where
@@ -79,3 +79,6 @@ module _ {A : Type 0} where
 
     pub lies_over : (w : WithinValue) → w ≡ within_output (output_value item.1) → LiesWithin o path w
     lies_over w same = ((item.0, output_value item.1), output_there, (rest, path_is), same)
+
+    pub memory_over : TakesMemory (output_value item.1) rest → LooksWithMemory o path
+    memory_over below = ((item.0, output_value item.1), output_there, rest, path_is, below)
