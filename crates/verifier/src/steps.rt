@@ -66,6 +66,7 @@ pub(crate) fn check_step<A: Allocator + Copy, S: BlobSource<A>>(
 fn check_cached<A: Allocator>(action: &Action<A>) -> Result<(), Fault<A>>
     ensures checked { Answers (cached action.now) result }
     ensures fetch { IsErrOf result Fault.Fetch → ⊥ }
+    ensures memory { IsErrOf result Fault.Memory → ⊥ }
 {
     if action.do_not_cache() {
         return Err(Fault::Cause(Cause::DoNotCache));
@@ -183,6 +184,7 @@ fn decode_result<A: Allocator + Copy>(alloc: A, bytes: &[u8]) -> Result<ActionRe
 fn check_exit_code<A: Allocator>(made: &ActionResult<A>) -> Result<(), Fault<A>>
     ensures checked { Answers (succeeded made.now) result }
     ensures fetch { IsErrOf result Fault.Fetch → ⊥ }
+    ensures memory { IsErrOf result Fault.Memory → ⊥ }
 {
     let exit_code = made.exit_code();
     if exit_code != 0 {
