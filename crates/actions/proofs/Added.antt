@@ -8,11 +8,11 @@ use Rattle.messages.specs.Path.{IsPath}
 use Rattle.actions.specs.declared.outcome.Output.{Output}
 use Rattle.action_messages.specs.Ascending.{IsAscendingBy}
 use Rattle.action_messages.specs.Overlaps.{ArePathsApart, texts_of}
-use Rattle.actions.specs.Outcome.{OutcomeValue, IsOutcome, AddsOutput, HasRoom, LeavesNoRoom, output_value, outputs_in, output_paths}
+use Rattle.actions.specs.Outcome.{OutcomeValue, IsOutcome, AddsOutput, HasRoom, LeavesNoRoom, output_value, outputs_in, paths_of_outputs}
 use Rattle.actions.proofs.OutcomeLookups.{paths_in, same_paths, paths_of}
 
 module _ {A : Type 0} where
-  paths_added : (es : List (List (List ℕ) × Output A)) (n : ℕ) (e : List (List ℕ) × Output A) → output_paths (outputs_in (insert es n e)) ≡ insert (paths_in es) n e.0
+  paths_added : (es : List (List (List ℕ) × Output A)) (n : ℕ) (e : List (List ℕ) × Output A) → paths_of_outputs (outputs_in (insert es n e)) ≡ insert (paths_in es) n e.0
   paths_added es n e =
       same_paths (insert es n e) ∙ map-append (λ (d : List (List ℕ) × Output A). d.0) (take n es) (e ∷ drop n es)
       ∙ ap (λ l. l ++ e.0 ∷ paths_in (drop n es)) (sym (take-map (λ (d : List (List ℕ) × Output A). d.0) n es)) ∙ ap (λ l. take n (paths_in es) ++ e.0 ∷ l) (sym (drop-map (λ (d : List (List ℕ) × Output A). d.0) n es))

@@ -24,7 +24,7 @@ use Rattle.action_messages.specs.OutputFile.{OutputFileValue}
 use Rattle.action_messages.specs.OutputSymlink.{OutputSymlinkValue}
 use Rattle.action_messages.specs.OutputDirectory.{OutputDirectoryValue}
 use Rattle.action_messages.specs.ActionResult.{ActionResultValue}
-use Rattle.actions.specs.Outcome.{OutputValue, OutcomeValue, IsOutcome, output_paths}
+use Rattle.actions.specs.Outcome.{OutputValue, OutcomeValue, IsOutcome, paths_of_outputs}
 use Rattle.tree.specs.Merging.{WithinValue}
 use Rattle.actions.specs.OutcomeLookup.{IsFirstChild, NoFault, LooksBelow, LooksIn, LiesWithin, within_output, StandsOver}
 use Rattle.action_messages.specs.Outputs.{RecordedValue, file, directory, link, files_among, directories_among, links_among, AreOutputs}
@@ -207,13 +207,13 @@ same_rest : (a q r : List (List ℕ)) → a ++ q ≡ a ++ r → q ≡ r
 same_rest [] q r e = e
 same_rest (n ∷ a) q r e = let tails : a ++ q ≡ a ++ r = cc in same_rest a q r tails
 
-one_output : (es : List (List (List ℕ) × OutputValue)) (e f : List (List ℕ) × OutputValue) → ArePathsApart (output_paths es) → Contains es e → Contains es f → Overlap e.0 f.0 → e ≡ f
+one_output : (es : List (List (List ℕ) × OutputValue)) (e f : List (List ℕ) × OutputValue) → ArePathsApart (paths_of_outputs es) → Contains es e → Contains es f → Overlap e.0 f.0 → e ≡ f
 one_output [] e f apart (k, lt, is) g o = absurd (omega arith)
 one_output (x ∷ es) e f apart (zero, lt, is) (zero, mt, at) o = sym is ∙ at
 one_output (x ∷ es) e f apart (zero, lt, is) (suc j, mt, at) o =
-    absurd (all_at (λ p. Overlap x.0 p → ⊥) (output_paths es) f.0 apart.0 (holds_mapped (λ d. d.0) es f (j, omega (arith, mt), at)) (subst (λ y. Overlap y.0 f.0) (sym is) o))
+    absurd (all_at (λ p. Overlap x.0 p → ⊥) (paths_of_outputs es) f.0 apart.0 (holds_mapped (λ d. d.0) es f (j, omega (arith, mt), at)) (subst (λ y. Overlap y.0 f.0) (sym is) o))
 one_output (x ∷ es) e f apart (suc k, lt, is) (zero, mt, at) o =
-    absurd (apart_back x.0 e.0 (all_at (λ p. Overlap x.0 p → ⊥) (output_paths es) e.0 apart.0 (holds_mapped (λ d. d.0) es e (k, omega (arith, lt), is))) (subst (λ y. Overlap e.0 y.0) (sym at) o))
+    absurd (apart_back x.0 e.0 (all_at (λ p. Overlap x.0 p → ⊥) (paths_of_outputs es) e.0 apart.0 (holds_mapped (λ d. d.0) es e (k, omega (arith, lt), is))) (subst (λ y. Overlap e.0 y.0) (sym at) o))
 one_output (x ∷ es) e f apart (suc k, lt, is) (suc j, mt, at) o = one_output es e f apart.1 (k, omega (arith, lt), is) (j, omega (arith, mt), at) o
 
 pub looked_once : (o : OutcomeValue) (path : List (List ℕ)) (r s : Looked) → IsOutcome o → LooksIn o path r → LooksIn o path s → r ≡ s

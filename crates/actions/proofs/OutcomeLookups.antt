@@ -14,20 +14,20 @@ use Rattle.actions.specs.declared.outcome.Output.{Output}
 use Rattle.actions.specs.declared.outcome.Output.TheVariants.{File, Link, Tree}
 use Rattle.action_messages.specs.Ascending.{IsAscendingBy}
 use Rattle.action_messages.specs.Overlaps.{texts_of}
-use Rattle.actions.specs.Outcome.{OutcomeValue, IsOutcome, output_value, outputs_in, output_paths}
-use Rattle.actions.specs.OutcomeLookup.{StandsOver, LooksBelow, LooksIn, names_left, within_output, LiesWithin}
+use Rattle.actions.specs.Outcome.{OutcomeValue, IsOutcome, output_value, outputs_in, paths_of_outputs}
+use Rattle.actions.specs.OutcomeLookup.{StandsOver, LooksBelow, LooksIn, names_left, within_output, LiesWithin, TakesMemory, LooksWithMemory}
 use Rattle.actions.proofs.TreeLookups.{holds_mapped, some_part}
 
 module _ {A : Type 0} where
   abbrev pub paths_in : List (List (List ℕ) × Output A) → List (List (List ℕ))
   paths_in es = map (λ e. e.0) es
 
-  pub same_paths : (es : List (List (List ℕ) × Output A)) → output_paths (outputs_in es) ≡ paths_in es
+  pub same_paths : (es : List (List (List ℕ) × Output A)) → paths_of_outputs (outputs_in es) ≡ paths_in es
   same_paths [] = refl
   same_paths (e ∷ es) = ap (λ ps. e.0 ∷ ps) (same_paths es)
 
-  pub paths_of : (o : OutcomeValue) (es : List (List (List ℕ) × Output A)) → outputs_in es ≡ o.outputs → output_paths o.outputs ≡ paths_in es
-  paths_of o es e = ap output_paths (sym e) ∙ same_paths es
+  pub paths_of : (o : OutcomeValue) (es : List (List (List ℕ) × Output A)) → outputs_in es ≡ o.outputs → paths_of_outputs o.outputs ≡ paths_in es
+  paths_of o es e = ap paths_of_outputs (sym e) ∙ same_paths es
 
   pub ascending : (o : OutcomeValue) (es : List (List (List ℕ) × Output A)) → outputs_in es ≡ o.outputs → IsOutcome o → IsAscendingBy bytes_cmp (texts_of (paths_in es))
   ascending o es e k = subst (λ ps. IsAscendingBy bytes_cmp (texts_of ps)) (paths_of o es e) k.ascend
@@ -79,3 +79,6 @@ module _ {A : Type 0} where
 
     pub lies_over : (w : WithinValue) → w ≡ within_output (output_value item.1) → LiesWithin o path w
     lies_over w same = ((item.0, output_value item.1), output_there, (rest, path_is), same)
+
+    pub memory_over : TakesMemory (output_value item.1) rest → LooksWithMemory o path
+    memory_over below = ((item.0, output_value item.1), output_there, rest, path_is, below)

@@ -11,7 +11,7 @@ use Rattle.action_messages.specs.OutputFile.{IsOutputFile}
 use Rattle.action_messages.specs.OutputDirectory.{IsOutputDirectory}
 use Rattle.action_messages.specs.OutputSymlink.{IsOutputSymlink}
 use Rattle.action_messages.specs.ActionResult.{ActionResultValue, IsActionResult, file_paths, directory_paths, symlink_paths}
-use Rattle.actions.specs.Outcome.{OutputValue, OutcomeValue, IsOutcome, output_paths}
+use Rattle.actions.specs.Outcome.{OutputValue, OutcomeValue, IsOutcome, paths_of_outputs}
 use Rattle.action_messages.specs.Outputs.{RecordedValue, file, directory, link, recorded_path, files_among, directories_among, links_among, AreOutputs}
 use Rattle.actions.specs.Recorded.{StandForAll, IsRecorded}
 use Rattle.action_messages.proofs.Apart.{Apart, AreApartFrom, firsts, rests, weaker, apart_parts, from_parts}
@@ -52,8 +52,8 @@ all_apart (link x ∷ xs) f d l fd fl dl =
     (row x.path xs (column x.path L F fl) (column x.path L D dl) l.0, all_apart xs f d l.1 fd (rests Apart x.path L F fl) (rests Apart x.path L D dl))
 
 -- the paths are those of the result
-same_paths : (B : Blobs) (xs : List RecordedValue) (es : List (List (List ℕ) × OutputValue)) → StandForAll B xs es → output_paths es ≡ map recorded_path xs
-same_paths B [] es h = ap output_paths h
+same_paths : (B : Blobs) (xs : List RecordedValue) (es : List (List (List ℕ) × OutputValue)) → StandForAll B xs es → paths_of_outputs es ≡ map recorded_path xs
+same_paths B [] es h = ap paths_of_outputs h
 same_paths B (x ∷ xs) [] h = elim h [ ]
 same_paths B (x ∷ xs) (e ∷ es) h = λ i. h.0 i ∷ same_paths B xs es h.2 i
 

@@ -1,19 +1,22 @@
 -- The outputs of a result that are read one after another, while the source tells more and more.
-use Rattle.std.proofs.Common.{◌≡◌, ℕ, ◌+◌, ◌<◌, List, [], ◌∷◌, ◌++◌, length, take, drop, get_or, refl, sym, ap, subst, ◌∙◌, inl, inr, arith}
+use Rattle.std.proofs.Common.{◌≡◌, ℕ, ◌+◌, ◌<◌, ◌≤◌, List, [], ◌∷◌, ◌++◌, length, take, drop, get_or, refl, sym, ap, subst, ◌∙◌, inl, inr, arith}
 use Rattle.std.proofs.lemmas.List.{length-append, take_more, drop_more, take-append-drop, map-append}
 use Rattle.tree.specs.declared.error.TreeError.{TreeError}
 use Rattle.tree.specs.declared.error.TreeError.TheVariants.{Absent, BlobMissing, BlobWrong, BlobMalformed, TooDeep, Conflict, Fetch, Memory}
 use Rattle.blob_source.specs.Source.{Blobs, Telling, Grows, Asks}
-use Rattle.blob_source.specs.Told.{Fault, missing, wrong, malformed}
+use Rattle.blob_source.specs.Told.{Fault, missing, wrong, malformed, IsFault}
 use Rattle.tree.specs.TreeError.{Explains}
 use Rattle.blob_source.proofs.Asking.{asks_then, asks_within}
 use Rattle.tree.proofs.Descent.{told_still}
+use Rattle.tree.proofs.LookupOnce.{told_or_fault}
+use Rattle.messages.specs.Tree.{IsTree, tree_bytes}
+use Rattle.action_messages.specs.OutputDirectory.{OutputDirectoryValue}
 use Rattle.actions.specs.declared.outcome.Output.{Output}
 use Rattle.action_messages.specs.declared.recorded_output.RecordedOutput.{RecordedOutput}
 use Rattle.action_messages.specs.ActionResult.{ActionResultValue}
 use Rattle.actions.specs.Outcome.{OutputValue, OutcomeValue, output_value, outputs_in}
 use Rattle.action_messages.specs.Outputs.{RecordedValue, file, directory, link, recorded_value, recorded_values, recorded_path, directories_among}
-use Rattle.actions.specs.Recorded.{StandsFor, StandForAll, IsRecorded, IsFirstTreeFault, IsOutputFault, IsWithoutTree}
+use Rattle.actions.specs.Recorded.{StandsFor, StandForAll, IsRecorded, IsFirstTreeFault, IsOutputFault, IsWithoutTree, StopsAtFault}
 use Rattle.action_messages.proofs.Merging.{directories_append}
 
 -- ---- what was read stays
@@ -46,6 +49,20 @@ first_fault B (y ∷ xs) [] x rest f h fault = elim h [ ]
 first_fault B (file y ∷ xs) (e ∷ es) x rest f h fault = first_fault B xs es x rest f h.2 fault
 first_fault B (directory d ∷ xs) (e ∷ es) x rest f h fault = inr (h.1.0, h.1.1, first_fault B xs es x rest f h.2 fault)
 first_fault B (link l ∷ xs) (e ∷ es) x rest f h fault = first_fault B xs es x rest f h.2 fault
+
+-- the directories that were read stand before each whose Tree isn't told
+read_before : (B : Blobs) (xs : List RecordedValue) (es : List (List (List ℕ) × OutputValue)) (rest before behind : List OutputDirectoryValue) (d : OutputDirectoryValue) (f : Fault) → StandForAll B xs es → directories_among xs ++ rest ≡ before ++ d ∷ behind → IsFault IsTree tree_bytes B d.tree f
+    → length (directories_among xs) ≤ length before
+read_before B [] es rest before behind d f h e fault = omega arith
+read_before B (x ∷ xs) [] rest before behind d f h e fault = elim h [ ]
+read_before B (file y ∷ xs) (v ∷ es) rest before behind d f h e fault = read_before B xs es rest before behind d f h.2 e fault
+read_before B (directory y ∷ xs) (v ∷ es) rest [] behind d f h e fault =
+    let same : d.tree ≡ y.tree = cc in
+    absurd (told_or_fault IsTree tree_bytes B y.tree h.1.0 f h.1.1 (subst (λ z. IsFault IsTree tree_bytes B z f) same fault))
+read_before B (directory y ∷ xs) (v ∷ es) rest (b ∷ before) behind d f h e fault =
+    let tails : directories_among xs ++ rest ≡ before ++ d ∷ behind = cc in
+    omega (arith, read_before B xs es rest before behind d f h.2 tails fault)
+read_before B (link y ∷ xs) (v ∷ es) rest before behind d f h e fault = read_before B xs es rest before behind d f h.2 e fault
 
 explains : {A : Type 0} (P Q : Fault → Type 0) → ((f : Fault) → P f → Q f) → (e : TreeError A) → Explains P e → Explains Q e
 explains P Q by (Absent path) h = h
@@ -103,3 +120,15 @@ module _ {A : Type 0} where
       ap (λ l. length (directories_among l)) (sym (ap recorded_values (take-append-drop i ys)) ∙ map-append recorded_value (take i ys) (drop i ys))
       ∙ ap length (directories_append (read_so_far i ys) (recorded_values (drop i ys))) ∙ length-append (directories_among (read_so_far i ys)) (directories_among (recorded_values (drop i ys))) in
       asks_within (omega (arith, parts)) h
+
+  -- nothing is asked for behind a directory whose Tree isn't told
+  pub stops : (ys : List (RecordedOutput A)) (i : ℕ) (old mid new : Telling) (outputs : List (List (List ℕ) × Output A)) → StandForAll mid.blobs (read_so_far i ys) (outputs_in outputs) → Asks (length (directories_among (read_so_far i ys))) old mid → Asks 1 mid new
+      → StopsAtFault (directories_among (recorded_values ys)) old new
+  stops ys i old mid new outputs h asked more =
+      let parts : directories_among (read_so_far i ys) ++ directories_among (recorded_values (drop i ys)) ≡ directories_among (recorded_values ys) =
+      sym (directories_append (read_so_far i ys) (recorded_values (drop i ys))) ∙ ap directories_among (sym (map-append recorded_value (take i ys) (drop i ys)) ∙ ap recorded_values (take-append-drop i ys)) in
+      record {
+        few = λ before behind d f e fault.
+            let le = read_before new.blobs (read_so_far i ys) (outputs_in outputs) (directories_among (recorded_values (drop i ys))) before behind d f (stand_still mid.blobs new.blobs (read_so_far i ys) (outputs_in outputs) more.some.blobs h) (parts ∙ e) fault in
+            omega (arith, le, asked.most_calls, more.most_calls);
+      }

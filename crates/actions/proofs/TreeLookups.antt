@@ -13,7 +13,7 @@ use Rattle.std.proofs.lemmas.List.Elements.{Contains-append_left, Contains-appen
 use Rattle.blob_digest.specs.Digest.{DigestValue, digest_of}
 use Rattle.messages.specs.declared.node.Node.{Node}
 use Rattle.messages.specs.declared.node.Node.TheVariants.{File, Link, Dir}
-use Rattle.messages.specs.DirectoryRules.{DirectoryValue}
+use Rattle.messages.specs.DirectoryRules.{DirectoryValue, symlink_names}
 use Rattle.messages.specs.Directory.{directory_bytes}
 use Rattle.messages.specs.Tree.{TreeValue, IsTree, node_digests, named_by, named_in, digests_of, child_digests}
 use Rattle.messages.specs.Node.{IsChild, child}
@@ -24,7 +24,8 @@ use Rattle.tree.specs.Form.{NodeValue, node_value}
 use Rattle.tree.specs.Lookup.{Looked, nothing, looked, LooksFrom}
 use Rattle.tree.specs.Merging.{in_tree, IsHeldIn}
 use Rattle.tree.proofs.Children.{child_value}
-use Rattle.actions.specs.OutcomeLookup.{IsFirstChild, NoFault, IsChildOf, LooksUnder}
+use Rattle.actions.specs.declared.outcome.Output.TheVariants as outputs
+use Rattle.actions.specs.OutcomeLookup.{IsFirstChild, NoFault, IsChildOf, LooksUnder, NamesLink, TakesMemory}
 
 -- ---- what lists hold
 
@@ -159,6 +160,21 @@ pub looks_deeper : {A E : Type 0} (t : TreeValue) (m : DirectoryValue) (text fro
 looks_deeper t m text front more node d next (Ok o) e none stands dir first h =
     looks_first t m text front more (Some node) (looked o) e none stands (subst (λ x. LooksOn t (parts_of more) (Some (node_value x)) (looked o)) (sym dir) (looks_next t d next (parts_of more) (looked o) first h))
 looks_deeper t m text front more node d next (Err e) is none stands dir first h = tt
+
+-- ---- what takes memory
+
+pub link_last : (t : TreeValue) (m : DirectoryValue) (text : List ℕ) → (Contains text 47 → ⊥) → Contains (t.root ∷ t.children) m → Contains (symlink_names m.symlinks) text → NamesLink t (parts_of text)
+link_last t m text none here h = (m, here, text, subst (λ (l : List (List ℕ)). Contains l text) (sym (parts-one text (no_slash text none))) (0, omega arith, refl), h)
+
+pub link_first : (t : TreeValue) (m : DirectoryValue) (text front more : List ℕ) → text ≡ front ++ 47 ∷ more → (Contains front 47 → ⊥) → Contains (t.root ∷ t.children) m → Contains (symlink_names m.symlinks) front → NamesLink t (parts_of text)
+link_first t m text front more e none here h = (m, here, front, subst (λ (l : List (List ℕ)). Contains l front) (sym (first_part text front more e none)) (0, omega arith, refl), h)
+
+pub link_deeper : (t : TreeValue) (text front more : List ℕ) → text ≡ front ++ 47 ∷ more → (Contains front 47 → ⊥) → NamesLink t (parts_of more) → NamesLink t (parts_of text)
+link_deeper t text front more e none h = (h.0, h.1, h.2, subst (λ (l : List (List ℕ)). Contains l h.2) (sym (first_part text front more e none)) (behind front (parts_of more) h.2 h.3), h.4)
+
+pub takes_in_tree : (t : TreeValue) (names : List (List ℕ)) → NamesLink t names → TakesMemory (outputs.Tree t) names
+takes_in_tree t [] h = tt
+takes_in_tree t (n ∷ names) h = h
 
 -- ---- as the code has it
 

@@ -35,14 +35,14 @@ abbrev pub outputs_in : {A : Type 0} → List (List (List ℕ) × Output A)
     → List (List (List ℕ) × OutputValue)
 outputs_in outputs = map (λ e. (e.0, output_value e.1)) outputs
 
-abbrev pub output_paths : List (List (List ℕ) × OutputValue) → List (List (List ℕ))
-output_paths outputs = map (λ e. e.0) outputs
+abbrev pub paths_of_outputs : List (List (List ℕ) × OutputValue) → List (List (List ℕ))
+paths_of_outputs outputs = map (λ e. e.0) outputs
 
 -- The paths ascend by their texts, and none equals another or lies under it.
 pub record IsOutcome (o : OutcomeValue) : Type 0 where
-  pub paths : AllByRecursion IsPath (output_paths o.outputs)
-  pub ascend : IsAscendingBy bytes_cmp (texts_of (output_paths o.outputs))
-  pub apart : ArePathsApart (output_paths o.outputs)
+  pub paths : AllByRecursion IsPath (paths_of_outputs o.outputs)
+  pub ascend : IsAscendingBy bytes_cmp (texts_of (paths_of_outputs o.outputs))
+  pub apart : ArePathsApart (paths_of_outputs o.outputs)
 
 -- ---- by digests
 
@@ -74,7 +74,8 @@ pub record AddsOutput (old : OutcomeValue) (path : List (List ℕ)) (output : Ou
 -- a path that is there equals the path, lies under it or lies above it
 abbrev pub LeavesNoRoom : OutcomeValue → List (List ℕ) → Type 0
 LeavesNoRoom o path =
-    (other : List (List ℕ)) × Contains (output_paths o.outputs) other × OverlapEachOther other path
+    (other : List (List ℕ)) × Contains (paths_of_outputs o.outputs) other
+    × OverlapEachOther other path
 
 -- why nothing was added
 abbrev pub ExplainsAdd : {A : Type 0} → OutcomeValue → List (List ℕ) → AddError A → Type 0

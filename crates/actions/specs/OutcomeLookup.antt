@@ -4,7 +4,7 @@ use Rattle.std.specs.Prelude.{Contains}
 use Rattle.std.specs.Borrow.{Bor}
 use Rattle.std.specs.List.{AllByRecursion}
 use Rattle.blob_digest.specs.Digest.{DigestValue, digest_of}
-use Rattle.messages.specs.DirectoryRules.{DirectoryValue}
+use Rattle.messages.specs.DirectoryRules.{DirectoryValue, symlink_names}
 use Rattle.messages.specs.Directory.{directory_bytes}
 use Rattle.messages.specs.Path.{parts_of}
 use Rattle.messages.specs.declared.node.Node.{Node}
@@ -14,7 +14,7 @@ use Rattle.messages.specs.Node.{child}
 use Rattle.blob_source.specs.Told.{Fault}
 use Rattle.tree.specs.Lookup.{Looked, nothing, found, LooksFrom}
 use Rattle.tree.specs.Merging.{WithinValue, in_source, in_tree}
-use Rattle.actions.specs.declared.outcome.Output.TheVariants.{Tree}
+use Rattle.actions.specs.declared.outcome.Output.TheVariants.{File, Link, Tree}
 use Rattle.actions.specs.declared.looking_up.Over.{Over}
 use Rattle.actions.specs.Outcome.{OutputValue, OutcomeValue, output_node, tree_node}
 
@@ -65,6 +65,23 @@ abbrev pub LiesWithin : OutcomeValue → List (List ℕ) → WithinValue → Typ
 LiesWithin o path within =
     (e : List (List ℕ) × OutputValue) × Contains o.outputs e × StandsOver e.0 path
     × (within ≡ within_output e.1)
+
+-- a symbolic link in a tree has one of the names
+abbrev pub NamesLink : TreeValue → List (List ℕ) → Type 0
+NamesLink t names = (m : DirectoryValue) × Contains (t.root ∷ t.children) m × (name : List ℕ)
+    × Contains names name × Contains (symlink_names m.symlinks) name
+
+-- What takes memory below an output: the target of a link, and the encoding of a tree's root.
+abbrev pub TakesMemory : OutputValue → List (List ℕ) → Type 0
+TakesMemory (File digest executable) names = ⊥
+TakesMemory (Link target) names = names ≡ []
+TakesMemory (Tree t) [] = Unit {0}
+TakesMemory (Tree t) (name ∷ names) = NamesLink t (name ∷ names)
+
+-- so does what is below the output that is at or above a path
+abbrev pub LooksWithMemory : OutcomeValue → List (List ℕ) → Type 0
+LooksWithMemory o path = (e : List (List ℕ) × OutputValue) × Contains o.outputs e
+    × (names : List (List ℕ)) × (path ≡ e.0 ++ names) × TakesMemory e.1 names
 
 -- ---- what the private functions of a look-up speak of
 

@@ -1,11 +1,11 @@
 -- The outcome that a result stands for, and why there is none.
-use Rattle.std.specs.Prelude.{◌≡◌, ◌⊎◌, ℕ, List, [], ◌∷◌}
+use Rattle.std.specs.Prelude.{◌≡◌, ◌≤◌, ◌⊎◌, ℕ, ◌+◌, List, [], ◌∷◌, ◌++◌, length}
 use Rattle.messages.specs.Tree.{TreeValue, IsTree, tree_bytes}
 use Rattle.action_messages.specs.OutputDirectory.{OutputDirectoryValue}
 use Rattle.action_messages.specs.ActionResult.{ActionResultValue}
 use Rattle.action_messages.specs.Outputs.{RecordedValue, file, directory, link, recorded_path}
 use Rattle.action_messages.specs.Outputs.{AreOutputs}
-use Rattle.blob_source.specs.Source.{Blobs}
+use Rattle.blob_source.specs.Source.{Blobs, Telling}
 use Rattle.blob_source.specs.Told.{IsTold, Fault, IsFault}
 use Rattle.actions.specs.declared.outcome.Output.TheVariants.{File, Link, Tree}
 use Rattle.actions.specs.Outcome.{OutputValue, OutcomeValue, IsOutcome}
@@ -42,6 +42,12 @@ IsFirstTreeFault blobs [] f = ⊥
 IsFirstTreeFault blobs (d ∷ ds) f =
     IsFault IsTree tree_bytes blobs d.tree f
     ⊎ ((t : TreeValue) × IsTold IsTree tree_bytes blobs d.tree t × IsFirstTreeFault blobs ds f)
+
+-- a directory whose Tree isn't told is the last that is asked for
+pub record StopsAtFault (ds : List OutputDirectoryValue) (old new : Telling) : Type 0 where
+  pub few : (before behind : List OutputDirectoryValue) (d : OutputDirectoryValue) (f : Fault)
+      → ds ≡ before ++ d ∷ behind → IsFault IsTree tree_bytes new.blobs d.tree f
+      → new.calls ≤ old.calls + (length before + 1)
 
 -- why an output of a result can't be read: its Tree isn't told
 abbrev pub IsOutputFault : Blobs → RecordedValue → Fault → Type 0

@@ -1,5 +1,5 @@
-ghost use Rattle.std.specs.Prelude.{◌≡◌, ◌∷◌, ◌++◌, Some, Contains, IfOk, IfSome, MatchOption, map};
-ghost use Rattle.std.specs.Prelude.{option_map};
+ghost use Rattle.std.specs.Prelude.{◌≡◌, ◌∷◌, ◌++◌, Some, Contains, IfOk, IfSome, IsErr, map};
+ghost use Rattle.std.specs.Prelude.{MatchOption, option_map};
 ghost use Rattle.std.specs.List.{AllByRecursion};
 ghost use Rattle.messages.specs.Order.{bytes_cmp};
 ghost use Rattle.messages.specs.Path.{IsPath, parts_of};
@@ -10,8 +10,10 @@ ghost use Rattle.tree.specs.Merging.{IsHeldIn, in_tree, within_value};
 ghost use Rattle.action_messages.specs.Ascending.{IsAscendingBy};
 ghost use Rattle.action_messages.specs.Overlaps.{texts_of};
 ghost use Rattle.actions.specs.Outcome.{output_value};
+ghost use Rattle.actions.specs.declared.outcome.Output.TheVariants as outputs;
 ghost use Rattle.actions.specs.OutcomeLookup.{IsFirstChild, LooksInTree, LooksBelow, LooksUnder};
 ghost use Rattle.actions.specs.OutcomeLookup.{LooksIn, LiesWithin, IsOver, IsChildOf};
+ghost use Rattle.actions.specs.OutcomeLookup.{LooksWithMemory, NamesLink, TakesMemory};
 ghost use Rattle.actions.specs.OutcomeLookup.{within_output, names_left};
 
 use crate::outcome::{Outcome, Output};
@@ -87,6 +89,7 @@ fn descend<A: Allocator + Copy>(
     ensures looked { IfOk result
         (λ o. LooksUnder tree.now directory.now (parts_of text.now) (looked o)) }
     ensures held { IfOk result (λ o. IfSome o (IsChildOf tree.now)) }
+    ensures memory { IsErr result → NamesLink tree.now (parts_of text.now) }
 {
     let Some((name, rest)) = split_name(text) else {
         return directory.child(alloc, text);
@@ -111,6 +114,7 @@ fn look_in_tree<A: Allocator + Copy>(
     ensures looked { IfOk result (λ o. LooksInTree tree.now (names_left below.entry) (looked o)) }
     ensures held { IfOk result
         (λ o. IfSome o (λ x. IsHeldIn (in_tree tree.now) (node_value x))) }
+    ensures memory { IsErr result → TakesMemory (outputs.Tree tree.now) (names_left below.entry) }
 {
     match below {
         None => Ok(Some(Node::Dir(Digest::of(&tree.root().encode(alloc)?)))),
@@ -127,6 +131,8 @@ fn look_below<A: Allocator + Copy>(
         (λ o. LooksBelow (output_value output.now) (names_left below.entry) (looked o)) }
     ensures held { IfOk result (λ o. IfSome o
         (λ x. IsHeldIn (within_output (output_value output.now)) (node_value x))) }
+    ensures memory { IsErr result
+        → TakesMemory (output_value output.now) (names_left below.entry) }
 {
     match output {
         Output::Tree(tree) => look_in_tree(alloc, tree, below),
@@ -157,7 +163,9 @@ impl<A: Allocator + Copy> Outcome<A> {
     /// name but the first is one walk over the digests that the Tree keeps, and nothing is hashed
     /// but the root of a Tree that is itself at the path.
     pub fn lookup(&self, alloc: A, path: &Path<A>) -> Result<Option<Node<A>>, AllocError>
-        ensures { IfOk result (λ o. LooksIn self.now path.now (looked o)) }
+        ensures looked { IfOk result (λ o. LooksIn self.now path.now (looked o)) }
+        // Only a link's target, and the root of a Tree that is itself at the path, take memory.
+        ensures memory { IsErr result → LooksWithMemory self.now path.now }
     {
         match self.lookup_within(alloc, path)? {
             Some((node, _)) => Ok(Some(node)),
@@ -178,6 +186,7 @@ impl<A: Allocator + Copy> Outcome<A> {
             (λ o. IfSome o (λ x. LiesWithin self.now path.now (within_value x.1))) }
         ensures held { IfOk result
             (λ o. IfSome o (λ x. IsHeldIn (within_value x.1) (node_value x.0))) }
+        ensures memory { IsErr result → LooksWithMemory self.now path.now }
     {
         let outputs = self.outputs();
         let Some(over) = find_over(outputs, path) else {

@@ -1,13 +1,14 @@
-ghost use Rattle.std.specs.Prelude.{◌≡◌, length, IfOk, IfErr, IsErrOf};
+ghost use Rattle.std.specs.Prelude.{◌≡◌, length, IfOk, IfErr, IsErrOf, IsOk};
 ghost use Rattle.blob_source.specs.Source.{Asks};
 ghost use Rattle.blob_source.specs.Called.{Calls};
 ghost use Rattle.tree.specs.Memo.{IsKnownOf, WasRefused, Learns, known_by};
 ghost use Rattle.tree.specs.TreeError.{Explains};
-ghost use Rattle.action_messages.specs.Outputs.{directories_among, recorded_value};
+ghost use Rattle.action_messages.specs.OutputFile.{OutputFileValue};
+ghost use Rattle.action_messages.specs.Outputs.{directories_among, file, recorded_value};
 ghost use Rattle.action_messages.specs.Outputs.{recorded_values};
 ghost use Rattle.actions.specs.Outcome.{output_value, outputs_in};
 ghost use Rattle.actions.specs.Recorded.{IsRecorded, StandsFor, StandForAll};
-ghost use Rattle.actions.specs.Recorded.{IsFirstTreeFault, IsOutputFault, IsWithoutTree};
+ghost use Rattle.actions.specs.Recorded.{IsFirstTreeFault, IsOutputFault, IsWithoutTree, StopsAtFault};
 ghost use Rattle.actions.specs.LooksAt.{OutputLooksAt};
 
 use crate::outcome::{Outcome, Output};
@@ -33,6 +34,9 @@ impl<A: Allocator + Copy> Output<A> {
             (IsErrOf result TreeError.Fetch) }
         ensures unasked { IsWithoutTree (recorded_value recorded.now)
             → S.tells source.new ≡ S.tells source.old }
+        // A file takes no memory.
+        ensures file { (f : OutputFileValue) → recorded_value recorded.now ≡ file f
+            → IsOk result }
     {
         Output::read_with(alloc, recorded, &mut Memo::new(alloc), source)
     }
@@ -54,6 +58,9 @@ impl<A: Allocator + Copy> Output<A> {
             (IsErrOf result TreeError.Fetch) }
         ensures unasked { IsWithoutTree (recorded_value recorded.now)
             → S.tells source.new ≡ S.tells source.old }
+        // A file takes no memory.
+        ensures file { (f : OutputFileValue) → recorded_value recorded.now ≡ file f
+            → IsOk result }
         ensures learned { Learns (OutputLooksAt (recorded_value recorded.now)) (WasRefused result)
             (known_by memo.old) (known_by memo.new) (S.tells source.old) (S.tells source.new) }
     {
@@ -86,6 +93,8 @@ fn read_outputs<A: Allocator + Copy, S: BlobSource<A>>(
         (directories_among (recorded_values recorded.now)))) }
     ensures called { Calls (Asks (length (directories_among (recorded_values recorded.now))))
         (S.tells source.old) (S.tells source.new) (IsErrOf result TreeError.Fetch) }
+    ensures few { StopsAtFault (directories_among (recorded_values recorded.now))
+        (S.tells source.old) (S.tells source.new) }
 {
     let mut outputs = Vec::new(alloc);
     for output in recorded {
@@ -109,6 +118,7 @@ pub fn recorded<A: Allocator + Copy, S: BlobSource<A>>(
         (IsFirstTreeFault (S.tells source.new).blobs made.now.directories)) }
     ensures called { Calls (Asks (length made.now.directories))
         (S.tells source.old) (S.tells source.new) (IsErrOf result TreeError.Fetch) }
+    ensures few { StopsAtFault made.now.directories (S.tells source.old) (S.tells source.new) }
 {
     let recorded = made.outputs(alloc)?;
     let outputs = read_outputs(alloc, &recorded, source)?;

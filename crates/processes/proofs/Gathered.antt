@@ -5,7 +5,7 @@ use Rattle.std.specs.List.{AllByRecursion}
 use Rattle.std.proofs.lemmas.List.{map-append, take_more}
 use Rattle.std.proofs.lemmas.List.Elements.{Contains-append_left, Contains-append_right, Contains-append_cases}
 use Rattle.messages.specs.Path.{path_text}
-use Rattle.actions.specs.Outcome.{OutputValue, OutcomeValue, AddsOutput, output_paths}
+use Rattle.actions.specs.Outcome.{OutputValue, OutcomeValue, AddsOutput, paths_of_outputs}
 use Rattle.processes.specs.declared.workshop.Standing.TheVariants as standings
 use Rattle.processes.specs.Workshop.{Works}
 use Rattle.processes.specs.Laying.{place_below}
@@ -74,14 +74,14 @@ module _ {R C E : Type 0} (works : Works R C E) (ended : E) where
             only = λ b h. only_more mine b (Contains-append_cases before own b (subst (λ bs. Contains bs b) blobs h));
           }
         where
-          names : output_paths new.outputs ≡ output_paths adds.before ++ path ∷ output_paths adds.behind
-          names = ap output_paths adds.placed ∙ map-append (λ (x : List (List ℕ) × OutputValue). x.0) adds.before ((path, o) ∷ adds.behind)
+          names : paths_of_outputs new.outputs ≡ paths_of_outputs adds.before ++ path ∷ paths_of_outputs adds.behind
+          names = ap paths_of_outputs adds.placed ∙ map-append (λ (x : List (List ℕ) × OutputValue). x.0) adds.before ((path, o) ∷ adds.behind)
 
-          olds : output_paths old.outputs ≡ output_paths adds.before ++ output_paths adds.behind
-          olds = ap output_paths adds.others ∙ map-append (λ (x : List (List ℕ) × OutputValue). x.0) adds.before adds.behind
+          olds : paths_of_outputs old.outputs ≡ paths_of_outputs adds.before ++ paths_of_outputs adds.behind
+          olds = ap paths_of_outputs adds.others ∙ map-append (λ (x : List (List ℕ) × OutputValue). x.0) adds.before adds.behind
 
-          named : Contains (output_paths new.outputs) path
-          named = subst (λ ps. Contains ps path) (sym names) (Contains-append_right (output_paths adds.before) (path ∷ output_paths adds.behind) path (0, omega arith, refl))
+          named : Contains (paths_of_outputs new.outputs) path
+          named = subst (λ ps. Contains ps path) (sym names) (Contains-append_right (paths_of_outputs adds.before) (path ∷ paths_of_outputs adds.behind) path (0, omega arith, refl))
 
           still : (e : List (List ℕ) × OutputValue) → Contains old.outputs e → Contains new.outputs e
           still e h = subst (λ xs. Contains xs e) (sym adds.placed) (contains_inserted adds.before adds.behind (path, o) e (subst (λ xs. Contains xs e) adds.others h))
@@ -89,7 +89,7 @@ module _ {R C E : Type 0} (works : Works R C E) (ended : E) where
           settled_still : (q : List (List ℕ)) → IsSettled works ended folder old.outputs q → IsSettled works ended folder new.outputs q
           settled_still q (inl stands) = inl stands
           settled_still q (inr h) =
-              inr (subst (λ ps. Contains ps q) (sym names) (contains_inserted (output_paths adds.before) (output_paths adds.behind) path q (subst (λ ps. Contains ps q) olds h)))
+              inr (subst (λ ps. Contains ps q) (sym names) (contains_inserted (paths_of_outputs adds.before) (paths_of_outputs adds.behind) path q (subst (λ ps. Contains ps q) olds h)))
 
           only_more : Contains new.outputs (path, o) → (b : List ℕ) → Contains before b ⊎ Contains own b → IsOfOutput works ended folder new.outputs b
           only_more mine b (inl h) =

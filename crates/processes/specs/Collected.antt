@@ -14,7 +14,7 @@ use Rattle.tree.specs.Tree.{Name, Standing, nothing, a_leaf, a_directory, Tree, 
 use Rattle.tree.specs.Form.{NodeValue}
 use Rattle.tree.specs.Folded.{first_visits}
 use Rattle.actions.specs.declared.outcome.Output.TheVariants as outputs
-use Rattle.actions.specs.Outcome.{OutputValue, OutcomeValue, AddsOutput, output_paths}
+use Rattle.actions.specs.Outcome.{OutputValue, OutcomeValue, AddsOutput, paths_of_outputs}
 use Rattle.worker.specs.Outcomes.{directories_of}
 use Rattle.processes.specs.declared.workshop.Standing.{Standing as PlaceStanding}
 use Rattle.processes.specs.declared.workshop.Standing.TheVariants as standings
@@ -105,7 +105,7 @@ abbrev pub IsSettled : {R C E : Type 0} → Works R C E → E → List ℕ
     → List (List (List ℕ) × OutputValue) → List (List ℕ) → Type 0
 IsSettled works ended folder outputs q =
     works.stands ended (place_below folder (path_text q)) standings.Nothing
-    ⊎ Contains (output_paths outputs) q
+    ⊎ Contains (paths_of_outputs outputs) q
 
 -- a blob is one of an output
 pub record IsOfOutput {R C E : Type 0} (works : Works R C E) (ended : E) (folder : List ℕ)

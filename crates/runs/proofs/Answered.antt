@@ -10,7 +10,7 @@ use Rattle.messages.specs.Tree.{TreeValue, IsTree, tree_bytes}
 use Rattle.action_messages.specs.Action.{with_input, action_bytes}
 use Rattle.action_messages.specs.ActionResult.{ActionResultValue}
 use Rattle.actions.specs.declared.outcome.Output.TheVariants as outputs
-use Rattle.actions.specs.Outcome.{OutputValue, OutcomeValue, outputs_form, output_paths}
+use Rattle.actions.specs.Outcome.{OutputValue, OutcomeValue, outputs_form, paths_of_outputs}
 use Rattle.actions.specs.OutcomeLookup.{LooksBelow, LooksIn, within_output, LiesWithin}
 use Rattle.action_messages.specs.OutputDirectory.{OutputDirectoryValue}
 use Rattle.action_messages.specs.Outputs.{RecordedValue, file, directory, link, directories_among}
@@ -107,7 +107,7 @@ form_through v w o h k = record {
   outputs = λ p x. (λ c. (k.outputs p x).0 (subst (λ os. Contains os (p, x)) h.outputs c), λ c. subst (λ os. Contains os (p, x)) (sym h.outputs) ((k.outputs p x).1 c));
 }
 
-form_paths : (es : List (List Name × OutputValue)) → map (λ (e : List Name × NodeValue). e.0) (outputs_form es) ≡ output_paths es
+form_paths : (es : List (List Name × OutputValue)) → map (λ (e : List Name × NodeValue). e.0) (outputs_form es) ≡ paths_of_outputs es
 form_paths [] = refl
 form_paths (e ∷ es) = ap (λ ps. e.0 ∷ ps) (form_paths es)
 
@@ -300,7 +300,7 @@ module _ (B C : Blobs) (e : EngineValue) (t : Tree Leaf) (meaning : Meaning) (X 
       let stands = engine.stand.each i step a.frame a.command at frame command in
       let told = serves.actions i a kept.1 in
       let taken = engine.taken i one.finished a.command one.is command in
-      let paths : output_paths one.finished.outcome.outputs ≡ output_paths v.outputs =
+      let paths : paths_of_outputs one.finished.outcome.outputs ≡ paths_of_outputs v.outputs =
       sym (form_paths one.finished.outcome.outputs) ∙ ap (map (λ (x : List Name × NodeValue). x.0)) (sym one.form.outputs) ∙ form_paths v.outputs in
       record {
         action = with_input a.frame (root (form a.input));

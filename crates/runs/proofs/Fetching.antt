@@ -13,7 +13,7 @@ use Rattle.runs.specs.declared.error.OpenError.{OpenError}
 use Rattle.runs.specs.declared.error.OpenError.TheVariants as opening
 use Rattle.runs.specs.declared.error.RunsError.{RunsError}
 use Rattle.runs.specs.declared.error.RunsError.TheVariants as errors
-use Rattle.runs.specs.Looking.{refusal_of}
+use Rattle.runs.specs.Looking.{of_tree_error}
 
 -- ---- opening, where the answer names a step
 
@@ -53,7 +53,7 @@ fetching_memory {T} {A} {r} {fails} {old} {new} exit none h =
     called_no none (λ is. let same : ◌≡◌ {A = Result T (RunsError A)} (Err errors.Memory) (Err (errors.Source tree.Fetch)) = ap Err (sym p.2) ∙ sym p.1 ∙ is in cc) h
 
 -- the refusal that an error is is a failure exactly where the error is
-refused_fetch : {A : Type 0} (e : TreeError A) → refusal_of e ≡ errors.Source tree.Fetch → e ≡ tree.Fetch
+refused_fetch : {A : Type 0} (e : TreeError A) → of_tree_error e ≡ errors.Source tree.Fetch → e ≡ tree.Fetch
 refused_fetch (tree.Absent path) is = absurd cc
 refused_fetch (tree.BlobMissing d) is = absurd cc
 refused_fetch (tree.BlobWrong d) is = absurd cc
@@ -63,9 +63,9 @@ refused_fetch (tree.Conflict path) is = absurd cc
 refused_fetch tree.Fetch is = refl
 refused_fetch tree.Memory is = absurd cc
 
-pub fetching_refused : {T U A : Type 0} {e : TreeError A} {r : Result U (RunsError A)} {old new : Telling} → IsErrAnd r (λ y. y ≡ refusal_of e) → Called old new (IsErrOf {T = T} (Err e) tree.Fetch) → Called old new (FailsToFetch r)
+pub fetching_refused : {T U A : Type 0} {e : TreeError A} {r : Result U (RunsError A)} {old new : Telling} → IsErrAnd r (λ y. y ≡ of_tree_error e) → Called old new (IsErrOf {T = T} (Err e) tree.Fetch) → Called old new (FailsToFetch r)
 fetching_refused {T} {U} {A} {e} {r} {old} {new} exit h =
     let p = err_from_is_err_and r exit in
     subst (λ q. Called old new (FailsToFetch q)) (sym p.1) (called_as
     (λ is. ap Err (refused_fetch e (sym p.2 ∙ err_injective {T = U} p.0 (errors.Source tree.Fetch) is)))
-    (λ is. ap Err (p.2 ∙ ap refusal_of (err_injective {T = T} e tree.Fetch is))) h)
+    (λ is. ap Err (p.2 ∙ ap of_tree_error (err_injective {T = T} e tree.Fetch is))) h)

@@ -12,7 +12,7 @@ use Rattle.runs.specs.Engine.{JobValue, FinishedValue, EngineValue, TakesOutcome
 use Rattle.runs.specs.Calls.{Disagrees, first_kept, with_finished, IsFinished, IsOutcomeFault, IsFinishFault}
 use Rattle.runs.specs.declared.error.RunsError.{RunsError}
 use Rattle.runs.specs.declared.error.RunsError.TheVariants as errors
-use Rattle.runs.specs.Mirrors.{IsFormOf, IsFinishedAs, job_value, IsConcernedIn, Mirrors, IsMirrored, nothing_told}
+use Rattle.runs.specs.Mirrors.{IsFormOf, IsFinishedAs, job_form, IsConcernedIn, Mirrors, IsMirrored, nothing_told}
 use Rattle.runs.specs.Ties.{IsFinish, IsForeign}
 use Rattle.verifier.proofs.FreshRuns.{one_answer}
 use Rattle.runs.proofs.Places.{has_one, taken_within, set_same, set_other, set_at, first_same, first_other}
@@ -75,7 +75,7 @@ module _ (e : EngineValue) (w : ℕ) (j : JobValue) (v : OutcomeValue) (k : IsEn
     steady : Steady e.plan meaning t X run.table S s
     steady = steady_of e t meaning X s nothing_told es run
 
-    job : (job : ℕ × ActionMeaning) × (job_of w s ≡ Some job) × (j ≡ job_value job)
+    job : (job : ℕ × ActionMeaning) × (job_of w s ≡ Some job) × (j ≡ job_form job)
     job = job_there e t meaning X s run.mirrors w j is
 
     inside : Contains X (job.0.1, out)

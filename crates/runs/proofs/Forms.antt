@@ -9,7 +9,7 @@ use Rattle.std.proofs.lemmas.List.{drop_all}
 use Rattle.blob_digest.specs.Digest.{DigestValue}
 use Rattle.action_messages.specs.Command.{CommandValue}
 use Rattle.actions.specs.declared.outcome.Output.{Output}
-use Rattle.actions.specs.Outcome.{OutputValue, OutcomeValue, output_value, output_node, outputs_in, outputs_form, output_paths}
+use Rattle.actions.specs.Outcome.{OutputValue, OutcomeValue, output_value, output_node, outputs_in, outputs_form, paths_of_outputs}
 use Rattle.tree.specs.Form.{NodeValue}
 use Rattle.runs.specs.Engine.{FinishedValue, IsValidOutput, HoldValidTrees}
 use Rattle.runs.specs.Calls.{IsOther, IsFirstUnlisted, IsUnlisted, IsOutcomeFault, first_kept}
@@ -60,7 +60,7 @@ module _ {A : Type 0} where
   -- ---- paths that a command lists
 
   abbrev pub paths_of : List (List (List ℕ) × Output A) → List (List (List ℕ))
-  paths_of xs = output_paths (outputs_in xs)
+  paths_of xs = paths_of_outputs (outputs_in xs)
 
   pub record ListsOn (c : CommandValue) (xs rest : List (List (List ℕ) × Output A)) : Type 0 where
     pub listed : AllByRecursion (Contains c.output_paths) (paths_of rest) → AllByRecursion (Contains c.output_paths) (paths_of xs)
@@ -96,8 +96,8 @@ pub if_err : {T E : Type 0} {P Q : E → Type 0} (r : Result T E) → ((e : E) �
 if_err (Ok x) f h = h
 if_err (Err e) f h = f e h
 
-pub outcome_fault : {A : Type 0} (c : CommandValue) (v : OutcomeValue) (es : List (List (List ℕ) × OutputValue)) → es ≡ v.outputs → v.exit_code ≡ pos 0 → (why : RunsError A) → IsUnlisted c (output_paths es) why → IsOutcomeFault c v why
-outcome_fault c v es same code (errors.Unlisted path) h = (code, subst (λ es. IsFirstUnlisted c (output_paths es) path) same h)
+pub outcome_fault : {A : Type 0} (c : CommandValue) (v : OutcomeValue) (es : List (List (List ℕ) × OutputValue)) → es ≡ v.outputs → v.exit_code ≡ pos 0 → (why : RunsError A) → IsUnlisted c (paths_of_outputs es) why → IsOutcomeFault c v why
+outcome_fault c v es same code (errors.Unlisted path) h = (code, subst (λ es. IsFirstUnlisted c (paths_of_outputs es) path) same h)
 outcome_fault c v es same code errors.Memory h = tt
 outcome_fault c v es same code errors.NotReady h = elim h [ ]
 outcome_fault c v es same code errors.NoSuchJob h = elim h [ ]

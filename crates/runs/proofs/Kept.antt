@@ -11,7 +11,7 @@ use Rattle.actions.specs.declared.outcome.Output.{Output}
 use Rattle.actions.specs.declared.outcome.Output.TheVariants as outputs
 use Rattle.action_messages.specs.ActionResult.{ActionResultValue, IsActionResult, file_paths, directory_paths, symlink_paths, AreOutputPaths, action_result_of}
 use Rattle.action_messages.specs.Ascending.{IsAscendingBy}
-use Rattle.actions.specs.Outcome.{OutputValue, OutcomeValue, IsOutcome, output_paths, output_value, outputs_in}
+use Rattle.actions.specs.Outcome.{OutputValue, OutcomeValue, IsOutcome, paths_of_outputs, output_value, outputs_in}
 use Rattle.action_messages.specs.OutputDirectory.{OutputDirectoryValue}
 use Rattle.action_messages.specs.OutputFile.{OutputFileValue}
 use Rattle.action_messages.specs.OutputSymlink.{OutputSymlinkValue}
@@ -28,7 +28,8 @@ use Rattle.verifier.proofs.FreshRuns.{one_answer}
 use Rattle.runs.specs.Engine.{FinishedValue, EngineValue, IsEngine, HoldValidTrees, finished_in}
 use Rattle.runs.specs.Served.{HoldsTrees, IsKeptOf}
 use Rattle.runs.proofs.Places.{has_one, taken_within}
-use Rattle.runs.specs.Results.{recorded_output, recorded_outputs, no_stream, result_of}
+use Rattle.runs.specs.Results.{recorded_output, recorded_outputs, result_of}
+use Rattle.verifier.specs.Holding.{no_stream}
 
 -- ---- the paths of each kind
 
@@ -119,7 +120,7 @@ path_kept p (outputs.File d executable) = refl
 path_kept p (outputs.Link target) = refl
 path_kept p (outputs.Tree t) = refl
 
-pub paths_kept : (es : List (List (List ℕ) × OutputValue)) → map recorded_path (recorded_outputs es) ≡ output_paths es
+pub paths_kept : (es : List (List (List ℕ) × OutputValue)) → map recorded_path (recorded_outputs es) ≡ paths_of_outputs es
 paths_kept [] = refl
 paths_kept (e ∷ es) = λ i. path_kept e.0 e.1 i ∷ paths_kept es i
 

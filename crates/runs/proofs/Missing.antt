@@ -18,7 +18,7 @@ use Rattle.verifier.specs.Together.{LooksUpOrigin, no_origin, in_conflict, of_me
 use Rattle.runs.specs.declared.error.RunsError.{RunsError}
 use Rattle.runs.specs.Calls.{IsReady, HasRoomForJob, IsStartFault, HaveAllFinished, IsRootFault}
 use Rattle.runs.specs.Engine.{EngineValue, IsEngine}
-use Rattle.runs.specs.Looking.{outcomes_in, together_in, refusal_of, Explains, StandsIn}
+use Rattle.runs.specs.Looking.{outcomes_in, together_in, of_tree_error, ExplainsRefusal, StandsIn}
 use Rattle.runs.specs.Ties.{IsWithoutOrigin, IsWithoutGraft, TellsMissing, TellsConflict}
 use Rattle.runs.proofs.Resolved.{origin_agrees, no_graft}
 use Rattle.runs.proofs.Standing.{unread_stands}
@@ -77,10 +77,10 @@ module _ (B : Blobs) (e : EngineValue) (engine : IsEngine e) where
 
   -- what a refusal tells
   module _ {A : Type 0} (ls : List LineValue) (paths : ArePaths ls) where
-    pub tells : (why : RunsError A) → Explains (together_in B e ls).fails why → TellsMissing B e ls why × TellsConflict B e ls why × StandsIn B why
+    pub tells : (why : RunsError A) → ExplainsRefusal (together_in B e ls).fails why → TellsMissing B e ls why × TellsConflict B e ls why × StandsIn B why
     tells why (error, h, is) = subst (λ w. TellsMissing B e ls w × TellsConflict B e ls w × StandsIn B w) (sym is) (by error h)
       where
-        by : (error : TreeError A) → ExplainsLines (together_in B e ls).fails error → TellsMissing B e ls (refusal_of error) × TellsConflict B e ls (refusal_of error) × StandsIn B (refusal_of error)
+        by : (error : TreeError A) → ExplainsLines (together_in B e ls).fails error → TellsMissing B e ls (of_tree_error error) × TellsConflict B e ls (of_tree_error error) × StandsIn B (of_tree_error error)
         by (tree.Absent p) h = (tree_missing ls p h, tt, tt)
         by (tree.BlobMissing d) h = (tt, tt, unread_stands B e ls (missing d) h)
         by (tree.BlobWrong d) h = (tt, tt, unread_stands B e ls (wrong d) h)
@@ -92,13 +92,13 @@ module _ (B : Blobs) (e : EngineValue) (engine : IsEngine e) where
 
 -- ---- why a step isn't started, and why there is no root
 
-pub start_fault : {A : Type 0} (B : Blobs) (e : EngineValue) (i : ℕ) → IsReady e i → HasRoomForJob e → (why : RunsError A) → ((step : StepValue) → slice_get e.plan.steps i ≡ Some step → Explains (together_in B e step.lines).fails why)
+pub start_fault : {A : Type 0} (B : Blobs) (e : EngineValue) (i : ℕ) → IsReady e i → HasRoomForJob e → (why : RunsError A) → ((step : StepValue) → slice_get e.plan.steps i ≡ Some step → ExplainsRefusal (together_in B e step.lines).fails why)
     → (step : StepValue) → slice_get e.plan.steps i ≡ Some step → IsStartFault B e i why
 start_fault {A} B e i ready room why h step at =
     let x = h step at in
-    subst (IsStartFault B e i) (sym x.2) (by x.0 (λ s here. subst (Explains (together_in B e s.lines).fails) x.2 (h s here)))
+    subst (IsStartFault B e i) (sym x.2) (by x.0 (λ s here. subst (ExplainsRefusal (together_in B e s.lines).fails) x.2 (h s here)))
   where
-    by : (error : TreeError A) → ((step : StepValue) → slice_get e.plan.steps i ≡ Some step → Explains (together_in B e step.lines).fails (refusal_of error)) → IsStartFault B e i (refusal_of error)
+    by : (error : TreeError A) → ((step : StepValue) → slice_get e.plan.steps i ≡ Some step → ExplainsRefusal (together_in B e step.lines).fails (of_tree_error error)) → IsStartFault B e i (of_tree_error error)
     by (tree.Absent p) h = (ready, room, h)
     by (tree.BlobMissing d) h = (ready, room, h)
     by (tree.BlobWrong d) h = (ready, room, h)
@@ -108,10 +108,10 @@ start_fault {A} B e i ready room why h step at =
     by tree.Fetch h = (ready, room, h)
     by tree.Memory h = (ready, room, h)
 
-pub root_fault : {A : Type 0} (B : Blobs) (e : EngineValue) → HaveAllFinished e → (why : RunsError A) → Explains (together_in B e e.plan.root_lines).fails why → IsRootFault B e why
-root_fault {A} B e all why h = subst (IsRootFault B e) (sym h.2) (by h.0 (subst (Explains (together_in B e e.plan.root_lines).fails) h.2 h))
+pub root_fault : {A : Type 0} (B : Blobs) (e : EngineValue) → HaveAllFinished e → (why : RunsError A) → ExplainsRefusal (together_in B e e.plan.root_lines).fails why → IsRootFault B e why
+root_fault {A} B e all why h = subst (IsRootFault B e) (sym h.2) (by h.0 (subst (ExplainsRefusal (together_in B e e.plan.root_lines).fails) h.2 h))
   where
-    by : (error : TreeError A) → Explains (together_in B e e.plan.root_lines).fails (refusal_of error) → IsRootFault B e (refusal_of error)
+    by : (error : TreeError A) → ExplainsRefusal (together_in B e e.plan.root_lines).fails (of_tree_error error) → IsRootFault B e (of_tree_error error)
     by (tree.Absent p) h = (all, h)
     by (tree.BlobMissing d) h = (all, h)
     by (tree.BlobWrong d) h = (all, h)

@@ -11,7 +11,7 @@ use Rattle.action_messages.specs.Overlaps.{texts_of}
 use Rattle.action_messages.specs.Command.{command_bytes}
 use Rattle.action_messages.specs.Frame.{FrameValue}
 use Rattle.action_messages.specs.Action.{ActionValue, with_input, action_bytes}
-use Rattle.actions.specs.Outcome.{OutputValue, OutcomeValue, IsOutcome, outputs_form, output_paths}
+use Rattle.actions.specs.Outcome.{OutputValue, OutcomeValue, IsOutcome, outputs_form, paths_of_outputs}
 use Rattle.actions.proofs.EncodedOnce.{action_bytes_injective, command_bytes_injective}
 use Rattle.action_messages.proofs.Searches.{bytes_trans}
 use Rattle.tree.specs.Tree.{Name}
@@ -85,7 +85,7 @@ same_rows (e ∷ es) (f ∷ fs) s r to from =
 
 -- ---- forms
 
-form_texts : (es : List (List Name × OutputValue)) → map text (outputs_form es) ≡ texts_of (output_paths es)
+form_texts : (es : List (List Name × OutputValue)) → map text (outputs_form es) ≡ texts_of (paths_of_outputs es)
 form_texts [] = refl
 form_texts (e ∷ es) = ap (λ ts. path_text e.0 ∷ ts) (form_texts es)
 

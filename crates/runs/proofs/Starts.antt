@@ -16,7 +16,7 @@ use Rattle.runs.specs.Looking.{outcomes_in, together_in}
 use Rattle.runs.specs.LooksAt.{LinesNeed}
 use Rattle.runs.specs.Calls.{IsLeastFree, placed, with_job, IsStarted, IsPrepared}
 use Rattle.runs.specs.declared.starting.Job.{Job}
-use Rattle.runs.specs.Mirrors.{job_value, Mirrors}
+use Rattle.runs.specs.Mirrors.{job_form, Mirrors}
 use Rattle.runs.specs.Ties.{IsStart, IsRootOf}
 use Rattle.runs.proofs.Places.{taken_within, first_same, first_other}
 use Rattle.runs.proofs.Steady.{Extends, make, action_still}
@@ -59,7 +59,7 @@ least_within e w least = by (le_or_gt w (length e.jobs))
     by (inl h) = h
     by (inr h) = let j = least.lower (length e.jobs) h in let lt = taken_within e.jobs (length e.jobs) j.0 j.1 in absurd (omega (arith, lt))
 
-no_job : (o : Option (ℕ × ActionMeaning)) → option_map job_value o ≡ None → o ≡ None
+no_job : (o : Option (ℕ × ActionMeaning)) → option_map job_form o ≡ None → o ≡ None
 no_job None h = refl
 no_job (Some job) h = cc
 
@@ -82,7 +82,7 @@ started_event B i old new job plan engine st = let p = st.prepared in record {
       let r : State = record s { jobs = (job.id, (i, a)) ∷ s.jobs } in
       let same : Extends s r = λ j o h. h in
       let j : JobValue = record { step = i; action = job.digest; input = job.action.input } in
-      let value : j ≡ job_value (i, a) = λ x. record { step = i; action = named x; input = input x } in (
+      let value : j ≡ job_form (i, a) = λ x. record { step = i; action = named x; input = input x } in (
         a,
         is,
         named,
@@ -99,12 +99,12 @@ started_event B i old new job plan engine st = let p = st.prepared in record {
       );
 }
   where
-    one_more : (e : EngineValue) (s : State) (i id : ℕ) (a : ActionMeaning) (j : JobValue) → j ≡ job_value (i, a) → id ≤ length e.jobs → ((w : ℕ) → job_in w e ≡ option_map job_value (job_of w s)) → (u : ℕ)
-        → (((u == id) ≡ true) × (u ≡ id)) ⊎ (((u == id) ≡ false) × (u ≢ id)) → at_number (placed e.jobs id j) u ≡ option_map job_value (lookup (λ k. k == u) ((id, (i, a)) ∷ s.jobs))
+    one_more : (e : EngineValue) (s : State) (i id : ℕ) (a : ActionMeaning) (j : JobValue) → j ≡ job_form (i, a) → id ≤ length e.jobs → ((w : ℕ) → job_in w e ≡ option_map job_form (job_of w s)) → (u : ℕ)
+        → (((u == id) ≡ true) × (u ≡ id)) ⊎ (((u == id) ≡ false) × (u ≢ id)) → at_number (placed e.jobs id j) u ≡ option_map job_form (lookup (λ k. k == u) ((id, (i, a)) ∷ s.jobs))
     one_more e s i id a j value le jobs u (inl h) =
-        subst (λ n. at_number (placed e.jobs id j) n ≡ option_map job_value (lookup (λ k. k == n) ((id, (i, a)) ∷ s.jobs))) (sym h.1)
-        (placed_same e.jobs id j le ∙ ap Some value ∙ sym (ap (option_map job_value) (first_same s.jobs id (i, a))))
-    one_more e s i id a j value le jobs u (inr h) = placed_other e.jobs id u j le h.1 ∙ jobs u ∙ ap (option_map job_value) (sym (first_other s.jobs id u (i, a) h.1))
+        subst (λ n. at_number (placed e.jobs id j) n ≡ option_map job_form (lookup (λ k. k == n) ((id, (i, a)) ∷ s.jobs))) (sym h.1)
+        (placed_same e.jobs id j le ∙ ap Some value ∙ sym (ap (option_map job_form) (first_same s.jobs id (i, a))))
+    one_more e s i id a j value le jobs u (inr h) = placed_other e.jobs id u j le h.1 ∙ jobs u ∙ ap (option_map job_form) (sym (first_other s.jobs id u (i, a) h.1))
 
 pub root_event : (B : Blobs) (e : EngineValue) (made : Tree NodeValue) (d : DigestValue) → IsPlan e.plan → IsEngine e → (together_in B e e.plan.root_lines).passes made → d ≡ root made → IsRootOf B e d
 root_event B e made d plan engine together is = record {

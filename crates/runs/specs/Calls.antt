@@ -7,7 +7,7 @@ use Rattle.blob_digest.specs.Digest.{DigestValue, digest_of}
 use Rattle.action_messages.specs.Action.{action_bytes}
 use Rattle.action_messages.specs.Command.{CommandValue, IsCommand, command_bytes}
 use Rattle.action_messages.specs.Frame.{FrameValue, IsFrame, frame_bytes}
-use Rattle.actions.specs.Outcome.{OutcomeValue, outputs_form, output_paths}
+use Rattle.actions.specs.Outcome.{OutcomeValue, outputs_form, paths_of_outputs}
 use Rattle.plan.specs.Record.{RecordValue, names_of}
 use Rattle.plan.specs.Values.{StepValue, PlanValue}
 use Rattle.tree.specs.Tree.{Tree}
@@ -24,8 +24,7 @@ use Rattle.tree.specs.TreeError.{Explains}
 use Rattle.runs.specs.declared.starting.Job.{Job}
 use Rattle.runs.specs.Engine.{FinishedValue, JobValue, EngineValue, TakesOutcome, at_number}
 use Rattle.runs.specs.Engine.{finished_in, job_in}
-use Rattle.runs.specs.Looking as looking
-use Rattle.runs.specs.Looking.{outcomes_in, together_in}
+use Rattle.runs.specs.Looking.{ExplainsRefusal, outcomes_in, together_in}
 use Rattle.verifier.specs.Together.{AreThere}
 
 -- ---- opening
@@ -142,7 +141,7 @@ IsUnlisted c paths why = ⊥
 abbrev pub IsOutcomeFault : {A : Type 0} → CommandValue → OutcomeValue → RunsError A → Type 0
 IsOutcomeFault c v (errors.ExitCode code) = (code ≡ v.exit_code) × (v.exit_code ≢ pos 0)
 IsOutcomeFault c v (errors.Unlisted path) = (v.exit_code ≡ pos 0)
-    × IsFirstUnlisted c (output_paths v.outputs) path
+    × IsFirstUnlisted c (paths_of_outputs v.outputs) path
 IsOutcomeFault c v errors.Memory = Unit {0}
 IsOutcomeFault c v why = ⊥
 
@@ -240,7 +239,7 @@ IsStartFault B e i errors.NotReady = IsReady e i → ⊥
 IsStartFault B e i errors.Full = IsReady e i × IsLeastFree e 4096
 IsStartFault B e i why = IsReady e i × HasRoomForJob e
     × ((step : StepValue) → slice_get e.plan.steps i ≡ Some step
-    → looking.Explains (together_in B e step.lines).fails why)
+    → ExplainsRefusal (together_in B e step.lines).fails why)
 
 -- ---- the root
 
@@ -258,4 +257,4 @@ HaveAllFinished e = AllByRecursion IsSome e.finished
 abbrev pub IsRootFault : {A : Type 0} → Blobs → EngineValue → RunsError A → Type 0
 IsRootFault B e errors.NotReady = HaveAllFinished e → ⊥
 IsRootFault B e why =
-    HaveAllFinished e × looking.Explains (together_in B e e.plan.root_lines).fails why
+    HaveAllFinished e × ExplainsRefusal (together_in B e e.plan.root_lines).fails why

@@ -8,7 +8,7 @@ use Rattle.action_messages.specs.Frame.{FrameValue}
 use Rattle.std.specs.List.{AllByRecursion}
 use Rattle.messages.specs.Tree.{IsTree}
 use Rattle.actions.specs.declared.outcome.Output.TheVariants as outputs
-use Rattle.actions.specs.Outcome.{OutputValue, OutcomeValue, IsOutcome, output_paths}
+use Rattle.actions.specs.Outcome.{OutputValue, OutcomeValue, IsOutcome, paths_of_outputs}
 use Rattle.plan.specs.Values.{StepValue, PlanValue}
 use Rattle.verifier.specs.Build.{StepFits}
 
@@ -70,7 +70,7 @@ pub record TakesOutcome (c : CommandValue) (o : OutcomeValue) : Type 0 where
   pub valid : IsOutcome o
   pub outputs : HoldValidTrees o.outputs
   pub exit_code : o.exit_code ≡ pos 0
-  pub listed : AllByRecursion (Contains c.output_paths) (output_paths o.outputs)
+  pub listed : AllByRecursion (Contains c.output_paths) (paths_of_outputs o.outputs)
 
 pub record IsEngine (e : EngineValue) : Type 0 where
   pub stand : AllStand e.plan.steps e.frames e.commands

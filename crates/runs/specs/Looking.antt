@@ -24,15 +24,16 @@ together_in B e lines = put_together B e.sources (outcomes_in e.finished) lines
 -- ---- refusals
 
 -- the refusal that an error is
-abbrev pub refusal_of : {A : Type 0} → TreeError A → RunsError A
-refusal_of (tree.Absent path) = errors.Origin path
-refusal_of (tree.Conflict path) = errors.Conflict path
-refusal_of tree.Memory = errors.Memory
-refusal_of error = errors.Source error
+abbrev pub of_tree_error : {A : Type 0} → TreeError A → RunsError A
+of_tree_error (tree.Absent path) = errors.Origin path
+of_tree_error (tree.Conflict path) = errors.Conflict path
+of_tree_error tree.Memory = errors.Memory
+of_tree_error error = errors.Source error
 
 -- A refusal is explained by a fault of lines, unless the source failed or memory ran out.
-abbrev pub Explains : {A : Type 0} → (LinesFault → Type 0) → RunsError A → Type 0
-Explains {A} Fails why = (e : TreeError A) × ExplainsLines Fails e × (why ≡ refusal_of e)
+abbrev pub ExplainsRefusal : {A : Type 0} → (LinesFault → Type 0) → RunsError A → Type 0
+ExplainsRefusal {A} Fails why =
+    (e : TreeError A) × ExplainsLines Fails e × (why ≡ of_tree_error e)
 
 -- A refusal that tells of a Directory is a fault that stands under the digest it names, unless the
 -- source failed.

@@ -34,8 +34,8 @@ IsFinishedAs (Some f) None = ⊥
 IsFinishedAs (Some f) (Some o) = IsFormOf f.outcome o
 
 -- a job by digests: its step, the digest of its action, and that of the root of its input
-abbrev pub job_value : ℕ × ActionMeaning → JobValue
-job_value job = record {
+abbrev pub job_form : ℕ × ActionMeaning → JobValue
+job_form job = record {
   step = job.0;
   action = action_digest job.1;
   input = root (form job.1.input);
@@ -55,7 +55,7 @@ pub record Mirrors (e : EngineValue) (t : Tree Leaf) (meaning : Meaning) (s : St
   pub actions : (i : ℕ) (f : FinishedValue) → finished_in i e ≡ Some f → (a : ActionMeaning)
       × (action_of e.plan meaning t s i ≡ Some a) × (f.action ≡ action_digest a)
   -- the same jobs run
-  pub jobs : (w : ℕ) → job_in w e ≡ option_map job_value (job_of w s)
+  pub jobs : (w : ℕ) → job_in w e ≡ option_map job_form (job_of w s)
 
 -- ---- the blobs that a run and an engine are about
 

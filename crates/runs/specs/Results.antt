@@ -1,5 +1,5 @@
 -- The result that is kept of an outcome.
-use Rattle.std.specs.Prelude.{ℕ, List, [], map, None}
+use Rattle.std.specs.Prelude.{ℕ, List, map}
 use Rattle.blob_digest.specs.Digest.{digest_of}
 use Rattle.messages.specs.Tree.{tree_bytes}
 use Rattle.actions.specs.declared.outcome.Output.TheVariants as outputs
@@ -7,7 +7,7 @@ use Rattle.action_messages.specs.ActionResult.{ActionResultValue}
 use Rattle.actions.specs.Outcome.{OutputValue, OutcomeValue}
 use Rattle.action_messages.specs.Outputs.{RecordedValue, file, directory, link, files_among}
 use Rattle.action_messages.specs.Outputs.{directories_among, links_among}
-use Rattle.action_messages.specs.Stream.{StreamValue}
+use Rattle.verifier.specs.Holding.{no_stream}
 
 -- an output as a result has it: a whole directory by the digest of its Tree
 abbrev pub recorded_output : List (List ℕ) → OutputValue → RecordedValue
@@ -19,9 +19,6 @@ recorded_output p (outputs.Tree t) =
 
 abbrev pub recorded_outputs : List (List (List ℕ) × OutputValue) → List RecordedValue
 recorded_outputs outputs = map (λ e. recorded_output e.0 e.1) outputs
-
-abbrev pub no_stream : StreamValue
-no_stream = record { raw = []; digest = None }
 
 -- The result of an outcome: its exit code and its outputs, and nothing of what was written.
 abbrev pub result_of : OutcomeValue → ActionResultValue

@@ -4,7 +4,7 @@ ghost use Rattle.std.specs.List.{AllByRecursion, Contains};
 ghost use Rattle.messages.specs.Directory.{directory_bytes};
 ghost use Rattle.blob_digest.specs.Digest.{digest_of};
 ghost use Rattle.actions.specs.Outcome.{output_value, output_node, outputs_in, outputs_form};
-ghost use Rattle.actions.specs.Outcome.{output_paths};
+ghost use Rattle.actions.specs.Outcome.{paths_of_outputs};
 ghost use Rattle.runs.specs.Engine.{TakesOutcome, IsValidOutput, HoldValidTrees, at_number};
 ghost use Rattle.runs.specs.Calls.{HaveOneForm, IsOther, Disagrees, first_kept, IsUnlisted};
 ghost use Rattle.runs.specs.Calls.{IsOutcomeFault, IsFinished, IsFinishFault};
@@ -195,10 +195,10 @@ fn check_listed<A: Allocator + Copy>(
     outputs: &[(Path<A>, Output<A>)],
 ) -> Result<(), RunsError<A>>
     ensures listed { OnOk result (AllByRecursion (Contains command.now.output_paths)
-        (output_paths (outputs_in outputs.now))) }
+        (paths_of_outputs (outputs_in outputs.now))) }
     ensures valid { OnOk result (HoldValidTrees (outputs_in outputs.now)) }
     ensures refused { IfErr result
-        (IsUnlisted command.now (output_paths (outputs_in outputs.now))) }
+        (IsUnlisted command.now (paths_of_outputs (outputs_in outputs.now))) }
 {
     for output in outputs {
         check_output(&output.1);

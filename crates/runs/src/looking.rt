@@ -10,7 +10,7 @@ ghost use Rattle.runs.specs.Calls.{HaveAllFinished, IsGraftedRoot, IsRootFault};
 ghost use Rattle.runs.specs.Ties.{IsRootOf, TellsConflict, TellsMissing};
 ghost use Rattle.runs.specs.Served.{IsServedYes};
 ghost use Rattle.runs.specs.LooksAt.{LinesNeed, RootNeeds};
-ghost use Rattle.runs.specs.Looking.{Explains, StandsIn, outcomes_in, together_in};
+ghost use Rattle.runs.specs.Looking.{ExplainsRefusal, StandsIn, outcomes_in, together_in};
 
 use crate::engine::{Engine, Finished};
 use crate::error::RunsError;
@@ -59,7 +59,7 @@ impl<'p, A: Allocator + Copy> Engine<'p, A> {
         ensures told { IfOk result
             (IsFoldOfPassed (together_in (S.tells source.new).blobs self.now lines.now)) }
         ensures faulty { IfErr result
-            (Explains (together_in (S.tells source.new).blobs self.now lines.now).fails) }
+            (ExplainsRefusal (together_in (S.tells source.new).blobs self.now lines.now).fails) }
         ensures called { Called (S.tells source.old) (S.tells source.new)
             (IsErrOf result (RunsError.Source TreeError.Fetch)) }
         ensures learned { Learns (LinesNeed (S.tells source.new).blobs self.now lines.now)
@@ -95,7 +95,7 @@ impl<'p, A: Allocator + Copy> Engine<'p, A> {
         requires known { IsKnownOf (known_by memo.old) (S.tells source.old) }
         ensures told { IfOk result (IsFoldOfPassed
             (together_in (S.tells source.new).blobs self.now self.now.plan.root_lines)) }
-        ensures faulty { IfErr result (Explains
+        ensures faulty { IfErr result (ExplainsRefusal
             (together_in (S.tells source.new).blobs self.now self.now.plan.root_lines).fails) }
         ensures called { Called (S.tells source.old) (S.tells source.new)
             (IsErrOf result (RunsError.Source TreeError.Fetch)) }

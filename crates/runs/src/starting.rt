@@ -6,7 +6,7 @@ ghost use Rattle.blob_source.specs.Called.{Called};
 ghost use Rattle.runs.specs.Calls.{IsLeastIn, placed, IsPrepared, IsStarted, IsReady, IsStartFault};
 ghost use Rattle.runs.specs.Ties.{IsStart, TellsConflict, TellsMissing};
 ghost use Rattle.runs.specs.LooksAt.{LinesNeed, StartNeeds};
-ghost use Rattle.runs.specs.Looking.{Explains, StandsIn, together_in};
+ghost use Rattle.runs.specs.Looking.{ExplainsRefusal, StandsIn, together_in};
 
 use crate::engine::{Engine, Running};
 use crate::error::RunsError;
@@ -75,7 +75,7 @@ impl<'p, A: Allocator + Copy> Engine<'p, A> {
         requires known { IsKnownOf (known_by memo.old) (S.tells source.old) }
         ensures prepared { IfOk result (IsPrepared (S.tells source.new).blobs self.now step id) }
         ensures faulty { (s : StepValue) → slice_get self.now.plan.steps step ≡ Some s
-            → IfErr result (Explains
+            → IfErr result (ExplainsRefusal
             (together_in (S.tells source.new).blobs self.now s.lines).fails) }
         ensures called { Called (S.tells source.old) (S.tells source.new)
             (IsErrOf result (RunsError.Source TreeError.Fetch)) }

@@ -12,7 +12,7 @@ use Rattle.messages.specs.declared.error.MessageError.{MessageError}
 use Rattle.messages.specs.declared.error.MessageError.TheVariants.{Memory}
 use Rattle.messages.specs.Gives.{FailsUnlessMemory}
 use Rattle.action_messages.specs.Command.{CommandValue}
-use Rattle.actions.specs.Outcome.{OutputValue, output_paths}
+use Rattle.actions.specs.Outcome.{OutputValue, paths_of_outputs}
 use Rattle.action_messages.specs.Outputs.{RecordedValue, recorded_path, recorded_value, recorded_values}
 use Rattle.actions.specs.Recorded.{StandsFor, StandForAll}
 use Rattle.action_messages.specs.declared.recorded_output.RecordedOutput.{RecordedOutput}
@@ -32,8 +32,8 @@ use Rattle.verifier.specs.declared.verdict.Cause.{Cause}
 use Rattle.verifier.specs.declared.fault.Fault as faults_type
 use Rattle.verifier.specs.Together.{Earlier, Resolves}
 use Rattle.verifier.specs.Answers.{IsDifference}
-use Rattle.verifier.specs.Stage.{Explains, Answers}
-use Rattle.verifier.specs.StepChecks.{IsRefusedOutput, OutputFault, grafted, held}
+use Rattle.verifier.specs.Stage.{ExplainsFault, Answers}
+use Rattle.verifier.specs.StepChecks.{IsRefusedOutput, OutputFault, grafted, result_held}
 use Rattle.verifier.proofs.Explained.{explains_map}
 use Rattle.verifier.proofs.Lines.{origin_still}
 
@@ -49,10 +49,10 @@ resolves_still B C d os (l ∷ ls) xs g h = (h.0, origin_still B C d os l.origin
 
 pub record OutputsGoOn (A : Type 0) (B : Blobs) (c : CommandValue) (xs : List RecordedValue) (es : List (List (List ℕ) × OutputValue)) (rest : List RecordedValue) : Type 0 where
   pub stand : (later : Blobs) → Grows B later → (fs : List (List (List ℕ) × OutputValue)) → StandForAll later rest fs → StandForAll later xs (es ++ fs)
-  pub listed : AllByRecursion (Contains c.output_paths) (output_paths es)
+  pub listed : AllByRecursion (Contains c.output_paths) (paths_of_outputs es)
   pub faults : (later : Blobs) → Grows B later → (cause : Cause A) → OutputFault later c rest cause → OutputFault later c xs cause
 
-list_more : (P : List (List ℕ) → Type 0) (es : List (List (List ℕ) × OutputValue)) (e : List (List ℕ) × OutputValue) → AllByRecursion P (output_paths es) → P e.0 → AllByRecursion P (output_paths (es ++ e ∷ []))
+list_more : (P : List (List ℕ) → Type 0) (es : List (List (List ℕ) × OutputValue)) (e : List (List ℕ) × OutputValue) → AllByRecursion P (paths_of_outputs es) → P e.0 → AllByRecursion P (paths_of_outputs (es ++ e ∷ []))
 list_more P [] e h p = (p, tt)
 list_more P (x ∷ es) e h p = (h.0, list_more P es e h.1 p)
 
@@ -101,7 +101,7 @@ input_looked B act t f input fold is other a h = (
 module _ {A : Type 0} where
   -- why the graft isn't the recorded input
   pub input_explained : {A' : Type 0} (B : Blobs) (a : ActionValue) (t : Tree NodeValue) (f : Folded A') (input : DigestValue) (fault : faults_type.Fault A) → IsFoldOf t f → input ≡ a.input → f.root ≢ input
-      → Explains (IsDifference (made_by f) B f.root input) fault → Explains (grafted {A = A} B a t).fails fault
+      → ExplainsFault (IsDifference (made_by f) B f.root input) fault → ExplainsFault (grafted {A = A} B a t).fails fault
   input_explained B a t f input fault fold is other h = explains_map (IsDifference (made_by f) B f.root input) (grafted {A = A} B a t).fails fault
       (λ cause k. (
         (λ same. other (fold.root ∙ same ∙ sym is)),
@@ -116,6 +116,6 @@ not_read {X} e x other h = elim e as (λ d. (d ≡ Memory → ⊥) → FailsUnle
 
 -- the result under a digest, or why the bytes there are none
 pub held_answer : {A : Type 0} (C : Blobs) (d : DigestValue) (bytes : List ℕ) (r : Result ActionResultValue (faults_type.Fault A)) → C d ≡ Some bytes → IfOk r (λ x. Reads x bytes)
-    → IfErr r (Explains (λ c. ((x : ActionResultValue) → Reads x bytes → ⊥) × (c ≡ ResultMalformed))) → Answers (held {A = A} C d) r
+    → IfErr r (ExplainsFault (λ c. ((x : ActionResultValue) → Reads x bytes → ⊥) × (c ≡ ResultMalformed))) → Answers (result_held {A = A} C d) r
 held_answer C d bytes (Ok x) e h k = (bytes, e, h)
-held_answer {A} C d bytes (Err f) e h k = explains_map (λ c. ((x : ActionResultValue) → Reads x bytes → ⊥) × (c ≡ ResultMalformed)) (held {A = A} C d).fails f (λ c q. inr (bytes, e, q.0, q.1)) k
+held_answer {A} C d bytes (Err f) e h k = explains_map (λ c. ((x : ActionResultValue) → Reads x bytes → ⊥) × (c ≡ ResultMalformed)) (result_held {A = A} C d).fails f (λ c q. inr (bytes, e, q.0, q.1)) k

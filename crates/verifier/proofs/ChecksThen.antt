@@ -30,8 +30,8 @@ use Rattle.verifier.specs.declared.verdict.Place.{Place}
 use Rattle.verifier.specs.Answers.{IsStopped}
 use Rattle.verifier.specs.Checks.{Checks}
 use Rattle.verifier.specs.declared.verifying.Checked.{Checked}
-use Rattle.verifier.specs.Stage.{Explains, Answers}
-use Rattle.verifier.specs.StepChecks.{message, together, grafted, held, read, step_check}
+use Rattle.verifier.specs.Stage.{ExplainsFault, Answers}
+use Rattle.verifier.specs.StepChecks.{message, together, grafted, result_held, read, step_check}
 use Rattle.verifier.specs.Together.{Earlier, put_together, TogetherLooksAt}
 use Rattle.verifier.specs.LooksAt.{InputLooksAt, ResultLooksAt, StepLooksAt, StepsLookAt}
 use Rattle.verifier.specs.Verdict.{located, steps_check}
@@ -63,7 +63,7 @@ module _ {A : Type 0} where
   pub stable_grafted : (a : ActionValue) (made : Tree NodeValue) → IsStable (λ t. grafted {A = A} t.blobs a made)
   stable_grafted a made = record { still = λ old new g k v h. h }
 
-  pub stable_held : {d : DigestValue} → IsStable (λ t. held {A = A} t.results d)
+  pub stable_held : {d : DigestValue} → IsStable (λ t. result_held {A = A} t.results d)
   stable_held {d} = record { still = λ old new g k v h. (h.0, k d h.0 h.1, h.2) }
 
   stable_read : (m : CommandValue) (r : ActionResultValue) → IsStable (λ t. read {A = A} t.blobs m r)
@@ -173,7 +173,7 @@ module _ {A V W : Type 0} where
 
   -- the first check failed, and a `?` hands its answer out
   pub checks_exit : {T : Type 0} (first : Telling → Stage (Cause A) V) (next : Telling → V → Stage (Cause A) W) (here : Telling → Asked → Type 0) (further : Telling → V → Asked → Type 0) {k0 k1 : Known} {old new : Telling} {f : Fault A}
-      {r : Result W (Fault A)} {refused : Type 0} → IsErrAnd r (λ e. e ≡ f) → Explains (first new).fails f → Called old new (IsErrOf {T = T} (Err f) faults.Fetch) → Learns (here new) refused k0 k1 old new
+      {r : Result W (Fault A)} {refused : Type 0} → IsErrAnd r (λ e. e ≡ f) → ExplainsFault (first new).fails f → Called old new (IsErrOf {T = T} (Err f) faults.Fetch) → Learns (here new) refused k0 k1 old new
       → Checks (λ t. first t and_then next t) (λ t. looks (first t) (here t) (further t)) k0 k1 old new r
   checks_exit first next here further {old = old} {new = new} {f = f} {r = r} exit h k l = record {
     checked = fails_here (first new) (next new) f r exit h;

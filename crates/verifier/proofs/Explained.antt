@@ -23,35 +23,35 @@ use Rattle.verifier.specs.declared.fault.Fault.{Fault}
 use Rattle.verifier.specs.declared.fault.Fault.TheVariants as faults
 use Rattle.verifier.specs.Together.{Earlier, IsThere, AreThere, LooksUpOrigin, StandsAtOrigin, LinesFault, no_origin, in_conflict, not_read, of_merge, IsFaultOfLook, LineFault, ExplainsLines}
 use Rattle.verifier.specs.Answers.{IsFaultOf, IsDifference}
-use Rattle.verifier.specs.Stage.{Explains}
-use Rattle.verifier.specs.Faults.{cause_of, cause_of_lines}
+use Rattle.verifier.specs.Stage.{ExplainsFault}
+use Rattle.verifier.specs.Faults.{cause_of_fault, cause_of_lines}
 
 module _ {A : Type 0} where
-  pub explains_map : (P Q : Cause A → Type 0) (f : Fault A) → ((c : Cause A) → P c → Q c) → Explains P f → Explains Q f
+  pub explains_map : (P Q : Cause A → Type 0) (f : Fault A) → ((c : Cause A) → P c → Q c) → ExplainsFault P f → ExplainsFault Q f
   explains_map P Q (faults.Cause c) by h = by c h
   explains_map P Q faults.Fetch by h = tt
   explains_map P Q faults.Memory by h = tt
 
   -- the fault of a blob
-  pub blob_explained : (P : told.Fault → Type 0) (error : TreeError A) (f : Fault A) → errors.Explains P error → IsFaultOf error f → Explains (λ c. (t : told.Fault) × P t × (c ≡ cause_of t)) f
+  pub blob_explained : (P : told.Fault → Type 0) (error : TreeError A) (f : Fault A) → errors.Explains P error → IsFaultOf error f → ExplainsFault (λ c. (t : told.Fault) × P t × (c ≡ cause_of_fault t)) f
   blob_explained P (tree.Absent q) f h is = elim h [ ]
-  blob_explained P (tree.BlobMissing d) f h is = subst (Explains (λ c. (t : told.Fault) × P t × (c ≡ cause_of t))) (sym is) (missing d, h, refl)
-  blob_explained P (tree.BlobWrong d) f h is = subst (Explains (λ c. (t : told.Fault) × P t × (c ≡ cause_of t))) (sym is) (wrong d, h, refl)
-  blob_explained P (tree.BlobMalformed d) f h is = subst (Explains (λ c. (t : told.Fault) × P t × (c ≡ cause_of t))) (sym is) (malformed d, h, refl)
+  blob_explained P (tree.BlobMissing d) f h is = subst (ExplainsFault (λ c. (t : told.Fault) × P t × (c ≡ cause_of_fault t))) (sym is) (missing d, h, refl)
+  blob_explained P (tree.BlobWrong d) f h is = subst (ExplainsFault (λ c. (t : told.Fault) × P t × (c ≡ cause_of_fault t))) (sym is) (wrong d, h, refl)
+  blob_explained P (tree.BlobMalformed d) f h is = subst (ExplainsFault (λ c. (t : told.Fault) × P t × (c ≡ cause_of_fault t))) (sym is) (malformed d, h, refl)
   blob_explained P (tree.TooDeep q) f h is = elim h [ ]
   blob_explained P (tree.Conflict q) f h is = elim h [ ]
-  blob_explained P tree.Fetch f h is = subst (Explains (λ c. (t : told.Fault) × P t × (c ≡ cause_of t))) (sym is) tt
-  blob_explained P tree.Memory f h is = subst (Explains (λ c. (t : told.Fault) × P t × (c ≡ cause_of t))) (sym is) tt
+  blob_explained P tree.Fetch f h is = subst (ExplainsFault (λ c. (t : told.Fault) × P t × (c ≡ cause_of_fault t))) (sym is) tt
+  blob_explained P tree.Memory f h is = subst (ExplainsFault (λ c. (t : told.Fault) × P t × (c ≡ cause_of_fault t))) (sym is) tt
 
-  pub difference_explained : (own : List (List ℕ)) (B : Blobs) (g r : DigestValue) (error : TreeError A) (f : Fault A) → ExplainsDifference (FindsFirst own B g r) error → IsFaultOf error f → Explains (IsDifference own B g r) f
+  pub difference_explained : (own : List (List ℕ)) (B : Blobs) (g r : DigestValue) (error : TreeError A) (f : Fault A) → ExplainsDifference (FindsFirst own B g r) error → IsFaultOf error f → ExplainsFault (IsDifference own B g r) f
   difference_explained own B g r (tree.Absent q) f h is = elim h [ ]
-  difference_explained own B g r (tree.BlobMissing d) f h is = subst (Explains (IsDifference own B g r)) (sym is) (unread (missing d), h, refl)
-  difference_explained own B g r (tree.BlobWrong d) f h is = subst (Explains (IsDifference own B g r)) (sym is) (unread (wrong d), h, refl)
-  difference_explained own B g r (tree.BlobMalformed d) f h is = subst (Explains (IsDifference own B g r)) (sym is) (unread (malformed d), h, refl)
+  difference_explained own B g r (tree.BlobMissing d) f h is = subst (ExplainsFault (IsDifference own B g r)) (sym is) (unread (missing d), h, refl)
+  difference_explained own B g r (tree.BlobWrong d) f h is = subst (ExplainsFault (IsDifference own B g r)) (sym is) (unread (wrong d), h, refl)
+  difference_explained own B g r (tree.BlobMalformed d) f h is = subst (ExplainsFault (IsDifference own B g r)) (sym is) (unread (malformed d), h, refl)
   difference_explained own B g r (tree.TooDeep q) f h is = elim h [ ]
   difference_explained own B g r (tree.Conflict q) f h is = elim h [ ]
-  difference_explained own B g r tree.Fetch f h is = subst (Explains (IsDifference own B g r)) (sym is) tt
-  difference_explained own B g r tree.Memory f h is = subst (Explains (IsDifference own B g r)) (sym is) tt
+  difference_explained own B g r tree.Fetch f h is = subst (ExplainsFault (IsDifference own B g r)) (sym is) tt
+  difference_explained own B g r tree.Memory f h is = subst (ExplainsFault (IsDifference own B g r)) (sym is) tt
 
   -- it is the failure of the source exactly where the error is
   pub fault_fetches : (error : TreeError A) (f : Fault A) → IsFaultOf error f → f ≡ faults.Fetch → error ≡ tree.Fetch
@@ -75,11 +75,11 @@ module _ {A : Type 0} where
   fetch_faults tree.Memory f is e = absurd cc
 
   -- the fault of lines that weren't put together
-  pub lines_explained : (Fails : LinesFault → Type 0) (error : TreeError A) (f : Fault A) → ExplainsLines Fails error → IsFaultOf error f → Explains (λ c. (why : LinesFault) × Fails why × (c ≡ cause_of_lines why)) f
+  pub lines_explained : (Fails : LinesFault → Type 0) (error : TreeError A) (f : Fault A) → ExplainsLines Fails error → IsFaultOf error f → ExplainsFault (λ c. (why : LinesFault) × Fails why × (c ≡ cause_of_lines why)) f
   lines_explained Fails error f h is = by error h is
     where
       P : Fault A → Type 0
-      P = Explains (λ c. (why : LinesFault) × Fails why × (c ≡ cause_of_lines why))
+      P = ExplainsFault (λ c. (why : LinesFault) × Fails why × (c ≡ cause_of_lines why))
 
       stands : (why : LinesFault) → Fails why → f ≡ faults.Cause (cause_of_lines why) → P f
       stands why fails is = subst P (sym is) (why, fails, refl)

@@ -24,8 +24,8 @@ use Rattle.tree.proofs.MergeStages.{once_merged_in}
 use Rattle.tree.proofs.StageLaws.{IsOnce, once_then, once_demands}
 use Rattle.verifier.specs.declared.verdict.Cause.{Cause}
 use Rattle.verifier.specs.AsRecorded.{IsAsRecorded}
-use Rattle.verifier.specs.Faults.{cause_of, cause_of_lines}
-use Rattle.verifier.specs.StepChecks.{difference_cause, OutputFault, message, together, grafted, held, read, step_check}
+use Rattle.verifier.specs.Faults.{cause_of_fault, cause_of_lines}
+use Rattle.verifier.specs.StepChecks.{difference_cause, OutputFault, message, together, grafted, result_held, read, step_check}
 use Rattle.verifier.specs.Verdict.{root_check}
 use Rattle.verifier.proofs.StepsOnce.{IsSpelledOnce, told_once, output_fault_is_one, fault_or_all, bytes_are, none_some}
 use Rattle.verifier.specs.Together.{Earlier, of_merge, resolved, put_together}
@@ -52,7 +52,7 @@ module _ {A : Type 0} where
   once_message : {M : Type 0} (keeps : M → Type 0) (spells : M → List ℕ) → IsSpelledOnce keeps spells → (B : Blobs) (d : DigestValue) → IsOnce (message {A = A} keeps spells B d)
   once_message keeps spells one B d = record {
     value = told_once keeps spells one B d;
-    why = λ c e p q. p.2 ∙ ap cause_of (fault_once keeps spells B d p.0 q.0 p.1 q.1) ∙ sym q.2;
+    why = λ c e p q. p.2 ∙ ap cause_of_fault (fault_once keeps spells B d p.0 q.0 p.1 q.1) ∙ sym q.2;
     either = λ m c p q. told_or_fault keeps spells B d m q.0 p q.1;
   }
 
@@ -66,17 +66,17 @@ module _ {A : Type 0} where
     either = λ v c p q. q.0 p;
   }
 
-  held_cause : (C : Blobs) (d : DigestValue) (c e : Cause A) → (held {A = A} C d).fails c → (held {A = A} C d).fails e → c ≡ e
+  held_cause : (C : Blobs) (d : DigestValue) (c e : Cause A) → (result_held {A = A} C d).fails c → (result_held {A = A} C d).fails e → c ≡ e
   held_cause C d c e (inl p) (inl q) = p.1 ∙ sym q.1
   held_cause C d c e (inl p) (inr q) = absurd (none_some q.0 (sym p.0 ∙ q.1))
   held_cause C d c e (inr p) (inl q) = absurd (none_some p.0 (sym q.0 ∙ p.1))
   held_cause C d c e (inr p) (inr q) = p.3 ∙ sym q.3
 
-  held_either : (C : Blobs) (d : DigestValue) (r : ActionResultValue) (c : Cause A) → (held {A = A} C d).passes r → (held {A = A} C d).fails c → ⊥
+  held_either : (C : Blobs) (d : DigestValue) (r : ActionResultValue) (c : Cause A) → (result_held {A = A} C d).passes r → (result_held {A = A} C d).fails c → ⊥
   held_either C d r c p (inl q) = none_some p.0 (sym q.0 ∙ p.1)
   held_either C d r c p (inr q) = q.2 r (subst (Reads r) (bytes_are p.0 q.0 (sym p.1 ∙ q.1)) p.2)
 
-  once_held : (C : Blobs) (d : DigestValue) → IsOnce (held {A = A} C d)
+  once_held : (C : Blobs) (d : DigestValue) → IsOnce (result_held {A = A} C d)
   once_held C d = record {
     value = λ r s p q. reads_once r s q.0 (subst (Reads r) (bytes_are p.0 q.0 (sym p.1 ∙ q.1)) p.2) q.2;
     why = held_cause C d;

@@ -3,14 +3,14 @@ use Rattle.std.proofs.Common.{◌≡◌, ℕ, List, [], ◌∷◌, Option, Some,
 use Rattle.std.specs.List.{AllByRecursion, Contains}
 use Rattle.blob_digest.specs.Digest.{DigestValue}
 use Rattle.action_messages.specs.Command.{CommandValue}
-use Rattle.actions.specs.Outcome.{OutputValue, output_paths}
+use Rattle.actions.specs.Outcome.{OutputValue, paths_of_outputs}
 use Rattle.action_messages.specs.Outputs.{RecordedValue, recorded_path}
 use Rattle.actions.specs.Recorded.{StandsFor, StandForAll}
 use Rattle.actions.proofs.Once.{output_fault_once, stands_or_fault}
 use Rattle.blob_source.specs.Source.{Blobs, IsUnder}
 use Rattle.blob_source.specs.Told.{IsTold}
 use Rattle.verifier.specs.declared.verdict.Cause.{Cause}
-use Rattle.verifier.specs.Faults.{cause_of}
+use Rattle.verifier.specs.Faults.{cause_of_fault}
 use Rattle.verifier.specs.StepChecks.{IsRefusedOutput, OutputFault}
 
 -- ---- one message is told
@@ -42,7 +42,7 @@ module _ {A : Type 0} (B : Blobs) (c : CommandValue) where
   refused_once x e f (inl h) (inl k) = h.1 ∙ sym k.1
   refused_once x e f (inl h) (inr k) = absurd (h.0 k.0)
   refused_once x e f (inr h) (inl k) = absurd (k.0 h.0)
-  refused_once x e f (inr h) (inr k) = h.3 ∙ ap cause_of (output_fault_once B x h.1 k.1 h.2 k.2) ∙ sym k.3
+  refused_once x e f (inr h) (inr k) = h.3 ∙ ap cause_of_fault (output_fault_once B x h.1 k.1 h.2 k.2) ∙ sym k.3
 
   refused_or_stands : (x : RecordedValue) (e : Cause A) (y : OutputValue) → IsRefusedOutput B c x e → Contains c.output_paths (recorded_path x) → StandsFor B x y → ⊥
   refused_or_stands x e y (inl h) listed k = h.0 listed
@@ -55,7 +55,7 @@ module _ {A : Type 0} (B : Blobs) (c : CommandValue) where
   output_fault_is_one (x ∷ xs) e f (inr h) (inl k) = absurd (refused_or_stands x f h.1 k h.0 h.2)
   output_fault_is_one (x ∷ xs) e f (inr h) (inr k) = output_fault_is_one xs e f h.3 k.3
 
-  pub fault_or_all : (xs : List RecordedValue) (os : List (List (List ℕ) × OutputValue)) (e : Cause A) → OutputFault B c xs e → StandForAll B xs os → AllByRecursion (Contains c.output_paths) (output_paths os) → ⊥
+  pub fault_or_all : (xs : List RecordedValue) (os : List (List (List ℕ) × OutputValue)) (e : Cause A) → OutputFault B c xs e → StandForAll B xs os → AllByRecursion (Contains c.output_paths) (paths_of_outputs os) → ⊥
   fault_or_all [] os e h k listed = h
   fault_or_all (x ∷ xs) [] e h k listed = k
   fault_or_all (x ∷ xs) (o ∷ os) e (inl h) k listed = refused_or_stands x e o.1 h (subst (Contains c.output_paths) k.0 listed.0) k.1

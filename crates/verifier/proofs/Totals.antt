@@ -13,7 +13,7 @@ use Rattle.messages.specs.Tree.{TreeValue, IsTree, tree_bytes, digests_of, child
 use Rattle.action_messages.specs.ActionResult.{ActionResultValue, IsActionResult}
 use Rattle.action_messages.specs.Command.{CommandValue}
 use Rattle.actions.specs.declared.outcome.Output.TheVariants.{File, Link, Tree}
-use Rattle.actions.specs.Outcome.{OutputValue, OutcomeValue, IsOutcome, output_node, tree_node, output_paths}
+use Rattle.actions.specs.Outcome.{OutputValue, OutcomeValue, IsOutcome, output_node, tree_node, paths_of_outputs}
 use Rattle.actions.specs.OutcomeLookup.{IsFirstChild, NoFault, LooksInTree, LooksBelow, StandsOver, LooksIn, within_output, LiesWithin}
 use Rattle.action_messages.specs.OutputFile.{OutputFileValue}
 use Rattle.action_messages.specs.OutputDirectory.{OutputDirectoryValue}
@@ -35,8 +35,8 @@ use Rattle.tree.proofs.Totals.{told_or_faulty, looks_on, looks_total}
 use Rattle.verifier.specs.declared.verdict.Cause.{Cause}
 use Rattle.verifier.specs.declared.verdict.Cause.TheVariants.{ResultMissing, ResultMalformed, OutputUnlisted}
 use Rattle.verifier.specs.Together.{LooksUpOrigin, OriginWithin, Resolves, LinesFault, no_origin, not_read, origin_path, FirstFault, resolved}
-use Rattle.verifier.specs.Faults.{cause_of}
-use Rattle.verifier.specs.StepChecks.{OutputFault, message, held, read}
+use Rattle.verifier.specs.Faults.{cause_of_fault}
+use Rattle.verifier.specs.StepChecks.{OutputFault, message, result_held, read}
 use Rattle.tree.proofs.StageLaws.{IsTotal}
 
 -- ---- look-ups in outcomes
@@ -147,12 +147,12 @@ module _ (B : Blobs) (sources : DigestValue) (os : List OutcomeValue) (valid : A
 
 module _ {A : Type 0} where
   pub total_message : {M : Type 0} (keeps : M → Type 0) (spells : M → List ℕ) (B : Blobs) (d : DigestValue) → IsTotal (message {A = A} keeps spells B d)
-  total_message keeps spells B d = record { ends = λ passes fails. told_or_faulty keeps spells B d passes (λ f h. fails (cause_of f) (f, h, refl)) }
+  total_message keeps spells B d = record { ends = λ passes fails. told_or_faulty keeps spells B d passes (λ f h. fails (cause_of_fault f) (f, h, refl)) }
 
-  pub total_held : (C : Blobs) (d : DigestValue) → IsTotal (held {A = A} C d)
+  pub total_held : (C : Blobs) (d : DigestValue) → IsTotal (result_held {A = A} C d)
   total_held C d = record { ends = λ passes fails. by passes fails (C d) refl }
     where
-      by : ((r : ActionResultValue) → (held {A = A} C d).passes r → ⊥) → ((c : Cause A) → (held {A = A} C d).fails c → ⊥) → (o : Option (List ℕ)) → C d ≡ o → ⊥
+      by : ((r : ActionResultValue) → (result_held {A = A} C d).passes r → ⊥) → ((c : Cause A) → (result_held {A = A} C d).fails c → ⊥) → (o : Option (List ℕ)) → C d ≡ o → ⊥
       by passes fails None e = fails ResultMissing (inl (e, refl))
       by passes fails (Some bytes) e = fails ResultMalformed (inr (bytes, e, (λ r reads. passes r (bytes, e, reads)), refl))
 
@@ -184,13 +184,13 @@ stands_or_faulty B (link l) stands fails = stands (Link l.target) refl
 stands_or_faulty B (directory d) stands fails = told_or_faulty IsTree tree_bytes B d.tree (λ t told. stands (Tree t) (t, told, refl)) fails
 
 module _ {A : Type 0} (B : Blobs) (m : CommandValue) where
-  outputs_total : (xs : List RecordedValue) → ((es : List (List Name × OutputValue)) → StandForAll B xs es → AllByRecursion (Contains m.output_paths) (output_paths es) → ⊥) → ((c : Cause A) → OutputFault B m xs c → ⊥) → ⊥
+  outputs_total : (xs : List RecordedValue) → ((es : List (List Name × OutputValue)) → StandForAll B xs es → AllByRecursion (Contains m.output_paths) (paths_of_outputs es) → ⊥) → ((c : Cause A) → OutputFault B m xs c → ⊥) → ⊥
   outputs_total [] passes fails = passes [] refl tt
   outputs_total (x ∷ xs) passes fails =
       fails (OutputUnlisted (recorded_path x)) (inl (inl (
         (λ listed. stands_or_faulty B x
             (λ v stands. outputs_total xs (λ es all rest. passes ((recorded_path x, v) ∷ es) (refl, stands, all) (listed, rest)) (λ c q. fails c (inr (listed, v, stands, q))))
-            (λ f h. fails (cause_of f) (inl (inr (listed, f, h, refl))))),
+            (λ f h. fails (cause_of_fault f) (inl (inr (listed, f, h, refl))))),
         refl,
       )))
 

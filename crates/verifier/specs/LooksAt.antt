@@ -17,8 +17,8 @@ use Rattle.tree.specs.MergeLooks.{looks}
 use Rattle.tree.specs.LooksAt.{Compares}
 use Rattle.tree.specs.Memo.{Asked, LooksAtBlob, LooksAtResult}
 use Rattle.blob_source.specs.Source.{Blobs, Telling}
-use Rattle.verifier.specs.StepChecks.{message, cached, framed, together, grafted, held, succeeded}
-use Rattle.verifier.specs.StepChecks.{step_check}
+use Rattle.verifier.specs.StepChecks.{message, cached, framed, together, grafted, result_held}
+use Rattle.verifier.specs.StepChecks.{succeeded, step_check}
 use Rattle.verifier.specs.Together.{TogetherLooksAt}
 use Rattle.verifier.specs.Verdict.{steps_check}
 
@@ -59,7 +59,7 @@ StepLooksAt A tells sources outcomes step d =
     looks (together {A = A} tells.blobs sources outcomes step.lines)
     (TogetherLooksAt tells.blobs sources (slice_get outcomes) step.lines) λ t.
     looks (grafted {A = A} tells.blobs action t) (InputLooksAt tells.blobs action t) λ _.
-    looks (held {A = A} tells.results d) (LooksAtResult d) λ result.
+    looks (result_held {A = A} tells.results d) (LooksAtResult d) λ result.
     looks (succeeded {A = A} result) LooksAtNothing λ _.
     ResultLooksAt tells.blobs command result
 

@@ -13,12 +13,12 @@ named {E} name check = record {
 }
 
 -- a cause that holds so, unless the source failed or memory ran out
-abbrev pub Explains : {A : Type 0} → (Cause A → Type 0) → Fault A → Type 0
-Explains P (faults.Cause c) = P c
-Explains P faults.Fetch = Unit {0}
-Explains P faults.Memory = Unit {0}
+abbrev pub ExplainsFault : {A : Type 0} → (Cause A → Type 0) → Fault A → Type 0
+ExplainsFault P (faults.Cause c) = P c
+ExplainsFault P faults.Fetch = Unit {0}
+ExplainsFault P faults.Memory = Unit {0}
 
 -- an answer is what a check comes to, unless the source failed or memory ran out
 abbrev pub Answers : {A V : Type 0} → Stage (Cause A) V → Result V (Fault A) → Type 0
 Answers check (Ok v) = check.passes v
-Answers check (Err fault) = Explains check.fails fault
+Answers check (Err fault) = ExplainsFault check.fails fault

@@ -7,7 +7,7 @@ use Rattle.action_messages.specs.Action.{ActionValue, IsAction, action_bytes}
 use Rattle.action_messages.specs.ActionResult.{ActionResultValue}
 use Rattle.action_messages.specs.Command.{CommandValue, IsCommand, command_bytes}
 use Rattle.action_messages.specs.Frame.{frame_bytes}
-use Rattle.actions.specs.Outcome.{OutcomeValue, OutputValue, output_paths}
+use Rattle.actions.specs.Outcome.{OutcomeValue, OutputValue, paths_of_outputs}
 use Rattle.action_messages.specs.Reads.{Reads}
 use Rattle.action_messages.specs.Outputs.{RecordedValue, recorded_path, AreOutputs}
 use Rattle.actions.specs.Recorded.{StandsFor, IsOutputFault, IsRecorded}
@@ -25,7 +25,7 @@ use Rattle.verifier.specs.declared.verdict.Cause.TheVariants.{InputUnexplained, 
 use Rattle.verifier.specs.declared.verdict.Cause.TheVariants.{InputDiffers, ResultMissing}
 use Rattle.verifier.specs.declared.verdict.Cause.TheVariants.{ResultMalformed, ExitCode}
 use Rattle.verifier.specs.declared.verdict.Cause.TheVariants.{OutputUnlisted}
-use Rattle.verifier.specs.Faults.{cause_of, cause_of_lines}
+use Rattle.verifier.specs.Faults.{cause_of_fault, cause_of_lines}
 use Rattle.verifier.specs.Holding.{HoldsResult}
 use Rattle.verifier.specs.Stage.{named}
 use Rattle.verifier.specs.Together.{put_together}
@@ -37,7 +37,7 @@ abbrev pub message : {A M : Type 0} → (M → Type 0) → (M → List ℕ) → 
     → Stage (Cause A) M
 message keeps spells B d = record {
   passes = IsTold keeps spells B d;
-  fails = λ cause. (f : Fault) × IsFault keeps spells B d f × (cause ≡ cause_of f);
+  fails = λ cause. (f : Fault) × IsFault keeps spells B d f × (cause ≡ cause_of_fault f);
 }
 
 -- the action may be cached
@@ -59,7 +59,7 @@ abbrev pub difference_cause : {A : Type 0} → Differing → Cause A
 difference_cause (unexplained path) = InputUnexplained path
 difference_cause (absent path) = InputAbsent path
 difference_cause (differs path) = InputDiffers path
-difference_cause (unread f) = cause_of f
+difference_cause (unread f) = cause_of_fault f
 
 -- the tree is the recorded input
 abbrev pub grafted : {A : Type 0} → Blobs → ActionValue → Tree NodeValue
@@ -73,8 +73,8 @@ grafted B action t = record {
 }
 
 -- a result is held under the action's digest
-abbrev pub held : {A : Type 0} → Blobs → DigestValue → Stage (Cause A) ActionResultValue
-held C d = record {
+abbrev pub result_held : {A : Type 0} → Blobs → DigestValue → Stage (Cause A) ActionResultValue
+result_held C d = record {
   passes = HoldsResult C d;
   fails = λ cause.
       ((C d ≡ None) × (cause ≡ ResultMissing))
@@ -91,7 +91,7 @@ abbrev pub IsRefusedOutput : {A : Type 0} → Blobs → CommandValue → Recorde
 IsRefusedOutput B c x cause =
     ((Contains c.output_paths (recorded_path x) → ⊥) × (cause ≡ OutputUnlisted (recorded_path x)))
     ⊎ (Contains c.output_paths (recorded_path x)
-    × (f : Fault) × IsOutputFault B x f × (cause ≡ cause_of f))
+    × (f : Fault) × IsOutputFault B x f × (cause ≡ cause_of_fault f))
 
 -- why the first of the outputs that is refused is so
 abbrev pub OutputFault : {A : Type 0} → Blobs → CommandValue → List RecordedValue → Cause A → Type 0
@@ -103,7 +103,7 @@ OutputFault B c (x ∷ xs) cause =
 
 -- each output is one that the command lists
 abbrev pub AreListed : CommandValue → OutcomeValue → Type 0
-AreListed c o = AllByRecursion (Contains c.output_paths) (output_paths o.outputs)
+AreListed c o = AllByRecursion (Contains c.output_paths) (paths_of_outputs o.outputs)
 
 -- each output, by path, is one that the command lists, and its Tree is told
 abbrev pub read : {A : Type 0} → Blobs → CommandValue → ActionResultValue
@@ -127,6 +127,6 @@ step_check tells sources outcomes step d =
     framed action step.frame and_then λ _.
     together tells.blobs sources outcomes step.lines and_then λ t.
     grafted tells.blobs action t and_then λ _.
-    held tells.results d and_then λ result.
+    result_held tells.results d and_then λ result.
     succeeded result and_then λ _.
     read tells.blobs command result

@@ -12,7 +12,6 @@ use Rattle.action_messages.specs.Action.{with_input, action_bytes}
 use Rattle.action_messages.specs.ActionResult.{ActionResultValue, action_result_bytes}
 use Rattle.action_messages.specs.Command.{CommandValue, command_bytes}
 use Rattle.action_messages.specs.Frame.{FrameValue}
-use Rattle.action_messages.specs.Stream.{StreamValue}
 use Rattle.plan.specs.declared.version.Version.TheVariants.{One, Two}
 use Rattle.plan.specs.Values.{output, PlanValue}
 use Rattle.tree.specs.Tree.{Tree, empty, leaf, folder, Leaf, file, single, whole}
@@ -21,6 +20,7 @@ use Rattle.blob_source.specs.Source.{Blobs, Telling}
 use Rattle.verifier.specs.Build.{Meaning, ActionMeaning, Outcome, Event, start, finish, lose, State}
 use Rattle.verifier.specs.BuildStages.{BuildStage}
 use Rattle.verifier.specs.Headline.{PlanRun}
+use Rattle.verifier.specs.Holding.{no_stream}
 
 -- ---- digests, by their texts
 
@@ -151,9 +151,6 @@ recorded = gen_action_digest ∷ use_action_digest ∷ []
 
 abbrev pub gen_tree : TreeValue
 gen_tree = record { root = directory_of (form made); children = [] }
-
-abbrev pub no_stream : StreamValue
-no_stream = record { raw = []; digest = None }
 
 abbrev pub gen_result : ActionResultValue
 gen_result = record {

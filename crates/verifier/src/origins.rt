@@ -8,7 +8,7 @@ ghost use Rattle.tree.specs.Form.{node_value};
 ghost use Rattle.tree.specs.Merging.{AreHeld, IsHeldIn, merge_lines, node_within, within_value};
 ghost use Rattle.blob_source.specs.Called.{Called};
 ghost use Rattle.tree.specs.Memo.{IsKnownOf, WasRefused, Learns, known_by};
-ghost use Rattle.verifier.specs.Stage.{Explains};
+ghost use Rattle.verifier.specs.Stage.{ExplainsFault};
 ghost use Rattle.verifier.specs.StepChecks.{together};
 ghost use Rattle.verifier.specs.Together.{AreThere, Earlier, ExplainsLines, FirstFault, IsThere};
 ghost use Rattle.verifier.specs.Together.{LineFault, LinesLookAt, OriginLooksAt};
@@ -154,7 +154,7 @@ pub(crate) fn together<A: Allocator + Copy, S: BlobSource<A>>(
     requires known { IsKnownOf (known_by memo.old) (S.tells source.old) }
     ensures told { IfOk result (IsFoldOfPassed (put_together (S.tells source.new).blobs sources.now
         (slice_get outcomes.now) lines.now)) }
-    ensures faulty { IfErr result (Explains (together (S.tells source.new).blobs sources.now
+    ensures faulty { IfErr result (ExplainsFault (together (S.tells source.new).blobs sources.now
         outcomes.now lines.now).fails) }
     ensures called { Called (S.tells source.old) (S.tells source.new) (IsErrOf result Fault.Fetch) }
     ensures learned { Learns (TogetherLooksAt (S.tells source.new).blobs sources.now

@@ -2,7 +2,7 @@ ghost use Rattle.std.specs.Prelude.{◌≡◌, ◌≢◌, IfOk, IfErr, IsErrOf, 
 ghost use Rattle.action_messages.specs.ActionResult.{ActionResultValue};
 ghost use Rattle.action_messages.specs.Reads.{Reads};
 ghost use Rattle.std.specs.List.{AllByRecursion, Contains};
-ghost use Rattle.actions.specs.Outcome.{output_value, outputs_in, output_paths};
+ghost use Rattle.actions.specs.Outcome.{output_value, outputs_in, paths_of_outputs};
 ghost use Rattle.action_messages.specs.Outputs.{recorded_value, recorded_values, recorded_path};
 ghost use Rattle.actions.specs.Recorded.{StandsFor, StandForAll};
 ghost use Rattle.plan.specs.Values.{IsLine};
@@ -18,10 +18,10 @@ ghost use Rattle.tree.specs.LooksAt.{Compares};
 ghost use Rattle.verifier.specs.Checks.{Checks};
 ghost use Rattle.verifier.specs.LooksAt.{InputLooksAt, OutputsLookAt, ResultLooksAt, StepLooksAt};
 ghost use Rattle.actions.specs.LooksAt.{OutputLooksAt};
-ghost use Rattle.verifier.specs.Stage.{Explains, Answers};
+ghost use Rattle.verifier.specs.Stage.{ExplainsFault, Answers};
 ghost use Rattle.verifier.specs.declared.verdict.Cause.TheVariants as causes;
 ghost use Rattle.verifier.specs.StepChecks.{IsRefusedOutput, OutputFault, cached, framed, grafted};
-ghost use Rattle.verifier.specs.StepChecks.{held, succeeded, read, step_check};
+ghost use Rattle.verifier.specs.StepChecks.{result_held, succeeded, read, step_check};
 
 use crate::fault::{Fault, fault_of};
 use crate::origins::together;
@@ -66,6 +66,7 @@ pub(crate) fn check_step<A: Allocator + Copy, S: BlobSource<A>>(
 fn check_cached<A: Allocator>(action: &Action<A>) -> Result<(), Fault<A>>
     ensures checked { Answers (cached action.now) result }
     ensures fetch { IsErrOf result Fault.Fetch → ⊥ }
+    ensures memory { IsErrOf result Fault.Memory → ⊥ }
 {
     if action.do_not_cache() {
         return Err(Fault::Cause(Cause::DoNotCache));
@@ -122,8 +123,8 @@ fn explain_difference<A: Allocator + Copy, S: BlobSource<A>>(
     requires valid { IsFoldOfValid grafted.now }
     requires known { IsKnownOf (known_by memo.old) (S.tells source.old) }
     requires other { input.now ≢ grafted.now.root }
-    ensures explained { Explains (IsDifference (made_by grafted.now) (S.tells source.new).blobs
-        grafted.now.root input.now) result }
+    ensures explained { ExplainsFault (IsDifference (made_by grafted.now)
+        (S.tells source.new).blobs grafted.now.root input.now) result }
     ensures called { Called (S.tells source.old) (S.tells source.new) (result ≡ Fault.Fetch) }
     ensures learned { Learns (Compares (made_by grafted.now) (S.tells source.new).blobs 64
         grafted.now.root input.now) (Unit {0})
@@ -154,7 +155,7 @@ fn held_result<A: Allocator + Copy, S: BlobSource<A>>(
     source: &mut S,
 ) -> Result<ActionResult<A>, Fault<A>>
     requires { IsKnownOf (known_by memo.old) (S.tells source.old) }
-    ensures checked { Answers (held (S.tells source.new).results recorded.now) result }
+    ensures checked { Answers (result_held (S.tells source.new).results recorded.now) result }
     ensures called { Called (S.tells source.old) (S.tells source.new) (IsErrOf result Fault.Fetch) }
     ensures learned { Learns (LooksAtResult recorded.now) (WasRefused result)
         (known_by memo.old) (known_by memo.new) (S.tells source.old) (S.tells source.new) }
@@ -168,7 +169,7 @@ fn held_result<A: Allocator + Copy, S: BlobSource<A>>(
 /// The result that the bytes are.
 fn decode_result<A: Allocator + Copy>(alloc: A, bytes: &[u8]) -> Result<ActionResult<A>, Fault<A>>
     ensures found { IfOk result (λ r. Reads r bytes.now) }
-    ensures none { IfErr result (Explains (λ c.
+    ensures none { IfErr result (ExplainsFault (λ c.
         ((r : ActionResultValue) → Reads r bytes.now → ⊥) × (c ≡ causes.ResultMalformed))) }
     ensures fetch { IsErrOf result Fault.Fetch → ⊥ }
 {
@@ -183,6 +184,7 @@ fn decode_result<A: Allocator + Copy>(alloc: A, bytes: &[u8]) -> Result<ActionRe
 fn check_exit_code<A: Allocator>(made: &ActionResult<A>) -> Result<(), Fault<A>>
     ensures checked { Answers (succeeded made.now) result }
     ensures fetch { IsErrOf result Fault.Fetch → ⊥ }
+    ensures memory { IsErrOf result Fault.Memory → ⊥ }
 {
     let exit_code = made.exit_code();
     if exit_code != 0 {
@@ -223,9 +225,10 @@ fn read_outputs<A: Allocator + Copy, S: BlobSource<A>>(
     ensures read { IfOk result (λ v. StandForAll (S.tells source.new).blobs
         (recorded_values recorded.now) (outputs_in v.items)) }
     ensures listed { IfOk result (λ v.
-        AllByRecursion (Contains command.now.output_paths) (output_paths (outputs_in v.items))) }
-    ensures refused { IfErr result (Explains (OutputFault (S.tells source.new).blobs command.now
-        (recorded_values recorded.now))) }
+        AllByRecursion (Contains command.now.output_paths)
+        (paths_of_outputs (outputs_in v.items))) }
+    ensures refused { IfErr result (ExplainsFault (OutputFault (S.tells source.new).blobs
+        command.now (recorded_values recorded.now))) }
     ensures called { Called (S.tells source.old) (S.tells source.new) (IsErrOf result Fault.Fetch) }
     ensures learned { Learns (OutputsLookAt (S.tells source.new).blobs command.now
         (recorded_values recorded.now)) (WasRefused result)
@@ -252,8 +255,8 @@ fn read_output<A: Allocator + Copy, S: BlobSource<A>>(
         (recorded_value output.now) (output_value x)) }
     ensures listed { IsOk result
         → Contains command.now.output_paths (recorded_path (recorded_value output.now)) }
-    ensures refused { IfErr result (Explains (IsRefusedOutput (S.tells source.new).blobs command.now
-        (recorded_value output.now))) }
+    ensures refused { IfErr result (ExplainsFault (IsRefusedOutput (S.tells source.new).blobs
+        command.now (recorded_value output.now))) }
     ensures called { Called (S.tells source.old) (S.tells source.new) (IsErrOf result Fault.Fetch) }
     ensures learned { Learns (λ a. Contains command.now.output_paths
         (recorded_path (recorded_value output.now)) × OutputLooksAt (recorded_value output.now) a)

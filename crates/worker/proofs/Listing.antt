@@ -3,7 +3,7 @@ use Rattle.std.proofs.Common.{◌≡◌, ℕ, ◌+◌, ◌<◌, List, length, dr
 use Rattle.std.specs.Prelude.{◌↔◌, Contains}
 use Rattle.std.specs.List.{AllByRecursion}
 use Rattle.actions.specs.declared.outcome.Output.{Output}
-use Rattle.actions.specs.Outcome.{outputs_in, output_paths}
+use Rattle.actions.specs.Outcome.{outputs_in, paths_of_outputs}
 use Rattle.action_messages.specs.Command.{CommandValue}
 use Rattle.std.proofs.Common.{suc, ◌∷◌, ap, sym, add-one, drop-cons}
 
@@ -13,7 +13,7 @@ split_at xs i x lt is = rw (add-one, drop-cons xs i x lt) (ap (λ k. k ∷ drop 
 module _ {A : Type 0} where
   -- the command lists the paths of these outputs
   abbrev pub AreListed : CommandValue → List (List (List ℕ) × Output A) → Type 0
-  AreListed c xs = AllByRecursion (Contains c.output_paths) (output_paths (outputs_in xs))
+  AreListed c xs = AllByRecursion (Contains c.output_paths) (paths_of_outputs (outputs_in xs))
 
   -- it lists all where it lists the rest
   abbrev pub AreListedWith : CommandValue → List (List (List ℕ) × Output A) → List (List (List ℕ) × Output A) → Type 0

@@ -8,7 +8,7 @@ use Rattle.action_messages.specs.ActionResult.{ActionResultValue}
 use Rattle.action_messages.specs.Command.{CommandValue}
 use Rattle.action_messages.specs.Reads.{Reads}
 use Rattle.actions.specs.declared.outcome.Output.TheVariants as outputs
-use Rattle.actions.specs.Outcome.{OutputValue, OutcomeValue, output_paths}
+use Rattle.actions.specs.Outcome.{OutputValue, OutcomeValue, paths_of_outputs}
 use Rattle.actions.specs.Recorded.{IsRecorded}
 use Rattle.blob_source.specs.Source.{Blobs, Telling}
 use Rattle.blob_source.specs.Sink.{HasRight}
@@ -72,7 +72,7 @@ pub record IsYielded (yields : Yields) (B : Blobs) (e : EngineValue) (j : JobVal
 -- an outcome that a build takes: its exit code is 0, and the command lists each output
 abbrev pub CanBeTaken : CommandValue → OutcomeValue → Type 0
 CanBeTaken c v = (v.exit_code ≡ pos 0)
-    × AllByRecursion (Contains c.output_paths) (output_paths v.outputs)
+    × AllByRecursion (Contains c.output_paths) (paths_of_outputs v.outputs)
 
 -- the outcome is the one that the store has recorded under a digest
 pub record IsHeld (t : Telling) (d : DigestValue) (v : OutcomeValue) : Type 0 where

@@ -7,7 +7,7 @@ ghost use Rattle.worker.specs.Outcomes.{IsHeld, CanBeTaken};
 ghost use Rattle.worker.specs.Going.{HasNoneToTake};
 ghost use Rattle.worker.specs.Stopped.{IsStoreFault};
 ghost use Rattle.std.specs.List.{AllByRecursion};
-ghost use Rattle.actions.specs.Outcome.{outputs_in, output_paths};
+ghost use Rattle.actions.specs.Outcome.{outputs_in, paths_of_outputs};
 
 use crate::error::Refusal;
 use actions::{ActionResult, Command, Outcome, Output, recorded};
@@ -29,7 +29,7 @@ fn fits<A: Allocator + Copy>(command: &Command<A>, outcome: &Outcome<A>) -> bool
 /// Whether the command lists each of the outputs.
 fn lists_all<A: Allocator>(command: &Command<A>, outputs: &[(Path<A>, Output<A>)]) -> bool
     ensures { IsTrue result ↔ AllByRecursion (Contains command.now.output_paths)
-        (output_paths (outputs_in outputs.now)) }
+        (paths_of_outputs (outputs_in outputs.now)) }
 {
     for output in outputs {
         if !command.lists(&output.0) {

@@ -1,9 +1,9 @@
 -- What was read stays told while the next is read; its fault is the first.
 use Rattle.std.proofs.Common.{◌+◌, ◌∙◌, rules}
 use Rattle.std.proofs.lemmas.Result.{err_from_is_err_and}
-use Rattle.blob_source.proofs.Asking.{ok_no_error}
+use Rattle.blob_source.proofs.Asking.{asks_none, ok_no_error}
 use Rattle.blob_source.proofs.Calling.{called_exit, called_no, calls_more, calls_on}
-use Rattle.actions.proofs.Reading.{asks_next, asks_all, reads_next, fault_next}
+use Rattle.actions.proofs.Reading.{asks_next, asks_all, reads_next, fault_next, stops}
 use Rattle.actions.proofs.recording.read_outputs.Goals as goal
 
 pub returns-in_err-read-clause-faulty : goal.returns-in_err-read-clause-faulty
@@ -36,3 +36,15 @@ loop-output-preserved g c = record {
   called = calls_on (λ h k. asks_next c.args.recorded.now c.loop-output.output-index c.output-item.result c.loop-output-test.true c.output-item.is _ _ _ h k c.read.ensures.unasked)
       c.loop-output.invariant.called (called_no ok_no_error (λ n. n) c.in_ok-read.ensures.called);
 }
+
+pub returns-in_err-read-clause-few : goal.returns-in_err-read-clause-few
+returns-in_err-read-clause-few g c = stops c.args.recorded.now c.loop-output.output-index _ _ _ c.loop-output.outputs.items c.loop-output.invariant.read c.loop-output.invariant.called.asked c.read.ensures.called.asked
+
+pub returns-in_err-copy_of-clause-few : goal.returns-in_err-copy_of-clause-few
+returns-in_err-copy_of-clause-few g c = stops c.args.recorded.now c.loop-output.output-index _ _ _ c.loop-output.outputs.items c.loop-output.invariant.read c.loop-output.invariant.called.asked c.read.ensures.called.asked
+
+pub returns-in_err-push-clause-few : goal.returns-in_err-push-clause-few
+returns-in_err-push-clause-few g c = stops c.args.recorded.now c.loop-output.output-index _ _ _ c.loop-output.outputs.items c.loop-output.invariant.read c.loop-output.invariant.called.asked c.read.ensures.called.asked
+
+pub returns-clause-few : goal.returns-clause-few
+returns-clause-few g c = stops c.args.recorded.now c.loop-output.output-index _ _ _ c.loop-output.outputs.items c.loop-output.invariant.read c.loop-output.invariant.called.asked (asks_none _)

@@ -8,7 +8,8 @@ use Rattle.action_messages.specs.ActionResult.{ActionResultValue}
 use Rattle.actions.specs.Outcome.{outputs_in}
 use Rattle.action_messages.specs.Stream.{StreamValue}
 use Rattle.action_messages.proofs.Results.{result_found}
-use Rattle.runs.specs.Results.{no_stream, result_of}
+use Rattle.runs.specs.Results.{result_of}
+use Rattle.verifier.specs.Holding.{no_stream}
 use Rattle.runs.proofs.Forms.{fits_by_size}
 use Rattle.runs.proofs.Kept.{result_checked, collected}
 use Rattle.runs.proofs.results.result_of.Goals as goal

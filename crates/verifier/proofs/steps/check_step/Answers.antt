@@ -4,7 +4,7 @@ use Rattle.blob_source.proofs.Asking.{ok_no_error}
 use Rattle.std.specs.Prelude.{Ok, slice_get}
 use Rattle.plan.specs.Values.{StepValue}
 use Rattle.verifier.specs.StepChecks.{together}
-use Rattle.verifier.specs.Stage.{Explains}
+use Rattle.verifier.specs.Stage.{ExplainsFault}
 use Rattle.blob_source.proofs.Calling.{called_none, called_no}
 use Rattle.verifier.proofs.Explained.{told_at}
 use Rattle.verifier.proofs.ChecksThen.{checks_none, checks_both, checks_then, checks_exit, stable_without, stable_message, stable_together, stable_grafted, stable_held, steady_without, steady_together, steady_input, looked_blob, looked_lines, input_made}
@@ -37,7 +37,7 @@ pub returns-in_err-input : goal.returns-in_err-input
 returns-in_err-input g c =
     let same : c.deref.result.now ≡ c.args.step.now.lines = c.deref.ensures.value ∙ ap (λ (z : StepValue). z.lines) c.step.view_is in
     let told = (g.S.BlobSource.tells c.together.new.source).blobs in
-    let why = subst (λ ls. Explains (together told c.args.sources.now c.args.outcomes.now ls).fails c.in_err-input.field-0.0) same c.in_err-input.ensures.faulty in
+    let why = subst (λ ls. ExplainsFault (together told c.args.sources.now c.args.outcomes.now ls).fails c.in_err-input.field-0.0) same c.in_err-input.ensures.faulty in
     checks_then _ _ stable_message steady_without (checks_both _ _ _ _ c.in_ok-action.ensures.checked c.in_ok-action.ensures.called c.in_ok-action.ensures.learned)
     (checks_then _ _ stable_without steady_without (checks_none _ _ _ c.in_ok-action.ensures.learned.known c.in_ok-check_cached.ensures.checked ok_no_error)
     (checks_then _ _ stable_message steady_without (checks_both _ _ _ _ (told_at c.command_digest.ensures.value c.in_ok-command.ensures.checked) c.in_ok-command.ensures.called (looked_blob c.command_digest.ensures.value c.in_ok-command.ensures.learned))

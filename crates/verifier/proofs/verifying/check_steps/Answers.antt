@@ -7,7 +7,7 @@ use Rattle.verifier.specs.declared.verdict.Cause.{Cause}
 use Rattle.plan.specs.Values.{IsLine}
 use Rattle.blob_source.proofs.Asking.{ok_no_error}
 use Rattle.verifier.specs.declared.error.VerifyError.TheVariants as errors
-use Rattle.verifier.specs.Stage.{Explains}
+use Rattle.verifier.specs.Stage.{ExplainsFault}
 use Rattle.verifier.specs.StepChecks.{step_check}
 use Rattle.blob_source.proofs.Calling.{err_injective, called_none, called_as, called_no, called_on, called_exit}
 use Rattle.tree.proofs.Learning.{learns_none, learns_then, learns_refused}
@@ -28,7 +28,7 @@ returns-in-Err-clause-checked g c =
     let tells = g.S.BlobSource.tells c.check_step.new.source in
     let asked = c.check_step.ensures.called.asked in
     let check = step_check {A = g.row.A.Denot} tells c.args.sources.now c.deref.result.now c.index-steps-index.result c.index-recorded-index.result in
-    let why = subst (Explains check.fails) ((c.in_ok-cause-in-Err.ensures {u = tt}).cause) (c.in-Err.ensures {u = tt}).checked in
+    let why = subst (ExplainsFault check.fails) ((c.in_ok-cause-in-Err.ensures {u = tt}).cause) (c.in-Err.ensures {u = tt}).checked in
     let fails = subst (λ os. (step_check tells c.args.sources.now os c.index-steps-index.result c.index-recorded-index.result).fails c.in_ok-cause-in-Err.cause) c.deref.ensures.value why in
     let within : c.loop-index.index < length c.args.recorded.now = subst (λ n. c.loop-index.index < n) (sym c.requires.each) c.loop-index-test.true in
     steps_fail old tells c.args.sources.now c.args.steps.now c.args.recorded.now c.loop-index.outcomes.items c.loop-index.index c.index-steps-index.result c.index-recorded-index.result

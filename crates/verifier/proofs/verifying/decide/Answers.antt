@@ -12,7 +12,7 @@ use Rattle.verifier.specs.Answers.{IsChecked, IsStopped}
 use Rattle.verifier.specs.declared.error.VerifyError.{VerifyError}
 use Rattle.verifier.specs.LooksAt.{StepsLookAt, RootLooksAt, PlanLooksAt}
 use Rattle.tree.proofs.Learning.{learns_then, learns_refused}
-use Rattle.verifier.specs.Stage.{Explains}
+use Rattle.verifier.specs.Stage.{ExplainsFault}
 use Rattle.verifier.specs.Verdict.{root_check, steps_check}
 use Rattle.verifier.proofs.CheckingSteps.{passes_count, steps_decide, root_decides, all_pass_decides, plan_look_steps, plan_look_still, plan_look_root}
 use Rattle.verifier.proofs.verifying.decide.Goals as goal
@@ -43,7 +43,7 @@ returns-in-Err-clause-verdict g c =
     let checked = subst (IsChecked told c.args.sources.now c.steps.result.now c.args.recorded.now) c.in-Outcomes.is (c.in_ok-name.ensures {u = tt}).checked in
     let passes = subst (λ steps. (steps_check {A = g.row.A.Denot} told c.args.sources.now [] steps c.args.recorded.now).passes c.in-Outcomes.outcomes.items) c.steps.ensures.value checked in
     let check = root_check {A = g.row.A.Denot} later c.args.sources.now c.deref.result.now c.root.result.now c.args.claim.now in
-    let why = subst (Explains check.fails) ((c.in_ok-cause_in-in-Err.ensures {u = tt}).cause) (c.in-Err.ensures {u = tt}).checked in
+    let why = subst (ExplainsFault check.fails) ((c.in_ok-cause_in-in-Err.ensures {u = tt}).cause) (c.in-Err.ensures {u = tt}).checked in
     let fails = subst (λ os. (root_check later c.args.sources.now os c.args.plan.now.root_lines c.args.claim.now).fails c.in_ok-cause_in-in-Err.field-0) c.deref.ensures.value
     (subst (λ ls. (root_check later c.args.sources.now c.deref.result.now ls c.args.claim.now).fails c.in_ok-cause_in-in-Err.field-0) c.root.ensures.value why) in
     root_decides g.row.A.Denot told c.args.sources.now c.args.plan.now c.args.recorded.now c.args.claim.now later asked.blobs asked.results c.in-Outcomes.outcomes.items passes c.in_ok-cause_in-in-Err.field-0 fails

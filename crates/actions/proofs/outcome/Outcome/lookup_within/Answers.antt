@@ -1,10 +1,10 @@
-use Rattle.std.proofs.Common.{get_or, ap, subst, arith}
+use Rattle.std.proofs.Common.{get_or, refl, ap, subst, arith}
 use Rattle.tree.specs.Form.{node_value}
 use Rattle.tree.specs.Lookup.{nothing, found, looked}
 use Rattle.tree.specs.Merging.{within_value}
 use Rattle.actions.specs.Outcome.{output_value}
 use Rattle.actions.specs.OutcomeLookup.{LooksBelow, names_left}
-use Rattle.actions.proofs.OutcomeLookups.{ascending, valid, within, none_over, looks_over, lies_over}
+use Rattle.actions.proofs.OutcomeLookups.{ascending, valid, within, none_over, looks_over, lies_over, memory_over}
 use Rattle.actions.proofs.outcome.Outcome.lookup_within.Goals as goal
 
 pub find_over-requires-clause-ascend : goal.find_over-requires-clause-ascend
@@ -45,3 +45,11 @@ returns-in-None-clause-looked g c =
     let item = get_or c.outputs-outputs.result.now c.in-Some.over.place c.index-outputs-over.result in
     looks_over c.args.self.now c.args.path.now rest c.outputs-outputs.result.now c.in-Some.over.place item over.0 c.outputs-outputs.ensures.value over.1 (ap (get_or c.outputs-outputs.result.now c.in-Some.over.place) c.index-outputs-over.is) over.2
     nothing (subst (λ x. LooksBelow (output_value item.1) rest (looked x)) c.in-None.is (c.in_ok-node.ensures {u = tt}).looked)
+
+pub returns-in_err-node-clause-memory : goal.returns-in_err-node-clause-memory
+returns-in_err-node-clause-memory g c e =
+    let over = c.in-Some.ensures in
+    let rest = names_left c.in-Some.over.below in
+    let item = get_or c.outputs-outputs.result.now c.in-Some.over.place c.index-outputs-over.result in
+    memory_over c.args.self.now c.args.path.now rest c.outputs-outputs.result.now c.in-Some.over.place item over.0 c.outputs-outputs.ensures.value over.1 (ap (get_or c.outputs-outputs.result.now c.in-Some.over.place) c.index-outputs-over.is) over.2
+    (c.in_err-node.ensures.memory refl)

@@ -11,7 +11,7 @@ use Rattle.runs.proofs.Fetching.{fetching_memory}
 use Rattle.tree.specs.declared.error.TreeError.TheVariants as tree
 use Rattle.tree.specs.Folded.{IsFoldOfPassed}
 use Rattle.verifier.proofs.FreshRuns.{one_answer}
-use Rattle.runs.specs.Looking.{Explains, together_in}
+use Rattle.runs.specs.Looking.{ExplainsRefusal, together_in}
 use Rattle.runs.proofs.Places.{element_at}
 use Rattle.tree.proofs.Learning.{learns_refused, refused_exit}
 use Rattle.runs.proofs.Starts.{step_needed}
@@ -30,7 +30,7 @@ returns-in_err-input-clause-faulty g c = λ s at.
     let is : c.index-steps-step.result ≡ get_or c.self.inside.plan.now.steps c.args.step c.index-steps-step.result = c.index-steps-step.is ∙ ap (λ ss. get_or ss c.args.step c.index-steps-step.result) c.steps-steps.ensures.value in
     let there = ap (λ (e : EngineValue). slice_get e.plan.steps c.args.step) (sym c.self.view_is) ∙ element_at c.self.inside.plan.now.steps c.args.step c.index-steps-step.result lt is in
     let lines = c.deref.ensures.value ∙ ap (λ (x : StepValue). x.lines) (c.planned.view_is ∙ one_answer (slice_get c.args.self.now.plan.steps c.args.step) c.index-steps-step.result s there at) in
-    rw (p.1, p.2) (subst (λ ls. Explains (together_in told c.args.self.now ls).fails c.in_err-input.field-0.0) lines c.in_err-input.ensures.faulty)
+    rw (p.1, p.2) (subst (λ ls. ExplainsRefusal (together_in told c.args.self.now ls).fails c.in_err-input.field-0.0) lines c.in_err-input.ensures.faulty)
 
 pub returns-in_err-frame-clause-faulty : goal.returns-in_err-frame-clause-faulty
 returns-in_err-frame-clause-faulty g c = λ s at.
