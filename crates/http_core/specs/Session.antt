@@ -43,7 +43,7 @@ abbrev pub IsOpen : SessionValue → Type 0
 IsOpen s = s.state ≢ Closed
 
 -- memory may be wanting for a piece: the session is open, and the piece has bytes
-pub record MayWant (s : SessionValue) (piece : List ℕ) : Type 0 where
+pub record MayRunShort (s : SessionValue) (piece : List ℕ) : Type 0 where
   pub opened : IsOpen s
   pub some : 0 < length piece
 

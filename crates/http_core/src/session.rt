@@ -8,7 +8,7 @@ ghost use Rattle.blob_digest.specs.Body.{greatest_blob};
 ghost use Rattle.http_core.specs.Event.{IsValid, event_of};
 ghost use Rattle.http_core.specs.Judging.{Judges};
 ghost use Rattle.http_core.specs.Session.{SessionValue, Reading, Taking, Stands, Feeds, FeedsFirst};
-ghost use Rattle.http_core.specs.Session.{IsOpen, IsClosed, MayWant, Takes, Follows, ended};
+ghost use Rattle.http_core.specs.Session.{IsOpen, IsClosed, MayRunShort, Takes, Follows, ended};
 ghost use Rattle.http_core.specs.Session.{held_bytes};
 ghost use Rattle.http_core.specs.Stream.{body_length, outcome};
 
@@ -84,7 +84,7 @@ impl<A: Allocator + Copy> Session<A> {
         ensures ok { IfOk result
             (λ events. Feeds self.old piece.now (map event_of events.items) self.new) }
         ensures err { OnErr result (IsClosed self.new) }
-        ensures memory { OnErr result (MayWant self.old piece.now) }
+        ensures memory { OnErr result (MayRunShort self.old piece.now) }
         ensures prefix { self.new.prefix ≡ self.old.prefix }
     {
         match self.cut(alloc, piece) {
@@ -103,7 +103,7 @@ impl<A: Allocator + Copy> Session<A> {
         ensures ok { IfOk result
             (λ x. FeedsFirst self.old piece.now x.0 (option_map event_of x.1) self.new) }
         ensures err { OnErr result (IsClosed self.new) }
-        ensures memory { OnErr result (MayWant self.old piece.now) }
+        ensures memory { OnErr result (MayRunShort self.old piece.now) }
         ensures prefix { self.new.prefix ≡ self.old.prefix }
     {
         let first = self.take_first(alloc, piece);
@@ -138,7 +138,7 @@ impl<A: Allocator + Copy> Session<A> {
     fn cut(&mut self, alloc: A, piece: &[u8]) -> Result<Vec<Event<A>, A>, AllocError>
         ensures ok { IfOk result
             (λ events. Feeds self.old piece.now (map event_of events.items) self.new) }
-        ensures memory { OnErr result (MayWant self.old piece.now) }
+        ensures memory { OnErr result (MayRunShort self.old piece.now) }
         ensures prefix { self.new.prefix ≡ self.old.prefix }
     {
         let mut events = Vec::new(alloc);
@@ -163,7 +163,7 @@ impl<A: Allocator + Copy> Session<A> {
     ) -> Result<(usize, Option<Event<A>>), AllocError>
         ensures ok { IfOk result
             (λ x. FeedsFirst self.old piece.now x.0 (option_map event_of x.1) self.new) }
-        ensures memory { OnErr result (MayWant self.old piece.now) }
+        ensures memory { OnErr result (MayRunShort self.old piece.now) }
         ensures prefix { self.new.prefix ≡ self.old.prefix }
     {
         let mut at = 0;
