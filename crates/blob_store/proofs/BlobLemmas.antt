@@ -1,5 +1,5 @@
 -- Blobs stay under their hashes.
-use Rattle.std.proofs.Common.{◌≡◌, ℕ, zero, suc, Bool, true, false, cond, not, List, [], ◌∷◌, ◌++◌, reverse, map, length, bytes_eq, Option, Some, None, option_map, refl, ap, sym, ◌∙◌, subst}
+use Rattle.std.proofs.Common.{◌≡◌, ◌≢◌, ◌<◌, ℕ, zero, suc, arith, get_or, Bool, true, false, cond, not, List, [], ◌∷◌, ◌++◌, reverse, map, length, bytes_eq, Option, Some, None, option_map, refl, ap, sym, ◌∙◌, subst}
 use Rattle.std.specs.List.{filter, list_all, AllByRecursion}
 use Rattle.std.specs.Map.{lookup, lookup_entry}
 use Rattle.std.specs.Option.{option_map_or}
@@ -215,3 +215,15 @@ each_pinned es (d ∷ ds) = elim (is_empty d) as (λ b. ((b || nat_lt 0 (pins_of
   | true ↦ each_pinned es ds
   | false ↦ ap (λ y. nat_lt 0 (pins_of bytes_eq es d.hash) && y) (each_pinned es ds)
 ]
+
+-- where one of the digests isn't that of no bytes there is a hash
+pub some_hash : (ds : List DigestValue) (i : ℕ) (d : DigestValue) → i < length ds → d ≡ get_or ds i d → is_empty d ≡ false → hashes_of ds ≢ []
+some_hash [] i d h at e = absurd (omega arith)
+some_hash (x ∷ ds) zero d h at e = λ none. (elim (is_empty x) as (λ b. is_empty x ≡ b → map (λ (y : DigestValue). y.hash) (cond (not b) (x ∷ filter (λ y. not (is_empty y)) ds) (filter (λ y. not (is_empty y)) ds)) ≡ [] → ⊥) [
+  | true ↦ λ t n. absurd (let f : is_empty x ≡ false = ap is_empty (sym at) ∙ e in cc)
+  | false ↦ λ t n. absurd cc
+]) refl none
+some_hash (x ∷ ds) (suc i) d h at e = λ none. (elim (is_empty x) as (λ b. map (λ (y : DigestValue). y.hash) (cond (not b) (x ∷ filter (λ y. not (is_empty y)) ds) (filter (λ y. not (is_empty y)) ds)) ≡ [] → ⊥) [
+  | true ↦ λ n. some_hash ds i d (omega arith) at e n
+  | false ↦ λ n. absurd cc
+]) none

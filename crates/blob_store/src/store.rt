@@ -1,4 +1,4 @@
-ghost use Rattle.std.specs.Prelude.{◌≡◌, ◌↔◌, ◌⊎◌, ◌<◌, ◌^◌, [], map, true, false, bytes_eq};
+ghost use Rattle.std.specs.Prelude.{◌≡◌, ◌≢◌, ◌↔◌, ◌⊎◌, ◌<◌, ◌^◌, [], map, true, false, bytes_eq};
 ghost use Rattle.std.specs.Prelude.{Err};
 ghost use Rattle.std.specs.Prelude.{IsSome, IfOk, IfErr, OnOk, OnErr, Some, None, option_copied};
 ghost use Rattle.std.specs.Borrow.{sem};
@@ -85,14 +85,15 @@ fn use_blob<A: Allocator + Copy>(
     }
 }
 
-/// The hashes of the digests, without that of no bytes.
+/// The hashes of the digests, without that of no bytes. Where there are none it takes no memory.
 fn hashes_of<A: Allocator + Copy>(
     alloc: A,
     digests: &[Digest],
     no_bytes: &[u8; 32],
 ) -> Result<Vec<[u8; 32], A>, AllocError>
     requires { no_bytes.now ≡ sha256 [] }
-    ensures { IfOk result (λ hashes. hashes.items ≡ hashes_of digests.now) }
+    ensures ok { IfOk result (λ hashes. hashes.items ≡ hashes_of digests.now) }
+    ensures memory { OnErr result (hashes_of digests.now ≢ []) }
 {
     let mut hashes = Vec::new(alloc);
     for digest in digests {
@@ -240,7 +241,8 @@ impl<A: Allocator + Copy> BlobStore<A> {
     }
 
     /// Pins each of the blobs once more; their hashes are distinct, and no count is at its
-    /// greatest. The digest of no bytes is left out. Refusal `NotHeld` where one isn't held.
+    /// greatest. The digest of no bytes is left out. Refusal `NotHeld` where one isn't held. None
+    /// want no memory.
     pub fn pin_all(&mut self, alloc: A, digests: &[Digest]) -> Result<(), BlobError>
         requires distinct { IsDistinct bytes_eq (hashes_of digests.now) }
         requires counts { CanPinMore bytes_eq self.old.entries (hashes_of digests.now) }
@@ -249,6 +251,7 @@ impl<A: Allocator + Copy> BlobStore<A> {
         ensures not_held { (result ≡ Err BlobError.NotHeld)
             ↔ (all_held (found_in self.old.entries) digests.now ≡ false) }
         ensures errors { IfErr result (λ e. (e ≡ BlobError.NotHeld) ⊎ (e ≡ BlobError.Memory)) }
+        ensures memory { result ≡ Err BlobError.Memory → hashes_of digests.now ≢ [] }
     {
         if !self.contains_all(digests) {
             return Err(BlobError::NotHeld);
@@ -274,7 +277,7 @@ impl<A: Allocator + Copy> BlobStore<A> {
     }
 
     /// Pins each of the blobs, whose hashes are distinct, once less. The digest of no bytes is left
-    /// out. Refusal `NotPinned` where one isn't pinned.
+    /// out. Refusal `NotPinned` where one isn't pinned. None want no memory.
     pub fn unpin(&mut self, alloc: A, digests: &[Digest]) -> Result<(), BlobError>
         requires { IsDistinct bytes_eq (hashes_of digests.now) }
         ensures ok { OnOk result
@@ -284,6 +287,7 @@ impl<A: Allocator + Copy> BlobStore<A> {
             ↔ (all_pinned bytes_eq self.old.entries (hashes_of digests.now) ≡ false) }
         ensures errors { IfErr result
             (λ e. (e ≡ BlobError.NotPinned) ⊎ (e ≡ BlobError.Memory)) }
+        ensures memory { result ≡ Err BlobError.Memory → hashes_of digests.now ≢ [] }
     {
         if !self.pins_all(digests) {
             return Err(BlobError::NotPinned);

@@ -376,11 +376,3 @@ module _ {K : Type 0} (eq : K → K → Bool) (laws : IsEquivalence eq) (s : Kep
 
       pub tallied : IsTallied after s.limit s.overhead (held - old_cost + cost - freed) (pinned - part + part')
       tallied = rw (part_is, part'_is, cost_is, st.pins_are) (tallied_after d held pinned old_cost t st' fits' x freed after (rw (← cost_is) excess) left sum)
-
--- where the costs of a new entry and the pinned others don't fit
-pub refused : {K : Type 0} (eq : K → K → Bool) (s : Kept K) (k : K) (bytes : List ℕ) (held pinned old_cost pins part cost : ℕ) → IsTallied s.entries s.limit s.overhead held pinned → IsStanding eq k s.overhead s.entries old_cost pins
-    → part ≡ part_if_pinned pins old_cost → cost ≤ length bytes + s.overhead → s.limit - (pinned - part) < cost → can_enter eq s k bytes ≡ false
-refused eq s k bytes held pinned old_cost pins part cost t st part_is cost_is over =
-    let a = st.pinned_are in
-    let b = t.pinned_is in
-    lt_is (length bytes + s.overhead + pinned_cost s.overhead (others eq k s.entries)) s.limit (omega arith)

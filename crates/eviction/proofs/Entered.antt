@@ -24,7 +24,6 @@ module _ {K : Type 0} where
       pub entries : t.entries ≡ new_entry eq s k b ∷ spared_last is_pinned (evicted eq s k b) (others eq k s.entries)
       pub limit : t.limit ≡ s.limit
       pub overhead : t.overhead ≡ s.overhead
-      pub could : can_enter eq s k b ≡ true
 
     pub entered_is : (s t : Kept K) (k : K) (b : List ℕ) → entered eq s k b ≡ Some t → IsEntered s t k b
     entered_is s t k b e = by_room (can_enter eq s k b) refl e
@@ -34,7 +33,6 @@ module _ {K : Type 0} where
           entries = sym (ap (λ (x : Kept K). x.entries) same);
           limit = sym (ap (λ (x : Kept K). x.limit) same);
           overhead = sym (ap (λ (x : Kept K). x.overhead) same);
-          could = c;
         }
         by_room false c e = absurd cc
 

@@ -26,10 +26,6 @@ module _ {K : Type 0} where
   repinned_same f g h [] = refl
   repinned_same f g h (e ∷ es) = λ i. (e.0, record { bytes = e.1.bytes; pins = h e.0 e.1.pins i }) ∷ repinned_same f g h es i
 
-  pub keys-repinned : (f : K → ℕ → ℕ) (es : List (K × Held)) → keys_of (repinned f es) ≡ keys_of es
-  keys-repinned f [] = refl
-  keys-repinned f (e ∷ es) = ap (λ l. e.0 ∷ l) (keys-repinned f es)
-
   pub total-repinned : (overhead : ℕ) (f : K → ℕ → ℕ) (es : List (K × Held)) → total_cost overhead (repinned f es) ≡ total_cost overhead es
   total-repinned overhead f [] = refl
   total-repinned overhead f (e ∷ es) = ap (λ n. cost_of overhead e + n) (total-repinned overhead f es)

@@ -12,5 +12,7 @@ mod shared;
 
 pub use bounded::Bounded;
 pub use error::BoundedError;
-pub use laws::{entering_gives_up_the_fewest, entering_keeps_what_is_pinned};
+pub use laws::{
+    an_entry_meets_the_premises, entering_gives_up_the_fewest, entering_keeps_what_is_pinned,
+};
 pub use shared::Shared;

@@ -21,14 +21,14 @@ abbrev pub counted : FailStreamValue → FailStreamValue
 counted s = record s { until_failure = s.until_failure - 1 }
 
 -- the call failed with an error of this kind, and nothing was given or taken
-pub record Fails (kind : ErrorKind) (old new : FailStreamValue) (result : Result ℕ Error)
+pub record FailsWith (kind : ErrorKind) (old new : FailStreamValue) (result : Result ℕ Error)
     : Type 0 where
   pub told : MatchResult result (λ _. ⊥) (λ e. error_kind e ≡ kind)
   pub same : new ≡ counted old
 
 -- the call is the one that fails
 abbrev pub FailsCall : FailStreamValue → FailStreamValue → Result ℕ Error → Type 0
-FailsCall = Fails ConnectionReset
+FailsCall = FailsWith ConnectionReset
 
 -- The read gave the next bytes: as many as there are, have room and may come at once.
 pub record GivesNext
@@ -50,4 +50,4 @@ pub record TakesBytes (old new : FailStreamValue) (bytes : List ℕ) (result : R
 -- it took them, unless memory was wanting
 abbrev pub TakesFront : FailStreamValue → FailStreamValue → List ℕ → Result ℕ Error → Type 0
 TakesFront old new bytes result =
-    TakesBytes old new bytes result ⊎ Fails OutOfMemory old new result
+    TakesBytes old new bytes result ⊎ FailsWith OutOfMemory old new result

@@ -1,6 +1,6 @@
 -- What a session keeps of a stream.
 use Rattle.std.specs.Prelude.{◌≡◌, ◌≢◌, ℕ, ◌<◌, ◌≤◌, Bool, true, false, List, [], ◌∷◌, ◌++◌}
-use Rattle.std.specs.Prelude.{length, take, Option, Some, None, ⊤, option_to_list}
+use Rattle.std.specs.Prelude.{length, take, Option, Some, None, option_to_list}
 use Rattle.http_core.specs.declared.event.Area.{Area}
 use Rattle.http_core.specs.declared.judging.Judgement.TheVariants as judgements
 use Rattle.http_core.specs.declared.session.Stage.{Stage}
@@ -43,15 +43,17 @@ abbrev pub IsOpen : SessionValue → Type 0
 IsOpen s = s.state ≢ Closed
 
 -- memory may be wanting for a piece: the session is open, and the piece has bytes
-pub record MayWant (s : SessionValue) (piece : List ℕ) : Type 0 where
+pub record MayRunShort (s : SessionValue) (piece : List ℕ) : Type 0 where
   pub opened : IsOpen s
   pub some : 0 < length piece
 
--- where a body comes it isn't whole, and it will not be too large
-abbrev pub IsWanting : Stage → List ℕ → Type 0
-IsWanting stages.Block body = ⊤
-IsWanting (stages.Body area hash size close) body = (length body < size) × (size ≤ greatest_blob)
-IsWanting stages.Closed body = ⊤
+-- Nothing is kept but the bytes that came of a block, or of a body that isn't whole and will not be
+-- too large.
+abbrev pub IsKept : Stage → List ℕ → List ℕ → Type 0
+IsKept stages.Block block body = body ≡ []
+IsKept (stages.Body area hash size close) block body =
+    (block ≡ []) × (length body < size) × (size ≤ greatest_blob)
+IsKept stages.Closed block body = (block ≡ []) × (body ≡ [])
 
 -- the state after these bytes of a request that isn't whole
 abbrev pub Holds : List ℕ → SessionState → List ℕ → Type 0

@@ -8,7 +8,7 @@ ghost use Rattle.blob_digest.specs.Body.{greatest_blob};
 ghost use Rattle.http_core.specs.Event.{IsValid, event_of};
 ghost use Rattle.http_core.specs.Judging.{Judges};
 ghost use Rattle.http_core.specs.Session.{SessionValue, Reading, Taking, Stands, Feeds, FeedsFirst};
-ghost use Rattle.http_core.specs.Session.{IsOpen, IsClosed, MayWant, Takes, Follows, ended};
+ghost use Rattle.http_core.specs.Session.{IsOpen, IsClosed, MayRunShort, Takes, Follows, ended};
 ghost use Rattle.http_core.specs.Session.{held_bytes};
 ghost use Rattle.http_core.specs.Stream.{body_length, outcome};
 
@@ -40,7 +40,7 @@ pub struct Session<A: Allocator> {
 }
 
 impl<A: Allocator> Model for Session<A> {
-    ghost use Rattle.http_core.specs.Session.{SessionValue, IsWanting, state_of};
+    ghost use Rattle.http_core.specs.Session.{SessionValue, IsKept, state_of};
 
     ghost Value = { SessionValue };
 
@@ -49,7 +49,7 @@ impl<A: Allocator> Model for Session<A> {
       state = state_of s.stage s.block.items s.body;
     } };
 
-    ghost invariant = { λ s. IsWanting s.stage s.body };
+    ghost invariant = { λ s. IsKept s.stage s.block.items s.body };
 }
 
 impl<A: Allocator> Session<A> {
@@ -84,7 +84,7 @@ impl<A: Allocator + Copy> Session<A> {
         ensures ok { IfOk result
             (λ events. Feeds self.old piece.now (map event_of events.items) self.new) }
         ensures err { OnErr result (IsClosed self.new) }
-        ensures memory { OnErr result (MayWant self.old piece.now) }
+        ensures memory { OnErr result (MayRunShort self.old piece.now) }
         ensures prefix { self.new.prefix ≡ self.old.prefix }
     {
         match self.cut(alloc, piece) {
@@ -103,7 +103,7 @@ impl<A: Allocator + Copy> Session<A> {
         ensures ok { IfOk result
             (λ x. FeedsFirst self.old piece.now x.0 (option_map event_of x.1) self.new) }
         ensures err { OnErr result (IsClosed self.new) }
-        ensures memory { OnErr result (MayWant self.old piece.now) }
+        ensures memory { OnErr result (MayRunShort self.old piece.now) }
         ensures prefix { self.new.prefix ≡ self.old.prefix }
     {
         let first = self.take_first(alloc, piece);
@@ -124,21 +124,19 @@ impl<A: Allocator + Copy> Session<A> {
         }
     }
 
-    /// Closes the session. The bytes of a body that isn't whole are dropped.
+    /// Closes the session. The bytes of a request that isn't whole are dropped.
     pub fn close(&mut self, alloc: A)
         ensures state { IsClosed self.new }
         ensures prefix { self.new.prefix ≡ self.old.prefix }
     {
-        self.block.clear();
-        self.body = Body::new(alloc);
-        self.stage = Stage::Closed;
+        self.end(alloc, true);
     }
 
     /// Takes the piece. After an `Err` the session is in the middle of it.
     fn cut(&mut self, alloc: A, piece: &[u8]) -> Result<Vec<Event<A>, A>, AllocError>
         ensures ok { IfOk result
             (λ events. Feeds self.old piece.now (map event_of events.items) self.new) }
-        ensures memory { OnErr result (MayWant self.old piece.now) }
+        ensures memory { OnErr result (MayRunShort self.old piece.now) }
         ensures prefix { self.new.prefix ≡ self.old.prefix }
     {
         let mut events = Vec::new(alloc);
@@ -163,7 +161,7 @@ impl<A: Allocator + Copy> Session<A> {
     ) -> Result<(usize, Option<Event<A>>), AllocError>
         ensures ok { IfOk result
             (λ x. FeedsFirst self.old piece.now x.0 (option_map event_of x.1) self.new) }
-        ensures memory { OnErr result (MayWant self.old piece.now) }
+        ensures memory { OnErr result (MayRunShort self.old piece.now) }
         ensures prefix { self.new.prefix ≡ self.old.prefix }
     {
         let mut at = 0;
@@ -210,7 +208,7 @@ impl<A: Allocator + Copy> Session<A> {
         if self.block.len() < MAX_BLOCK {
             return Ok((line.len(), None));
         }
-        self.end(true);
+        self.close(alloc);
         Ok((line.len(), Some(Event::Refuse(431, true))))
     }
 
@@ -226,16 +224,16 @@ impl<A: Allocator + Copy> Session<A> {
     {
         match judgement {
             Judgement::Refuse(status, close) => {
-                self.end(close);
+                self.end(alloc, close);
                 Some(Event::Refuse(status, close))
             }
             Judgement::Get(area, hash, close) => {
-                self.end(close);
+                self.end(alloc, close);
                 Some(Event::Ask(Ask::Get(area, hash), close))
             }
             Judgement::Put(area, hash, length, close) => {
                 if length == 0 {
-                    self.end(close);
+                    self.end(alloc, close);
                     let body = Body::new(alloc).seal();
                     return Some(Event::Ask(Ask::Put(area, hash, body), close));
                 }
@@ -267,16 +265,17 @@ impl<A: Allocator + Copy> Session<A> {
         let (front, _) = piece.split_at(missing);
         self.body.push(front)?;
         let body = mem::replace(&mut self.body, Body::new(alloc)).seal();
-        self.end(close);
+        self.end(alloc, close);
         Ok((missing, Some(Event::Ask(Ask::Put(area, hash, body), close))))
     }
 
-    /// Ends the request at hand.
-    fn end(&mut self, close: bool)
+    /// Ends the request at hand, of which nothing is kept.
+    fn end(&mut self, alloc: A, close: bool)
         ensures prefix { self.new.prefix ≡ self.old.prefix }
         ensures state { self.new.state ≡ ended close }
     {
         self.block.clear();
+        self.body = Body::new(alloc);
         self.stage = if close { Stage::Closed } else { Stage::Block };
     }
 }

@@ -122,10 +122,10 @@ pub record ServesEach
   pub each : (k : ℕ) → k < count → HasEnded cut ended lost prefix opening history entries k
 
 -- so it is, whatever history had led to the server
-abbrev pub Serves :
+abbrev pub ServesConnections :
     Bool → (ℕ → List ℕ → List ℕ → Why → Type 0) → (ℕ → Cause → Type 0)
     → ServerValue → ℕ → ServerValue → Type 0
-Serves cut ended over old count new =
+ServesConnections cut ended over old count new =
     (opening : CacheValue) (history : List HistoryEntry)
     → ServerStands opening old history
     → ServesEach cut ended over old.prefix opening history count new

@@ -1,7 +1,7 @@
 ghost use Rattle.std.specs.Prelude.{◌≡◌, ◌≤◌, ℕ, [], None, IfErr, IfOk, OnOk, false, true};
 ghost use Rattle.std.specs.IoError.{error_kind};
 ghost use Rattle.std.specs.declared.io.ErrorKind.TheVariants.{OutOfMemory};
-ghost use Rattle.service.specs.Talks.{Serves, Stops};
+ghost use Rattle.service.specs.Talks.{ServesConnections, Stops};
 ghost use Rattle.service.specs.Together.{AreSame, GoesOnTogether, StaysPlaced, member_at};
 
 use crate::desk::Desk;
@@ -59,10 +59,10 @@ pub fn serve_together<R: AllocGlobal + Clock + ErrorTerminal + Log + Net>(
     server: &mut Server<Global>,
 ) -> Result<(), NotAccepted>
     // What came over these connections led to the server, in the order of its calls.
-    ensures ok { OnOk result (Serves false (λ _ _ _ _. Unit {0}) (λ _ _. Unit {0})
+    ensures ok { OnOk result (ServesConnections false (λ _ _ _ _. Unit {0}) (λ _ _. Unit {0})
         server.old connections server.new) }
-    ensures err { IfErr result (λ fault. Serves true (λ _ _ _ _. Unit {0}) (λ _ _. Unit {0})
-        server.old fault.accepted server.new) }
+    ensures err { IfErr result (λ fault. ServesConnections true (λ _ _ _ _. Unit {0})
+        (λ _ _. Unit {0}) server.old fault.accepted server.new) }
     ensures few { IfErr result (λ fault. fault.accepted ≤ connections) }
 {
     let mut sockets = match Epoll::new(rt, listener) {
@@ -97,15 +97,15 @@ pub fn serve_sockets<R: AllocGlobal + Clock + Log, N: Sockets>(
     // were sent but for a part of one; and it ended for a reason, or was cut off with the run. What
     // came led to the server, in the order of its calls.
     ensures ok { OnOk result
-        (Serves false N.ended N.lost server.old connections server.new) }
+        (ServesConnections false N.ended N.lost server.old connections server.new) }
     ensures err { IfErr result (λ fault.
-        Serves true N.ended N.lost server.old fault.accepted server.new) }
+        ServesConnections true N.ended N.lost server.old fault.accepted server.new) }
     ensures few { IfErr result (λ fault. fault.accepted ≤ connections) }
     // Never were more than so many open, and none is in the end.
     ensures places { N.places sockets.old at_once → N.places sockets.new at_once }
     // It was cut off; or none was open, and a hundred accepts in a row failed.
     ensures stops { IfErr result (λ fault. Stops N.failed N.refused N.broken
-        (Serves false N.ended N.lost server.old fault.accepted server.new)
+        (ServesConnections false N.ended N.lost server.old fault.accepted server.new)
         sockets.new fault.fault) }
 {
     let mut accepted: u64 = 0;

@@ -7,12 +7,12 @@ use Rattle.blob_store.proofs.store.BlobStore.pin_all.Goals as goal
 
 pub pin_all-requires-clause-counts : goal.pin_all-requires-clause-counts
 pin_all-requires-clause-counts g c = λ k a.
-    let keys : c.deref.result.now ≡ hashes_of c.args.digests.now = c.deref.ensures.value ∙ c.in_ok-hashes.ensures in
+    let keys : c.deref.result.now ≡ hashes_of c.args.digests.now = c.deref.ensures.value ∙ c.in_ok-hashes.ensures.ok in
     subst (λ (w : Kept (List ℕ)). pins_of bytes_eq w.entries k + 1 < 2 ^ 64) (sym c.self.view_is) (c.requires.counts k (subst (λ l. is_among bytes_eq l k ≡ true) keys a))
 
 pub returns-in_err-pin_all-clause-not_held : goal.returns-in_err-pin_all-clause-not_held
 returns-in_err-pin_all-clause-not_held g c =
-    let keys : c.deref.result.now ≡ hashes_of c.args.digests.now = c.deref.ensures.value ∙ c.in_ok-hashes.ensures in
+    let keys : c.deref.result.now ≡ hashes_of c.args.digests.now = c.deref.ensures.value ∙ c.in_ok-hashes.ensures.ok in
     let es = c.self.inside.blobs.entries in
     let all : all_held (found_in es) c.args.digests.now ≡ true = subst (λ (w : Kept (List ℕ)). all_held (found_in w.entries) c.args.digests.now ≡ true) (sym c.self.view_is) (sym c.contains_all.ensures ∙ c.if-not-contains_all.false) in
     let stored = ap (λ ks. all_stored bytes_eq es ks) keys ∙ held_stored es c.args.digests.now all in

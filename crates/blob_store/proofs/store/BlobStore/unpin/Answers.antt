@@ -17,7 +17,7 @@ returns-in_err-hashes-clause-not_pinned g c =
 
 pub returns-in_err-unpin-clause-not_pinned : goal.returns-in_err-unpin-clause-not_pinned
 returns-in_err-unpin-clause-not_pinned g c =
-    let keys : c.deref.result.now ≡ hashes_of c.args.digests.now = c.deref.ensures.value ∙ c.in_ok-hashes.ensures in
+    let keys : c.deref.result.now ≡ hashes_of c.args.digests.now = c.deref.ensures.value ∙ c.in_ok-hashes.ensures.ok in
     let es = c.self.inside.blobs.entries in
     let all : all_pinned bytes_eq c.args.self.now.entries (hashes_of c.args.digests.now) ≡ true = sym (each_pinned c.args.self.now.entries c.args.digests.now) ∙ sym c.pins_all.ensures ∙ c.if-not-pins_all.false in
     let stored : all_pinned bytes_eq es c.deref.result.now ≡ true = ap (all_pinned bytes_eq es) keys ∙ subst (λ (w : Kept (List ℕ)). all_pinned bytes_eq w.entries (hashes_of c.args.digests.now) ≡ true) (sym c.self.view_is) all in

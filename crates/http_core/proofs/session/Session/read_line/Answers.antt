@@ -60,8 +60,8 @@ returns-clause-takes g c =
       some = line_some c.first_line-line.result.now line.line;
       within = line.within;
       valid = (tt, tt);
-      moves = reads_line old.prefix old.state c.end.new.self.state inside.stage inside.block.items inside.body c.first_line-line.result.now read c.args.piece.now c.saturating_sub.result (Some (Refused 431 true)) is c.requires.reading line.line c.in_ok-extend_from_slice.ensures.items line.most room line.front
-          (λ front last e none few. past_block old.prefix front read last c.end.new.self.state e not_ends c.end.ensures.state many none few);
+      moves = reads_line old.prefix old.state c.close.new.self.state inside.stage inside.block.items inside.body c.first_line-line.result.now read c.args.piece.now c.saturating_sub.result (Some (Refused 431 true)) is c.requires.reading line.line c.in_ok-extend_from_slice.ensures.items line.most room line.front
+          (λ front last e none few. past_block old.prefix front read last c.close.new.self.state e not_ends c.close.ensures.state many none few);
     }
 
 pub follow-requires-clause-fits : goal.follow-requires-clause-fits
