@@ -77,6 +77,8 @@ pub fn measure_directory(rt: &HostRuntime, files: u32) -> Result<()> {
     let time = percent(decode, hash);
     let space = percent(u128::from(memory), u128::from(kib));
     println!(rt;
-        "{files} files, {kib} KiB: Digest::of {hash} us, decode {decode} us ({time} %), {memory} KiB more ({space} %)"
-    ).context("printing")
+        "{files} files, {kib} KiB: Digest::of {hash} us, decode {decode} us ({time} %), \
+         {memory} KiB more ({space} %)"
+    )
+    .context("printing")
 }

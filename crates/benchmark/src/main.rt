@@ -21,8 +21,11 @@ use store::measure_store;
 /// How often each call is timed.
 pub const ROUNDS: u32 = 5;
 
-const USAGE: &str =
-    "usage: benchmark digest MIB\n       benchmark directory FILES\n       benchmark result OUTPUTS\n       benchmark store ENTRIES";
+const USAGE: &str = "\
+usage: benchmark digest MIB
+       benchmark directory FILES
+       benchmark result OUTPUTS
+       benchmark store ENTRIES";
 
 fn main(rt: HostRuntime) -> Result<()> {
     let alloc = rt.alloc();

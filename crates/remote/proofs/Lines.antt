@@ -5,7 +5,7 @@ use Rattle.blob_source.specs.declared.source.FetchError.{FetchError}
 use Rattle.blob_source.specs.declared.source.FetchError.TheVariants.{Failed, Memory}
 use Rattle.remote.specs.declared.fault.Fault.{Fault}
 use Rattle.remote.specs.declared.fault.Fault.TheVariants.{Status}
-use Rattle.remote.specs.Line.{ConnectionValue, Request, IsSameServer, IsUncounted, IsNextStream, IsReplied, IsConnectionFault, ExplainsMemory, RefusesRequest, is_answer, text_of}
+use Rattle.remote.specs.Line.{ConnectionValue, Request, IsSameServer, IsUncounted, IsNextStream, IsReplied, IsConnectionFault, ExplainsMemory, RefusesRequest, is_answer, request_bytes}
 use Rattle.remote.specs.Flow.{Flow, SendsFront}
 use Rattle.remote.proofs.Flows.{fronts_all, fronts_from, fronts_then}
 use Rattle.remote.specs.Reply.{ReceivedReply, IsReply, RoundTrip, RoundTripForSome}
@@ -25,35 +25,35 @@ uncounted h k = record { count = k.count ∙ h.count; fault = k.fault ∙ h.faul
 
 -- a connection that wasn't broken fails
 pub refuses_fault : (old mid new : ConnectionValue) (request : Request) (fault : Fault) (e : FetchError) → old.broken ≡ false → IsUncounted old mid → IsSameServer old mid
-    → SendsFront old.flow mid.flow (text_of old request) → IsConnectionFault old new request fault → CountsFault mid new fault e → RefusesRequest old new request e
+    → SendsFront old.flow mid.flow (request_bytes old request) → IsConnectionFault old new request fault → CountsFault mid new fault e → RefusesRequest old new request e
 refuses_fault old mid new request fault e open_ none server sent is h = record {
   broken = h.broken;
   failed = λ f. record { count = (h.failed f).0 ∙ ap (λ n. n + 1) none.count; fault = fault; kept = (h.failed f).1; is = is };
   unfailed = λ f. uncounted none (h.unfailed f);
   bounded = h.bounded;
   still = λ shut. absurd (true_false old.broken open_ shut);
-  sent = fronts_then old.flow mid.flow new.flow (text_of old request) sent (ap (λ z. z.sent) h.flow);
+  sent = fronts_then old.flow mid.flow new.flow (request_bytes old request) sent (ap (λ z. z.sent) h.flow);
   server = same_server server h.server;
 }
 
 -- memory was wanting
 pub refuses_starved : (old mid new : ConnectionValue) (request : Request) (e : FetchError) → (old.broken ≡ true → mid.flow ≡ old.flow) → IsUncounted old mid → IsSameServer old mid
-    → SendsFront old.flow mid.flow (text_of old request) → Starves mid new e → RefusesRequest old new request e
+    → SendsFront old.flow mid.flow (request_bytes old request) → Starves mid new e → RefusesRequest old new request e
 refuses_starved old mid new request e still none server sent h = record {
   broken = h.broken;
   failed = λ f. absurd (memory_failed (sym h.is ∙ f));
   unfailed = λ f. uncounted none h.uncounted;
   bounded = h.bounded;
   still = λ is. h.flow ∙ still is;
-  sent = fronts_then old.flow mid.flow new.flow (text_of old request) sent (ap (λ z. z.sent) h.flow);
+  sent = fronts_then old.flow mid.flow new.flow (request_bytes old request) sent (ap (λ z. z.sent) h.flow);
   server = same_server server h.server;
 }
 
 -- what was sent is the one request
-sends_trip : {old mid : ConnectionValue} {request : Request} {reply : ReceivedReply} → IsReplied old mid request reply → SendsFront old.flow mid.flow (text_of old request)
+sends_trip : {old mid : ConnectionValue} {request : Request} {reply : ReceivedReply} → IsReplied old mid request reply → SendsFront old.flow mid.flow (request_bytes old request)
 sends_trip {old} {mid} {request} asks =
-    fronts_from old.flow asks.stream mid.flow (text_of old request) asks.next.sent
-    (fronts_all asks.stream asks.trip.between mid.flow (text_of old request) asks.trip.asks asks.trip.answers.read.sent)
+    fronts_from old.flow asks.stream mid.flow (request_bytes old request) asks.next.sent
+    (fronts_all asks.stream asks.trip.between mid.flow (request_bytes old request) asks.trip.asks asks.trip.answers.read.sent)
 
 -- the reply has a status that is no answer
 pub refuses_status : (old mid new : ConnectionValue) (request : Request) (reply : ReceivedReply) (n : ℕ) (e : FetchError)
@@ -61,7 +61,7 @@ pub refuses_status : (old mid new : ConnectionValue) (request : Request) (reply 
 refuses_status old mid new request reply n e asks is no_answer h =
     refuses_fault old mid new request (Status n) e asks.unbroken (record { count = asks.failures; fault = asks.fault }) asks.server
     (sends_trip asks)
-    (record { unbroken = asks.unbroken; stream = asks.stream; next = asks.next; reply = reply; trip = subst (λ f. RoundTrip asks.stream f (text_of old request) reply) (sym h.flow) asks.trip; is = is; refused = no_answer }) h
+    (record { unbroken = asks.unbroken; stream = asks.stream; next = asks.next; reply = reply; trip = subst (λ f. RoundTrip asks.stream f (request_bytes old request) reply) (sym h.flow) asks.trip; is = is; refused = no_answer }) h
 
 -- what a reply brought isn't kept for lack of memory
 pub refuses_unkept : (old mid new : ConnectionValue) (request : Request) (reply : ReceivedReply) (e : FetchError) → IsReplied old mid request reply → Starves mid new e → RefusesRequest old new request e
@@ -73,13 +73,13 @@ refuses_unkept old mid new request reply e asks h =
 
 -- some of what came isn't kept
 pub explains_unread : (old mid new : ConnectionValue) (stream : Flow) (request : Request) (e : FetchError) → old.broken ≡ false → IsNextStream old stream
-    → RoundTripForSome stream mid.flow (text_of old request) → Starves mid new e → ExplainsMemory old new request e
+    → RoundTripForSome stream mid.flow (request_bytes old request) → Starves mid new e → ExplainsMemory old new request e
 explains_unread old mid new stream request e open_ next trip h = record {
   lacks = λ is. inr (record {
     unbroken = open_;
     stream = stream;
     next = next;
-    is = inr (subst (λ f. RoundTripForSome stream f (text_of old request)) (sym h.flow) trip);
+    is = inr (subst (λ f. RoundTripForSome stream f (request_bytes old request)) (sym h.flow) trip);
   });
 }
 

@@ -26,8 +26,8 @@ pub record ConnectionValue : Type 0 where
   -- the fault of the last failure
   pub fault : Option Fault
 
-abbrev pub line_of : {S A : Type 0} → (S → Flow) → Line S A → ConnectionValue
-line_of flow l = record {
+abbrev pub line_value : {S A : Type 0} → (S → Flow) → Line S A → ConnectionValue
+line_value flow l = record {
   flow = flow l.stream;
   host = l.host;
   prefix = l.prefix;
@@ -43,8 +43,8 @@ pub record Request : Type 0 where
   pub hash : List ℕ
   pub body : Option (List ℕ)
 
-abbrev pub text_of : ConnectionValue → Request → List ℕ
-text_of line r = request_text line.prefix line.host r.area r.hash r.body
+abbrev pub request_bytes : ConnectionValue → Request → List ℕ
+request_bytes line r = request_text line.prefix line.host r.area r.hash r.body
 
 -- a PUT of the body, or a GET where there is none
 abbrev pub request : Area → List ℕ → Option (List ℕ) → Request
@@ -98,7 +98,7 @@ pub record IsReplied (old new : ConnectionValue) (request : Request) (reply : Re
   pub unbroken : old.broken ≡ false
   pub stream : Flow
   pub next : IsNextStream old stream
-  pub trip : RoundTrip stream new.flow (text_of old request) reply
+  pub trip : RoundTrip stream new.flow (request_bytes old request) reply
   pub stays : new.broken ≡ false
   pub closes : new.shut ≡ reply.close
   pub failures : new.failures ≡ old.failures
@@ -120,7 +120,7 @@ pub record ComesStatus (old new : ConnectionValue) (request : Request) (status :
   pub stream : Flow
   pub next : IsNextStream old stream
   pub reply : ReceivedReply
-  pub trip : RoundTrip stream new.flow (text_of old request) reply
+  pub trip : RoundTrip stream new.flow (request_bytes old request) reply
   pub is : reply.status ≡ status
   pub refused : is_answer request.body status ≡ false
 
@@ -129,15 +129,15 @@ pub record ComesBadly (old new : ConnectionValue) (request : Request) : Type 0 w
   pub unbroken : old.broken ≡ false
   pub stream : Flow
   pub next : IsNextStream old stream
-  pub trip : RoundTripForNone stream new.flow (text_of old request)
+  pub trip : RoundTripForNone stream new.flow (request_bytes old request)
 
 -- All of the request and the next reply didn't go over the stream for it: not all was sent, or part
 -- of the reply was read.
 pub record ComesInPart (old new : ConnectionValue) (request : Request) : Type 0 where
   pub stream : Flow
   pub next : IsNextStream old stream
-  pub part : SendsPart stream new.flow (text_of old request)
-      ⊎ RoundTripInPart stream new.flow (text_of old request)
+  pub part : SendsPart stream new.flow (request_bytes old request)
+      ⊎ RoundTripInPart stream new.flow (request_bytes old request)
 
 -- the stream failed: it couldn't be opened anew, or ended within the request or the reply
 abbrev pub IsStreamFault : ConnectionValue → ConnectionValue → Request → Type 0
@@ -176,7 +176,7 @@ pub record RefusesRequest (old new : ConnectionValue) (request : Request) (e : F
   pub unfailed : (e ≡ Failed → ⊥) → IsUncounted old new
   pub bounded : new.failures ≤ greatest_count
   pub still : old.broken ≡ true → new.flow ≡ old.flow
-  pub sent : SendsFront old.flow new.flow (text_of old request)
+  pub sent : SendsFront old.flow new.flow (request_bytes old request)
   pub server : IsSameServer old new
 
 -- Memory was wanting for the text of the request, before anything of it was sent, or for what was
@@ -185,7 +185,7 @@ pub record LacksMemory (old new : ConnectionValue) (request : Request) : Type 0 
   pub unbroken : old.broken ≡ false
   pub stream : Flow
   pub next : IsNextStream old stream
-  pub is : (new.flow ≡ stream) ⊎ RoundTripForSome stream new.flow (text_of old request)
+  pub is : (new.flow ≡ stream) ⊎ RoundTripForSome stream new.flow (request_bytes old request)
 
 -- A refusal for lack of memory is told for nothing else, but where a failure can't be counted.
 pub record ExplainsMemory (old new : ConnectionValue) (request : Request) (e : FetchError)

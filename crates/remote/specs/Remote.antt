@@ -13,7 +13,7 @@ use Rattle.remote.specs.declared.remote.Remote.{Remote}
 use Rattle.remote.specs.declared.table.Table.{Table}
 use Rattle.remote.specs.Flow.{Flow}
 use Rattle.remote.specs.Line.{ConnectionValue, ExplainsMemory, Gets, Puts, RefusesRequest, get}
-use Rattle.remote.specs.Line.{line_of, put}
+use Rattle.remote.specs.Line.{line_value, put}
 use Rattle.remote.specs.Table.{HasAnswer, IsSameBut, KeepsAnswers, told_by}
 
 -- what it kept, how often it failed and was called, and the list of results put
@@ -28,7 +28,7 @@ telling_of r = record {
 
 -- its connection
 abbrev pub connection_of : {S A : Type 0} → (S → Flow) → Remote S A → ConnectionValue
-connection_of flow r = line_of flow r.line
+connection_of flow r = line_value flow r.line
 
 -- the blobs and the results that it keeps
 abbrev pub blobs_of : {S A : Type 0} → Remote S A → Table A

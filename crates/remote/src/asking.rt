@@ -1,6 +1,6 @@
 ghost use Rattle.std.specs.Prelude.{◌≡◌, ◌≤◌, IfOk, IfErr, IsErrOf, None, Ok, OnErr, OnOk};
 ghost use Rattle.blob_source.specs.Source.{GrowsAt, bytes_of, greatest_count};
-ghost use Rattle.remote.specs.Line.{ExplainsMemory, Gets, RefusesRequest, get, line_of};
+ghost use Rattle.remote.specs.Line.{ExplainsMemory, Gets, RefusesRequest, get, line_value};
 ghost use Rattle.remote.specs.Table.{HasAnswer, IsSameBut, KeepsAnswers, told_by};
 ghost use Rattle.remote.specs.Steps.{KeepsAnswer, KeepsBytes, KeepsNothing};
 
@@ -24,19 +24,19 @@ pub(crate) fn look_up<S: Stream + Drop, A: Allocator + Copy>(
     ensures grows { GrowsAt digest.now (told_by table.old) (told_by table.new) }
     ensures held { IfOk result (λ _. HasAnswer table.new digest.now) }
     ensures kept { HasAnswer table.old digest.now → IfOk result
-        (λ _. line_of S.flow line.new ≡ line_of S.flow line.old) }
+        (λ _. line_value S.flow line.new ≡ line_value S.flow line.old) }
     ensures silent { HasAnswer table.old digest.now
         → S.flow line.new.stream ≡ S.flow line.old.stream }
     ensures absent { HasAnswer table.old digest.now → told_by table.old digest.now ≡ None
         → result ≡ Ok None }
     ensures asked { (HasAnswer table.old digest.now → ⊥) → IfOk result (λ answer. Gets
-        (line_of S.flow line.old)
-        (line_of S.flow line.new) area digest.now.hash (bytes_of answer)) }
+        (line_value S.flow line.old)
+        (line_value S.flow line.new) area digest.now.hash (bytes_of answer)) }
     ensures unfailed { HasAnswer table.old digest.now → IsErrOf result FetchError.Failed → ⊥ }
     ensures refused { IfErr result (RefusesRequest
-        (line_of S.flow line.old) (line_of S.flow line.new) (get area digest.now.hash)) }
+        (line_value S.flow line.old) (line_value S.flow line.new) (get area digest.now.hash)) }
     ensures starved { (HasAnswer table.old digest.now → ⊥) → IfErr result (ExplainsMemory
-        (line_of S.flow line.old) (line_of S.flow line.new) (get area digest.now.hash)) }
+        (line_value S.flow line.old) (line_value S.flow line.new) (get area digest.now.hash)) }
     ensures same { HasAnswer table.old digest.now → KeepsAnswers table.old table.new }
     ensures unheld { OnErr result (KeepsAnswers table.old table.new) }
     ensures others { IsSameBut digest.now table.old table.new }
@@ -84,10 +84,10 @@ pub(crate) fn keep_bytes<S: Stream + Drop, A: Allocator + Copy>(
     digest: &Digest,
     bytes: &[u8],
 ) -> Result<(), FetchError>
-    ensures ok { OnOk result (KeepsBytes table.old table.new (line_of S.flow line.old)
-        (line_of S.flow line.new) digest.now bytes.now) }
-    ensures err { IfErr result (KeepsNothing table.old table.new (line_of S.flow line.old)
-        (line_of S.flow line.new)) }
+    ensures ok { OnOk result (KeepsBytes table.old table.new (line_value S.flow line.old)
+        (line_value S.flow line.new) digest.now bytes.now) }
+    ensures err { IfErr result (KeepsNothing table.old table.new (line_value S.flow line.old)
+        (line_value S.flow line.new)) }
 {
     let Ok(copy) = Vec::from_slice(alloc, bytes) else {
         return Err(line.starve());

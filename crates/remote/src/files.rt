@@ -1,7 +1,9 @@
 ghost use Rattle.std.specs.Prelude.{◌≡◌, ◌⊎◌, ◌<◌, ◌≤◌, ℕ, List, length, vec_len, Ok, Err, OnOk};
-ghost use Rattle.std.specs.Prelude.{IfErr, IfOk, IfSome, IsErrAnd, IsOk};
+ghost use Rattle.std.specs.Prelude.{◌≢◌, IfErr, IfOk, IfSome, IsErrAnd, IsOk};
 ghost use Rattle.std.specs.declared.string.String.{String};
-ghost use Rattle.remote.specs.Folder.{IsErrorOf, IsReadable, TellsFault, TellsUnreadable};
+ghost use Rattle.std.specs.IoError.{error_kind};
+ghost use Rattle.remote.specs.Folder.{IsErrorOf, IsNotThere, IsReadable, TellsFault};
+ghost use Rattle.remote.specs.Folder.{TellsUnreadable};
 
 use std::alloc::{AllocError, Allocator};
 use std::io::{ErrorKind, Read};
@@ -98,10 +100,11 @@ fn read_whole<F: Read + Drop, A: Allocator + Copy>(
     ensures large { (p : String A) → result ≡ Err (FileError.TooLarge p)
         → IfSome (F.remaining file) (λ all. GREATEST_FILE < length all) }
     ensures error { IfErr result (IsErrorOf path.now) }
+    ensures there { IfErr result (λ e. IsNotThere e → ⊥) }
 {
     let mut bytes = Vec::with_capacity(alloc, metadata.len() as usize + 1)?;
     let mut front = file.take(GREATEST_FILE + 1);
-    answered(alloc, path, front.read_to_end(&mut bytes))?;
+    checked_read(alloc, path, front.read_to_end(&mut bytes))?;
     if bytes.len() as u64 > GREATEST_FILE {
         let path = String::from_str(alloc, path)?;
         return Err(FileError::TooLarge { path });
@@ -154,10 +157,41 @@ fn io_error<A: Allocator>(
 ) -> Result<FileError<A>, FileError<A>>
     ensures told { IfOk result (TellsFault path.now fault) }
     ensures memory { IfErr result (λ e. e ≡ FileError.Memory) }
+    ensures there { error_kind fault ≢ ErrorKind.NotFound
+        → IfOk result (λ e. IsNotThere e → ⊥) }
+    ensures small { IfOk result (λ e. (p : String A) → e ≢ FileError.TooLarge p) }
 {
     if fault.kind() == ErrorKind::OutOfMemory {
         return Ok(FileError::Memory);
     }
     let path = String::from_str(alloc, path)?;
     Ok(FileError::Io { path, fault })
+}
+
+/// What a read of an open file came to, or why it failed: never since no file is there.
+fn checked_read<A: Allocator>(
+    alloc: A,
+    path: &str,
+    read: io::Result<usize>,
+) -> Result<usize, FileError<A>>
+    ensures same { IfOk result (λ count. read ≡ Ok count) }
+    ensures error { IfErr result (IsErrorOf path.now) }
+    ensures there { IfErr result (λ e. IsNotThere e → ⊥) }
+    ensures small { IfErr result (λ e. (p : String A) → e ≢ FileError.TooLarge p) }
+{
+    match read {
+        Ok(count) => Ok(count),
+        Err(fault) => Err(io_error(alloc, path, of_open_file(fault))?),
+    }
+}
+
+/// The fault of a file that was opened.
+fn of_open_file(fault: io::Error) -> io::Error
+    ensures there { error_kind result ≢ ErrorKind.NotFound }
+    ensures same { error_kind fault ≢ ErrorKind.NotFound → result ≡ fault }
+{
+    if fault.kind() == ErrorKind::NotFound {
+        return io::Error::from(ErrorKind::Other);
+    }
+    fault
 }

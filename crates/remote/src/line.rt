@@ -1,7 +1,7 @@
 ghost use Rattle.std.specs.Prelude.{◌≡◌, IfOk, IfErr, OnOk, option_map};
 ghost use Rattle.blob_source.specs.Source.{bytes_of};
 ghost use Rattle.remote.specs.Line.{ExplainsMemory, IsReplied, Gets, Puts, RefusesRequest, get};
-ghost use Rattle.remote.specs.Line.{is_taken, line_of, put, request};
+ghost use Rattle.remote.specs.Line.{is_taken, line_value, put, request};
 ghost use Rattle.remote.specs.Reply.{reply_value};
 ghost use Rattle.remote.specs.Steps.{CantOpen, CountsFault, Opens, Starves};
 
@@ -29,7 +29,8 @@ pub(crate) struct Line<S: Drop, A: Allocator> {
 impl<S: Stream + Drop, A: Allocator + Copy> Line<S, A> {
     /// Counts a failure. One whose count is full is lack of memory instead.
     fn fail(&mut self, fault: Fault) -> FetchError
-        ensures { CountsFault (line_of S.flow self.old) (line_of S.flow self.new) fault result }
+        ensures { CountsFault (line_value S.flow self.old) (line_value S.flow self.new)
+            fault result }
     {
         self.broken = true;
         let _count = self.failures;
@@ -43,7 +44,7 @@ impl<S: Stream + Drop, A: Allocator + Copy> Line<S, A> {
 
     /// Lack of memory.
     pub(crate) fn starve(&mut self) -> FetchError
-        ensures { Starves (line_of S.flow self.old) (line_of S.flow self.new) result }
+        ensures { Starves (line_value S.flow self.old) (line_value S.flow self.new) result }
     {
         self.broken = true;
         let _count = self.failures;
@@ -53,9 +54,10 @@ impl<S: Stream + Drop, A: Allocator + Copy> Line<S, A> {
     /// Opens the stream anew where the server has closed it. `Broken` where a reply has and it
     /// can't be opened anew, and `Io` where that failed.
     fn open(&mut self) -> Result<(), Fault>
-        ensures opened { OnOk result (Opens (line_of S.flow self.old) (line_of S.flow self.new)) }
+        ensures opened { OnOk result
+            (Opens (line_value S.flow self.old) (line_value S.flow self.new)) }
         ensures unopened { IfErr result
-            (CantOpen (line_of S.flow self.old) (line_of S.flow self.new)) }
+            (CantOpen (line_value S.flow self.old) (line_value S.flow self.new)) }
     {
         if !self.shut && self.stream.is_open() {
             return Ok(());
@@ -78,14 +80,14 @@ impl<S: Stream + Drop, A: Allocator + Copy> Line<S, A> {
         digest: &Digest,
         body: Option<&[u8]>,
     ) -> Result<Reply<A>, FetchError>
-        ensures asked { IfOk result (λ reply. IsReplied (line_of S.flow self.old)
-            (line_of S.flow self.new) (request area digest.now.hash
+        ensures asked { IfOk result (λ reply. IsReplied (line_value S.flow self.old)
+            (line_value S.flow self.new) (request area digest.now.hash
             (option_map (λ b. b.now) body.entry)) (reply_value reply)) }
-        ensures refused { IfErr result (RefusesRequest (line_of S.flow self.old)
-            (line_of S.flow self.new) (request area digest.now.hash
+        ensures refused { IfErr result (RefusesRequest (line_value S.flow self.old)
+            (line_value S.flow self.new) (request area digest.now.hash
             (option_map (λ b. b.now) body.entry))) }
-        ensures starved { IfErr result (ExplainsMemory (line_of S.flow self.old)
-            (line_of S.flow self.new) (request area digest.now.hash
+        ensures starved { IfErr result (ExplainsMemory (line_value S.flow self.old)
+            (line_value S.flow self.new) (request area digest.now.hash
             (option_map (λ b. b.now) body.entry))) }
     {
         if self.broken {
@@ -117,12 +119,12 @@ impl<S: Stream + Drop, A: Allocator + Copy> Line<S, A> {
         area: Area,
         digest: &Digest,
     ) -> Result<Option<Vec<u8, A>>, FetchError>
-        ensures asked { IfOk result (λ answer. Gets (line_of S.flow self.old)
-            (line_of S.flow self.new) area digest.now.hash (bytes_of answer)) }
-        ensures refused { IfErr result (RefusesRequest (line_of S.flow self.old)
-            (line_of S.flow self.new) (get area digest.now.hash)) }
-        ensures starved { IfErr result (ExplainsMemory (line_of S.flow self.old)
-            (line_of S.flow self.new) (get area digest.now.hash)) }
+        ensures asked { IfOk result (λ answer. Gets (line_value S.flow self.old)
+            (line_value S.flow self.new) area digest.now.hash (bytes_of answer)) }
+        ensures refused { IfErr result (RefusesRequest (line_value S.flow self.old)
+            (line_value S.flow self.new) (get area digest.now.hash)) }
+        ensures starved { IfErr result (ExplainsMemory (line_value S.flow self.old)
+            (line_value S.flow self.new) (get area digest.now.hash)) }
     {
         let reply = self.ask(alloc, area, digest, None)?;
         if reply.status == 200 {
@@ -142,12 +144,12 @@ impl<S: Stream + Drop, A: Allocator + Copy> Line<S, A> {
         digest: &Digest,
         bytes: &[u8],
     ) -> Result<(), FetchError>
-        ensures asked { OnOk result (Puts (line_of S.flow self.old)
-            (line_of S.flow self.new) area digest.now.hash bytes.now) }
-        ensures refused { IfErr result (RefusesRequest (line_of S.flow self.old)
-            (line_of S.flow self.new) (put area digest.now.hash bytes.now)) }
-        ensures starved { IfErr result (ExplainsMemory (line_of S.flow self.old)
-            (line_of S.flow self.new) (put area digest.now.hash bytes.now)) }
+        ensures asked { OnOk result (Puts (line_value S.flow self.old)
+            (line_value S.flow self.new) area digest.now.hash bytes.now) }
+        ensures refused { IfErr result (RefusesRequest (line_value S.flow self.old)
+            (line_value S.flow self.new) (put area digest.now.hash bytes.now)) }
+        ensures starved { IfErr result (ExplainsMemory (line_value S.flow self.old)
+            (line_value S.flow self.new) (put area digest.now.hash bytes.now)) }
     {
         let reply = self.ask(alloc, area, digest, Some(bytes))?;
         if is_taken(reply.status) {

@@ -1,5 +1,5 @@
-//! Rows of whole builds by the engine and by a runner, of the verdicts on them and of the lines that
-//! report them, each from a file with what it comes to by another implementation or by the
+//! Rows of whole builds by the engine and by a runner, of the verdicts on them and of the lines
+//! that report them, each from a file with what it comes to by another implementation or by the
 //! documents. It prints of each file how many rows come to what they say, with each request for
 //! memory refused in turn, and else the first that doesn't.
 #![tactic(auto)]

@@ -132,9 +132,9 @@ fn run_to(row: &Row<'_>, most: usize, least: usize) -> Result<Ran, AllocError> {
     run_over(row.heap, row, row.stream, most, (0, 0))
 }
 
-/// `refuse_runs ..`: each request for memory of a run over the stream is refused in turn. Tells where
-/// such a run ends otherwise than for lack of memory, answers more or less than the requests before,
-/// or leaves the cache otherwise than these do. How many were refused and told as such.
+/// `refuse_runs ..`: each request for memory of a run over the stream is refused in turn. Tells
+/// where such a run ends otherwise than for lack of memory, answers more or less than the requests
+/// before, or leaves the cache otherwise than these do. How many were refused and told as such.
 pub fn refuse_runs(row: &Row<'_>, text: &mut String) -> Result<u64, AllocError> {
     let mut refused = 0u64;
     for number in 1..10_000u64 {

@@ -4,8 +4,8 @@ use blob_digest::Digest;
 use http_core::*;
 use std::alloc::{AllocError, Allocator, Global};
 
-/// Adds the events that a session tells of the stream, up to a refusal of memory, after which nothing
-/// may come. The words are its prefix.
+/// Adds the events that a session tells of the stream, up to a refusal of memory, after which
+/// nothing may come. The words are its prefix.
 pub fn session<A: Allocator + Copy>(
     alloc: A,
     row: &Row<'_>,

@@ -3,8 +3,8 @@ ghost use Rattle.std.specs.Prelude.{◌<◌};
 
 use std::alloc::{AllocError, Global};
 
-/// The text with what the line of a name has in place of each `$NAME`. The names are lines, each of a
-/// name and what it stands for.
+/// The text with what the line of a name has in place of each `$NAME`. The names are lines, each of
+/// a name and what it stands for.
 pub fn spelled(alloc: Global, names: &str, text: &str) -> Result<String, AllocError> {
     let mut told = String::from_str(alloc, text)?;
     for line in names.lines() {

@@ -19,12 +19,27 @@ whole_of : (known : Option (List ℕ)) (n : ℕ) (bytes : List ℕ) → IfSome k
 whole_of None n bytes h few = tt
 whole_of (Some all) n bytes h few = h ∙ take_all n all (omega (arith, few, ap length h, length-take n all))
 
+-- more than so many came, so it has more
+more_of : (known : Option (List ℕ)) (n : ℕ) (bytes : List ℕ) (m : ℕ) → IfSome known (λ all. bytes ≡ take n all) → m < length bytes → IfSome known (λ all. m < length all)
+more_of None n bytes m h few = tt
+more_of (Some all) n bytes m h few = omega (arith, few, ap length h, length-take n all)
+
+pub returns-then-len-gt-GREATEST_FILE-clause-large : goal.returns-then-len-gt-GREATEST_FILE-clause-large
+returns-then-len-gt-GREATEST_FILE-clause-large g c p is =
+    let known = g.F.Read.remaining in
+    let front = c.take-front.result in
+    let bytes = c.read_to_end.new.buf in
+    let came = subst (λ r. OnOk r (IfSome (take_remaining known front) (λ xs. bytes.items ≡ c.in_ok-bytes.bytes.items ++ xs))) c.in_ok-checked_read.ensures.same c.read_to_end.ensures.bytes in
+    more_of (known c.args.file) 16777217 bytes.items 16777216
+    (front_of known c.args.file front 16777217 c.in_ok-bytes.bytes.items bytes.items c.take-front.ensures.inner c.take-front.ensures.limit c.in_ok-bytes.ensures.items came)
+    (let ok = bytes.ok in omega (arith, ok))
+
 pub returns-clause-whole : goal.returns-clause-whole
 returns-clause-whole g c =
     let known = g.F.Read.remaining in
     let front = c.take-front.result in
     let bytes = c.read_to_end.new.buf in
-    let came = subst (λ r. OnOk r (IfSome (take_remaining known front) (λ xs. bytes.items ≡ c.in_ok-bytes.bytes.items ++ xs))) c.in_ok-answered.ensures.same c.read_to_end.ensures.bytes in
+    let came = subst (λ r. OnOk r (IfSome (take_remaining known front) (λ xs. bytes.items ≡ c.in_ok-bytes.bytes.items ++ xs))) c.in_ok-checked_read.ensures.same c.read_to_end.ensures.bytes in
     whole_of (known c.args.file) 16777217 bytes.items
     (front_of known c.args.file front 16777217 c.in_ok-bytes.bytes.items bytes.items c.take-front.ensures.inner c.take-front.ensures.limit c.in_ok-bytes.ensures.items came)
     (let ok = bytes.ok in omega (arith, ok))

@@ -4,7 +4,7 @@ use Rattle.http_core.specs.declared.event.Area.TheVariants.{Cas}
 use Rattle.blob_source.specs.Sink.{HasRight, KeepsRight, PutsAt}
 use Rattle.blob_source.proofs.Asking.{ok_no_error}
 use Rattle.blob_source.proofs.Puts.{right_put}
-use Rattle.remote.specs.Line.{ConnectionValue, line_of}
+use Rattle.remote.specs.Line.{ConnectionValue, line_value}
 use Rattle.remote.specs.Steps.{KeepsNothing}
 use Rattle.remote.specs.Table.{told_by}
 use Rattle.remote.proofs.Storing.{puts_kept, stores_unkept}
@@ -14,9 +14,9 @@ pub returns-in_err-keep_bytes-clause-stored : goal.returns-in_err-keep_bytes-cla
 returns-in_err-keep_bytes-clause-stored g c =
     let flow = g.S.Stream.flow in
     let sent = c.in_ok-digest.ensures.sent in
-    let mid = line_of flow c.send_blob.new.self.line in
-    let new = line_of flow c.keep_bytes.new.line in
-    stores_unkept Cas (digest_of c.args.bytes.now) c.args.bytes.now (line_of flow c.args.self.now.line) mid new c.args.self.now.blobs c.keep_bytes.new.table
+    let mid = line_value flow c.send_blob.new.self.line in
+    let new = line_value flow c.keep_bytes.new.line in
+    stores_unkept Cas (digest_of c.args.bytes.now) c.args.bytes.now (line_value flow c.args.self.now.line) mid new c.args.self.now.blobs c.keep_bytes.new.table
     c.from_residual-in_err-keep_bytes.result c.in_err-keep_bytes.field-0.0 sent.taken
     (subst (λ t. KeepsNothing t c.keep_bytes.new.table mid new c.in_err-keep_bytes.field-0.0) sent.blobs c.in_err-keep_bytes.ensures.err) c.from_residual-in_err-keep_bytes.ensures.1
 
