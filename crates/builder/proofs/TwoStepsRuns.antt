@@ -1,18 +1,17 @@
 -- Whatever happens in a run of the build of two steps: its jobs run the two actions, and no two different blobs concerned share a digest.
-use Rattle.std.proofs.Common.{◌≡◌, ℕ, zero, suc, Bool, true, false, cond, List, [], ◌∷◌, Option, Some, None, refl, ap, sym, ◌∙◌, subst, arith, inl, inr}
-use Rattle.std.specs.Prelude.{◌⊎◌, Contains, codes, bytes_eq, option_map, option_and_then, slice_get}
+use Rattle.std.proofs.Common.{◌≡◌, ℕ, zero, suc, true, false, cond, List, [], ◌∷◌, Option, Some, None, refl, ap, sym, ◌∙◌, subst, arith, inl, inr}
+use Rattle.std.specs.Prelude.{◌==◌, ◌⊎◌, Contains, codes, bytes_eq, option_map, option_and_then}
 use Rattle.std.specs.List.{AllByRecursion}
-use Rattle.std.specs.Map.{lookup, remove_entry}
+use Rattle.std.specs.Map.{remove_entry}
 use Rattle.std.proofs.lemmas.Slice.Eq.{bytes_eq-Decides}
 use Rattle.hex.specs.Hex.{decode_pairs}
 use Rattle.blob_digest.specs.Digest.{DigestValue, NoClash}
-use Rattle.messages.specs.Tree.{TreeValue, tree_bytes}
+use Rattle.messages.specs.Tree.{tree_bytes}
 use Rattle.actions.specs.declared.outcome.Output.TheVariants as outputs
 use Rattle.actions.specs.Outcome.{OutcomeValue, OutputValue}
-use Rattle.tree.specs.Tree.{Name, Tree, Leaf, Entry}
+use Rattle.tree.specs.Tree.{Name}
 use Rattle.tree.specs.Merge.{merge}
-use Rattle.plan.specs.Values.{StepValue}
-use Rattle.verifier.specs.Build.{ActionMeaning, action_digest, Outcome, Event, start, finish, lose, State, opening, origin_at, outcome_of, job_of, output_at, action_of, happens, Obeys, IsRun, started, finished, lost}
+use Rattle.verifier.specs.Build.{ActionMeaning, action_digest, Outcome, Event, start, finish, lose, State, opening, outcome_of, job_of, output_at, action_of, happens, Obeys, IsRun, started, finished, lost}
 use Rattle.verifier.specs.Headline.{IsBlobOfAction, IsBlobOfOutcome, IsBlobOfEvent, IsBlobOfEvents}
 use Rattle.verifier.specs.TwoSteps as two
 use Rattle.verifier.proofs.FreshRuns.{found_one, kept_rest, one_answer}
@@ -95,8 +94,8 @@ own_mid s mid (finish w o) own obeys is = by (job_of w s) refl is
         subst IsOwn same (record { jobs = kept_rest IsOwnJob w s.jobs own.jobs; done = (first (found_one IsOwnJob w s.jobs job own.jobs at), own.done) })
       where
         first : IsOwnJob (w, job) → job.0 ≡ 0 → o ≡ two.gen.1
-        first (inl is) zero = table_valid.same two.gen.0 o two.gen.1 (subst (λ (j : ℕ × ActionMeaning). Contains two.table (j.1, o)) is (obeys job at)) (0, omega arith, refl)
-        first (inr is) zero = let number : 1 ≡ 0 = ap (λ (j : ℕ × ActionMeaning). j.0) (sym is) ∙ zero in absurd (omega (arith, number))
+        first (inl is) none = table_valid.same two.gen.0 o two.gen.1 (subst (λ (j : ℕ × ActionMeaning). Contains two.table (j.1, o)) is (obeys job at)) (0, omega arith, refl)
+        first (inr is) none = let number : 1 ≡ 0 = ap (λ (j : ℕ × ActionMeaning). j.0) (sym is) ∙ none in absurd (omega (arith, number))
 own_mid s mid (lose w) own obeys is = by (job_of w s) is
   where
     by : (q : Option (ℕ × ActionMeaning)) → lost s w q ≡ Some mid → IsOwn mid
@@ -196,7 +195,7 @@ is_about = record {
 
 told_or_tree : (b : List ℕ) → IsToldOrTree two.blobs worked.last b → Contains all_blobs b
 told_or_tree b (inl v) = kept_one b v
-told_or_tree b (inr (i, f, at, p, t, inside, is)) = by i f at inside
+told_or_tree b (inr (i, f, at, (p, t, inside, is))) = by i f at inside
   where
     by : (i : ℕ) (f : FinishedValue) → finished_in i example.engine ≡ Some f → Contains f.outcome.outputs (p, outputs.Tree t) → Contains all_blobs b
     by zero f at inside = let same : example.gen_finished ≡ f = cc in one (subst (λ (g : FinishedValue). Contains g.outcome.outputs (p, outputs.Tree t)) (sym same) inside)
