@@ -7,7 +7,7 @@ use Rattle.tree.specs.Tree.{Name, Tree, empty, leaf, folder, Entry, single, whol
 use Rattle.tree.specs.Form.{NodeValue, entry_node}
 use Rattle.tree.specs.Merge.{TreeLines}
 use Rattle.tree.specs.Merging.{in_source, NodeWithin, MergeLines, AreHeld}
-use Rattle.tree.specs.MergeAgrees.{StandFor, IsOfMerge}
+use Rattle.tree.specs.MergeAgrees.{GiveNodesOf, IsOfMerge}
 
 -- a source that tells the empty blob under every digest, right or wrong
 abbrev pub always_empty : Blobs
@@ -40,5 +40,5 @@ unlike_entries =
 -- what is asked of lines and of the entries that they stand for
 pub record CanBeTold (B : Blobs) (ls : MergeLines) (es : TreeLines) : Type 0 where
   pub held : AreHeld ls
-  pub stand : StandFor ls es
+  pub stand : GiveNodesOf ls es
   pub apart : NoClash (IsOfMerge B ls es)
