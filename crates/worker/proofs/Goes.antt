@@ -17,7 +17,7 @@ use Rattle.worker.specs.Stored.{IsKept}
 use Rattle.worker.specs.Storing.{HasAt, IsKeptBut}
 use Rattle.worker.specs.Outcomes.{Yields, YieldsNoMore, IsYielded}
 use Rattle.worker.specs.Calls.{running, Call, started, launched, ran, taken, lost, CameTo, HasChild, children_of, IsResultFor, HasChildsResult, WasStarted, FinishedByChild, IsLost, Does, Leads, IsLed, PutsOf, TakesRecorded, IsBuiltWith}
-use Rattle.worker.specs.Going.{HasNoneToTake, IsJobOf, AreJobsOf, IsOwnJob, IsGoing, HasChildFor, IsBegun, IsLaunched, job_value, EndedWell, GoesOnBy, jobs_with, one_if, taken_in}
+use Rattle.worker.specs.Going.{HasNoneToTake, IsJobOf, AreJobsOf, IsOwnJob, IsGoing, HasChildFor, IsBegun, IsLaunched, kept_job, EndedWell, GoesOnBy, jobs_with, one_if, taken_in}
 use Rattle.worker.specs.Watching.{taken_count, without_number, jobs_after}
 use Rattle.std.specs.List.{AllByRecursion}
 use Rattle.worker.proofs.Keeping.{kept_none, right_trans}
@@ -444,16 +444,16 @@ own_jobs A y may from to s t most old now cs g = jobs_map (IsOwnJob y may t.blob
 -- ---- a step that is started, or refused
 
 pub begun : {A J : Type 0} {y : Yields} {may : J → EndValue → Type 0} {from to : Starts} {B : Blobs} {s t : Telling} (u : Telling) {i : ℕ} {old mid new : EngineValue} {job : Job A} {before behind : List (Child J)} → IsStarted B i old mid job → KeepsRight B u.blobs → IsKept s t
-    → IsLaunched y may from to t u job.id (job_value job) mid new before behind → IsBegun A y may from to s u i old new before behind
+    → IsLaunched y may from to t u job.id (kept_job job) mid new before behind → IsBegun A y may from to s u i old new before behind
 begun {A} {J} {y} {may} {from} {to} {B} {s} {t} u {i} {old} {mid} {new} {job} {before} {behind} is keeps kept went = record {
   id = job.id;
   mid = mid;
   started = was_started is u.blobs keeps;
-  job = job_value job;
+  job = kept_job job;
   is = started_value is;
   goes = by went;
 }
   where
-    by : IsLaunched y may from to t u job.id (job_value job) mid new before behind → IsLaunched y may from to s u job.id (job_value job) mid new before behind
+    by : IsLaunched y may from to t u job.id (kept_job job) mid new before behind → IsLaunched y may from to s u job.id (kept_job job) mid new before behind
     by (inl (c, id, child, same, grown)) = inl (c, id, record { own = child.own; started = child.started; none = λ v held fits. child.none v (held_kept kept held) fits }, same, grown)
     by (inr taken_at_once) = inr taken_at_once

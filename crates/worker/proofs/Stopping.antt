@@ -17,8 +17,8 @@ use Rattle.worker.specs.declared.child.Child.{Child}
 use Rattle.worker.specs.declared.turns.Turn.{Turn}
 use Rattle.worker.specs.declared.turns.Turn.TheVariants as turns
 use Rattle.worker.specs.Calls.{Call, started, launched, ran, taken, lost, IsLost, Does, Leads}
-use Rattle.worker.specs.Going.{IsJobIn, job_value, IsGoing, IsBegun, IsTurn, EndedWell, HasEndedFirst, GoesOnBy, taken_in}
-use Rattle.worker.specs.Counted.{TellsFailure}
+use Rattle.worker.specs.Going.{IsJobIn, kept_job, IsGoing, IsBegun, IsTurn, EndedWell, HasEndedFirst, GoesOnBy, taken_in}
+use Rattle.worker.specs.Counted.{TellsRunFailure}
 use Rattle.worker.specs.Layout.{IsLayoutOf}
 use Rattle.worker.specs.Outcomes.{Yields, YieldsFor, YieldsNoMore, MayComeTo}
 use Rattle.worker.specs.Stored.{IsKept}
@@ -40,10 +40,10 @@ module _ {A : Type 0} (y : Yields) (t : Telling) (e : EngineValue) where
 
   pub child_stops : (job : Job A) → IsJobIn e job → HasRight t.blobs job.digest → (r : Refusal A) → StopsChild y t.blobs job.action.input job.command r → StopsStep y t e job.step r
   child_stops job is right (refusals.Engine why) h = absurd h
-  child_stops job is right (refusals.Layout why) h = (job.id, job_value job, is.there, refl, h)
+  child_stops job is right (refusals.Layout why) h = (job.id, kept_job job, is.there, refl, h)
   child_stops job is right (refusals.Run children.NotAbsolute) h = (job.command, is.command, h)
   child_stops job is right (refusals.Run (children.Device program cause)) (l, laid, may) =
-      (job.id, job_value job, is.there, refl, record { layout = l; laid = laid; command = job.command; of_step = is.command; may = may; action = right })
+      (job.id, kept_job job, is.there, refl, record { layout = l; laid = laid; command = job.command; of_step = is.command; may = may; action = right })
   child_stops job is right (refusals.Run (children.BadOutput path)) h = absurd h
   child_stops job is right (refusals.Run children.Memory) h = tt
   child_stops job is right refusals.Fetch h = tt
@@ -52,14 +52,14 @@ module _ {A : Type 0} (y : Yields) (t : Telling) (e : EngineValue) where
 -- what a runner told of a start that it refused, and of a child
 module _ {A T : Type 0} where
   pub start_stops : (y z : Yields) (B : Blobs) (input : DigestValue) (c : CommandValue) (l : LayoutValue) (e : RunError A) → IsLayoutOf B input l → YieldsNoMore z y → (IsErrOf {T = T} (Err e) children.NotAbsolute → IsAbsolute c → ⊥)
-      → ((path : List (List ℕ)) → IsErrOf {T = T} (Err e) (children.BadOutput path) → ⊥) → TellsFailure (YieldsFor z l c) e → StopsChild y B input c (refusals.Run e)
+      → ((path : List (List ℕ)) → IsErrOf {T = T} (Err e) (children.BadOutput path) → ⊥) → TellsRunFailure (YieldsFor z l c) e → StopsChild y B input c (refusals.Run e)
   start_stops y z B input c l children.NotAbsolute laid within refused bad told = refused refl
   start_stops y z B input c l (children.Device program cause) laid within refused bad told = (l, laid, (within l c (failed (string_bytes program) cause) told.0, told.1))
   start_stops y z B input c l (children.BadOutput path) laid within refused bad told = absurd (bad path refl)
   start_stops y z B input c l children.Memory laid within refused bad told = tt
 
   pub end_comes : (may : EndValue → Type 0) (e : RunError A) → (IsErrOf {T = T} (Err e) children.NotAbsolute → ⊥) → ((path : List (List ℕ)) → IsErrOf {T = T} (Err e) (children.BadOutput path) → may (bad_at path))
-      → TellsFailure may e → StopsCollecting may (refusals.Run e)
+      → TellsRunFailure may e → StopsCollecting may (refusals.Run e)
   end_comes may children.NotAbsolute absolute bad told = absurd (absolute refl)
   end_comes may (children.Device program cause) absolute bad told = told
   end_comes may (children.BadOutput path) absolute bad told = bad path refl

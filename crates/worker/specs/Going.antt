@@ -68,12 +68,12 @@ pub record IsGoing (A : Type 0) {J : Type 0} (yields : Yields) (may : J → EndV
   pub few : length children ≤ most
 
 -- a job as an engine has it
-abbrev pub job_value : {A : Type 0} → Job A → JobValue
-job_value job = record { step = job.step; action = job.digest; input = job.action.input }
+abbrev pub kept_job : {A : Type 0} → Job A → JobValue
+kept_job job = record { step = job.step; action = job.digest; input = job.action.input }
 
 -- the engine has the job and its command, and the job's digest is that of its action
 pub record IsJobIn {A : Type 0} (e : EngineValue) (job : Job A) : Type 0 where
-  pub there : job_in job.id e ≡ Some (job_value job)
+  pub there : job_in job.id e ≡ Some (kept_job job)
   pub command : slice_get e.commands job.step ≡ Some job.command
   pub digest : job.digest ≡ digest_of (action_bytes job.action)
 

@@ -7,7 +7,7 @@ ghost use Rattle.worker.specs.Storing.{Remembers, WerePut};
 ghost use Rattle.worker.specs.Calls.{IsStartable};
 ghost use Rattle.worker.specs.Outcomes.{YieldsFor, YieldsNoMore};
 ghost use Rattle.worker.specs.Values.{LayoutValue, EndValue, StartsNone, StartsOne};
-ghost use Rattle.worker.specs.Going.{IsJobIn, job_value, IsBegun, IsLaunched};
+ghost use Rattle.worker.specs.Going.{IsJobIn, kept_job, IsBegun, IsLaunched};
 ghost use Rattle.worker.specs.Stopping.{StopsChild, StopsBeginning};
 ghost use Rattle.worker.specs.Stopped.{StopsStep};
 
@@ -71,7 +71,7 @@ fn launch<A: Allocator + Copy, S: BlobSink<A>, N: Runner<A>>(
     ensures kept { IsKept (S.tells sink.old) (S.tells sink.new) }
     ensures launched { OnOk result (IsLaunched (N.yields runner.old) N.may_give
         (N.starts runner.old) (N.starts runner.new) (S.tells sink.old) (S.tells sink.new)
-        job.now.id (job_value job.now) engine.old engine.new children.old.items
+        job.now.id (kept_job job.now) engine.old engine.new children.old.items
         children.new.items) }
     ensures unlisted { OnErr result (StartsNone (N.starts runner.old) (N.starts runner.new)) }
     ensures refused { IfErr result

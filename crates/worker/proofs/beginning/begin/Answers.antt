@@ -2,7 +2,7 @@ use Rattle.worker.proofs.Keeping.{kept_trans, kept_some}
 use Rattle.std.proofs.Common.{◌≡◌, ◌∙◌, Some, refl, ap, subst, sym, inl, inr}
 use Rattle.runs.specs.Calls.{without_job}
 use Rattle.runs.specs.Engine.{EngineValue, job_in}
-use Rattle.worker.specs.Going.{job_value}
+use Rattle.worker.specs.Going.{kept_job}
 use Rattle.worker.specs.Stopped.{StopsStep}
 use Rattle.worker.proofs.Started.{started_in, started_value, was_started}
 use Rattle.worker.proofs.Goes.{begun}
@@ -18,7 +18,7 @@ launch-requires g c = record { job = started_in c.in-Ok.ensures.started; put = p
 pub lose-requires : goal.lose-requires
 lose-requires g c =
     let job = c.in-Ok.job in
-    (job_value job, subst (λ (e : EngineValue). job_in job.id e ≡ Some (job_value job)) (sym c.in-Err-launch.ensures.unchanged) (started_value c.in-Ok.ensures.started))
+    (kept_job job, subst (λ (e : EngineValue). job_in job.id e ≡ Some (kept_job job)) (sym c.in-Err-launch.ensures.unchanged) (started_value c.in-Ok.ensures.started))
 
 pub returns-in-Ok-launch-clause-kept : goal.returns-in-Ok-launch-clause-kept
 returns-in-Ok-launch-clause-kept g c = kept_trans (kept_some c.start.ensures.called) c.launch.ensures.kept

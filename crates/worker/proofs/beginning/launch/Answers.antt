@@ -4,7 +4,7 @@ use Rattle.blob_source.specs.Sink.{HasRight}
 use Rattle.std.specs.Prelude.{IfSome}
 use Rattle.worker.specs.declared.child.Child.{Child}
 use Rattle.worker.specs.Outcomes.{IsHeld, CanBeTakenFor, CanBeTaken}
-use Rattle.worker.specs.Going.{job_value}
+use Rattle.worker.specs.Going.{kept_job}
 use Rattle.worker.proofs.Stopping.{store_stops, child_stops}
 use Rattle.worker.proofs.Telling.{held_kept}
 use Rattle.worker.proofs.Keeping.{kept_trans, right_still}
@@ -92,13 +92,13 @@ returns-in_err-finish-clause-refused g c =
     let p = err_from_is_err_and c.from_residual-in_err-finish.result c.from_residual-in_err-finish.ensures.1 in
     let t = g.S.BlobSource.tells c.recorded_outcome.new.sink in
     let held : IsHeld t c.args.job.now.digest c.in-Some.outcome = subst (λ o. IfSome o (IsHeld t c.args.job.now.digest)) c.in-Some.is c.in_ok-outcome.ensures.held in
-    let taken : CanBeTakenFor (g.S.BlobSource.tells c.put_trees.new.sink) c.args.engine.now (job_value c.args.job.now) c.in-Some.outcome = record {
+    let taken : CanBeTakenFor (g.S.BlobSource.tells c.put_trees.new.sink) c.args.engine.now (kept_job c.args.job.now) c.in-Some.outcome = record {
       held = held_kept c.put_trees.ensures.kept held;
       command = c.args.job.now.command;
       of_step = c.requires.job.command;
       fits = subst (λ o. IfSome o (CanBeTaken c.args.job.now.command)) c.in-Some.is c.in_ok-outcome.ensures.fits;
     } in
-    rw (p.1, p.2) (inr (c.args.job.now.id, job_value c.args.job.now, c.requires.job.there, refl, (c.in-Some.outcome, inr taken, c.in_err-finish.ensures.refused)))
+    rw (p.1, p.2) (inr (c.args.job.now.id, kept_job c.args.job.now, c.requires.job.there, refl, (c.in-Some.outcome, inr taken, c.in_err-finish.ensures.refused)))
 
 pub returns-in_err-child-clause-refused : goal.returns-in_err-child-clause-refused
 returns-in_err-child-clause-refused g c =
