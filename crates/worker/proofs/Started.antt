@@ -39,5 +39,7 @@ module _ {A : Type 0} {B : Blobs} {i : ℕ} {old mid : EngineValue} {job : Job A
     there = started_value;
     command = subst (λ n. slice_get mid.commands n ≡ Some job.command) (sym s.prepared.of_step)
         (ap (λ (e : EngineValue). slice_get e.commands i) s.after ∙ s.prepared.command);
+    frame = subst (λ n. slice_get mid.frames n ≡ Some job.action.frame) (sym s.prepared.of_step)
+        (ap (λ (e : EngineValue). slice_get e.frames i) s.after ∙ s.prepared.frame);
     digest = s.prepared.digest;
   }

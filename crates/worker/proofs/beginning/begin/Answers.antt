@@ -50,6 +50,15 @@ returns-clause-knows g c = record {
   put = c.launch.ensures.put;
 }
 
+pub returns-in-Err-clause-stays : goal.returns-in-Err-clause-stays
+returns-in-Err-clause-stays g c = record { memo = c.start.ensures.learned.kept; put = λ d among. among }
+
+pub returns-in-Ok-launch-clause-stays : goal.returns-in-Ok-launch-clause-stays
+returns-in-Ok-launch-clause-stays g c = record { memo = c.start.ensures.learned.kept; put = c.launch.ensures.stays }
+
+pub returns-clause-stays : goal.returns-clause-stays
+returns-clause-stays g c = record { memo = c.start.ensures.learned.kept; put = c.launch.ensures.stays }
+
 pub returns-in-Err-clause-stopped : goal.returns-in-Err-clause-stopped
 returns-in-Err-clause-stopped g c = (refl, inl (c.in-Err.ensures.unchanged, inl (c.requires.startable, c.in-Err.ensures.refused)))
 
