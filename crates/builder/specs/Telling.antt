@@ -33,7 +33,7 @@ pub record TellsFailed {A : Type 0} (plan : PlanValue) (error : BuildPlanError A
 
 -- What came of a plan can't be told in a line: it ended with this error, which has no number; or
 -- memory ran out as it was told.
-pub record IsUntold {A : Type 0} (came : Result BuiltValue (BuildPlanError A))
+pub record HasNoLine {A : Type 0} (came : Result BuiltValue (BuildPlanError A))
     (error : BuildPlanError A) : Type 0 where
   pub unnumbered : HasNoNumber (fault_of error)
   pub is : (came ≡ Err error) ⊎ (fault_of error ≡ Memory)
@@ -45,7 +45,7 @@ Tells plan (Ok (Built line noted directories)) (Ok b) =
     TellsBuilt plan b (string_bytes line) noted.items (blobs_of directories.items)
 Tells plan (Ok (Failed line why)) (Err error) =
     TellsFailed plan error (string_bytes line) (string_bytes why)
-Tells plan (Err error) came = IsUntold came error
+Tells plan (Err error) came = HasNoLine came error
 Tells plan told came = ⊥
 
 -- it is told of what came of this plan

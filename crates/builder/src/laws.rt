@@ -18,8 +18,8 @@ use std::alloc::Allocator;
 use worker::Runner;
 
 /// The calls of a build are the events of a run, whose state the engine mirrors at the end: for
-/// whatever the sources are, the steps mean and actions come to, as the build found them. So what is
-/// said of a build whose engine mirrors a run is said of each. A law: it does nothing.
+/// whatever the sources are, the steps mean and actions come to, as the build found them. So what
+/// is said of a build whose engine mirrors a run is said of each. A law: it does nothing.
 pub fn a_build_is_a_run<A: Allocator, N: Runner<A>>(runner: &N)
     ensures { (plan : PlanValue) (sources : DigestValue) (opening told : Telling) (most : ℕ)
         (first last : EngineValue)

@@ -8,7 +8,7 @@ use Rattle.messages.specs.Path.{path_text}
 use Rattle.actions.specs.Outcome.{OutputValue, OutcomeValue, AddsOutput, paths_of_outputs}
 use Rattle.processes.specs.declared.workshop.Standing.TheVariants as standings
 use Rattle.processes.specs.Workshop.{Works}
-use Rattle.processes.specs.Laying.{place_below}
+use Rattle.processes.specs.Laying.{place_in}
 use Rattle.processes.specs.Collected.{AreKept, IsOutputAt, IsFound, IsSettled, IsOfOutput, IsMore}
 use Rattle.processes.proofs.Lists.{all_more, all_still, kept_trans}
 
@@ -48,7 +48,7 @@ module _ {R C E : Type 0} (works : Works R C E) (ended : E) where
       own_kept : AreKept own after
       own_kept = record { kept = λ b h. subst (λ bs. Contains bs b) (sym blobs) (Contains-append_right before own b h) }
 
-      nothing_more : own ≡ [] → works.stands ended (place_below folder (path_text path)) standings.Nothing → IsSoFar (some ++ path ∷ []) code old after
+      nothing_more : own ≡ [] → works.stands ended (place_in folder (path_text path)) standings.Nothing → IsSoFar (some ++ path ∷ []) code old after
       nothing_more none stands =
           let same : after ≡ before = blobs ∙ ap (λ xs. before ++ xs) none ∙ append-nil before in
           record {
@@ -58,7 +58,7 @@ module _ {R C E : Type 0} (works : Works R C E) (ended : E) where
             only = λ b h. s.only b (subst (λ bs. Contains bs b) same h);
           }
 
-      output_more : Contains paths path → (o : OutputValue) → IsOutputAt works ended (place_below folder (path_text path)) o own
+      output_more : Contains paths path → (o : OutputValue) → IsOutputAt works ended (place_in folder (path_text path)) o own
           → AddsOutput old path o new → IsSoFar (some ++ path ∷ []) code new after
       output_more listed o at adds =
           let P = IsFound works ended folder paths after in
@@ -98,17 +98,17 @@ module _ {R C E : Type 0} (works : Works R C E) (ended : E) where
           only_more mine b (inr h) = record { path = path; output = o; inside = mine; own = own; at = at; one = h }
 
     module _ (some : List (List (List ℕ))) (code : ℤ) (path : List (List ℕ)) (old : OutcomeValue) (before : List (List ℕ)) (new : OutcomeValue) (after : List (List ℕ)) where
-      pub so_far_more : IsSoFar some code old before → Contains paths path → IsMore works ended (place_below folder (path_text path)) path old before new after → IsSoFar (some ++ path ∷ []) code new after
+      pub so_far_more : IsSoFar some code old before → Contains paths path → IsMore works ended (place_in folder (path_text path)) path old before new after → IsSoFar (some ++ path ∷ []) code new after
       so_far_more s listed m = by m.more
         where
-          by : (works.stands ended (place_below folder (path_text path)) standings.Nothing × (new ≡ old) × (m.own ≡ []))
-              ⊎ ((o : OutputValue) × IsOutputAt works ended (place_below folder (path_text path)) o m.own × AddsOutput old path o new)
+          by : (works.stands ended (place_in folder (path_text path)) standings.Nothing × (new ≡ old) × (m.own ≡ []))
+              ⊎ ((o : OutputValue) × IsOutputAt works ended (place_in folder (path_text path)) o m.own × AddsOutput old path o new)
               → IsSoFar (some ++ path ∷ []) code new after
           by (inl (stands, same, none)) = subst (λ n. IsSoFar (some ++ path ∷ []) code n after) (sym same) (nothing_more some code path old before new after m.own m.blobs s none stands)
           by (inr (o, at, adds)) = output_more some code path old before new after m.own m.blobs s listed o at adds
 
     pub so_far_taken : (i : ℕ) (code : ℤ) (path : List (List ℕ)) (old : OutcomeValue) (before : List (List ℕ)) (new : OutcomeValue) (after : List (List ℕ)) (place : List ℕ)
-        → i < length paths → path ≡ get_or paths i path → IsSoFar (take i paths) code old before → place ≡ place_below folder (path_text path)
+        → i < length paths → path ≡ get_or paths i path → IsSoFar (take i paths) code old before → place ≡ place_in folder (path_text path)
         → IsMore works ended place path old before new after → IsSoFar (take (i + 1) paths) code new after
     so_far_taken i code path old before new after place lt is s at m =
         let taken : take (i + 1) paths ≡ take i paths ++ path ∷ [] = take_more paths i path lt ∙ ap (λ y. take i paths ++ y ∷ []) (sym is) in

@@ -25,7 +25,7 @@ use Rattle.worker.specs.Outcomes.{directories_of}
 use Rattle.processes.specs.declared.workshop.Standing.{Standing as PlaceStanding}
 use Rattle.processes.specs.declared.workshop.Standing.TheVariants as standings
 use Rattle.processes.specs.Workshop.{Works}
-use Rattle.processes.specs.Laying.{place_below}
+use Rattle.processes.specs.Laying.{place_in}
 use Rattle.processes.specs.Collected.{AreKept, IsFileAt, place_at, HasNames, IsStandingOf, IsContentAt, IsTreeAt, IsNoOutput, IsBadFolder}
 use Rattle.processes.specs.Walking.{HasAbove, IsBare, IsOfMessage, LeavesOthers, IsWalked}
 use Rattle.processes.specs.declared.trouble.Trouble.{Trouble}
@@ -228,8 +228,8 @@ module _ {R C E : Type 0} (works : Works R C E) (ended : E) (place : List ℕ) (
     unseen : Contains seen n → ⊥
     unseen c = (s.found.names n).0 c gone
 
-    pub file_seen : (after : List (List ℕ)) (b : List ℕ) (d : DigestValue) → standing ≡ a_leaf (nodes.File d false) → works.stands ended (place_below place n) standings.File
-        → works.holds ended (place_below place n) (Some b) → d ≡ digest_of b → after ≡ between ++ b ∷ [] → IsSoFar (seen ++ n ∷ []) old mid before after
+    pub file_seen : (after : List (List ℕ)) (b : List ℕ) (d : DigestValue) → standing ≡ a_leaf (nodes.File d false) → works.stands ended (place_in place n) standings.File
+        → works.holds ended (place_in place n) (Some b) → d ≡ digest_of b → after ≡ between ++ b ∷ [] → IsSoFar (seen ++ n ∷ []) old mid before after
     file_seen after b d leaf stands holds digest blobs = record {
       above = added_above path n standing was mid add;
       others = λ q below prefix. added_others path n standing was mid add q below prefix ∙ s.others q below prefix;
@@ -261,8 +261,8 @@ module _ {R C E : Type 0} (works : Works R C E) (ended : E) (place : List ℕ) (
       none = λ m p. ap (standing_in mid) (append_assoc path (n ∷ []) (m ∷ p)) ∙ added_below path n standing was mid add m p ∙ s.found.none n (m ∷ p) unseen;
     }
 
-    pub folder_seen : (new : FlatValue) (after : List (List ℕ)) → standing ≡ a_directory → works.stands ended (place_below place n) standings.Folder
-        → IsWalked works ended (place_below place n) (path ++ n ∷ []) mid new between after → IsSoFar (seen ++ n ∷ []) old new before after
+    pub folder_seen : (new : FlatValue) (after : List (List ℕ)) → standing ≡ a_directory → works.stands ended (place_in place n) standings.Folder
+        → IsWalked works ended (place_in place n) (path ++ n ∷ []) mid new between after → IsSoFar (seen ++ n ∷ []) old new before after
     folder_seen new after is stands w = record {
       above = λ k pos le. subst (λ q. standing_in new q ≡ a_directory) (first_names path n k le) (w.above k pos (omega (arith, count path n, le)));
       others = λ q below prefix.
@@ -297,8 +297,8 @@ module _ {R C E : Type 0} (works : Works R C E) (ended : E) (place : List ℕ) (
         some e = let h = at in cc
 
         mine : (p : List Name) → IsStandingOf works ended w.more (place_at place (n ∷ p)) (λ q. standing_in new (path ++ q)) (n ∷ p) (standing_in new (path ++ n ∷ p))
-        mine [] = subst (λ v. IsStandingOf works ended w.more (place_below place n) (λ q. standing_in new (path ++ q)) (n ∷ []) v) (sym at)
-            (stands, names_same works ended (place_below place n) (λ q. standing_in new ((path ++ n ∷ []) ++ q)) (λ q. standing_in new (path ++ q)) [] (n ∷ []) (λ m. inner (m ∷ [])) w.folder.names)
+        mine [] = subst (λ v. IsStandingOf works ended w.more (place_in place n) (λ q. standing_in new (path ++ q)) (n ∷ []) v) (sym at)
+            (stands, names_same works ended (place_in place n) (λ q. standing_in new ((path ++ n ∷ []) ++ q)) (λ q. standing_in new (path ++ q)) [] (n ∷ []) (λ m. inner (m ∷ [])) w.folder.names)
         mine (k ∷ p) = subst (λ v. IsStandingOf works ended w.more (place_at place (n ∷ k ∷ p)) (λ q. standing_in new (path ++ q)) (n ∷ k ∷ p) v) (inner (k ∷ p))
             (stands_same works ended w.more (place_at place (n ∷ k ∷ p)) (λ q. standing_in new ((path ++ n ∷ []) ++ q)) (λ q. standing_in new (path ++ q)) (k ∷ p) (n ∷ k ∷ p)
             (standing_in new ((path ++ n ∷ []) ++ k ∷ p)) (λ m. inner (k ∷ p ++ m ∷ [])) (w.folder.below k p))
@@ -310,7 +310,7 @@ module _ {R C E : Type 0} (works : Works R C E) (ended : E) (place : List ℕ) (
 
   module _ {X : Type 0} (f : X → Name) (names : List X) (i : ℕ) (x : X) (lt : i < length names) (is : x ≡ get_or names i x) (old was mid : FlatValue) (before between : List (List ℕ))
       (s : IsSoFar (map f (take i names)) old was before between) (standing : Standing NodeValue) (p : List Name) (at : p ≡ path ++ f x ∷ [])
-      (add : IsAdded 1 p standing was mid) (free : IsTaken was p → ⊥) (look : List ℕ) (looked : look ≡ place_below place (f x)) where
+      (add : IsAdded 1 p standing was mid) (free : IsTaken was p → ⊥) (look : List ℕ) (looked : look ≡ place_in place (f x)) where
     added : IsAdded 1 (path ++ f x ∷ []) standing was mid
     added = subst (λ q. IsAdded 1 q standing was mid) at add
 
@@ -321,7 +321,7 @@ module _ {R C E : Type 0} (works : Works R C E) (ended : E) (place : List ℕ) (
     one_bare = bare_below (map f (take i names)) (f x) standing old was mid before between s added room
 
     pub one_file : (after : List (List ℕ)) (b : List ℕ) (d : DigestValue) → standing ≡ a_leaf (nodes.File d false) → works.stands ended look standings.File
-        → (read : List ℕ) → read ≡ place_below place (f x) → works.holds ended read (Some b) → d ≡ digest_of b → after ≡ between ++ b ∷ []
+        → (read : List ℕ) → read ≡ place_in place (f x) → works.holds ended read (Some b) → d ≡ digest_of b → after ≡ between ++ b ∷ []
         → IsSoFar (map f (take (i + 1) names)) old mid before after
     one_file after b d leaf stands read is_read holds digest blobs =
         subst (λ seen. IsSoFar seen old mid before after) (sym (map_taken f names i x lt is))
@@ -329,7 +329,7 @@ module _ {R C E : Type 0} (works : Works R C E) (ended : E) (place : List ℕ) (
         (subst (λ q. works.holds ended q (Some b)) is_read holds) digest blobs)
 
     pub one_folder : (new : FlatValue) (after : List (List ℕ)) → standing ≡ a_directory → works.stands ended look standings.Folder
-        → (inside : List ℕ) → inside ≡ place_below place (f x) → (q : List Name) → q ≡ path ++ f x ∷ [] → IsWalked works ended inside q mid new between after
+        → (inside : List ℕ) → inside ≡ place_in place (f x) → (q : List Name) → q ≡ path ++ f x ∷ [] → IsWalked works ended inside q mid new between after
         → IsSoFar (map f (take (i + 1) names)) old new before after
     one_folder new after folder stands inside is_inside q is_q walked =
         subst (λ seen. IsSoFar seen old new before after) (sym (map_taken f names i x lt is))
@@ -371,12 +371,12 @@ module _ {R C E : Type 0} (works : Works R C E) (ended : E) (place : List ℕ) w
   bad_name (suc most) names n listed one why = inr (names, n, listed, one, inl (why (omega arith)))
 
   -- what stands at a name
-  pub bad_below : (most fewer : ℕ) (names : List Name) (n : Name) (s : PlaceStanding) → most ≡ fewer + 1 → works.lists ended place (Some names) → Contains names n → works.stands ended (place_below place n) s
-      → (s ≡ standings.Nothing) ⊎ IsNoOutput works ended (IsBadFolder works ended fewer) (place_below place n) s → IsBadFolder works ended most place
+  pub bad_below : (most fewer : ℕ) (names : List Name) (n : Name) (s : PlaceStanding) → most ≡ fewer + 1 → works.lists ended place (Some names) → Contains names n → works.stands ended (place_in place n) s
+      → (s ≡ standings.Nothing) ⊎ IsNoOutput works ended (IsBadFolder works ended fewer) (place_in place n) s → IsBadFolder works ended most place
   bad_below zero fewer names n s is listed one stands why = absurd (omega (arith, is))
   bad_below (suc most) fewer names n s is listed one stands why =
       let same : fewer ≡ most = omega (arith, is) in
-      inr (names, n, listed, one, inr (s, stands, subst (λ k. (s ≡ standings.Nothing) ⊎ IsNoOutput works ended (IsBadFolder works ended k) (place_below place n) s) same why))
+      inr (names, n, listed, one, inr (s, stands, subst (λ k. (s ≡ standings.Nothing) ⊎ IsNoOutput works ended (IsBadFolder works ended k) (place_in place n) s) same why))
 
 -- a path below which there is no room
 pub full_path : (path : List Name) (n : Name) (e : MessageError) → (e ≡ messages.Memory → ⊥) → FailsUnlessMemory e (path_below path n) → length path ≡ 64

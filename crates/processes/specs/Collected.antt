@@ -10,7 +10,8 @@ use Rattle.messages.specs.Name.{IsName}
 use Rattle.messages.specs.Path.{path_text}
 use Rattle.messages.specs.Tree.{TreeValue}
 use Rattle.messages.specs.declared.node.Node.TheVariants as nodes
-use Rattle.tree.specs.Tree.{Name, Standing, nothing, a_leaf, a_directory, Tree, IsOrdered, stands_at}
+use Rattle.tree.specs.Tree.{Name, Standing, nothing, a_leaf, a_directory, Tree, IsOrdered}
+use Rattle.tree.specs.Tree.{stands_at}
 use Rattle.tree.specs.Form.{NodeValue}
 use Rattle.tree.specs.Folded.{first_visits}
 use Rattle.actions.specs.declared.outcome.Output.TheVariants as outputs
@@ -19,7 +20,7 @@ use Rattle.worker.specs.Outcomes.{directories_of}
 use Rattle.processes.specs.declared.workshop.Standing.{Standing as PlaceStanding}
 use Rattle.processes.specs.declared.workshop.Standing.TheVariants as standings
 use Rattle.processes.specs.Workshop.{Works}
-use Rattle.processes.specs.Laying.{place_below}
+use Rattle.processes.specs.Laying.{place_in}
 
 -- the first blobs are among the others
 pub record AreKept (some all : List (List ℕ)) : Type 0 where
@@ -38,7 +39,7 @@ IsFileAt works ended blobs place d executable = (executable ≡ false)
 -- where something stands that is at a path below a place
 abbrev pub place_at : List ℕ → List Name → List ℕ
 place_at place [] = place
-place_at place (n ∷ p) = place_at (place_below place n) p
+place_at place (n ∷ p) = place_at (place_in place n) p
 
 -- the names in the folder at a place are those at which a tree has something below a path
 pub record HasNames {R C E : Type 0} (works : Works R C E) (ended : E) (place : List ℕ)
@@ -98,13 +99,13 @@ IsOutputAt works ended place (outputs.Tree m) blobs =
 abbrev pub IsFound : {R C E : Type 0} → Works R C E → E → List ℕ → List (List (List ℕ))
     → List (List ℕ) → List (List ℕ) × OutputValue → Type 0
 IsFound works ended folder paths blobs e = Contains paths e.0 × ((own : List (List ℕ))
-    × IsOutputAt works ended (place_below folder (path_text e.0)) e.1 own × AreKept own blobs)
+    × IsOutputAt works ended (place_in folder (path_text e.0)) e.1 own × AreKept own blobs)
 
 -- nothing stands at the path, or it has an output
 abbrev pub IsSettled : {R C E : Type 0} → Works R C E → E → List ℕ
     → List (List (List ℕ) × OutputValue) → List (List ℕ) → Type 0
 IsSettled works ended folder outputs q =
-    works.stands ended (place_below folder (path_text q)) standings.Nothing
+    works.stands ended (place_in folder (path_text q)) standings.Nothing
     ⊎ Contains (paths_of_outputs outputs) q
 
 -- a blob is one of an output
@@ -114,7 +115,7 @@ pub record IsOfOutput {R C E : Type 0} (works : Works R C E) (ended : E) (folder
   pub output : OutputValue
   pub inside : Contains outputs (path, output)
   pub own : List (List ℕ)
-  pub at : IsOutputAt works ended (place_below folder (path_text path)) output own
+  pub at : IsOutputAt works ended (place_in folder (path_text path)) output own
   pub one : Contains own b
 
 -- The outputs are what stands at the paths below a folder after a process has ended: there is none
@@ -144,9 +145,9 @@ IsBadFolder works ended zero place = works.lists ended place None
     ⊎ ((names : List Name) × (n : Name) × works.lists ended place (Some names) × Contains names n)
 IsBadFolder works ended (suc most) place = works.lists ended place None
     ⊎ ((names : List Name) × (n : Name) × works.lists ended place (Some names) × Contains names n
-    × ((IsName n → ⊥) ⊎ ((s : PlaceStanding) × works.stands ended (place_below place n) s
+    × ((IsName n → ⊥) ⊎ ((s : PlaceStanding) × works.stands ended (place_in place n) s
     × ((s ≡ standings.Nothing)
-    ⊎ IsNoOutput works ended (IsBadFolder works ended most) (place_below place n) s))))
+    ⊎ IsNoOutput works ended (IsBadFolder works ended most) (place_in place n) s))))
 
 -- what stands at a place is no output, where a path in a folder has at most 64 names
 abbrev pub HasNoOutput : {R C E : Type 0} → Works R C E → E → List ℕ → Type 0

@@ -10,34 +10,34 @@ use Rattle.worker.specs.Values.{LayoutValue}
 use Rattle.processes.specs.Workshop.{Works, RoomValue}
 
 -- the text of a path below a folder
-abbrev pub place_below : List ℕ → List ℕ → List ℕ
-place_below folder path = folder ++ 47 ∷ path
+abbrev pub place_in : List ℕ → List ℕ → List ℕ
+place_in folder path = folder ++ 47 ∷ path
 
 -- the folder of a job, by its number
 abbrev pub folder_of : List ℕ → ℕ → List ℕ
-folder_of work number = place_below work (decimal number)
+folder_of work number = place_in work (decimal number)
 
 -- the folder that a command starts in: its working directory, or the job's folder itself
 abbrev pub start_of : List ℕ → Option (List (List ℕ)) → List ℕ
 start_of folder None = folder
-start_of folder (Some path) = place_below folder (path_text path)
+start_of folder (Some path) = place_in folder (path_text path)
 
 -- the folders at paths below a folder, and the files with their contents
 abbrev pub folders_below : List ℕ → List (List (List ℕ)) → List (List ℕ)
-folders_below folder paths = map (λ p. place_below folder (path_text p)) paths
+folders_below folder paths = map (λ p. place_in folder (path_text p)) paths
 
 abbrev pub files_below : List ℕ → List (List (List ℕ) × List ℕ) → List (List ℕ × List ℕ)
-files_below folder files = map (λ f. (place_below folder (path_text f.0), f.1)) files
+files_below folder files = map (λ f. (place_in folder (path_text f.0), f.1)) files
 
 -- the working directory below a job's folder, if the command has one
 abbrev pub working_folders : List ℕ → Option (List (List ℕ)) → List (List ℕ)
 working_folders folder None = []
-working_folders folder (Some path) = place_below folder (path_text path) ∷ []
+working_folders folder (Some path) = place_in folder (path_text path) ∷ []
 
 -- the folder above a path: below the start, or the start itself
 abbrev pub above_in : List ℕ → Option (List ℕ) → List (List ℕ)
 above_in start None = []
-above_in start (Some above) = place_below start above ∷ []
+above_in start (Some above) = place_in start above ∷ []
 
 -- the folders above paths
 abbrev pub folders_above : List ℕ → List (List (List ℕ)) → List (List ℕ)

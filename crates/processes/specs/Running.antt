@@ -18,7 +18,7 @@ use Rattle.processes.specs.declared.workshop.Exit.{Exit}
 use Rattle.processes.specs.declared.workshop.Exit.TheVariants.{Code}
 use Rattle.processes.specs.declared.workshop.Exit.TheVariants as exits
 use Rattle.processes.specs.Workshop.{Works}
-use Rattle.processes.specs.Laying.{folder_of, place_below, start_of, room_of_job}
+use Rattle.processes.specs.Laying.{folder_of, place_in, start_of, room_of_job}
 use Rattle.processes.specs.Collected.{AreCollected, HasNoOutput, IsUnread}
 
 -- how many children haven't been waited for yet
@@ -53,7 +53,7 @@ abbrev pub WasLeft : {R C E : Type 0} → Works R C E → E → List ℕ → Lis
 WasLeft works end start paths code (made p) =
     (p.outcome.exit_code ≡ code) × AreCollected works end start paths p.outcome p.blobs
 WasLeft works end start paths code (bad_at path) =
-    Contains paths path × HasNoOutput works end (place_below start (path_text path))
+    Contains paths path × HasNoOutput works end (place_in start (path_text path))
 WasLeft works end start paths code (failed program (Unread error)) = IsUnread works end error
 WasLeft works end start paths code (failed program cause) = ⊥
 
@@ -119,9 +119,10 @@ IsEnded works child (Ok told) = works.ended child told.0 told.1
 IsEnded works child (Err error) = works.unwaited child error
 
 -- an answer tells what came of a child
-abbrev pub EndsAs : {A : Type 0} → (EndValue → Type 0) → Result ProducedValue (RunError A) → Type 0
-EndsAs Came (Ok p) = Came (made p)
-EndsAs Came (Err (children.BadOutput path)) = Came (bad_at path)
-EndsAs Came (Err (children.Device program cause)) = Came (failed (string_bytes program) cause)
-EndsAs Came (Err children.Memory) = Unit {0}
-EndsAs Came (Err children.NotAbsolute) = ⊥
+abbrev pub TellsCame : {A : Type 0} → (EndValue → Type 0) → Result ProducedValue (RunError A)
+    → Type 0
+TellsCame Came (Ok p) = Came (made p)
+TellsCame Came (Err (children.BadOutput path)) = Came (bad_at path)
+TellsCame Came (Err (children.Device program cause)) = Came (failed (string_bytes program) cause)
+TellsCame Came (Err children.Memory) = Unit {0}
+TellsCame Came (Err children.NotAbsolute) = ⊥

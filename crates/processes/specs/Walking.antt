@@ -66,9 +66,9 @@ IsOfAdding (adding.Overlap path) t =
     (error : Error) × (error_kind error ≡ InvalidData) × (t ≡ Unread error)
 
 -- what a trouble tells of an error, if it tells of one
-abbrev pub TellsOf : (Error → Type 0) → Trouble → Type 0
-TellsOf Fails (Unread error) = Fails error
-TellsOf Fails t = Unit {0}
+abbrev pub TellsTrouble : (Error → Type 0) → Trouble → Type 0
+TellsTrouble Fails (Unread error) = Fails error
+TellsTrouble Fails t = Unit {0}
 
 -- the refusal of a program that failed by a cause, which is of this error of the system
 abbrev pub IsFailedBy : {A : Type 0} → String A → Error → Cause → RunError A → Type 0

@@ -56,8 +56,8 @@ StartsIn works room command folder child =
     (v : RoomValue) → works.has room v → works.runs child v command folder
 
 -- nothing is known of what was done and told
-abbrev pub nothing_known : {Room Child Ended : Type 0} → Works Room Child Ended
-nothing_known = record {
+abbrev pub unknown_works : {Room Child Ended : Type 0} → Works Room Child Ended
+unknown_works = record {
   has = λ _ _. Unit {0};
   runs = λ _ _ _ _. Unit {0};
   waited = λ _. Unit {0};

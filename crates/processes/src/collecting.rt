@@ -2,14 +2,14 @@ ghost use Rattle.std.specs.Prelude.{◌≡◌, ℕ, List, Contains, Err, IfErr, 
 ghost use Rattle.std.specs.Prelude.{string_bytes};
 ghost use Rattle.std.specs.declared.io.Error.{Error};
 ghost use Rattle.messages.specs.Path.{path_text};
-ghost use Rattle.worker.specs.Counted.{TellsFailure};
+ghost use Rattle.worker.specs.Counted.{TellsRunFailure};
 ghost use Rattle.worker.specs.Values.{blobs_of, failed};
 ghost use Rattle.worker.specs.declared.failure.Cause.TheVariants.{Unread};
 ghost use Rattle.processes.specs.Collected.{AreCollected, HasNoOutput, IsMore, IsUnread};
-ghost use Rattle.processes.specs.Walking.{TellsOf};
-ghost use Rattle.processes.specs.Laying.{place_below};
+ghost use Rattle.processes.specs.Walking.{TellsTrouble};
+ghost use Rattle.processes.specs.Laying.{place_in};
 
-use crate::laying::place_below;
+use crate::laying::place_in;
 use crate::trouble::Trouble;
 use crate::walking::{keep_file, keep_folder};
 use crate::workshop::{Standing, Workshop};
@@ -31,7 +31,7 @@ fn take_output<A: Allocator + Copy, W: Workshop>(
     ensures more { OnOk result (IsMore W.works ended.now place.now path.now outcome.old
         (blobs_of blobs.old.items) outcome.new (blobs_of blobs.new.items)) }
     ensures bad { IsErrOf result Trouble.NoOutput → HasNoOutput W.works ended.now place.now }
-    ensures failed { IfErr result (TellsOf (IsUnread W.works ended.now)) }
+    ensures failed { IfErr result (TellsTrouble (IsUnread W.works ended.now)) }
 {
     let output = match workshop.look(ended, place)? {
         Standing::Nothing => return Ok(()),
@@ -63,14 +63,14 @@ pub(crate) fn collect<A: Allocator + Copy, W: Workshop>(
     ensures error { result ≡ Err RunError.NotAbsolute → ⊥ }
     ensures bad { (path : List (List ℕ)) → IsErrOf result (RunError.BadOutput path)
         → Contains paths.now path
-        × HasNoOutput W.works ended.now (place_below folder.now (path_text path)) }
-    ensures failed { IfErr result (TellsFailure (λ e. (error : Error)
+        × HasNoOutput W.works ended.now (place_in folder.now (path_text path)) }
+    ensures failed { IfErr result (TellsRunFailure (λ e. (error : Error)
         × (e ≡ failed (string_bytes program) (Unread error)) × IsUnread W.works ended.now error)) }
 {
     let mut outcome = Outcome::new(alloc, exit_code);
     let mut blobs = Vec::new(alloc);
     for path in paths {
-        let Ok(place) = place_below(alloc, folder, path.as_str()) else {
+        let Ok(place) = place_in(alloc, folder, path.as_str()) else {
             return Err(RunError::Memory);
         };
         match take_output(

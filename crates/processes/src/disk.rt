@@ -86,9 +86,9 @@ impl<'r, R: Files + Processes + Alloc + Clone + Drop> Workshop for Disk<'r, R> {
 
     type Ended = HasEnded;
 
-    ghost use Rattle.processes.specs.Workshop.{nothing_known};
+    ghost use Rattle.processes.specs.Workshop.{unknown_works};
 
-    ghost works = { nothing_known };
+    ghost works = { unknown_works };
 
     fn make_new(&self, path: &str) -> io::Result<NewFolder> {
         fs::create_dir(self.rt, path)?;

@@ -2,7 +2,7 @@ ghost use Rattle.std.specs.Prelude.{◌≡◌, IfErr, IfOk, OnOk, string_bytes};
 ghost use Rattle.worker.specs.Values.{contents_of};
 ghost use Rattle.processes.specs.Workshop.{Becomes, with_files, with_folders};
 ghost use Rattle.processes.specs.Laying.{above_in, files_below, folders_above, folders_below};
-ghost use Rattle.processes.specs.Laying.{IsUnstarted, place_below, room_of_layout, start_of};
+ghost use Rattle.processes.specs.Laying.{IsUnstarted, place_in, room_of_layout, start_of};
 ghost use Rattle.processes.specs.Laying.{working_folders};
 ghost use Rattle.std.specs.Path.{path_parent};
 ghost use Rattle.messages.specs.Path.{path_text};
@@ -15,12 +15,12 @@ use std::io;
 use worker::Layout;
 
 /// The place of a path below a folder.
-pub(crate) fn place_below<A: Allocator>(
+pub(crate) fn place_in<A: Allocator>(
     alloc: A,
     folder: &str,
     path: &str,
 ) -> Result<String<A>, AllocError>
-    ensures { IfOk result (λ place. string_bytes place ≡ place_below folder.now path.now) }
+    ensures { IfOk result (λ place. string_bytes place ≡ place_in folder.now path.now) }
 {
     format!(in alloc; "{folder}/{path}")
 }
@@ -38,7 +38,7 @@ fn make_folders<A: Allocator + Copy, W: Workshop>(
     ensures failed { IfErr result (IsUnstarted W.works) }
 {
     for path in paths {
-        let place = place_below(alloc, folder, path.as_str())?;
+        let place = place_in(alloc, folder, path.as_str())?;
         workshop.make_all(room, place.as_str())?;
     }
     Ok(())
@@ -57,7 +57,7 @@ fn write_files<A: Allocator + Copy, W: Workshop>(
     ensures failed { IfErr result (IsUnstarted W.works) }
 {
     for file in files {
-        let place = place_below(alloc, folder, file.0.as_str())?;
+        let place = place_in(alloc, folder, file.0.as_str())?;
         workshop.write(room, place.as_str(), &file.1)?;
     }
     Ok(())
@@ -96,7 +96,7 @@ pub(crate) fn make_start<A: Allocator, W: Workshop>(
 {
     match command.working_directory() {
         Some(path) => {
-            let start = place_below(alloc, folder, path.as_str())?;
+            let start = place_in(alloc, folder, path.as_str())?;
             workshop.make_all(room, start.as_str())?;
             Ok(start)
         }
@@ -118,7 +118,7 @@ fn make_parent<A: Allocator, W: Workshop>(
 {
     match std::path::Path::new(path.as_str()).parent() {
         Some(above) => {
-            let place = place_below(alloc, start, above.as_str())?;
+            let place = place_in(alloc, start, above.as_str())?;
             workshop.make_all(room, place.as_str())?;
             Ok(())
         }

@@ -3,7 +3,7 @@ ghost use Rattle.worker.specs.Values.{IsAbsolute};
 ghost use Rattle.worker.specs.declared.failure.Cause.TheVariants.{Signal};
 ghost use Rattle.messages.specs.Path.{begins_with_slash};
 ghost use Rattle.processes.specs.Laying.{IsUnstarted, folder_of};
-ghost use Rattle.processes.specs.Running.{CameOf, EndsAs, IsEnded, IsJobLaunched, alive_of};
+ghost use Rattle.processes.specs.Running.{CameOf, TellsCame, IsEnded, IsJobLaunched, alive_of};
 ghost use Rattle.processes.specs.Running.{failures_of, next_of, work_of};
 
 use crate::collecting::collect;
@@ -170,7 +170,7 @@ fn come_to<A: Allocator + Copy, W: Workshop>(
     outputs: &[Path<A>],
 ) -> Result<Produced<A>, RunError<A>>
     ensures { (child : W.Child) → IsEnded W.works child ended
-        → EndsAs (CameOf W.works child (string_bytes program) start.now outputs.now) result }
+        → TellsCame (CameOf W.works child (string_bytes program) start.now outputs.now) result }
 {
     let (end, exit) = match ended {
         Ok(told) => told,

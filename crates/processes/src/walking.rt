@@ -7,9 +7,9 @@ ghost use Rattle.tree.specs.Lookup.{names_in};
 ghost use Rattle.worker.specs.Outcomes.{directories_of};
 ghost use Rattle.worker.specs.Values.{blobs_of};
 ghost use Rattle.processes.specs.Collected.{IsBadFolder, IsTreeAt, IsUnread};
-ghost use Rattle.processes.specs.Walking.{IsBare, IsWalked, TellsOf};
+ghost use Rattle.processes.specs.Walking.{IsBare, IsWalked, TellsTrouble};
 
-use crate::laying::place_below;
+use crate::laying::place_in;
 use crate::trouble::Trouble;
 use crate::workshop::{Standing, Workshop};
 use blob_digest::{Digest, Sealed};
@@ -33,7 +33,7 @@ pub(crate) fn keep_file<A: Allocator + Copy, W: Workshop>(
     ensures kept { IfOk result (λ d. (b : List ℕ) × W.works.holds ended.now place.now (Some b)
         × (d ≡ digest_of b) × (blobs_of blobs.new.items ≡ blobs_of blobs.old.items ++ b ∷ [])) }
     ensures bad { IsErrOf result Trouble.NoOutput → W.works.holds ended.now place.now None }
-    ensures failed { IfErr result (TellsOf (W.works.unread ended.now)) }
+    ensures failed { IfErr result (TellsTrouble (W.works.unread ended.now)) }
 {
     let Some(bytes) = workshop.read(alloc, ended, place)? else {
         return Err(Trouble::NoOutput);
@@ -53,7 +53,7 @@ fn path_below<A: Allocator + Copy>(
     ensures path { IfOk result (λ p. p ≡ names_in above.now ++ name.now ∷ []) }
     ensures bad { IsErrOf result Trouble.NoOutput
         → IsName name.now → length (names_in above.now) ≡ 64 }
-    ensures failed { IfErr result (TellsOf (λ error. ⊥)) }
+    ensures failed { IfErr result (TellsTrouble (λ error. ⊥)) }
 {
     let name = Name::new(alloc, name.as_bytes())?;
     match above {
@@ -80,7 +80,7 @@ fn walk<A: Allocator + Copy, W: Workshop>(
         tree.old tree.new (blobs_of blobs.old.items) (blobs_of blobs.new.items)) }
     ensures bad { IsErrOf result Trouble.NoOutput
         → IsBadFolder W.works ended.now most place.now }
-    ensures failed { IfErr result (TellsOf (IsUnread W.works ended.now)) }
+    ensures failed { IfErr result (TellsTrouble (IsUnread W.works ended.now)) }
 {
     let Some(names) = workshop.list(alloc, ended, place)? else {
         return Err(Trouble::NoOutput);
@@ -90,7 +90,7 @@ fn walk<A: Allocator + Copy, W: Workshop>(
             return Err(Trouble::NoOutput);
         };
         let path = path_below(alloc, above, name.as_str())?;
-        let place = place_below(alloc, place, name.as_str())?;
+        let place = place_in(alloc, place, name.as_str())?;
         match workshop.look(ended, place.as_str())? {
             Standing::File => {
                 let digest = keep_file(alloc, workshop, ended, place.as_str(), blobs)?;
@@ -156,7 +156,7 @@ pub(crate) fn keep_folder<A: Allocator + Copy, W: Workshop>(
         × IsTreeAt W.works ended.now place.now t own
         × (blobs_of blobs.new.items ≡ blobs_of blobs.old.items ++ own)) }
     ensures bad { IsErrOf result Trouble.NoOutput → IsBadFolder W.works ended.now 64 place.now }
-    ensures failed { IfErr result (TellsOf (IsUnread W.works ended.now)) }
+    ensures failed { IfErr result (TellsTrouble (IsUnread W.works ended.now)) }
 {
     let mut tree = FlatTree::new(alloc);
     let top = None;

@@ -17,11 +17,11 @@ use Rattle.worker.specs.Stored.{IsKept}
 use Rattle.worker.specs.Storing.{HasAt, IsKeptBut}
 use Rattle.worker.specs.Outcomes.{Yields, YieldsNoMore, IsYielded}
 use Rattle.worker.specs.Calls.{running, Call, started, launched, ran, taken, lost, CameTo, HasChild, children_of, IsResultFor, HasChildsResult, WasStarted, FinishedByChild, IsLost, Does, Leads, IsLed, PutsOf, TakesRecorded, IsBuiltWith}
-use Rattle.worker.specs.Going.{HasNoneToTake, IsJobOf, AreJobsOf, IsOwnJob, IsGoing, HasChildFor, IsBegun, IsLaunched, job_value, EndedWell, GoesOnBy, jobs_with, one_if, taken_in}
+use Rattle.worker.specs.Going.{HasNoneToTake, IsJobOf, AreJobsOf, IsOwnJob, IsGoing, HasChildFor, IsBegun, IsLaunched, kept_job, EndedWell, GoesOnBy, jobs_with, one_if, taken_in}
 use Rattle.worker.specs.Watching.{taken_count, without_number, jobs_after}
 use Rattle.std.specs.List.{AllByRecursion}
 use Rattle.worker.proofs.Keeping.{kept_none, right_trans}
-use Rattle.worker.proofs.Telling.{layout_still, recorded_still, held_kept, end_still, yielded_still, owed_still, owed_ends}
+use Rattle.worker.proofs.Telling.{SameSteps, layout_still, recorded_still, held_kept, end_still, yielded_still, owed_still, owed_ends}
 use Rattle.worker.proofs.Jobs.{least_within, jobs_added, jobs_back, jobs_count, jobs_map, first_goes, placed_goes}
 use Rattle.worker.proofs.Lefts.{finished_at, one_there}
 use Rattle.worker.proofs.Started.{job_of, after, least, job_is, one_more, was_started, started_value}
@@ -85,7 +85,7 @@ module _ (A : Type 0) (y : Yields) (t u : Telling) (more : List Call) (m : Moves
   does_moved : (later : List Call) (c : Call) (old new : EngineValue) → Does A y t later c old new → Does A y u (later ++ more) c old new
   does_moved later (started i id) old new w = record { told = w.told; still = right_trans w.still m.blobs; job = w.job; number = w.number; is = w.is }
   does_moved later (launched id d x) old new w = record { job = w.job; is = w.is; action = w.action; laid = layout_still m.blobs w.laid; command = w.command; same = w.same }
-  does_moved later (ran id d v) old new w = record { finished = w.finished; action = w.action; yielded = yielded_still old old (λ l c e h. h) m.blobs refl w.finished.job w.yielded }
+  does_moved later (ran id d v) old new w = record { finished = w.finished; action = w.action; yielded = yielded_still old old (λ l c e h. h) m.blobs (refl, refl) w.finished.job w.yielded }
   does_moved later (taken id d v) old new w = record {
     finished = w.finished;
     action = w.action;
@@ -227,7 +227,7 @@ jobs_join js (lost id ∷ cs) more = jobs_join (without_number id js) cs more
 
 -- ---- what is owed
 
-own_still : {J : Type 0} {y z : Yields} {may : J → EndValue → Type 0} {B C : Blobs} {old new : EngineValue} → YieldsNoMore y z → KeepsRight B C → new.commands ≡ old.commands
+own_still : {J : Type 0} {y z : Yields} {may : J → EndValue → Type 0} {B C : Blobs} {old new : EngineValue} → YieldsNoMore y z → KeepsRight B C → SameSteps old new
     → (c : Child J) (j : JobValue) → IsOwnJob y may B old c j → IsOwnJob z may C new c j
 own_still {J} {y} {z} {may} {B} {C} {old} {new} within keeps same c j h = record { of_child = h.of_child; owed = owed_still old new within keeps same j h.owed }
 
@@ -270,7 +270,7 @@ module _ (A J : Type 0) (y : Yields) (may : J → EndValue → Type 0) (from : S
     going_kept t u now cs k quiet g =
         let going : Goes b u now cs = record {
           led = built_moved A y from a b s t u [] (moves_kept t u [] k) (none_starts a b quiet) (λ d x child. absurd child) most old now now g.led refl;
-          jobs = jobs_map (IsOwnJob y may t.blobs now) (IsOwnJob y may u.blobs now) (own_still (λ l c p h. h) k.blobs refl) cs now.jobs g.jobs;
+          jobs = jobs_map (IsOwnJob y may t.blobs now) (IsOwnJob y may u.blobs now) (own_still (λ l c p h. h) k.blobs (refl, refl)) cs now.jobs g.jobs;
           order = jobs_join [] g.led.built.led.calls [] ∙ g.order;
           few = g.few;
         } in
@@ -285,8 +285,8 @@ module _ (A J : Type 0) (y : Yields) (may : J → EndValue → Type 0) (from : S
       fewer = let few = g.few in omega (arith, few)
 
       gone : (more : List Call) → Moves t u more → StartsAll (children_of more) a b → HadNone t more → ((js : List (ℕ × ℕ)) → jobs_after js more ≡ without_number c.id js)
-          → new.jobs ≡ set now.jobs c.id None → new.commands ≡ now.commands → (running new.jobs ≤ most → Leads A y u most more now new) → Went b u new cs g.led.built.led.calls more
-      gone more m starts none ends jobs commands leads =
+          → new.jobs ≡ set now.jobs c.id None → SameSteps now new → (running new.jobs ≤ most → Leads A y u most more now new) → Went b u new cs g.led.built.led.calls more
+      gone more m starts none ends jobs same leads =
           let calls = g.led.built.led.calls in
           let rest : AreJobsOf (IsOwnJob y may t.blobs now) (set now.jobs c.id None) cs = g.jobs.3 in
           let count = jobs_count (IsOwnJob y may t.blobs now) cs (set now.jobs c.id None) rest in
@@ -295,7 +295,7 @@ module _ (A J : Type 0) (y : Yields) (may : J → EndValue → Type 0) (from : S
           let going : Goes b u new cs = record {
             led = built_moved A y from a b s t u more m starts none most old now new g.led (leads (subst (λ js. running js ≤ most) (sym jobs) few));
             jobs = subst (λ js. AreJobsOf (IsOwnJob y may u.blobs new) js cs) (sym jobs)
-                (jobs_map (IsOwnJob y may t.blobs now) (IsOwnJob y may u.blobs new) (own_still (λ l d p h. h) m.blobs commands) cs (set now.jobs c.id None) rest);
+                (jobs_map (IsOwnJob y may t.blobs now) (IsOwnJob y may u.blobs new) (own_still (λ l d p h. h) m.blobs same) cs (set now.jobs c.id None) rest);
             order = jobs_join [] calls more ∙ ap (λ js. jobs_after js more) g.order ∙ ends (jobs_with (c ∷ cs)) ∙ first_goes (IsOwnJob y may t.blobs now) c cs now.jobs g.jobs;
             few = fewer;
           } in
@@ -310,7 +310,7 @@ module _ (A J : Type 0) (y : Yields) (may : J → EndValue → Type 0) (from : S
             yielded = subst (λ j. IsYielded y u.blobs now j e.produced.outcome) (sym same) (record {
               produced = e.produced;
               outcome = refl;
-              may = end_still now now (λ l d x h. h) e.kept.blobs refl g.jobs.0 (made e.produced) (owed_ends g.jobs.2.owed (made e.produced) e.came);
+              may = end_still now now (λ l d x h. h) e.kept.blobs (refl, refl) g.jobs.0 (made e.produced) (owed_ends g.jobs.2.owed (made e.produced) e.came);
               blobs = e.blobs;
               trees = e.trees;
             });
@@ -319,13 +319,13 @@ module _ (A J : Type 0) (y : Yields) (may : J → EndValue → Type 0) (from : S
       pub going_ran : (e : EndedWell may t u c now new) → Went b u new cs g.led.built.led.calls (ran c.id c.action e.produced.outcome ∷ [])
       going_ran e = gone (ran c.id c.action e.produced.outcome ∷ []) (moves_ran t u c.id c.action e.produced.outcome e.kept)
           (none_starts a b quiet) (λ d x child. absurd child) (λ js. refl)
-          (ap (λ (e : EngineValue). e.jobs) e.finished.after) (ap (λ (e : EngineValue). e.commands) e.finished.after)
+          (ap (λ (e : EngineValue). e.jobs) e.finished.after) (ap (λ (e : EngineValue). e.commands) e.finished.after, ap (λ (e : EngineValue). e.frames) e.finished.after)
           (λ few. (new, ran_child e, few, refl))
 
       pub going_lost : IsLost c.id now new → IsKept t u → Went b u new cs g.led.built.led.calls (lost c.id ∷ [])
       going_lost (j, at, after) k = gone (lost c.id ∷ []) (moves_kept t u (lost c.id ∷ []) k)
           (none_starts a b quiet) (λ d x child. absurd child) (λ js. refl)
-          (ap (λ (e : EngineValue). e.jobs) after) (ap (λ (e : EngineValue). e.commands) after)
+          (ap (λ (e : EngineValue). e.jobs) after) (ap (λ (e : EngineValue). e.commands) after, ap (λ (e : EngineValue). e.frames) after)
           (λ few. (new, (j, at, after), few, refl))
 
     -- a step was started
@@ -333,11 +333,11 @@ module _ (A J : Type 0) (y : Yields) (may : J → EndValue → Type 0) (from : S
       pub few_mid : running mid.jobs ≤ most
       few_mid = let more = one_more w in let count = jobs_count (IsOwnJob y may t.blobs now) cs now.jobs g.jobs in omega (arith, more, count, room)
 
-      commands_mid : mid.commands ≡ now.commands
-      commands_mid = ap (λ (e : EngineValue). e.commands) (after w)
+      steps_mid : SameSteps now mid
+      steps_mid = (ap (λ (e : EngineValue). e.commands) (after w), ap (λ (e : EngineValue). e.frames) (after w))
 
       there : AreJobsOf (IsOwnJob y may u.blobs mid) now.jobs cs
-      there = jobs_map (IsOwnJob y may t.blobs now) (IsOwnJob y may u.blobs mid) (own_still (λ l c p h. h) k.blobs commands_mid) cs now.jobs g.jobs
+      there = jobs_map (IsOwnJob y may t.blobs now) (IsOwnJob y may u.blobs mid) (own_still (λ l c p h. h) k.blobs steps_mid) cs now.jobs g.jobs
 
       abbrev pub led_started : IsLed A y u most old mid
       led_started = led_moved A y t u (started i id ∷ []) (moves_kept t u (started i id ∷ []) k) most old now mid g.led.built.led (mid, w, few_mid, refl)
@@ -366,8 +366,8 @@ module _ (A J : Type 0) (y : Yields) (may : J → EndValue → Type 0) (from : S
 
       -- its job is gone again: nothing runs that didn't run before
       pub going_back : (new : EngineValue) (call : Call) → StartsAll (children_of (call ∷ [])) a b → HadNone t (call ∷ []) → ((js : List (ℕ × ℕ)) → jobs_after js (call ∷ []) ≡ without_number id js)
-          → new.jobs ≡ set mid.jobs id None → new.commands ≡ mid.commands → Does A y u [] call mid new → Went b u new cs g.led.built.led.calls (started i id ∷ call ∷ [])
-      going_back new call starts none ends jobs commands does =
+          → new.jobs ≡ set mid.jobs id None → SameSteps mid new → Does A y u [] call mid new → Went b u new cs g.led.built.led.calls (started i id ∷ call ∷ [])
+      going_back new call starts none ends jobs same does =
           let calls = g.led.built.led.calls in
           let more : List Call = started i id ∷ call ∷ [] in
           let back : AreJobsOf (IsOwnJob y may u.blobs mid) (set mid.jobs id None) cs
@@ -379,7 +379,7 @@ module _ (A J : Type 0) (y : Yields) (may : J → EndValue → Type 0) (from : S
           let going : Goes b u new cs = record {
             led = built_moved A y from a b s t u more (moves_kept t u more k) starts none most old now new g.led (mid, w, few_mid, (new, does, few_new, refl));
             jobs = subst (λ js. AreJobsOf (IsOwnJob y may u.blobs new) js cs) (sym jobs)
-                (jobs_map (IsOwnJob y may u.blobs mid) (IsOwnJob y may u.blobs new) (own_still (λ l c p h. h) (λ e b at right. at) commands) cs (set mid.jobs id None) back);
+                (jobs_map (IsOwnJob y may u.blobs mid) (IsOwnJob y may u.blobs new) (own_still (λ l c p h. h) (λ e b at right. at) same) cs (set mid.jobs id None) back);
             order = jobs_join [] calls more ∙ ap (λ js. jobs_after (js ++ (id, i) ∷ []) (call ∷ [])) g.order ∙ ends (jobs_with cs ++ (id, i) ∷ []) ∙ placed_goes (IsOwnJob y may u.blobs mid) cs now.jobs id i (least w).free there;
             few = g.few;
           } in
@@ -412,7 +412,7 @@ module _ (A J : Type 0) (y : Yields) (may : J → EndValue → Type 0) (from : S
               (subst (λ (e : EngineValue). On b u e ds g.led.built.led.calls 0) (sym same)
               (subst (λ xs. On b u begun.mid xs g.led.built.led.calls 0) (sym grown) (on_by b u begun.mid (cs ++ c ∷ []) g.led.built.led.calls (started i begun.id ∷ launched begun.id (job_of w).action (record { layout = own.own.owed.layout; command = own.own.owed.command }) ∷ []) 0
               (going_started t u now begun.mid cs i begun.id k g room w c id
-              (own_still within (λ e b at right. at) refl c (job_of w) own.own)
+              (own_still within (λ e b at right. at) (refl, refl) c (job_of w) own.own)
               (record { layout = own.own.owed.layout; command = own.own.owed.command }) own.own.owed.laid own.own.owed.of_step own.started own.none) refl)))
           by (inr (v, f, held, same, quiet)) =
               let of_job : f.job ≡ begun.job = one_answer (job_in begun.id begun.mid) f.job begun.job f.is begun.is in
@@ -420,7 +420,7 @@ module _ (A J : Type 0) (y : Yields) (may : J → EndValue → Type 0) (from : S
               let call : Call = taken begun.id begun.job.action v in
               subst (λ xs. On b u new xs g.led.built.led.calls (taken_in true i now new)) (sym same) (on_by b u new cs g.led.built.led.calls (started i begun.id ∷ call ∷ []) (taken_in true i now new) (going_back t u now begun.mid cs i begun.id k g room w new call
               (none_starts a b quiet) (λ d x child. absurd child) (λ js. refl)
-              (ap (λ (e : EngineValue). e.jobs) f.after) (ap (λ (e : EngineValue). e.commands) f.after)
+              (ap (λ (e : EngineValue). e.jobs) f.after) (ap (λ (e : EngineValue). e.commands) f.after, ap (λ (e : EngineValue). e.frames) f.after)
               (record {
                 finished = f;
                 action = ap (λ (j : JobValue). j.action) of_job;
@@ -444,16 +444,16 @@ own_jobs A y may from to s t most old now cs g = jobs_map (IsOwnJob y may t.blob
 -- ---- a step that is started, or refused
 
 pub begun : {A J : Type 0} {y : Yields} {may : J → EndValue → Type 0} {from to : Starts} {B : Blobs} {s t : Telling} (u : Telling) {i : ℕ} {old mid new : EngineValue} {job : Job A} {before behind : List (Child J)} → IsStarted B i old mid job → KeepsRight B u.blobs → IsKept s t
-    → IsLaunched y may from to t u job.id (job_value job) mid new before behind → IsBegun A y may from to s u i old new before behind
+    → IsLaunched y may from to t u job.id (kept_job job) mid new before behind → IsBegun A y may from to s u i old new before behind
 begun {A} {J} {y} {may} {from} {to} {B} {s} {t} u {i} {old} {mid} {new} {job} {before} {behind} is keeps kept went = record {
   id = job.id;
   mid = mid;
   started = was_started is u.blobs keeps;
-  job = job_value job;
+  job = kept_job job;
   is = started_value is;
   goes = by went;
 }
   where
-    by : IsLaunched y may from to t u job.id (job_value job) mid new before behind → IsLaunched y may from to s u job.id (job_value job) mid new before behind
+    by : IsLaunched y may from to t u job.id (kept_job job) mid new before behind → IsLaunched y may from to s u job.id (kept_job job) mid new before behind
     by (inl (c, id, child, same, grown)) = inl (c, id, record { own = child.own; started = child.started; none = λ v held fits. child.none v (held_kept kept held) fits }, same, grown)
     by (inr taken_at_once) = inr taken_at_once

@@ -7,7 +7,7 @@ use Rattle.runs.specs.Engine.{JobValue, EngineValue, job_in}
 use Rattle.runs.specs.Calls.{IsStarted, IsLeastFree, with_job}
 use Rattle.runs.specs.declared.starting.Job.{Job}
 use Rattle.worker.specs.Calls.{running, WasStarted}
-use Rattle.worker.specs.Going.{IsJobIn, job_value}
+use Rattle.worker.specs.Going.{IsJobIn, kept_job}
 use Rattle.worker.proofs.Jobs.{least_within, placed_same, running_placed}
 
 module _ {A : Type 0} {B : Blobs} {i id : ℕ} {old mid : EngineValue} (w : WasStarted A B i id old mid) where
@@ -30,7 +30,7 @@ module _ {A : Type 0} {B : Blobs} {i : ℕ} {old mid : EngineValue} {job : Job A
   pub was_started : (C : Blobs) → KeepsRight B C → WasStarted A C i job.id old mid
   was_started C keeps = record { told = B; still = keeps; job = job; number = refl; is = s }
 
-  pub started_value : job_in job.id mid ≡ Some (job_value job)
+  pub started_value : job_in job.id mid ≡ Some (kept_job job)
   unfolding was_started
   started_value = subst (λ n. job_in job.id mid ≡ Some (record { step = n; action = job.digest; input = job.action.input })) (sym s.prepared.of_step) (job_is (was_started B (λ e b at right. at)))
 
@@ -39,5 +39,7 @@ module _ {A : Type 0} {B : Blobs} {i : ℕ} {old mid : EngineValue} {job : Job A
     there = started_value;
     command = subst (λ n. slice_get mid.commands n ≡ Some job.command) (sym s.prepared.of_step)
         (ap (λ (e : EngineValue). slice_get e.commands i) s.after ∙ s.prepared.command);
+    frame = subst (λ n. slice_get mid.frames n ≡ Some job.action.frame) (sym s.prepared.of_step)
+        (ap (λ (e : EngineValue). slice_get e.frames i) s.after ∙ s.prepared.frame);
     digest = s.prepared.digest;
   }

@@ -10,8 +10,9 @@ use Rattle.runs.specs.Calls.{IsFinished}
 use Rattle.runs.specs.Engine.{FinishedValue, EngineValue, at_number, finished_in}
 use Rattle.worker.specs.Calls.{Call, started, launched, ran, taken, lost, CameTo, HasChildsResult, FinishedByChild, FinishedAsRecorded, Does, Leads, IsBuiltBy}
 use Rattle.worker.specs.Outcomes.{Yields}
-use Rattle.worker.specs.Steps.{CameOfChild, WasTaken}
+use Rattle.worker.specs.Steps.{CameOfChild, IsSameBuild, WasTaken}
 use Rattle.worker.specs.Stored.{HasNoneFinished}
+use Rattle.worker.proofs.Acts.{calls_same}
 use Rattle.worker.proofs.Goes.{came_behind}
 use Rattle.worker.proofs.Keeping.{same_digest}
 use Rattle.worker.proofs.Storing.{which}
@@ -31,17 +32,6 @@ never : (o : Option FinishedValue) (f : FinishedValue) → o ≡ None → o ≡ 
 never o f e h = cc
 
 module _ (A : Type 0) (y : Yields) (t : Telling) (most : ℕ) where
-  same_commands : (later : List Call) (c : Call) (old new : EngineValue) → Does A y t later c old new → new.commands ≡ old.commands
-  same_commands later (started i id) old new w = ap (λ (e : EngineValue). e.commands) w.is.after
-  same_commands later (launched id d x) old new w = ap (λ (e : EngineValue). e.commands) w.same
-  same_commands later (ran id d v) old new w = ap (λ (e : EngineValue). e.commands) w.finished.after
-  same_commands later (taken id d v) old new w = ap (λ (e : EngineValue). e.commands) w.finished.after
-  same_commands later (lost id) old new (j, at, gone) = ap (λ (e : EngineValue). e.commands) gone
-
-  led_commands : (cs : List Call) (old new : EngineValue) → Leads A y t most cs old new → new.commands ≡ old.commands
-  led_commands [] old new same = ap (λ (e : EngineValue). e.commands) same
-  led_commands (c ∷ cs) old new (mid, does, few, rest) = led_commands cs mid new rest ∙ same_commands cs c old mid does
-
   module _ (all : List Call) (put : List DigestValue) (each : AllByRecursion (HasChildsResult all t.results) put) (last : EngineValue) where
     abbrev IsFrom : FinishedValue → Type 0
     IsFrom f = CameOfChild y t.blobs last f ⊎ WasTaken all put t f
@@ -52,8 +42,8 @@ module _ (A : Type 0) (y : Yields) (t : Telling) (most : ℕ) where
     abbrev HasAt : List ℕ → DigestValue → Type 0
     HasAt bytes d = ((t.results d ≡ Some bytes) × (Contains put d → ⊥)) ⊎ ((v : OutcomeValue) × CameTo all d v)
 
-    of_ran : (id : ℕ) (d : DigestValue) (v : OutcomeValue) (old new : EngineValue) → (w : FinishedByChild y t id d v old new) → last.commands ≡ old.commands → IsFrom (record { action = w.finished.job.action; outcome = v })
-    of_ran id d v old new w same = inl (w.finished.job, refl, yielded_still old last (λ l c e h. h) (λ e b at right. at) same w.finished.job w.yielded)
+    of_ran : (id : ℕ) (d : DigestValue) (v : OutcomeValue) (old new : EngineValue) → (w : FinishedByChild y t id d v old new) → IsSameBuild old last → IsFrom (record { action = w.finished.job.action; outcome = v })
+    of_ran id d v old new w same = inl (w.finished.job, refl, yielded_still old last (λ l c e h. h) (λ e b at right. at) (same.commands, same.frames) w.finished.job w.yielded)
 
     of_taken : (later : List Call) → ((d : DigestValue) (v : OutcomeValue) → CameTo later d v → CameTo all d v) → (id : ℕ) (d : DigestValue) (v : OutcomeValue) (old new : EngineValue) → (w : FinishedAsRecorded t later id d v old new)
         → IsFrom (record { action = w.finished.job.action; outcome = v })
@@ -83,7 +73,7 @@ module _ (A : Type 0) (y : Yields) (t : Telling) (most : ℕ) where
     stay_from : (old new : EngineValue) → new.finished ≡ old.finished → AreFrom old → AreFrom new
     stay_from old new same before i f at = before i f (sym (ap (λ fs. at_number fs i) same) ∙ at)
 
-    does_from : (later : List Call) → ((d : DigestValue) (v : OutcomeValue) → CameTo later d v → CameTo all d v) → (c : Call) (old new : EngineValue) → Does A y t later c old new → last.commands ≡ old.commands → AreFrom old → AreFrom new
+    does_from : (later : List Call) → ((d : DigestValue) (v : OutcomeValue) → CameTo later d v → CameTo all d v) → (c : Call) (old new : EngineValue) → Does A y t later c old new → IsSameBuild old last → AreFrom old → AreFrom new
     does_from later up (started i id) old new w same h = stay_from old new (ap (λ (e : EngineValue). e.finished) w.is.after) h
     does_from later up (launched id d x) old new w same h = stay_from old new (ap (λ (e : EngineValue). e.finished) w.same) h
     does_from later up (ran id d v) old new w same h = finishes_from id v old new w.finished (of_ran id d v old new w same) h
@@ -94,7 +84,7 @@ module _ (A : Type 0) (y : Yields) (t : Telling) (most : ℕ) where
     leads_from [] up old same h = subst AreFrom (sym same) h
     leads_from (c ∷ cs) up old (mid, does, few, rest) h =
         let after : (d : DigestValue) (v : OutcomeValue) → CameTo cs d v → CameTo all d v = λ d v came. up d v (came_behind d v (c ∷ []) cs came) in
-        leads_from cs after mid rest (does_from cs after c old mid does (led_commands (c ∷ cs) old last (mid, does, few, rest)) h)
+        leads_from cs after mid rest (does_from cs after c old mid does (calls_same A y t most (c ∷ cs) old last (mid, does, few, rest)) h)
 
 pub steps_told : (A : Type 0) (y : Yields) (before t : Telling) (most : ℕ) (first last : EngineValue) → (built : IsBuiltBy A y before t most first last) → HasNoneFinished first
     → (i : ℕ) (f : FinishedValue) → finished_in i last ≡ Some f → CameOfChild y t.blobs last f ⊎ WasTaken built.led.calls built.puts.put t f

@@ -17,49 +17,53 @@ use Rattle.worker.specs.declared.child.Child.{Child}
 use Rattle.worker.specs.declared.turns.Turn.{Turn}
 use Rattle.worker.specs.declared.turns.Turn.TheVariants as turns
 use Rattle.worker.specs.Calls.{Call, started, launched, ran, taken, lost, IsLost, Does, Leads}
-use Rattle.worker.specs.Going.{IsJobIn, job_value, IsGoing, IsBegun, IsTurn, EndedWell, HasEndedFirst, GoesOnBy, taken_in}
-use Rattle.worker.specs.Counted.{TellsFailure}
+use Rattle.worker.specs.Going.{IsJobIn, kept_job, IsGoing, IsBegun, IsTurn, EndedWell, HasEndedFirst, GoesOnBy, taken_in}
+use Rattle.worker.specs.Counted.{TellsRunFailure}
 use Rattle.worker.specs.Layout.{IsLayoutOf}
 use Rattle.worker.specs.Outcomes.{Yields, YieldsFor, YieldsNoMore, MayComeTo}
 use Rattle.worker.specs.Stored.{IsKept}
-use Rattle.worker.specs.Stopped.{ComesTo, StopsStep, IsRefusedBuild, IsStoreFault}
+use Rattle.worker.specs.Stopped.{ComesTo, HasBegun, StopsStep, IsRefusedBuild, IsStoreFault}
 use Rattle.worker.specs.Stopping.{StopsChild, StopsCollecting, StopsEnd, StopsSettling, StopsBeginning}
 use Rattle.worker.specs.Values.{LayoutValue, EndValue, made, bad_at, failed, IsAbsolute, Starts, StartsNone}
 use Rattle.worker.proofs.Goes.{Ends, Went, on_by, few_jobs, going_kept, led_kept, going_ran, going_lost, led_started, going_back, going_begun, none_kept, none_lost, none_starts}
+use Rattle.worker.proofs.Lefts.{finished_there}
 use Rattle.worker.proofs.Started.{after, job_of, job_is}
 use Rattle.worker.proofs.Taking.{loses_none}
 use Rattle.worker.proofs.Telling.{end_still, yielded_still, owed_ends}
 
+pub job_begun : {A : Type 0} (e : EngineValue) (job : Job A) → IsJobIn e job → HasBegun e job.step
+job_begun e job is = inl (job.id, kept_job job, is.there, refl, tt)
+
 module _ {A : Type 0} (y : Yields) (t : Telling) (e : EngineValue) where
-  pub store_stops : (i : ℕ) (r : Refusal A) → IsStoreFault r → StopsStep y t e i r
-  store_stops i (refusals.Engine why) h = absurd h
-  store_stops i (refusals.Layout why) h = absurd h
-  store_stops i (refusals.Run why) h = absurd h
-  store_stops i refusals.Fetch h = tt
-  store_stops i refusals.Memory h = tt
+  pub store_stops : (i : ℕ) (r : Refusal A) → HasBegun e i → IsStoreFault r → StopsStep y t e i r
+  store_stops i (refusals.Engine why) begun h = absurd h
+  store_stops i (refusals.Layout why) begun h = absurd h
+  store_stops i (refusals.Run why) begun h = absurd h
+  store_stops i refusals.Fetch begun h = begun
+  store_stops i refusals.Memory begun h = begun
 
   pub child_stops : (job : Job A) → IsJobIn e job → HasRight t.blobs job.digest → (r : Refusal A) → StopsChild y t.blobs job.action.input job.command r → StopsStep y t e job.step r
   child_stops job is right (refusals.Engine why) h = absurd h
-  child_stops job is right (refusals.Layout why) h = (job.id, job_value job, is.there, refl, h)
+  child_stops job is right (refusals.Layout why) h = (job.id, kept_job job, is.there, refl, h)
   child_stops job is right (refusals.Run children.NotAbsolute) h = (job.command, is.command, h)
   child_stops job is right (refusals.Run (children.Device program cause)) (l, laid, may) =
-      (job.id, job_value job, is.there, refl, record { layout = l; laid = laid; command = job.command; of_step = is.command; may = may; action = right })
+      (job.id, kept_job job, is.there, refl, record { layout = l; laid = laid; command = job.command; of_step = is.command; may = may; own = (job.action.frame, is.frame, is.digest); action = right })
   child_stops job is right (refusals.Run (children.BadOutput path)) h = absurd h
-  child_stops job is right (refusals.Run children.Memory) h = tt
-  child_stops job is right refusals.Fetch h = tt
-  child_stops job is right refusals.Memory h = tt
+  child_stops job is right (refusals.Run children.Memory) h = job_begun e job is
+  child_stops job is right refusals.Fetch h = job_begun e job is
+  child_stops job is right refusals.Memory h = job_begun e job is
 
 -- what a runner told of a start that it refused, and of a child
 module _ {A T : Type 0} where
   pub start_stops : (y z : Yields) (B : Blobs) (input : DigestValue) (c : CommandValue) (l : LayoutValue) (e : RunError A) → IsLayoutOf B input l → YieldsNoMore z y → (IsErrOf {T = T} (Err e) children.NotAbsolute → IsAbsolute c → ⊥)
-      → ((path : List (List ℕ)) → IsErrOf {T = T} (Err e) (children.BadOutput path) → ⊥) → TellsFailure (YieldsFor z l c) e → StopsChild y B input c (refusals.Run e)
+      → ((path : List (List ℕ)) → IsErrOf {T = T} (Err e) (children.BadOutput path) → ⊥) → TellsRunFailure (YieldsFor z l c) e → StopsChild y B input c (refusals.Run e)
   start_stops y z B input c l children.NotAbsolute laid within refused bad told = refused refl
   start_stops y z B input c l (children.Device program cause) laid within refused bad told = (l, laid, (within l c (failed (string_bytes program) cause) told.0, told.1))
   start_stops y z B input c l (children.BadOutput path) laid within refused bad told = absurd (bad path refl)
   start_stops y z B input c l children.Memory laid within refused bad told = tt
 
   pub end_comes : (may : EndValue → Type 0) (e : RunError A) → (IsErrOf {T = T} (Err e) children.NotAbsolute → ⊥) → ((path : List (List ℕ)) → IsErrOf {T = T} (Err e) (children.BadOutput path) → may (bad_at path))
-      → TellsFailure may e → StopsCollecting may (refusals.Run e)
+      → TellsRunFailure may e → StopsCollecting may (refusals.Run e)
   end_comes may children.NotAbsolute absolute bad told = absurd (absolute refl)
   end_comes may (children.Device program cause) absolute bad told = told
   end_comes may (children.BadOutput path) absolute bad told = bad path refl
@@ -78,15 +82,15 @@ stops_within z y t e i (refusals.Engine why) within (inl fault) = inl fault
 stops_within z y t e i (refusals.Engine why) within (inr (id, j, at, step, (v, came, fault))) = inr (id, j, at, step, (v, by came, fault))
   where
     by : ComesTo z t e j v → ComesTo y t e j v
-    by (inl h) = inl (yielded_still e e within (λ d b at right. at) refl j h)
+    by (inl h) = inl (yielded_still e e within (λ d b at right. at) (refl, refl) j h)
     by (inr h) = inr h
 stops_within z y t e i (refusals.Layout why) within h = h
 stops_within z y t e i (refusals.Run children.NotAbsolute) within h = h
-stops_within z y t e i (refusals.Run (children.Device program cause)) within (id, j, at, step, h) = (id, j, at, step, end_still e e within (λ d b at right. at) refl j (failed (string_bytes program) cause) h)
-stops_within z y t e i (refusals.Run (children.BadOutput path)) within (id, j, at, step, h) = (id, j, at, step, end_still e e within (λ d b at right. at) refl j (bad_at path) h)
-stops_within z y t e i (refusals.Run children.Memory) within h = tt
-stops_within z y t e i refusals.Fetch within h = tt
-stops_within z y t e i refusals.Memory within h = tt
+stops_within z y t e i (refusals.Run (children.Device program cause)) within (id, j, at, step, h) = (id, j, at, step, end_still e e within (λ d b at right. at) (refl, refl) j (failed (string_bytes program) cause) h)
+stops_within z y t e i (refusals.Run (children.BadOutput path)) within (id, j, at, step, h) = (id, j, at, step, end_still e e within (λ d b at right. at) (refl, refl) j (bad_at path) h)
+stops_within z y t e i (refusals.Run children.Memory) within h = h
+stops_within z y t e i refusals.Fetch within h = h
+stops_within z y t e i refusals.Memory within h = h
 
 -- ---- a turn that is taken or refused
 
@@ -112,7 +116,7 @@ module _ (A J : Type 0) (y : Yields) (may : J → EndValue → Type 0) (from a b
   begun_refused z i e within k quiet turn (step, inr (id, mid, is, gone, stops)) =
       let calls = g.led.built.led.calls in
       let gone_job : IsLost id mid new = (job_of is, job_is is, gone) in
-      let w = going_back A J y may from s most first a b t u now mid cs i id k g turn.0 is new (lost id) (none_starts a b quiet) (λ d x child. absurd child) (λ js. refl) (ap (λ (e : EngineValue). e.jobs) gone) (ap (λ (e : EngineValue). e.commands) gone) gone_job in (
+      let w = going_back A J y may from s most first a b t u now mid cs i id k g turn.0 is new (lost id) (none_starts a b quiet) (λ d x child. absurd child) (λ js. refl) (ap (λ (e : EngineValue). e.jobs) gone) (ap (λ (e : EngineValue). e.commands) gone, ap (λ (e : EngineValue). e.frames) gone) gone_job in (
         on_by A J y may from s most first b u new cs calls (started i id ∷ lost id ∷ []) (taken_in true i now new) w (none_lost A J y may from s most first a b t u now new i cs k g turn.0 turn.2.waiting.unfinished id mid is gone),
         record {
           at = mid;
@@ -138,7 +142,10 @@ module _ (A J : Type 0) (y : Yields) (may : J → EndValue → Type 0) (from a b
     step_planned valid = subst (λ n. n < length now.plan.steps) f.jobs.2.of_child.step (valid.running c.id f.jobs.0 f.jobs.1)
 
     ends : IsKept t u → (end : EndValue) → may c.job end → MayComeTo y u.blobs now f.jobs.0 end
-    ends k end came = end_still now now (λ l d x h. h) k.blobs refl f.jobs.0 end (owed_ends f.jobs.2.owed end came)
+    ends k end came = end_still now now (λ l d x h. h) k.blobs (refl, refl) f.jobs.0 end (owed_ends f.jobs.2.owed end came)
+
+    runs_still : HasBegun now c.step
+    runs_still = inl (c.id, f.jobs.0, f.jobs.1, f.jobs.2.of_child.step, tt)
 
     end_stops : IsKept t u → (r : Refusal A) → StopsEnd may u.blobs c now r → StopsStep y u now c.step r
     end_stops k (refusals.Engine why) (p, came, blobs, trees, fault) =
@@ -147,9 +154,9 @@ module _ (A J : Type 0) (y : Yields) (may : J → EndValue → Type 0) (from a b
     end_stops k (refusals.Run children.NotAbsolute) h = absurd h
     end_stops k (refusals.Run (children.Device program cause)) h = (c.id, f.jobs.0, f.jobs.1, f.jobs.2.of_child.step, ends k (failed (string_bytes program) cause) h)
     end_stops k (refusals.Run (children.BadOutput path)) h = (c.id, f.jobs.0, f.jobs.1, f.jobs.2.of_child.step, ends k (bad_at path) h)
-    end_stops k (refusals.Run children.Memory) h = tt
-    end_stops k refusals.Fetch h = tt
-    end_stops k refusals.Memory h = tt
+    end_stops k (refusals.Run children.Memory) h = runs_still
+    end_stops k refusals.Fetch h = runs_still
+    end_stops k refusals.Memory h = runs_still
 
     ended_well : EndedWell may t u c now new → GoesOnBy A y may from b s u most first new ds f.led.built.led.calls 0
     ended_well e = on_by A J y may from s most first b u new ds f.led.built.led.calls (ran c.id c.action e.produced.outcome ∷ []) 0 (going_ran A J y may from s most first a b t u now new c ds quiet f e) refl
@@ -175,7 +182,8 @@ module _ (A J : Type 0) (y : Yields) (may : J → EndValue → Type 0) (from a b
             led = on.going.led.built.led;
             rest = loses_none;
             planned = subst (λ n. n < length new.plan.steps) (sym step) (subst (λ (p : PlanValue). c.step < length p.steps) (sym (ap (λ (e : EngineValue). e.plan) well.finished.after)) (step_planned valid));
-            stops = store_stops y u new e.step e.refusal store;
+            stops = subst (λ n. StopsStep y u new n e.refusal) (sym step)
+                (store_stops y u new c.step e.refusal (inr (finished_there now new c.id c.step well.produced.outcome f.jobs.0 valid well.finished f.jobs.1 f.jobs.2.of_child.step)) store);
           },
         )
 
@@ -212,7 +220,7 @@ module _ (A : Type 0) (z y : Yields) (t : Telling) (within : YieldsNoMore z y) w
   does_within : (later : List Call) (c : Call) (old new : EngineValue) → Does A z t later c old new → Does A y t later c old new
   does_within later (started i id) old new d = d
   does_within later (launched id d x) old new w = w
-  does_within later (ran id d v) old new f = record { finished = f.finished; action = f.action; yielded = yielded_still old old within (λ e b at right. at) refl f.finished.job f.yielded }
+  does_within later (ran id d v) old new f = record { finished = f.finished; action = f.action; yielded = yielded_still old old within (λ e b at right. at) (refl, refl) f.finished.job f.yielded }
   does_within later (taken id d v) old new f = f
   does_within later (lost id) old new gone = gone
 

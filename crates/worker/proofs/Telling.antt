@@ -19,7 +19,7 @@ use Rattle.tree.specs.Unfolded.{TellsBelow, TellsTree, IsUnfolded}
 use Rattle.runs.specs.Engine.{JobValue, EngineValue}
 use Rattle.worker.specs.Values.{LayoutValue, EndValue, made}
 use Rattle.worker.specs.Stored.{IsKept}
-use Rattle.worker.specs.Outcomes.{Yields, YieldsNoMore, MayComeTo, directories_of, HasTree, IsYielded, IsHeld}
+use Rattle.worker.specs.Outcomes.{Yields, YieldsNoMore, HasOwnAction, MayComeTo, directories_of, HasTree, IsYielded, IsHeld}
 use Rattle.worker.specs.Going.{IsOwed}
 use Rattle.worker.proofs.Keeping.{right_still, all_right_still}
 use Rattle.worker.specs.Layout.{IsFileWith, IsLayoutOf}
@@ -95,15 +95,24 @@ trees_still B C ((p, outputs.Tree t) ∷ es) keeps h = ((right_still keeps h.0.0
 
 -- ---- how a child may end
 
+-- the same commands and frames
+abbrev pub SameSteps : EngineValue → EngineValue → Type 0
+SameSteps old new = (new.commands ≡ old.commands) × (new.frames ≡ old.frames)
+
 -- a runner that yields more, a store that keeps right bytes, and an engine with the same commands
-module _ {y z : Yields} {B C : Blobs} (old new : EngineValue) (within : YieldsNoMore y z) (keeps : KeepsRight B C) (same : new.commands ≡ old.commands) (j : JobValue) where
+-- and frames
+module _ {y z : Yields} {B C : Blobs} (old new : EngineValue) (within : YieldsNoMore y z) (keeps : KeepsRight B C) (same : SameSteps old new) (j : JobValue) where
+  own_still : HasOwnAction old j → HasOwnAction new j
+  own_still h = (h.0, ap (λ fs. slice_get fs j.step) same.1 ∙ h.1, h.2)
+
   pub end_still : (end : EndValue) → MayComeTo y B old j end → MayComeTo z C new j end
   end_still end h = record {
     layout = h.layout;
     laid = layout_still keeps h.laid;
     command = h.command;
-    of_step = ap (λ cs. slice_get cs j.step) same ∙ h.of_step;
+    of_step = ap (λ cs. slice_get cs j.step) same.0 ∙ h.of_step;
     may = (within h.layout h.command end h.may.0, h.may.1);
+    own = own_still h.own;
     action = right_still keeps h.action;
   }
 
@@ -121,10 +130,11 @@ module _ {y z : Yields} {B C : Blobs} (old new : EngineValue) (within : YieldsNo
     layout = h.layout;
     laid = layout_still keeps h.laid;
     command = h.command;
-    of_step = ap (λ cs. slice_get cs j.step) same ∙ h.of_step;
+    of_step = ap (λ cs. slice_get cs j.step) same.0 ∙ h.of_step;
     may_come = λ end may_end. let comes = h.may_come end may_end in (within h.layout h.command end comes.0, comes.1);
+    own = own_still h.own;
     action = right_still keeps h.action;
   }
 
 pub owed_ends : {y : Yields} {may : EndValue → Type 0} {B : Blobs} {e : EngineValue} {j : JobValue} → IsOwed y may B e j → (end : EndValue) → may end → MayComeTo y B e j end
-owed_ends h end may_end = record { layout = h.layout; laid = h.laid; command = h.command; of_step = h.of_step; may = h.may_come end may_end; action = h.action }
+owed_ends h end may_end = record { layout = h.layout; laid = h.laid; command = h.command; of_step = h.of_step; may = h.may_come end may_end; own = h.own; action = h.action }

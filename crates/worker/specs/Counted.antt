@@ -31,6 +31,6 @@ IsDevice (refusals.Run e) = IsFailure e
 IsDevice r = ⊥
 
 -- a failure, if the error tells of one, is one that may be: its program and its cause
-abbrev pub TellsFailure : {A : Type 0} → (EndValue → Type 0) → RunError A → Type 0
-TellsFailure May (children.Device program cause) = May (failed (string_bytes program) cause)
-TellsFailure May e = Unit {0}
+abbrev pub TellsRunFailure : {A : Type 0} → (EndValue → Type 0) → RunError A → Type 0
+TellsRunFailure May (children.Device program cause) = May (failed (string_bytes program) cause)
+TellsRunFailure May e = Unit {0}

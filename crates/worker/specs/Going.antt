@@ -18,7 +18,8 @@ use Rattle.worker.specs.Layout.{IsLayoutOf}
 use Rattle.worker.specs.Values.{LayoutValue, ProducedValue, EndValue, made, Starts, StartsOne}
 use Rattle.worker.specs.Values.{StartsNone}
 use Rattle.worker.specs.Storing.{IsKeptBut, HasResultOf, IsHeldWhole}
-use Rattle.worker.specs.Outcomes.{Yields, YieldsFor, HasAllRight, HasTrees, IsHeld, CanBeTaken}
+use Rattle.worker.specs.Outcomes.{Yields, YieldsFor, HasAllRight, HasOwnAction, HasTrees, IsHeld}
+use Rattle.worker.specs.Outcomes.{CanBeTaken}
 use Rattle.worker.specs.Calls.{running, Call, WasStarted, IsBuiltWith, IsResultFor}
 use Rattle.worker.specs.Calls.{IsStartable}
 use Rattle.worker.specs.Watching.{taken_count, jobs_after}
@@ -45,6 +46,7 @@ pub record IsOwed (yields : Yields) (may : EndValue → Type 0) (B : Blobs) (e :
   pub command : CommandValue
   pub of_step : slice_get e.commands j.step ≡ Some command
   pub may_come : (end : EndValue) → may end → YieldsFor yields layout command end
+  pub own : HasOwnAction e j
   pub action : HasRight B j.action
 
 -- the job is the child's, and what may come of the child is owed to it
@@ -68,13 +70,14 @@ pub record IsGoing (A : Type 0) {J : Type 0} (yields : Yields) (may : J → EndV
   pub few : length children ≤ most
 
 -- a job as an engine has it
-abbrev pub job_value : {A : Type 0} → Job A → JobValue
-job_value job = record { step = job.step; action = job.digest; input = job.action.input }
+abbrev pub kept_job : {A : Type 0} → Job A → JobValue
+kept_job job = record { step = job.step; action = job.digest; input = job.action.input }
 
--- the engine has the job and its command, and the job's digest is that of its action
+-- the engine has the job, its command and its frame, and the job's digest is that of its action
 pub record IsJobIn {A : Type 0} (e : EngineValue) (job : Job A) : Type 0 where
-  pub there : job_in job.id e ≡ Some (job_value job)
+  pub there : job_in job.id e ≡ Some (kept_job job)
   pub command : slice_get e.commands job.step ≡ Some job.command
+  pub frame : slice_get e.frames job.step ≡ Some job.action.frame
   pub digest : job.digest ≡ digest_of (action_bytes job.action)
 
 -- the store has no result to take for the action and the command

@@ -4,8 +4,10 @@ use Rattle.std.specs.List.{AllByRecursion}
 use Rattle.blob_digest.specs.Digest.{DigestValue, digest_of}
 use Rattle.messages.specs.Directory.{directory_bytes}
 use Rattle.messages.specs.Tree.{TreeValue, tree_bytes}
+use Rattle.action_messages.specs.Action.{action_bytes, with_input}
 use Rattle.action_messages.specs.ActionResult.{ActionResultValue}
 use Rattle.action_messages.specs.Command.{CommandValue}
+use Rattle.action_messages.specs.Frame.{FrameValue}
 use Rattle.action_messages.specs.Reads.{Reads}
 use Rattle.actions.specs.declared.outcome.Output.TheVariants as outputs
 use Rattle.actions.specs.Outcome.{OutputValue, OutcomeValue, paths_of_outputs}
@@ -30,6 +32,11 @@ YieldsNoMore some all =
 abbrev pub YieldsFor : Yields → LayoutValue → CommandValue → EndValue → Type 0
 YieldsFor yields l c e = yields l c e × IsOf (program_of c) e
 
+-- the job's action is the frame of its step with its input
+abbrev pub HasOwnAction : EngineValue → JobValue → Type 0
+HasOwnAction e j = (f : FrameValue) × (slice_get e.frames j.step ≡ Some f)
+    × (j.action ≡ digest_of (action_bytes (with_input f j.input)))
+
 -- A job's child may come to this: the runner yields it for the layout that is told under the root
 -- of the job's input, and for the command of the job's step. The job's action is in the store.
 pub record MayComeTo (yields : Yields) (B : Blobs) (e : EngineValue) (j : JobValue) (end : EndValue)
@@ -39,6 +46,7 @@ pub record MayComeTo (yields : Yields) (B : Blobs) (e : EngineValue) (j : JobVal
   pub command : CommandValue
   pub of_step : slice_get e.commands j.step ≡ Some command
   pub may : YieldsFor yields layout command end
+  pub own : HasOwnAction e j
   pub action : HasRight B j.action
 
 -- bytes with each blob's digest stand under it

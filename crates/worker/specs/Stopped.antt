@@ -1,10 +1,10 @@
 -- Why a build ends at a step.
 use Rattle.std.specs.Prelude.{◌≡◌, ◌⊎◌, ◌<◌, ◌++◌, ℕ, List, length, map, Some, slice_get}
-use Rattle.std.specs.Prelude.{string_bytes}
+use Rattle.std.specs.Prelude.{IsSome, string_bytes}
 use Rattle.action_messages.specs.Command.{CommandValue}
 use Rattle.actions.specs.Outcome.{OutcomeValue}
 use Rattle.blob_source.specs.Source.{Telling}
-use Rattle.runs.specs.Engine.{JobValue, EngineValue, job_in}
+use Rattle.runs.specs.Engine.{JobValue, EngineValue, finished_in, job_in}
 use Rattle.runs.specs.Calls.{IsFinishFault, IsStartFault}
 use Rattle.worker.specs.declared.error.Refusal.{Refusal}
 use Rattle.worker.specs.declared.error.Refusal.TheVariants as refusals
@@ -22,11 +22,15 @@ ComesTo yields t e j v = IsYielded yields t.blobs e j v ⊎ CanBeTakenFor t e j 
 abbrev pub HasJobOf : EngineValue → ℕ → (ℕ → JobValue → Type 0) → Type 0
 HasJobOf e i Is = (id : ℕ) × (j : JobValue) × (job_in id e ≡ Some j) × (j.step ≡ i) × Is id j
 
+-- a job of a step runs, or the step has finished
+abbrev pub HasBegun : EngineValue → ℕ → Type 0
+HasBegun e i = HasJobOf e i (λ id j. Unit {0}) ⊎ IsSome (finished_in i e)
+
 -- A step is refused: the engine doesn't start it, though it could be, or doesn't take what its job
 -- came to; or the input of its job isn't laid out; or its command doesn't name its program from the
 -- root; or its job's child may come to nothing, as what stands at this path is no output, or as the
--- process of this program fails by this cause. That the store failed, and that memory ran out,
--- needs no reason here.
+-- process of this program fails by this cause. That the store failed, or that memory ran out, is
+-- told of a step that has begun.
 abbrev pub StopsStep : {A : Type 0} → Yields → Telling → EngineValue → ℕ → Refusal A → Type 0
 StopsStep yields t e i (refusals.Engine why) = (IsStartable e i × IsStartFault t.blobs e i why)
     ⊎ HasJobOf e i (λ id j.
@@ -39,9 +43,9 @@ StopsStep yields t e i (refusals.Run (children.Device program cause)) =
     HasJobOf e i (λ id j. MayComeTo yields t.blobs e j (failed (string_bytes program) cause))
 StopsStep yields t e i (refusals.Run (children.BadOutput path)) =
     HasJobOf e i (λ id j. MayComeTo yields t.blobs e j (bad_at path))
-StopsStep yields t e i (refusals.Run children.Memory) = Unit {0}
-StopsStep yields t e i refusals.Fetch = Unit {0}
-StopsStep yields t e i refusals.Memory = Unit {0}
+StopsStep yields t e i (refusals.Run children.Memory) = HasBegun e i
+StopsStep yields t e i refusals.Fetch = HasBegun e i
+StopsStep yields t e i refusals.Memory = HasBegun e i
 
 -- after the first calls of all, jobs alone were lost
 pub record LosesRest (A : Type 0) (yields : Yields) (t : Telling) (most : ℕ)

@@ -1,14 +1,16 @@
 -- What a store has while a build goes on: words of private functions.
-use Rattle.std.specs.Prelude.{◌≡◌, ◌⊎◌, ℕ, List, [], ◌∷◌, ◌++◌, true, Some, None}
+use Rattle.std.specs.Prelude.{◌≡◌, ◌⊎◌, ◌+◌, ℕ, List, [], ◌∷◌, ◌++◌, true, Some, None}
+use Rattle.std.specs.Prelude.{if◌then◌else◌}
+use Rattle.std.specs.List.{AllByRecursion}
 use Rattle.std.specs.BTreeSet.{BTreeSet, contains}
-use Rattle.blob_digest.specs.Digest.{DigestValue, digest_cmp}
+use Rattle.blob_digest.specs.Digest.{DigestValue, digest_cmp, digest_of}
 use Rattle.action_messages.specs.ActionResult.{ActionResultValue}
 use Rattle.action_messages.specs.Reads.{Reads}
 use Rattle.actions.specs.Outcome.{OutcomeValue}
 use Rattle.actions.specs.Recorded.{IsRecorded}
 use Rattle.blob_source.specs.Source.{Blobs, Telling, IsBlobUnder}
 use Rattle.blob_source.specs.Sink.{HasRight, KeepsRight}
-use Rattle.tree.specs.Memo.{Known, blob, result, known_by}
+use Rattle.tree.specs.Memo.{Asked, Known, blob, result, known_by}
 use Rattle.runs.specs.Calls.{HaveOneForm}
 use Rattle.runs.specs.Engine.{FinishedValue, EngineValue, finished_in}
 use Rattle.runs.specs.Results.{result_of}
@@ -34,14 +36,36 @@ pub record KnowsBlobs (known : Known) (B : Blobs) : Type 0 where
   pub blobs : (d : DigestValue) (b : List ℕ) → known (blob d) ≡ Some b → IsBlobUnder B d b
   pub results : (d : DigestValue) → known (result d) ≡ None
 
+-- the digest is among those of what was put
+abbrev pub HasPut : BTreeSet DigestValue → DigestValue → Type 0
+HasPut put d = contains digest_cmp put d ≡ true
+
 -- each blob that was put stands there
 abbrev pub WerePut : BTreeSet DigestValue → Blobs → Type 0
-WerePut put B = (d : DigestValue) → contains digest_cmp put d ≡ true → HasRight B d
+WerePut put B = (d : DigestValue) → HasPut put d → HasRight B d
 
 -- what is remembered is so
 pub record Remembers {A : Type 0} (r : Remembered A) (B : Blobs) : Type 0 where
   pub memo : KnowsBlobs (known_by r.memo) B
   pub put : WerePut r.put B
+
+-- what was put isn't forgotten
+abbrev pub StaysPut : BTreeSet DigestValue → BTreeSet DigestValue → Type 0
+StaysPut old new = (d : DigestValue) → HasPut old d → HasPut new d
+
+abbrev pub HasPutAll : BTreeSet DigestValue → List (List ℕ) → Type 0
+HasPutAll put = AllByRecursion (λ b. HasPut put (digest_of b))
+
+-- how many of the blobs weren't put before
+abbrev pub not_put : BTreeSet DigestValue → List (List ℕ) → ℕ
+not_put put [] = 0
+not_put put (b ∷ bs) =
+    (if contains digest_cmp put (digest_of b) then 0 else 1) + not_put put bs
+
+-- what is remembered isn't forgotten
+pub record StaysRemembered {A : Type 0} (old new : Remembered A) : Type 0 where
+  pub memo : (a : Asked) (b : List ℕ) → known_by old.memo a ≡ Some b → known_by new.memo a ≡ Some b
+  pub put : StaysPut old.put new.put
 
 -- under a digest stands a result of a step that has finished
 pub record HasResultOf (t : Telling) (e : EngineValue) (i : ℕ) (d : DigestValue) : Type 0 where

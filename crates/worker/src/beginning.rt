@@ -3,11 +3,11 @@ ghost use Rattle.worker.specs.Layout.{IsLayoutOf};
 ghost use Rattle.std.specs.Result.{IsErrAnd};
 ghost use Rattle.worker.specs.Counted.{Counts, IsDevice, IsFetch};
 ghost use Rattle.worker.specs.Stored.{IsKept};
-ghost use Rattle.worker.specs.Storing.{Remembers, WerePut};
+ghost use Rattle.worker.specs.Storing.{Remembers, StaysPut, StaysRemembered, WerePut};
 ghost use Rattle.worker.specs.Calls.{IsStartable};
 ghost use Rattle.worker.specs.Outcomes.{YieldsFor, YieldsNoMore};
 ghost use Rattle.worker.specs.Values.{LayoutValue, EndValue, StartsNone, StartsOne};
-ghost use Rattle.worker.specs.Going.{IsJobIn, job_value, IsBegun, IsLaunched};
+ghost use Rattle.worker.specs.Going.{IsJobIn, kept_job, IsBegun, IsLaunched};
 ghost use Rattle.worker.specs.Stopping.{StopsChild, StopsBeginning};
 ghost use Rattle.worker.specs.Stopped.{StopsStep};
 
@@ -68,10 +68,11 @@ fn launch<A: Allocator + Copy, S: BlobSink<A>, N: Runner<A>>(
     requires job { IsJobIn engine.old job.now }
     requires put { WerePut put.old (S.tells sink.old).blobs }
     ensures put { WerePut put.new (S.tells sink.new).blobs }
+    ensures stays { StaysPut put.old put.new }
     ensures kept { IsKept (S.tells sink.old) (S.tells sink.new) }
     ensures launched { OnOk result (IsLaunched (N.yields runner.old) N.may_give
         (N.starts runner.old) (N.starts runner.new) (S.tells sink.old) (S.tells sink.new)
-        job.now.id (job_value job.now) engine.old engine.new children.old.items
+        job.now.id (kept_job job.now) engine.old engine.new children.old.items
         children.new.items) }
     ensures unlisted { OnErr result (StartsNone (N.starts runner.old) (N.starts runner.new)) }
     ensures refused { IfErr result
@@ -117,6 +118,7 @@ pub(crate) fn begin<A: Allocator + Copy, S: BlobSink<A>, N: Runner<A>>(
     requires startable { IsStartable engine.old step }
     requires knows { Remembers remembered.old (S.tells sink.old).blobs }
     ensures knows { Remembers remembered.new (S.tells sink.new).blobs }
+    ensures stays { StaysRemembered remembered.old remembered.new }
     ensures kept { IsKept (S.tells sink.old) (S.tells sink.new) }
     ensures begun { OnOk result (IsBegun A (N.yields runner.old) N.may_give
         (N.starts runner.old) (N.starts runner.new) (S.tells sink.old) (S.tells sink.new) step

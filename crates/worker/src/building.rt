@@ -5,7 +5,7 @@ ghost use Rattle.runs.specs.Engine.{EngineValue};
 ghost use Rattle.runs.specs.Calls.{HaveAllFinished};
 ghost use Rattle.std.specs.Result.{IsErrAnd};
 ghost use Rattle.worker.specs.Counted.{Counts, IsDevice, IsFetch};
-ghost use Rattle.worker.specs.Storing.{Remembers, StoresSteps};
+ghost use Rattle.worker.specs.Storing.{Remembers, StaysRemembered, StoresSteps};
 ghost use Rattle.worker.specs.Calls.{running, IsBuiltWith};
 ghost use Rattle.worker.specs.Going.{AreJobsOf, IsJobOf, IsGoing};
 ghost use Rattle.worker.specs.Stopped.{IsRefusedBuild, LosesRest};
@@ -80,6 +80,7 @@ fn take_turns<A: Allocator + Copy, S: BlobSink<A>, N: Runner<A>, W: Watcher>(
     ensures stored { OnOk result (StoresSteps (S.tells sink.old) engine.old
         → StoresSteps (S.tells sink.new) engine.new) }
     ensures right { KeepsRight (S.tells sink.old).blobs (S.tells sink.new).blobs }
+    ensures stays { StaysRemembered remembered.old remembered.new }
     ensures alive { N.alive runner.new ≡ N.alive runner.old + length children.new.items }
     ensures watched { IsWatched
         (IsProgress A (N.yields runner.old) (S.tells sink.new) jobs engine.old)

@@ -2,7 +2,7 @@ ghost use Rattle.std.specs.Prelude.{◌≡◌, ◌≢◌, ◌+◌, ◌-◌, ◌<
 ghost use Rattle.std.specs.Prelude.{IsErr, IsErrOf, IsTrue, OnErr, OnOk, string_bytes};
 ghost use Rattle.std.specs.Result.{IsErrAnd};
 ghost use Rattle.blob_source.specs.Source.{greatest_count};
-ghost use Rattle.worker.specs.Counted.{Counts, IsFailure, TellsFailure};
+ghost use Rattle.worker.specs.Counted.{Counts, IsFailure, TellsRunFailure};
 ghost use Rattle.worker.specs.FailRunner.{FailsRun, IsFreshRunner, failures_of, inner_of};
 ghost use Rattle.worker.specs.FailRunner.{may_give_of, program_in, until_failure_of, yields_of};
 ghost use Rattle.worker.specs.Outcomes.{YieldsFor, YieldsNoMore};
@@ -36,8 +36,8 @@ pub struct FailJob<J, A: Allocator> {
 }
 
 impl<N> FailRunner<N> {
-    /// A runner over this one, of whose calls the one of this number fails: 1 is the first, and with
-    /// 0 none does.
+    /// A runner over this one, of whose calls the one of this number fails: 1 is the first, and
+    /// with 0 none does.
     pub fn new(inner: N, number: u64) -> FailRunner<N>
         ensures { IsFreshRunner inner number result }
     {
@@ -160,7 +160,7 @@ impl<A: Allocator + Copy, N: Runner<A>> Runner<A> for FailRunner<N> {
         ensures refused { IsErrOf result RunError.NotAbsolute → IsAbsolute command.now → ⊥ }
         ensures bad { (path : List (List ℕ)) → IsErrOf result (RunError.BadOutput path) → ⊥ }
         ensures device { IfErr result
-            (TellsFailure (YieldsFor (yields_of N.yields self.new) layout.now command.now)) }
+            (TellsRunFailure (YieldsFor (yields_of N.yields self.new) layout.now command.now)) }
         ensures counted { Counts (failures_of self.old) (failures_of self.new)
             (IsErrAnd result IsFailure) }
         ensures fails { FailsRun N.failures (program_of command.now) self.old self.new result }
@@ -185,7 +185,7 @@ impl<A: Allocator + Copy, N: Runner<A>> Runner<A> for FailRunner<N> {
         ensures unlisted { StartsNone (N.starts (inner_of self.old)) (N.starts (inner_of self.new)) }
         ensures closed { N.alive (inner_of self.new) ≡ N.alive (inner_of self.old) - 1 }
         ensures absolute { IsErrOf result RunError.NotAbsolute → ⊥ }
-        ensures device { IfErr result (TellsFailure (may_give_of N.may_give job)) }
+        ensures device { IfErr result (TellsRunFailure (may_give_of N.may_give job)) }
         ensures counted { Counts (failures_of self.old) (failures_of self.new)
             (IsErrAnd result IsFailure) }
         ensures fails { FailsRun N.failures (program_in job) self.old self.new result }

@@ -1,11 +1,12 @@
-ghost use Rattle.std.specs.Prelude.{◌≡◌, ◌+◌, ◌-◌, ◌<◌, Some, IsSome, IfErr, OnOk};
+ghost use Rattle.std.specs.Prelude.{◌≡◌, ◌+◌, ◌-◌, ◌<◌, ◌≤◌, [], ◌∷◌, Some, IsSome, IfErr, OnOk};
 ghost use Rattle.std.specs.Result.{IsErrAnd};
 ghost use Rattle.blob_digest.specs.Digest.{digest_of};
 ghost use Rattle.action_messages.specs.Action.{action_bytes};
 ghost use Rattle.wire.specs.Bytes.{IsBytes};
 ghost use Rattle.blob_source.specs.Sink.{HasRight};
 ghost use Rattle.runs.specs.Engine.{finished_in};
-ghost use Rattle.worker.specs.Storing.{IsKeptBut, HasResultOf, IsResultOfStep, WerePut};
+ghost use Rattle.worker.specs.Storing.{HasPut, HasPutAll, HasResultOf, IsKeptBut, IsResultOfStep};
+ghost use Rattle.worker.specs.Storing.{StaysPut, WerePut, not_put};
 ghost use Rattle.worker.specs.Outcomes.{HasAllRight, HasTrees, directories_of};
 ghost use Rattle.worker.specs.Counted.{Counts, IsFetch};
 ghost use Rattle.worker.specs.Values.{blobs_of};
@@ -41,7 +42,7 @@ pub fn put_all<A: Allocator + Copy, S: BlobSink<A>>(
 }
 
 /// Puts a blob, unless it was put before.
-#[tactic(auto, using(crate::proofs::Keeping::kept_none, crate::proofs::Keeping::kept_blob))]
+#[tactic(auto, using(crate::proofs::Keeping::kept_none, crate::proofs::Keeping::kept_blob, crate::proofs::PutOnce::one_call))]
 fn put_once<A: Allocator + Copy, S: BlobSink<A>>(
     alloc: A,
     sink: &mut S,
@@ -52,6 +53,10 @@ fn put_once<A: Allocator + Copy, S: BlobSink<A>>(
     ensures put { WerePut put.new (S.tells sink.new).blobs }
     ensures kept { IsKept (S.tells sink.old) (S.tells sink.new) }
     ensures held { OnOk result (HasRight (S.tells sink.new).blobs (digest_of blob.now)) }
+    ensures stays { StaysPut put.old put.new }
+    ensures listed { OnOk result (HasPut put.new (digest_of blob.now)) }
+    ensures once { (S.tells sink.new).calls
+        ≤ (S.tells sink.old).calls + not_put put.old (blob.now ∷ []) }
     ensures failed { IfErr result IsStoreFault }
     ensures fetched { Counts (S.tells sink.old).failures (S.tells sink.new).failures
         (IsErrAnd result IsFetch) }
@@ -80,6 +85,11 @@ pub(crate) fn put_input<A: Allocator + Copy, S: BlobSink<A>>(
         (HasRight (S.tells sink.new).blobs (digest_of (action_bytes job.now.action))) }
     ensures input { OnOk result
         (HasAllRight (S.tells sink.new).blobs (blobs_of job.now.input.directories.items)) }
+    ensures stays { StaysPut put.old put.new }
+    ensures listed { OnOk result (HasPutAll put.new (blobs_of job.now.input.directories.items)) }
+    // The store is called for the action, and at most once for each Directory that wasn't put.
+    ensures once { (S.tells sink.new).calls ≤ (S.tells sink.old).calls + 1
+        + not_put put.old (blobs_of job.now.input.directories.items) }
     ensures failed { IfErr result IsStoreFault }
     ensures fetched { Counts (S.tells sink.old).failures (S.tells sink.new).failures
         (IsErrAnd result IsFetch) }

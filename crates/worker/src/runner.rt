@@ -1,7 +1,7 @@
 ghost use Rattle.std.specs.Prelude.{◌≡◌, ◌+◌, ◌-◌, ℕ, IfErr, IfOk, IsErrOf, OnOk, OnErr};
 ghost use Rattle.std.specs.Result.{IsErrAnd};
 ghost use Rattle.worker.specs.declared.runner.RunError.TheVariants as errors;
-ghost use Rattle.worker.specs.Counted.{Counts, IsFailure, TellsFailure};
+ghost use Rattle.worker.specs.Counted.{Counts, IsFailure, TellsRunFailure};
 ghost use Rattle.worker.specs.Outcomes.{YieldsFor, YieldsNoMore};
 ghost use Rattle.worker.specs.Values.{IsAbsolute, StartsOne, StartsNone, made, bad_at};
 
@@ -105,7 +105,7 @@ pub trait Runner<A: Allocator> {
         ensures refused { IsErrOf result RunError.NotAbsolute → IsAbsolute command.now → ⊥ }
         ensures bad { (path : List (List ℕ)) → IsErrOf result (RunError.BadOutput path) → ⊥ }
         ensures device { IfErr result
-            (TellsFailure (YieldsFor (yields self.new) layout.now command.now)) }
+            (TellsRunFailure (YieldsFor (yields self.new) layout.now command.now)) }
         ensures counted { Counts (failures self.old) (failures self.new)
             (IsErrAnd result IsFailure) };
 
@@ -118,7 +118,7 @@ pub trait Runner<A: Allocator> {
         ensures unlisted { StartsNone (starts self.old) (starts self.new) }
         ensures closed { alive self.new ≡ alive self.old - 1 }
         ensures absolute { IsErrOf result RunError.NotAbsolute → ⊥ }
-        ensures device { IfErr result (TellsFailure (may_give job)) }
+        ensures device { IfErr result (TellsRunFailure (may_give job)) }
         ensures counted { Counts (failures self.old) (failures self.new)
             (IsErrAnd result IsFailure) };
 }

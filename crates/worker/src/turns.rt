@@ -6,7 +6,7 @@ ghost use Rattle.plan.specs.Plan.{IsPlan};
 ghost use Rattle.runs.specs.Engine.{EngineValue, IsEngine};
 ghost use Rattle.std.specs.Result.{IsErrAnd};
 ghost use Rattle.worker.specs.Counted.{Counts, IsDevice, IsFetch};
-ghost use Rattle.worker.specs.Storing.{Remembers, StoresSteps};
+ghost use Rattle.worker.specs.Storing.{Remembers, StaysRemembered, StoresSteps};
 ghost use Rattle.worker.specs.Outcomes.{YieldsNoMore};
 ghost use Rattle.worker.specs.Calls.{Call, IsStartable, PutsOf};
 ghost use Rattle.worker.specs.Going.{AreJobsOf, IsJobOf, IsTurn, IsNextTurn, IsGoing, turns_left};
@@ -131,6 +131,7 @@ pub(crate) fn take_turn<A: Allocator + Copy, S: BlobSink<A>, N: Runner<A>>(
         → length children.old.items ≤ most → length children.new.items < most) }
     ensures puts { (more : List Call) × PutsOf more (S.tells sink.old) (S.tells sink.new) }
     ensures knows { Remembers remembered.new (S.tells sink.new).blobs }
+    ensures stays { StaysRemembered remembered.old remembered.new }
     ensures fewer { OnOk result
         (turns_left engine.new children.new.items < turns_left engine.old children.old.items) }
     ensures right { KeepsRight (S.tells sink.old).blobs (S.tells sink.new).blobs }

@@ -3,7 +3,7 @@ use Rattle.std.specs.Prelude.{Contains}
 use Rattle.std.specs.List.{AllByRecursion}
 use Rattle.std.proofs.lemmas.List.{take_all}
 use Rattle.worker.specs.Values.{blobs_of}
-use Rattle.processes.specs.Laying.{place_below}
+use Rattle.processes.specs.Laying.{place_in}
 use Rattle.messages.specs.Path.{path_text}
 use Rattle.worker.specs.declared.runner.RunError.{RunError}
 use Rattle.worker.specs.declared.runner.RunError.TheVariants as children
@@ -17,7 +17,7 @@ loop-path-preserved g c =
     so_far_taken g.W.Workshop.works c.args.ended.now c.args.folder.now c.args.paths.now c.loop-path.path-index _ c.path-item.result
     c.loop-path.outcome (blobs_of c.loop-path.blobs.items) c.take_output.new.outcome (blobs_of c.take_output.new.blobs.items) c.as_str-in-loop-path.result.now
     c.loop-path-test.true c.path-item.is c.loop-path.invariant
-    (c.as_str-in-loop-path.ensures.value ∙ c.in-Ok.ensures ∙ ap (λ t. place_below c.args.folder.now t) c.as_str.ensures.value)
+    (c.as_str-in-loop-path.ensures.value ∙ c.in-Ok.ensures ∙ ap (λ t. place_in c.args.folder.now t) c.as_str.ensures.value)
     c.in-Ok-take_output.ensures.more
 
 pub returns-clause-outputs : goal.returns-clause-outputs
@@ -37,9 +37,9 @@ returns-in-Err-clause-bad g c path is =
     let folder = c.args.folder.now in
     let told : ◌≡◌ {A = RunError g.row.A.Denot} c.at.result (children.BadOutput path) = let e = is in cc in
     let at = c.at.ensures.bad path told in
-    let place : c.as_str-in-loop-path.result.now ≡ place_below folder (path_text c.path-item.result) = c.as_str-in-loop-path.ensures.value ∙ c.in-Ok.ensures ∙ ap (λ t. place_below folder t) c.as_str.ensures.value in
+    let place : c.as_str-in-loop-path.result.now ≡ place_in folder (path_text c.path-item.result) = c.as_str-in-loop-path.ensures.value ∙ c.in-Ok.ensures ∙ ap (λ t. place_in folder t) c.as_str.ensures.value in
     let bad : HasNoOutput works ended c.as_str-in-loop-path.result.now = c.in-Err.ensures.bad (ap Err at.1) in
-    subst (λ p. Contains c.args.paths.now p × HasNoOutput works ended (place_below folder (path_text p))) (sym at.0)
+    subst (λ p. Contains c.args.paths.now p × HasNoOutput works ended (place_in folder (path_text p))) (sym at.0)
     ((c.loop-path.path-index, c.loop-path-test.true, sym c.path-item.is), subst (HasNoOutput works ended) place bad)
 
 pub returns-in-Err-clause-failed : goal.returns-in-Err-clause-failed

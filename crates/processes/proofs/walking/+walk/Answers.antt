@@ -9,7 +9,7 @@ use Rattle.worker.specs.Values.{blobs_of}
 use Rattle.processes.specs.declared.trouble.Trouble.TheVariants.{NoOutput}
 use Rattle.processes.specs.declared.workshop.Standing.TheVariants as standings
 use Rattle.processes.specs.Collected.{IsBadFolder}
-use Rattle.processes.specs.Laying.{place_below}
+use Rattle.processes.specs.Laying.{place_in}
 use Rattle.processes.specs.Walking.{IsBare}
 use Rattle.processes.proofs.Walks.{IsSoFar, none_seen, all_seen, one_bare, one_file, one_folder, one_of, one_fewer, bad_name, bad_below, bad_standing}
 use Rattle.processes.proofs.walking.+walk.Goals as goal
@@ -27,7 +27,7 @@ walk-requires g t c κs within =
     let bare : IsBare c.add-in-Folder.new.self (path ++ string_bytes c.name-item.result ∷ []) =
     one_bare g.W.Workshop.works c.args.ended.now c.args.place.now path string_bytes c.deref-name-items.result.now c.loop-name.name-index c.name-item.result c.loop-name-test.true c.name-item.is
     c.args.tree.now c.loop-name.tree c.add-in-Folder.new.self (blobs_of c.args.blobs.now.items) (blobs_of c.loop-name.blobs.items) c.loop-name.invariant a_directory _
-    (c.in_ok-copy_of-in-Folder.ensures ∙ at) c.in_ok-add-in-Folder.ensures.added c.in_ok-add-in-Folder.ensures.room (place_below c.args.place.now (string_bytes c.name-item.result)) refl refl in
+    (c.in_ok-copy_of-in-Folder.ensures ∙ at) c.in_ok-add-in-Folder.ensures.added c.in_ok-add-in-Folder.ensures.room (place_in c.args.place.now (string_bytes c.name-item.result)) refl refl in
     let all : length path + c.args.most ≡ 64 = first_of (assumption c.requires, search rules) in
     let fewer = one_fewer c.args.most c.in-Some-checked_sub.fewer c.in-Some-checked_sub.ensures in
     let longer = ap (λ (q : List Name). length q) at ∙ length-append path (string_bytes c.name-item.result ∷ []) in
@@ -46,8 +46,8 @@ loop-name-preserved g t c =
     let names = c.deref-name-items.result.now in
     let i = c.loop-name.name-index in
     let at : c.in_ok-path.path ≡ path ++ n ∷ [] = c.in_ok-path.ensures.path ∙ ap (λ x. path ++ x ∷ []) c.as_str.ensures.value in
-    let spot : string_bytes c.in_ok-place.place ≡ place_below place n = c.in_ok-place.ensures ∙ ap (λ x. place_below place x) c.as_str-in-loop-name.ensures.value in
-    let looked : c.as_str-in-loop-name-2.result.now ≡ place_below place n = c.as_str-in-loop-name-2.ensures.value ∙ spot in
+    let spot : string_bytes c.in_ok-place.place ≡ place_in place n = c.in_ok-place.ensures ∙ ap (λ x. place_in place x) c.as_str-in-loop-name.ensures.value in
+    let looked : c.as_str-in-loop-name-2.result.now ≡ place_in place n = c.as_str-in-loop-name-2.ensures.value ∙ spot in
     elim c.match-branch-6.branch [
       | in-File+in_ok-digest-in-File+in_ok-add-in-File w ↦
           subst (λ t. IsSoFar works ended place path (map string_bytes (take (i + 1) names)) c.args.tree.now t before (blobs_of c.match-branch-6.blobs.items)) (sym w.tree-is)
@@ -110,7 +110,7 @@ returns-in_err-digest-in-File-clause-bad g t c told =
     let one : Contains (map string_bytes names) n =
     subst (λ xs. Contains (map string_bytes xs) n) c.deref-name-items.ensures.value (one_of string_bytes c.deref-name-items.result.now c.loop-name.name-index c.name-item.result c.loop-name-test.true c.name-item.is) in
     let listed = subst (λ o. works.lists ended place (option_map (λ v. map string_bytes v.items) o)) c.in-Some.is c.in_ok-names.ensures.told in
-    let spot : string_bytes c.in_ok-place.place ≡ place_below place n = c.in_ok-place.ensures ∙ ap (λ x. place_below place x) c.as_str-in-loop-name.ensures.value in
+    let spot : string_bytes c.in_ok-place.place ≡ place_in place n = c.in_ok-place.ensures ∙ ap (λ x. place_in place x) c.as_str-in-loop-name.ensures.value in
     let p = err_from_is_err_and c.from_residual-in_err-digest-in-File.result c.from_residual-in_err-digest-in-File.ensures.1 in
     let bad : p.0 ≡ NoOutput = (let both = sym p.1 ∙ told in cc) in
     let stands = subst (λ q. works.stands ended q standings.File) (c.as_str-in-loop-name-2.ensures.value ∙ spot) (subst (λ s. works.stands ended c.as_str-in-loop-name-2.result.now s) c.in-File.is c.in_ok-look.ensures.told) in
@@ -127,7 +127,7 @@ returns-in_err-walk-in-Folder-clause-bad g t c told =
     let one : Contains (map string_bytes names) n =
     subst (λ xs. Contains (map string_bytes xs) n) c.deref-name-items.ensures.value (one_of string_bytes c.deref-name-items.result.now c.loop-name.name-index c.name-item.result c.loop-name-test.true c.name-item.is) in
     let listed = subst (λ o. works.lists ended place (option_map (λ v. map string_bytes v.items) o)) c.in-Some.is c.in_ok-names.ensures.told in
-    let spot : string_bytes c.in_ok-place.place ≡ place_below place n = c.in_ok-place.ensures ∙ ap (λ x. place_below place x) c.as_str-in-loop-name.ensures.value in
+    let spot : string_bytes c.in_ok-place.place ≡ place_in place n = c.in_ok-place.ensures ∙ ap (λ x. place_in place x) c.as_str-in-loop-name.ensures.value in
     let p = err_from_is_err_and c.from_residual-in_err-walk-in-Folder.result c.from_residual-in_err-walk-in-Folder.ensures.1 in
     let bad : p.0 ≡ NoOutput = (let both = sym p.1 ∙ told in cc) in
     let stands = subst (λ q. works.stands ended q standings.Folder) (c.as_str-in-loop-name-2.ensures.value ∙ spot) (subst (λ s. works.stands ended c.as_str-in-loop-name-2.result.now s) c.in-Folder.is c.in_ok-look.ensures.told) in
@@ -144,7 +144,7 @@ returns-in-Nothing-clause-bad g t c told =
     let one : Contains (map string_bytes names) n =
     subst (λ xs. Contains (map string_bytes xs) n) c.deref-name-items.ensures.value (one_of string_bytes c.deref-name-items.result.now c.loop-name.name-index c.name-item.result c.loop-name-test.true c.name-item.is) in
     let listed = subst (λ o. works.lists ended place (option_map (λ v. map string_bytes v.items) o)) c.in-Some.is c.in_ok-names.ensures.told in
-    let spot : string_bytes c.in_ok-place.place ≡ place_below place n = c.in_ok-place.ensures ∙ ap (λ x. place_below place x) c.as_str-in-loop-name.ensures.value in
+    let spot : string_bytes c.in_ok-place.place ≡ place_in place n = c.in_ok-place.ensures ∙ ap (λ x. place_in place x) c.as_str-in-loop-name.ensures.value in
     let stands = subst (λ q. works.stands ended q c.in_ok-look.field-0) (c.as_str-in-loop-name-2.ensures.value ∙ spot) c.in_ok-look.ensures.told in
     bad_below works ended place c.args.most c.in-Some-checked_sub.fewer (map string_bytes names) n c.in_ok-look.field-0 (one_fewer c.args.most c.in-Some-checked_sub.fewer c.in-Some-checked_sub.ensures) listed one stands
-    (bad_standing works ended (IsBadFolder works ended c.in-Some-checked_sub.fewer) (place_below place n) c.in_ok-look.field-0 c.in-Nothing.is)
+    (bad_standing works ended (IsBadFolder works ended c.in-Some-checked_sub.fewer) (place_in place n) c.in_ok-look.field-0 c.in-Nothing.is)

@@ -2,7 +2,7 @@ use Rattle.worker.proofs.Keeping.{kept_trans, kept_some}
 use Rattle.std.proofs.Common.{◌≡◌, ◌∙◌, Some, refl, ap, subst, sym, inl, inr}
 use Rattle.runs.specs.Calls.{without_job}
 use Rattle.runs.specs.Engine.{EngineValue, job_in}
-use Rattle.worker.specs.Going.{job_value}
+use Rattle.worker.specs.Going.{kept_job}
 use Rattle.worker.specs.Stopped.{StopsStep}
 use Rattle.worker.proofs.Started.{started_in, started_value, was_started}
 use Rattle.worker.proofs.Goes.{begun}
@@ -18,7 +18,7 @@ launch-requires g c = record { job = started_in c.in-Ok.ensures.started; put = p
 pub lose-requires : goal.lose-requires
 lose-requires g c =
     let job = c.in-Ok.job in
-    (job_value job, subst (λ (e : EngineValue). job_in job.id e ≡ Some (job_value job)) (sym c.in-Err-launch.ensures.unchanged) (started_value c.in-Ok.ensures.started))
+    (kept_job job, subst (λ (e : EngineValue). job_in job.id e ≡ Some (kept_job job)) (sym c.in-Err-launch.ensures.unchanged) (started_value c.in-Ok.ensures.started))
 
 pub returns-in-Ok-launch-clause-kept : goal.returns-in-Ok-launch-clause-kept
 returns-in-Ok-launch-clause-kept g c = kept_trans (kept_some c.start.ensures.called) c.launch.ensures.kept
@@ -49,6 +49,15 @@ returns-clause-knows g c = record {
   memo = knows_still c.launch.ensures.kept.blobs (knows_started c.args.engine.now c.args.step c.requires.knows.memo c.start.ensures.learned);
   put = c.launch.ensures.put;
 }
+
+pub returns-in-Err-clause-stays : goal.returns-in-Err-clause-stays
+returns-in-Err-clause-stays g c = record { memo = c.start.ensures.learned.kept; put = λ d among. among }
+
+pub returns-in-Ok-launch-clause-stays : goal.returns-in-Ok-launch-clause-stays
+returns-in-Ok-launch-clause-stays g c = record { memo = c.start.ensures.learned.kept; put = c.launch.ensures.stays }
+
+pub returns-clause-stays : goal.returns-clause-stays
+returns-clause-stays g c = record { memo = c.start.ensures.learned.kept; put = c.launch.ensures.stays }
 
 pub returns-in-Err-clause-stopped : goal.returns-in-Err-clause-stopped
 returns-in-Err-clause-stopped g c = (refl, inl (c.in-Err.ensures.unchanged, inl (c.requires.startable, c.in-Err.ensures.refused)))

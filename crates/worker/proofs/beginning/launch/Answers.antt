@@ -4,8 +4,8 @@ use Rattle.blob_source.specs.Sink.{HasRight}
 use Rattle.std.specs.Prelude.{IfSome}
 use Rattle.worker.specs.declared.child.Child.{Child}
 use Rattle.worker.specs.Outcomes.{IsHeld, CanBeTakenFor, CanBeTaken}
-use Rattle.worker.specs.Going.{job_value}
-use Rattle.worker.proofs.Stopping.{store_stops, child_stops}
+use Rattle.worker.specs.Going.{kept_job}
+use Rattle.worker.proofs.Stopping.{store_stops, job_begun, child_stops}
 use Rattle.worker.proofs.Telling.{held_kept}
 use Rattle.worker.proofs.Keeping.{kept_trans, right_still}
 use Rattle.worker.proofs.PutOnce.{put_still}
@@ -62,6 +62,7 @@ returns-clause-launched g c =
             command = c.args.job.now.command;
             of_step = c.requires.job.command;
             may_come = owed.2;
+            own = (c.args.job.now.action.frame, c.requires.job.frame, c.requires.job.digest);
             action = subst (HasRight B) (sym c.requires.job.digest) (right_still (kept_trans c.recorded_outcome.ensures.kept c.start_child.ensures.kept).blobs c.in_ok-put_input.ensures.held);
           };
         };
@@ -75,30 +76,35 @@ returns-clause-launched g c =
 pub returns-in_err-put_input-clause-refused : goal.returns-in_err-put_input-clause-refused
 returns-in_err-put_input-clause-refused g c =
     let p = err_from_is_err_and c.from_residual.result c.from_residual.ensures.1 in
-    rw (p.1, p.2) (store_stops (g.N.Runner.yields c.args.runner.now) (g.S.BlobSource.tells c.put_input.new.sink) c.args.engine.now c.args.job.now.step c.in_err-put_input.field-0.0 c.in_err-put_input.ensures.failed)
+    rw (p.1, p.2) (store_stops (g.N.Runner.yields c.args.runner.now) (g.S.BlobSource.tells c.put_input.new.sink) c.args.engine.now c.args.job.now.step c.in_err-put_input.field-0.0 (job_begun c.args.engine.now c.args.job.now c.requires.job) c.in_err-put_input.ensures.failed)
 
 pub returns-in_err-outcome-clause-refused : goal.returns-in_err-outcome-clause-refused
 returns-in_err-outcome-clause-refused g c =
     let p = err_from_is_err_and c.from_residual-in_err-outcome.result c.from_residual-in_err-outcome.ensures.1 in
-    rw (p.1, p.2) (store_stops (g.N.Runner.yields c.args.runner.now) (g.S.BlobSource.tells c.recorded_outcome.new.sink) c.args.engine.now c.args.job.now.step c.in_err-outcome.field-0.0 c.in_err-outcome.ensures.failed)
+    rw (p.1, p.2) (store_stops (g.N.Runner.yields c.args.runner.now) (g.S.BlobSource.tells c.recorded_outcome.new.sink) c.args.engine.now c.args.job.now.step c.in_err-outcome.field-0.0 (job_begun c.args.engine.now c.args.job.now c.requires.job) c.in_err-outcome.ensures.failed)
 
 pub returns-in_err-put_trees-clause-refused : goal.returns-in_err-put_trees-clause-refused
 returns-in_err-put_trees-clause-refused g c =
     let p = err_from_is_err_and c.from_residual-in_err-put_trees.result c.from_residual-in_err-put_trees.ensures.1 in
-    rw (p.1, p.2) (store_stops (g.N.Runner.yields c.args.runner.now) (g.S.BlobSource.tells c.put_trees.new.sink) c.args.engine.now c.args.job.now.step c.in_err-put_trees.field-0.0 c.in_err-put_trees.ensures.failed)
+    rw (p.1, p.2) (store_stops (g.N.Runner.yields c.args.runner.now) (g.S.BlobSource.tells c.put_trees.new.sink) c.args.engine.now c.args.job.now.step c.in_err-put_trees.field-0.0 (job_begun c.args.engine.now c.args.job.now c.requires.job) c.in_err-put_trees.ensures.failed)
 
 pub returns-in_err-finish-clause-refused : goal.returns-in_err-finish-clause-refused
 returns-in_err-finish-clause-refused g c =
     let p = err_from_is_err_and c.from_residual-in_err-finish.result c.from_residual-in_err-finish.ensures.1 in
     let t = g.S.BlobSource.tells c.recorded_outcome.new.sink in
     let held : IsHeld t c.args.job.now.digest c.in-Some.outcome = subst (λ o. IfSome o (IsHeld t c.args.job.now.digest)) c.in-Some.is c.in_ok-outcome.ensures.held in
-    let taken : CanBeTakenFor (g.S.BlobSource.tells c.put_trees.new.sink) c.args.engine.now (job_value c.args.job.now) c.in-Some.outcome = record {
+    let taken : CanBeTakenFor (g.S.BlobSource.tells c.put_trees.new.sink) c.args.engine.now (kept_job c.args.job.now) c.in-Some.outcome = record {
       held = held_kept c.put_trees.ensures.kept held;
       command = c.args.job.now.command;
       of_step = c.requires.job.command;
       fits = subst (λ o. IfSome o (CanBeTaken c.args.job.now.command)) c.in-Some.is c.in_ok-outcome.ensures.fits;
     } in
-    rw (p.1, p.2) (inr (c.args.job.now.id, job_value c.args.job.now, c.requires.job.there, refl, (c.in-Some.outcome, inr taken, c.in_err-finish.ensures.refused)))
+    rw (p.1, p.2) (inr (c.args.job.now.id, kept_job c.args.job.now, c.requires.job.there, refl, (c.in-Some.outcome, inr taken, c.in_err-finish.ensures.refused)))
+
+pub returns-in_err-reserve-clause-refused : goal.returns-in_err-reserve-clause-refused
+returns-in_err-reserve-clause-refused g c =
+    let p = err_from_is_err_and c.from_residual-in_err-reserve.result c.from_residual-in_err-reserve.ensures.1 in
+    rw (p.1, p.2) (job_begun c.args.engine.now c.args.job.now c.requires.job)
 
 pub returns-in_err-child-clause-refused : goal.returns-in_err-child-clause-refused
 returns-in_err-child-clause-refused g c =

@@ -3,6 +3,7 @@ use Rattle.std.proofs.lemmas.Result.{err_from_is_err_and}
 use Rattle.worker.specs.Going.{AreJobsOf, FinishesOnly, IsJobOf, IsGoing, is_start, taken_in}
 use Rattle.worker.specs.Watching.{IsProgress, IsProgressOf, taken_count}
 use Rattle.worker.proofs.Keeping.{kept_none, right_trans}
+use Rattle.worker.proofs.PutOnce.{remembers_none, remembers_then}
 use Rattle.worker.proofs.Complete.{all_finished}
 use Rattle.worker.proofs.Goes.{going_none, own_jobs, puts_kept}
 use Rattle.worker.proofs.Heard.{watched_none, watched_more, watched_so, progress_moved, up_none, up_more}
@@ -21,6 +22,7 @@ loop-turn-init g c =
       stored = λ h. h;
       fetched = refl;
       device = refl;
+      stays = remembers_none;
       knows = c.requires.knows;
       alive = let none = c.requires.none in let len = ap length none in omega (arith, len);
       watched = watched_none (g.W.Watcher.told c.args.watcher.now);
@@ -66,6 +68,7 @@ loop-turn-preserved g c =
       stored = λ h. c.in_ok-take_turn.ensures.stored c.args.runner.now (g.S.BlobSource.tells c.args.sink.now) c.args.jobs c.args.engine.now c.loop-turn.invariant.going.0 (c.loop-turn.invariant.stored h);
       fetched = c.in_ok-take_turn.ensures.fetched.unfailed (λ f. f) ∙ c.loop-turn.invariant.fetched;
       device = c.in_ok-take_turn.ensures.device.unfailed (λ f. f) ∙ c.loop-turn.invariant.device;
+      stays = remembers_then c.loop-turn.invariant.stays c.take_turn.ensures.stays;
       knows = c.take_turn.ensures.knows;
       alive = let now = c.take_turn.ensures.alive in let was = c.loop-turn.invariant.alive in omega (arith, now, was);
       watched = watched_more c.progress_after-progress.result (watched_so (progress_moved g.row.A.Denot (g.N.Runner.yields c.args.runner.now) c.args.jobs c.args.engine.now (g.S.BlobSource.tells c.loop-turn.sink) (g.S.BlobSource.tells c.take_turn.new.sink) c.take_turn.ensures.puts.0 c.take_turn.ensures.puts.1 c.take_turn.ensures.right) c.loop-turn.invariant.watched) c.watch.ensures now;
@@ -86,6 +89,9 @@ returns-in_err-take_turn-clause-watched g c = watched_so (progress_moved g.row.A
 
 pub returns-in_err-take_turn-clause-right : goal.returns-in_err-take_turn-clause-right
 returns-in_err-take_turn-clause-right g c = right_trans c.loop-turn.invariant.right c.take_turn.ensures.right
+
+pub returns-in_err-take_turn-clause-stays : goal.returns-in_err-take_turn-clause-stays
+returns-in_err-take_turn-clause-stays g c = remembers_then c.loop-turn.invariant.stays c.take_turn.ensures.stays
 
 pub returns-clause-done : goal.returns-clause-done
 returns-clause-done g c =

@@ -1,6 +1,6 @@
 use Rattle.std.proofs.Common.{◌≡◌, ◌+◌, length}
 use Rattle.blob_source.specs.Sink.{KeepsRight}
-use Rattle.worker.specs.Storing.{Remembers, StoresSteps}
+use Rattle.worker.specs.Storing.{Remembers, StaysRemembered, StoresSteps}
 use Rattle.worker.specs.Outcomes.{YieldsNoMore}
 use Rattle.worker.specs.Going.{IsGoing, turns_left}
 use Rattle.worker.specs.Watching.{IsProgress, IsProgressOf, IsUpToDate, IsWatched}
@@ -19,6 +19,7 @@ invariant-loop-turn g l =
       stored : StoresSteps (tells l.fn.sink) l.fn.engine → StoresSteps (tells l.sink) l.engine;
       fetched : (tells l.sink).failures ≡ (tells l.fn.sink).failures;
       device : g.N.Runner.failures l.runner ≡ g.N.Runner.failures l.fn.runner;
+      stays : StaysRemembered l.fn.remembered l.remembered;
       knows : Remembers l.remembered (tells l.sink).blobs;
       alive : g.N.Runner.alive l.runner ≡ g.N.Runner.alive l.fn.runner + length l.children.items;
       watched : IsWatched (IsProgress g.row.A.Denot (yields l.fn.runner) (tells l.sink) l.jobs l.fn.engine) (told l.fn.watcher) (told l.watcher);

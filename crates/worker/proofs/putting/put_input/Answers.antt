@@ -1,10 +1,11 @@
-use Rattle.std.proofs.Common.{◌≡◌, ℕ, ◌<◌, List, length, get_or, subst, ◌∙◌}
+use Rattle.std.proofs.Common.{◌≡◌, ℕ, ◌<◌, ◌≤◌, ◌+◌, List, [], ◌∷◌, length, get_or, subst, ◌∙◌, arith}
 use Rattle.std.specs.declared.vec.Vec.{Vec}
 use Rattle.blob_digest.specs.Digest.{digest_of}
 use Rattle.blob_source.specs.Sink.{HasRight}
 use Rattle.worker.specs.Counted.{IsFetch}
 use Rattle.worker.proofs.Keeping.{kept_trans, kept_blob, right_put, right_still, all_right_taken}
-use Rattle.worker.proofs.PutOnce.{put_still}
+use Rattle.worker.specs.Storing.{HasPut, not_put}
+use Rattle.worker.proofs.PutOnce.{call_counts, once_first, once_more, put_all_more, put_still}
 use Rattle.worker.proofs.Failures.{counts_same, counts_from, counts_exit}
 use Rattle.blob_source.proofs.Asking.{ok_no_error}
 use Rattle.worker.proofs.putting.put_input.Goals as goal
@@ -18,6 +19,9 @@ loop-directory-init g c =
       kept = kept_blob c.put_blob.ensures.called;
       fetched = c.in_ok-put_blob.ensures.called.unfailed ok_no_error;
       held = subst (λ bs. HasRight put (digest_of bs)) (c.deref.ensures.value ∙ c.in_ok-action.ensures.bytes) (right_put old put c.in_ok-put_blob.ensures.held);
+      stays = λ d among. among;
+      listed = tt;
+      once = let one = call_counts c.in_ok-put_blob.ensures.called.asked.counts in omega (arith, one);
       input = tt;
     }
 
@@ -30,6 +34,18 @@ loop-directory-preserved g c =
       kept = kept_trans c.loop-directory.invariant.kept c.put_once.ensures.kept;
       fetched = c.in_ok-put_once.ensures.fetched.unfailed (λ f. f) ∙ c.loop-directory.invariant.fetched;
       held = right_still c.put_once.ensures.kept.blobs c.loop-directory.invariant.held;
+      stays = λ d among. c.put_once.ensures.stays d (c.loop-directory.invariant.stays d among);
+      listed =
+          let items = c.deref-directory-items.ensures.value in
+          put_all_more c.loop-directory.put c.put_once.new.put c.args.job.now.input.directories.items c.loop-directory.directory-index c.directory-item.result (subst (λ (xs : List (Vec ℕ g.row.A.Denot)). c.loop-directory.directory-index < length xs) items c.loop-directory-test.true)
+          (subst (λ (xs : List (Vec ℕ g.row.A.Denot)). c.directory-item.result ≡ get_or xs c.loop-directory.directory-index c.directory-item.result) items c.directory-item.is) c.put_once.ensures.stays c.loop-directory.invariant.listed
+          (subst (λ bs. HasPut c.put_once.new.put (digest_of bs)) c.deref-in-loop-directory.ensures.value c.in_ok-put_once.ensures.listed);
+      once =
+          let items = c.deref-directory-items.ensures.value in
+          once_more c.args.put.now c.loop-directory.put c.args.job.now.input.directories.items c.loop-directory.directory-index c.directory-item.result (g.S.BlobSource.tells c.args.sink.now).calls (g.S.BlobSource.tells c.loop-directory.sink).calls (g.S.BlobSource.tells c.put_once.new.sink).calls
+          (subst (λ (xs : List (Vec ℕ g.row.A.Denot)). c.loop-directory.directory-index < length xs) items c.loop-directory-test.true)
+          (subst (λ (xs : List (Vec ℕ g.row.A.Denot)). c.directory-item.result ≡ get_or xs c.loop-directory.directory-index c.directory-item.result) items c.directory-item.is) c.loop-directory.invariant.stays c.loop-directory.invariant.once
+          (subst (λ bs. (g.S.BlobSource.tells c.put_once.new.sink).calls ≤ (g.S.BlobSource.tells c.loop-directory.sink).calls + not_put c.loop-directory.put (bs ∷ [])) c.deref-in-loop-directory.ensures.value c.put_once.ensures.once);
       input =
           let items = c.deref-directory-items.ensures.value in
           all_right_taken before after c.args.job.now.input.directories.items c.loop-directory.directory-index c.directory-item.result (subst (λ (xs : List (Vec ℕ g.row.A.Denot)). c.loop-directory.directory-index < length xs) items c.loop-directory-test.true)
@@ -42,3 +58,14 @@ returns-in_err-put_once-clause-fetched g c = counts_from c.loop-directory.invari
 
 pub returns-clause-fetched : goal.returns-clause-fetched
 returns-clause-fetched g c = counts_same (λ f. f) c.loop-directory.invariant.fetched
+
+pub returns-in_err-put_once-clause-once : goal.returns-in_err-put_once-clause-once
+returns-in_err-put_once-clause-once g c =
+    let items = c.deref-directory-items.ensures.value in
+    let all = c.args.job.now.input.directories.items in
+    let more = once_more c.args.put.now c.loop-directory.put all c.loop-directory.directory-index c.directory-item.result (g.S.BlobSource.tells c.args.sink.now).calls (g.S.BlobSource.tells c.loop-directory.sink).calls (g.S.BlobSource.tells c.put_once.new.sink).calls
+    (subst (λ (xs : List (Vec ℕ g.row.A.Denot)). c.loop-directory.directory-index < length xs) items c.loop-directory-test.true)
+    (subst (λ (xs : List (Vec ℕ g.row.A.Denot)). c.directory-item.result ≡ get_or xs c.loop-directory.directory-index c.directory-item.result) items c.directory-item.is) c.loop-directory.invariant.stays c.loop-directory.invariant.once
+    (subst (λ bs. (g.S.BlobSource.tells c.put_once.new.sink).calls ≤ (g.S.BlobSource.tells c.loop-directory.sink).calls + not_put c.loop-directory.put (bs ∷ [])) c.deref-in-loop-directory.ensures.value c.put_once.ensures.once) in
+    let rest = once_first c.args.put.now all (c.loop-directory.directory-index + 1) in
+    omega (arith, more, rest)

@@ -1,9 +1,9 @@
-use Rattle.std.proofs.Common.{◌≡◌, take}
+use Rattle.std.proofs.Common.{◌≡◌, ◌≤◌, ◌+◌, take}
 use Rattle.blob_digest.specs.Digest.{digest_of}
 use Rattle.action_messages.specs.Action.{action_bytes}
 use Rattle.blob_source.specs.Sink.{HasRight}
 use Rattle.worker.specs.Stored.{IsKept}
-use Rattle.worker.specs.Storing.{WerePut}
+use Rattle.worker.specs.Storing.{HasPutAll, StaysPut, WerePut, not_put}
 use Rattle.worker.specs.Outcomes.{HasAllRight}
 use Rattle.worker.specs.Values.{blobs_of}
 use Rattle.worker.proofs.putting.put_input.Given as goal
@@ -16,5 +16,8 @@ invariant-loop-directory g l =
       kept : IsKept (tells l.fn.sink) (tells l.sink);
       fetched : (tells l.sink).failures ≡ (tells l.fn.sink).failures;
       held : HasRight (tells l.sink).blobs (digest_of (action_bytes l.job.action));
+      stays : StaysPut l.fn.put l.put;
+      listed : HasPutAll l.put (blobs_of (take l.directory-index l.job.input.directories.items));
+      once : (tells l.sink).calls ≤ (tells l.fn.sink).calls + 1 + not_put l.fn.put (blobs_of (take l.directory-index l.job.input.directories.items));
       input : HasAllRight (tells l.sink).blobs (blobs_of (take l.directory-index l.job.input.directories.items));
     }

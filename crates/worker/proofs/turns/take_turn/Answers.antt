@@ -7,7 +7,7 @@ use Rattle.worker.proofs.Taking.{finish_puts, finish_right, start_stored, finish
 use Rattle.worker.proofs.Stopping.{start_goes, finish_goes, start_room, finish_room, ended_of}
 use Rattle.worker.proofs.Lefts.{start_less, finish_less}
 use Rattle.worker.proofs.Counts.{start_only, finish_only}
-use Rattle.worker.proofs.PutOnce.{remembers_still}
+use Rattle.worker.proofs.PutOnce.{remembers_none, remembers_still}
 use Rattle.worker.proofs.turns.take_turn.Goals as goal
 
 pub returns-in-Start-clause-going : goal.returns-in-Start-clause-going
@@ -98,3 +98,6 @@ returns-in-Start-clause-room g c = start_room c.begin.result c.args.engine.now c
 
 pub returns-in-Finish-clause-room : goal.returns-in-Finish-clause-room
 returns-in-Finish-clause-room g c = finish_room c.finish_first.result _ c.args.engine.now c.finish_first.new.engine c.args.children.now.items c.finish_first.new.children.items c.args.turn (ended_of g.N.Runner.may_give (g.S.BlobSource.tells c.args.sink.now) (g.S.BlobSource.tells c.finish_first.new.sink) c.args.engine.now c.finish_first.new.engine c.args.children.now.items c.finish_first.new.children.items c.finish_first.result c.finish_first.ensures.stopped)
+
+pub returns-in-Finish-clause-stays : goal.returns-in-Finish-clause-stays
+returns-in-Finish-clause-stays g c = remembers_none
