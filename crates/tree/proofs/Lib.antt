@@ -65,3 +65,4 @@ pub mod MergeAlike
 pub mod GivenKeys
 pub mod GivenLines
 pub mod FailSinks
+mod Examples
