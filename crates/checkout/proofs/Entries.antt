@@ -1,17 +1,18 @@
 -- What is written, entry by entry.
-use Rattle.std.proofs.Common.{◌≡◌, ℕ, List, [], ◌∷◌, ◌++◌, refl, sym, ◌∙◌, subst, append_assoc, append-nil, arith, length, inl, inr}
-use Rattle.std.specs.Prelude.{Result, Ok, Err, OnOk, IfOk}
+use Rattle.std.proofs.Common.{◌≡◌, ℕ, suc, ap, List, [], ◌∷◌, ◌++◌, refl, sym, ◌∙◌, subst, append_assoc, append-nil, arith, length, inl, inr}
+use Rattle.std.specs.Prelude.{Result, Ok, Err, OnErr, OnOk, IfOk}
 use Rattle.blob_digest.specs.Digest.{DigestValue}
 use Rattle.messages.specs.Path.{path_text}
 use Rattle.messages.specs.declared.node.Node.TheVariants.{File, Link, Dir}
 use Rattle.blob_source.specs.Source.{Blobs, Grows}
 use Rattle.tree.specs.Tree.{Name, Standing, nothing, a_leaf, a_directory}
 use Rattle.tree.specs.Form.{NodeValue}
-use Rattle.tree.specs.FlatTree.{FlatValue}
+use Rattle.tree.specs.declared.flat_tree.FlatEntry.{FlatEntry}
+use Rattle.tree.specs.FlatTree.{FlatValue, path_values}
 use Rattle.tree.proofs.Descent.{under_still}
 use Rattle.checkout.specs.declared.error.CheckoutError.{CheckoutError}
 use Rattle.checkout.specs.Refused.{Refuses, FailsOneEntry, FailsEntries, FailsCheckout}
-use Rattle.checkout.specs.Folder.{Works, FolderValue, Written, with_written}
+use Rattle.checkout.specs.Folder.{FolderWorks, FolderValue, Written, with_written}
 use Rattle.checkout.specs.Folder.Written.{a_folder, a_file, a_link}
 use Rattle.checkout.specs.Written.{place_below, IsWrittenFor, AreWritten, IsGained, MakesEntry, MakesEntries}
 
@@ -42,12 +43,12 @@ one_more B folder (e ∷ es) [] p s w h of = absurd h
 one_more B folder (e ∷ es) (v ∷ vs) p s w h of = (h.0, h.1, one_more B folder es vs p s w h.2 of)
 
 -- the entries before those that are left are written
-pub record SoFar {F : Type 0} (works : Works F) (B : Blobs) (old now : F) (folder : List ℕ) (all left : FlatValue) : Type 0 where
+pub record SoFar {F : Type 0} (works : FolderWorks F) (B : Blobs) (old now : F) (folder : List ℕ) (all left : FlatValue) : Type 0 where
   pub done : FlatValue
   pub split : all ≡ done ++ left
   pub made : MakesEntries works B old now folder done
 
-module _ {F : Type 0} (works : Works F) (folder : List ℕ) (all : FlatValue) where
+module _ {F : Type 0} (works : FolderWorks F) (folder : List ℕ) (all : FlatValue) where
   pub none_yet : (B : Blobs) (old : F) → SoFar works B old old folder all all
   none_yet B old = record {
     done = [];
@@ -125,6 +126,14 @@ where_ok (Ok value) (Err e) same h by = absurd (err_is_no_ok e value same)
     err_is_no_ok : {T F : Type 0} (e : F) (value : T) → ◌≡◌ {A = Result T F} (Err e) (Ok value) → ⊥
     err_is_no_ok e value same = cc
 where_ok (Err e) made same h by = tt
+
+pub listed_length : {A : Type 0} (es : List (List Name × FlatEntry A)) → length (path_values es) ≡ length es
+listed_length [] = refl
+listed_length (e ∷ es) = ap (λ n. suc n) (listed_length es)
+
+pub told_anyway : {T E : Type 0} {P : Type 0} (r : Result T E) → P → OnErr r P
+told_anyway (Ok value) p = tt
+told_anyway (Err e) p = p
 
 pub none_left : {X : Type 0} (xs : List X) → length xs ≡ 0 → xs ≡ []
 none_left [] h = refl

@@ -23,21 +23,21 @@ abbrev pub with_written : List (List ℕ × Written) → FolderValue → FolderV
 with_written more v = record v { written = v.written ++ more }
 
 -- What was done, and what was told. Only the calls that did it and were told it say so.
-pub record Works (Folder : Type 0) : Type 1 where
+pub record FolderWorks (Folder : Type 0) : Type 1 where
   -- the folder has this and nothing else
   pub has : Folder → FolderValue → Type 0
   -- nothing could be made at the path, for this
   pub refuses : List ℕ → Error → Type 0
 
 -- some folder has this and nothing else
-abbrev pub IsHad : {F : Type 0} → Works F → FolderValue → Type 0
+abbrev pub IsHad : {F : Type 0} → FolderWorks F → FolderValue → Type 0
 IsHad {F} works v = (folder : F) × works.has folder v
 
 -- what the folder has becomes this and one thing more
-abbrev pub Gains : {F : Type 0} → Works F → F → F → List ℕ → Written → Type 0
+abbrev pub Gains : {F : Type 0} → FolderWorks F → F → F → List ℕ → Written → Type 0
 Gains works old new path w =
     (v : FolderValue) → works.has old v → works.has new (with_written ((path, w) ∷ []) v)
 
 -- nothing is known of what was done and told
-abbrev pub nothing_known : {F : Type 0} → Works F
+abbrev pub nothing_known : {F : Type 0} → FolderWorks F
 nothing_known = record { has = λ _ _. Unit {0}; refuses = λ _ _. Unit {0} }

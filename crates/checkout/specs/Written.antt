@@ -1,14 +1,14 @@
 -- What is written of the tree that a source tells.
-use Rattle.std.specs.Prelude.{◌≡◌, ℕ, List, [], ◌∷◌, ◌++◌}
+use Rattle.std.specs.Prelude.{◌≡◌, ℕ, ◌+◌, ◌≤◌, List, [], ◌∷◌, ◌++◌, length}
 use Rattle.blob_digest.specs.Digest.{DigestValue}
 use Rattle.messages.specs.Path.{path_text}
 use Rattle.messages.specs.declared.node.Node.TheVariants.{File, Link}
-use Rattle.blob_source.specs.Source.{Blobs, IsBlobUnder}
+use Rattle.blob_source.specs.Source.{Blobs, IsBlobUnder, Telling}
 use Rattle.tree.specs.Tree.{Standing, a_leaf, a_directory}
 use Rattle.tree.specs.Form.{NodeValue}
 use Rattle.tree.specs.FlatTree.{FlatValue}
 use Rattle.tree.specs.Unfolded.{IsUnfolded}
-use Rattle.checkout.specs.Folder.{Works, Written, FolderValue, with_written}
+use Rattle.checkout.specs.Folder.{FolderWorks, Written, FolderValue, with_written}
 use Rattle.checkout.specs.Folder.Written.{a_folder, a_file, a_link}
 
 -- the text of a path below a folder
@@ -39,23 +39,33 @@ pub record HoldsTree (has : FolderValue → Type 0) (B : Blobs) (d : DigestValue
   pub of_entries : AreWritten B folder entries written
   pub holds : has (record { path = folder; written = written })
 
+-- a tree is told under the digest
+abbrev pub IsToldTree : Blobs → DigestValue → Type 0
+IsToldTree B d = (entries : FlatValue) × IsUnfolded B d entries
+
+-- At most one call for the tree's root and each of its entries.
+pub record AsksEachOnce (d : DigestValue) (old new : Telling) : Type 0 where
+  pub entries : FlatValue
+  pub unfolded : IsUnfolded new.blobs d entries
+  pub few : new.calls ≤ old.calls + 1 + length entries
+
 -- ---- entry by entry
 
 -- one entry was written
-pub record MakesEntry {F : Type 0} (works : Works F) (B : Blobs) (old new : F) (place : List ℕ)
-    (s : Standing NodeValue) : Type 0 where
+pub record MakesEntry {F : Type 0} (works : FolderWorks F) (B : Blobs) (old new : F)
+    (place : List ℕ) (s : Standing NodeValue) : Type 0 where
   pub written : Written
   pub of_entry : IsWrittenFor B s written
   pub gains : (v : FolderValue) → works.has old v
       → works.has new (with_written ((place, written) ∷ []) v)
 
 -- some folder has what the old one has, and this besides
-abbrev pub IsGained : {F : Type 0} → Works F → F → List (List ℕ × Written) → Type 0
+abbrev pub IsGained : {F : Type 0} → FolderWorks F → F → List (List ℕ × Written) → Type 0
 IsGained {F} works old written =
     (new : F) × ((v : FolderValue) → works.has old v → works.has new (with_written written v))
 
 -- entries were
-pub record MakesEntries {F : Type 0} (works : Works F) (B : Blobs) (old new : F)
+pub record MakesEntries {F : Type 0} (works : FolderWorks F) (B : Blobs) (old new : F)
     (folder : List ℕ) (entries : FlatValue) : Type 0 where
   pub written : List (List ℕ × Written)
   pub of_entries : AreWritten B folder entries written

@@ -40,7 +40,7 @@ impl<'r, R: Files + Alloc> FolderWriter for SystemWriter<'r, R> {
 
     ghost works = { nothing_known };
 
-    fn take(&self, path: &str) -> io::Result<SystemFolder> {
+    fn take(&mut self, path: &str) -> io::Result<SystemFolder> {
         match fs::create_dir(self.0, path) {
             Ok(()) => Ok(SystemFolder),
             Err(fault) if fault.kind() == ErrorKind::AlreadyExists => {

@@ -7,14 +7,15 @@ pub trait FolderWriter {
     /// A folder that was empty, and all that was written into it since.
     type Folder: Drop;
 
-    ghost use Rattle.checkout.specs.Folder.{Works, Gains, empty_folder};
+    ghost use Rattle.checkout.specs.Folder.{FolderWorks, Gains, empty_folder};
     ghost use Rattle.checkout.specs.Folder.Written.{a_file, a_folder, a_link};
 
     /// What may be said of what it did and told.
-    ghost works: { Works Self.Folder };
+    ghost works: { FolderWorks Self.Folder };
 
-    /// Takes a folder in which nothing stands. Where nothing stands at the path, it is made.
-    fn take(&self, path: &str) -> io::Result<Self::Folder>
+    /// Takes a folder in which nothing stands. Where nothing stands at the path, it is made. That a
+    /// writer is as it was says that it wasn't called so.
+    fn take(&mut self, path: &str) -> io::Result<Self::Folder>
         ensures taken { IfOk result (λ folder. works.has folder (empty_folder path.now)) }
         ensures refused { IfErr result (works.refuses path.now) };
 

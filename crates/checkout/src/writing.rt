@@ -1,13 +1,14 @@
-ghost use Rattle.std.specs.Prelude.{◌≡◌, ◌↔◌, [], IfErr, IfOk, IsErrOf, OnOk, string_bytes};
+ghost use Rattle.std.specs.Prelude.{◌≡◌, ◌↔◌, ◌⊎◌, ◌+◌, ◌≤◌, [], IfErr, IfOk, IsErrOf, OnErr, OnOk};
+ghost use Rattle.std.specs.Prelude.{length, string_bytes};
 ghost use Rattle.blob_digest.specs.Digest.{DigestValue};
 ghost use Rattle.blob_source.specs.Called.{Called, Calls};
 ghost use Rattle.blob_source.specs.Source.{Asks, Blobs, IsBlobUnder};
 ghost use Rattle.tree.specs.FlatTree.{entry_value, path_values};
 ghost use Rattle.tree.specs.TreeError.{Explains, FailsBlob};
-ghost use Rattle.tree.specs.Unfolded.{ExplainsUnfold, IsUnfolded};
+ghost use Rattle.tree.specs.Unfolded.{ExplainsUnfold, IsUnfolded, directories_at, directories_in};
 ghost use Rattle.checkout.specs.Folder.{IsHad, empty_folder};
 ghost use Rattle.checkout.specs.Written.{HoldsTree, IsGained, MakesEntry, MakesEntries};
-ghost use Rattle.checkout.specs.Written.{place_below};
+ghost use Rattle.checkout.specs.Written.{AsksEachOnce, IsToldTree, place_below};
 ghost use Rattle.checkout.specs.Refused.{FailsAt, FailsContent, FailsOneEntry, FailsEntries};
 ghost use Rattle.checkout.specs.Refused.{FailsTree, FailsCheckout, StopsUnfold};
 
@@ -85,6 +86,8 @@ fn read_tree<A: Allocator + Copy, S: BlobSource<A>>(
     source: &mut S,
 ) -> Result<FlatTree<A>, CheckoutError<A>>
     ensures told { IfOk result (IsUnfolded (S.tells source.new).blobs root.now) }
+    ensures few { IfOk result (λ tree.
+        (S.tells source.new).calls ≤ (S.tells source.old).calls + 1 + directories_in tree) }
     ensures refused { IfErr result (FailsTree (S.tells source.new).blobs root.now) }
     ensures called { Called (S.tells source.old) (S.tells source.new)
         (IsErrOf result CheckoutError.Fetch) }
@@ -113,6 +116,8 @@ fn write_entry<A: Allocator + Copy, S: BlobSource<A>, W: FolderWriter>(
 ) -> Result<(), CheckoutError<A>>
     ensures made { OnOk result (MakesEntry W.works (S.tells source.new).blobs folder.old
         folder.new place.now (entry_value entry.now)) }
+    ensures few { OnOk result ((S.tells source.new).calls + directories_at (entry_value entry.now)
+        ≤ (S.tells source.old).calls + 1) }
     ensures refused { IfErr result (FailsOneEntry W.works.refuses (S.tells source.new).blobs
         place.now (entry_value entry.now)) }
     ensures called { Called (S.tells source.old) (S.tells source.new)
@@ -143,6 +148,9 @@ fn write_entries<A: Allocator + Copy, S: BlobSource<A>, W: FolderWriter>(
 ) -> Result<(), CheckoutError<A>>
     ensures made { OnOk result (MakesEntries W.works (S.tells source.new).blobs folder.old
         folder.new path.now (path_values entries.items)) }
+    ensures few { OnOk result
+        ((S.tells source.new).calls + directories_in (path_values entries.items)
+        ≤ (S.tells source.old).calls + length entries.items) }
     ensures refused { IfErr result (FailsEntries (IsGained W.works folder.old) W.works.refuses
         (S.tells source.new).blobs path.now (path_values entries.items)) }
     ensures called { Called (S.tells source.old) (S.tells source.new)
@@ -163,13 +171,17 @@ fn write_entries<A: Allocator + Copy, S: BlobSource<A>, W: FolderWriter>(
 /// content and `Place` where something can't be written.
 pub fn check_out<A: Allocator + Copy, S: BlobSource<A>, W: FolderWriter>(
     alloc: A,
-    writer: &W,
+    writer: &mut W,
     path: &str,
     root: &Digest,
     source: &mut S,
 ) -> Result<W::Folder, CheckoutError<A>>
     ensures written { IfOk result (λ folder.
         HoldsTree (W.works.has folder) (S.tells source.new).blobs root.now path.now) }
+    // Until the tree is told no folder is taken.
+    ensures unwritten { OnErr result
+        (IsToldTree (S.tells source.new).blobs root.now ⊎ (writer.new ≡ writer.old)) }
+    ensures few { OnOk result (AsksEachOnce root.now (S.tells source.old) (S.tells source.new)) }
     ensures refused { IfErr result
         (FailsCheckout (IsHad W.works) W.works.refuses (S.tells source.new).blobs
         root.now path.now) }

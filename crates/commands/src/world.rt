@@ -219,7 +219,7 @@ where
         root: &Digest,
         source: &mut S,
     ) -> Result<(), CheckoutError<Global>> {
-        check_out(alloc, &SystemWriter(self.0), path, root, source)?;
+        check_out(alloc, &mut SystemWriter(self.0), path, root, source)?;
         Ok(())
     }
 

@@ -66,3 +66,4 @@ pub mod GivenKeys
 pub mod GivenLines
 pub mod FailSinks
 mod MergeExample
+mod Examples

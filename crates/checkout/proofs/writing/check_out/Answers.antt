@@ -1,13 +1,14 @@
 -- A tree that is told, and its entries.
-use Rattle.std.proofs.Common.{subst, inl, inr}
+use Rattle.std.proofs.Common.{ap, arith, length, subst, inl, inr}
 use Rattle.std.specs.Prelude.{IfOk}
 use Rattle.std.proofs.lemmas.Result.{err_from_is_err_and}
 use Rattle.blob_source.proofs.Calling.{called_ok, called_no, called_exit}
 use Rattle.blob_source.proofs.Asking.{ok_no_error}
+use Rattle.tree.specs.Unfolded.{directories_in}
 use Rattle.checkout.specs.Folder.{empty_folder}
 use Rattle.checkout.specs.Refused.{FailsEntries}
 use Rattle.checkout.specs.Written.{AreWritten, IsGained}
-use Rattle.checkout.proofs.Entries.{fails_had}
+use Rattle.checkout.proofs.Entries.{fails_had, listed_length, told_anyway}
 use Rattle.checkout.proofs.Telling.{unfolded_still, place_fails}
 use Rattle.checkout.proofs.writing.check_out.Goals as goal
 
@@ -49,6 +50,27 @@ returns-clause-written g c =
       written = made.written;
       of_entries = subst (λ es. AreWritten blobs c.args.path.now es made.written) c.in_ok-entries.ensures.value made.of_entries;
       holds = made.gains (empty_folder c.args.path.now) taken;
+    }
+
+pub returns-in_err-folder-clause-unwritten : goal.returns-in_err-folder-clause-unwritten
+returns-in_err-folder-clause-unwritten g c = told_anyway _ (inl (c.in_ok-tree.tree, c.in_ok-tree.ensures.told))
+
+pub returns-in_err-write_entries-clause-unwritten : goal.returns-in_err-write_entries-clause-unwritten
+returns-in_err-write_entries-clause-unwritten g c =
+    told_anyway _ (inl (c.in_ok-tree.tree, unfolded_still c.write_entries.ensures.called.asked.blobs c.in_ok-tree.ensures.told))
+
+pub returns-clause-few : goal.returns-clause-few
+returns-clause-few g c =
+    let tree = c.in_ok-tree.ensures.few in
+    let each = c.in_ok-write_entries.ensures.few in
+    let same = c.in_ok-entries.ensures.value in
+    let directories = ap directories_in same in
+    let entries = ap length same in
+    let listed = listed_length c.in_ok-entries.entries.items in
+    record {
+      entries = c.in_ok-tree.tree;
+      unfolded = unfolded_still c.write_entries.ensures.called.asked.blobs c.in_ok-tree.ensures.told;
+      few = omega (arith, tree, each, directories, entries, listed);
     }
 
 pub returns-clause-called : goal.returns-clause-called

@@ -1,9 +1,10 @@
 -- The entries so far, and the next one.
-use Rattle.std.proofs.Common.{rules, arith, ◌≡◌, [], ◌∷◌, ap, subst, ◌∙◌, inl}
+use Rattle.std.proofs.Common.{rules, arith, ◌≡◌, ◌+◌, ◌≤◌, [], ◌∷◌, length, ap, subst, ◌∙◌, inl}
 use Rattle.std.proofs.lemmas.Result.{err_from_is_err_and}
 use Rattle.blob_source.proofs.Asking.{ok_no_error}
 use Rattle.blob_source.proofs.Calling.{called_none, called_no, called_on, called_exit}
 use Rattle.tree.specs.FlatTree.{entry_value, path_values}
+use Rattle.tree.specs.Unfolded.{directories_in}
 use Rattle.checkout.specs.Refused.{FailsOneEntry}
 use Rattle.checkout.specs.Written.{place_below}
 use Rattle.checkout.specs.declared.error.CheckoutError.TheVariants.{Memory}
@@ -18,6 +19,7 @@ loop-below-init g c =
     let folder = c.args.folder.now in
     record {
       called = called_none (λ n. n);
+      few = subst (λ es. tells.calls + directories_in all + length es ≤ tells.calls + length c.args.entries.items + directories_in (path_values es)) {x = c.args.entries.items} (search rules) (omega arith);
       so_far = subst (λ es. SoFar works tells.blobs folder folder c.args.path.now all (path_values es)) (search rules) (none_yet works c.args.path.now all tells.blobs folder);
     }
 
@@ -64,6 +66,11 @@ loop-below-preserved g c =
     let at = c.as_str-in-loop-below.ensures.value ∙ c.in_ok-place.ensures ∙ ap (λ t. place_below c.args.path.now t) c.as_str.ensures.value in
     record {
       called = called_on c.loop-below.invariant.called (called_no ok_no_error (λ n. n) c.in_ok-write_entry.ensures.called);
+      few = let one = c.in_ok-write_entry.ensures.few in
+          let before = c.loop-below.invariant.few in
+          let rest = ap length steps in
+          let directories = ap (λ es. directories_in (path_values es)) steps in
+          omega (arith, one, before, rest, directories);
       so_far = next_one works c.args.path.now all c.args.folder.now c.loop-below.folder c.write_entry.new.folder c.in-Some.below (entry_value c.in-Some.entry) (path_values left)
           c.as_str-in-loop-below.result.now c.write_entry.ensures.called.asked.blobs at so_far c.in_ok-write_entry.ensures.made;
     }
@@ -76,6 +83,14 @@ returns-clause-made g c =
     let none : c.loop-below.below-iterator.rest.items ≡ [] = none_left c.loop-below.below-iterator.rest.items (let len = c.in-None.ensures.steps.0 in let ok = c.loop-below.below-iterator.rest.ok in omega (arith, len, ok)) in
     all_done works c.args.path.now all c.args.folder.now c.loop-below.folder
     (subst (λ es. SoFar works blobs c.args.folder.now c.loop-below.folder c.args.path.now all (path_values es)) none c.loop-below.invariant.so_far)
+
+pub returns-clause-few : goal.returns-clause-few
+returns-clause-few g c =
+    let none : c.loop-below.below-iterator.rest.items ≡ [] = none_left c.loop-below.below-iterator.rest.items (let len = c.in-None.ensures.steps.0 in let ok = c.loop-below.below-iterator.rest.ok in omega (arith, len, ok)) in
+    let before = c.loop-below.invariant.few in
+    let rest = ap length none in
+    let directories = ap (λ es. directories_in (path_values es)) none in
+    omega (arith, before, rest, directories)
 
 pub returns-clause-called : goal.returns-clause-called
 returns-clause-called g c = called_no (λ n. n) ok_no_error c.loop-below.invariant.called
