@@ -1,5 +1,5 @@
 -- The frames and commands of steps, one after another, while the source tells more and more.
-use Rattle.std.proofs.Common.{◌≡◌, ℕ, zero, suc, ◌+◌, ◌<◌, false, List, [], ◌∷◌, ◌++◌, length, get_or, Some, refl, ap, sym, ◌∙◌, subst, arith, inl, inr}
+use Rattle.std.proofs.Common.{◌≡◌, ℕ, zero, suc, ◌+◌, ◌*◌, ◌<◌, ◌≤◌, false, List, [], ◌∷◌, ◌++◌, length, get_or, Some, refl, ap, sym, ◌∙◌, subst, arith, inl, inr}
 use Rattle.std.specs.Prelude.{◌⊎◌, slice_get}
 use Rattle.std.proofs.lemmas.List.{length-append}
 use Rattle.std.proofs.lemmas.Option.{slice_get_within}
@@ -8,11 +8,13 @@ use Rattle.action_messages.specs.Command.{CommandValue, IsCommand, command_bytes
 use Rattle.action_messages.specs.Frame.{FrameValue, IsFrame, frame_bytes}
 use Rattle.plan.specs.Values.{StepValue}
 use Rattle.blob_source.specs.Source.{Blobs, Grows}
-use Rattle.blob_source.specs.Told.{IsTold}
+use Rattle.blob_source.specs.Told.{IsTold, Fault, IsFault}
+use Rattle.tree.specs.declared.error.TreeError.{TreeError}
+use Rattle.tree.specs.declared.error.TreeError.TheVariants as tree
 use Rattle.tree.proofs.Descent.{told_still}
 use Rattle.runs.specs.declared.error.OpenError.{OpenError}
 use Rattle.runs.specs.declared.error.OpenError.TheVariants as opening
-use Rattle.runs.specs.Calls.{TellsStep, AreToldBefore, IsOpeningFault, IsOpenFault}
+use Rattle.runs.specs.Calls.{TellsStep, AreToldBefore, IsUntold, IsOpeningFault, IsOpenFault, opening_calls}
 use Rattle.verifier.proofs.FreshRuns.{one_answer}
 use Rattle.runs.proofs.Places.{element_at, has_one}
 
@@ -80,3 +82,29 @@ pub open_fault : {A : Type 0} (B C : Blobs) (steps : List StepValue) (i : ℕ) (
 open_fault B C steps i fs cs s opening.Memory lt is so g h = tt
 open_fault B C steps i fs cs s (opening.Source j e) lt is so g h = (i, s, element_at steps i s lt is, told_before B C steps i fs cs so g, h)
 open_fault B C steps i fs cs s (opening.DoNotCache j) lt is so g h = (i, s, element_at steps i s lt is, told_before B C steps i fs cs so g, h)
+
+-- ---- how often the source is asked
+
+unread_at : {A : Type 0} (i j : ℕ) (Fails : Fault → Type 0) (e : TreeError A) → IsUntold i Fails (opening.Source j e) → j ≡ i
+unread_at i j Fails (tree.Absent path) h = h.0
+unread_at i j Fails (tree.BlobMissing d) h = h.0
+unread_at i j Fails (tree.BlobWrong d) h = h.0
+unread_at i j Fails (tree.BlobMalformed d) h = h.0
+unread_at i j Fails (tree.TooDeep path) h = h.0
+unread_at i j Fails (tree.Conflict path) h = h.0
+unread_at i j Fails tree.Fetch h = h.0
+unread_at i j Fails tree.Memory h = absurd h
+
+-- what is at fault in a step is asked for last
+pub opening_last : {A : Type 0} (B : Blobs) (steps : List StepValue) (i : ℕ) (s : StepValue) (why : OpenError A) (old mid new : ℕ) → i < length steps → mid ≤ old + 2 * i → new ≤ mid + 2 → ((j : ℕ) → why ≡ opening.DoNotCache j → new ≤ mid + 1) → IsOpeningFault B i s why
+    → new ≤ old + opening_calls (length steps) why
+opening_last B steps i s opening.Memory old mid new lt first step frame h = omega (arith, lt, first, step)
+opening_last B steps i s (opening.Source j e) old mid new lt first step frame (inl h) =
+    let same = unread_at i j (IsFault IsFrame frame_bytes B s.frame) e h in omega (arith, same, first, step)
+opening_last B steps i s (opening.Source j e) old mid new lt first step frame (inr (f, told, inl h)) = let other = h.1 in cc
+opening_last B steps i s (opening.Source j e) old mid new lt first step frame (inr (f, told, inr h)) =
+    let same = unread_at i j (IsFault IsCommand command_bytes B f.command) e h.1 in omega (arith, same, first, step)
+opening_last B steps i s (opening.DoNotCache j) old mid new lt first step frame (inl h) = absurd h
+opening_last B steps i s (opening.DoNotCache j) old mid new lt first step frame (inr (f, told, inl h)) =
+    let same : j ≡ i = let is = h.1 in cc in let one = frame j refl in omega (arith, same, first, one)
+opening_last B steps i s (opening.DoNotCache j) old mid new lt first step frame (inr (f, told, inr h)) = absurd h.1

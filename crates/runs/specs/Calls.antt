@@ -1,6 +1,6 @@
 -- What each call of an engine does, by digests alone.
-use Rattle.std.specs.Prelude.{zero, suc, ◌≡◌, ◌≢◌, ◌⊎◌, ℕ, ◌+◌, ◌<◌, ◌==◌, if◌then◌else◌, pos, true}
-use Rattle.std.specs.Prelude.{false, List, [], ◌∷◌, length, Option, Some, None, option_map}
+use Rattle.std.specs.Prelude.{zero, suc, ◌≡◌, ◌≢◌, ◌⊎◌, ℕ, ◌+◌, ◌*◌, ◌<◌, ◌==◌, if◌then◌else◌, pos}
+use Rattle.std.specs.Prelude.{true, false, List, [], ◌∷◌, length, Option, Some, None, option_map}
 use Rattle.std.specs.Prelude.{slice_get, set, IsSome, Contains}
 use Rattle.std.specs.List.{AllByRecursion}
 use Rattle.blob_digest.specs.Digest.{DigestValue, digest_of}
@@ -80,6 +80,13 @@ IsOpenFault B steps opening.Memory = Unit {0}
 IsOpenFault B steps why = (i : ℕ) × (s : StepValue) × (slice_get steps i ≡ Some s)
     × AreToldBefore B steps i × IsOpeningFault B i s why
 
+-- How often an opening that is refused asks at most: for the frame and the command of each step
+-- before, and for what is at fault.
+abbrev pub opening_calls : {A : Type 0} → ℕ → OpenError A → ℕ
+opening_calls steps (opening.Source i why) = 2 * i + 2
+opening_calls steps (opening.DoNotCache i) = 2 * i + 1
+opening_calls steps opening.Memory = 2 * steps
+
 -- ---- losing
 
 -- the engine without a job
@@ -132,9 +139,10 @@ IsFirstUnlisted c [] p = ⊥
 IsFirstUnlisted c (q ∷ qs) p = ((p ≡ q) × (Contains c.output_paths q → ⊥))
     ⊎ (Contains c.output_paths q × IsFirstUnlisted c qs p)
 
+-- an output isn't listed: its path is told, unless memory ran out
 abbrev pub IsUnlisted : {A : Type 0} → CommandValue → List (List (List ℕ)) → RunsError A → Type 0
 IsUnlisted c paths (errors.Unlisted path) = IsFirstUnlisted c paths path
-IsUnlisted c paths errors.Memory = Unit {0}
+IsUnlisted c paths errors.Memory = (path : List (List ℕ)) × IsFirstUnlisted c paths path
 IsUnlisted c paths why = ⊥
 
 -- why an outcome isn't taken: its exit code isn't 0, or else an output isn't listed
@@ -142,7 +150,8 @@ abbrev pub IsOutcomeFault : {A : Type 0} → CommandValue → OutcomeValue → R
 IsOutcomeFault c v (errors.ExitCode code) = (code ≡ v.exit_code) × (v.exit_code ≢ pos 0)
 IsOutcomeFault c v (errors.Unlisted path) = (v.exit_code ≡ pos 0)
     × IsFirstUnlisted c (paths_of_outputs v.outputs) path
-IsOutcomeFault c v errors.Memory = Unit {0}
+IsOutcomeFault c v errors.Memory = (v.exit_code ≡ pos 0)
+    × (path : List (List ℕ)) × IsFirstUnlisted c (paths_of_outputs v.outputs) path
 IsOutcomeFault c v why = ⊥
 
 -- what a step came to stays what it was at its first finish
@@ -168,13 +177,13 @@ pub record IsFinished (w : ℕ) (v : OutcomeValue) (old new : EngineValue) : Typ
   pub after : new ≡ with_finished w job v old
 
 -- why a job doesn't finish: the first of no such job, the exit code, an unlisted output, and
--- another outcome
+-- another outcome; memory runs out only where the first two aren't so
 abbrev pub IsFinishFault : {A : Type 0} → EngineValue → ℕ → OutcomeValue → RunsError A → Type 0
 IsFinishFault e w v errors.NoSuchJob = job_in w e ≡ None
 IsFinishFault e w v errors.Disagrees = (j : JobValue) × (job_in w e ≡ Some j)
     × ((c : CommandValue) → slice_get e.commands j.step ≡ Some c → TakesOutcome c v)
     × Disagrees e.finished j.step j.action v
-IsFinishFault e w v errors.Memory = (j : JobValue) × (job_in w e ≡ Some j)
+IsFinishFault e w v errors.Memory = (j : JobValue) × (job_in w e ≡ Some j) × (v.exit_code ≡ pos 0)
 IsFinishFault e w v why = (j : JobValue) × (job_in w e ≡ Some j) × (c : CommandValue)
     × (slice_get e.commands j.step ≡ Some c) × IsOutcomeFault c v why
 

@@ -1,4 +1,5 @@
-ghost use Rattle.std.specs.Prelude.{◌≡◌, ℕ, false, None, IfOk, IfErr, IsErrOf, length};
+ghost use Rattle.std.specs.Prelude.{◌≡◌, ◌≤◌, ◌+◌, ◌*◌, ℕ, false, None, IfOk, IfErr, IsErrOf};
+ghost use Rattle.std.specs.Prelude.{length};
 ghost use Rattle.std.specs.List.{AllByRecursion};
 ghost use Rattle.runs.specs.Ties.{IsOpening};
 ghost use Rattle.action_messages.specs.Command.{IsCommand, command_bytes};
@@ -6,7 +7,7 @@ ghost use Rattle.action_messages.specs.Frame.{IsFrame, frame_bytes};
 ghost use Rattle.blob_source.specs.Called.{Called};
 ghost use Rattle.blob_source.specs.Told.{IsTold, IsFault};
 ghost use Rattle.runs.specs.Calls.{TellsStep, AreTold, IsUntold, IsOpeningFault, IsOpened};
-ghost use Rattle.runs.specs.Calls.{IsOpenFault};
+ghost use Rattle.runs.specs.Calls.{IsOpenFault, opening_calls};
 
 use crate::engine::{Engine, Finished};
 use crate::error::OpenError;
@@ -30,6 +31,7 @@ fn read_message<A: Allocator + Copy, S: BlobSource<A>, M: Message<A>>(
         (IsUntold number (IsFault M.keeps M.spells (S.tells source.new).blobs digest.now)) }
     ensures called { Called (S.tells source.old) (S.tells source.new)
         ((i : ℕ) × IsErrOf result (OpenError.Source i TreeError.Fetch)) }
+    ensures few { (S.tells source.new).calls ≤ (S.tells source.old).calls + 1 }
 {
     match fetch_message(alloc, source, digest) {
         Ok(message) => Ok(message),
@@ -59,6 +61,9 @@ fn read_step<A: Allocator + Copy, S: BlobSource<A>>(
         (λ e. IsOpeningFault (S.tells source.new).blobs number step.now e) }
     ensures called { Called (S.tells source.old) (S.tells source.new)
         ((i : ℕ) × IsErrOf result (OpenError.Source i TreeError.Fetch)) }
+    ensures few { (S.tells source.new).calls ≤ (S.tells source.old).calls + 2 }
+    ensures frame { (i : ℕ) → IsErrOf result (OpenError.DoNotCache i)
+        → (S.tells source.new).calls ≤ (S.tells source.old).calls + 1 }
 {
     let frame: Frame<A> = read_message(alloc, number, &step.frame, source)?;
     if frame.do_not_cache() {
@@ -86,6 +91,10 @@ fn read_steps<A: Allocator + Copy, S: BlobSource<A>>(
     ensures faulty { IfErr result (IsOpenFault (S.tells source.new).blobs steps.now) }
     ensures called { Called (S.tells source.old) (S.tells source.new)
         ((i : ℕ) × IsErrOf result (OpenError.Source i TreeError.Fetch)) }
+    ensures few { (S.tells source.new).calls
+        ≤ (S.tells source.old).calls + 2 * length steps.now }
+    ensures last { IfErr result (λ e. (S.tells source.new).calls
+        ≤ (S.tells source.old).calls + opening_calls (length steps.now) e) }
 {
     let mut frames = Vec::new(alloc);
     let mut commands = Vec::new(alloc);
@@ -128,6 +137,12 @@ impl<'p, A: Allocator + Copy> Engine<'p, A> {
         ensures refused { IfErr result (IsOpenFault (S.tells source.new).blobs plan.now.steps) }
         ensures called { Called (S.tells source.old) (S.tells source.new)
             ((i : ℕ) × IsErrOf result (OpenError.Source i TreeError.Fetch)) }
+        // The source is asked for a frame and a command of each step, and for nothing after the
+        // first fault.
+        ensures few { (S.tells source.new).calls
+            ≤ (S.tells source.old).calls + 2 * length plan.now.steps }
+        ensures last { IfErr result (λ e. (S.tells source.new).calls
+            ≤ (S.tells source.old).calls + opening_calls (length plan.now.steps) e) }
     {
         let meanings = read_steps(alloc, plan.steps(), source)?;
         let finished = none_finished(alloc, plan.steps().len())?;

@@ -1,9 +1,10 @@
-use Rattle.std.proofs.Common.{◌≡◌, ◌∷◌, [], ◌++◌, rules}
+use Rattle.std.proofs.Common.{◌≡◌, ◌∷◌, [], ◌++◌, ap, rules, arith}
+use Rattle.std.specs.Prelude.{Err}
 use Rattle.std.proofs.lemmas.Result.{err_from_is_err_and}
 use Rattle.blob_source.proofs.Asking.{ok_no_error}
 use Rattle.blob_source.proofs.Calling.{called_none, called_no, called_on}
 use Rattle.runs.proofs.Fetching.{opening_on, opening_exit, opening_memory}
-use Rattle.runs.proofs.Meanings.{told_none, told_next, open_fault}
+use Rattle.runs.proofs.Meanings.{told_none, told_next, open_fault, opening_last}
 use Rattle.runs.proofs.opening.read_steps.Goals as goal
 
 pub returns-in_err-meaning-clause-faulty : goal.returns-in_err-meaning-clause-faulty
@@ -16,6 +17,7 @@ returns-in_err-meaning-clause-faulty g c =
 pub loop-number-init : goal.loop-number-init
 loop-number-init g c = record {
   called = called_none (λ n. n);
+  few = omega arith;
   told = rw (c.new-frames.ensures.items, c.new-commands.ensures.items) (told_none (g.S.BlobSource.tells c.args.source.now).blobs c.args.steps.now);
 }
 
@@ -39,5 +41,12 @@ loop-number-preserved g c =
     let commands : c.push-in-loop-number.new.self.items ≡ c.loop-number.commands.items ++ c.in_ok-meaning.meaning.command ∷ [] = search rules in
     record {
       called = opening_on c.loop-number.invariant.called c.in_ok-meaning.ensures.called;
+      few = omega (arith, c.loop-number.invariant.few, c.in_ok-meaning.ensures.few);
       told = rw (frames, commands) (told_next old.blobs tells.blobs c.args.steps.now c.loop-number.number c.loop-number.frames.items c.loop-number.commands.items c.index-steps-number.result c.in_ok-meaning.meaning.frame c.in_ok-meaning.meaning.command c.loop-number-test.true c.index-steps-number.is c.loop-number.invariant.told c.read_step.ensures.called.asked.blobs (c.in_ok-meaning.ensures).told c.in_ok-meaning.ensures.cached);
     }
+
+pub returns-in_err-meaning-clause-last : goal.returns-in_err-meaning-clause-last
+returns-in_err-meaning-clause-last g c =
+    let p = err_from_is_err_and c.from_residual.result c.from_residual.ensures.1 in
+    let tells = g.S.BlobSource.tells in
+    rw (p.1, p.2) (opening_last (tells c.read_step.new.source).blobs c.args.steps.now c.loop-number.number c.index-steps-number.result c.in_err-meaning.field-0.0 (tells c.args.source.now).calls (tells c.loop-number.source).calls (tells c.read_step.new.source).calls c.loop-number-test.true c.loop-number.invariant.few c.in_err-meaning.ensures.few (λ j e. c.in_err-meaning.ensures.frame j (ap Err e)) c.in_err-meaning.ensures.faulty)

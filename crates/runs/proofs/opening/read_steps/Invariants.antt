@@ -1,3 +1,4 @@
+use Rattle.std.proofs.Common.{◌≤◌, ◌+◌, ◌*◌}
 use Rattle.blob_source.specs.Called.{Called}
 use Rattle.runs.proofs.Meanings.{ToldSoFar}
 use Rattle.runs.proofs.opening.read_steps.Given as goal
@@ -7,5 +8,6 @@ invariant-loop-number g l =
     let tells = g.S.BlobSource.tells in
     record {
       called : Called (tells l.fn.source) (tells l.source) ⊥;
+      few : (tells l.source).calls ≤ (tells l.fn.source).calls + 2 * l.number;
       told : ToldSoFar (tells l.source).blobs l.steps l.number l.frames.items l.commands.items;
     }

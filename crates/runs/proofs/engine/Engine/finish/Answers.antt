@@ -29,7 +29,7 @@ pub returns-in_err-disagrees-clause-refused : goal.returns-in_err-disagrees-clau
 returns-in_err-disagrees-clause-refused g c =
     let at : at_number c.self.inside.jobs.items c.args.id ≡ Some (record { step = c.job.inside.step; action = c.job.inside.action; input = c.job.inside.input }) = ap (λ js. at_number js c.args.id) (sym c.deref.ensures.value) ∙ sym (c.in-Some.ensures {u = tt}) ∙ ap Some (sym c.job.view_is) in
     let p = err_from_is_err_and c.from_residual-in_err-disagrees.result c.from_residual-in_err-disagrees.ensures.1 in
-    rw (p.1, p.2, ← c.self.view_is) (record { step = c.job.inside.step; action = c.job.inside.action; input = c.job.inside.input }, at)
+    rw (p.1, p.2, ← c.self.view_is) (record { step = c.job.inside.step; action = c.job.inside.action; input = c.job.inside.input }, at, (c.in_ok-check_outcome.ensures {u = tt}).taken.exit_code)
 
 pub returns-then-branch-clause-refused : goal.returns-then-branch-clause-refused
 returns-then-branch-clause-refused g c =
