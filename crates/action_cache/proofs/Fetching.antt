@@ -6,7 +6,7 @@ use Rattle.eviction.specs.Kept.{Held, Kept, touched, moved_to_front, others}
 use Rattle.blob_store.specs.Blobs.{plain, found_in, held_under}
 use Rattle.blob_store.specs.Storing.{used}
 use Rattle.action_cache.specs.References.{Reader}
-use Rattle.action_cache.specs.Machine.{CacheState, given, under, with_blobs, get_blob, got_blob}
+use Rattle.action_cache.specs.Machine.{CacheState, Answer, given, nothing, under, with_blobs, get_blob, got_blob}
 use Rattle.action_cache.specs.Tied.{IsTied}
 use Rattle.action_cache.specs.State.{answer_of, state_of, bytes_given}
 use Rattle.action_cache.proofs.Changes.{moved_keeps}
@@ -70,3 +70,7 @@ module _ (reader : Reader) (s : Kept (List ℕ)) (rl : ℕ) (results : List (Lis
         | true ↦ refl
         | false ↦ by (under h (plain s.entries))
       ]
+
+  -- nothing is answered where nothing is held
+  pub nothing_got : held_under (found_in s.entries) h ≡ None → (get_blob reader st h).0 ≡ nothing
+  nothing_got none = ap (λ (o : Answer × CacheState). o.0) (got_is None (sym none))

@@ -11,7 +11,8 @@ ghost use Rattle.action_messages.specs.Refused.{IsRefusedResult as IsRefusedAs};
 ghost use Rattle.action_cache.specs.State.{touched_each, answer_of, bytes_given};
 ghost use Rattle.action_cache.specs.Reading.{by_messages, references_in};
 ghost use Rattle.action_cache.specs.Survey.{IsSurveyUnder};
-ghost use Rattle.action_cache.specs.Machine.{CacheState, opened, done, under, differs_pinned};
+ghost use Rattle.action_cache.specs.Machine.{CacheState, opened, done, nothing, under};
+ghost use Rattle.action_cache.specs.Machine.{differs_pinned};
 ghost use Rattle.action_cache.specs.Machine.{put_blob as blob_put};
 ghost use Rattle.action_cache.specs.Machine.{get_blob as blob_got, unpin as take_off};
 ghost use Rattle.action_cache.specs.Machine.{pin as put_on, get_result as result_got};
@@ -117,9 +118,11 @@ impl<A: Allocator + Copy> ActionCache<A> {
             ≡ (done, self.new)) }
         ensures refused { IfErr result
             (IsRefused self.old (blob_put by_messages self.old hash bytes.items)) }
-        // Lack of memory hides no refusal.
+        // Lack of memory hides no refusal, and what is held wants none.
         ensures memory { result ≡ Err CacheError.Memory
             → (blob_put by_messages self.old hash bytes.items).0 ≡ done }
+        ensures held { result ≡ Err CacheError.Memory
+            → (blob_got by_messages self.old hash).0 ≡ nothing }
         ensures err { OnErr result (self.new ≡ self.old) }
     {
         if bytes.len() > GREATEST_BLOB {
@@ -135,6 +138,8 @@ impl<A: Allocator + Copy> ActionCache<A> {
             (IsRefused self.old (blob_put by_messages self.old hash sealed)) }
         ensures memory { result ≡ Err CacheError.Memory
             → (blob_put by_messages self.old hash sealed).0 ≡ done }
+        ensures held { result ≡ Err CacheError.Memory
+            → (blob_got by_messages self.old hash).0 ≡ nothing }
         ensures err { OnErr result (self.new ≡ self.old) }
     {
         let _held = self.blobs.held_bytes();

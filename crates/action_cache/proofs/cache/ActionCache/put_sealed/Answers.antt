@@ -1,9 +1,10 @@
-use Rattle.std.proofs.Common.{◌≡◌, IfErr, subst}
+use Rattle.std.proofs.Common.{◌≡◌, ap, Err, IfErr, subst}
 use Rattle.action_cache.specs.Reading.{by_messages}
-use Rattle.action_cache.specs.Machine.{CacheState, done, put_blob as blob_put}
+use Rattle.action_cache.specs.Machine.{CacheState, done, nothing, put_blob as blob_put, get_blob as blob_got}
 use Rattle.action_cache.specs.State.{state_of}
 use Rattle.action_cache.specs.CacheError.{of_blob, IsRefused}
 use Rattle.action_cache.specs.declared.error.CacheError.TheVariants.{Memory}
+use Rattle.action_cache.proofs.Fetching.{nothing_got}
 use Rattle.action_cache.proofs.Refusing.{memory_of}
 use Rattle.action_cache.proofs.Mirrors.{put_ok, put_refused, put_wanting, told, told_is}
 use Rattle.action_cache.proofs.cache.ActionCache.put_sealed.Goals as goal
@@ -39,3 +40,11 @@ returns-in_err-put_sealed-clause-memory g c is =
     let memory = memory_of e (told_is c.from_residual.result (of_blob e) Memory c.from_residual.ensures.1 is) in
     subst (λ (w : CacheState). (blob_put by_messages w c.args.hash b).0 ≡ done) c.self.view_is
     (put_wanting by_messages i.blobs i.results.limit i.results.entries c.self.invariant.1 c.held_bytes-held.ensures.valid.distinct c.self.invariant.0 c.args.hash b e c.in_err-put_sealed.ensures.refused memory)
+
+pub returns-in_err-put_sealed-clause-held : goal.returns-in_err-put_sealed-clause-held
+returns-in_err-put_sealed-clause-held g c is =
+    let i = c.self.inside in
+    let e = c.in_err-put_sealed.field-0.0 in
+    let memory = memory_of e (told_is c.from_residual.result (of_blob e) Memory c.from_residual.ensures.1 is) in
+    subst (λ (w : CacheState). (blob_got by_messages w c.args.hash).0 ≡ nothing) c.self.view_is
+    (nothing_got by_messages i.blobs i.results.limit i.results.entries c.args.hash (c.in_err-put_sealed.ensures.memory (ap Err memory)))
