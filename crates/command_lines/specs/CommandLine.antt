@@ -1,12 +1,13 @@
 -- The program's command line, and what its words ask for.
-use Rattle.std.specs.Prelude.{◌≡◌, ◌⊎◌, true, List, [], ◌∷◌, ◌++◌, Some, codes, option_map}
+use Rattle.std.specs.Prelude.{◌≡◌, true, List, [], ◌∷◌, ◌++◌, Some, codes, option_map}
 use Rattle.std.specs.Prelude.{unwrap_or}
+use Rattle.std.specs.List.{AllByRecursion}
 use Rattle.std.specs.Option.{option_map_or}
 use Rattle.clap.specs.Simple.{on_top}
-use Rattle.clap.specs.Words.{App, IsAmong, Row, Rule, Text, fault_of, first_of, new_app, new_rule}
+use Rattle.clap.specs.Words.{App, Row, Rule, Text, fault_of, first_of, new_app, new_rule}
 use Rattle.clap.specs.Words.{subcommand_of, with_rule, with_subcommand}
 use Rattle.clap.specs.declared.builder.action.ArgAction.TheVariants.{Set, SetTrue}
-use Rattle.clap.specs.declared.error.kind.ErrorKind.TheVariants.{DisplayHelp, DisplayVersion}
+use Rattle.clap.specs.declared.error.kind.ErrorKind.{ErrorKind}
 
 -- an option `--NAME VALUE`, and one that a command cannot do without
 abbrev pub optional_option : Text → Rule
@@ -112,11 +113,15 @@ option_text options name = unwrap_or (first_of name options) []
 abbrev pub IsSet : List Row → Text → Type 0
 IsSet options name = first_of name options ≡ Some (codes "true")
 
--- in place of a command's work, the words ask for help or for the version
-abbrev pub AsksForHelp : List Text → Type 0
-AsksForHelp words =
-    IsAmong DisplayHelp (fault_of program_line words)
-    ⊎ IsAmong DisplayVersion (fault_of program_line words)
+-- The words are at fault with this alone, or ask for it, as for help, in place of a command's work.
+abbrev pub ComesTo : List Text → ErrorKind → Type 0
+ComesTo words kind = fault_of program_line words ≡ kind ∷ []
+
+-- so it is with the name of any command and these words after it
+abbrev pub EachComesTo : List Text → ErrorKind → Type 0
+EachComesTo words kind =
+    AllByRecursion (λ (line : App). ComesTo (line.top.name ∷ words) kind)
+    (serve_line ∷ verify_line ∷ put_line ∷ get_line ∷ build_line ∷ [])
 
 -- ---- examples
 

@@ -1,6 +1,7 @@
 ghost use Rattle.std.specs.Prelude.{[], ◌∷◌, codes};
 ghost use Rattle.clap.specs.Words.{Text};
-ghost use Rattle.command_lines.specs.CommandLine.{AsksForHelp, AsksVerify, verify_words};
+ghost use Rattle.clap.specs.declared.error.kind.ErrorKind.TheVariants as kinds;
+ghost use Rattle.command_lines.specs.CommandLine.{AsksVerify, ComesTo, EachComesTo, verify_words};
 ghost use Rattle.command_lines.specs.CommandLine.{verify_line, serve_line, put_line, get_line};
 ghost use Rattle.command_lines.specs.CommandLine.{build_line};
 ghost use Rattle.command_lines.specs.Given.{CanBeTexts, MissesNeeded, IsUnderstood, verify_in_two};
@@ -11,9 +12,17 @@ pub fn words_are_understood()
     // Whatever texts the options have in one word with them, these are their texts.
     ensures options { (store sources plan noted claim : Text)
         → AsksVerify (verify_words store sources plan noted claim) store sources plan noted claim }
-    ensures help { AsksForHelp (codes "--help" ∷ []) }
-    ensures command_help { AsksForHelp (codes "verify" ∷ codes "--help" ∷ []) }
-    ensures version { AsksForHelp (codes "--version" ∷ []) }
+    // Help and the version, in place of a command's work.
+    ensures help { ComesTo (codes "--help" ∷ []) kinds.DisplayHelp }
+    ensures short_help { ComesTo (codes "-h" ∷ []) kinds.DisplayHelp }
+    ensures command_help { EachComesTo (codes "--help" ∷ []) kinds.DisplayHelp }
+    ensures short_command_help { EachComesTo (codes "-h" ∷ []) kinds.DisplayHelp }
+    ensures version { ComesTo (codes "--version" ∷ []) kinds.DisplayVersion }
+    ensures short_version { ComesTo (codes "-V" ∷ []) kinds.DisplayVersion }
+    // No words, and a command with an unknown option or by itself.
+    ensures nothing { ComesTo [] kinds.MissingSubcommand }
+    ensures option_unknown { EachComesTo (codes "--color" ∷ []) kinds.UnknownArgument }
+    ensures alone { EachComesTo [] kinds.MissingRequiredArgument }
     // Whatever a command can take, in any order, each text in one word with its option or in the
     // next: the words ask for just that.
     ensures verify { IsUnderstood verify_line }

@@ -1,4 +1,4 @@
-use Rattle.std.proofs.Common.{refl, inl, inr}
+use Rattle.std.proofs.Common.{refl}
 use Rattle.clap.proofs.OnLiterals.{clap_on_literals}
 use Rattle.command_lines.proofs.Commands.{build_missed, build_understood, get_missed, get_understood, put_missed, put_understood, serve_missed, serve_understood, verify_in_two_understood, verify_missed, verify_understood}
 use Rattle.command_lines.proofs.laws.words_are_understood.Goals as goal
@@ -14,9 +14,15 @@ returns c = record {
     noted_is = refl;
     claim_is = refl;
   };
-  help = inl (inl refl);
-  command_help = inl (inl refl);
-  version = inr (inl refl);
+  help = refl;
+  short_help = refl;
+  command_help = (refl, (refl, (refl, (refl, (refl, tt)))));
+  short_command_help = (refl, (refl, (refl, (refl, (refl, tt)))));
+  version = refl;
+  short_version = refl;
+  nothing = refl;
+  option_unknown = (refl, (refl, (refl, (refl, (refl, tt)))));
+  alone = (refl, (refl, (refl, (refl, (refl, tt)))));
   verify = verify_understood;
   serve = serve_understood;
   put = put_understood;
