@@ -25,7 +25,7 @@ use Rattle.remote.specs.Line.{ConnectionValue}
 use Rattle.worker.specs.Outcomes.{Yields}
 use Rattle.worker.specs.declared.error.Refusal.TheVariants.{Run}
 use Rattle.worker.specs.declared.runner.RunError.TheVariants.{Device}
-use Rattle.cli.specs.Built.{HoldsRoot, IsReadOf, IsToldBy, IsToldOf, StartsBuild, TellsAsked, any_yields, jobs_of}
+use Rattle.cli.specs.Built.{HoldsRoot, IsReadOf, IsToldBy, IsToldOf, StartsBuild, TellsAsked, any_yields, jobs_asked}
 use Rattle.cli.specs.declared.building.Asked.{Asked}
 use Rattle.cli.specs.Refused.{FailsBuild, FailsTelling, ReachesServer, StopsAtProcess, TellsProcess}
 use Rattle.cli.specs.Running.{EndsFor}
@@ -106,6 +106,6 @@ module _ (sees : Sight) (options : List Row) where
         -- or while the build was told there was a fault
         pub telling_fails : (e : CommandError) → FailsTelling start (string_bytes asked.server.address) asked.jobs asked.plan asked.sources e → FailsBuild sees options e
         telling_fails e (inl memory) = in_memory memory
-        telling_fails e (inr (inl process)) = in_process asked.plan asked.sources starts (stops_by by asked.jobs (jobs_of options) read.jobs asked.plan asked.sources e process)
+        telling_fails e (inr (inl process)) = in_process asked.plan asked.sources starts (stops_by by asked.jobs (jobs_asked options) read.jobs asked.plan asked.sources e process)
         telling_fails e (inr (inr over)) = in_server asked.plan asked.sources read.asks
             (∥∥₁_map over (λ fails. inr (start, opened_to sees options asked.server start read.server opened, subst (λ a. FailsOver start a e) read.server.address fails)))

@@ -15,7 +15,7 @@ use Rattle.commands.specs.Faults.{TellsOfEntry, OrMemory}
 use Rattle.commands.specs.PutRefused.FailsBelow.{below, here, too_deep}
 use Rattle.commands.specs.PutRefused.FailsHere.{file_refused, folder_refused, in_memory, name_twice, no_name, no_text}
 use Rattle.commands.specs.Refusal.{IsPrintFault}
-use Rattle.commands.specs.Status.{status_of}
+use Rattle.commands.specs.Status.{exit_status}
 use Rattle.commands.specs.World.{Sight, a_link}
 use Rattle.commands.specs.declared.connecting.ServerOptions.{ServerOptions}
 use Rattle.commands.specs.declared.error.CommandError.{CommandError}
@@ -93,10 +93,10 @@ module _ (sees : Sight) (start : ConnectionValue) (address place : List ℕ) whe
 -- ---- the whole command
 
 -- the status of what can't be printed
-pub printed_status : (e : CommandError) → OrMemory IsPrintFault e → status_of e ≡ 3
-printed_status e (inl memory) = subst (λ x. status_of x ≡ 3) (sym memory) refl
+pub printed_status : (e : CommandError) → OrMemory IsPrintFault e → exit_status e ≡ 3
+printed_status e (inl memory) = subst (λ x. exit_status x ≡ 3) (sym memory) refl
 printed_status (Output f) (inr fault) = refl
 printed_status _ (inr fault) = absurd fault
 
-pub not_words : (e : CommandError) → OrMemory IsPrintFault e → status_of e ≡ 2 → ⊥
+pub not_words : (e : CommandError) → OrMemory IsPrintFault e → exit_status e ≡ 2 → ⊥
 not_words e fault status = let same : ◌≡◌ {A = ℕ} 3 2 = sym (printed_status e fault) ∙ status in omega (arith, same)

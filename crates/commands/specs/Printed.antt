@@ -19,7 +19,7 @@ use Rattle.text_verifier.specs.Lacking.{lack_of}
 use Rattle.text_verifier.specs.Texts.{HasTexts, Question, IsDigestText}
 use Rattle.text_verifier.specs.declared.lack.Lack.{Lack}
 use Rattle.commands.specs.Got.{BeginsBlob, Writes}
-use Rattle.commands.specs.Options.{IsServerOf, number_of, number_or}
+use Rattle.commands.specs.Options.{IsServerOf, decimal_number, number_or}
 use Rattle.commands.specs.Places.{IsOfFolder, IsOfServer, IsConnected, LacksAtServer}
 use Rattle.commands.specs.Places.{LacksInFolder}
 use Rattle.commands.specs.Put.{PutsPath}
@@ -187,10 +187,10 @@ BeginsDigest sees options old new = (new ≡ old)
 abbrev pub serving_of : List Row → SocketAddr → Serving
 serving_of options address = record {
   address = address;
-  cache = empty_cache (number_of (option_text options (codes "limit")))
-      (number_of (option_text options (codes "result-limit")));
+  cache = empty_cache (decimal_number (option_text options (codes "limit")))
+      (decimal_number (option_text options (codes "result-limit")));
   prefix = option_text options (codes "prefix");
-  connections = number_of (option_text options (codes "connections"));
+  connections = decimal_number (option_text options (codes "connections"));
   at_once = number_or 1 options (codes "at-once");
   idle = number_or 60 options (codes "idle");
 }
@@ -216,9 +216,10 @@ BeginsListening sees options old new = (new ≡ old) ⊎ ((address : SocketAddr)
 -- what the words of `serve` ask for is as they say
 pub record IsAsked (options : List Row) (asked : Asked) : Type 0 where
   pub address : asked.address.now ≡ option_text options (codes "listen")
-  pub limit : asked.limit ≡ number_of (option_text options (codes "limit"))
-  pub result_limit : asked.result_limit ≡ number_of (option_text options (codes "result-limit"))
+  pub limit : asked.limit ≡ decimal_number (option_text options (codes "limit"))
+  pub result_limit : asked.result_limit
+      ≡ decimal_number (option_text options (codes "result-limit"))
   pub prefix : asked.prefix ≡ option_text options (codes "prefix")
-  pub connections : asked.connections ≡ number_of (option_text options (codes "connections"))
+  pub connections : asked.connections ≡ decimal_number (option_text options (codes "connections"))
   pub at_once : asked.at_once ≡ number_or 1 options (codes "at-once")
   pub idle : asked.idle ≡ number_or 60 options (codes "idle")

@@ -5,7 +5,7 @@ use Rattle.std.specs.declared.net.socket_addr.SocketAddr.{SocketAddr}
 use Rattle.clap.specs.Words.{Row}
 use Rattle.command_lines.specs.CommandLine.{option_text}
 use Rattle.service.specs.declared.error.NotAccepted.{NotAccepted}
-use Rattle.commands.specs.Options.{IsAddress, number_of}
+use Rattle.commands.specs.Options.{IsAddress, decimal_number}
 use Rattle.commands.specs.Printed.{serving_of}
 use Rattle.commands.specs.Refusal.{IsPrintFault}
 use Rattle.commands.specs.Words.{AllValid, Check, FailsFirst, has_number_up_to, has_prefix}
@@ -27,7 +27,7 @@ abbrev pub is_at_once : List Row → List Check
 is_at_once options =
     where_said options (codes "at-once") (has_number_up_to options (codes "at-once") 1024)
     ∷ where_said options (codes "at-once") (is_wanted options (codes "at-once")
-    (codes "a number from 1 to 1024") (λ text. number_of text ≢ 0)) ∷ []
+    (codes "a number from 1 to 1024") (λ text. decimal_number text ≢ 0)) ∷ []
 
 abbrev pub serve_words : List Row → List Check
 serve_words options =

@@ -6,7 +6,7 @@ use Rattle.command_lines.specs.CommandLine.{option_text}
 use Rattle.http_core.specs.Host.{is_host}
 use Rattle.http_core.specs.Prefix.{is_prefix}
 use Rattle.commands.specs.Faults.{IsUnlikeWanted, OrMemory}
-use Rattle.commands.specs.Options.{IsAddress, IsNumber, number_of}
+use Rattle.commands.specs.Options.{IsAddress, IsNumber, decimal_number}
 use Rattle.commands.specs.declared.error.CommandError.{CommandError}
 use Rattle.commands.specs.declared.error.CommandError.TheVariants.{Number, Words}
 
@@ -36,7 +36,7 @@ IsCheckedBy checks (Err e) = OrMemory (FailsFirst checks) e
 
 -- decimal digits of a number that is no greater
 abbrev pub IsUpTo : ℕ → List ℕ → Type 0
-IsUpTo greatest text = IsNumber text × (number_of text ≤ greatest)
+IsUpTo greatest text = IsNumber text × (decimal_number text ≤ greatest)
 
 abbrev pub IsNumberFault : List ℕ → ℕ → List ℕ → CommandError → Type 0
 IsNumberFault option greatest text (Number o g t) =

@@ -10,7 +10,7 @@ ghost use Rattle.commands.specs.PutRefused.{FailsBelow, FailsHere, FailsPut, Has
 ghost use Rattle.commands.specs.PutRefused.{LinksToNoText};
 ghost use Rattle.commands.specs.Faults.{OrMemory};
 ghost use Rattle.commands.specs.Refusal.{IsPrintFault};
-ghost use Rattle.commands.specs.Status.{status_of};
+ghost use Rattle.commands.specs.Status.{exit_status};
 ghost use Rattle.commands.specs.Told.{AppendsBeginning};
 ghost use Rattle.messages.specs.declared.node.Node.TheVariants as nodes;
 ghost use Rattle.remote.specs.Remote.{connection_of};
@@ -211,7 +211,7 @@ where
     ensures begun { OnErr result (BeginsDigest W.sees (rows_of (found_of matches.now))
         (O.contents out.old) (O.contents out.new)) }
     ensures unprinted { IfErr result
-        (λ fault. status_of fault ≡ 2 → O.contents out.new ≡ O.contents out.old) }
+        (λ fault. exit_status fault ≡ 2 → O.contents out.new ≡ O.contents out.old) }
     // It is for the first fault: what comes before it has none.
     ensures refused { IfErr result (FailsPut W.sees (rows_of (found_of matches.now))) }
 {

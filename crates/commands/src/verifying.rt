@@ -11,7 +11,7 @@ ghost use Rattle.commands.specs.Printed.{AsksQuestion, BeginsVerdict, IsNamedPla
 ghost use Rattle.commands.specs.Printed.{LacksAtPlace, LacksFolder, NotesStore, PrintsVerdict};
 ghost use Rattle.commands.specs.Refusal.{FailsDigests, FailsAtPlace, FailsPlan, FailsRecord};
 ghost use Rattle.commands.specs.Refusal.{FailsServer, FailsVerify, HasPlanRead, IsPrintFault};
-ghost use Rattle.commands.specs.Status.{status_of};
+ghost use Rattle.commands.specs.Status.{exit_status};
 ghost use Rattle.commands.specs.Told.{AppendsBeginning, PrintsNoLine};
 ghost use Rattle.commands.specs.Words.{IsCheckedBy, IsSaid, IsToldInWords, goes_with_server};
 ghost use Rattle.commands.specs.Words.{place_words};
@@ -350,7 +350,7 @@ pub fn run_verify<W: World, O: Write>(
         × (IsTrue (is_done ended) ↔ IsYes prints.verdict)) }
     ensures noted { IfOk result (NotesStore W.sees (rows_of (found_of matches.now))) }
     ensures unprinted { IfErr result
-        (λ fault. status_of fault ≡ 2 → O.contents out.new ≡ O.contents out.old) }
+        (λ fault. exit_status fault ≡ 2 → O.contents out.new ≡ O.contents out.old) }
     // A refusal leaves no byte that isn't of that line, and no newline.
     ensures begun { OnErr result (BeginsVerdict W.sees (rows_of (found_of matches.now))
         (O.contents out.old) (O.contents out.new)) }

@@ -7,7 +7,7 @@ use Rattle.commands.specs.Put.{PutsPath}
 use Rattle.commands.specs.PutRefused.{FailsBelow, FailsPut}
 use Rattle.commands.specs.PutRefused.FailsPut.{in_connection, in_memory, in_output, in_path, in_words}
 use Rattle.commands.specs.Refusal.{IsPrintFault}
-use Rattle.commands.specs.Status.{status_of}
+use Rattle.commands.specs.Status.{exit_status}
 use Rattle.commands.specs.Words.{FailsFirst, server_words}
 use Rattle.commands.proofs.Exits.{exit_by, or_else}
 use Rattle.commands.proofs.Placed.{opened_to}
@@ -80,7 +80,7 @@ returns-in_err-print_digest-clause-begun g c =
 
 pub returns-in_err-print_digest-clause-unprinted : goal.returns-in_err-print_digest-clause-unprinted
 returns-in_err-print_digest-clause-unprinted g c =
-    exit_by (λ e. status_of e ≡ 2 → g.O.Write.contents c.print_digest.new.out ≡ g.O.Write.contents c.args.out.now) _ c.from_residual-in_err-print_digest.ensures.1
+    exit_by (λ e. exit_status e ≡ 2 → g.O.Write.contents c.print_digest.new.out ≡ g.O.Write.contents c.args.out.now) _ c.from_residual-in_err-print_digest.ensures.1
     (λ status. absurd (not_words _ c.in_err-print_digest.ensures.fault status))
 
 pub returns-clause-printed : goal.returns-clause-printed

@@ -4,7 +4,7 @@ use Rattle.command_lines.specs.CommandLine.{option_text}
 use Rattle.commands.specs.Refusal.{IsPrintFault}
 use Rattle.commands.specs.ServeRefused.{FailsServe, FailsToListen, serve_words}
 use Rattle.commands.specs.ServeRefused.FailsServe.{in_address, in_connections, in_memory, in_output, in_words}
-use Rattle.commands.specs.Status.{status_of}
+use Rattle.commands.specs.Status.{exit_status}
 use Rattle.commands.specs.Words.{FailsFirst}
 use Rattle.commands.specs.Printed.{listening_line}
 use Rattle.commands.proofs.Exits.{exit_by, or_else}
@@ -44,7 +44,7 @@ returns-in_err-print_address-clause-refused g c =
 
 pub returns-in_err-print_address-clause-unprinted : goal.returns-in_err-print_address-clause-unprinted
 returns-in_err-print_address-clause-unprinted g c =
-    exit_by (λ e. status_of e ≡ 2 → g.O.Write.contents c.print_address.new.out ≡ g.O.Write.contents c.args.out.now) _ c.from_residual-in_err-print_address.ensures.1
+    exit_by (λ e. exit_status e ≡ 2 → g.O.Write.contents c.print_address.new.out ≡ g.O.Write.contents c.args.out.now) _ c.from_residual-in_err-print_address.ensures.1
     (λ status. absurd (not_words _ c.in_err-print_address.ensures.fault status))
 
 pub returns-in-Err-clause-refused : goal.returns-in-Err-clause-refused
