@@ -1,14 +1,14 @@
 -- What a build tells is that of some build of the plan, and why it tells nothing.
-use Rattle.std.proofs.Common.{◌≡◌, ◌⊎◌, List, [], Result, Ok, Err, ℕ, inl, inr, subst, string_bytes}
+use Rattle.std.proofs.Common.{◌≡◌, List, [], Result, Ok, Err, ℕ, inl, inr, subst, string_bytes}
 use Rattle.std.specs.Prelude.{codes}
 use Rattle.clap.specs.Words.{Row}
 use Rattle.command_lines.specs.CommandLine.{option_text}
+use Rattle.commands.specs.Faults.{OrMemory}
 use Rattle.commands.specs.Places.{FailsOver, FailsToConnect, IsConnected, IsToldOver}
 use Rattle.commands.proofs.Placed.{of_options, opened_to}
 use Rattle.commands.specs.Printed.{IsOfOptions}
 use Rattle.commands.specs.World.{Sight}
 use Rattle.commands.specs.declared.error.CommandError.{CommandError}
-use Rattle.commands.specs.declared.error.CommandError.TheVariants.{Memory}
 use Rattle.std.proofs.Math.Logic.{∥∥₁_map}
 use Rattle.std.specs.declared.alloc.Global.{Global}
 use Rattle.blob_digest.specs.Digest.{DigestValue}
@@ -71,17 +71,18 @@ stops_by {P} {Q} f most jobs is plan sources e h =
       told = h.told;
     }
 
--- a Directory of the root couldn't be put
-pub putting_fails : (start : ConnectionValue) (address : List ℕ) (most : ℕ) (plan : PlanValue) (sources : DigestValue) (e : CommandError)
-    → (e ≡ Memory) ⊎ ∥ FailsOver start address e ∥₁ → FailsTelling start address most plan sources e
-putting_fails start address most plan sources e (inl memory) = inl memory
-putting_fails start address most plan sources e (inr over) = inr (inr over)
+-- the server was at fault, or memory ran out
+pub over_fails : (start : ConnectionValue) (address : List ℕ) (most : ℕ) (plan : PlanValue) (sources : DigestValue) (e : CommandError)
+    → OrMemory (λ x. ∥ FailsOver start address x ∥₁) e → FailsTelling start address most plan sources e
+over_fails start address most plan sources e (inl memory) = inl memory
+over_fails start address most plan sources e (inr over) = inr (inr over)
 
 module _ (sees : Sight) (options : List Row) where
   module _ (asked : Asked) (read : IsReadOf sees options asked) where
     -- the server couldn't be reached
-    pub connect_fails : (e : CommandError) → FailsToConnect sees (string_bytes asked.server.address) e → FailsBuild sees options e
-    connect_fails e fails = in_server asked.plan asked.sources read.asks ∣ inl (subst (λ a. FailsToConnect sees a e) read.server.address fails) ∣₁
+    pub connect_fails : (e : CommandError) → OrMemory (FailsToConnect sees (string_bytes asked.server.address)) e → FailsBuild sees options e
+    connect_fails e (inl memory) = in_memory memory
+    connect_fails e (inr fails) = in_server asked.plan asked.sources read.asks ∣ inl (subst (λ a. FailsToConnect sees a e) read.server.address fails) ∣₁
 
     module _ (start : ConnectionValue) (opened : IsConnected sees (string_bytes asked.server.address) asked.server.host asked.server.prefix start) where
       pub reaches : ReachesServer sees options

@@ -54,7 +54,7 @@ FailsToWrite sees path = OrMemory (IsFaultAtPath path (sees.unwritten path))
 
 -- it is a folder that can't be read or isn't empty, or memory ran out
 abbrev pub FailsFolder : Sight → List ℕ → CommandError → Type 0
-FailsFolder sees path e = (e ≡ Memory) ⊎ (HasEntries sees path e ⊎ FailsAtPath sees path e)
+FailsFolder sees path = OrMemory (λ e. HasEntries sees path e ⊎ FailsAtPath sees path e)
 
 -- the cause for which a process came to nothing, as an error tells it
 abbrev pub process_cause : Cause → ProcessCause
@@ -84,8 +84,8 @@ pub record StopsAtProcess (source : Telling → Type 0) (most : ℕ) (plan : Pla
 -- stood so at first
 abbrev pub FailsTelling : ConnectionValue → List ℕ → ℕ → PlanValue → DigestValue → CommandError
     → Type 0
-FailsTelling start address most plan sources e =
-    (e ≡ Memory) ⊎ (StopsAtProcess (IsToldOver start) most plan sources e
+FailsTelling start address most plan sources =
+    OrMemory (λ e. StopsAtProcess (IsToldOver start) most plan sources e
     ⊎ ∥ FailsOver start address e ∥₁)
 
 -- what is asked for can be built, and a connection to the server was opened

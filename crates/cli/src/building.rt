@@ -7,6 +7,7 @@ ghost use Rattle.cli.specs.Built.{TellsAsked, ended_of, jobs_asked, told_line, n
 ghost use Rattle.cli.specs.Refused.{FailsBuild, FailsFolder, FailsTelling, FailsToWrite};
 ghost use Rattle.cli.specs.Refused.{TellsProcess, process_cause};
 ghost use Rattle.cli.specs.Running.{EndsFor};
+ghost use Rattle.commands.specs.Faults.{OrMemory};
 ghost use Rattle.commands.specs.Places.{FailsOver, IsFresh, IsToldOver};
 ghost use Rattle.commands.specs.Refusal.{IsPrintFault};
 ghost use Rattle.commands.specs.Status.{exit_status};
@@ -106,8 +107,8 @@ fn put_root<S: Stream + Drop, K: Origin>(
     told: &Told<Global>,
 ) -> Result<(), CommandError>
     ensures held { OnOk result (HoldsRoot (IsToldOver K.start) told.now) }
-    ensures fault { IfErr result (λ e. (e ≡ CommandError.Memory)
-        ⊎ ∥ FailsOver K.start (string_bytes server.now.address) e ∥₁) }
+    ensures fault { IfErr result
+        (OrMemory (λ e. ∥ FailsOver K.start (string_bytes server.now.address) e ∥₁)) }
     ensures status { IfErr result (λ e. exit_status e ≡ 3) }
 {
     match told {

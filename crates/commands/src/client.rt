@@ -105,7 +105,7 @@ impl<S: Stream + Drop, K: Origin> Client<S, K> {
     ) -> Result<(), CommandError>
         ensures lacked { OnOk result (∥ LacksIt K.start lack.now ∥₁) }
         ensures fault { IfErr result
-            (λ e. ∥ FailsOver K.start (string_bytes server.now.address) e ∥₁) }
+            (OrMemory (λ e. ∥ FailsOver K.start (string_bytes server.now.address) e ∥₁)) }
         ensures status { IfErr result (λ e. exit_status e ≡ 3) }
     {
         let refusal = match self.look_again(alloc, lack) {
@@ -124,7 +124,7 @@ impl<S: Stream + Drop, K: Origin> Client<S, K> {
         refusal: FetchError,
     ) -> Result<CommandError, AllocError>
         ensures over { IfOk result
-            (λ e. ∥ FailsOver K.start (string_bytes server.now.address) e ∥₁) }
+            (OrMemory (λ e. ∥ FailsOver K.start (string_bytes server.now.address) e ∥₁)) }
         ensures status { IfOk result (λ e. exit_status e ≡ 3) }
         ensures error { IfOk result
             (TellsFailure (string_bytes server.now.address) self.now.failure refusal) }
@@ -257,7 +257,8 @@ pub fn open<W: World>(
     ensures opened { IfOk result (λ remote. IsConnected W.sees (string_bytes server.now.address)
         server.now.host server.now.prefix (connection_of W.Link.flow remote)) }
     ensures fresh { IfOk result (λ remote. IsFresh remote) }
-    ensures fault { IfErr result (FailsToConnect W.sees (string_bytes server.now.address)) }
+    ensures fault { IfErr result
+        (OrMemory (FailsToConnect W.sees (string_bytes server.now.address))) }
 {
     match world.connect(alloc, server) {
         Ok(link) => Ok(Remote::new(alloc, link, &server.host, &server.prefix)?),

@@ -36,7 +36,6 @@ fn has_digest(bytes: &[u8], digest: &Digest) -> bool
 }
 
 /// The bytes of the blob of the digest, where the server at the other end of the connection has it.
-/// Nothing is asked for the empty one.
 fn get_blob<S: Stream + Drop>(
     alloc: Global,
     server: &ServerOptions,
@@ -48,7 +47,9 @@ fn get_blob<S: Stream + Drop>(
         IsBlobOver (connection_of S.flow remote.old) digest.now bytes.items)) }
     ensures none { IfOk result (λ found. IfNone found (Gets (connection_of S.flow remote.old)
         (connection_of S.flow remote.new) Cas digest.now.hash None)) }
+    // Nothing is asked for the empty one, which is there.
     ensures some { IfOk result (λ found. IfNone found (digest.now ≢ empty_digest)) }
+    ensures sure { OnErr result (digest.now ≢ empty_digest) }
     ensures status { IfErr result (λ e. exit_status e ≡ 3) }
     ensures fault { IfErr result (FailsGetBlob (connection_of S.flow remote.old)
         (string_bytes server.now.address) digest.now) }

@@ -1,5 +1,5 @@
-ghost use Rattle.std.specs.Prelude.{◌≡◌, ◌⊎◌, ◌∷◌, ◌++◌, ℕ, suc, [], false, IfErr, IfOk};
-ghost use Rattle.std.specs.Prelude.{OnErr, OnOk, string_bytes};
+ghost use Rattle.std.specs.Prelude.{◌≡◌, ◌⊎◌, ◌+◌, ◌∷◌, ◌++◌, ℕ, suc, [], false, IfErr, IfOk};
+ghost use Rattle.std.specs.Prelude.{OnErr, OnOk, min, string_bytes};
 ghost use Rattle.std.specs.Io.KnownBytes.{Appends};
 ghost use Rattle.blob_digest.specs.Text.{digest_text};
 ghost use Rattle.clap.specs.Words.{found_of, rows_of};
@@ -73,6 +73,9 @@ fn put_file<W: World, K: Origin, P: Counter>(
         → IsPutAt W.sees K.start (suc left) place.now (nodes.File digest false)) }
     ensures refused { IfErr result
         (FailsHere W.sees K.start (string_bytes server.now.address) place.now) }
+    ensures counted { OnOk result
+        (P.files progress.new ≡ min (P.files progress.old + 1) 18446744073709551615) }
+    ensures uncounted { OnErr result (progress.new ≡ progress.old) }
 {
     let bytes = world.read(alloc, place)?;
     let digest = client.put(alloc, server, &bytes)?;

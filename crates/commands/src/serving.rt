@@ -7,11 +7,11 @@ ghost use Rattle.commands.specs.Options.{IsNumber, decimal_number, number_or};
 ghost use Rattle.commands.specs.Printed.{BeginsListening, IsAsked, ServesAsked, listening_line};
 ghost use Rattle.commands.specs.Faults.{OrMemory};
 ghost use Rattle.commands.specs.Refusal.{IsPrintFault};
-ghost use Rattle.commands.specs.ServeRefused.{FailsServe, FailsToListen, is_at_once, is_idle};
-ghost use Rattle.commands.specs.ServeRefused.{listens_at, serve_words};
+ghost use Rattle.commands.specs.ServeRefused.{FailsServe, FailsToListen};
 ghost use Rattle.commands.specs.Status.{exit_status};
 ghost use Rattle.commands.specs.Told.{AppendsBeginning};
-ghost use Rattle.commands.specs.Words.{IsCheckedBy, has_number_up_to};
+ghost use Rattle.commands.specs.Words.{IsCheckedBy, has_number_up_to, is_at_once, is_idle};
+ghost use Rattle.commands.specs.Words.{listens_at, serve_words};
 
 use crate::connecting::read_prefix;
 use crate::error::CommandError;
